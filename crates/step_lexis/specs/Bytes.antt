@@ -1,0 +1,31 @@
+-- The classes of bytes (ISO 10303-21, 5.2), and runs of bytes of a class.
+use Rattle.std.specs.Prelude.{◌≡◌, ℕ, ◌<◌, Bool, true, false, ◌&&◌, ◌||◌, ◌==◌, nat_le, List, [], ◌∷◌, length}
+
+abbrev pub is_digit : ℕ → Bool
+is_digit b = nat_le 48 b && nat_le b 57
+
+-- a letter or `_`
+abbrev pub is_letter : ℕ → Bool
+is_letter b = (nat_le 65 b && nat_le b 90) || (nat_le 97 b && nat_le b 122) || b == 95
+
+abbrev pub is_word_byte : ℕ → Bool
+is_word_byte b = is_letter b || is_digit b
+
+-- a hexadecimal digit, in either case
+abbrev pub is_hex : ℕ → Bool
+is_hex b = is_digit b || (nat_le 65 b && nat_le b 70) || (nat_le 97 b && nat_le b 102)
+
+-- each element passes
+abbrev pub Each : (ℕ → Bool) → List ℕ → Type 0
+Each p [] = Unit {0}
+Each p (x ∷ xs) = (p x ≡ true) × Each p xs
+
+-- the list doesn't begin with an element that passes
+abbrev pub Stops : (ℕ → Bool) → List ℕ → Type 0
+Stops p [] = Unit {0}
+Stops p (b ∷ bs) = p b ≡ false
+
+-- front is the longest run of elements that pass, and back is what follows it
+pub record IsRun (p : ℕ → Bool) (front back : List ℕ) : Type 0 where
+  pub passes : Each p front
+  pub stops : Stops p back

@@ -1,0 +1,88 @@
+-- Which token stands at the front of what is left of a text, its value, and what is wrong where none
+-- stands within the limits.
+use Rattle.std.specs.Prelude.{◌≡◌, ℕ, ◌+◌, ◌-◌, ◌<◌, ◌≤◌, ◌^◌, List, [], ◌∷◌, ◌++◌, length, take, drop, ◌⊎◌}
+use Rattle.std.specs.Str.Parse.{digits_value}
+use Rattle.step_lexis.specs.declared.token.Mark.{Mark}
+use Rattle.step_lexis.specs.declared.token.Mark.TheVariants.{Open, Close, Comma, Semicolon, Equals, Dollar, Asterisk}
+use Rattle.step_lexis.specs.declared.token.Sort.{Sort}
+use Rattle.step_lexis.specs.declared.token.Sort.TheVariants as sorts
+use Rattle.step_lexis.specs.declared.fault.Flaw.{Flaw}
+use Rattle.step_lexis.specs.declared.fault.Flaw.TheVariants.{BadToken, UnendedString, BadEscape, NumberTooLong, NameTooLarge}
+use Rattle.step_lexis.specs.Tokens.{Kind, begins, ends, keyword, user_defined, scope, name, integer, real, element, string, binary, mark, IsNext, NoneAt}
+use Rattle.step_lexis.specs.Numbers.{IsShortNumber}
+use Rattle.step_lexis.specs.Strings.{content_of, IsReadable, IsBrokenAt}
+
+abbrev pub kind_of : Sort → Kind
+kind_of sorts.Begin = begins
+kind_of sorts.End = ends
+kind_of (sorts.Keyword w) = keyword
+kind_of (sorts.UserDefined w) = user_defined
+kind_of sorts.Scope = scope
+kind_of (sorts.Name n) = name
+kind_of (sorts.Integer d) = integer
+kind_of (sorts.Real d) = real
+kind_of (sorts.Element w) = element
+kind_of (sorts.String s) = string
+kind_of (sorts.Binary b) = binary
+kind_of (sorts.Mark m) = mark
+
+-- the byte that a mark is
+abbrev pub mark_byte : Mark → ℕ
+mark_byte Open = 40
+mark_byte Close = 41
+mark_byte Comma = 44
+mark_byte Semicolon = 59
+mark_byte Equals = 61
+mark_byte Dollar = 36
+mark_byte Asterisk = 42
+
+-- the value of a token, by its text
+abbrev pub HasValue : Sort → List ℕ → Type 0
+HasValue sorts.Begin t = Unit {0}
+HasValue sorts.End t = Unit {0}
+HasValue (sorts.Keyword w) t = w.text.now ≡ t
+HasValue (sorts.UserDefined w) t = 33 ∷ w.text.now ≡ t
+HasValue sorts.Scope t = Unit {0}
+HasValue (sorts.Name n) t = (n ≡ digits_value 10 (drop 1 t)) × (n < 2 ^ 64)
+HasValue (sorts.Integer d) t = (d.text.now ≡ t) × IsShortNumber t
+HasValue (sorts.Real d) t = (d.text.now ≡ t) × IsShortNumber t
+HasValue (sorts.Element w) t = 46 ∷ w.text.now ++ 46 ∷ [] ≡ t
+HasValue (sorts.String s) t = (s.text.now ≡ t) × IsReadable (content_of t)
+HasValue (sorts.Binary b) t = b.text.now ≡ t
+HasValue (sorts.Mark m) t = mark_byte m ∷ [] ≡ t
+
+-- the token at the front of what is left has n bytes and this value
+pub record IsFront (left : List ℕ) (sort : Sort) (n : ℕ) : Type 0 where
+  pub within : n ≤ length left
+  pub next : IsNext (kind_of sort) (take n left) (drop n left)
+  pub value : HasValue sort (take n left)
+
+-- a number stands at the front, and isn't within the limits
+pub record IsLongNumber (left : List ℕ) : Type 0 where
+  pub len : ℕ
+  pub within : len ≤ length left
+  pub next : IsNext integer (take len left) (drop len left) ⊎ IsNext real (take len left) (drop len left)
+  pub long : IsShortNumber (take len left) → ⊥
+
+-- an instance name stands at the front, whose number isn't below 2^64
+pub record IsLargeName (left : List ℕ) : Type 0 where
+  pub len : ℕ
+  pub within : len ≤ length left
+  pub next : IsNext name (take len left) (drop len left)
+  pub large : 2 ^ 64 ≤ digits_value 10 (drop 1 (take len left))
+
+-- a string stands at the front, and a directive in it is begun and not completed at this index of the text
+pub record HasBadEscape (left : List ℕ) (index : ℕ) : Type 0 where
+  pub len : ℕ
+  pub within : len ≤ length left
+  pub next : IsNext string (take len left) (drop len left)
+  pub inside : 0 < index
+  pub broken : IsBrokenAt (content_of (take len left)) (index - 1)
+
+-- what is wrong at the front of what is left, and at which of its bytes
+abbrev pub IsFlawed : List ℕ → Flaw → ℕ → Type 0
+IsFlawed left BadToken index = NoneAt left × (take 1 left ≡ 39 ∷ [] → ⊥) × (index ≡ 0)
+IsFlawed left UnendedString index = NoneAt left × (take 1 left ≡ 39 ∷ []) × (index ≡ 0)
+IsFlawed left BadEscape index = HasBadEscape left index
+IsFlawed left NumberTooLong index = IsLongNumber left × (index ≡ 0)
+IsFlawed left NameTooLarge index = IsLargeName left × (index ≡ 0)

@@ -1,0 +1,41 @@
+-- Layout: what may stand between tokens (ISO 10303-21, 5.4 and 5.6).
+use Rattle.std.specs.Prelude.{◌≡◌, ℕ, ◌+◌, ◌≤◌, Bool, List, [], ◌∷◌, ◌++◌, length, codes, ◌⊎◌, Some}
+use Rattle.std.specs.List.{AllByRecursion}
+use Rattle.memchr.specs.Find.{FindsNeedle}
+use Rattle.step_lexis.specs.Tokens.{Says}
+
+-- the lists, one after another
+abbrev pub joined : List (List ℕ) → List ℕ
+joined [] = []
+joined (u ∷ us) = u ++ joined us
+
+-- the kinds of layout
+pub data Blank : Type 0 where
+  space : Blank
+  new_line : Blank
+  form_feed : Blank
+  comment : Blank
+
+abbrev pub SpellsBlank : Blank → List ℕ → Type 0
+SpellsBlank space t = (b : ℕ) × (b ≤ 32) × (t ≡ b ∷ [])
+SpellsBlank new_line t = Says (codes "\\N\\") t
+SpellsBlank form_feed t = Says (codes "\\F\\") t
+SpellsBlank comment t = (rest : List ℕ) × (k : ℕ) × (t ≡ 47 ∷ 42 ∷ rest) × FindsNeedle rest (codes "*/") 0 (Some k) × (k + 2 ≡ length rest)
+
+abbrev pub IsBlank : List ℕ → Type 0
+IsBlank t = (kind : Blank) × SpellsBlank kind t
+
+-- no blank stands at the front
+abbrev pub NoBlank : List ℕ → Type 0
+NoBlank l = (t rest : List ℕ) → l ≡ t ++ rest → IsBlank t → ⊥
+
+-- layout is blanks, one after another
+abbrev pub IsLayout : List ℕ → Type 0
+IsLayout t = (blanks : List (List ℕ)) × AllByRecursion IsBlank blanks × (t ≡ joined blanks)
+
+-- the layout at the front of a text is taken whole
+pub record SkipsLayout (before after : List ℕ) : Type 0 where
+  pub gap : List ℕ
+  pub layout : IsLayout gap
+  pub split : before ≡ gap ++ after
+  pub whole : NoBlank after

@@ -1,0 +1,18 @@
+-- Literals as they are spelt, and why bytes are none.
+use Rattle.std.specs.Prelude.{◌≡◌, ℕ, ◌+◌, ◌≤◌, List, [], ◌∷◌, length, take, ◌⊎◌}
+use Rattle.step_lexis.specs.Tokens.{Spells, string, integer, real, binary, IsKeyword, NoneAt}
+use Rattle.step_lexis.specs.Numbers.{IsShortNumber}
+use Rattle.step_lexis.specs.Strings.{content_of, IsReadable, IsBrokenAt}
+
+abbrev pub IsNumber : List ℕ → Type 0
+IsNumber t = Spells integer t ⊎ Spells real t
+
+-- an integer or a real within the limits
+pub record IsDecimal (t : List ℕ) : Type 0 where
+  pub number : IsNumber t
+  pub short : IsShortNumber t
+
+-- a string whose directives are all completed
+pub record IsText (t : List ℕ) : Type 0 where
+  pub string_is : Spells string t
+  pub readable : IsReadable (content_of t)
