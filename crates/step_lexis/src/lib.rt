@@ -3,14 +3,17 @@
 //! Nothing here takes memory: tokens and literals are slices of the text that is read.
 #![tactic(auto)]
 
+mod binaries;
 mod bytes;
-// mod binaries;
+mod clean;
+mod directives;
 pub mod fault;
-// mod fronts;
-// mod layout;
-// pub mod lexer;
+mod fronts;
+pub mod laws;
+mod layout;
+pub mod lexer;
 pub mod literal;
-// mod numbers;
-// mod strings;
+mod numbers;
+mod strings;
 pub mod token;
-// mod words;
+mod words;
