@@ -99,8 +99,7 @@ read_run n x xs ys le h stop ih t u =
     let whole : prefix_len is_high (x ∷ (xs ++ ys)) ≡ suc k = rw u (omega (arith, prefix_stops is_high xs ys (high_stops ys stop))) in
     let further = ih (drop k xs) (omega (arith, length-drop k xs, le)) (each_drop no_slash k xs h.1) in
     let len : length (take (prefix_len is_high (x ∷ (xs ++ ys))) (x ∷ (xs ++ ys))) ≡ suc k = length-prefix_len is_high (x ∷ (xs ++ ys)) ∙ whole in
-    let left : drop (length (take (prefix_len is_high (x ∷ (xs ++ ys))) (x ∷ (xs ++ ys)))) (x ∷ (xs ++ ys)) ≡ drop k xs ++ ys = ap (λ m. drop m (x ∷ (xs ++ ys))) len ∙ drop_in k xs ys (prefix_le is_high xs) in
-    (
+    let left : drop (length (take (prefix_len is_high (x ∷ (xs ++ ys))) (x ∷ (xs ++ ys)))) (x ∷ (xs ++ ys)) ≡ drop k xs ++ ys = ap (λ m. drop m (x ∷ (xs ++ ys))) len ∙ drop_in k xs ys (prefix_le is_high xs) in (
       run (take (prefix_len is_high (x ∷ (xs ++ ys))) (x ∷ (xs ++ ys))) ∷ further.0,
       (plain_row x (xs ++ ys) false true h.0 t u, rw left further.1),
     )

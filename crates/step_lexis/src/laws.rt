@@ -9,5 +9,4 @@ ghost use Rattle.step_lexis.specs.declared.fault.TextFault.{TextFault};
 /// again, and after the end there is nothing more.
 pub fn answers_are_determined()
     ensures { (old new next : Reading) (r s : Result (Option Token) TextFault) → Answers old r new → Answers old s next → SameAnswer r s }
-{
-}
+{}

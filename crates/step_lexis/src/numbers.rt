@@ -11,6 +11,7 @@ ghost use Rattle.step_lexis.specs.Literals.{IsNumber};
 use crate::bytes::{digits_len, is_digit};
 
 const LONGEST: usize = 400;
+
 const LARGEST_EXPONENT: u64 = 999_999;
 
 fn is_e(b: u8) -> bool
