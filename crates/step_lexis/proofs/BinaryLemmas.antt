@@ -1,13 +1,12 @@
 -- Where a binary ends.
-use Rattle.std.proofs.Common.{◌≡◌, ℕ, ◌+◌, ◌≤◌, ◌<◌, Bool, true, false, List, [], ◌∷◌, ◌++◌, length, get_or, take, drop, refl, sym, ap, ◌∙◌, arith, append_assoc, length-append, take-append-drop, Some}
+use Rattle.std.proofs.Common.{◌≡◌, ℕ, ◌+◌, ◌≤◌, ◌<◌, List, [], ◌∷◌, ◌++◌, length, get_or, take, drop, refl, sym, ap, ◌∙◌, arith, append_assoc, length-append, take-append-drop}
 use Rattle.std.specs.List.{prefix_len}
-use Rattle.std.proofs.lemmas.Bool.Decides.{nat_tests}
 use Rattle.std.proofs.Math.ListN.{length-take}
 use Rattle.std.proofs.lemmas.List.Sums.{prefix_len-le-length}
-use Rattle.step_lexis.specs.Bytes.{is_hex, Each, Stops}
+use Rattle.step_lexis.specs.Bytes.{is_hex, Each}
 use Rattle.step_lexis.specs.Tokens.{Kind, binary, Allows, IsNext, NoneAt}
 use Rattle.step_lexis.proofs.Runs.{cut_unique, run_at_prefix, front_back}
-use Rattle.step_lexis.proofs.Longest.{Group, quote, group, first_group, same_group}
+use Rattle.step_lexis.proofs.Longest.{quote, group, first_group, same_group}
 use Rattle.step_lexis.proofs.FrontLemmas.{begins_with}
 
 -- the parts of a binary are what stands there

@@ -1,14 +1,14 @@
 -- Bytes that end the token before them: what stands behind such a byte doesn't change that token.
-use Rattle.std.proofs.Common.{◌≡◌, ℕ, zero, suc, ◌+◌, ◌≤◌, ◌<◌, Bool, true, false, not, Option, Some, None, get_or, ◌||◌, cond, List, [], ◌∷◌, ◌++◌, length, take, drop, map, refl, sym, ap, ◌∙◌, arith, subst, append_assoc, length-append, codes, cond}
+use Rattle.std.proofs.Common.{◌≡◌, ℕ, ◌≤◌, ◌<◌, Bool, true, false, not, Some, None, get_or, ◌||◌, List, [], ◌∷◌, ◌++◌, length, map, refl, sym, ap, ◌∙◌, arith, subst, length-append, codes}
 use Rattle.std.specs.Prelude.{◌==◌, ◌&&◌, nat_le}
 use Rattle.std.specs.List.{list_all}
 use Rattle.std.specs.Char.{to_ascii_lowercase}
 use Rattle.std.proofs.lemmas.Bool.{false≢true}
 use Rattle.std.proofs.lemmas.Bool.Decides.{nat_tests}
-use Rattle.step_lexis.specs.Bytes.{is_digit, is_letter, is_word_byte, is_hex, Each, Stops}
-use Rattle.step_lexis.specs.Tokens.{Kind, begins, ends, keyword, user_defined, scope, name, integer, real, element, string, binary, mark, is_mark, is_sign, is_e, IsSign, IsDigits, IsKeyword, IsExponent, doubled, Says, Spells, Allows, IsNext}
-use Rattle.step_lexis.proofs.Longest.{Group, group, group_of, group_at, first_group, apostrophe, marks, same_group, no_empty}
-use Rattle.step_lexis.specs.Layout.{Blank, space, new_line, form_feed, comment, SpellsBlank, IsBlank, NoBlank}
+use Rattle.step_lexis.specs.Bytes.{is_digit, is_letter, is_word_byte, is_hex, Each}
+use Rattle.step_lexis.specs.Tokens.{Kind, begins, ends, keyword, user_defined, scope, name, integer, real, element, string, binary, mark, is_mark, is_sign, is_e, IsSign, IsKeyword, IsExponent, Allows, IsNext}
+use Rattle.step_lexis.proofs.Longest.{group, group_of, group_at, first_group, apostrophe, same_group, no_empty}
+use Rattle.step_lexis.specs.Layout.{Blank, space, new_line, form_feed, comment, SpellsBlank, NoBlank}
 use Rattle.step_lexis.proofs.LayoutLemmas.{blank_head}
 use Rattle.step_lexis.proofs.StringLemmas.{next_string}
 

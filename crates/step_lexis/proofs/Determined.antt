@@ -1,7 +1,6 @@
 -- A lexer's answer is determined by what is read.
-use Rattle.std.proofs.Common.{◌≡◌, ℕ, ◌+◌, ◌≤◌, ◌<◌, ◌^◌, List, [], ◌∷◌, ◌++◌, length, take, drop, refl, sym, ap, ◌∙◌, ◌-◌, subst, arith, length-drop, take-append-drop, Option, Some, None, Result, Ok, Err, ◌⊎◌, inl, inr}
+use Rattle.std.proofs.Common.{◌≡◌, ℕ, ◌≤◌, ◌<◌, ◌^◌, List, [], ◌∷◌, ◌++◌, length, take, drop, refl, sym, ap, ◌∙◌, ◌-◌, subst, arith, length-drop, length-append, take-append-drop, Option, Some, None, Result, Ok, Err, ◌⊎◌, inl, inr}
 use Rattle.std.specs.Str.Parse.{digits_value}
-use Rattle.std.proofs.Math.ListN.{length-take}
 use Rattle.step_lexis.specs.declared.token.Token.{Token}
 use Rattle.step_lexis.specs.declared.fault.TextFault.{TextFault}
 use Rattle.step_lexis.specs.declared.token.Sort.{Sort}
@@ -11,8 +10,13 @@ use Rattle.step_lexis.specs.declared.fault.Flaw.TheVariants.{BadToken, UnendedSt
 use Rattle.step_lexis.specs.Tokens.{Kind, name, integer, real, string, IsNext, NoneAt}
 use Rattle.step_lexis.specs.Numbers.{IsShortNumber}
 use Rattle.step_lexis.specs.Strings.{content_of, IsReadable, IsBrokenAt}
-use Rattle.step_lexis.specs.Front.{kind_of, HasValue, IsFront, IsFlawed, HasBadEscape}
-use Rattle.step_lexis.specs.Reading.{Reading, left, Reaches, Takes, IsAtEnd, IsFaulty, Answers, SameAnswer}
+use Rattle.step_lexis.specs.Front.{kind_of, mark_byte, HasValue, IsFront, IsFlawed, HasBadEscape}
+use Rattle.step_lexis.specs.Reading.{Reading, Reaches, Takes, IsAtEnd, IsFaulty, Answers, SameSort, SameAnswer}
+use Rattle.step_lexis.specs.declared.token.Mark.{Mark}
+use Rattle.step_lexis.specs.declared.token.Mark.TheVariants.{Open, Close, Comma, Semicolon, Equals, Dollar, Asterisk}
+use Rattle.std.specs.Prelude.{◌==◌, if◌then◌else◌}
+use Rattle.step_lexis.specs.Layout.{NoBlank}
+use Rattle.std.proofs.lemmas.List.{append_cancel_right}
 use Rattle.step_lexis.proofs.Unique.{one_next}
 use Rattle.step_lexis.proofs.DirectiveLemmas.{broken_once, readable_not_broken}
 use Rattle.step_lexis.proofs.LayoutLemmas.{one_rest}
@@ -150,19 +154,117 @@ faults_same old new next f k h g =
     let q : f.place ≡ k.place = omega (arith, h.fault_place, g.fault_place, p, same.1) in
     (λ i. record { flaw = same.0 i; place = q i })
 
--- what is answered is determined
-pub determined : (old new next : Reading) (r s : Result (Option Token) TextFault) → Answers old r new → Answers old s next → SameAnswer r s
+-- the mark that is this byte
+mark_at : ℕ → Mark
+mark_at b = if b == 40 then Open else (if b == 41 then Close else (if b == 44 then Comma else (if b == 59 then Semicolon else (if b == 61 then Equals else (if b == 36 then Dollar else Asterisk)))))
+
+mark_back : (m : Mark) → mark_at (mark_byte m) ≡ m
+unfolding mark_at
+mark_back Open = refl
+mark_back Close = refl
+mark_back Comma = refl
+mark_back Semicolon = refl
+mark_back Equals = refl
+mark_back Dollar = refl
+mark_back Asterisk = refl
+
+-- two words between dots
+between_dots : (v w t : List ℕ) → 46 ∷ v ++ 46 ∷ [] ≡ t → 46 ∷ w ++ 46 ∷ [] ≡ t → v ≡ w
+between_dots v w t h g =
+    let e : 46 ∷ (v ++ 46 ∷ []) ≡ 46 ∷ (w ++ 46 ∷ []) = h ∙ sym g in
+    let q : v ++ 46 ∷ [] ≡ w ++ 46 ∷ [] = cc in
+    append_cancel_right v w (46 ∷ []) q
+
+behind_mark : (v w t : List ℕ) → 33 ∷ v ≡ t → 33 ∷ w ≡ t → v ≡ w
+behind_mark v w t h g = let e : 33 ∷ v ≡ 33 ∷ w = h ∙ sym g in cc
+
+one_mark : (m n : Mark) (t : List ℕ) → mark_byte m ∷ [] ≡ t → mark_byte n ∷ [] ≡ t → m ≡ n
+one_mark m n t h g =
+    let e : mark_byte m ∷ [] ≡ mark_byte n ∷ [] = h ∙ sym g in
+    let q : mark_byte m ≡ mark_byte n = cc in
+    sym (mark_back m) ∙ ap mark_at q ∙ mark_back n
+
+-- a token's bytes determine its value
+same_sort : (s u : Sort) (t : List ℕ) → kind_of s ≡ kind_of u → HasValue s t → HasValue u t → SameSort s u
+same_sort sorts.Begin sorts.Begin t k h g = tt
+same_sort sorts.Begin _ t k h g = absurd (cc)
+same_sort sorts.End sorts.End t k h g = tt
+same_sort sorts.End _ t k h g = absurd (cc)
+same_sort (sorts.Keyword v) (sorts.Keyword w) t k h g = h ∙ sym g
+same_sort (sorts.Keyword v) _ t k h g = absurd (cc)
+same_sort (sorts.UserDefined v) (sorts.UserDefined w) t k h g = behind_mark v.text.now w.text.now t h g
+same_sort (sorts.UserDefined v) _ t k h g = absurd (cc)
+same_sort sorts.Scope sorts.Scope t k h g = tt
+same_sort sorts.Scope _ t k h g = absurd (cc)
+same_sort (sorts.Name m) (sorts.Name n) t k h g = h.0 ∙ sym g.0
+same_sort (sorts.Name m) _ t k h g = absurd (cc)
+same_sort (sorts.Integer a) (sorts.Integer b) t k h g = h.0 ∙ sym g.0
+same_sort (sorts.Integer a) _ t k h g = absurd (cc)
+same_sort (sorts.Real a) (sorts.Real b) t k h g = h.0 ∙ sym g.0
+same_sort (sorts.Real a) _ t k h g = absurd (cc)
+same_sort (sorts.Element v) (sorts.Element w) t k h g = between_dots v.text.now w.text.now t h g
+same_sort (sorts.Element v) _ t k h g = absurd (cc)
+same_sort (sorts.String a) (sorts.String b) t k h g = h.0 ∙ sym g.0
+same_sort (sorts.String a) _ t k h g = absurd (cc)
+same_sort (sorts.Binary a) (sorts.Binary b) t k h g = h ∙ sym g
+same_sort (sorts.Binary a) _ t k h g = absurd (cc)
+same_sort (sorts.Mark m) (sorts.Mark n) t k h g = one_mark m n t h g
+same_sort (sorts.Mark m) _ t k h g = absurd (cc)
+
+at_one : (a b : Reading) → a.text ≡ b.text → a.place ≡ b.place → a ≡ b
+at_one a b h g = λ i. record { text = h i; place = g i }
+
+-- what is answered is determined, and how far the text is read then
+pub determined : (old new next : Reading) (r s : Result (Option Token) TextFault) → Answers old r new → Answers old s next → SameAnswer r s × (new ≡ next)
 determined old new next (Ok (Some t)) (Ok (Some u)) h g =
     let p = same_place old t.place u.place h.reaches g.reaches in
     let l = drop t.place old.text in
     let other : IsNext (kind_of u.sort) (take (length u.text.now) l) (drop (length u.text.now) l) = rw p g.front.next in
     let o = one l (kind_of t.sort) (kind_of u.sort) (length t.text.now) (length u.text.now) h.front.next other in
-    (p, h.text ∙ o.1 ∙ ap (λ n. take (length u.text.now) (drop n old.text)) p ∙ sym g.text, o.0)
-determined old new next (Ok None) (Ok None) h g = tt
-determined old new next (Err f) (Err k) h g = faults_same old new next f k h g
-determined old new next (Ok (Some t)) (Ok None) h g = some_none old new t h g.reaches
-determined old new next (Ok None) (Ok (Some t)) h g = some_none old next t g h.reaches
-determined old new next (Ok (Some t)) (Err f) h g = some_err old new next t f h g
-determined old new next (Ok None) (Err f) h g = none_err old next f h.reaches g
-determined old new next (Err f) (Ok (Some t)) h g = some_err old next new t f g h
-determined old new next (Err f) (Ok None) h g = none_err old new f g.reaches h
+    let text : t.text.now ≡ u.text.now = h.text ∙ o.1 ∙ ap (λ n. take (length u.text.now) (drop n old.text)) p ∙ sym g.text in
+    let value : HasValue u.sort (take (length t.text.now) l) = subst (HasValue u.sort) (sym g.text ∙ sym text ∙ h.text) g.front.value in (
+      (p, text, same_sort t.sort u.sort (take (length t.text.now) l) o.0 h.front.value value),
+      at_one new next (h.new_text ∙ sym g.new_text) (omega (arith, h.new_place, g.new_place, p, ap length text)),
+    )
+determined old new next (Ok None) (Ok None) h g = (tt, at_one new next (h.new_text ∙ sym g.new_text) (h.new_place ∙ sym g.new_place))
+determined old new next (Err f) (Err k) h g = (faults_same old new next f k h g, h.same ∙ sym g.same)
+determined old new next (Ok (Some t)) (Ok None) h g = absurd (some_none old new t h g.reaches)
+determined old new next (Ok None) (Ok (Some t)) h g = absurd (some_none old next t g h.reaches)
+determined old new next (Ok (Some t)) (Err f) h g = absurd (some_err old new next t f h g)
+determined old new next (Ok None) (Err f) h g = absurd (none_err old next f h.reaches g)
+determined old new next (Err f) (Ok (Some t)) h g = absurd (some_err old next new t f g h)
+determined old new next (Err f) (Ok None) h g = absurd (none_err old new f g.reaches h)
+
+-- the end is answered again
+pub end_again : (old new next : Reading) (s : Result (Option Token) TextFault) → IsAtEnd old new → Answers new s next → SameAnswer (Ok None) s × (new ≡ next)
+end_again old new next s h g =
+    let here : drop new.place new.text ≡ drop (length old.text) old.text = (λ i. drop (h.new_place i) (h.new_text i)) in
+    let length_same : length new.text ≡ length old.text = ap length h.new_text in
+    let last : IsAtEnd new new = record {
+      reaches = record {
+        within = omega arith;
+        layout = record {
+          gap = [];
+          layout = ([], tt, refl);
+          split = ap (λ n. drop n new.text) (h.new_place ∙ sym length_same);
+          whole = subst NoBlank (sym here ∙ ap (λ n. drop n new.text) (h.new_place ∙ sym length_same)) h.reaches.layout.whole;
+        };
+      };
+      new_text = refl;
+      new_place = h.new_place ∙ sym length_same;
+    } in
+    determined new new next (Ok None) s last g
+
+-- a fault is answered again
+pub fault_again : (old new next : Reading) (f : TextFault) (s : Result (Option Token) TextFault) → IsFaulty old f new → Answers new s next → SameAnswer (Err f) s × (new ≡ next)
+fault_again old new next f s h g =
+    let here : IsFaulty old f old = record { place = h.place; index = h.index; reaches = h.reaches; more = h.more; flawed = h.flawed; fault_place = h.fault_place; same = refl } in
+    let again : IsFaulty new f new = subst (λ r. IsFaulty r f r) (sym h.same) here in
+    determined new new next (Err f) s again g
+
+-- places rise
+pub places_rise : (old new : Reading) (t : Token) → old.place ≤ length old.text → Takes old t new → (old.place ≤ t.place) × (t.place < new.place)
+places_rise old new t within h = (
+  omega (arith, ap length h.reaches.layout.split, length-append h.reaches.layout.gap (drop t.place old.text), length-drop old.place old.text, length-drop t.place old.text, h.reaches.within, within),
+  omega (arith, some_bytes (drop t.place old.text) t.sort (length t.text.now) h.front, h.new_place),
+)

@@ -1,5 +1,5 @@
 -- Names, elements and marks.
-use Rattle.std.proofs.Common.{◌≡◌, ℕ, ◌+◌, ◌*◌, ◌-◌, ◌≤◌, ◌<◌, Bool, true, false, List, [], ◌∷◌, ◌++◌, length, get_or, take, drop, refl, sym, ap, ◌∙◌, subst, arith, append_assoc, length-append, take-append-drop, one-add, Some, None, ◌||◌, suc, add-one}
+use Rattle.std.proofs.Common.{◌≡◌, ℕ, ◌+◌, ◌*◌, ◌-◌, ◌≤◌, ◌<◌, Bool, true, false, List, [], ◌∷◌, ◌++◌, length, get_or, take, drop, refl, sym, ap, ◌∙◌, subst, arith, append_assoc, length-append, take-append-drop, None, ◌||◌, suc, add-one}
 use Rattle.std.specs.Prelude.{◌==◌}
 use Rattle.std.specs.List.{prefix_len}
 use Rattle.std.specs.Char.{digit_value}
@@ -9,8 +9,8 @@ use Rattle.std.proofs.lemmas.Bool.Decides.{nat_tests}
 use Rattle.std.proofs.Math.ListN.{length-take, drop_of_length-le}
 use Rattle.std.proofs.Math.Seq.{drop-cons}
 use Rattle.std.proofs.lemmas.List.Sums.{prefix_len-le-length}
-use Rattle.step_lexis.specs.Bytes.{is_letter, is_digit, is_word_byte, Each, Stops, IsRun}
-use Rattle.step_lexis.specs.Tokens.{Kind, begins, ends, keyword, name, integer, real, element, string, mark, IsKeyword, IsDigits, is_mark, is_sign, Allows, IsNext, NoneAt, doubled, Spells}
+use Rattle.step_lexis.specs.Bytes.{is_letter, is_digit, is_word_byte, Each, Stops}
+use Rattle.step_lexis.specs.Tokens.{Kind, name, element, string, mark, IsKeyword, IsDigits, is_mark, is_sign, Allows, IsNext, NoneAt, doubled, Spells}
 use Rattle.step_lexis.specs.Numbers.{StartsNumber}
 use Rattle.step_lexis.specs.declared.token.Mark.{Mark}
 use Rattle.step_lexis.specs.declared.token.Mark.TheVariants.{Open, Close, Comma, Semicolon, Equals, Dollar, Asterisk}
@@ -21,7 +21,7 @@ use Rattle.step_lexis.specs.Strings.{content_of, IsReadable, IsBrokenAt}
 use Rattle.step_lexis.specs.Literals.{IsText}
 use Rattle.step_lexis.specs.Front.{mark_byte, IsFront, IsFlawed, HasBadEscape}
 use Rattle.step_lexis.proofs.Runs.{cut_unique, run_fits, run_at_prefix, front_back, stops_at, each_at}
-use Rattle.step_lexis.proofs.Longest.{Group, hash, dot, marks, group, group_at, group_of, first_group, same_group}
+use Rattle.step_lexis.proofs.Longest.{hash, dot, marks, group, group_at, group_of, first_group, same_group}
 use Rattle.step_lexis.proofs.NumberLemmas.{dot_stops}
 use Rattle.step_lexis.proofs.NumberCuts.{digits_counted, digits_are, take_one}
 use Rattle.step_lexis.proofs.WordLemmas.{keyword_each, keyword_run}

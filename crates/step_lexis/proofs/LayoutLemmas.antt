@@ -1,12 +1,12 @@
 -- Layout.
-use Rattle.std.proofs.Common.{◌≡◌, ◌≢◌, ℕ, ◌+◌, ◌-◌, ◌≤◌, ◌<◌, Bool, true, false, List, [], ◌∷◌, ◌++◌, length, get_or, take, drop, refl, sym, ap, ◌∙◌, arith, append_assoc, length-append, take-append-drop, one-add, Some, None, codes, append-nil, subst, map}
+use Rattle.std.proofs.Common.{◌≡◌, ℕ, ◌+◌, ◌≤◌, ◌<◌, List, [], ◌∷◌, ◌++◌, length, get_or, take, drop, refl, sym, ap, ◌∙◌, arith, append_assoc, length-append, take-append-drop, Some, codes, append-nil, subst, map}
 use Rattle.std.specs.Char.{to_ascii_lowercase}
 use Rattle.std.proofs.lemmas.List.{length-map}
 use Rattle.std.proofs.lemmas.Bool.Decides.{nat_tests}
 use Rattle.std.specs.List.{AllByRecursion}
 use Rattle.std.proofs.Math.ListN.{length-take}
 use Rattle.std.proofs.lemmas.List.{get_or-take}
-use Rattle.memchr.specs.Find.{FindsNeedle, OccursAt, Nowhere, NoneBefore}
+use Rattle.memchr.specs.Find.{FindsNeedle, OccursAt, Nowhere}
 use Rattle.step_lexis.specs.Tokens.{Says}
 use Rattle.step_lexis.specs.Layout.{Blank, space, new_line, form_feed, comment, SpellsBlank, IsBlank, NoBlank, joined}
 use Rattle.step_lexis.proofs.Runs.{front_back}

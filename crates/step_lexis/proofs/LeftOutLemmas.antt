@@ -1,5 +1,5 @@
 -- User-defined keywords, and the mark of a scope.
-use Rattle.std.proofs.Common.{◌≡◌, ℕ, ◌+◌, ◌≤◌, ◌<◌, true, false, List, [], ◌∷◌, ◌++◌, length, get_or, take, drop, map, sym, ap, refl, ◌∙◌, arith, take-append-drop, codes, Some}
+use Rattle.std.proofs.Common.{◌≡◌, ℕ, ◌+◌, ◌≤◌, ◌<◌, true, false, List, [], ◌∷◌, ◌++◌, length, get_or, take, drop, sym, ap, refl, ◌∙◌, arith, take-append-drop, codes}
 use Rattle.std.specs.List.{prefix_len}
 use Rattle.std.specs.Char.{to_ascii_lowercase}
 use Rattle.std.proofs.lemmas.Bool.{false≢true}
@@ -7,12 +7,12 @@ use Rattle.std.proofs.lemmas.List.{length-map}
 use Rattle.std.proofs.Math.ListN.{length-take}
 use Rattle.std.proofs.lemmas.List.Sums.{prefix_len-le-length}
 use Rattle.step_lexis.specs.Bytes.{is_letter, is_word_byte, Stops}
-use Rattle.step_lexis.specs.Tokens.{Kind, user_defined, scope, IsKeyword, Says, Allows, IsNext, NoneAt}
+use Rattle.step_lexis.specs.Tokens.{Kind, user_defined, scope, IsKeyword, Says, Allows, IsNext}
 use Rattle.step_lexis.specs.declared.token.Sort.TheVariants as sorts
 use Rattle.step_lexis.specs.declared.fault.Flaw.TheVariants.{BadToken}
 use Rattle.step_lexis.specs.Front.{IsFront, IsFlawed}
 use Rattle.step_lexis.proofs.Runs.{run_fits, run_at_prefix, front_back}
-use Rattle.step_lexis.proofs.Longest.{Group, exclaim, ampersand, group, first_group, same_group}
+use Rattle.step_lexis.proofs.Longest.{exclaim, ampersand, group, first_group, same_group}
 use Rattle.step_lexis.proofs.WordLemmas.{keyword_each, keyword_run, taken, said_len}
 use Rattle.step_lexis.proofs.FrontLemmas.{begins_with, one_only}
 

@@ -1,17 +1,16 @@
 -- The pieces of a number, as the code cuts them.
-use Rattle.std.proofs.Common.{◌≡◌, ℕ, ◌+◌, ◌-◌, ◌≤◌, ◌<◌, Bool, true, false, ◌||◌, Some, cond, List, [], ◌∷◌, ◌++◌, length, get_or, take, drop, refl, sym, ap, ◌∙◌, arith, append_assoc, length-append, take-append-drop, one-add, add-one, subst}
+use Rattle.std.proofs.Common.{◌≡◌, ℕ, ◌+◌, ◌<◌, Bool, true, false, ◌||◌, Some, cond, List, [], ◌∷◌, ◌++◌, length, get_or, take, drop, refl, sym, ap, ◌∙◌, arith, append_assoc, take-append-drop, one-add}
 use Rattle.std.specs.Prelude.{◌==◌}
 use Rattle.std.specs.List.{prefix_len}
 use Rattle.std.proofs.Math.Seq.{take-add}
 use Rattle.std.proofs.lemmas.List.{drop-drop}
 use Rattle.std.proofs.lemmas.List.Folds.{length-prefix_len}
 use Rattle.std.proofs.lemmas.Bool.{false≢true}
-use Rattle.std.proofs.lemmas.Bool.Decides.{nat_tests}
-use Rattle.step_lexis.specs.Bytes.{is_digit, Each, Stops, IsRun}
-use Rattle.step_lexis.specs.Tokens.{Kind, integer, real, is_sign, is_e, IsSign, sign_len, IsDigits, IsExponent, Allows, IsNext, NoneAt, begins, ends, keyword, name, element, string, mark}
+use Rattle.step_lexis.specs.Bytes.{is_digit, Each, Stops}
+use Rattle.step_lexis.specs.Tokens.{Kind, integer, real, is_sign, is_e, IsSign, sign_len, IsDigits, IsExponent, Allows, IsNext, NoneAt}
 use Rattle.step_lexis.specs.Numbers.{IsLongestExponent, StartsNumber}
 use Rattle.step_lexis.proofs.Runs.{run_at_prefix}
-use Rattle.step_lexis.proofs.Longest.{Group, numbers, group, group_of, group_at, first_group, digit_group, sign_group}
+use Rattle.step_lexis.proofs.Longest.{numbers, group, group_of, group_at, first_group, digit_group, sign_group}
 use Rattle.step_lexis.proofs.NumberLemmas.{sign_taken, exponent_with_digits, exponent_none, next_integer, next_real}
 
 sign_cons : (b : ℕ) (bs : List ℕ) (t : Bool) → is_sign b ≡ t → IsSign (take (cond t 1 0) (b ∷ bs))

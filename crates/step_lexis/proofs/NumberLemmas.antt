@@ -1,13 +1,13 @@
 -- The longest number at the front of a text.
-use Rattle.std.proofs.Common.{◌≡◌, ℕ, ◌+◌, ◌≤◌, ◌<◌, Bool, true, false, cond, List, [], ◌∷◌, ◌++◌, length, take, drop, map, refl, sym, ap, ◌∙◌, arith, append_assoc, length-append}
+use Rattle.std.proofs.Common.{◌≡◌, ℕ, ◌+◌, ◌≤◌, ◌<◌, true, false, List, [], ◌∷◌, ◌++◌, length, take, drop, refl, sym, ap, ◌∙◌, arith, append_assoc, length-append}
 use Rattle.std.specs.Prelude.{◌==◌}
 use Rattle.std.proofs.lemmas.Bool.{false≢true}
 use Rattle.std.proofs.lemmas.Bool.Decides.{nat_tests}
-use Rattle.step_lexis.specs.Bytes.{is_letter, is_digit, is_word_byte, Each, Stops, IsRun}
-use Rattle.step_lexis.specs.Tokens.{Kind, begins, ends, keyword, name, integer, real, element, string, mark, is_sign, is_e, IsSign, sign_len, IsDigits, IsExponent, Spells, Allows, IsNext, NoneAt}
+use Rattle.step_lexis.specs.Bytes.{is_digit, Each, Stops}
+use Rattle.step_lexis.specs.Tokens.{Kind, integer, real, is_sign, is_e, IsSign, sign_len, IsDigits, IsExponent, Allows, IsNext}
 use Rattle.step_lexis.specs.Numbers.{IsLongestExponent}
 use Rattle.step_lexis.proofs.Runs.{cut_unique, run_fits}
-use Rattle.step_lexis.proofs.Longest.{Group, numbers, words, hash, dot, apostrophe, marks, group, same_group, sign_no_digit}
+use Rattle.step_lexis.proofs.Longest.{numbers, group, same_group}
 
 digit_no_sign : (b : ℕ) → is_digit b ≡ true → is_sign b ≡ false
 digit_no_sign b h = grind (arith, nat_tests)

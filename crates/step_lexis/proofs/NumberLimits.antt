@@ -1,12 +1,12 @@
 -- The digits of an exponent.
-use Rattle.std.proofs.Common.{◌≡◌, ℕ, ◌+◌, ◌≤◌, ◌<◌, true, false, not, List, [], ◌∷◌, ◌++◌, length, take, drop, sym, ap, refl, ◌∙◌, arith, append_assoc, append-nil, length-append, cond, Bool, subst, ◌⊎◌, inl, inr}
+use Rattle.std.proofs.Common.{◌≡◌, ℕ, ◌+◌, true, false, not, List, [], ◌∷◌, ◌++◌, length, drop, sym, ap, refl, ◌∙◌, arith, append_assoc, append-nil, length-append, cond, Bool, subst, inl, inr}
 use Rattle.std.specs.List.{prefix_len}
 use Rattle.std.proofs.lemmas.Bool.Decides.{nat_tests}
 use Rattle.std.proofs.Math.Seq.{drop-append_seam}
 use Rattle.std.proofs.Math.ListN.{drop_of_length-le}
 use Rattle.step_lexis.specs.Bytes.{is_digit, Each}
-use Rattle.step_lexis.specs.Tokens.{is_e, is_sign, sign_len, IsSign, IsDigits, IsExponent, IsNext, integer, real, Spells, NoneAt}
-use Rattle.step_lexis.specs.Numbers.{exponent_digits, IsShortNumber}
+use Rattle.step_lexis.specs.Tokens.{is_e, is_sign, sign_len, IsSign, IsDigits, IsExponent, IsNext, integer, real}
+use Rattle.step_lexis.specs.Numbers.{exponent_digits}
 use Rattle.step_lexis.specs.Literals.{IsNumber}
 use Rattle.step_lexis.proofs.NumberLemmas.{sign_taken}
 
@@ -40,7 +40,7 @@ prefix_passed p [] ys h = omega arith
 prefix_passed p (x ∷ xs) ys h = rw h.0 (omega (arith, prefix_passed p xs ys h.1))
 
 -- a front with no `E`, and nothing behind it
-no_exponent : (front : List ℕ) → Each no_e front → exponent_digits front ≡ []
+pub no_exponent : (front : List ℕ) → Each no_e front → exponent_digits front ≡ []
 no_exponent front h =
     let n : prefix_len no_e front ≡ length front = ap (prefix_len no_e) (sym (append-nil front)) ∙ prefix_passed no_e front [] h ∙ omega arith in
     let e : drop (1 + prefix_len no_e front) front ≡ [] = drop_of_length-le front (omega (arith, n)) in
@@ -53,15 +53,21 @@ drop_one_more xs ys y =
     (λ i. drop (n i) (e i)) ∙ drop-append_seam (xs ++ y ∷ []) ys
 
 -- a front with no `E`, and an exponent
+pub exponent_written : (front sign ds : List ℕ) (e : ℕ) → Each no_e front → is_e e ≡ true → IsSign sign → IsDigits ds → exponent_digits (front ++ e ∷ (sign ++ ds)) ≡ ds
+exponent_written front sign ds e h he hs hd =
+    let all = front ++ e ∷ (sign ++ ds) in
+    let n : prefix_len no_e all ≡ length front = prefix_passed no_e front (e ∷ (sign ++ ds)) h ∙ (rw (e_is e he) (omega arith)) in
+    let tail : drop (1 + prefix_len no_e all) all ≡ sign ++ (ds ++ []) = ap (λ k. drop (1 + k) all) n ∙ drop_one_more front (sign ++ ds) e ∙ ap (λ l. sign ++ l) (sym (append-nil ds)) in
+    let digits : ds ++ [] ≡ exponent_digits all = (sign_taken sign ds [] hs hd).1 ∙ sym (ap (λ t. drop (sign_len t) t) tail) in
+    sym digits ∙ append-nil ds
+
 exponent_behind : (front exponent : List ℕ) → Each no_e front → IsExponent exponent → Each is_digit (exponent_digits (front ++ exponent))
 exponent_behind front [] h x =
     let e : exponent_digits (front ++ []) ≡ [] = ap exponent_digits (append-nil front) ∙ no_exponent front h in
     subst (Each is_digit) (sym e) tt
 exponent_behind front (e ∷ bs) h x =
-    let n : prefix_len no_e (front ++ e ∷ bs) ≡ length front = prefix_passed no_e front (e ∷ bs) h ∙ (rw (e_is e x.0) (omega arith)) in
-    let tail : drop (1 + prefix_len no_e (front ++ e ∷ bs)) (front ++ e ∷ bs) ≡ x.1 ++ (x.2 ++ []) = ap (λ k. drop (1 + k) (front ++ e ∷ bs)) n ∙ drop_one_more front bs e ∙ x.5 ∙ ap (λ l. x.1 ++ l) (sym (append-nil x.2)) in
-    let digits : x.2 ++ [] ≡ exponent_digits (front ++ e ∷ bs) = (sign_taken x.1 x.2 [] x.3 x.4).1 ∙ sym (ap (λ t. drop (sign_len t) t) tail) in
-    subst (Each is_digit) (sym (append-nil x.2) ∙ digits) x.4.1
+    let same : exponent_digits (front ++ e ∷ bs) ≡ x.2 = ap (λ l. exponent_digits (front ++ e ∷ l)) x.5 ∙ exponent_written front x.1 x.2 e h x.0 x.3 x.4 in
+    subst (Each is_digit) (sym same) x.4.1
 
 -- what stands behind the `E` of a number and its sign are digits
 pub exponent_each : (t : List ℕ) → IsNumber t → Each is_digit (exponent_digits t)

@@ -1,9 +1,14 @@
 -- Runs of bytes of a class, and where they end.
-use Rattle.std.proofs.Common.{◌≡◌, ℕ, zero, suc, ◌+◌, ◌≤◌, ◌<◌, Bool, true, false, cond, List, [], ◌∷◌, ◌++◌, length, get_or, take, drop, refl, sym, ap, ◌∙◌, arith, one-add, take-append-drop, length-append}
+use Rattle.std.proofs.Common.{◌≡◌, ℕ, zero, suc, ◌+◌, ◌≤◌, ◌<◌, Bool, true, false, cond, List, [], ◌∷◌, ◌++◌, length, get_or, take, drop, refl, sym, ap, ◌∙◌, arith, one-add, length-append}
 use Rattle.std.proofs.Math.Seq.{take-append_seam, drop-append_seam}
 use Rattle.std.specs.List.{prefix_len}
 use Rattle.std.proofs.lemmas.Bool.{false≢true}
-use Rattle.step_lexis.specs.Bytes.{Each, Stops, IsRun}
+use Rattle.step_lexis.specs.Bytes.{Each, Stops}
+
+-- front is the longest run of elements that pass, and back is what follows it
+pub record IsRun (p : ℕ → Bool) (front back : List ℕ) : Type 0 where
+  pub passes : Each p front
+  pub stops : Stops p back
 
 -- two splits of a list after a run are one
 pub cut_unique : (p : ℕ → Bool) (xs ys r s : List ℕ) → Each p xs → Each p ys → Stops p r → Stops p s → xs ++ r ≡ ys ++ s → (xs ≡ ys) × (r ≡ s)

@@ -1,11 +1,11 @@
 -- One token at most stands at a place.
-use Rattle.std.proofs.Common.{◌≡◌, ℕ, ◌+◌, ◌≤◌, ◌<◌, List, [], ◌∷◌, ◌++◌, length, take, drop, map, refl, sym, ap, ◌∙◌, arith, append_assoc, append-nil, length-append, codes, subst}
+use Rattle.std.proofs.Common.{◌≡◌, ℕ, List, [], ◌∷◌, ◌++◌, length, refl, sym, ap, ◌∙◌, arith, append_assoc, codes, subst}
 use Rattle.std.specs.Char.{to_ascii_lowercase}
 use Rattle.std.proofs.lemmas.List.{length-map}
-use Rattle.step_lexis.specs.Bytes.{is_digit, Each, Stops}
-use Rattle.step_lexis.specs.Tokens.{Kind, begins, ends, keyword, user_defined, scope, name, integer, real, element, string, binary, mark, Says, IsKeyword, IsSign, IsDigits, IsExponent, Allows, IsNext}
+use Rattle.step_lexis.specs.Bytes.{is_digit}
+use Rattle.step_lexis.specs.Tokens.{Kind, begins, ends, keyword, user_defined, scope, name, integer, real, element, string, binary, mark, Says, IsKeyword, Allows, IsNext}
 use Rattle.step_lexis.proofs.Runs.{cut_unique, front_back}
-use Rattle.step_lexis.proofs.Longest.{Group, group, words, exclaim, ampersand, numbers, hash, dot, apostrophe, quote, marks, same_group}
+use Rattle.step_lexis.proofs.Longest.{group, same_group}
 use Rattle.step_lexis.proofs.NumberLemmas.{sign_unique}
 use Rattle.step_lexis.proofs.WordLemmas.{keyword_stops, keyword_each}
 

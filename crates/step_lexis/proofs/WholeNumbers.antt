@@ -1,9 +1,9 @@
 -- Bytes that are a number and nothing more.
-use Rattle.std.proofs.Common.{◌≡◌, ℕ, ◌+◌, ◌≤◌, ◌<◌, Bool, true, false, cond, ◌||◌, List, [], ◌∷◌, ◌++◌, length, get_or, take, drop, refl, sym, ap, ◌∙◌, arith, append-nil, append_assoc, length-append, take-append-drop, subst, ◌⊎◌, inl, inr}
+use Rattle.std.proofs.Common.{◌≡◌, ℕ, ◌≤◌, ◌<◌, Bool, true, false, cond, ◌||◌, List, [], ◌∷◌, ◌++◌, length, get_or, take, drop, refl, sym, ap, ◌∙◌, arith, append-nil, append_assoc, take-append-drop, subst, inl, inr}
 use Rattle.std.proofs.lemmas.Bool.{false≢true}
 use Rattle.std.proofs.lemmas.Bool.Decides.{nat_tests}
-use Rattle.step_lexis.specs.Bytes.{is_digit, Each}
-use Rattle.step_lexis.specs.Tokens.{is_sign, IsSign, IsDigits, Spells, integer, real, IsNext, NoneAt}
+use Rattle.step_lexis.specs.Bytes.{is_digit}
+use Rattle.step_lexis.specs.Tokens.{is_sign, IsSign, IsDigits, integer, real, IsNext, NoneAt}
 use Rattle.step_lexis.specs.Numbers.{StartsNumber}
 use Rattle.step_lexis.specs.Literals.{IsNumber}
 use Rattle.std.proofs.Math.ListN.{length-take}

@@ -1,17 +1,15 @@
 -- The longest token that begins with a letter.
-use Rattle.std.proofs.Common.{◌≡◌, ℕ, ◌+◌, ◌-◌, ◌≤◌, ◌<◌, Bool, true, false, List, [], ◌∷◌, ◌++◌, length, get_or, take, drop, map, refl, sym, ap, ◌∙◌, arith, append_assoc, length-append, take-append-drop, codes, rules, one-add}
-use Rattle.std.specs.Prelude.{◌==◌}
+use Rattle.std.proofs.Common.{◌≡◌, ℕ, ◌≤◌, true, List, [], ◌∷◌, ◌++◌, length, get_or, take, map, refl, sym, ap, ◌∙◌, arith, codes, one-add}
 use Rattle.std.specs.Char.{to_ascii_lowercase}
 use Rattle.std.specs.List.{prefix_len}
 use Rattle.std.proofs.lemmas.List.{length-map}
 use Rattle.std.proofs.lemmas.Bool.{false≢true}
 use Rattle.std.proofs.lemmas.Bool.Decides.{nat_tests}
-use Rattle.std.proofs.Math.Seq.{take-append_seam, drop-append_seam}
 use Rattle.std.proofs.Math.ListN.{length-take}
-use Rattle.step_lexis.specs.Bytes.{is_letter, is_word_byte, Each, Stops, IsRun}
-use Rattle.step_lexis.specs.Tokens.{Kind, begins, ends, keyword, name, integer, real, element, string, mark, IsKeyword, Says, Allows, IsNext, NoneAt}
+use Rattle.step_lexis.specs.Bytes.{is_letter, is_word_byte, Each, Stops}
+use Rattle.step_lexis.specs.Tokens.{Kind, begins, ends, keyword, IsKeyword, Says, Allows, IsNext}
 use Rattle.step_lexis.proofs.Runs.{run_fits, run_at_prefix, front_back}
-use Rattle.step_lexis.proofs.Longest.{Group, words, group, same_group, lower_dash, says_first, letter_words}
+use Rattle.step_lexis.proofs.Longest.{words, group, same_group, lower_dash, says_first}
 
 -- no word goes past a dash
 pub keyword_stops : (w tail t : List ℕ) (xs rest after : List ℕ) → map to_ascii_lowercase t ≡ w ++ 45 ∷ tail → Each is_word_byte xs → xs ++ rest ≡ t ++ after → length xs ≤ length w

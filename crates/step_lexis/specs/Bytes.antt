@@ -1,5 +1,5 @@
 -- The classes of bytes (ISO 10303-21, 5.2), and runs of bytes of a class.
-use Rattle.std.specs.Prelude.{◌≡◌, ℕ, ◌<◌, Bool, true, false, ◌&&◌, ◌||◌, ◌==◌, nat_le, List, [], ◌∷◌, length}
+use Rattle.std.specs.Prelude.{◌≡◌, ℕ, Bool, true, false, ◌&&◌, ◌||◌, ◌==◌, nat_le, List, [], ◌∷◌}
 
 abbrev pub is_digit : ℕ → Bool
 is_digit b = nat_le 48 b && nat_le b 57
@@ -24,8 +24,3 @@ Each p (x ∷ xs) = (p x ≡ true) × Each p xs
 abbrev pub Stops : (ℕ → Bool) → List ℕ → Type 0
 Stops p [] = Unit {0}
 Stops p (b ∷ bs) = p b ≡ false
-
--- front is the longest run of elements that pass, and back is what follows it
-pub record IsRun (p : ℕ → Bool) (front back : List ℕ) : Type 0 where
-  pub passes : Each p front
-  pub stops : Stops p back

@@ -1,7 +1,7 @@
 -- Why bytes are no literal.
 use Rattle.std.specs.Prelude.{◌≡◌, ℕ, List}
 use Rattle.step_lexis.specs.declared.fault.Flaw.{Flaw}
-use Rattle.step_lexis.specs.declared.fault.Flaw.TheVariants.{BadToken, UnendedString, BadEscape, NumberTooLong, NameTooLarge}
+use Rattle.step_lexis.specs.declared.fault.Flaw.TheVariants.{BadToken, NumberTooLong}
 use Rattle.step_lexis.specs.Numbers.{IsShortNumber}
 use Rattle.step_lexis.specs.Literals.{IsNumber}
 

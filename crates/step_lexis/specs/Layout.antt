@@ -1,5 +1,5 @@
 -- Layout: what may stand between tokens (ISO 10303-21, 5.4 and 5.6).
-use Rattle.std.specs.Prelude.{◌≡◌, ℕ, ◌+◌, ◌≤◌, Bool, List, [], ◌∷◌, ◌++◌, length, codes, ◌⊎◌, Some}
+use Rattle.std.specs.Prelude.{◌≡◌, ℕ, ◌+◌, ◌≤◌, List, [], ◌∷◌, ◌++◌, length, codes, Some}
 use Rattle.std.specs.List.{AllByRecursion}
 use Rattle.memchr.specs.Find.{FindsNeedle}
 use Rattle.step_lexis.specs.Tokens.{Says}

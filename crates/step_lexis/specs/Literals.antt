@@ -1,8 +1,8 @@
 -- Literals as they are spelt, and why bytes are none.
-use Rattle.std.specs.Prelude.{◌≡◌, ℕ, ◌+◌, ◌≤◌, List, [], ◌∷◌, length, take, ◌⊎◌}
-use Rattle.step_lexis.specs.Tokens.{Spells, string, integer, real, binary, IsKeyword, NoneAt}
+use Rattle.std.specs.Prelude.{ℕ, List, ◌⊎◌}
+use Rattle.step_lexis.specs.Tokens.{Spells, string, integer, real}
 use Rattle.step_lexis.specs.Numbers.{IsShortNumber}
-use Rattle.step_lexis.specs.Strings.{content_of, IsReadable, IsBrokenAt}
+use Rattle.step_lexis.specs.Strings.{content_of, IsReadable}
 
 abbrev pub IsNumber : List ℕ → Type 0
 IsNumber t = Spells integer t ⊎ Spells real t

@@ -1,9 +1,11 @@
 -- How far a text is read, and what its next token is.
-use Rattle.std.specs.Prelude.{◌≡◌, ℕ, ◌+◌, ◌<◌, ◌≤◌, nat_eq, List, [], ◌∷◌, ◌++◌, length, take, drop, Option, None, Some, Result, Ok, Err, if◌then◌else◌}
+use Rattle.std.specs.Prelude.{◌≡◌, ℕ, ◌+◌, ◌<◌, ◌≤◌, nat_eq, List, [], ◌∷◌, length, take, drop, Option, None, Some, Result, Ok, Err, if◌then◌else◌}
 use Rattle.std.specs.List.{starts_with}
 use Rattle.step_lexis.specs.declared.token.Token.{Token}
+use Rattle.step_lexis.specs.declared.token.Sort.{Sort}
+use Rattle.step_lexis.specs.declared.token.Sort.TheVariants as sorts
 use Rattle.step_lexis.specs.declared.fault.TextFault.{TextFault}
-use Rattle.step_lexis.specs.Front.{IsFront, IsFlawed, kind_of}
+use Rattle.step_lexis.specs.Front.{IsFront, IsFlawed}
 use Rattle.step_lexis.specs.Layout.{SkipsLayout}
 
 -- a text, and how many bytes of it are read
@@ -58,12 +60,25 @@ Answers old (Ok (Some token)) new = Takes old token new
 Answers old (Ok None) new = IsAtEnd old new
 Answers old (Err fault) new = IsFaulty old fault new
 
+-- two tokens have one kind and one value
+abbrev pub SameSort : Sort → Sort → Type 0
+SameSort sorts.Begin sorts.Begin = Unit {0}
+SameSort sorts.End sorts.End = Unit {0}
+SameSort (sorts.Keyword v) (sorts.Keyword w) = v.text.now ≡ w.text.now
+SameSort (sorts.UserDefined v) (sorts.UserDefined w) = v.text.now ≡ w.text.now
+SameSort sorts.Scope sorts.Scope = Unit {0}
+SameSort (sorts.Name m) (sorts.Name n) = m ≡ n
+SameSort (sorts.Integer a) (sorts.Integer b) = a.text.now ≡ b.text.now
+SameSort (sorts.Real a) (sorts.Real b) = a.text.now ≡ b.text.now
+SameSort (sorts.Element v) (sorts.Element w) = v.text.now ≡ w.text.now
+SameSort (sorts.String a) (sorts.String b) = a.text.now ≡ b.text.now
+SameSort (sorts.Binary a) (sorts.Binary b) = a.text.now ≡ b.text.now
+SameSort (sorts.Mark m) (sorts.Mark n) = m ≡ n
+SameSort _ _ = ⊥
+
 -- two answers say the same
 abbrev pub SameAnswer : Result (Option Token) TextFault → Result (Option Token) TextFault → Type 0
-SameAnswer (Ok (Some t)) (Ok (Some u)) = (t.place ≡ u.place) × (t.text.now ≡ u.text.now) × (kind_of t.sort ≡ kind_of u.sort)
+SameAnswer (Ok (Some t)) (Ok (Some u)) = (t.place ≡ u.place) × (t.text.now ≡ u.text.now) × SameSort t.sort u.sort
 SameAnswer (Ok None) (Ok None) = Unit {0}
 SameAnswer (Err f) (Err g) = f ≡ g
-SameAnswer (Ok (Some t)) (Ok None) = ⊥
-SameAnswer (Ok None) (Ok (Some t)) = ⊥
-SameAnswer (Ok t) (Err f) = ⊥
-SameAnswer (Err f) (Ok t) = ⊥
+SameAnswer _ _ = ⊥

@@ -5,7 +5,8 @@ use thiserror::Error;
 /// What is wrong.
 #[derive(Clone, Copy, Debug, PartialEq, Eq, Error)]
 pub enum Flaw {
-    /// No token can stand here: a byte that begins none, a comment or a binary that isn't ended.
+    /// No token stands here: a byte that begins none, a name or sign without digits, an element without
+    /// its dot, a comment or a binary that is not ended.
     #[error("E1 BadToken")]
     BadToken,
     /// A string that isn't ended.

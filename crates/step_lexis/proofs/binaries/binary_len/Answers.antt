@@ -1,4 +1,4 @@
-use Rattle.std.proofs.Common.{◌≡◌, ◌<◌, ◌≤◌, length, get_or, arith}
+use Rattle.std.proofs.Common.{◌≡◌, ◌<◌, length, get_or, arith}
 use Rattle.std.proofs.lemmas.Bool.Decides.{nat_tests}
 use Rattle.step_lexis.proofs.BinaryLemmas.{none_bits, none_open, binary_at}
 use Rattle.step_lexis.proofs.binaries.binary_len.Goals.{else-len-eq0-via-then-len-eq0+else-unused-ne48, else-len-eq0-via-else-len-eq0, then-is_empty-2-via-then-is_empty-2, then-is_empty-2-via-else-is_empty-2+then-after-ne34}

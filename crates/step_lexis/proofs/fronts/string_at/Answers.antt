@@ -1,4 +1,4 @@
-use Rattle.step_lexis.proofs.FrontLemmas.{string_long, text_read, text_front, text_broken}
+use Rattle.step_lexis.proofs.FrontLemmas.{string_long, text_read, text_front}
 use Rattle.step_lexis.proofs.fronts.string_at.Goals as goal
 
 pub content_of-requires : goal.content_of-requires

@@ -1,6 +1,5 @@
-use Rattle.std.proofs.Common.{◌≡◌, ◌<◌, ◌≤◌, ◌∷◌, length, take, get_or, drop, sym, ◌∙◌, arith, rules, codes}
+use Rattle.std.proofs.Common.{sym, ◌∙◌, arith}
 use Rattle.std.proofs.lemmas.Bool.{false≢true}
-use Rattle.step_lexis.specs.Tokens.{Says}
 use Rattle.step_lexis.proofs.LayoutLemmas.{no_blank, not_opened, not_closed, comment_at, opens}
 use Rattle.step_lexis.proofs.layout.blank_len.Goals.{then-bytes-lt2-via-then-bytes-lt2, then-bytes-lt2-via-else-bytes-lt2+then-bytes-ne47, then-bytes-lt2-via-else-bytes-lt2+else-bytes-ne47+then-bytes-ne42}
 use Rattle.step_lexis.proofs.layout.blank_len.Goals as goal

@@ -1,4 +1,4 @@
-use Rattle.std.proofs.Common.{◌≡◌, length, arith, eq-eqb, false}
+use Rattle.std.proofs.Common.{◌≡◌, length, arith, eq-eqb}
 use Rattle.std.proofs.lemmas.Bool.Decides.{nat_tests}
 use Rattle.step_lexis.proofs.WholeNumbers.{none_number, whole_number, number_whole}
 use Rattle.step_lexis.proofs.numbers.is_number.Goals as goal

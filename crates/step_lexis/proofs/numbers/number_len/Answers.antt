@@ -1,4 +1,4 @@
-use Rattle.std.proofs.Common.{◌≡◌, sym, arith, rules}
+use Rattle.std.proofs.Common.{arith, rules}
 use Rattle.std.specs.Prelude.{◌==◌}
 use Rattle.std.proofs.lemmas.Bool.Decides.{nat_tests}
 use Rattle.step_lexis.proofs.Runs.{stops_at}

@@ -1,4 +1,4 @@
-use Rattle.std.proofs.Common.{arith, sym, ◌∙◌, ap, rules, ◌≡◌, ◌*◌, ◌+◌, ◌-◌, get_or, drop, lit<}
+use Rattle.std.proofs.Common.{arith, ◌∙◌, ap, rules, ◌≡◌, ◌*◌, ◌+◌, ◌-◌, get_or, drop}
 use Rattle.std.specs.Str.Parse.{digits_value, digits_value_after}
 use Rattle.step_lexis.proofs.FrontLemmas.{digit_at, value_more, value_bound, value_whole}
 use Rattle.step_lexis.proofs.numbers.number_of.Goals as goal

@@ -1,6 +1,5 @@
-use Rattle.std.proofs.Common.{◌≡◌, ℕ, ◌≤◌, List, ◌++◌, take, drop, length, sym, ap, ◌∙◌, arith, rules, take-append-drop, refl, codes}
+use Rattle.std.proofs.Common.{◌≡◌, take, drop, sym, ◌∙◌, take-append-drop, refl, codes}
 use Rattle.std.specs.List.{prefix_len}
-use Rattle.std.specs.Char.{to_ascii_lowercase}
 use Rattle.std.proofs.lemmas.Bool.{false≢true}
 use Rattle.step_lexis.specs.Bytes.{is_word_byte}
 use Rattle.step_lexis.specs.Tokens.{Says}
