@@ -11,6 +11,6 @@ pub mod fault;
 // pub mod lexer;
 pub mod literal;
 // mod numbers;
-// mod strings;
+mod strings;
 pub mod token;
 // mod words;
