@@ -1,3 +1,4 @@
 pub mod Runs
 pub mod Longest
 pub mod StringLemmas
+pub mod CleanLemmas

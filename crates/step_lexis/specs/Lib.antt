@@ -2,6 +2,7 @@ pub mod Bytes
 pub mod Tokens
 pub mod Numbers
 pub mod Strings
+pub mod Directives
 pub mod Literals
 pub mod Front
 pub mod Layout

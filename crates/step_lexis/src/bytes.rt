@@ -1,7 +1,7 @@
 // Classes of bytes, and runs of them.
 ghost use Rattle.std.specs.Prelude.{◌≡◌, ◌≤◌, length, take, drop};
 ghost use Rattle.std.specs.List.{prefix_len};
-ghost use Rattle.step_lexis.specs.Bytes.{is_digit, is_letter, is_word_byte, IsRun};
+ghost use Rattle.step_lexis.specs.Bytes.{is_digit, is_letter, is_word_byte, is_hex, IsRun};
 
 pub fn is_digit(b: u8) -> bool
     ensures { result ≡ is_digit b }
@@ -19,6 +19,12 @@ pub fn is_word_byte(b: u8) -> bool
     ensures { result ≡ is_word_byte b }
 {
     is_letter(b) || is_digit(b)
+}
+
+pub fn is_hex(b: u8) -> bool
+    ensures { result ≡ is_hex b }
+{
+    matches!(b, b'0'..=b'9' | b'A'..=b'F' | b'a'..=b'f')
 }
 
 /// How many digits the bytes begin with.

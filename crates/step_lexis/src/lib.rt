@@ -5,6 +5,8 @@
 
 mod bytes;
 // mod binaries;
+mod clean;
+mod directives;
 pub mod fault;
 // mod fronts;
 // mod layout;

@@ -1,0 +1,5 @@
+use Rattle.step_lexis.proofs.CleanLemmas.{skips_on, skips_all}
+use Rattle.step_lexis.proofs.clean.skip.Goals as goal
+
+pub loop-preserved : goal.loop-preserved
+loop-preserved c = skips_on c.loop.invariant c.in-Some.ensures.rest
