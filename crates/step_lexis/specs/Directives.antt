@@ -1,5 +1,5 @@
 -- How the content of a string is passed over, a piece at a time.
-use Rattle.std.specs.Prelude.{◌≡◌, ℕ, ◌-◌, List, ◌++◌, drop, Option, Some}
+use Rattle.std.specs.Prelude.{◌≡◌, ℕ, ◌+◌, List, ◌++◌, drop, Option, Some}
 use Rattle.step_lexis.specs.Strings.{Piece, clean, piece_len}
 
 -- after is what is left of before once the first n of its bytes from 32 up are passed
@@ -12,4 +12,6 @@ pub record Skips (n : ℕ) (before after : List ℕ) : Type 0 where
 pub record Completes (row : Option Piece) (begun : ℕ) (before after : List ℕ) : Type 0 where
   pub piece : Piece
   pub stands : row ≡ Some piece
-  pub skips : Skips (piece_len piece - begun) before after
+  pub more : ℕ
+  pub len : begun + more ≡ piece_len piece
+  pub skips : Skips more before after

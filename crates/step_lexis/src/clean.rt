@@ -24,8 +24,7 @@ pub fn take_clean(bytes: &[u8]) -> Option<(u8, &[u8])>
 
 /// What follows this text at the front.
 pub fn strip<'a>(bytes: &'a [u8], text: &[u8]) -> Option<&'a [u8]>
-    ensures begins { MatchOption result (begins_with text.now (clean bytes.now) ≡ false) (λ rest. begins_with text.now (clean bytes.now) ≡ true) }
-    ensures rest { IfSome result (λ rest. Skips (length text.now) bytes.now rest.now) }
+    ensures { MatchOption result (begins_with text.now (clean bytes.now) ≡ false) (λ rest. (begins_with text.now (clean bytes.now) ≡ true) × Skips (length text.now) bytes.now rest.now) }
 {
     let mut rest = bytes;
     for byte in text {

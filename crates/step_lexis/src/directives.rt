@@ -1,5 +1,5 @@
 // The directives of a string (ISO 10303-21, 6.4.3).
-ghost use Rattle.std.specs.Prelude.{◌≡◌, ◌<◌, ◌∷◌, [], None, true, false, take, MatchOption, IfSome};
+ghost use Rattle.std.specs.Prelude.{◌≡◌, ◌<◌, ◌∷◌, [], None, true, false, take, MatchOption};
 ghost use Rattle.step_lexis.specs.Strings.{clean, piece_at, shift_at, names_page, code_at, groups_at, IsReadable, IsBrokenAt};
 ghost use Rattle.step_lexis.specs.Directives.{Skips, Completes};
 
@@ -64,8 +64,7 @@ fn after_shift(bytes: &[u8]) -> Option<&[u8]>
 
 /// What follows `\PA\` to `\PI\`.
 fn after_page(bytes: &[u8]) -> Option<&[u8]>
-    ensures names { MatchOption result (names_page (clean bytes.now) ≡ false) (λ after. names_page (clean bytes.now) ≡ true) }
-    ensures rest { IfSome result (λ after. Skips 4 bytes.now after.now) }
+    ensures { MatchOption result (names_page (clean bytes.now) ≡ false) (λ after. (names_page (clean bytes.now) ≡ true) × Skips 4 bytes.now after.now) }
 {
     let rest = strip(bytes, b"\\P")?;
     let (page, rest) = take_clean(rest)?;

@@ -1,11 +1,11 @@
 use Rattle.std.proofs.Common.{◌++◌, ◌∷◌, length, take, arith, ap, sym, ◌∙◌}
 use Rattle.std.proofs.Math.Seq.{take-suc}
-use Rattle.step_lexis.proofs.CleanLemmas.{skips_on, differs, begins_yes, taken_more, taken_all}
+use Rattle.step_lexis.proofs.CleanLemmas.{skips_on, skips_as, differs, begins_yes, taken_more, taken_all}
 use Rattle.step_lexis.specs.Strings.{clean}
 use Rattle.step_lexis.proofs.clean.strip.Goals as goal
 
-pub returns-then-first-byte-clause-begins : goal.returns-then-first-byte-clause-begins
-returns-then-first-byte-clause-begins c =
+pub returns-then-first-byte : goal.returns-then-first-byte
+returns-then-first-byte c =
     let e = c.loop-byte.invariant.1 ∙ ap (λ l. take c.loop-byte.byte-index c.args.text.now ++ l) c.in_ok-first.ensures.first in
     differs c.args.text.now (clean c.args.bytes.now) c.loop-byte.byte-index c.in_ok-first.first (clean c.in_ok-first.after.now) e c.loop-byte-test.true c.if-first-byte.true
 
@@ -15,6 +15,8 @@ loop-byte-preserved c = (
   taken_more c.args.text.now (clean c.args.bytes.now) (clean c.in_ok-first.after.now) c.loop-byte.byte-index c.in_ok-first.first (c.loop-byte.invariant.1 ∙ ap (λ l. take c.loop-byte.byte-index c.args.text.now ++ l) c.in_ok-first.ensures.first) c.loop-byte-test.true c.if-first-byte.false,
 )
 
-pub returns-clause-begins : goal.returns-clause-begins
-returns-clause-begins c =
-    begins_yes c.args.text.now (clean c.args.bytes.now) (clean c.loop-byte.rest.now) (taken_all c.args.text.now (clean c.args.bytes.now) (clean c.loop-byte.rest.now) c.loop-byte.byte-index c.loop-byte.invariant.1 c.loop-byte-test.false)
+pub returns : goal.returns
+returns c = (
+  begins_yes c.args.text.now (clean c.args.bytes.now) (clean c.loop-byte.rest.now) (taken_all c.args.text.now (clean c.args.bytes.now) (clean c.loop-byte.rest.now) c.loop-byte.byte-index c.loop-byte.invariant.1 c.loop-byte-test.false),
+  skips_as (omega arith) c.loop-byte.invariant.0,
+)
