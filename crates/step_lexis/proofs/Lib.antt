@@ -1,6 +1,9 @@
 pub mod Runs
 pub mod Longest
+pub mod Found
 pub mod StringLemmas
 pub mod CleanLemmas
 pub mod PieceLemmas
 pub mod DirectiveLemmas
+pub mod StringExamples
+pub mod BinaryLemmas

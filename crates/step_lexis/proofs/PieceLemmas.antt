@@ -1,13 +1,13 @@
 -- The rows of the table of pieces, each from what its function passes over.
-use Rattle.std.proofs.Common.{◌≡◌, ℕ, zero, suc, ◌+◌, ◌-◌, ◌%◌, ◌≤◌, ◌<◌, Bool, true, false, List, [], ◌∷◌, ◌++◌, length, get_or, take, drop, refl, sym, ap, ◌∙◌, arith, nat_le, nat_lt, not, cond, Some, None, Option, MatchOption, codes, length-take, take-append-drop, Bor}
-use Rattle.std.specs.Prelude.{◌==◌, ◌&&◌, ◌||◌, slice_index}
+use Rattle.std.proofs.Common.{◌≡◌, ℕ, ◌+◌, ◌%◌, ◌≤◌, Bool, true, false, List, [], ◌∷◌, ◌++◌, get_or, take, drop, refl, sym, ap, ◌∙◌, arith, nat_le, cond, Some, None, Option, MatchOption, codes, take-append-drop, Bor}
+use Rattle.std.specs.Prelude.{◌==◌}
 use Rattle.std.specs.List.{prefix_len}
 use Rattle.std.proofs.lemmas.Bool.Decides.{nat_tests}
 use Rattle.std.proofs.lemmas.List.Folds.{length-prefix_len}
 use Rattle.step_lexis.specs.Bytes.{is_hex}
-use Rattle.step_lexis.specs.Strings.{Piece, apostrophe, backslash, shift, page, code, groups, run, byte, clean, begins_with, shift_at, code_at, groups_at, names_page, piece_at, piece_len}
+use Rattle.step_lexis.specs.Strings.{Piece, shift, groups, clean, begins_with, shift_at, code_at, groups_at, names_page, piece_at}
 use Rattle.step_lexis.specs.Directives.{Skips, Completes}
-use Rattle.step_lexis.proofs.CleanLemmas.{skips_on, skips_as, begins_split}
+use Rattle.step_lexis.proofs.CleanLemmas.{skips_on, begins_split}
 
 pub option_weaker : {A : Type 0} {P P' : Type 0} {Q Q' : A → Type 0} (o : Option A) → MatchOption o P Q → (P → P') → ((x : A) → Q x → Q' x) → MatchOption o P' Q'
 option_weaker None h f g = f h

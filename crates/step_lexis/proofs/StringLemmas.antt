@@ -1,16 +1,14 @@
 -- Where a string ends.
-use Rattle.std.proofs.Common.{◌≡◌, ℕ, ◌+◌, ◌-◌, ◌≤◌, ◌<◌, Bool, true, false, not, cond, List, [], ◌∷◌, ◌++◌, length, get_or, take, drop, refl, sym, ap, ◌∙◌, arith, append_assoc, length-append, take-append-drop, one-add, add-one, subst, Some, None, Option, MatchOption, rules, suc}
+use Rattle.std.proofs.Common.{◌≡◌, ℕ, ◌+◌, ◌≤◌, ◌<◌, Bool, true, false, not, cond, List, [], ◌∷◌, ◌++◌, length, get_or, take, drop, refl, sym, ap, ◌∙◌, arith, append_assoc, length-append}
 use Rattle.std.specs.Prelude.{◌==◌}
 use Rattle.std.proofs.lemmas.Bool.{false≢true}
 use Rattle.std.proofs.lemmas.Bool.Decides.{nat_tests}
-use Rattle.std.proofs.lemmas.List.{get_or-take}
-use Rattle.std.proofs.Math.Seq.{drop-cons}
 use Rattle.std.proofs.Math.ListN.{length-take}
-use Rattle.memchr.specs.Find.{NoneBefore, Nowhere, Passes, is_byte}
 use Rattle.step_lexis.proofs.Runs.{front_back}
+use Rattle.step_lexis.proofs.Found.{Found, before_found, at_found}
 use Rattle.step_lexis.specs.Bytes.{Each, Stops}
-use Rattle.step_lexis.specs.Tokens.{Kind, string, begins, ends, keyword, name, integer, real, element, mark, doubled, Allows, IsNext, NoneAt}
-use Rattle.step_lexis.proofs.Longest.{Group, apostrophe, group, group_at, group_of, first_group, same_group}
+use Rattle.step_lexis.specs.Tokens.{Kind, string, doubled, Allows, IsNext, NoneAt}
+use Rattle.step_lexis.proofs.Longest.{apostrophe, group, first_group, same_group}
 
 abbrev pub is_quote : ℕ → Bool
 is_quote b = b == 39
@@ -103,37 +101,17 @@ string_none content left none k other rest e a =
     let g : group k ≡ apostrophe = (let p = first_group k other rest (39 ∷ (doubled content ++ left)) a (sym e) in cc) in
     string_none_of content left none k other rest g a e
 
-pub each_from : (p : ℕ → Bool) (l : List ℕ) → ((k : ℕ) → k < length l → p (get_or l k 0) ≡ true) → Each p l
-each_from p [] h = tt
-each_from p (x ∷ xs) h = (h 0 (omega arith), each_from p xs (λ k lt. h (suc k) (omega arith)))
-
-abbrev pub Found : List ℕ → ℕ → Type 0
-Found rest at = NoneBefore (Passes (is_byte 39) rest) 0 (length rest) at × Passes (is_byte 39) rest at
-
-not_quote : (b : ℕ) → (is_quote b ≡ true → ⊥) → no_quote b ≡ true
-not_quote b h = grind (arith, nat_tests)
-
-before_found : (rest : List ℕ) (at : ℕ) → Found rest at → Each no_quote (take at rest)
-before_found rest at h =
-    each_from no_quote (take at rest) (λ k lt. let below : k < at = omega (arith, lt, length-take at rest, h.0.high) in rw (get_or-take at rest k 0 below) (not_quote (get_or rest k 0) (h.0.before k (omega arith) (omega (arith, below, h.0.high)))))
-
--- the rest, cut at the apostrophe that is found
-at_found : (rest : List ℕ) (at : ℕ) → Found rest at → rest ≡ take at rest ++ 39 ∷ drop (at + 1) rest
-at_found rest at h =
-    let head : drop at rest ≡ get_or rest at 0 ∷ drop (suc at) rest = drop-cons rest at 0 h.0.high in
-    sym (take-append-drop at rest) ∙ ap (λ l. take at rest ++ l) (head ∙ (λ i. quote_is (get_or rest at 0) h.1 i ∷ drop (sym (add-one at) i) rest))
-
 head_tail : (after next : List ℕ) → 0 < length after → get_or after 0 0 ≡ 39 → next ≡ drop 1 after → after ≡ 39 ∷ next
 head_tail [] next h q e = absurd (omega (arith, h))
 head_tail (x ∷ xs) next h q e = (λ i. q i ∷ sym e i)
 
-module _ (bytes rest content : List ℕ) (len at : ℕ) (whole : bytes ≡ 39 ∷ (doubled content ++ rest)) (counted : len ≡ 1 + length (doubled content)) (found : Found rest at) where
+module _ (bytes rest content : List ℕ) (len at : ℕ) (whole : bytes ≡ 39 ∷ (doubled content ++ rest)) (counted : len ≡ 1 + length (doubled content)) (found : Found 39 rest at) where
   passed : bytes ≡ 39 ∷ (doubled (content ++ take at rest) ++ 39 ∷ drop (at + 1) rest)
   passed =
-      whole ∙ ap (λ l. 39 ∷ (doubled content ++ l)) (at_found rest at found) ∙ ap (λ l. 39 ∷ l) (sym (append_assoc (doubled content) (take at rest) (39 ∷ drop (at + 1) rest)) ∙ ap (λ l. l ++ 39 ∷ drop (at + 1) rest) (ap (λ l. doubled content ++ l) (sym (doubled-plain (take at rest) (before_found rest at found))) ∙ sym (doubled-append content (take at rest))))
+      whole ∙ ap (λ l. 39 ∷ (doubled content ++ l)) (at_found 39 rest at found) ∙ ap (λ l. 39 ∷ l) (sym (append_assoc (doubled content) (take at rest) (39 ∷ drop (at + 1) rest)) ∙ ap (λ l. l ++ 39 ∷ drop (at + 1) rest) (ap (λ l. doubled content ++ l) (sym (doubled-plain (take at rest) (before_found 39 rest at found))) ∙ sym (doubled-append content (take at rest))))
 
   count : length (doubled (content ++ take at rest)) ≡ length (doubled content) + at
-  count = ap length (doubled-append content (take at rest) ∙ ap (λ l. doubled content ++ l) (doubled-plain (take at rest) (before_found rest at found))) ∙ omega (arith, length-append (doubled content) (take at rest), length-take at rest, found.0.high)
+  count = ap length (doubled-append content (take at rest) ∙ ap (λ l. doubled content ++ l) (doubled-plain (take at rest) (before_found 39 rest at found))) ∙ omega (arith, length-append (doubled content) (take at rest), length-take at rest, found.0.high)
 
   pub string_ends : (after : List ℕ) → after ≡ drop (at + 1) rest → Stops is_quote after → (len + (at + 1) ≤ length bytes) × IsNext string (take (len + (at + 1)) bytes) (drop (len + (at + 1)) bytes)
   string_ends after ha stop =
@@ -151,6 +129,3 @@ module _ (bytes rest content : List ℕ) (len at : ℕ) (whole : bytes ≡ 39 �
         passed ∙ ap (λ l. 39 ∷ (doubled c ++ 39 ∷ l)) split ∙ ap (λ l. 39 ∷ l) (sym (ap (λ l. l ++ next) twice ∙ append_assoc (doubled c) (39 ∷ 39 ∷ []) next)),
         omega (arith, count, counted, ap length twice, length-append {A = ℕ}),
       )
-
-pub none_found : (rest : List ℕ) → Nowhere (Passes (is_byte 39) rest) 0 (length rest) → Each no_quote rest
-none_found rest h = each_from no_quote rest (λ k lt. not_quote (get_or rest k 0) (h k (omega arith) lt))

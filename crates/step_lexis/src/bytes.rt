@@ -42,3 +42,11 @@ pub fn word_len(bytes: &[u8]) -> usize
 {
     bytes.iter().take_while(|b| is_word_byte(**b)).count()
 }
+
+/// How many hexadecimal digits the bytes begin with.
+pub fn hex_len(bytes: &[u8]) -> usize
+    ensures within { result ≤ length bytes.now }
+    ensures len { result ≡ prefix_len is_hex bytes.now }
+{
+    bytes.iter().take_while(|b| is_hex(**b)).count()
+}

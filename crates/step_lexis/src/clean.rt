@@ -52,7 +52,7 @@ pub fn skip(bytes: &[u8], count: usize) -> &[u8]
 }
 
 /// How many hexadecimal digits stand at the front.
-pub fn hex_len(bytes: &[u8]) -> usize
+pub fn hex_count(bytes: &[u8]) -> usize
     ensures { result ≡ prefix_len is_hex (clean bytes.now) }
 {
     let mut rest = bytes;

@@ -3,7 +3,7 @@ ghost use Rattle.std.specs.Prelude.{◌≡◌, ◌<◌, ◌∷◌, [], None, tru
 ghost use Rattle.step_lexis.specs.Strings.{clean, piece_at, shift_at, names_page, code_at, groups_at, IsReadable, IsBrokenAt};
 ghost use Rattle.step_lexis.specs.Directives.{Skips, Completes};
 
-use crate::clean::{hex_len, skip, strip, take_clean};
+use crate::clean::{hex_count, skip, strip, take_clean};
 use memchr::memchr;
 
 const BACKSLASH: u8 = b'\\';
@@ -78,7 +78,7 @@ fn after_page(bytes: &[u8]) -> Option<&[u8]>
 fn after_code(bytes: &[u8]) -> Option<&[u8]>
     ensures { MatchOption result (code_at (clean bytes.now) ≡ None) (λ after. Completes (code_at (clean bytes.now)) 3 bytes.now after.now) }
 {
-    if hex_len(bytes) < 2 {
+    if hex_count(bytes) < 2 {
         return None;
     }
     Some(skip(bytes, 2))
@@ -89,7 +89,7 @@ fn after_groups(bytes: &[u8], width: usize) -> Option<&[u8]>
     requires { 0 < width }
     ensures { MatchOption result (groups_at width (clean bytes.now) ≡ None) (λ after. Completes (groups_at width (clean bytes.now)) 4 bytes.now after.now) }
 {
-    let len = hex_len(bytes);
+    let len = hex_count(bytes);
     if len % width != 0 {
         return None;
     }

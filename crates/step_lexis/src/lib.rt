@@ -3,8 +3,8 @@
 //! Nothing here takes memory: tokens and literals are slices of the text that is read.
 #![tactic(auto)]
 
+mod binaries;
 mod bytes;
-// mod binaries;
 mod clean;
 mod directives;
 pub mod fault;

@@ -1,4 +1,4 @@
-use Rattle.step_lexis.proofs.CleanLemmas.{skips_on, skips_all}
+use Rattle.step_lexis.proofs.CleanLemmas.{skips_on}
 use Rattle.step_lexis.proofs.clean.skip.Goals as goal
 
 pub loop-preserved : goal.loop-preserved

@@ -1,4 +1,3 @@
-use Rattle.std.proofs.Common.{◌-◌}
 use Rattle.step_lexis.specs.Directives.{Skips}
 use Rattle.step_lexis.proofs.clean.skip.Given as goal
 

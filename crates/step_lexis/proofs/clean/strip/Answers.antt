@@ -1,5 +1,4 @@
-use Rattle.std.proofs.Common.{◌++◌, ◌∷◌, length, take, arith, ap, sym, ◌∙◌}
-use Rattle.std.proofs.Math.Seq.{take-suc}
+use Rattle.std.proofs.Common.{◌++◌, take, arith, ap, ◌∙◌}
 use Rattle.step_lexis.proofs.CleanLemmas.{skips_on, skips_as, differs, begins_yes, taken_more, taken_all}
 use Rattle.step_lexis.specs.Strings.{clean}
 use Rattle.step_lexis.proofs.clean.strip.Goals as goal

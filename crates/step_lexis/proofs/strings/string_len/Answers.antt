@@ -1,7 +1,8 @@
-use Rattle.std.proofs.Common.{sym, ap, ◌∙◌, arith, rules, ◌++◌, ◌∷◌, [], take, refl, take-append-drop}
+use Rattle.std.proofs.Common.{sym, ◌∙◌, arith, ◌++◌, [], refl, take-append-drop}
 use Rattle.std.proofs.lemmas.Bool.Decides.{nat_tests}
 use Rattle.step_lexis.proofs.Runs.{stops_at}
-use Rattle.step_lexis.proofs.StringLemmas.{is_quote, string_ends, string_goes_on, string_none, none_found}
+use Rattle.step_lexis.proofs.Found.{none_found}
+use Rattle.step_lexis.proofs.StringLemmas.{is_quote, string_ends, string_goes_on, string_none}
 use Rattle.step_lexis.proofs.strings.string_len.Goals as goal
 
 pub loop-at-init : goal.loop-at-init
@@ -20,4 +21,4 @@ returns-then-is_empty c =
 pub returns : goal.returns
 returns c =
     let i = c.loop-at.invariant in
-    λ k other rest e. string_none i.0 c.loop-at.rest.now (none_found c.loop-at.rest.now c.in_default.ensures) k other rest (sym i.1 ∙ e)
+    λ k other rest e. string_none i.0 c.loop-at.rest.now (none_found 39 c.loop-at.rest.now c.in_default.ensures) k other rest (sym i.1 ∙ e)

@@ -2,7 +2,7 @@ use Rattle.std.proofs.Common.{◌≡◌, ◌+◌, ◌≤◌, length}
 use Rattle.std.specs.List.{prefix_len}
 use Rattle.step_lexis.specs.Bytes.{is_hex}
 use Rattle.step_lexis.specs.Strings.{clean}
-use Rattle.step_lexis.proofs.clean.hex_len.Given as goal
+use Rattle.step_lexis.proofs.clean.hex_count.Given as goal
 
 abbrev pub invariant-loop-first : goal.invariant-loop-first
 invariant-loop-first l = (l.len + prefix_len is_hex (clean l.rest) ≡ prefix_len is_hex (clean l.bytes)) × (l.len + length (clean l.rest) ≤ length (clean l.bytes))
