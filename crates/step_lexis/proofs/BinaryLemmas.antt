@@ -1,86 +1,112 @@
 -- Where a binary ends.
-use Rattle.std.proofs.Common.{◌≡◌, ℕ, ◌+◌, ◌≤◌, ◌<◌, List, [], ◌∷◌, ◌++◌, length, get_or, take, drop, refl, sym, ap, ◌∙◌, arith, append_assoc, length-append, take-append-drop}
-use Rattle.std.proofs.Common.{inl, inr, ◌⊎◌}
+use Rattle.std.proofs.Common.{◌≡◌, ℕ, ◌+◌, ◌≤◌, ◌<◌, Bool, true, false, List, [], ◌∷◌, ◌++◌, length, get_or, take, drop, refl, sym, ap, ◌∙◌, arith, append_assoc, length-append, take-append-drop, Some}
 use Rattle.std.specs.List.{prefix_len}
-use Rattle.std.proofs.lemmas.List.Folds.{length-prefix_len}
-use Rattle.step_lexis.specs.Bytes.{is_hex, IsRun}
+use Rattle.std.proofs.lemmas.Bool.Decides.{nat_tests}
+use Rattle.std.proofs.Math.ListN.{length-take}
+use Rattle.std.proofs.lemmas.List.Sums.{prefix_len-le-length}
+use Rattle.step_lexis.specs.Bytes.{is_hex, Each, Stops}
 use Rattle.step_lexis.specs.Tokens.{Kind, binary, Allows, IsNext, NoneAt}
 use Rattle.step_lexis.proofs.Runs.{cut_unique, run_at_prefix, front_back}
-use Rattle.step_lexis.proofs.Longest.{quote, group, group_at, first_group, same_group}
+use Rattle.step_lexis.proofs.Longest.{Group, quote, group, first_group, same_group}
+use Rattle.step_lexis.proofs.FrontLemmas.{begins_with}
 
--- a digit, hexadecimal digits and what follows them are those of a binary
-pub record IsBinary (unused : ℕ) (digits after : List ℕ) : Type 0 where
-  pub low : 48 ≤ unused
-  pub high : unused ≤ 51
-  pub empty : digits ≡ [] → unused ≡ 48
-  pub ended : List ℕ
-  pub quoted : after ≡ 34 ∷ ended
+-- the parts of a binary are what stands there
+parts : (unused digits_unused : ℕ) (ds digits rest : List ℕ) → Each is_hex ds → (34 ∷ unused ∷ ds ++ 34 ∷ []) ++ rest ≡ 34 ∷ digits_unused ∷ digits
+    → (unused ≡ digits_unused) × (ds ≡ take (prefix_len is_hex digits) digits) × (34 ∷ rest ≡ drop (prefix_len is_hex digits) digits)
+parts unused digits_unused ds digits rest h e =
+    let run = run_at_prefix is_hex digits in
+    let q : 34 ∷ unused ∷ (ds ++ 34 ∷ rest) ≡ 34 ∷ digits_unused ∷ digits = ap (λ l. 34 ∷ unused ∷ l) (sym (append_assoc ds (34 ∷ []) rest)) ∙ e in
+    let t : ds ++ 34 ∷ rest ≡ digits = cc in
+    let cut = cut_unique is_hex ds (take (prefix_len is_hex digits) digits) (34 ∷ rest) (drop (prefix_len is_hex digits) digits) h run.passes refl run.stops (t ∙ sym (take-append-drop (prefix_len is_hex digits) digits)) in
+    let u : unused ≡ digits_unused = cc in
+    (u, cut.0, cut.1)
 
-pub quote_first : (bytes rest more : List ℕ) (unused : ℕ) → take 1 bytes ≡ 34 ∷ [] → rest ≡ drop 1 bytes → rest ≡ unused ∷ more → bytes ≡ 34 ∷ unused ∷ more
-quote_first bytes rest more unused h e g = sym (take-append-drop 1 bytes) ∙ (λ i. h i ++ (sym e ∙ g) i)
+module _ (l r : List ℕ) (h : take 1 l ≡ 34 ∷ []) (hr : r ≡ drop 1 l) where
+  none_of : ((unused : ℕ) (ds rest : List ℕ) → 48 ≤ unused → unused ≤ 51 → Each is_hex ds → (ds ≡ [] → unused ≡ 48) → (34 ∷ unused ∷ ds ++ 34 ∷ []) ++ rest ≡ 34 ∷ r → ⊥)
+      → (k : Kind) (other rest : List ℕ) → group k ≡ quote → Allows k other rest → 34 ∷ r ≡ other ++ rest → ⊥
+  none_of none binary other rest g a e = none a.0 a.1 rest a.2 a.3 a.4 a.5 (ap (λ x. x ++ rest) (sym a.6) ∙ sym e)
+  none_of none _ other rest g a e = cc
 
-pub quoted_first : {after ended : List ℕ} → after ≡ 34 ∷ ended → (0 < length after) × (get_or after 0 0 ≡ 34)
-quoted_first e = (omega (arith, ap length e), ap (λ l. get_or l 0 0) e)
+  -- where nothing that stands there is a binary, no token is
+  none_at : ((unused : ℕ) (ds rest : List ℕ) → 48 ≤ unused → unused ≤ 51 → Each is_hex ds → (ds ≡ [] → unused ≡ 48) → (34 ∷ unused ∷ ds ++ 34 ∷ []) ++ rest ≡ 34 ∷ r → ⊥) → NoneAt l
+  none_at none k other rest e a =
+      let whole : 34 ∷ r ≡ other ++ rest = sym (begins_with 34 l r h hr) ∙ e in
+      none_of none k other rest (let p = first_group k other rest (34 ∷ r) a (sym whole) in cc) a whole
 
-pub quoted_tail : (after : List ℕ) → 0 < length after → get_or after 0 0 ≡ 34 → after ≡ 34 ∷ drop 1 after
-quoted_tail [] h e = absurd (omega (arith, h))
-quoted_tail (x ∷ xs) h e = ap (λ b. b ∷ xs) e
+  pub none_empty : length r ≡ 0 → NoneAt l
+  none_empty zero = none_at (λ unused ds rest low high hex some e. omega (arith, ap length e, zero))
 
-module _ (bytes digits after : List ℕ) (unused n : ℕ) (whole : bytes ≡ 34 ∷ unused ∷ digits) (len : n ≡ prefix_len is_hex digits) (cut : after ≡ drop n digits) where
-  is_run : IsRun is_hex (take n digits) after
-  is_run = rw (cut, len) (run_at_prefix is_hex digits)
+  head_of : (u : ℕ) (ds rest : List ℕ) → (34 ∷ u ∷ ds ++ 34 ∷ []) ++ rest ≡ 34 ∷ r → u ≡ get_or r 0 0
+  head_of u ds rest e = ap (λ x. get_or x 1 0) e
 
-  pub taken : length (take n digits) ≡ n
-  taken = ap (λ m. length (take m digits)) len ∙ length-prefix_len is_hex digits ∙ sym len
+  pub none_low : get_or r 0 0 < 48 → NoneAt l
+  none_low lt = none_at (λ unused ds rest low high hex some e. omega (arith, head_of unused ds rest e, low, lt))
 
-  -- any binary at the front has these parts
-  parts : (t rest : List ℕ) → Allows binary t rest → bytes ≡ t ++ rest → IsBinary unused (take n digits) after × (length t ≡ n + 3)
-  parts t rest a e =
-      let spelled : t ++ rest ≡ 34 ∷ a.0 ∷ (a.1 ++ 34 ∷ rest) = ap (λ l. l ++ rest) a.6 ∙ append_assoc (34 ∷ a.0 ∷ a.1) (34 ∷ []) rest in
-      let both : 34 ∷ unused ∷ digits ≡ 34 ∷ a.0 ∷ (a.1 ++ 34 ∷ rest) = sym whole ∙ e ∙ spelled in
-      let same : unused ≡ a.0 = cc in
-      let tail : digits ≡ a.1 ++ 34 ∷ rest = cc in
-      let halves : a.1 ++ 34 ∷ rest ≡ take n digits ++ after = sym tail ∙ sym (take-append-drop n digits) ∙ ap (λ l. take n digits ++ l) (sym cut) in
-      let two = cut_unique is_hex a.1 (take n digits) (34 ∷ rest) after a.4 is_run.passes refl is_run.stops halves in (
-        record { low = omega (arith, same, a.2); high = omega (arith, same, a.3); empty = λ none. same ∙ a.5 (two.0 ∙ none); ended = rest; quoted = sym two.1 },
-        omega (arith, ap length a.6, length-append (34 ∷ a.0 ∷ a.1) (34 ∷ []), ap length two.0, taken),
-      )
+  pub none_high : 51 < get_or r 0 0 → NoneAt l
+  none_high lt = none_at (λ unused ds rest low high hex some e. omega (arith, head_of unused ds rest e, high, lt))
 
-  none_of : (k : Kind) (t rest : List ℕ) → group k ≡ quote → Allows k t rest → bytes ≡ t ++ rest → (IsBinary unused (take n digits) after → ⊥) → ⊥
-  none_of binary t rest g a e wrong = wrong (parts t rest a e).0
-  none_of _ t rest g a e wrong = cc
+  module _ (digits : List ℕ) (some_left : 0 < length r) (hd : digits ≡ drop 1 r) where
+    split : (x : List ℕ) → 0 < length x → x ≡ get_or x 0 0 ∷ drop 1 x
+    split [] p = absurd (omega (arith, p))
+    split (y ∷ ys) p = refl
 
-  pub binary_none : (IsBinary unused (take n digits) after → ⊥) → NoneAt bytes
-  binary_none wrong k t rest e a =
-      let p = first_group k t rest bytes a (sym e) in
-      let q : group_at bytes ≡ group_at (34 ∷ unused ∷ digits) = ap group_at whole in
-      let g : group k ≡ quote = cc in
-      none_of k t rest g a e wrong
+    whole : 34 ∷ r ≡ 34 ∷ get_or r 0 0 ∷ digits
+    whole = ap (λ x. 34 ∷ x) (split r some_left ∙ ap (λ x. get_or r 0 0 ∷ x) (sym hd))
 
-  longest_of : (k : Kind) (t rest : List ℕ) → group k ≡ quote → Allows k t rest → bytes ≡ t ++ rest → length t ≤ n + 3
-  longest_of binary t rest g a e = omega (arith, (parts t rest a e).1)
-  longest_of _ t rest g a e = absurd (cc)
+    pub none_bits : (n : ℕ) → n ≡ prefix_len is_hex digits → n ≡ 0 → (get_or r 0 0 ≡ 48 → ⊥) → NoneAt l
+    none_bits n hn zero unused_not =
+        none_at (λ unused ds rest low high hex some e.
+        let p = parts unused (get_or r 0 0) ds digits rest hex (e ∙ whole) in
+        let bare : ds ≡ [] = p.1 ∙ ap (λ k. take k digits) (sym hn ∙ zero) in
+        unused_not (sym p.0 ∙ some bare))
 
-  pub binary_next : IsBinary unused (take n digits) after → (n + 3 ≤ length bytes) × IsNext binary (take (n + 3) bytes) (drop (n + 3) bytes)
-  binary_next h =
-      let t = 34 ∷ unused ∷ take n digits ++ 34 ∷ [] in
-      let e : bytes ≡ t ++ h.ended =
-      whole ∙ ap (λ l. 34 ∷ unused ∷ l) (sym (take-append-drop n digits) ∙ ap (λ l. take n digits ++ l) (sym cut ∙ h.quoted))
-      ∙ sym (append_assoc (34 ∷ unused ∷ take n digits) (34 ∷ []) h.ended) in
-      let size : length t ≡ n + 3 = omega (arith, length-append (34 ∷ unused ∷ take n digits) (34 ∷ []), taken) in
-      let ends = front_back bytes t h.ended (n + 3) e (sym size) in
-      let own : Allows binary t h.ended = (unused, take n digits, h.low, h.high, is_run.passes, h.empty, refl) in
-      let next : IsNext binary t h.ended = record {
-        allowed = own;
-        longest = λ k other rest o a. omega (arith, size, longest_of k other rest (same_group binary k t h.ended other rest own a o) a (e ∙ sym o));
-      } in
-      (ends.0, rw (ends.1, ends.2) next)
+    quote_behind : (after rest : List ℕ) → (0 < length after → get_or after 0 0 ≡ 34 → ⊥) → 34 ∷ rest ≡ after → ⊥
+    quote_behind after rest no_quote e = no_quote (omega (arith, ap length e)) (ap (λ x. get_or x 0 0) (sym e))
 
-  pub small_enough : (most : ℕ) → ((n ≡ 0) × (most ≡ 48)) ⊎ ((n ≡ 0 → ⊥) × (most ≡ 51)) → 48 ≤ unused → unused ≤ most → 0 < length after → get_or after 0 0 ≡ 34 → IsBinary unused (take n digits) after
-  small_enough most (inl w) low high some first = record { low = low; high = omega (arith, high, w.1); empty = λ e. omega (arith, low, high, w.1); ended = drop 1 after; quoted = quoted_tail after some first }
-  small_enough most (inr w) low high some first =
-      record { low = low; high = omega (arith, high, w.1); empty = λ e. absurd (w.0 (omega (arith, ap length e, taken))); ended = drop 1 after; quoted = quoted_tail after some first }
+    pub none_open : (n : ℕ) (after : List ℕ) → n ≡ prefix_len is_hex digits → after ≡ drop n digits → (0 < length after → get_or after 0 0 ≡ 34 → ⊥) → NoneAt l
+    none_open n after hn ha no_quote =
+        none_at (λ unused ds rest low high hex some e.
+        let p = parts unused (get_or r 0 0) ds digits rest hex (e ∙ whole) in
+        quote_behind after rest no_quote (p.2 ∙ ap (λ k. drop k digits) (sym hn) ∙ sym ha))
 
-  pub too_large : (most : ℕ) → ((n ≡ 0) × (most ≡ 48)) ⊎ ((n ≡ 0 → ⊥) × (most ≡ 51)) → most < unused → IsBinary unused (take n digits) after → ⊥
-  too_large most (inl w) large h = let e : unused ≡ 48 = h.empty (ap (λ m. take m digits) w.0) in omega (arith, e, large, w.1)
-  too_large most (inr w) large h = omega (arith, h.high, large, w.1)
+    -- the binary that the code finds
+    module _ (n : ℕ) (after : List ℕ) (hn : n ≡ prefix_len is_hex digits) (ha : after ≡ drop n digits) (some_after : 0 < length after) (quoted : get_or after 0 0 ≡ 34)
+        (low : 48 ≤ get_or r 0 0) (high : get_or r 0 0 ≤ 51) (bits : n ≡ 0 → get_or r 0 0 ≡ 48) where
+      hex : Each is_hex (take n digits)
+      hex = rw hn (run_at_prefix is_hex digits).passes
+
+      tail : after ≡ 34 ∷ drop 1 after
+      tail = split after some_after ∙ ap (λ b. b ∷ drop 1 after) quoted
+
+      token : List ℕ
+      token = 34 ∷ get_or r 0 0 ∷ take n digits ++ 34 ∷ []
+
+      digits_len : length (take n digits) ≡ n
+      digits_len = omega (arith, length-take n digits, prefix_len-le-length is_hex digits, hn)
+
+      bare_bits : take n digits ≡ [] → get_or r 0 0 ≡ 48
+      bare_bits e = bits (sym digits_len ∙ ap length e)
+
+      all : l ≡ token ++ drop 1 after
+      unfolding token
+      all =
+          begins_with 34 l r h hr ∙ whole ∙ ap (λ x. 34 ∷ get_or r 0 0 ∷ x) (sym (take-append-drop n digits) ∙ ap (λ x. take n digits ++ x) (sym ha ∙ tail) ∙ sym (append_assoc (take n digits) (34 ∷ []) (drop 1 after)))
+
+      longest_of : (k : Kind) (other rest : List ℕ) → group k ≡ quote → Allows k other rest → other ++ rest ≡ token ++ drop 1 after → length other ≤ n + 3
+      unfolding token
+      longest_of binary other rest g a e =
+          let p = parts a.0 (get_or r 0 0) a.1 digits rest a.4 (ap (λ x. x ++ rest) (sym a.6) ∙ e ∙ sym all ∙ begins_with 34 l r h hr ∙ whole) in
+          omega (arith, ap length a.6, length-append a.1 (34 ∷ []), ap length p.1, length-take (prefix_len is_hex digits) digits, prefix_len-le-length is_hex digits, hn)
+      longest_of _ other rest g a e = absurd (cc)
+
+      token_len : length token ≡ n + 3
+      unfolding token
+      token_len = omega (arith, digits_len, length-append (take n digits) (34 ∷ []))
+
+      pub binary_at : (n + 3 ≤ length l) × IsNext binary (take (n + 3) l) (drop (n + 3) l)
+      unfolding token
+      binary_at =
+          let own : Allows binary token (drop 1 after) = (get_or r 0 0, take n digits, low, high, hex, bare_bits, refl) in
+          let cut = front_back l token (drop 1 after) (n + 3) all (sym token_len) in
+          let is : IsNext binary token (drop 1 after) = record { allowed = own; longest = λ k other rest e a. omega (arith, longest_of k other rest (same_group binary k token (drop 1 after) other rest own a e) a e, token_len) } in
+          (cut.0, rw (cut.1, cut.2) is)

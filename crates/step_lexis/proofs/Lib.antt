@@ -6,4 +6,16 @@ pub mod CleanLemmas
 pub mod PieceLemmas
 pub mod DirectiveLemmas
 pub mod StringExamples
+pub mod NumberLemmas
+pub mod NumberCuts
+pub mod WordLemmas
+pub mod FrontLemmas
+pub mod LeftOutLemmas
+pub mod NumberLimits
+pub mod WholeNumbers
+pub mod LayoutLemmas
+pub mod ReadingLemmas
 pub mod BinaryLemmas
+pub mod Closers
+pub mod Unique
+pub mod Determined

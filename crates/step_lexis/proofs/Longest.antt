@@ -1,10 +1,11 @@
 -- Which kinds of token can begin with a byte.
-use Rattle.std.proofs.Common.{◌≡◌, ℕ, true, false, List, [], ◌∷◌, ◌++◌, length, map, refl, sym, ap, ◌∙◌, arith, Option, Some, None, append_assoc, length-append}
+use Rattle.std.proofs.Common.{◌≡◌, ℕ, ◌+◌, ◌≤◌, ◌<◌, Bool, true, false, cond, List, [], ◌∷◌, ◌++◌, length, take, drop, map, refl, sym, ap, ◌∙◌, arith, Option, Some, None, codes, append_assoc, length-append}
 use Rattle.std.specs.Prelude.{◌==◌, ◌||◌, if◌then◌else◌}
 use Rattle.std.specs.Char.{to_ascii_lowercase}
+use Rattle.std.proofs.lemmas.Bool.{false≢true}
 use Rattle.std.proofs.lemmas.Bool.Decides.{nat_tests}
-use Rattle.step_lexis.specs.Bytes.{is_letter, is_digit}
-use Rattle.step_lexis.specs.Tokens.{Kind, begins, ends, keyword, user_defined, scope, name, integer, real, element, string, binary, mark, is_sign, is_mark, IsSign, IsDigits, IsKeyword, Allows}
+use Rattle.step_lexis.specs.Bytes.{is_letter, is_digit, is_word_byte, Each, Stops, IsRun}
+use Rattle.step_lexis.specs.Tokens.{Kind, begins, ends, keyword, user_defined, scope, name, integer, real, element, string, binary, mark, is_sign, is_e, is_mark, IsSign, IsDigits, IsKeyword, IsExponent, doubled, Says, Spells, Allows, IsNext, NoneAt}
 
 pub data Group : Type 0 where
   words : Group
@@ -118,7 +119,7 @@ first_byte real t rest b more h e =
     number_group h.0 h.1 (46 ∷ (h.2 ++ (h.3 ++ rest))) b more h.4 h.5 ((simp append_assoc at (ap (λ l. l ++ rest) (sym h.8))) ∙ e)
 first_byte element t rest b more h e = let q : b ≡ 46 = at_byte 46 b _ rest more (ap (λ l. l ++ rest) (sym h.2) ∙ e) in rw q refl
 first_byte string t rest b more h e = let q : b ≡ 39 = at_byte 39 b _ rest more (ap (λ l. l ++ rest) (sym h.0.1) ∙ e) in rw q refl
-first_byte binary t rest b more h e = let q : b ≡ 34 = at_byte 34 b (h.0 ∷ h.1 ++ 34 ∷ []) rest more (ap (λ l. l ++ rest) (sym h.6) ∙ e) in rw q refl
+first_byte binary t rest b more h e = let q : b ≡ 34 = at_byte 34 b ((h.0 ∷ h.1) ++ 34 ∷ []) rest more (ap (λ l. l ++ rest) (sym h.6) ∙ e) in rw q refl
 first_byte mark t rest b more h e = let q : b ≡ h.0 = at_byte h.0 b [] rest more (ap (λ l. l ++ rest) (sym h.2) ∙ e) in mark_group b (ap is_mark q ∙ h.1)
 
 -- no token is empty

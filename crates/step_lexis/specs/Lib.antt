@@ -4,6 +4,7 @@ pub mod Numbers
 pub mod Strings
 pub mod Directives
 pub mod Literals
+pub mod Faults
 pub mod Front
 pub mod Layout
 pub mod Reading

@@ -1,7 +1,7 @@
-// Classes of bytes, and runs of them.
-ghost use Rattle.std.specs.Prelude.{◌≡◌, ◌≤◌, length, take, drop};
+//! Classes of bytes, and runs of them.
+ghost use Rattle.std.specs.Prelude.{◌≡◌, ◌≤◌, length};
 ghost use Rattle.std.specs.List.{prefix_len};
-ghost use Rattle.step_lexis.specs.Bytes.{is_digit, is_letter, is_word_byte, is_hex, IsRun};
+ghost use Rattle.step_lexis.specs.Bytes.{is_digit, is_letter, is_word_byte, is_hex};
 
 pub fn is_digit(b: u8) -> bool
     ensures { result ≡ is_digit b }
@@ -41,6 +41,12 @@ pub fn word_len(bytes: &[u8]) -> usize
     ensures len { result ≡ prefix_len is_word_byte bytes.now }
 {
     bytes.iter().take_while(|b| is_word_byte(**b)).count()
+}
+
+pub fn is_hex(b: u8) -> bool
+    ensures { result ≡ is_hex b }
+{
+    matches!(b, b'0'..=b'9' | b'A'..=b'F' | b'a'..=b'f')
 }
 
 /// How many hexadecimal digits the bytes begin with.

@@ -1,10 +1,19 @@
 // Where a string ends.
 ghost use Rattle.std.specs.Prelude.{◌≡◌, ◌≤◌, ◌∷◌, [], length, take, drop, MatchOption};
 ghost use Rattle.step_lexis.specs.Tokens.{string, IsNext, NoneAt};
+ghost use Rattle.step_lexis.specs.Strings.{content_of};
 
 use memchr::memchr;
 
 const QUOTE: u8 = b'\'';
+
+/// What stands between the apostrophes of a string.
+pub fn content_of(text: &[u8]) -> &[u8]
+    requires { 2 ≤ length text.now }
+    ensures { result.now ≡ content_of text.now }
+{
+    &text[1..text.len() - 1]
+}
 
 /// How long the string is that begins with an apostrophe at the front of the bytes, if it ends
 /// (ISO 10303-21, 6.4.3): at the first later apostrophe that no other follows.

@@ -1,0 +1,153 @@
+//! The token at the front of what is left of a text, by its first byte.
+ghost use Rattle.std.specs.Prelude.{◌≡◌, ◌||◌, ◌≤◌, ◌<◌, ◌∷◌, [], length, take, drop, MatchResult, slice_index, true, false, IfSome, IfNone};
+ghost use Rattle.step_lexis.specs.Bytes.{is_digit, is_letter};
+ghost use Rattle.step_lexis.specs.Tokens.{is_mark, is_sign};
+ghost use Rattle.step_lexis.specs.Numbers.{StartsNumber};
+ghost use Rattle.step_lexis.specs.Front.{IsFront, IsFlawed, mark_byte};
+
+use crate::binaries::binary_len;
+use crate::bytes::{digits_len, is_letter, word_len};
+use crate::directives::broken_directive;
+use crate::fault::Flaw;
+use crate::literal::{Bits, Decimal, Text, Word};
+use crate::numbers::{is_short_number, number_len, number_of, starts_number};
+use crate::strings::{content_of, string_len};
+use crate::token::{Mark, Sort};
+use crate::words::{scope_at, user_defined_at, word_at};
+
+/// The number at the front of the bytes.
+fn number_at(bytes: &[u8]) -> Result<(Sort<'_>, usize), (Flaw, usize)>
+    requires { StartsNumber bytes.now }
+    ensures { MatchResult result (λ front. IsFront bytes.now front.0 front.1) (λ fault. IsFlawed bytes.now fault.0 fault.1) }
+{
+    let Some((len, is_real)) = number_len(bytes) else {
+        return Err((Flaw::BadToken, 0));
+    };
+    let (text, _) = bytes.split_at(len);
+    if !is_short_number(text) {
+        return Err((Flaw::NumberTooLong, 0));
+    }
+    let number = Decimal::from_number(text);
+    Ok((
+        if is_real {
+            Sort::Real(number)
+        } else {
+            Sort::Integer(number)
+        },
+        len,
+    ))
+}
+
+/// The string at the front of the bytes.
+fn string_at(bytes: &[u8]) -> Result<(Sort<'_>, usize), (Flaw, usize)>
+    requires { take 1 bytes.now ≡ 39 ∷ [] }
+    ensures { MatchResult result (λ front. IsFront bytes.now front.0 front.1) (λ fault. IsFlawed bytes.now fault.0 fault.1) }
+{
+    let Some(len) = string_len(bytes) else {
+        return Err((Flaw::UnendedString, 0));
+    };
+    let (text, _) = bytes.split_at(len);
+    match broken_directive(content_of(text)) {
+        Some(index) => Err((Flaw::BadEscape, 1 + index)),
+        None => Ok((Sort::String(Text::from_string(text)), len)),
+    }
+}
+
+/// The binary at the front of the bytes.
+fn binary_at(bytes: &[u8]) -> Result<(Sort<'_>, usize), (Flaw, usize)>
+    requires { take 1 bytes.now ≡ 34 ∷ [] }
+    ensures { MatchResult result (λ front. IsFront bytes.now front.0 front.1) (λ fault. IsFlawed bytes.now fault.0 fault.1) }
+{
+    let Some(len) = binary_len(bytes) else {
+        return Err((Flaw::BadToken, 0));
+    };
+    let (text, _) = bytes.split_at(len);
+    Ok((Sort::Binary(Bits::from_binary(text)), len))
+}
+
+/// The element at the front of the bytes.
+fn element_at(bytes: &[u8]) -> Result<(Sort<'_>, usize), (Flaw, usize)>
+    requires { take 1 bytes.now ≡ 46 ∷ [] }
+    ensures { MatchResult result (λ front. IsFront bytes.now front.0 front.1) (λ fault. IsFlawed bytes.now fault.0 fault.1) }
+{
+    let (_, rest) = bytes.split_at(1);
+    if rest.is_empty() || !is_letter(rest[0]) {
+        return Err((Flaw::BadToken, 0));
+    }
+    let (text, after) = rest.split_at(word_len(rest));
+    if after.is_empty() || after[0] != b'.' {
+        return Err((Flaw::BadToken, 0));
+    }
+    Ok((Sort::Element(Word::from_keyword(text)), text.len() + 2))
+}
+
+/// The name at the front of the bytes.
+fn name_at(bytes: &[u8]) -> Result<(Sort<'_>, usize), (Flaw, usize)>
+    requires { take 1 bytes.now ≡ 35 ∷ [] }
+    ensures { MatchResult result (λ front. IsFront bytes.now front.0 front.1) (λ fault. IsFlawed bytes.now fault.0 fault.1) }
+{
+    let (_, rest) = bytes.split_at(1);
+    let len = digits_len(rest);
+    if len == 0 {
+        return Err((Flaw::BadToken, 0));
+    }
+    let (digits, _) = rest.split_at(len);
+    match number_of(digits) {
+        Some(value) => Ok((Sort::Name(value), 1 + len)),
+        None => Err((Flaw::NameTooLarge, 0)),
+    }
+}
+
+/// The mark that a byte is.
+fn mark_of(byte: u8) -> Option<Mark>
+    ensures some { IfSome result (λ mark. mark_byte mark ≡ byte) }
+    ensures none { IfNone result (is_mark byte ≡ false) }
+{
+    match byte {
+        b'(' => Some(Mark::Open),
+        b')' => Some(Mark::Close),
+        b',' => Some(Mark::Comma),
+        b';' => Some(Mark::Semicolon),
+        b'=' => Some(Mark::Equals),
+        b'$' => Some(Mark::Dollar),
+        b'*' => Some(Mark::Asterisk),
+        _ => None,
+    }
+}
+
+/// The token at the front of the bytes that begins with none of the letters, digits and signs.
+fn other_at(bytes: &[u8]) -> Result<(Sort<'_>, usize), (Flaw, usize)>
+    requires some { 0 < length bytes.now }
+    requires no_letter { is_letter (slice_index bytes.now 0) ≡ false }
+    requires no_number { (is_digit (slice_index bytes.now 0) || is_sign (slice_index bytes.now 0)) ≡ false }
+    ensures { MatchResult result (λ front. IsFront bytes.now front.0 front.1) (λ fault. IsFlawed bytes.now fault.0 fault.1) }
+{
+    let first = bytes[0];
+    if let Some(mark) = mark_of(first) {
+        return Ok((Sort::Mark(mark), 1));
+    }
+    match first {
+        b'#' => name_at(bytes),
+        b'.' => element_at(bytes),
+        b'\'' => string_at(bytes),
+        b'"' => binary_at(bytes),
+        b'!' => user_defined_at(bytes),
+        b'&' => scope_at(bytes),
+        _ => Err((Flaw::BadToken, 0)),
+    }
+}
+
+/// The token at the front of the bytes and its length, or what is wrong there and at which byte.
+pub fn front_at(bytes: &[u8]) -> Result<(Sort<'_>, usize), (Flaw, usize)>
+    requires { 0 < length bytes.now }
+    ensures { MatchResult result (λ front. IsFront bytes.now front.0 front.1) (λ fault. IsFlawed bytes.now fault.0 fault.1) }
+{
+    let first = bytes[0];
+    if is_letter(first) {
+        Ok(word_at(bytes))
+    } else if starts_number(first) {
+        number_at(bytes)
+    } else {
+        other_at(bytes)
+    }
+}

@@ -1,0 +1,47 @@
+// Layout between tokens.
+ghost use Rattle.std.specs.Prelude.{◌≡◌, ◌≤◌, ◌<◌, ◌++◌, ℕ, List, length, take, drop, MatchOption};
+ghost use Rattle.step_lexis.specs.Layout.{IsBlank, NoBlank, SkipsLayout};
+
+use crate::words::says;
+use memchr::memmem;
+
+/// How long the blank or comment is that the bytes begin with, if there is one.
+fn blank_len(bytes: &[u8]) -> Option<usize>
+    ensures { MatchOption result (NoBlank bytes.now) (λ n. (0 < n) × (n ≤ length bytes.now) × IsBlank (take n bytes.now)) }
+{
+    if bytes.is_empty() {
+        return None;
+    }
+    if bytes[0] <= 32 {
+        return Some(1);
+    }
+    if says(bytes, b"\\N\\") {
+        return Some(3);
+    }
+    if says(bytes, b"\\F\\") {
+        return Some(3);
+    }
+    if bytes.len() < 2 || bytes[0] != b'/' || bytes[1] != b'*' {
+        return None;
+    }
+    let (_, rest) = bytes.split_at(2);
+    match memmem::find(rest, b"*/") {
+        Some(at) => Some(at + 4),
+        None => None,
+    }
+}
+
+/// How long the layout is that the bytes begin with.
+pub fn layout_len(bytes: &[u8]) -> usize
+    ensures within { result ≤ length bytes.now }
+    ensures layout { SkipsLayout bytes.now (drop result bytes.now) }
+{
+    let mut rest = bytes;
+    let mut len = 0;
+    while let Some(n) = blank_len(rest) {
+        let (_, next) = rest.split_at(n);
+        rest = next;
+        len += n;
+    }
+    len
+}
