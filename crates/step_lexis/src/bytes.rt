@@ -21,12 +21,6 @@ pub fn is_word_byte(b: u8) -> bool
     is_letter(b) || is_digit(b)
 }
 
-pub fn is_hex(b: u8) -> bool
-    ensures { result ≡ is_hex b }
-{
-    matches!(b, b'0'..=b'9' | b'A'..=b'F' | b'a'..=b'f')
-}
-
 /// How many digits the bytes begin with.
 pub fn digits_len(bytes: &[u8]) -> usize
     ensures within { result ≤ length bytes.now }
