@@ -19,3 +19,4 @@ pub mod BinaryLemmas
 pub mod Closers
 pub mod Unique
 pub mod Determined
+pub mod LiteralLemmas

@@ -4,8 +4,15 @@ ghost use Rattle.std.specs.Prelude.{◌≡◌, MatchResult};
 ghost use Rattle.step_lexis.specs.Tokens.{IsKeyword, Spells, binary};
 ghost use Rattle.step_lexis.specs.Literals.{IsDecimal, IsText};
 
+use crate::binaries::binary_len;
+use crate::directives::broken_directive;
 use crate::fault::{Flaw, TextFault};
 use crate::numbers::{is_number, is_short_number};
+use crate::strings::string_len;
+
+const APOSTROPHE: u8 = b'\'';
+
+const QUOTE: u8 = b'"';
 
 /// A keyword, or the name of an element (ISO 10303-21, 5.2): a letter or `_`, then letters, digits and `_`.
 #[derive(Clone, Copy)]
@@ -92,6 +99,45 @@ impl<'a> Decimal<'a> {
 }
 
 impl<'a> Text<'a> {
+    ghost use Rattle.std.specs.Prelude.{IfErr};
+    ghost use Rattle.step_lexis.specs.Faults.{IsNoText};
+
+    /// The string that these bytes spell, all of them.
+    ///
+    /// Where a directive of it is begun and not completed the fault is E3, at the directive's backslash.
+    /// Where the bytes begin with an apostrophe and no string ends in them it is E2, where they spell no
+    /// string otherwise E1, both at place 0.
+    pub fn read(bytes: &'a [u8]) -> Result<Text<'a>, TextFault>
+        ensures cases { MatchResult result (λ text. (text.text.now ≡ bytes.now) × IsText bytes.now) (λ e. IsNoText bytes.now e.flaw e.place) }
+        ensures otherwise { IfErr result (λ e. IsText bytes.now → ⊥) }
+    {
+        if bytes.is_empty() || bytes[0] != APOSTROPHE {
+            return Err(TextFault {
+                flaw: Flaw::BadToken,
+                place: 0,
+            });
+        }
+        let Some(len) = string_len(bytes) else {
+            return Err(TextFault {
+                flaw: Flaw::UnendedString,
+                place: 0,
+            });
+        };
+        if len < bytes.len() {
+            return Err(TextFault {
+                flaw: Flaw::BadToken,
+                place: 0,
+            });
+        }
+        if let Some(index) = broken_directive(&bytes[1..len - 1]) {
+            return Err(TextFault {
+                flaw: Flaw::BadEscape,
+                place: 1 + index as u64,
+            });
+        }
+        Ok(Text::from_string(bytes))
+    }
+
     pub(crate) fn from_string(text: &'a [u8]) -> Text<'a>
         requires { IsText text.now }
         ensures { result.text.now ≡ text.now }
@@ -108,6 +154,27 @@ impl<'a> Text<'a> {
 }
 
 impl<'a> Bits<'a> {
+    ghost use Rattle.step_lexis.specs.Faults.{IsNoBits};
+
+    /// The binary that these bytes spell, all of them.
+    ///
+    /// Where they spell none the fault is E1 at place 0.
+    pub fn read(bytes: &'a [u8]) -> Result<Bits<'a>, TextFault>
+        ensures { MatchResult result (λ bits. (bits.text.now ≡ bytes.now) × Spells binary bytes.now) (λ e. IsNoBits bytes.now e.flaw e.place) }
+    {
+        let fault = TextFault {
+            flaw: Flaw::BadToken,
+            place: 0,
+        };
+        if bytes.is_empty() || bytes[0] != QUOTE {
+            return Err(fault);
+        }
+        match binary_len(bytes) {
+            Some(len) if len == bytes.len() => Ok(Bits::from_binary(bytes)),
+            _ => Err(fault),
+        }
+    }
+
     pub(crate) fn from_binary(text: &'a [u8]) -> Bits<'a>
         requires { Spells binary text.now }
         ensures { result.text.now ≡ text.now }
@@ -120,5 +187,47 @@ impl<'a> Bits<'a> {
         ensures { result ≡ self.now.text }
     {
         self.text
+    }
+}
+
+#[cfg(test)]
+mod tests {
+    use super::*;
+    use std::test::Fail;
+
+    #[test]
+    fn reads_strings(rt: HostRuntime) -> Result<(), Fail> {
+        let spelling = b"'it''s C:\\temp, \\X2\\00E900EA\\X0\\ and \\PB\\\\S\\i'";
+        let text = Text::read(spelling)?;
+        assert_eq!(rt; text.spelling(), spelling.as_slice());
+        Ok(())
+    }
+
+    #[test]
+    fn tells_what_is_wrong_with_a_string(rt: HostRuntime) {
+        let bad_escape = TextFault {
+            flaw: Flaw::BadEscape,
+            place: 6,
+        };
+        assert_eq!(rt; Text::read(b"'\\X\\E9\\X\\E'").err(), Some(bad_escape));
+        let unended = TextFault {
+            flaw: Flaw::UnendedString,
+            place: 0,
+        };
+        assert_eq!(rt; Text::read(b"'it''s").err(), Some(unended));
+        let two = TextFault {
+            flaw: Flaw::BadToken,
+            place: 0,
+        };
+        assert_eq!(rt; Text::read(b"'a' 'b'").err(), Some(two));
+    }
+
+    #[test]
+    fn reads_binaries(rt: HostRuntime) -> Result<(), Fail> {
+        assert_eq!(rt; Bits::read(b"\"1A3\"")?.spelling(), b"\"1A3\"".as_slice());
+        assert_eq!(rt; Bits::read(b"\"0\"")?.spelling(), b"\"0\"".as_slice());
+        assert!(rt; Bits::read(b"\"1\"").is_err());
+        assert!(rt; Bits::read(b"\"4A\"").is_err());
+        Ok(())
     }
 }
