@@ -1,5 +1,5 @@
 -- Bytes that end the token before them: what stands behind such a byte doesn't change that token.
-use Rattle.std.proofs.Common.{◌≡◌, ℕ, ◌≤◌, ◌<◌, Bool, true, false, not, Some, None, get_or, ◌||◌, List, [], ◌∷◌, ◌++◌, length, map, refl, sym, ap, ◌∙◌, arith, subst, length-append, codes}
+use Rattle.std.proofs.Common.{◌≡◌, ℕ, ◌≤◌, ◌<◌, Bool, true, false, not, Some, None, get_or, ◌||◌, List, [], ◌∷◌, ◌++◌, length, map, refl, sym, ap, ◌∙◌, arith, subst, length-append, append_assoc, codes}
 use Rattle.std.specs.Prelude.{◌==◌, ◌&&◌, nat_le}
 use Rattle.std.specs.List.{list_all}
 use Rattle.std.specs.Char.{to_ascii_lowercase}
@@ -138,6 +138,46 @@ allows_moved _ t a b c h = h
 -- what stands behind a closer doesn't change the token before it
 pub next_moved : (k : Kind) (t a b : List ℕ) (c : ℕ) → is_closer c ≡ true → IsNext k t (c ∷ a) → IsNext k t (c ∷ b)
 next_moved k t a b c closer h = next_before_closer k t b c closer (allows_moved k t a b c h.allowed)
+
+allows_past : (k : Kind) (t v a b : List ℕ) (c : ℕ) → Allows k t (v ++ c ∷ a) → Allows k t (v ++ c ∷ b)
+allows_past string t [] a b c h = h
+allows_past string t (x ∷ xs) a b c h = h
+allows_past _ t v a b c h = h
+
+-- a list that is no longer than the front of another with which it begins is the front's beginning
+front_of : (xs ys r s : List ℕ) → xs ++ r ≡ ys ++ s → length xs ≤ length ys → (w : List ℕ) × (ys ≡ xs ++ w) × (r ≡ w ++ s)
+front_of [] ys r s e h = (ys, refl, e)
+front_of (x ∷ xs) [] r s e h = absurd (omega (arith, h))
+front_of (x ∷ xs) (y ∷ ys) r s e h =
+    let t : xs ++ r ≡ ys ++ s = cc in let q : y ≡ x = cc in
+    let f = front_of xs ys r s t (omega (arith, h)) in
+    (f.0, (λ i. q i ∷ f.1 i), f.2)
+
+-- a string ends where it ends, whatever follows
+string_past : (t after other rest : List ℕ) → Allows string t after → other ++ rest ≡ t ++ after → Allows string other rest → length other ≤ length t
+string_past t after other rest own e a =
+    let n : IsNext string t after = subst (λ l. IsNext string l after) (sym own.0.1) (next_string own.0.0 after own.1) in
+    n.longest string other rest e a
+
+-- what stands behind a closer that comes later doesn't change a token
+module _ (k : Kind) (t v a b : List ℕ) (c : ℕ) (closer : is_closer c ≡ true) (h : IsNext k t (v ++ c ∷ a)) where
+  longest_past : (j : Kind) (other rest : List ℕ) → other ++ rest ≡ t ++ (v ++ c ∷ b) → (j ≡ mark → ⊥) → (j ≡ string → ⊥) → Allows j other rest → ((r : List ℕ) → Allows j other r) → length other ≤ length t
+  longest_past j other rest e no_mark no_string own moved =
+      let q : other ++ rest ≡ (t ++ v) ++ c ∷ b = e ∙ sym (append_assoc t v (c ∷ b)) in
+      let fits = open_fits other (t ++ v) rest b c (open_token j other rest own no_string no_mark) closer q in
+      let f = front_of other (t ++ v) rest (c ∷ b) q fits in
+      let back : other ++ (f.0 ++ c ∷ a) ≡ t ++ (v ++ c ∷ a) = sym (append_assoc other f.0 (c ∷ a)) ∙ ap (λ l. l ++ c ∷ a) (sym f.1) ∙ append_assoc t v (c ∷ a) in
+      h.longest j other (f.0 ++ c ∷ a) back (moved (f.0 ++ c ∷ a))
+
+  kept_longest : Allows k t (v ++ c ∷ b) → (j : Kind) (other rest : List ℕ) → other ++ rest ≡ t ++ (v ++ c ∷ b) → Allows j other rest → length other ≤ length t
+  kept_longest own string other rest e own_other =
+      let is : k ≡ string = string_group k (sym (same_group k string t (v ++ c ∷ b) other rest own own_other e)) in
+      string_past t (v ++ c ∷ b) other rest (subst (λ j. Allows j t (v ++ c ∷ b)) is own) e own_other
+  kept_longest own mark other rest e own_other = mark_short other rest t own_other (some_bytes k t (v ++ c ∷ a) h.allowed)
+  kept_longest own j other rest e own_other = longest_past j other rest e (λ q. cc) (λ q. cc) own_other (λ r. own_other)
+
+  pub next_kept : IsNext k t (v ++ c ∷ b)
+  next_kept = let own = allows_past k t v a b c h.allowed in record { allowed = own; longest = λ j other rest e x. kept_longest own j other rest e x }
 
 space_group : (b : ℕ) → b ≤ 32 → group_of b ≡ None
 space_group b h = grind (arith, nat_tests)

@@ -22,7 +22,7 @@ use Rattle.step_lexis.proofs.DirectiveLemmas.{broken_once, readable_not_broken}
 use Rattle.step_lexis.proofs.LayoutLemmas.{one_rest}
 use Rattle.step_lexis.proofs.ReadingLemmas.{some_bytes}
 
-same_place : (old : Reading) (p q : ℕ) → Reaches old p → Reaches old q → p ≡ q
+pub same_place : (old : Reading) (p q : ℕ) → Reaches old p → Reaches old q → p ≡ q
 same_place old p q h g =
     let a = h.layout in let b = g.layout in
     let e = sym (ap (λ l. l ++ drop p old.text) a.layout.2) ∙ sym (a.split) ∙ b.split ∙ ap (λ l. l ++ drop q old.text) b.layout.2 in

@@ -5,6 +5,7 @@ pub mod StringLemmas
 pub mod CleanLemmas
 pub mod PieceLemmas
 pub mod DirectiveLemmas
+pub mod PieceSpelling
 pub mod StringExamples
 pub mod NumberLemmas
 pub mod NumberCuts
@@ -20,3 +21,4 @@ pub mod Closers
 pub mod Unique
 pub mod Determined
 pub mod LiteralLemmas
+pub mod Standing

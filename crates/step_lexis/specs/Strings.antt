@@ -1,7 +1,7 @@
 -- What stands between the apostrophes of a string (ISO 10303-21, 6.4.3): bytes and directives.
-use Rattle.std.specs.Prelude.{◌≡◌, ℕ, ◌+◌, ◌-◌, ◌%◌, ◌<◌, Bool, not, ◌&&◌, ◌||◌, ◌==◌, nat_le, nat_lt, nat_eq, List, [], ◌∷◌, length, filter, take, drop, slice_index, Option, Some, None, codes, if◌then◌else◌}
+use Rattle.std.specs.Prelude.{◌≡◌, ◌⊎◌, ◌++◌, ◌≤◌, ℕ, ◌+◌, ◌-◌, ◌%◌, ◌<◌, Bool, not, ◌&&◌, ◌||◌, ◌==◌, nat_le, nat_lt, nat_eq, List, [], ◌∷◌, length, filter, take, drop, slice_index, Option, Some, None, codes, if◌then◌else◌}
 use Rattle.std.specs.List.{starts_with, prefix_len}
-use Rattle.step_lexis.specs.Bytes.{is_hex}
+use Rattle.step_lexis.specs.Bytes.{is_hex, Each}
 
 -- what stands between the first and the last byte
 abbrev pub content_of : List ℕ → List ℕ
@@ -84,6 +84,32 @@ piece_len (code ds) = 5
 piece_len (groups w ds) = 8 + length ds
 piece_len (run bs) = length bs
 piece_len (byte b) = 1
+
+-- how a piece is spelled
+abbrev pub SpellsPiece : Piece → List ℕ → Type 0
+SpellsPiece apostrophe t = t ≡ codes "''"
+SpellsPiece backslash t = t ≡ codes "\\\\"
+SpellsPiece (shift c) t = (32 ≤ c) × (c ≤ 126) × (t ≡ codes "\\S\\" ++ (if c == 39 then 39 ∷ 39 ∷ [] else c ∷ []))
+SpellsPiece (page p) t = (65 ≤ p) × (p ≤ 73) × (t ≡ codes "\\P" ++ p ∷ 92 ∷ [])
+SpellsPiece (code ds) t = Each is_hex ds × (length ds ≡ 2) × (t ≡ codes "\\X\\" ++ ds)
+SpellsPiece (groups w ds) t = Each is_hex ds × (length ds % w ≡ 0) × (((w ≡ 4) × (t ≡ codes "\\X2\\" ++ ds ++ codes "\\X0\\")) ⊎ ((w ≡ 8) × (t ≡ codes "\\X4\\" ++ ds ++ codes "\\X0\\")))
+SpellsPiece (run bs) t = Each is_high bs × (t ≡ bs)
+SpellsPiece (byte b) t = (b < 128) × (t ≡ b ∷ [])
+
+-- the bytes begin with this piece, which has its length
+pub record BeginsPiece (bs : List ℕ) (p : Piece) : Type 0 where
+  pub text : List ℕ
+  pub rest : List ℕ
+  pub split : bs ≡ text ++ rest
+  pub spells : SpellsPiece p text
+  pub len : piece_len p ≡ length text
+
+-- the bytes begin with `\S\`, `\X\`, `\X2\` or `\X4\`
+pub record BeginsDirective (bs : List ℕ) : Type 0 where
+  pub text : List ℕ
+  pub rest : List ℕ
+  pub split : bs ≡ text ++ rest
+  pub directive : (text ≡ codes "\\S\\") ⊎ (text ≡ codes "\\X\\") ⊎ (text ≡ codes "\\X2\\") ⊎ (text ≡ codes "\\X4\\")
 
 -- a clean string is read from the left as these pieces, up to what is left
 abbrev pub AreRead : List ℕ → List Piece → List ℕ → Type 0

@@ -115,18 +115,15 @@ fn mark_of(byte: u8) -> Option<Mark>
     }
 }
 
-/// The token at the front of the bytes that begins with none of the letters, digits and signs.
+/// The token at the front of the bytes that begins with no mark, letter, digit or sign.
 fn other_at(bytes: &[u8]) -> Result<(Sort<'_>, usize), (Flaw, usize)>
     requires some { 0 < length bytes.now }
+    requires no_mark { is_mark (slice_index bytes.now 0) ≡ false }
     requires no_letter { is_letter (slice_index bytes.now 0) ≡ false }
     requires no_number { (is_digit (slice_index bytes.now 0) || is_sign (slice_index bytes.now 0)) ≡ false }
     ensures { MatchResult result (λ front. IsFront bytes.now front.0 front.1) (λ fault. IsFlawed bytes.now fault.0 fault.1) }
 {
-    let first = bytes[0];
-    if let Some(mark) = mark_of(first) {
-        return Ok((Sort::Mark(mark), 1));
-    }
-    match first {
+    match bytes[0] {
         b'#' => name_at(bytes),
         b'.' => element_at(bytes),
         b'\'' => string_at(bytes),
@@ -143,6 +140,9 @@ pub fn front_at(bytes: &[u8]) -> Result<(Sort<'_>, usize), (Flaw, usize)>
     ensures { MatchResult result (λ front. IsFront bytes.now front.0 front.1) (λ fault. IsFlawed bytes.now fault.0 fault.1) }
 {
     let first = bytes[0];
+    if let Some(mark) = mark_of(first) {
+        return Ok((Sort::Mark(mark), 1));
+    }
     if is_letter(first) {
         Ok(word_at(bytes))
     } else if starts_number(first) {

@@ -12,8 +12,12 @@ fn blank_len(bytes: &[u8]) -> Option<usize>
     if bytes.is_empty() {
         return None;
     }
-    if bytes[0] <= 32 {
+    let first = bytes[0];
+    if first <= 32 {
         return Some(1);
+    }
+    if first != b'\\' && first != b'/' {
+        return None;
     }
     if says(bytes, b"\\N\\") {
         return Some(3);

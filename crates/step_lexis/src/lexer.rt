@@ -41,6 +41,13 @@ impl<'a> Lexer<'a> {
         }
     }
 
+    /// How many bytes of the text are read.
+    pub fn place(&self) -> u64
+        ensures { result ≡ self.now.place }
+    {
+        self.place as u64
+    }
+
     /// The next token, the longest that stands behind the layout; `None` at the end of the text.
     ///
     /// At a fault nothing is read, so the same fault is answered again. E1, E2, E4 and E5 have the

@@ -1,0 +1,88 @@
+-- What was read, against the definitions.
+use Rattle.std.proofs.Common.{◌≡◌, ℕ, ◌-◌, List, [], ◌∷◌, ◌++◌, take, drop, refl, sym, ◌∙◌, subst, arith, codes}
+use Rattle.step_lexis.specs.declared.token.Mark.TheVariants.{Semicolon}
+use Rattle.step_lexis.specs.Reading.{Reading, start}
+use Rattle.step_exchange.specs.declared.fault.Kind.{Kind}
+use Rattle.step_exchange.specs.declared.fault.Kind.TheVariants as kinds
+use Rattle.step_exchange.specs.declared.fault.TextFault.{TextFault}
+use Rattle.step_exchange.specs.declared.fault.TextFault.TheVariants as faults
+use Rattle.step_exchange.specs.Words.{mark, keyword, Seen, seen, shows_token}
+use Rattle.step_exchange.specs.Trees.{Part, Row, File, Item, this, Begins, items_of_records, items_of_header, section}
+use Rattle.step_exchange.specs.Fits.{the_rules, FitsRecords, FitsHeader, HasSchema, NamesSchema}
+use Rattle.step_exchange.specs.Texts.{ReadsAs, items_of_opening, HoldsSchema, IsFirstFault, IsFaultOf, IsMemory}
+use Rattle.step_exchange.specs.Predict.{Symbol, Just, Records, passes, stops, run, StopsIn, TakesHeader, StopsInHeader, in_opening, unnamed, in_records, TakesData, opening_symbols, closing_symbols, data_symbols}
+use Rattle.step_exchange.proofs.Passing.{begins_append, begins_split, pass_opening, pass_mark, pass_header, header_items}
+use Rattle.step_exchange.proofs.Shown.{shows_join}
+use Rattle.step_exchange.proofs.Unique.{same_opening}
+use Rattle.step_exchange.proofs.Once.{reads_once, reads_no_fault}
+use Rattle.step_exchange.proofs.ParamSteps.{meets_is}
+use Rattle.step_exchange.proofs.FirstFault.{first_fault, schema_fault}
+
+-- tokens that stop in the opening hold no opening
+opening_holds : (s : List Seen) (kind : Kind) (place : ℕ) → ((ys : List Symbol) → run the_rules ((opening_symbols ++ Just Semicolon ∷ []) ++ ys) s ≡ stops kind place) → HoldsSchema the_rules s
+opening_holds s kind place f p q r rest fits named b =
+    let m = begins_split s (items_of_opening p q r) (this (mark Semicolon) ∷ []) rest b in
+    let clash : passes rest ≡ stops kind place = sym (pass_opening the_rules p q r (Just Semicolon ∷ []) s m.0 fits named m.1 ∙ pass_mark the_rules Semicolon [] m.0 rest m.2) ∙ f [] in
+    absurd (cc)
+
+third_same : (p q r x y z : Part) → p ∷ q ∷ r ∷ [] ≡ x ∷ y ∷ z ∷ [] → r ≡ z
+third_same p q r x y z e = cc
+
+-- tokens that begin with an opening whose third record names a schema hold it
+known_holds : (p q r : Part) (s m : List Seen) → FitsRecords the_rules (p ∷ q ∷ r ∷ []) → NamesSchema r.values → Begins s (items_of_opening p q r) m → HoldsSchema the_rules s
+known_holds p q r s m fits named b x y z rest f g h =
+    let k = begins_split s (items_of_opening x y z) (this (mark Semicolon) ∷ []) rest h in
+    let e = same_opening p q r x y z the_rules s m k.0 fits f b k.1 in
+    let P : Part → Type 0 = λ v. NamesSchema v.values in
+    subst P (third_same p q r x y z e.0) named
+
+header_holds : (header : List Part) (s m : List Seen) → FitsHeader the_rules header → HasSchema header → Begins s (items_of_header header) m → HoldsSchema the_rules s
+header_holds [] s m f named b = absurd named
+header_holds (p ∷ []) s m f named b = absurd named
+header_holds (p ∷ q ∷ []) s m f named b = absurd named
+header_holds (p ∷ q ∷ r ∷ more) s m f named b =
+    let P : List Item → Type 0 = λ l. Begins s l m in
+    let k = begins_split s (items_of_opening p q r) (this (mark Semicolon) ∷ (items_of_records more ++ section (codes "ENDSEC"))) m (subst P (header_items p q r more) b) in
+    known_holds p q r s k.0 (f.0.0, (f.0.1.0, (f.0.1.1.0, tt))) named k.1
+
+header_fault : (text : List ℕ) (kind : Kind) (place : ℕ) → StopsInHeader (faults.Fault kind place) (start text) → IsFirstFault text kind place
+header_fault text kind place (in_opening g) = first_fault text g.0 g.1 kind place g.2 (g.3 (Records ∷ data_symbols)) (opening_holds g.0 kind place g.3)
+header_fault text kind place (unnamed p q r at a mid new t fits first second reads head taken semi other e) =
+    let k : kinds.HeaderFault ≡ kind = cc in
+    let l : at ≡ place = cc in
+    let P : Kind → Type 0 = λ v. IsFirstFault text v place in
+    let Q : ℕ → Type 0 = λ v. IsFirstFault text kinds.HeaderFault v in
+    subst P k (subst Q (sym head.place_is ∙ l) (schema_fault text p q r reads.0 head.params.reads.0 (seen head.key) (seen t) mid new (fits.0, (fits.1.0, ((omega arith, head.params.fits), tt))) (first, second, head.said)
+    (shows_join (start text) reads.0 a (seen head.key ∷ head.params.reads.0) mid reads.1 (head.inside, shows_token head.key head.taken refl, head.params.reads.1))
+    reads.2 (meets_is (keyword r.keyword) (seen head.key).sight head.key_is, head.params.reads.2) (shows_token t taken refl) semi other))
+header_fault text kind place (in_records p q r header more mid op opens g) =
+    let whole = begins_append opens.0 (items_of_opening p q r ++ this (mark Semicolon) ∷ []) [] g.0 opens.2 in
+    let m = begins_split (opens.0 ++ g.0) (items_of_opening p q r) (this (mark Semicolon) ∷ []) g.0 whole in
+    first_fault text (opens.0 ++ g.0) g.1 kind place (shows_join (start text) opens.0 mid g.0 g.1 opens.1 g.2)
+    (pass_opening the_rules p q r closing_symbols (opens.0 ++ g.0) m.0 op.fits op.named m.1 ∙ pass_mark the_rules Semicolon (Records ∷ data_symbols) m.0 g.0 m.2 ∙ g.3 data_symbols)
+    (known_holds p q r (opens.0 ++ g.0) m.0 op.fits op.schema m.1)
+
+data_fault : (text : List ℕ) (kind : Kind) (place first : ℕ) (header : List Part) (mid : Reading) → TakesHeader (start text) first header mid → StopsIn (faults.Fault kind place) data_symbols [] mid → IsFirstFault text kind place
+data_fault text kind place first header mid h g =
+    let whole = begins_append h.reads.0 (items_of_header header) [] g.0 h.reads.2 in
+    first_fault text (h.reads.0 ++ g.0) g.1 kind place (shows_join (start text) h.reads.0 mid g.0 g.1 h.reads.1 g.2)
+    (pass_header the_rules header data_symbols (h.reads.0 ++ g.0) g.0 h.fits whole ∙ g.3 [])
+    (header_holds header (h.reads.0 ++ g.0) g.0 h.fits h.schema whole)
+
+pub header_is_fault : (text : List ℕ) (e : TextFault) → StopsInHeader e (start text) → IsFaultOf text e
+header_is_fault text faults.Memory h = tt
+header_is_fault text (faults.Fault kind place) h = header_fault text kind place h
+
+pub data_is_fault : (text : List ℕ) (e : TextFault) (first : ℕ) (header : List Part) (mid : Reading) → TakesHeader (start text) first header mid → StopsIn e data_symbols [] mid → IsFaultOf text e
+data_is_fault text faults.Memory first header mid h g = tt
+data_is_fault text (faults.Fault kind place) first header mid h g = data_fault text kind place first header mid h g
+
+pub is_read : (text front : List ℕ) (first : ℕ) (header : List Part) (rows : List Row) (mid end : Reading) → TakesHeader (start text) first header mid → TakesData mid rows end → front ≡ take (mid.place - first) (drop first text) → ReadsAs text front (record { header = header; rows = rows })
+is_read text front first header rows mid end h d e = record { fits = (h.fits, d.fits); schema = h.schema; headed = mid; end = end; header = h.reads; rows = d.reads; first = first; begins = h.first; front_is = e }
+
+pub found_all : (text front : List ℕ) (x : File) → ReadsAs text front x → (other : List ℕ) (y : File) → ReadsAs text other y → (front ≡ other) × (x ≡ y)
+found_all text front x h other y g = reads_once text front other x y h g
+
+pub fault_all : (text : List ℕ) (e : TextFault) → IsFaultOf text e → (front : List ℕ) (x : File) → ReadsAs text front x → IsMemory e
+fault_all text faults.Memory h front x g = tt
+fault_all text (faults.Fault kind place) h front x g = absurd (reads_no_fault text front x kind place g h)

@@ -1,0 +1,5 @@
+use Rattle.step_exchange.proofs.Agreed.{one_fault_of}
+use Rattle.step_exchange.proofs.laws.a_text_has_one_first_fault.Goals as goal
+
+pub returns : goal.returns
+returns c = one_fault_of

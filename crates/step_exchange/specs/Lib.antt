@@ -1,0 +1,9 @@
+pub mod Words
+pub mod Trees
+pub mod Fits
+pub mod Texts
+pub mod Views
+pub mod Predict
+pub mod Prints
+pub mod Emits
+pub mod Normal

@@ -1,0 +1,109 @@
+-- The normal text of an exchange structure, and the laws of it.
+use Rattle.std.specs.Prelude.{◌≡◌, ℕ, List, [], ◌∷◌, ◌++◌, map, codes, decimal}
+use Rattle.std.specs.Char.{to_ascii_uppercase}
+use Rattle.step_lexis.specs.Front.{mark_byte}
+use Rattle.step_exchange.specs.Words.{Word, begins, ends, keyword, user_defined, scope, name, number, element, string, binary, mark}
+use Rattle.step_exchange.specs.Trees.{Tree, leaf, typed, group, Trees, none, one, Part, Form, internal, external, Row, File}
+use Rattle.step_exchange.specs.Texts.{ReadsAs}
+
+-- a word in upper case
+abbrev pub upper : List ℕ → List ℕ
+upper w = map to_ascii_uppercase w
+
+-- an instance name or a reference
+abbrev pub plain_name : ℕ → List ℕ
+plain_name n = codes "#" ++ decimal n
+
+-- one token; a literal as it is spelt
+abbrev pub plain_word : Word → List ℕ
+plain_word begins = codes "ISO-10303-21"
+plain_word ends = codes "END-ISO-10303-21"
+plain_word (keyword text) = upper text
+plain_word (user_defined text) = codes "!" ++ upper text
+plain_word scope = codes "&SCOPE"
+plain_word (name n text) = plain_name n
+plain_word (number text) = text
+plain_word (element text) = codes "." ++ upper text ++ codes "."
+plain_word (string text) = text
+plain_word (binary text) = text
+plain_word (mark m) = mark_byte m ∷ []
+
+abbrev mutual
+  pub plain_tree : Tree → List ℕ
+  plain_tree (leaf w) = plain_word w
+  plain_tree (typed text x) = upper text ++ codes "(" ++ plain_tree x ++ codes ")"
+  plain_tree (group xs) = codes "(" ++ plain_trees xs ++ codes ")"
+
+  -- with commas between
+  pub plain_trees : Trees → List ℕ
+  plain_trees none = []
+  plain_trees (one x xs) = plain_tree x ++ plain_more xs
+
+  -- with a comma before each
+  pub plain_more : Trees → List ℕ
+  plain_more none = []
+  plain_more (one x xs) = codes "," ++ plain_tree x ++ plain_more xs
+
+abbrev pub plain_part : Part → List ℕ
+plain_part p = upper p.keyword ++ codes "(" ++ plain_trees p.values ++ codes ")"
+
+abbrev pub plain_parts : List Part → List ℕ
+plain_parts [] = []
+plain_parts (p ∷ ps) = plain_part p ++ plain_parts ps
+
+abbrev pub plain_form : Form → List ℕ
+plain_form (internal p) = plain_part p
+plain_form (external ps) = codes "(" ++ plain_parts ps ++ codes ")"
+
+-- the line of an instance
+abbrev pub plain_row : Row → List ℕ
+plain_row r = plain_name r.name ++ codes "=" ++ plain_form r.form ++ codes ";\n"
+
+abbrev pub plain_rows : List Row → List ℕ
+plain_rows [] = []
+plain_rows (r ∷ rs) = plain_row r ++ plain_rows rs
+
+-- the normal text: the front as it stands, then a line for each instance in the data section
+abbrev pub plain_text : List ℕ → List Row → List ℕ
+plain_text front rows = front ++ codes "\nDATA;\n" ++ plain_rows rows ++ codes "ENDSEC;\nEND-ISO-10303-21;\n"
+
+-- the token as the normal text spells it
+abbrev pub normal_word : Word → Word
+normal_word (keyword text) = keyword (upper text)
+normal_word (user_defined text) = user_defined (upper text)
+normal_word (name n text) = name n (plain_name n)
+normal_word (element text) = element (upper text)
+normal_word w = w
+
+abbrev mutual
+  pub normal_tree : Tree → Tree
+  normal_tree (leaf w) = leaf (normal_word w)
+  normal_tree (typed text x) = typed (upper text) (normal_tree x)
+  normal_tree (group xs) = group (normal_trees xs)
+
+  pub normal_trees : Trees → Trees
+  normal_trees none = none
+  normal_trees (one x xs) = one (normal_tree x) (normal_trees xs)
+
+abbrev pub normal_part : Part → Part
+normal_part p = record { keyword = upper p.keyword; values = normal_trees p.values }
+
+abbrev pub normal_form : Form → Form
+normal_form (internal p) = internal (normal_part p)
+normal_form (external ps) = external (map normal_part ps)
+
+abbrev pub normal_row : Row → Row
+normal_row r = record { name = r.name; form = normal_form r.form }
+
+-- the instances as the normal text says them
+abbrev pub normal_rows : List Row → List Row
+normal_rows rows = map normal_row rows
+
+-- The normal text of what a text reads as reads as the same: the same front, and the instances with only
+-- the case of words and the spelling of names changed.
+abbrev pub NormalReadsAgain : Type 0
+NormalReadsAgain = (text front : List ℕ) (x : File) → ReadsAs text front x → ReadsAs (plain_text front x.rows) front (record { header = x.header; rows = normal_rows x.rows })
+
+-- .. and its own normal text is the same text
+abbrev pub NormalStays : Type 0
+NormalStays = (front : List ℕ) (rows : List Row) → plain_text front (normal_rows rows) ≡ plain_text front rows

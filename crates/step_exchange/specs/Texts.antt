@@ -1,0 +1,149 @@
+-- What exchange structure a text reads as, and the fault that shows first where it reads as none
+-- (ISO 10303-21, 5 to 11).
+use Rattle.std.specs.Prelude.{◌≡◌, ℕ, ◌+◌, ◌-◌, true, false, List, [], ◌∷◌, ◌++◌, take, drop, codes, ◌⊎◌}
+use Rattle.step_lexis.specs.declared.token.Mark.TheVariants.{Open, Semicolon}
+use Rattle.step_lexis.specs.Reading.{Reading, Reaches, start}
+use Rattle.step_exchange.specs.declared.fault.Kind.{Kind}
+use Rattle.step_exchange.specs.declared.fault.Kind.TheVariants as kinds
+use Rattle.step_exchange.specs.declared.fault.LeftOut.{LeftOut}
+use Rattle.step_exchange.specs.declared.fault.TextFault.{TextFault}
+use Rattle.step_exchange.specs.declared.fault.TextFault.TheVariants as faults
+use Rattle.step_exchange.specs.declared.fault.LeftOut.TheVariants.{UserDefined, Scope, Anchor, Reference, Signature, Sections, TooMany}
+use Rattle.step_exchange.specs.Words.{keyword, user_defined, scope, mark, Sight, token, flawed, Seen, Shows, ShowsAll}
+use Rattle.step_exchange.specs.Trees.{Part, File, Item, this, says, Begins, is_said, items_of_part, items_of_records, items_of_start, items_of_header, items_of_data, items_of_end, items_of_file}
+use Rattle.step_exchange.specs.Fits.{Rules, the_rules, FitsFile, FitsHeader, FitsRecords, IsHeader, HasSchema, NamesSchema, Where}
+
+-- from one place of a text to another stands what the items ask for
+abbrev pub Reads : Reading → List Item → Reading → Type 0
+Reads old items new = (s : List Seen) × ShowsAll old s new × Begins s items []
+
+-- The text reads as this structure, and its front, from the first token through the semicolon of the
+-- header's end, is these bytes.
+pub record ReadsAs (text front : List ℕ) (x : File) : Type 0 where
+  pub fits : FitsFile the_rules x
+  pub schema : HasSchema x.header
+  pub headed : Reading
+  pub end : Reading
+  pub header : Reads (start text) (items_of_header x.header) headed
+  pub rows : Reads headed (items_of_data x.rows ++ items_of_end) end
+  pub first : ℕ
+  pub begins : Reaches (start text) first
+  pub front_is : front ≡ take (headed.place - first) (drop first text)
+
+-- the header up to its third record, whose semicolon is still to come
+abbrev pub items_of_opening : Part → Part → Part → List Item
+items_of_opening p q r = items_of_start ++ items_of_records (p ∷ q ∷ []) ++ items_of_part r
+
+-- once the semicolon of the three records stands among the tokens, the third one names one schema
+abbrev pub HoldsSchema : Rules → List Seen → Type 0
+HoldsSchema rules s = (p q r : Part) (rest : List Seen) → FitsRecords rules (p ∷ q ∷ r ∷ []) → IsHeader (p ∷ q ∷ r ∷ []) → Begins s (items_of_opening p q r ++ this (mark Semicolon) ∷ []) rest → NamesSchema r.values
+
+-- the tokens so far are the front of some structure's
+pub record IsFront (rules : Rules) (s : List Seen) : Type 0 where
+  pub rest : List Seen
+  pub file : File
+  pub fits : FitsFile rules file
+  pub tokens : Begins (s ++ rest) (items_of_file file) []
+  pub schema : Where rules.headed (HoldsSchema rules s)
+
+-- the tokens so far are a header, or a header and a data section, or a whole structure
+abbrev pub EndsHeader : List Seen → Type 0
+EndsHeader s = (header : List Part) × FitsHeader the_rules header × Begins s (items_of_header header) []
+
+abbrev pub EndsData : List Seen → Type 0
+EndsData s = (file : File) × FitsFile the_rules file × Begins s (items_of_header file.header ++ items_of_data file.rows) []
+
+abbrev pub EndsFile : List Seen → Type 0
+EndsFile s = (rest : Seen) × (file : File) × FitsFile the_rules file × Begins (s ++ rest ∷ []) (items_of_file file) []
+
+-- the word for a data section came, and nothing behind it
+abbrev pub BeginsData : List Seen → Type 0
+BeginsData s = (header : List Part) × FitsHeader the_rules header × Begins s (items_of_header header ++ says (codes "DATA") ∷ []) []
+
+abbrev pub IsWord : List ℕ → Sight → Type 0
+IsWord word (token (keyword text)) = is_said word text ≡ true
+IsWord word _ = ⊥
+
+-- another section could begin, or the file end
+abbrev pub IsBetween : List Seen → Type 0
+IsBetween s = EndsHeader s ⊎ EndsData s
+
+-- a part of the standard that isn't read begins with this token
+abbrev pub IsLeftOut : List Seen → Sight → LeftOut → Type 0
+IsLeftOut before (token (user_defined text)) UserDefined = Unit {0}
+IsLeftOut before (token scope) Scope = Unit {0}
+IsLeftOut before at Anchor = IsWord (codes "ANCHOR") at × IsBetween before
+IsLeftOut before at Reference = IsWord (codes "REFERENCE") at × IsBetween before
+IsLeftOut before at Signature = IsWord (codes "SIGNATURE") at × (IsBetween before ⊎ EndsFile before)
+IsLeftOut before at Sections = (IsWord (codes "DATA") at × EndsData before) ⊎ ((at ≡ token (mark Open)) × BeginsData before)
+IsLeftOut before at _ = ⊥
+
+abbrev pub more_levels : Rules
+more_levels = record the_rules { levels = the_rules.levels + 1 }
+
+abbrev pub more_instances : Rules
+more_instances = record the_rules { instances = the_rules.instances + 1 }
+
+abbrev pub repeated : Rules
+repeated = record more_instances { distinct = false }
+
+abbrev pub unheaded : Rules
+unheaded = record the_rules { headed = false }
+
+-- A token that can't stand behind those before it has this kind of fault: one that a rule rules out would
+-- stand without the rule.
+abbrev pub IsDue : List Seen → Seen → Kind → Type 0
+IsDue before at (kinds.Token flaw) = at.sight ≡ flawed flaw
+IsDue before at kinds.DuplicateName = IsFront repeated (before ++ at ∷ []) × (IsFront more_instances (before ++ at ∷ []) → ⊥)
+IsDue before at (kinds.LeftOut TooMany) = IsFront more_instances (before ++ at ∷ [])
+IsDue before at (kinds.LeftOut part) = IsLeftOut before at.sight part
+IsDue before at kinds.TooDeep = IsFront more_levels (before ++ at ∷ [])
+IsDue before at kinds.HeaderFault = IsFront unheaded (before ++ at ∷ [])
+IsDue before at kinds.Expected = Unit {0}
+
+-- .. and another token is expected only where no other kind of fault is due
+abbrev pub IsKind : List Seen → Seen → Kind → Type 0
+IsKind before at kinds.Expected = (kind : Kind) → (kind ≡ kinds.Expected → ⊥) → IsDue before at kind → ⊥
+IsKind before at kind = IsDue before at kind
+
+-- the place of a token, but for the parameters of FILE_SCHEMA: that of its keyword
+pub data IsPlace (before : List Seen) (at : Seen) (kind : Kind) (place : ℕ) : Type 0 where
+  own_place : (kind ≡ kinds.HeaderFault → at.sight ≡ token (mark Semicolon) → ⊥) → place ≡ at.place → IsPlace before at kind place
+  place_of_schema : (kind ≡ kinds.HeaderFault) → at.sight ≡ token (mark Semicolon) → (earlier inner : List Seen) (key : Seen) (p q : Part)
+      → before ≡ earlier ++ key ∷ inner → FitsRecords the_rules (p ∷ q ∷ []) → Begins earlier (items_of_start ++ items_of_records (p ∷ q ∷ [])) [] → place ≡ key.place → IsPlace before at kind place
+
+-- The fault that shows first: what stands there is the first with which the tokens so far are no front.
+pub record IsFirstFault (text : List ℕ) (kind : Kind) (place : ℕ) : Type 0 where
+  pub before : List Seen
+  pub at : Seen
+  pub here : Reading
+  pub next : Reading
+  pub read : ShowsAll (start text) before here
+  pub shown : Shows here at next
+  pub viable : IsFront the_rules before
+  -- they aren't a whole structure's
+  pub unended : (x : File) → FitsFile the_rules x → Begins before (items_of_file x) [] → ⊥
+  pub refused : IsFront the_rules (before ++ at ∷ []) → ⊥
+  pub kind_is : IsKind before at kind
+  pub place_is : IsPlace before at kind place
+
+-- A fault of a text is its first one; memory may always run out.
+abbrev pub IsFaultOf : List ℕ → TextFault → Type 0
+IsFaultOf text faults.Memory = Unit {0}
+IsFaultOf text (faults.Fault kind place) = IsFirstFault text kind place
+
+abbrev pub IsMemory : TextFault → Type 0
+IsMemory faults.Memory = Unit {0}
+IsMemory (faults.Fault kind place) = ⊥
+
+-- A text reads as one structure at most.
+abbrev pub ReadsOnce : Type 0
+ReadsOnce = (text front other : List ℕ) (x y : File) → ReadsAs text front x → ReadsAs text other y → (front ≡ other) × (x ≡ y)
+
+-- A text that reads as a structure has no fault.
+abbrev pub ReadsWithoutFault : Type 0
+ReadsWithoutFault = (text front : List ℕ) (x : File) (kind : Kind) (place : ℕ) → ReadsAs text front x → IsFirstFault text kind place → ⊥
+
+-- A text has one first fault at most: one kind, at one place.
+abbrev pub FaultsOnce : Type 0
+FaultsOnce = (text : List ℕ) (kind other : Kind) (place elsewhere : ℕ) → IsFirstFault text kind place → IsFirstFault text other elsewhere → (kind ≡ other) × (place ≡ elsewhere)

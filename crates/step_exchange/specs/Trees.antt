@@ -1,0 +1,129 @@
+-- Exchange structures as trees, and the tokens that they are written out as (ISO 10303-21, 7 to 11).
+use Rattle.std.specs.Prelude.{◌≡◌, ℕ, Bool, true, List, [], ◌∷◌, ◌++◌, codes}
+use Rattle.std.specs.Str.{str_eq_ignore_ascii_case}
+use Rattle.step_lexis.specs.declared.token.Mark.TheVariants.{Open, Close, Comma, Semicolon, Equals}
+use Rattle.step_exchange.specs.Words.{Word, keyword, name, mark, begins, ends, Sight, token, over, Seen}
+
+-- a parameter: one token, a typed parameter, or a list
+mutual
+  pub data Tree : Type 0 where
+    leaf : Word → Tree
+    typed : List ℕ → Tree → Tree
+    group : Trees → Tree
+
+  pub data Trees : Type 0 where
+    none : Trees
+    one : Tree → Trees → Trees
+
+-- a record of the header, an internally mapped instance, or a partial record of an external one
+pub record Part : Type 0 where
+  pub keyword : List ℕ
+  pub values : Trees
+
+pub data Form : Type 0 where
+  internal : Part → Form
+  external : List Part → Form
+
+-- an instance
+pub record Row : Type 0 where
+  pub name : ℕ
+  pub form : Form
+
+-- an exchange structure: the records of the header, and the instances
+pub record File : Type 0 where
+  pub header : List Part
+  pub rows : List Row
+
+-- what a tree asks for at a place of a text
+pub data Item : Type 0 where
+  -- this very token
+  this : Word → Item
+  -- this keyword, whatever the case of its letters
+  says : List ℕ → Item
+  -- a name with this number, however it is spelt
+  named : ℕ → Item
+  -- the end of the text
+  finish : Item
+
+-- a keyword is this word
+abbrev pub is_said : List ℕ → List ℕ → Bool
+is_said word text = str_eq_ignore_ascii_case word text
+
+abbrev pub Meets : Sight → Item → Type 0
+Meets (token w) (this v) = w ≡ v
+Meets (token (keyword text)) (says word) = is_said word text ≡ true
+Meets (token (name n text)) (named m) = n ≡ m
+Meets over finish = Unit {0}
+Meets _ _ = ⊥
+
+-- s begins with what the items ask for, and rest is behind it
+abbrev pub Begins : List Seen → List Item → List Seen → Type 0
+Begins s [] rest = s ≡ rest
+Begins [] (i ∷ items) rest = ⊥
+Begins (t ∷ s) (i ∷ items) rest = Meets t.sight i × Begins s items rest
+
+abbrev mutual
+  pub items_of_tree : Tree → List Item
+  items_of_tree (leaf w) = this w ∷ []
+  items_of_tree (typed text x) = this (keyword text) ∷ this (mark Open) ∷ (items_of_tree x ++ this (mark Close) ∷ [])
+  items_of_tree (group xs) = this (mark Open) ∷ (items_of_trees xs ++ this (mark Close) ∷ [])
+
+  -- with commas between
+  pub items_of_trees : Trees → List Item
+  items_of_trees none = []
+  items_of_trees (one x xs) = items_of_tree x ++ items_of_more xs
+
+  -- with a comma before each
+  pub items_of_more : Trees → List Item
+  items_of_more none = []
+  items_of_more (one x xs) = this (mark Comma) ∷ (items_of_tree x ++ items_of_more xs)
+
+-- the parameters and the closing parenthesis
+abbrev pub items_of_list : Trees → List Item
+items_of_list xs = items_of_trees xs ++ this (mark Close) ∷ []
+
+abbrev pub items_of_part : Part → List Item
+items_of_part p = this (keyword p.keyword) ∷ this (mark Open) ∷ items_of_list p.values
+
+abbrev pub items_of_parts : List Part → List Item
+items_of_parts [] = []
+items_of_parts (p ∷ ps) = items_of_part p ++ items_of_parts ps
+
+abbrev pub items_of_form : Form → List Item
+items_of_form (internal p) = items_of_part p
+items_of_form (external ps) = this (mark Open) ∷ (items_of_parts ps ++ this (mark Close) ∷ [])
+
+abbrev pub items_of_row : Row → List Item
+items_of_row r = named r.name ∷ this (mark Equals) ∷ (items_of_form r.form ++ this (mark Semicolon) ∷ [])
+
+abbrev pub items_of_rows : List Row → List Item
+items_of_rows [] = []
+items_of_rows (r ∷ rs) = items_of_row r ++ items_of_rows rs
+
+-- each record of the header with a semicolon behind it
+abbrev pub items_of_records : List Part → List Item
+items_of_records [] = []
+items_of_records (p ∷ ps) = items_of_part p ++ this (mark Semicolon) ∷ items_of_records ps
+
+-- the keyword of a section or of its end
+abbrev pub section : List ℕ → List Item
+section word = says word ∷ this (mark Semicolon) ∷ []
+
+-- up to the first record of the header
+abbrev pub items_of_start : List Item
+items_of_start = this begins ∷ this (mark Semicolon) ∷ section (codes "HEADER")
+
+-- the header, with what begins the file
+abbrev pub items_of_header : List Part → List Item
+items_of_header ps = items_of_start ++ items_of_records ps ++ section (codes "ENDSEC")
+
+-- the data section
+abbrev pub items_of_data : List Row → List Item
+items_of_data rs = section (codes "DATA") ++ items_of_rows rs ++ section (codes "ENDSEC")
+
+-- the end of the file
+abbrev pub items_of_end : List Item
+items_of_end = this ends ∷ this (mark Semicolon) ∷ finish ∷ []
+
+abbrev pub items_of_file : File → List Item
+items_of_file x = items_of_header x.header ++ items_of_data x.rows ++ items_of_end

@@ -1,0 +1,69 @@
+-- Tokens as contracts see them, and what a lexer shows of a text.
+use Rattle.std.specs.Prelude.{◌≡◌, ℕ, List, [], ◌∷◌, length}
+use Rattle.step_lexis.specs.declared.token.Mark.{Mark}
+use Rattle.step_lexis.specs.declared.token.Sort.{Sort}
+use Rattle.step_lexis.specs.declared.token.Sort.TheVariants as sorts
+use Rattle.step_lexis.specs.declared.token.Token.{Token}
+use Rattle.step_lexis.specs.declared.fault.Flaw.{Flaw}
+use Rattle.step_lexis.specs.declared.fault.TextFault.{TextFault}
+use Rattle.step_lexis.specs.Reading.{Reading, Takes, IsAtEnd, IsFaulty}
+
+-- a token without its place; literals are as they are spelt, an element is what stands between its dots
+pub data Word : Type 0 where
+  begins : Word
+  ends : Word
+  keyword : List ℕ → Word
+  user_defined : List ℕ → Word
+  scope : Word
+  name : ℕ → List ℕ → Word
+  number : List ℕ → Word
+  element : List ℕ → Word
+  string : List ℕ → Word
+  binary : List ℕ → Word
+  mark : Mark → Word
+
+-- the word that a token of this kind is, which is spelt like this
+abbrev pub word_of : Sort → List ℕ → Word
+word_of sorts.Begin text = begins
+word_of sorts.End text = ends
+word_of (sorts.Keyword w) text = keyword w.text.now
+word_of (sorts.UserDefined w) text = user_defined w.text.now
+word_of sorts.Scope text = scope
+word_of (sorts.Name n) text = name n text
+word_of (sorts.Integer d) text = number d.text.now
+word_of (sorts.Real d) text = number d.text.now
+word_of (sorts.Element w) text = element w.text.now
+word_of (sorts.String s) text = string s.text.now
+word_of (sorts.Binary b) text = binary b.text.now
+word_of (sorts.Mark m) text = mark m
+
+-- what may stand at a place of a text: a token, something that is none, or the end
+pub data Sight : Type 0 where
+  token : Word → Sight
+  flawed : Flaw → Sight
+  over : Sight
+
+-- what stands in a text, and how many bytes come before it, or before its fault
+pub record Seen : Type 0 where
+  pub sight : Sight
+  pub place : ℕ
+
+abbrev pub seen : Token → Seen
+seen t = record { sight = token (word_of t.sort t.text.now); place = t.place }
+
+abbrev pub seen_fault : TextFault → Seen
+seen_fault f = record { sight = flawed f.flaw; place = f.place }
+
+abbrev pub seen_end : Reading → Seen
+seen_end r = record { sight = over; place = length r.text }
+
+-- this is what a lexer shows next, and how far the text is read then
+pub data Shows (old : Reading) (s : Seen) (new : Reading) : Type 0 where
+  shows_token : (t : Token) → Takes old t new → s ≡ seen t → Shows old s new
+  shows_fault : (f : TextFault) → IsFaulty old f new → s ≡ seen_fault f → Shows old s new
+  shows_end : IsAtEnd old new → s ≡ seen_end old → Shows old s new
+
+-- these are what a lexer shows in turn
+abbrev pub ShowsAll : Reading → List Seen → Reading → Type 0
+ShowsAll old [] new = old ≡ new
+ShowsAll old (s ∷ rest) new = (next : Reading) × Shows old s next × ShowsAll next rest new

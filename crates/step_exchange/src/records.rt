@@ -1,0 +1,153 @@
+//! Instances, read from tokens (ISO 10303-21, 11).
+
+ghost use Rattle.std.specs.Prelude.{◌≡◌, false, [], ◌∷◌, MatchResult, map, codes};
+ghost use Rattle.step_lexis.specs.declared.token.Mark.TheVariants.{Close};
+ghost use Rattle.step_exchange.specs.Words.{seen};
+ghost use Rattle.step_exchange.specs.Fits;
+ghost use Rattle.step_exchange.specs.Predict;
+ghost use Rattle.std.specs.List.{list_any};
+ghost use Rattle.step_exchange.specs.Trees;
+ghost use Rattle.step_exchange.specs.Views.{part_of, form_of, row_of};
+ghost use Rattle.step_exchange.specs.Predict.{Body, Parts, Rows, StopsIn, TakesPartial, TakesParts, TakesForm, TakesRow, TakesRows, IsNextName, IsNoName, AtMost, keywords_of, names_of, row_symbols};
+
+use crate::fault::{Kind, LeftOut, TextFault};
+use crate::params::record_params;
+use crate::tokens::{expect, fault_at, is_mark, is_said, is_word, refuse, take};
+use crate::tree::{Form, Part};
+use indexmap::IndexMap;
+use std::alloc::Global;
+use step_lexis::lexer::Lexer;
+use step_lexis::literal::Word;
+use step_lexis::token::{Mark, Sort, Token};
+
+/// So many instances may stand.
+const INSTANCES: usize = 0xFFFF_FFFF;
+
+/// Whether one of the partial records has this keyword, whatever the case of its letters.
+fn has_keyword(parts: &[Part<'_>], keyword: Word<'_>) -> bool
+    ensures { result ≡ list_any (λ p. Trees.is_said p.keyword.text.now keyword.entry.text.now) parts.now }
+{
+    parts
+        .iter()
+        .any(|part| is_said(keyword, part.keyword.spelling()))
+}
+
+/// The partial record that begins with this token, behind others.
+fn partial<'a>(
+    alloc: Global,
+    lexer: &mut Lexer<'a>,
+    first: Token<'a>,
+    parts: &[Part<'a>],
+) -> Result<Part<'a>, TextFault>
+    requires { Predict.is_mark Close (seen first).sight ≡ false }
+    ensures { MatchResult result
+        (λ p. TakesPartial (keywords_of (map part_of parts.now)) (seen first.entry) lexer.old (part_of p) lexer.new)
+        (λ e. StopsIn e (Parts (keywords_of (map part_of parts.now)) ∷ []) (seen first.entry ∷ []) lexer.old) }
+{
+    let Sort::Keyword(keyword) = first.sort else {
+        return Err(refuse(first));
+    };
+    if has_keyword(parts, keyword) {
+        return Err(fault_at(Kind::DuplicateName, first));
+    }
+    let params = record_params(alloc, lexer, 1)?;
+    Ok(Part { keyword, params })
+}
+
+/// The partial records of an external one behind its parenthesis, and the closing one.
+fn partials<'a>(alloc: Global, lexer: &mut Lexer<'a>) -> Result<Vec<Part<'a>>, TextFault>
+    ensures { MatchResult result (λ ps. TakesParts lexer.old (map part_of ps.items) lexer.new) (λ e. StopsIn e (Parts [] ∷ []) [] lexer.old) }
+{
+    let mut parts: Vec<Part<'a>> = Vec::new(alloc);
+    loop {
+        let token = take(lexer)?;
+        if is_mark(token, Mark::Close) {
+            if parts.is_empty() {
+                return Err(refuse(token));
+            }
+            return Ok(parts);
+        }
+        let part = partial(alloc, lexer, token, &parts)?;
+        parts.push(part)?;
+    }
+}
+
+/// What stands for an instance behind its `=`.
+fn form<'a>(alloc: Global, lexer: &mut Lexer<'a>) -> Result<Form<'a>, TextFault>
+    ensures { MatchResult result (λ f. TakesForm lexer.old (form_of f) lexer.new) (λ e. StopsIn e (Body ∷ []) [] lexer.old) }
+{
+    let first = take(lexer)?;
+    if is_mark(first, Mark::Open) {
+        let parts = partials(alloc, lexer)?;
+        return Ok(Form::External(parts));
+    }
+    let Sort::Keyword(keyword) = first.sort else {
+        return Err(refuse(first));
+    };
+    let params = record_params(alloc, lexer, 0)?;
+    Ok(Form::Internal(Part { keyword, params }))
+}
+
+/// What stands for an instance behind its name.
+fn row<'a>(alloc: Global, lexer: &mut Lexer<'a>) -> Result<Form<'a>, TextFault>
+    ensures { MatchResult result (λ f. TakesRow lexer.old (form_of f) lexer.new) (λ e. StopsIn e row_symbols [] lexer.old) }
+{
+    expect(lexer, Mark::Equals)?;
+    let form = form(alloc, lexer)?;
+    expect(lexer, Mark::Semicolon)?;
+    Ok(form)
+}
+
+/// Whether one of the instances has this name, where none has a name beyond the greatest. Names rise in
+/// most files, and then none is looked up.
+fn has_name(records: &IndexMap<u64, Form<'_>>, greatest: u64, name: u64) -> bool
+    requires { AtMost greatest (names_of (map row_of records.now.entries)) }
+    ensures { result ≡ Fits.has_name name (names_of (map row_of records.now.entries)) }
+{
+    if name > greatest {
+        return false;
+    }
+    records.contains_key(&name)
+}
+
+/// The name of one more instance, if it is none of those that stand already.
+fn next_name(
+    records: &IndexMap<u64, Form<'_>>,
+    greatest: u64,
+    token: Token<'_>,
+) -> Result<u64, TextFault>
+    requires bound { AtMost greatest (names_of (map row_of records.now.entries)) }
+    requires more { Predict.is_word (codes "ENDSEC") (seen token).sight ≡ false }
+    ensures { MatchResult result
+        (λ n. IsNextName (names_of (map row_of records.now.entries)) (seen token.entry) n)
+        (λ e. IsNoName (names_of (map row_of records.now.entries)) (seen token.entry) e) }
+{
+    let Sort::Name(name) = token.sort else {
+        return Err(refuse(token));
+    };
+    if has_name(records, greatest, name) {
+        return Err(fault_at(Kind::DuplicateName, token));
+    }
+    if records.len() >= INSTANCES {
+        return Err(fault_at(Kind::LeftOut(LeftOut::TooMany), token));
+    }
+    Ok(name)
+}
+
+/// The instances up to the word that ends them.
+pub fn rows<'a>(alloc: Global, lexer: &mut Lexer<'a>) -> Result<IndexMap<u64, Form<'a>>, TextFault>
+    ensures { MatchResult result (λ m. TakesRows lexer.old (map row_of m.entries) lexer.new) (λ e. StopsIn e (Rows [] ∷ []) [] lexer.old) }
+{
+    let mut records: IndexMap<u64, Form<'a>> = IndexMap::new(alloc);
+    let mut greatest = 0;
+    loop {
+        let token = take(lexer)?;
+        if is_word(token, b"ENDSEC") {
+            return Ok(records);
+        }
+        let name = next_name(&records, greatest, token)?;
+        let form = row(alloc, lexer)?;
+        records.insert(name, form)?;
+        greatest = greatest.max(name);
+    }
+}

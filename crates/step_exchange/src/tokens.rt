@@ -1,0 +1,117 @@
+//! The tokens of a text, one at a time.
+
+ghost use Rattle.std.specs.Prelude.{◌≡◌, ◌+◌, [], ◌∷◌, MatchResult};
+ghost use Rattle.step_lexis.specs.Reading.{Takes};
+ghost use Rattle.step_exchange.specs.declared.fault.TextFault.TheVariants.{Fault};
+ghost use Rattle.step_exchange.specs.Words.{mark, seen};
+ghost use Rattle.step_exchange.specs.Trees;
+ghost use Rattle.step_exchange.specs.Trees.{this, says};
+ghost use Rattle.step_exchange.specs.Texts.{Reads};
+ghost use Rattle.step_exchange.specs.Predict;
+ghost use Rattle.step_exchange.specs.Predict.{Symbol, Just, Say, Over, StopsIn, refused};
+
+use crate::fault::{Kind, LeftOut, TextFault};
+use step_lexis::lexer::Lexer;
+use step_lexis::literal::Word;
+use step_lexis::token::{Mark, Sort, Token};
+
+/// The next token, where the text doesn't end.
+pub fn take<'a>(lexer: &mut Lexer<'a>) -> Result<Token<'a>, TextFault>
+    ensures { MatchResult result (λ t. Takes lexer.old t lexer.new) (λ e. (y : Symbol) → (y ≡ Over → ⊥) → StopsIn e (y ∷ []) [] lexer.old) }
+{
+    match lexer.next_token() {
+        Ok(Some(token)) => Ok(token),
+        Ok(None) => Err(TextFault::Fault {
+            kind: Kind::Expected,
+            place: lexer.place(),
+        }),
+        Err(fault) => Err(TextFault::Fault {
+            kind: Kind::Token(fault.flaw),
+            place: fault.place,
+        }),
+    }
+}
+
+/// A fault at a token.
+pub fn fault_at(kind: Kind, at: Token<'_>) -> TextFault
+    ensures { result ≡ Fault kind at.entry.place }
+{
+    TextFault::Fault {
+        kind,
+        place: at.place,
+    }
+}
+
+/// The fault at a token that can't stand where it stands.
+pub fn refuse(token: Token<'_>) -> TextFault
+    ensures { result ≡ Fault (refused (seen token.entry).sight) token.entry.place }
+{
+    match token.sort {
+        Sort::UserDefined(_) => fault_at(Kind::LeftOut(LeftOut::UserDefined), token),
+        Sort::Scope => fault_at(Kind::LeftOut(LeftOut::Scope), token),
+        _ => fault_at(Kind::Expected, token),
+    }
+}
+
+/// Whether a keyword is this word, whatever the case of its letters.
+pub fn is_said(keyword: Word<'_>, word: &[u8]) -> bool
+    ensures { result ≡ Trees.is_said word.now keyword.entry.text.now }
+{
+    keyword.spelling().eq_ignore_ascii_case(word)
+}
+
+fn mark_code(mark: Mark) -> u8
+    ensures { result ≡ Predict.mark_code mark }
+{
+    match mark {
+        Mark::Open => 0,
+        Mark::Close => 1,
+        Mark::Comma => 2,
+        Mark::Semicolon => 3,
+        Mark::Equals => 4,
+        Mark::Dollar => 5,
+        Mark::Asterisk => 6,
+    }
+}
+
+/// Whether a token is this mark.
+pub fn is_mark(token: Token<'_>, wanted: Mark) -> bool
+    ensures { result ≡ Predict.is_mark wanted (seen token.entry).sight }
+{
+    match token.sort {
+        Sort::Mark(found) => mark_code(wanted) == mark_code(found),
+        _ => false,
+    }
+}
+
+/// Whether a token is this keyword.
+pub fn is_word(token: Token<'_>, word: &[u8]) -> bool
+    ensures { result ≡ Predict.is_word word.now (seen token.entry).sight }
+{
+    match token.sort {
+        Sort::Keyword(keyword) => is_said(keyword, word),
+        _ => false,
+    }
+}
+
+/// Reads this mark.
+pub fn expect(lexer: &mut Lexer<'_>, wanted: Mark) -> Result<(), TextFault>
+    ensures { MatchResult result (λ _. Reads lexer.old (this (mark wanted) ∷ []) lexer.new) (λ e. StopsIn e (Just wanted ∷ []) [] lexer.old) }
+{
+    let token = take(lexer)?;
+    if !is_mark(token, wanted) {
+        return Err(refuse(token));
+    }
+    Ok(())
+}
+
+/// Reads this keyword.
+pub fn expect_word(lexer: &mut Lexer<'_>, word: &[u8]) -> Result<(), TextFault>
+    ensures { MatchResult result (λ _. Reads lexer.old (says word.now ∷ []) lexer.new) (λ e. StopsIn e (Say word.now ∷ []) [] lexer.old) }
+{
+    let token = take(lexer)?;
+    if !is_word(token, word) {
+        return Err(refuse(token));
+    }
+    Ok(())
+}

@@ -1,0 +1,170 @@
+//! The normal text of an exchange structure.
+
+ghost use Rattle.std.specs.Prelude.{◌≡◌, ◌++◌, false, map, codes, is_err};
+ghost use Rattle.std.specs.Char.{is_ascii_lowercase};
+ghost use Rattle.std.specs.List.{list_any};
+ghost use Rattle.step_exchange.specs.Prints.{Prints};
+ghost use Rattle.step_exchange.specs.Emits.{Emits};
+ghost use Rattle.step_exchange.specs.Views.{tree_of, trees_of, part_of, form_of, row_of};
+ghost use Rattle.step_exchange.specs.Normal.{upper, plain_name, plain_tree, plain_trees, plain_part, plain_parts, plain_form, plain_row, plain_rows, plain_text};
+
+use crate::device::{Sink, WriteFault};
+use crate::exchange::Exchange;
+use crate::printer::Printer;
+use crate::tree::{Form, Param, Part};
+use indexmap::IndexMap;
+
+// Whether a byte of the word is a letter in lower case.
+fn has_lowercase(word: &[u8]) -> bool
+    ensures { result ≡ list_any is_ascii_lowercase word.now }
+{
+    word.iter().any(|byte| byte.is_ascii_lowercase())
+}
+
+// A word in upper case, byte by byte.
+fn print_raised<S: Sink>(printer: &mut Printer, out: &mut S, word: &[u8])
+    ensures { Prints S.held S.has_failed out.old out.new printer.old printer.new (upper word.now) }
+{
+    for byte in word {
+        printer.print_byte(out, byte.to_ascii_uppercase());
+    }
+}
+
+// A word in upper case. Most stand so already, and go out whole.
+fn print_upper<S: Sink>(printer: &mut Printer, out: &mut S, word: &[u8])
+    ensures { Prints S.held S.has_failed out.old out.new printer.old printer.new (upper word.now) }
+{
+    if has_lowercase(word) {
+        print_raised(printer, out, word);
+    } else {
+        printer.print(out, word);
+    }
+}
+
+// An element of an enumeration.
+fn print_element<S: Sink>(printer: &mut Printer, out: &mut S, word: &[u8])
+    ensures { Prints S.held S.has_failed out.old out.new printer.old printer.new (codes "." ++ upper word.now ++ codes ".") }
+{
+    printer.print_byte(out, b'.');
+    print_upper(printer, out, word);
+    printer.print_byte(out, b'.');
+}
+
+// The name of an instance, or a reference to it.
+fn print_name<S: Sink>(printer: &mut Printer, out: &mut S, name: u64)
+    ensures { Prints S.held S.has_failed out.old out.new printer.old printer.new (plain_name name) }
+{
+    let mut digits = itoa::Buffer::new();
+    printer.print_byte(out, b'#');
+    printer.print(out, digits.format(name).as_bytes());
+}
+
+// A parameter; a literal as it is spelt.
+#[cycle(params)]
+fn print_param<S: Sink>(printer: &mut Printer, out: &mut S, param: &Param<'_>)
+    ensures { Prints S.held S.has_failed out.old out.new printer.old printer.new (plain_tree (tree_of param.now)) }
+{
+    match param {
+        Param::Unset => printer.print_byte(out, b'$'),
+        Param::Star => printer.print_byte(out, b'*'),
+        Param::Number(number) => printer.print(out, number.spelling()),
+        Param::Text(text) => printer.print(out, text.spelling()),
+        Param::Bits(bits) => printer.print(out, bits.spelling()),
+        Param::Element(word) => print_element(printer, out, word.spelling()),
+        Param::Reference(name, _) => print_name(printer, out, *name),
+        Param::Typed(keyword, inner) => {
+            print_upper(printer, out, keyword.spelling());
+            printer.print_byte(out, b'(');
+            print_param(printer, out, inner);
+            printer.print_byte(out, b')');
+        }
+        Param::List(params) => {
+            printer.print_byte(out, b'(');
+            print_params(printer, out, params);
+            printer.print_byte(out, b')');
+        }
+    }
+}
+
+// Parameters, with commas between.
+#[cycle(params)]
+fn print_params<S: Sink>(printer: &mut Printer, out: &mut S, params: &[Param<'_>])
+    ensures { Prints S.held S.has_failed out.old out.new printer.old printer.new (plain_trees (trees_of params.now)) }
+{
+    let Some((first, further)) = params.split_first() else {
+        return;
+    };
+    print_param(printer, out, first);
+    for param in further {
+        printer.print_byte(out, b',');
+        print_param(printer, out, param);
+    }
+}
+
+// A keyword and its parameters.
+fn print_part<S: Sink>(printer: &mut Printer, out: &mut S, part: &Part<'_>)
+    ensures { Prints S.held S.has_failed out.old out.new printer.old printer.new (plain_part (part_of part.now)) }
+{
+    print_upper(printer, out, part.keyword.spelling());
+    printer.print_byte(out, b'(');
+    print_params(printer, out, &part.params);
+    printer.print_byte(out, b')');
+}
+
+// Partial records, with nothing between.
+fn print_parts<S: Sink>(printer: &mut Printer, out: &mut S, parts: &[Part<'_>])
+    ensures { Prints S.held S.has_failed out.old out.new printer.old printer.new (plain_parts (map part_of parts.now)) }
+{
+    for part in parts {
+        print_part(printer, out, part);
+    }
+}
+
+// What stands for an instance behind its `=`.
+fn print_form<S: Sink>(printer: &mut Printer, out: &mut S, form: &Form<'_>)
+    ensures { Prints S.held S.has_failed out.old out.new printer.old printer.new (plain_form (form_of form.now)) }
+{
+    match form {
+        Form::Internal(part) => print_part(printer, out, part),
+        Form::External(parts) => {
+            printer.print_byte(out, b'(');
+            print_parts(printer, out, parts);
+            printer.print_byte(out, b')');
+        }
+    }
+}
+
+// The line of an instance.
+fn print_row<S: Sink>(printer: &mut Printer, out: &mut S, name: u64, form: &Form<'_>)
+    ensures { Prints S.held S.has_failed out.old out.new printer.old printer.new (plain_row (row_of (name, form.now))) }
+{
+    print_name(printer, out, name);
+    printer.print_byte(out, b'=');
+    print_form(printer, out, form);
+    printer.print(out, b";\n");
+}
+
+// A line for each instance, in order.
+fn print_rows<S: Sink>(printer: &mut Printer, out: &mut S, records: &IndexMap<u64, Form<'_>>)
+    ensures { Prints S.held S.has_failed out.old out.new printer.old printer.new (plain_rows (map row_of records.now.entries)) }
+{
+    for (name, form) in records.iter() {
+        print_row(printer, out, *name, form);
+    }
+}
+
+/// Writes the normal text of an exchange structure: its front as it stands, and then a line for each
+/// instance, in the order of the file.
+///
+/// Where the sink fails, a front of that text went out, and the fault has its length.
+pub fn write_plain<S: Sink>(exchange: &Exchange<'_>, out: &mut S) -> Result<(), WriteFault>
+    ensures emits { Emits (S.held out.old) (S.held out.new) (plain_text exchange.now.front.now (map row_of exchange.now.records.entries)) result }
+    ensures failed { S.has_failed out.old ≡ false → S.has_failed out.new ≡ is_err result }
+{
+    let mut printer = Printer::new();
+    printer.print(out, exchange.front);
+    printer.print(out, b"\nDATA;\n");
+    print_rows(&mut printer, out, &exchange.records);
+    printer.print(out, b"ENDSEC;\nEND-ISO-10303-21;\n");
+    printer.finish(out)
+}

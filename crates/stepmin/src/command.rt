@@ -1,0 +1,130 @@
+//! The command line, over any store of files and any outputs.
+
+ghost use Rattle.std.specs.Prelude.{◌≡◌, ◌⊎◌, Bool, true, false, OnOk, is_err};
+ghost use Rattle.std.specs.Bool.{if◌then◌else◌};
+ghost use Rattle.std.specs.Io.KnownBytes.{Keeps};
+ghost use Rattle.stepmin.specs.Statuses.{IsStatus, fault_status, outcome_status};
+
+use crate::plain::{Fault, plain};
+use crate::store::Store;
+use crate::usage::{Refusal, Request, read_words};
+use arrayvec::ArrayString;
+use std::alloc::Global;
+use std::fmt::Write;
+use step_exchange::device::{Failed, Sink};
+
+/// The status where all is done.
+pub const DONE: u8 = 0;
+
+/// The status where the text of a file can't be read.
+pub const TEXT: u8 = 2;
+
+/// The status where the words of the command line are wrong.
+pub const USAGE: u8 = 3;
+
+/// The status where a device fails.
+pub const DEVICE: u8 = 4;
+
+/// The status where memory runs out.
+pub const MEMORY: u8 = 5;
+
+// Room for the longest line of a fault.
+const LINE: usize = 128;
+
+/// The exit status for a fault.
+pub fn status_of(fault: &Fault) -> u8
+    ensures { result ≡ fault_status fault.now }
+{
+    match fault {
+        Fault::Text { .. } => TEXT,
+        Fault::File => DEVICE,
+        Fault::Output { .. } => DEVICE,
+        Fault::Memory => MEMORY,
+    }
+}
+
+// Sends all of the text.
+fn send<S: Sink>(out: &mut S, text: &str) -> Result<(), Failed>
+    ensures { S.has_failed out.old ≡ false → S.has_failed out.new ≡ is_err result }
+{
+    let mut rest = text.as_bytes();
+    while !rest.is_empty() {
+        let count = out.put(rest)?;
+        let (_, further) = rest.split_at(count);
+        rest = further;
+    }
+    Ok(())
+}
+
+// Prints the text, and answers the status: this one, or the device's where the text can't be printed.
+fn print<S: Sink>(out: &mut S, text: &str, status: u8) -> u8
+    ensures either { (result ≡ status) ⊎ (result ≡ 4) }
+    ensures failed { S.has_failed out.old ≡ false → result ≡ (if S.has_failed out.new then 4 else status) }
+{
+    match send(out, text) {
+        Ok(()) => status,
+        Err(_) => DEVICE,
+    }
+}
+
+// Prints the line of a fault, and answers the status for what a command came to, or the device's where
+// the line can't be printed.
+fn finish<E: Sink>(outcome: Result<(), Fault>, err: &mut E) -> u8
+    ensures either { (result ≡ outcome_status outcome) ⊎ (result ≡ 4) }
+    ensures failed { E.has_failed err.old ≡ false → result ≡ (if E.has_failed err.new then 4 else outcome_status outcome) }
+    ensures silent { OnOk outcome ((result ≡ 0) × (err.new ≡ err.old)) }
+{
+    match outcome {
+        Ok(()) => DONE,
+        Err(fault) => {
+            let mut line = ArrayString::<LINE>::new();
+            // The line has room.
+            let _ = writeln!(line, "{fault}");
+            print(err, line.as_str(), status_of(&fault))
+        }
+    }
+}
+
+/// Prints why nothing is done, and answers the status: a help text on `out`, and everything else on `err`.
+pub fn refuse<O: Sink, E: Sink>(refusal: Refusal, out: &mut O, err: &mut E) -> u8
+    ensures status { IsStatus result }
+    // Nothing goes out but for a help text, and where a device fails.
+    ensures unwritten { (result ≡ 0) ⊎ (result ≡ 4) ⊎ Keeps (O.held out.old) (O.held out.new) }
+    // Where an output fails, the status says so.
+    ensures out_failed { O.has_failed out.old ≡ false → O.has_failed out.new ≡ true → result ≡ 4 }
+    ensures err_failed { E.has_failed err.old ≡ false → E.has_failed err.new ≡ true → result ≡ 4 }
+{
+    match refusal {
+        Refusal::Help(text) => print(out, text.as_str(), DONE),
+        Refusal::Usage(text) => print(err, text.as_str(), USAGE),
+        Refusal::Memory => finish(Err(Fault::Memory), err),
+    }
+}
+
+/// Runs the command line of these words, the program's own name first, and answers the exit status: 0
+/// where all is done, 2 where the text of a file can't be read, 3 where the words are wrong, 4 where a
+/// device fails, and 5 where memory runs out.
+///
+/// A fault is a line on `err`. Where that can't be printed, or a help text can't, nothing more is.
+pub fn run_command<'p, S: Store<'p>, O: Sink, E: Sink>(
+    alloc: Global,
+    words: &'p [String],
+    store: &mut S,
+    out: &mut O,
+    err: &mut E,
+) -> u8
+    ensures status { IsStatus result }
+    // Nothing goes out but where all is done, and where a device fails.
+    ensures unwritten { (result ≡ 0) ⊎ (result ≡ 4) ⊎ Keeps (O.held out.old) (O.held out.new) }
+    // Where an output fails, the status says so.
+    ensures out_failed { O.has_failed out.old ≡ false → O.has_failed out.new ≡ true → result ≡ 4 }
+    ensures err_failed { E.has_failed err.old ≡ false → E.has_failed err.new ≡ true → result ≡ 4 }
+{
+    match read_words(alloc, words) {
+        Ok(Request::Plain(path)) => {
+            let mut source = store.reader(path);
+            finish(plain(alloc, &mut source, out), err)
+        }
+        Err(refusal) => refuse(refusal, out, err),
+    }
+}

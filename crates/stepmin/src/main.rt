@@ -1,0 +1,38 @@
+//! `stepmin` reads STEP files (ISO 10303-21). `stepmin plain FILE` writes the normal text of a file.
+#![tactic(auto)]
+
+mod command;
+mod files;
+mod plain;
+mod read;
+mod store;
+#[cfg(test)]
+mod tests;
+mod usage;
+
+use crate::command::{refuse, run_command};
+use crate::files::Folder;
+use crate::usage::unread_words;
+use std::env::Env;
+use std::io;
+use std::process::ExitCode;
+use step_exchange::counted::Counted;
+
+// The words of the command line. An error is `OutOfMemory` where memory runs out.
+fn words<R: Env + AllocGlobal>(rt: &R) -> io::Result<Vec<String>> {
+    let words = std::env::args(rt)?.collect(rt.alloc())?;
+    Ok(words)
+}
+
+fn main(rt: HostRuntime) -> ExitCode {
+    let mut out = Counted::new(io::writer(&rt));
+    let mut err = Counted::new(rt.stderr());
+    let status = match words(&rt) {
+        Ok(words) => {
+            let mut store = Folder::new(&rt);
+            run_command(rt.alloc(), &words, &mut store, &mut out, &mut err)
+        }
+        Err(error) => refuse(unread_words(rt.alloc(), &error), &mut out, &mut err),
+    };
+    ExitCode::from(status)
+}
