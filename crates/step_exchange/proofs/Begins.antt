@@ -1,7 +1,7 @@
 -- What the items ask for, piece by piece.
 use Rattle.std.proofs.Common.{◌≡◌, List, [], ◌∷◌, ◌++◌, refl, sym, ap, subst}
-use Rattle.step_exchange.specs.Words.{Seen}
-use Rattle.step_exchange.specs.Trees.{Item, Begins}
+use Rattle.step_exchange.specs.Words.{Word, Sight, token, flawed, over, Seen}
+use Rattle.step_exchange.specs.Trees.{Item, this, Meets, Begins}
 
 -- one run of items behind another
 pub begins_join : (s : List Seen) (u : List Item) (m : List Seen) (v : List Item) (r : List Seen) → Begins s u m → Begins m v r → Begins s (u ++ v) r
@@ -25,3 +25,9 @@ pub begins_front : (s : List Seen) (u : List Item) (r : List Seen) → Begins s 
 begins_front s [] r h = ([], h, refl)
 begins_front [] (i ∷ u) r h = absurd h
 begins_front (t ∷ s) (i ∷ u) r h = let p = begins_front s u r h.1 in (t ∷ p.0, ap (λ l. t ∷ l) p.1, (h.0, p.2))
+
+-- a token that is asked for
+pub meets_this : (s : Sight) (w : Word) → Meets s (this w) → s ≡ token w
+meets_this (token v) w h = ap token h
+meets_this (flawed f) w h = absurd h
+meets_this over w h = absurd h

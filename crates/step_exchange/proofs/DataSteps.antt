@@ -16,7 +16,8 @@ use Rattle.step_exchange.specs.Trees.{Row, Item, this, says, finish, Begins, Mee
 use Rattle.step_exchange.specs.Fits.{the_rules}
 use Rattle.step_exchange.specs.Texts.{Reads}
 use Rattle.step_exchange.specs.Predict.{Symbol, Just, Data, Behind, Rows, Finish, Over, next, refused, section_refused, is_mark, is_word, run, StopsIn, Turns, TakesRows, TakesData, data_symbols}
-use Rattle.step_exchange.proofs.Passing.{run_step, meets_this, pass_rows}
+use Rattle.step_exchange.proofs.Passing.{run_step, pass_rows}
+use Rattle.step_exchange.proofs.Begins.{meets_this}
 use Rattle.step_exchange.proofs.Turning.{turns_reads, turns_join, turns_more, turns_token, turns_here, stops_via, stops_token, reads_join, reads_first}
 use Rattle.step_exchange.proofs.Looking.{mark_met, reads_mark, reads_word}
 use Rattle.step_exchange.proofs.ParamSteps.{turns_mark, meets_is}

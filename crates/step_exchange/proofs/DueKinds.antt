@@ -9,7 +9,8 @@ use Rattle.step_exchange.specs.Trees.{Part, File, Item, this, says, finish, is_s
 use Rattle.step_exchange.specs.Fits.{Rules, the_rules, FitsHeader, FitsFile, Where}
 use Rattle.step_exchange.specs.Texts.{HoldsSchema, IsFront, EndsHeader, EndsData, EndsFile, BeginsData, IsWord, IsBetween, IsLeftOut, more_levels, more_instances, repeated, unheaded, IsDue, IsKind}
 use Rattle.step_exchange.specs.Predict.{Symbol, Just, Data, Behind, Rows, Finish, Over, Next, passes, stops, next, next_data, next_finish, next_over, section_kind, step_on, run, data_symbols, file_symbols}
-use Rattle.step_exchange.proofs.Passing.{begins_split, begins_append, run_step, run_stop, meets_finish, pass_header, pass_data, pass_file}
+use Rattle.step_exchange.proofs.Passing.{run_step, run_stop, meets_finish, pass_header, pass_data, pass_file}
+use Rattle.step_exchange.proofs.Begins.{begins_split, begins_append}
 use Rattle.step_exchange.proofs.Looser.{IsLooser, levels_looser, instances_looser, repeated_looser, unheaded_looser}
 use Rattle.step_exchange.proofs.Forms.{IsOrdinary}
 use Rattle.step_exchange.proofs.Wider.{looser_self}

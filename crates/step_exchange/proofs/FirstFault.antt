@@ -9,7 +9,8 @@ use Rattle.step_exchange.specs.Trees.{Part, File, items_of_file, this, Begins, M
 use Rattle.step_exchange.specs.Fits.{Rules, the_rules, FitsFile, FitsRecords, IsHeader, NamesSchema}
 use Rattle.step_exchange.specs.Texts.{items_of_opening, HoldsSchema, unheaded, IsFirstFault, own_place, place_of_schema}
 use Rattle.step_exchange.specs.Predict.{Symbol, Just, Records, passes, stops, short, next, run, closing_symbols, data_symbols, file_symbols}
-use Rattle.step_exchange.proofs.Passing.{begins_join, begins_split, begins_append, run_step, pass_mark, pass_opening, pass_file}
+use Rattle.step_exchange.proofs.Passing.{run_step, pass_mark, pass_opening, pass_file}
+use Rattle.step_exchange.proofs.Begins.{begins_join, begins_split, begins_append}
 use Rattle.step_exchange.proofs.Shown.{shows_split}
 use Rattle.step_exchange.proofs.Looser.{looser_records, unheaded_looser}
 use Rattle.step_exchange.proofs.Wider.{looser_self}

@@ -7,7 +7,8 @@ use Rattle.step_exchange.specs.Trees.{Part, File, says, Begins, items_of_header,
 use Rattle.step_exchange.specs.Fits.{Rules, FitsFile, FitsHeader, Where}
 use Rattle.step_exchange.specs.Texts.{HoldsSchema, IsFront}
 use Rattle.step_exchange.specs.Predict.{Symbol, Just, Records, Data, Behind, Rows, Finish, Over, Next, passes, stops, next, step_on, run, opening_symbols, file_symbols}
-use Rattle.step_exchange.proofs.Passing.{begins_join, run_step, pass_file}
+use Rattle.step_exchange.proofs.Passing.{run_step, pass_file}
+use Rattle.step_exchange.proofs.Begins.{begins_join}
 use Rattle.step_exchange.proofs.Sound.{langs_split, sound, header_of, data_of, sound_file}
 use Rattle.step_exchange.proofs.Looser.{IsLooser}
 use Rattle.step_exchange.proofs.Forms.{Small}

@@ -17,7 +17,8 @@ use Rattle.step_exchange.specs.Fits.{the_rules, FitsPart, FitsRecords, NamesSche
 use Rattle.step_exchange.specs.Texts.{Reads, items_of_opening}
 use Rattle.step_exchange.specs.Predict.{Symbol, Just, Start, Say, Head, Records, Ended, Items, next, refused, is_mark, run, StopsIn, Turns, Starts, TakesParams, TakesList, TakesHead, TakesRecord, TakesSchema, StopsAtSchema, stops_before, stops_unnamed, TakesKeyed, TakesEnd, TakesOneMore, HeaderSoFar, TakesHeader, StopsInHeader, in_opening, unnamed, in_records, start_symbols, params_symbols, after_keyword, opening_symbols}
 use Rattle.step_lexis.proofs.ReadingLemmas.{takes_less}
-use Rattle.step_exchange.proofs.Passing.{pass_part, pass_say, pass_mark, pass_record, pass_head, begins_append, begins_split, run_step, meets_this, header_items}
+use Rattle.step_exchange.proofs.Passing.{pass_part, pass_say, pass_mark, pass_record, pass_head, run_step, header_items}
+use Rattle.step_exchange.proofs.Begins.{meets_this, begins_append, begins_split}
 use Rattle.step_exchange.proofs.Turning.{turns_reads, turns_join, turns_more, turns_token, turns_here, stops_via, stops_token, reads_join, reads_first, left_less}
 use Rattle.step_exchange.proofs.Looking.{stops_refused, mark_met, reads_mark}
 use Rattle.step_exchange.proofs.ParamSteps.{turns_mark, turns_list, meets_is}

@@ -5,9 +5,9 @@ use Rattle.step_exchange.specs.Words.{mark, token, Seen}
 use Rattle.step_exchange.specs.Trees.{Part, Item, this, Begins, Meets, items_of_header, items_of_data, items_of_end}
 use Rattle.step_exchange.specs.Fits.{Rules, FitsRecords, FitsHeader, NamesSchema}
 use Rattle.step_exchange.specs.Texts.{items_of_opening, HoldsSchema, IsFront}
-use Rattle.step_exchange.proofs.Passing.{begins_split, begins_append}
+use Rattle.step_exchange.proofs.Begins.{begins_split, begins_append, meets_this}
 use Rattle.step_exchange.proofs.Looser.{IsLooser, looser_records}
-use Rattle.step_exchange.proofs.Unique.{meets_this, opening_of, same_opening}
+use Rattle.step_exchange.proofs.Unique.{opening_of, same_opening}
 
 -- what holds of tokens holds of those that come first
 pub holds_front : (rules : Rules) (a b : List Seen) → HoldsSchema rules (a ++ b) → HoldsSchema rules a

@@ -34,5 +34,6 @@ pub mod DueKinds
 pub mod FirstFault
 pub mod HeadSteps
 pub mod Outcome
+pub mod Decided
 pub mod Writing
 pub mod Places

@@ -15,6 +15,7 @@ use Rattle.step_exchange.specs.Trees.{this, says, Meets}
 use Rattle.step_exchange.specs.Fits.{the_rules}
 use Rattle.step_exchange.specs.Texts.{Reads}
 use Rattle.step_exchange.specs.Predict.{Symbol, Just, Start, Say, Head, Records, Ended, Data, Behind, Rows, Body, Parts, Value, Items, More, Finish, Over, next, refused, is_mark, is_word, mark_code, StopsIn}
+use Rattle.step_exchange.proofs.Sound.{same_mark}
 use Rattle.step_exchange.proofs.Turning.{stops_token, stops_shown, reads_token}
 
 at_end : (y : Symbol) → (y ≡ Over → ⊥) → next the_rules y over ≡ Err kinds.Expected
@@ -62,16 +63,6 @@ stops_end place old new h e y not_over =
 -- a fault of the lexer stops all
 pub stops_flaw : (f : lexis.TextFault) (old new : Reading) → IsFaulty old f new → (y : Symbol) → StopsIn (faults.Fault (kinds.Token f.flaw) f.place) (y ∷ []) [] old
 stops_flaw f old new h y = stops_shown (kinds.Token f.flaw) y (seen_fault f) old new (shows_fault f h refl) (at_flaw y f.flaw)
-
-same_mark : (m k : Mark) → (mark_code m == mark_code k) ≡ true → k ≡ m
-same_mark Open Open e = refl
-same_mark Close Close e = refl
-same_mark Comma Comma e = refl
-same_mark Semicolon Semicolon e = refl
-same_mark Equals Equals e = refl
-same_mark Dollar Dollar e = refl
-same_mark Asterisk Asterisk e = refl
-same_mark _ _ e = absurd (false≢true e)
 
 pub mark_met : (m : Mark) (s : Sight) → is_mark m s ≡ true → s ≡ token (mark m)
 mark_met m (token (mark k)) e = ap (λ x. token (mark x)) (same_mark m k e)

@@ -11,9 +11,9 @@ use Rattle.step_exchange.specs.Words.{keyword, user_defined, ends, scope, mark, 
 use Rattle.step_exchange.specs.Trees.{Part, Item, this, says, finish, is_said, Meets, Begins, items_of_records, items_of_start, items_of_header, items_of_data}
 use Rattle.step_exchange.specs.Fits.{Rules, the_rules, FitsRecords}
 use Rattle.step_exchange.specs.Texts.{IsFront, IsFirstFault, IsPlace, own_place, place_of_schema, IsKind, IsDue, IsLeftOut, IsWord, IsBetween, EndsHeader, EndsData, EndsFile, BeginsData, more_levels, more_instances, repeated, unheaded}
-use Rattle.step_exchange.proofs.Begins.{begins_split, begins_append}
+use Rattle.step_exchange.proofs.Begins.{begins_split, begins_append, meets_this}
 use Rattle.step_exchange.proofs.Shown.{shown_alike, shows_join}
-use Rattle.step_exchange.proofs.Unique.{meets_this, same_two}
+use Rattle.step_exchange.proofs.Unique.{same_two}
 use Rattle.step_exchange.proofs.Once.{front_of_front, cut}
 use Rattle.step_exchange.proofs.Looser.{IsLooser, levels_looser, instances_looser, repeated_looser, unheaded_looser}
 use Rattle.step_exchange.proofs.Plain.{IsOdd, odd_no_front, one_word, says_word, word_no_token, word_no_end, behind_header, behind_data}

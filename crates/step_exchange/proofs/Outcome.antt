@@ -1,5 +1,5 @@
 -- What was read, against the definitions.
-use Rattle.std.proofs.Common.{◌≡◌, ℕ, ◌-◌, List, [], ◌∷◌, ◌++◌, take, drop, refl, sym, ◌∙◌, subst, arith, codes}
+use Rattle.std.proofs.Common.{◌≡◌, ℕ, ◌-◌, List, [], ◌∷◌, ◌++◌, take, drop, refl, sym, ◌∙◌, subst, arith, codes, ◌≤◌, ap, ◌+◌}
 use Rattle.step_lexis.specs.declared.token.Mark.TheVariants.{Semicolon}
 use Rattle.step_lexis.specs.Reading.{Reading, start}
 use Rattle.step_exchange.specs.declared.fault.Kind.{Kind}
@@ -11,15 +11,18 @@ use Rattle.step_exchange.specs.Trees.{Part, Row, File, Item, this, Begins, items
 use Rattle.step_exchange.specs.Fits.{the_rules, FitsRecords, FitsHeader, HasSchema, NamesSchema}
 use Rattle.step_exchange.specs.Texts.{ReadsAs, items_of_opening, HoldsSchema, IsFirstFault, IsFaultOf, IsMemory}
 use Rattle.step_exchange.specs.Predict.{Symbol, Just, Records, passes, stops, run, StopsIn, TakesHeader, StopsInHeader, in_opening, unnamed, in_records, TakesData, opening_symbols, closing_symbols, data_symbols}
-use Rattle.step_exchange.proofs.Passing.{begins_append, begins_split, pass_opening, pass_mark, pass_header, header_items}
+use Rattle.step_exchange.proofs.Passing.{pass_opening, pass_mark, pass_header, header_items}
+use Rattle.step_exchange.proofs.Begins.{begins_append, begins_split}
 use Rattle.step_exchange.proofs.Shown.{shows_join}
 use Rattle.step_exchange.proofs.Unique.{same_opening}
 use Rattle.step_exchange.proofs.Once.{reads_once, reads_no_fault}
 use Rattle.step_exchange.proofs.ParamSteps.{meets_is}
+use Rattle.step_exchange.proofs.Places.{header_bounds}
+use Rattle.std.proofs.lemmas.List.{drop-take}
 use Rattle.step_exchange.proofs.FirstFault.{first_fault, schema_fault}
 
 -- tokens that stop in the opening hold no opening
-opening_holds : (s : List Seen) (kind : Kind) (place : ℕ) → ((ys : List Symbol) → run the_rules ((opening_symbols ++ Just Semicolon ∷ []) ++ ys) s ≡ stops kind place) → HoldsSchema the_rules s
+pub opening_holds : (s : List Seen) (kind : Kind) (place : ℕ) → ((ys : List Symbol) → run the_rules ((opening_symbols ++ Just Semicolon ∷ []) ++ ys) s ≡ stops kind place) → HoldsSchema the_rules s
 opening_holds s kind place f p q r rest fits named b =
     let m = begins_split s (items_of_opening p q r) (this (mark Semicolon) ∷ []) rest b in
     let clash : passes rest ≡ stops kind place = sym (pass_opening the_rules p q r (Just Semicolon ∷ []) s m.0 fits named m.1 ∙ pass_mark the_rules Semicolon [] m.0 rest m.2) ∙ f [] in
@@ -29,7 +32,7 @@ third_same : (p q r x y z : Part) → p ∷ q ∷ r ∷ [] ≡ x ∷ y ∷ z ∷
 third_same p q r x y z e = cc
 
 -- tokens that begin with an opening whose third record names a schema hold it
-known_holds : (p q r : Part) (s m : List Seen) → FitsRecords the_rules (p ∷ q ∷ r ∷ []) → NamesSchema r.values → Begins s (items_of_opening p q r) m → HoldsSchema the_rules s
+pub known_holds : (p q r : Part) (s m : List Seen) → FitsRecords the_rules (p ∷ q ∷ r ∷ []) → NamesSchema r.values → Begins s (items_of_opening p q r) m → HoldsSchema the_rules s
 known_holds p q r s m fits named b x y z rest f g h =
     let k = begins_split s (items_of_opening x y z) (this (mark Semicolon) ∷ []) rest h in
     let e = same_opening p q r x y z the_rules s m k.0 fits f b k.1 in
@@ -77,8 +80,25 @@ pub data_is_fault : (text : List ℕ) (e : TextFault) (first : ℕ) (header : Li
 data_is_fault text faults.Memory first header mid h g = tt
 data_is_fault text (faults.Fault kind place) first header mid h g = data_fault text kind place first header mid h g
 
-pub is_read : (text front : List ℕ) (first : ℕ) (header : List Part) (rows : List Row) (mid end : Reading) → TakesHeader (start text) first header mid → TakesData mid rows end → front ≡ take (mid.place - first) (drop first text) → ReadsAs text front (record { header = header; rows = rows })
-is_read text front first header rows mid end h d e = record { fits = (h.fits, d.fits); schema = h.schema; headed = mid; end = end; header = h.reads; rows = d.reads; first = first; begins = h.first; front_is = e }
+-- the bytes between two places
+between : (text : List ℕ) (first end : ℕ) → first ≤ end → drop first (take end text) ≡ take (end - first) (drop first text)
+between text first end h =
+    let e : end ≡ first + (end - first) = omega (arith, h) in
+    ap (λ n. drop first (take n text)) e ∙ drop-take first (end - first) text
+
+pub is_read : (text front opened : List ℕ) (first place : ℕ) (header : List Part) (rows : List Row) (mid end : Reading) → TakesHeader (start text) first header mid → TakesData mid rows end → place ≡ mid.place → opened ≡ take place text → front ≡ drop first opened
+    → ReadsAs text front (record { header = header; rows = rows })
+is_read text front opened first place header rows mid end h d p o f = record {
+  fits = (h.fits, d.fits);
+  schema = h.schema;
+  headed = mid;
+  end = end;
+  header = h.reads;
+  rows = d.reads;
+  first = first;
+  begins = h.first;
+  front_is = f ∙ ap (drop first) (o ∙ ap (λ n. take n text) p) ∙ between text first mid.place (header_bounds text first header mid h).0;
+}
 
 pub found_all : (text front : List ℕ) (x : File) → ReadsAs text front x → (other : List ℕ) (y : File) → ReadsAs text other y → (front ≡ other) × (x ≡ y)
 found_all text front x h other y g = reads_once text front other x y h g

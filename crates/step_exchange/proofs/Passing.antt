@@ -7,23 +7,8 @@ use Rattle.step_exchange.specs.Words.{Word, begins, ends, keyword, name, number,
 use Rattle.step_exchange.specs.Trees.{Tree, leaf, typed, group, Trees, none, one, Part, Form, internal, external, Row, File, Item, this, says, named, finish, is_said, Meets, Begins, items_of_tree, items_of_more, items_of_list, items_of_part, items_of_parts, items_of_form, items_of_row, items_of_rows, items_of_records, section, items_of_start, items_of_header, items_of_data, items_of_end, items_of_file}
 use Rattle.step_exchange.specs.Fits.{Rules, IsLeaf, FitsTree, FitsTrees, FitsPart, Where, has_keyword, FitsParts, FitsForm, has_name, FitsRows, FitsRecords, IsHeader, FitsHeader, FitsFile}
 use Rattle.step_exchange.specs.Texts.{items_of_opening}
+use Rattle.step_exchange.proofs.Begins.{begins_join, begins_split, begins_append, meets_this}
 use Rattle.step_exchange.specs.Predict.{Symbol, Just, Start, Say, Head, Records, Ended, Data, Behind, Rows, Body, Parts, Value, Items, More, Finish, Over, is_mark, mark_code, record_symbols, row_symbols, opening_symbols, data_symbols, file_symbols, next, next_value, next_items, next_name, then_more, Outcome, passes, stops, step_on, run}
-
--- Begins, piece by piece
-pub begins_join : (s : List Seen) (a : List Item) (m : List Seen) (b : List Item) (rest : List Seen) → Begins s a m → Begins m b rest → Begins s (a ++ b) rest
-begins_join s [] m b rest h k = let P : List Seen → Type 0 = λ x. Begins x b rest in subst P (sym h) k
-begins_join [] (i ∷ a) m b rest h k = absurd h
-begins_join (t ∷ s) (i ∷ a) m b rest h k = (h.0, begins_join s a m b rest h.1 k)
-
-pub begins_split : (s : List Seen) (a b : List Item) (rest : List Seen) → Begins s (a ++ b) rest → (m : List Seen) × Begins s a m × Begins m b rest
-begins_split s [] b rest h = (s, refl, h)
-begins_split [] (i ∷ a) b rest h = absurd h
-begins_split (t ∷ s) (i ∷ a) b rest h = let p = begins_split s a b rest h.1 in (p.0, (h.0, p.1), p.2)
-
-pub begins_append : (s : List Seen) (a : List Item) (m q : List Seen) → Begins s a m → Begins (s ++ q) a (m ++ q)
-begins_append s [] m q h = ap (λ l. l ++ q) h
-begins_append [] (i ∷ a) m q h = absurd h
-begins_append (t ∷ s) (i ∷ a) m q h = (h.0, begins_append s a m q h.1)
 
 pub begins_regroup : (s : List Seen) (a b c : List Item) (rest : List Seen) → Begins s (a ++ b ++ c) rest → Begins s (a ++ (b ++ c)) rest
 begins_regroup s a b c rest h = let P : List Item → Type 0 = λ l. Begins s l rest in subst P (append_assoc a b c) h
@@ -36,11 +21,6 @@ pub run_stop : (rules : Rules) (y : Symbol) (ys : List Symbol) (k : Kind) (t : S
 run_stop rules y ys k t s e = ap (λ n. step_on t.place (λ zs. run rules zs s) ys n) e
 
 -- what meets an item
-pub meets_this : (x : Sight) (w : Word) → Meets x (this w) → x ≡ token w
-meets_this (token v) w h = ap token h
-meets_this (flawed f) w h = absurd h
-meets_this over w h = absurd h
-
 pub meets_finish : (x : Sight) → Meets x finish → x ≡ over
 meets_finish (token v) h = absurd h
 meets_finish (flawed f) h = absurd h

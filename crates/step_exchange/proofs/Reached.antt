@@ -8,7 +8,8 @@ use Rattle.step_exchange.specs.Words.{ends, keyword, mark, Sight, token, over, S
 use Rattle.step_exchange.specs.Trees.{says, is_said, Meets, items_of_header}
 use Rattle.step_exchange.specs.Fits.{Rules}
 use Rattle.step_exchange.specs.Predict.{Symbol, Just, Data, Behind, Rows, Finish, Over, Next, passes, stops, next, section_kind, step_on, run, data_symbols, file_symbols}
-use Rattle.step_exchange.proofs.Passing.{begins_join, begins_append, run_step}
+use Rattle.step_exchange.proofs.Passing.{run_step}
+use Rattle.step_exchange.proofs.Begins.{begins_join, begins_append}
 use Rattle.step_exchange.proofs.Forms.{Little, Small}
 use Rattle.step_exchange.proofs.Wider.{looser_self, wider_next}
 use Rattle.step_exchange.proofs.Fronts.{Leads, Spot, SmallSpot, Past, same_stop, locate, header_symbols, section_symbols, end_symbols, HeaderEnds, DataEnds, FileEnds, DataBegins, header_ends, data_ends, file_ends}

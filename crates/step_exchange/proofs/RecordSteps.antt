@@ -20,7 +20,8 @@ use Rattle.step_exchange.specs.Texts.{Reads}
 use Rattle.step_exchange.specs.Views.{part_of}
 use Rattle.step_exchange.specs.Predict.{Just, Body, Parts, next, refused, is_mark, StopsIn, Turns, TakesParams, TakesPartial, TakesParts, PartsSoFar, TakesForm, TakesRow, params_symbols, row_symbols, keywords_of}
 use Rattle.step_lexis.proofs.ReadingLemmas.{takes_less}
-use Rattle.step_exchange.proofs.Passing.{pass_one_part, pass_form, begins_append}
+use Rattle.step_exchange.proofs.Passing.{pass_one_part, pass_form}
+use Rattle.step_exchange.proofs.Begins.{begins_append}
 use Rattle.step_exchange.proofs.Turning.{turns_reads, turns_join, turns_more, turns_token, turns_taken, turns_here, stops_via, stops_via_taken, stops_taken, reads_join, reads_first, left_less}
 use Rattle.step_exchange.proofs.Looking.{stops_refused, mark_met, reads_mark}
 use Rattle.step_exchange.proofs.ParamSteps.{turns_mark, meets_is}

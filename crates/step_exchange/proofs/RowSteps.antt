@@ -22,7 +22,8 @@ use Rattle.step_exchange.specs.Texts.{Reads}
 use Rattle.step_exchange.specs.Views.{row_of}
 use Rattle.step_exchange.specs.Predict.{Rows, next, refused, is_word, StopsIn, Turns, TakesRow, TakesRows, RowsSoFar, IsNextName, IsNoName, row_symbols, names_of, AtMost}
 use Rattle.step_lexis.proofs.ReadingLemmas.{takes_less}
-use Rattle.step_exchange.proofs.Passing.{pass_row, begins_append}
+use Rattle.step_exchange.proofs.Passing.{pass_row}
+use Rattle.step_exchange.proofs.Begins.{begins_append}
 use Rattle.step_exchange.proofs.Turning.{turns_join, turns_token, turns_here, stops_via, stops_token, reads_join, reads_first, left_less}
 use Rattle.step_exchange.proofs.Looking.{reads_word}
 

@@ -10,7 +10,8 @@ use Rattle.step_exchange.specs.Trees.{Tree, leaf, typed, group, Trees, none, one
 use Rattle.step_exchange.specs.Fits.{Rules, FitsTree, FitsTrees, FitsPart, Where, has_keyword, FitsParts, FitsForm, has_name, FitsRows, FitsRecords, IsHeader, FitsHeader, FitsFile}
 use Rattle.step_exchange.specs.Texts.{items_of_opening}
 use Rattle.step_exchange.specs.Predict.{refused, Symbol, Just, Start, Say, Head, Records, Ended, Data, Behind, Rows, Body, Parts, Value, Items, More, Finish, Over, Next, mark_code, record_symbols, row_symbols, opening_symbols, data_symbols, file_symbols, section_kind, next, next_value, next_close, then_more, passes, step_on, run}
-use Rattle.step_exchange.proofs.Passing.{begins_join, regroup_two, header_items}
+use Rattle.step_exchange.proofs.Passing.{regroup_two, header_items}
+use Rattle.step_exchange.proofs.Begins.{begins_join}
 
 -- what each symbol asks for stands here, and this is behind it
 abbrev pub Lang : Rules → Symbol → List Seen → List Seen → Type 0

@@ -10,7 +10,7 @@ use Rattle.step_exchange.specs.Words.{Seen, seen, Shows, shows_token, shows_faul
 use Rattle.step_exchange.specs.Trees.{Item, Meets, Begins}
 use Rattle.step_exchange.specs.Fits.{the_rules}
 use Rattle.step_exchange.specs.Texts.{Reads}
-use Rattle.step_exchange.proofs.Passing.{begins_join, begins_append}
+use Rattle.step_exchange.proofs.Begins.{begins_join, begins_append}
 use Rattle.step_exchange.proofs.Shown.{shows_join}
 use Rattle.step_exchange.specs.Predict.{Symbol, run, step_on, next, StopsIn, Turns, stops}
 

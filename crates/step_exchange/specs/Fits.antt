@@ -1,5 +1,5 @@
 -- Which exchange structures are read: limits, names that stand once, and the first records of the header
--- (ISO 10303-21, 9.2 and 11).
+-- (ISO 10303-21, 8.2 and 11).
 use Rattle.std.specs.Prelude.{◌≡◌, ℕ, ◌+◌, ◌-◌, ◌<◌, ◌^◌, Bool, true, false, ◌||◌, ◌==◌, List, [], ◌∷◌, ◌++◌, length, codes}
 use Rattle.step_lexis.specs.declared.token.Mark.TheVariants.{Dollar, Asterisk}
 use Rattle.step_exchange.specs.Words.{Word, name, number, element, string, binary, mark}
@@ -13,7 +13,7 @@ pub record Rules : Type 0 where
   pub instances : ℕ
   -- no name of an instance stands twice, nor a keyword in one external record
   pub distinct : Bool
-  -- the three records with which the header begins have their keywords
+  -- the three records with which the header begins have their keywords, and FILE_SCHEMA names one schema
   pub headed : Bool
 
 abbrev pub the_rules : Rules
@@ -75,7 +75,7 @@ abbrev pub FitsRecords : Rules → List Part → Type 0
 FitsRecords rules [] = Unit {0}
 FitsRecords rules (p ∷ ps) = FitsPart rules 0 p × FitsRecords rules ps
 
--- the header has three records at least
+-- the header has three records at least: under each of the rules, so that its end before that is a fault of the header
 abbrev pub HasThree : List Part → Type 0
 HasThree (p ∷ q ∷ r ∷ more) = Unit {0}
 HasThree _ = ⊥

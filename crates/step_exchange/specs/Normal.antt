@@ -99,10 +99,14 @@ normal_row r = record { name = r.name; form = normal_form r.form }
 abbrev pub normal_rows : List Row → List Row
 normal_rows rows = map normal_row rows
 
+-- .. and the structure, whose header stays
+abbrev pub normal_file : File → File
+normal_file x = record { header = x.header; rows = normal_rows x.rows }
+
 -- The normal text of what a text reads as reads as the same: the same front, and the instances with only
 -- the case of words and the spelling of names changed.
 abbrev pub NormalReadsAgain : Type 0
-NormalReadsAgain = (text front : List ℕ) (x : File) → ReadsAs text front x → ReadsAs (plain_text front x.rows) front (record { header = x.header; rows = normal_rows x.rows })
+NormalReadsAgain = (text front : List ℕ) (x : File) → ReadsAs text front x → ReadsAs (plain_text front x.rows) front (normal_file x)
 
 -- .. and its own normal text is the same text
 abbrev pub NormalStays : Type 0

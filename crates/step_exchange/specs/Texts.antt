@@ -30,6 +30,10 @@ pub record ReadsAs (text front : List ℕ) (x : File) : Type 0 where
   pub begins : Reaches (start text) first
   pub front_is : front ≡ take (headed.place - first) (drop first text)
 
+-- some text reads as this structure, and its front is these bytes
+abbrev pub IsRead : List ℕ → File → Type 0
+IsRead front x = (text : List ℕ) × ReadsAs text front x
+
 -- the header up to its third record, whose semicolon is still to come
 abbrev pub items_of_opening : Part → Part → Part → List Item
 items_of_opening p q r = items_of_start ++ items_of_records (p ∷ q ∷ []) ++ items_of_part r
@@ -84,6 +88,7 @@ more_levels = record the_rules { levels = the_rules.levels + 1 }
 abbrev pub more_instances : Rules
 more_instances = record the_rules { instances = the_rules.instances + 1 }
 
+-- one more instance too: a name that stands already is that fault also where there are too many
 abbrev pub repeated : Rules
 repeated = record more_instances { distinct = false }
 
@@ -147,3 +152,14 @@ ReadsWithoutFault = (text front : List ℕ) (x : File) (kind : Kind) (place : �
 -- A text has one first fault at most: one kind, at one place.
 abbrev pub FaultsOnce : Type 0
 FaultsOnce = (text : List ℕ) (kind other : Kind) (place elsewhere : ℕ) → IsFirstFault text kind place → IsFirstFault text other elsewhere → (kind ≡ other) × (place ≡ elsewhere)
+
+-- the text ends here, or no token stands here
+abbrev pub IsLast : Sight → Type 0
+IsLast (token w) = ⊥
+IsLast _ = Unit {0}
+
+-- All that a lexer shows of a text up to its end, or to something that is no token, decides it: the text reads
+-- as a structure, or has a first fault.
+abbrev pub ReadsOrFails : Type 0
+ReadsOrFails = (text : List ℕ) (before : List Seen) (last : Seen) (end : Reading) → ShowsAll (start text) (before ++ last ∷ []) end → IsLast last.sight
+    → ((front : List ℕ) × (x : File) × ReadsAs text front x) ⊎ ((kind : Kind) × (place : ℕ) × IsFirstFault text kind place)

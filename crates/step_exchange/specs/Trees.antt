@@ -1,4 +1,4 @@
--- Exchange structures as trees, and the tokens that they are written out as (ISO 10303-21, 7 to 11).
+-- Exchange structures as trees, and the tokens that they are written out as (ISO 10303-21, 5.3, 8 and 11).
 use Rattle.std.specs.Prelude.{◌≡◌, ℕ, Bool, true, List, [], ◌∷◌, ◌++◌, codes}
 use Rattle.std.specs.Str.{str_eq_ignore_ascii_case}
 use Rattle.step_lexis.specs.declared.token.Mark.TheVariants.{Open, Close, Comma, Semicolon, Equals}

@@ -89,12 +89,17 @@ fn end(lexer: &mut Lexer<'_>) -> Result<(), TextFault>
     over(lexer)
 }
 
-/// The instances of the data section, read to the end of the text.
-pub fn data<'a>(alloc: Global, lexer: &mut Lexer<'a>) -> Result<IndexMap<u64, Form<'a>>, TextFault>
+/// The instances of the data section, read to the end of the text, with room for so many of them from
+/// the start.
+pub fn data<'a>(
+    alloc: Global,
+    lexer: &mut Lexer<'a>,
+    expected: usize,
+) -> Result<IndexMap<u64, Form<'a>>, TextFault>
     ensures { MatchResult result (λ m. TakesData lexer.old (map row_of m.entries) lexer.new) (λ e. StopsIn e data_symbols [] lexer.old) }
 {
     begin_data(lexer)?;
-    let records = rows(alloc, lexer)?;
+    let records = rows(alloc, lexer, expected)?;
     expect(lexer, Mark::Semicolon)?;
     end(lexer)?;
     Ok(records)

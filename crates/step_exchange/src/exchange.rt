@@ -1,9 +1,8 @@
 //! The exchange structure of a text.
 
 ghost use Rattle.std.specs.Prelude.{◌≡◌, List, ℕ, IfOk, IfErr, MatchResult};
-ghost use Rattle.step_exchange.specs.Fits.{the_rules, FitsFile};
 ghost use Rattle.step_exchange.specs.Trees.{File};
-ghost use Rattle.step_exchange.specs.Texts.{ReadsAs, IsFaultOf, IsMemory};
+ghost use Rattle.step_exchange.specs.Texts.{IsRead, ReadsAs, IsFaultOf, IsMemory};
 ghost use Rattle.step_exchange.specs.Views.{file_of};
 
 use crate::data::data;
@@ -14,7 +13,10 @@ use indexmap::IndexMap;
 use std::alloc::Global;
 use step_lexis::lexer::Lexer;
 
-/// An exchange structure within the limits. The fields are for reading.
+/// So many bytes an instance has in most files.
+const BYTES_AN_INSTANCE: usize = 64;
+
+/// An exchange structure that some text reads as. The fields are for reading.
 #[derive(Drop)]
 pub struct Exchange<'a> {
     /// The bytes from the first token through the semicolon behind the header's ENDSEC.
@@ -23,7 +25,7 @@ pub struct Exchange<'a> {
     pub header: Vec<Part<'a>>,
     /// The instances by their names, in the order of the file.
     pub records: IndexMap<u64, Form<'a>>,
-    pub ghost within: { ∥ FitsFile the_rules (file_of header.items records.entries) ∥₁ },
+    pub ghost read: { ∥ IsRead front.now (file_of header.items records.entries) ∥₁ },
 }
 
 /// The exchange structure that a text reads as (ISO 10303-21, 5 to 11).
@@ -42,7 +44,7 @@ pub fn read_exchange<'a>(alloc: Global, text: &'a [u8]) -> Result<Exchange<'a>, 
     let mut lexer = Lexer::new(text);
     let (first, header) = header(alloc, &mut lexer)?;
     let end = lexer.place();
-    let records = data(alloc, &mut lexer)?;
+    let records = data(alloc, &mut lexer, text.len() / BYTES_AN_INSTANCE)?;
     let (front, _) = text.split_at(end as usize);
     let (_, front) = front.split_at(first as usize);
     Ok(Exchange {

@@ -1,4 +1,4 @@
-//! The header, read from tokens (ISO 10303-21, 9).
+//! The header, read from tokens (ISO 10303-21, 8).
 
 ghost use Rattle.std.specs.Prelude.{[], ◌∷◌, MatchResult, MatchOption, IsTrue, ◌↔◌, map, codes};
 ghost use Rattle.step_exchange.specs.Trees.{section};

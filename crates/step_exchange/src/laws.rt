@@ -1,7 +1,7 @@
 //! Laws of the definitions alone.
 
 ghost use Rattle.step_exchange.specs.Normal.{NormalReadsAgain, NormalStays};
-ghost use Rattle.step_exchange.specs.Texts.{FaultsOnce, ReadsOnce, ReadsWithoutFault};
+ghost use Rattle.step_exchange.specs.Texts.{FaultsOnce, ReadsOnce, ReadsOrFails, ReadsWithoutFault};
 
 /// A text reads as one exchange structure at most.
 pub fn a_text_reads_once()
@@ -16,6 +16,12 @@ pub fn what_reads_has_no_fault()
 /// A text has one first fault at most.
 pub fn a_text_has_one_first_fault()
     ensures { FaultsOnce }
+{}
+
+/// All that a lexer shows of a text, up to its end or to something that is no token, decides it: the text
+/// reads as an exchange structure, or has a first fault.
+pub fn a_text_reads_or_has_a_fault()
+    ensures { ReadsOrFails }
 {}
 
 /// The normal text of what a text reads as reads as the same: the same front, and the instances with

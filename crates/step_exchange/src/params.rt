@@ -1,4 +1,4 @@
-//! Parameters, read from tokens (ISO 10303-21, 10).
+//! Parameters, read from tokens (ISO 10303-21, 11).
 
 ghost use Rattle.std.specs.Prelude.{◌≡◌, ◌≤◌, ◌<◌, [], ◌∷◌, MatchResult};
 ghost use Rattle.step_exchange.specs.Words.{seen};

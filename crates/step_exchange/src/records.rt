@@ -134,11 +134,15 @@ fn next_name(
     Ok(name)
 }
 
-/// The instances up to the word that ends them.
-pub fn rows<'a>(alloc: Global, lexer: &mut Lexer<'a>) -> Result<IndexMap<u64, Form<'a>>, TextFault>
+/// The instances up to the word that ends them, with room for so many of them from the start.
+pub fn rows<'a>(
+    alloc: Global,
+    lexer: &mut Lexer<'a>,
+    expected: usize,
+) -> Result<IndexMap<u64, Form<'a>>, TextFault>
     ensures { MatchResult result (λ m. TakesRows lexer.old (map row_of m.entries) lexer.new) (λ e. StopsIn e (Rows [] ∷ []) [] lexer.old) }
 {
-    let mut records: IndexMap<u64, Form<'a>> = IndexMap::new(alloc);
+    let mut records: IndexMap<u64, Form<'a>> = IndexMap::with_capacity(alloc, expected)?;
     let mut greatest = 0;
     loop {
         let token = take(lexer)?;

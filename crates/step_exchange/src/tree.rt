@@ -1,4 +1,4 @@
-//! Parameters, records and instances (ISO 10303-21, 7 to 11).
+//! Parameters, records and instances (ISO 10303-21, 5.3, 8 and 11).
 
 use step_lexis::literal::{Bits, Decimal, Text, Word};
 

@@ -5,8 +5,9 @@ ghost use Rattle.std.specs.Char.{is_ascii_lowercase};
 ghost use Rattle.std.specs.List.{list_any};
 ghost use Rattle.step_exchange.specs.Prints.{Prints};
 ghost use Rattle.step_exchange.specs.Emits.{Emits};
-ghost use Rattle.step_exchange.specs.Views.{tree_of, trees_of, part_of, form_of, row_of};
-ghost use Rattle.step_exchange.specs.Normal.{upper, plain_name, plain_tree, plain_trees, plain_part, plain_parts, plain_form, plain_row, plain_rows, plain_text};
+ghost use Rattle.step_exchange.specs.Views.{tree_of, trees_of, part_of, form_of, row_of, file_of};
+ghost use Rattle.step_exchange.specs.Normal.{upper, plain_name, plain_tree, plain_trees, plain_part, plain_parts, plain_form, plain_row, plain_rows, plain_text, normal_file};
+ghost use Rattle.step_exchange.specs.Texts.{ReadsAs};
 
 use crate::device::{Sink, WriteFault};
 use crate::exchange::Exchange;
@@ -156,10 +157,12 @@ fn print_rows<S: Sink>(printer: &mut Printer, out: &mut S, records: &IndexMap<u6
 /// Writes the normal text of an exchange structure: its front as it stands, and then a line for each
 /// instance, in the order of the file.
 ///
-/// Where the sink fails, a front of that text went out, and the fault has its length.
+/// That text reads as the same header and instances, but for the case of words and the spelling of
+/// names. Where the sink fails, a front of it went out, and the fault has its length.
 pub fn write_plain<S: Sink>(exchange: &Exchange<'_>, out: &mut S) -> Result<(), WriteFault>
     ensures emits { Emits (S.held out.old) (S.held out.new) (plain_text exchange.now.front.now (map row_of exchange.now.records.entries)) result }
     ensures failed { S.has_failed out.old ≡ false → S.has_failed out.new ≡ is_err result }
+    ensures again { ∥ ReadsAs (plain_text exchange.now.front.now (map row_of exchange.now.records.entries)) exchange.now.front.now (normal_file (file_of exchange.now.header.items exchange.now.records.entries)) ∥₁ }
 {
     let mut printer = Printer::new();
     printer.print(out, exchange.front);

@@ -23,7 +23,8 @@ pub record HasPlain (text bytes : List ℕ) : Type 0 where
 abbrev pub HasFault : Kind → ℕ → List ℕ → Type 0
 HasFault kind place bytes = (2 ^ 40 < length bytes × (kind ≡ LeftOut TooLarge) × (place ≡ 2 ^ 40)) ⊎ (length bytes ≤ 2 ^ 40 × IsFirstFault bytes kind place)
 
--- The answer to the bytes that were to come, where they are told, and to what the output held and holds:
+-- The answer to the bytes that were to come, where they are told (a slice tells them, a file doesn't), and to
+-- what the output held and holds, where that is told:
 -- the normal text went out, or nothing did, or a front of the text whose length is counted.
 abbrev pub Plain : Option (List ℕ) → Option (List ℕ) → Option (List ℕ) → Result Unit Fault → Type 0
 Plain coming old new (Ok _) = (text : List ℕ) × IfSome coming (HasPlain text) × Appends old new text

@@ -219,6 +219,13 @@ fn faulty_rows_are_refused(rt: HostRuntime) -> Result<(), Fail> {
             "#1=POINT((0.));\n#1=POINT((0.));\n",
             "file: E7 DuplicateName at byte 141",
         ),
+        ("#1=(A()A());\n", "file: E7 DuplicateName at byte 132"),
+        ("#1=(A()a());\n", "file: E7 DuplicateName at byte 132"),
+        ("#01=A();\n#1=A();\n", "file: E7 DuplicateName at byte 134"),
+        ("#1=();\n", "file: E6 Expected at byte 129"),
+        ("#1=A(?);\n", "file: E1 BadToken at byte 130"),
+        ("#1=A(/* c );\n", "file: E1 BadToken at byte 130"),
+        ("#1=A(1.E1000000);\n", "file: E4 NumberTooLong at byte 130"),
         (
             "#18446744073709551616=POINT((0.));\n",
             "file: E5 NameTooLarge at byte 125",
@@ -229,6 +236,8 @@ fn faulty_rows_are_refused(rt: HostRuntime) -> Result<(), Fail> {
     }
     let deep = nested(alloc, 65)?;
     assert!(rt; refused(alloc, deep.as_str(), "file: E9 TooDeep at byte 193")?);
+    let typed = nested(alloc, 64)?.replace(alloc, "()", "(B(1))")?;
+    assert!(rt; refused(alloc, typed.as_str(), "file: E9 TooDeep at byte 193")?);
     Ok(())
 }
 
@@ -256,6 +265,66 @@ fn faulty_sections_are_refused(rt: HostRuntime) -> Result<(), Fail> {
     let file = file_of(alloc, "")?;
     let schemas = file.replace(alloc, "('GEO')", "('GEO','GEA')")?;
     assert!(rt; refused(alloc, schemas.as_str(), "file: E10 HeaderFault at byte 89")?);
+    Ok(())
+}
+
+#[test]
+fn faulty_headers_are_refused(rt: HostRuntime) -> Result<(), Fail> {
+    let alloc = rt.alloc();
+    let file = file_of(alloc, "")?;
+    for (old, new, line) in [
+        (
+            "FILE_SCHEMA(('GEO'));\n",
+            "",
+            "file: E10 HeaderFault at byte 89",
+        ),
+        (
+            "FILE_NAME",
+            "FILE_NAMES",
+            "file: E10 HeaderFault at byte 52",
+        ),
+        ("('GEO')", "'GEO'", "file: E10 HeaderFault at byte 89"),
+        ("('GEO')", "()", "file: E10 HeaderFault at byte 89"),
+        ("'GEO'", "'GEO',?", "file: E1 BadToken at byte 108"),
+        (
+            "DATA;",
+            "REFERENCE;",
+            "file: E8 LeftOut Reference at byte 119",
+        ),
+        (
+            "DATA;",
+            "signature;",
+            "file: E8 LeftOut Signature at byte 119",
+        ),
+        ("DATA;", "DATE;", "file: E6 Expected at byte 119"),
+    ] {
+        let faulty = file.replace(alloc, old, new)?;
+        assert!(rt; refused(alloc, faulty.as_str(), line)?, "{line}");
+    }
+    let record = file.replace(alloc, "'GEO'));\n", "'GEO'));\nENDSEC();\n")?;
+    let run = plain(alloc, record.as_str())?;
+    assert_eq!(rt; run.status, 0);
+    assert_eq!(rt; run.out.as_slice(), record.as_bytes());
+    Ok(())
+}
+
+#[test]
+fn what_stands_around_a_file_is_seen(rt: HostRuntime) -> Result<(), Fail> {
+    let alloc = rt.alloc();
+    let file = file_of(alloc, "")?;
+    let marked = format!(in alloc; "\u{feff} {file} /* the end */")?;
+    let run = plain(alloc, marked.as_str())?;
+    assert_eq!(rt; run.status, 0);
+    assert_eq!(rt; run.out.as_slice(), file.as_bytes());
+    assert!(rt; refused(alloc, "", "file: E6 Expected at byte 0")?);
+    for (more, line) in [
+        ("x", "file: E6 Expected at byte 151"),
+        ("SIGNATURE;", "file: E8 LeftOut Signature at byte 151"),
+        ("\0'", "file: E2 UnendedString at byte 152"),
+    ] {
+        let faulty = format!(in alloc; "{file}{more}")?;
+        assert!(rt; refused(alloc, faulty.as_str(), line)?, "{line}");
+    }
     Ok(())
 }
 

@@ -1,18 +1,11 @@
 use Rattle.std.proofs.Common.{ap, ◌∙◌, ◌≡◌, ◌+◌, ◌-◌, ◌≤◌, ℕ, map, List, subst, take, drop, arith}
 use Rattle.std.proofs.lemmas.Result.{err_from_is_err_and}
-use Rattle.std.proofs.lemmas.List.{drop-take}
 use Rattle.step_lexis.specs.Reading.{Reading}
 use Rattle.step_exchange.specs.Views.{part_of, row_of, file_of}
 use Rattle.step_exchange.specs.Predict.{TakesHeader, StopsInHeader}
 use Rattle.step_exchange.proofs.Outcome.{header_is_fault, data_is_fault, is_read, found_all, fault_all}
 use Rattle.step_exchange.proofs.Places.{header_bounds}
 use Rattle.step_exchange.proofs.exchange.read_exchange.Goals as goal
-
--- the bytes between two places
-between : (text : List ℕ) (first end : ℕ) → first ≤ end → drop first (take end text) ≡ take (end - first) (drop first text)
-between text first end h =
-    let e : end ≡ first + (end - first) = omega (arith, h) in
-    ap (λ n. drop first (take n text)) e ∙ drop-take first (end - first) text
 
 pub returns-in_err-first-clause-all : goal.returns-in_err-first-clause-all
 returns-in_err-first-clause-all c = λ front file h.
@@ -48,12 +41,13 @@ split_at-requires-2 c =
     let P : Reading → Type 0 = λ r. TakesHeader r c.in_ok-first.first (map part_of c.in_ok-first.header.items) c.header.new.lexer in
     omega (arith, c.split_at.ensures.front_len, c.place-end.ensures, (header_bounds c.args.text.now c.in_ok-first.first (map part_of c.in_ok-first.header.items) c.header.new.lexer (subst P c.new-lexer.ensures c.in_ok-first.ensures)).0)
 
+pub invariant_of-result : goal.invariant_of-result
+invariant_of-result c =
+    let P : Reading → Type 0 = λ r. TakesHeader r c.in_ok-first.first (map part_of c.in_ok-first.header.items) c.header.new.lexer in
+    record { read = ∣ (c.args.text.now, is_read c.args.text.now c.split_at-2.result.1.now c.split_at.result.0.now c.in_ok-first.first c.place-end.result (map part_of c.in_ok-first.header.items) (map row_of c.in_ok-records.records.entries) c.header.new.lexer c.data.new.lexer (subst P c.new-lexer.ensures c.in_ok-first.ensures) c.in_ok-records.ensures c.place-end.ensures c.split_at.ensures.front c.split_at-2.ensures.back) ∣₁ }
+
 pub returns : goal.returns
 returns c =
     let P : Reading → Type 0 = λ r. TakesHeader r c.in_ok-first.first (map part_of c.in_ok-first.header.items) c.header.new.lexer in
-    let h = subst P c.new-lexer.ensures c.in_ok-first.ensures in
-    let b = header_bounds c.args.text.now c.in_ok-first.first (map part_of c.in_ok-first.header.items) c.header.new.lexer h in
-    let e : c.split_at-2.result.1.now ≡ take (c.header.new.lexer.place - c.in_ok-first.first) (drop c.in_ok-first.first c.args.text.now) =
-    c.split_at-2.ensures.back ∙ ap (drop c.in_ok-first.first) (c.split_at.ensures.front ∙ ap (λ n. take n c.args.text.now) c.place-end.ensures) ∙ between c.args.text.now c.in_ok-first.first c.header.new.lexer.place b.0 in
-    let found = is_read c.args.text.now c.split_at-2.result.1.now c.in_ok-first.first (map part_of c.in_ok-first.header.items) (map row_of c.in_ok-records.records.entries) c.header.new.lexer c.data.new.lexer h c.in_ok-records.ensures e in
+    let found = is_read c.args.text.now c.split_at-2.result.1.now c.split_at.result.0.now c.in_ok-first.first c.place-end.result (map part_of c.in_ok-first.header.items) (map row_of c.in_ok-records.records.entries) c.header.new.lexer c.data.new.lexer (subst P c.new-lexer.ensures c.in_ok-first.ensures) c.in_ok-records.ensures c.place-end.ensures c.split_at.ensures.front c.split_at-2.ensures.back in
     record { found = found; all = (λ front file g. found_all c.args.text.now c.split_at-2.result.1.now (file_of c.in_ok-first.header.items c.in_ok-records.records.entries) found front file g); fault = tt }
