@@ -2,12 +2,12 @@
 use Rattle.std.proofs.Common.{◌≡◌, ℕ, ◌+◌, ◌-◌, ◌≤◌, List, [], ◌∷◌, ◌++◌, length, take, drop, refl, sym, ap, ◌∙◌, subst, arith, length-append, append_assoc, Some, None, codes, false, nat_eq}
 use Rattle.std.proofs.lemmas.Bool.Decides.{nat_tests}
 use Rattle.step_lexis.specs.declared.token.Token.{Token}
-use Rattle.step_lexis.specs.Tokens.{IsNext}
+use Rattle.step_literals.specs.Tokens.{IsNext}
 use Rattle.step_lexis.specs.Front.{kind_of}
 use Rattle.step_lexis.specs.Layout.{NoBlank}
 use Rattle.step_lexis.specs.Reading.{Reading, Takes, Reaches, start, start_of, left}
-use Rattle.step_lexis.proofs.Runs.{front_back}
-use Rattle.step_lexis.proofs.Longest.{Group, group, group_at, group_of, first_group}
+use Rattle.step_literals.proofs.Runs.{front_back}
+use Rattle.step_literals.proofs.Longest.{Group, group, group_at, group_of, first_group}
 use Rattle.step_lexis.proofs.Closers.{next_kept, no_blank_at_token}
 use Rattle.step_lexis.proofs.Determined.{same_place}
 use Rattle.step_lexis.proofs.Standing.{Stands, stands, whole, token_at, takes}

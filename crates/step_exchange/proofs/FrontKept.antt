@@ -3,8 +3,8 @@ use Rattle.std.proofs.Common.{◌≡◌, ℕ, ◌+◌, ◌≤◌, List, [], ◌�
 use Rattle.step_lexis.specs.declared.token.Mark.TheVariants.{Semicolon}
 use Rattle.step_lexis.specs.declared.token.Sort.{Sort}
 use Rattle.step_lexis.specs.declared.token.Sort.TheVariants as sorts
-use Rattle.step_lexis.specs.declared.fault.Flaw.{Flaw}
-use Rattle.step_lexis.specs.Tokens.{IsNext}
+use Rattle.step_literals.specs.declared.fault.Flaw.{Flaw}
+use Rattle.step_literals.specs.Tokens.{IsNext}
 use Rattle.step_lexis.specs.Front.{kind_of, mark_byte, HasValue}
 use Rattle.step_lexis.specs.Reading.{Reading, left}
 use Rattle.step_lexis.proofs.Closers.{next_kept}

@@ -1,10 +1,9 @@
 -- What a token, a fault or the end of the text means for what was to come.
-use Rattle.std.proofs.Common.{◌≡◌, ℕ, ◌==◌, true, false, List, [], ◌∷◌, Err, refl, sym, ap, ◌∙◌, subst}
+use Rattle.std.proofs.Common.{◌≡◌, ℕ, true, false, List, [], ◌∷◌, Err, refl, sym, ap, ◌∙◌, subst}
 use Rattle.std.proofs.lemmas.Bool.{false≢true}
 use Rattle.step_lexis.specs.declared.token.Mark.{Mark}
-use Rattle.step_lexis.specs.declared.token.Mark.TheVariants.{Open, Close, Comma, Semicolon, Equals, Dollar, Asterisk}
-use Rattle.step_lexis.specs.declared.fault.Flaw.{Flaw}
-use Rattle.step_lexis.specs.declared.fault.TextFault as lexis
+use Rattle.step_literals.specs.declared.fault.Flaw.{Flaw}
+use Rattle.step_literals.specs.declared.fault.TextFault as lexis
 use Rattle.step_lexis.specs.Reading.{Reading, Takes, IsAtEnd, IsFaulty}
 use Rattle.step_lexis.specs.declared.token.Token.{Token}
 use Rattle.step_exchange.specs.declared.fault.Kind.TheVariants as kinds
@@ -14,7 +13,7 @@ use Rattle.step_exchange.specs.Words.{mark, keyword, Sight, token, flawed, over,
 use Rattle.step_exchange.specs.Trees.{this, says, Meets}
 use Rattle.step_exchange.specs.Fits.{the_rules}
 use Rattle.step_exchange.specs.Texts.{Reads}
-use Rattle.step_exchange.specs.Predict.{Symbol, Just, Start, Say, Head, Records, Ended, Data, Behind, Rows, Body, Parts, Value, Items, More, Finish, Over, next, refused, is_mark, is_word, mark_code, StopsIn}
+use Rattle.step_exchange.specs.Predict.{Symbol, Just, Start, Say, Head, Records, Ended, Data, Behind, Rows, Body, Parts, Value, Items, More, Finish, Over, next, refused, is_mark, is_word, StopsIn}
 use Rattle.step_exchange.proofs.Sound.{same_mark}
 use Rattle.step_exchange.proofs.Turning.{stops_token, stops_shown, reads_token}
 

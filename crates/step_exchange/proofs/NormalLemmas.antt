@@ -7,7 +7,8 @@ use Rattle.step_lexis.specs.declared.token.Mark.TheVariants.{Open, Close, Comma,
 use Rattle.step_exchange.specs.Words.{Word, keyword, user_defined, name, number, element, string, binary, mark}
 use Rattle.step_exchange.specs.Trees.{Tree, leaf, typed, group, Trees, none, one, Part, Form, internal, external, Row, Item, this, named, is_said, items_of_tree, items_of_trees, items_of_more, items_of_part, items_of_parts, items_of_form, items_of_row, items_of_rows, items_of_data, items_of_end, section}
 use Rattle.step_exchange.specs.Fits.{Rules, IsLeaf, FitsTree, FitsTrees, FitsPart, FitsParts, FitsForm, FitsRows, Where, has_keyword}
-use Rattle.step_exchange.specs.Normal.{upper, plain_word, plain_name, plain_tree, plain_trees, plain_more, plain_part, plain_parts, plain_form, plain_rows, normal_word, normal_tree, normal_trees, normal_part, normal_form, normal_row, normal_rows, NormalStays}
+use Rattle.step_literals.specs.Words.{upper}
+use Rattle.step_exchange.specs.Normal.{plain_word, plain_name, plain_tree, plain_trees, plain_more, plain_part, plain_parts, plain_form, plain_rows, normal_word, normal_tree, normal_trees, normal_part, normal_form, normal_row, normal_rows, NormalStays}
 use Rattle.step_exchange.proofs.Spelling.{lower_upper}
 use Rattle.step_exchange.proofs.Written.{normal_item}
 

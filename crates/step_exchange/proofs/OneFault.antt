@@ -2,7 +2,7 @@
 use Rattle.std.proofs.Common.{◌≡◌, ℕ, Bool, true, false, if◌then◌else◌, List, [], ◌∷◌, ◌++◌, refl, sym, ap, ◌∙◌, subst, append_assoc, append-nil, ◌⊎◌, inl, inr}
 use Rattle.std.specs.Prelude.{codes}
 use Rattle.step_lexis.specs.declared.token.Mark.TheVariants.{Open, Semicolon}
-use Rattle.step_lexis.specs.declared.fault.Flaw.{Flaw}
+use Rattle.step_literals.specs.declared.fault.Flaw.{Flaw}
 use Rattle.step_lexis.specs.Reading.{start}
 use Rattle.step_exchange.specs.declared.fault.Kind.{Kind}
 use Rattle.step_exchange.specs.declared.fault.Kind.TheVariants as kinds

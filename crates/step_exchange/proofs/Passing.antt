@@ -7,7 +7,7 @@ use Rattle.step_exchange.specs.Words.{Word, begins, ends, keyword, name, number,
 use Rattle.step_exchange.specs.Trees.{Tree, leaf, typed, group, Trees, none, one, Part, Form, internal, external, Row, File, Item, this, says, named, finish, is_said, Meets, Begins, items_of_tree, items_of_more, items_of_list, items_of_part, items_of_parts, items_of_form, items_of_row, items_of_rows, items_of_records, section, items_of_start, items_of_header, items_of_data, items_of_end, items_of_file}
 use Rattle.step_exchange.specs.Fits.{Rules, IsLeaf, FitsTree, FitsTrees, FitsPart, Where, has_keyword, FitsParts, FitsForm, has_name, FitsRows, FitsRecords, IsHeader, FitsHeader, FitsFile}
 use Rattle.step_exchange.specs.Texts.{items_of_opening}
-use Rattle.step_exchange.proofs.Begins.{begins_join, begins_split, begins_append, meets_this}
+use Rattle.step_exchange.proofs.Begins.{begins_split, meets_this}
 use Rattle.step_exchange.specs.Predict.{Symbol, Just, Start, Say, Head, Records, Ended, Data, Behind, Rows, Body, Parts, Value, Items, More, Finish, Over, is_mark, mark_code, record_symbols, row_symbols, opening_symbols, data_symbols, file_symbols, next, next_value, next_items, next_name, then_more, Outcome, passes, stops, step_on, run}
 
 pub begins_regroup : (s : List Seen) (a b c : List Item) (rest : List Seen) → Begins s (a ++ b ++ c) rest → Begins s (a ++ (b ++ c)) rest

@@ -6,7 +6,8 @@ use Rattle.step_lexis.specs.Front.{mark_byte}
 use Rattle.step_lexis.proofs.Closers.{is_closer}
 use Rattle.step_exchange.specs.Words.{Word, keyword, mark}
 use Rattle.step_exchange.specs.Trees.{Tree, leaf, typed, group, Trees, none, one, Part, Form, internal, external, Row, Item, this, named, finish, items_of_tree, items_of_trees, items_of_more, items_of_part, items_of_parts, items_of_form, items_of_row, items_of_rows, items_of_data, items_of_end, section}
-use Rattle.step_exchange.specs.Normal.{upper, plain_word, plain_name, plain_tree, plain_trees, plain_more, plain_part, plain_parts, plain_form, plain_row, plain_rows}
+use Rattle.step_literals.specs.Words.{upper}
+use Rattle.step_exchange.specs.Normal.{plain_word, plain_name, plain_tree, plain_trees, plain_more, plain_part, plain_parts, plain_form, plain_row, plain_rows}
 use Rattle.step_exchange.proofs.Written.{Written, StartsClosed, follows_word}
 
 closed : (c : ℕ) (s : List ℕ) → is_closer c ≡ true → StartsClosed (c ∷ s)

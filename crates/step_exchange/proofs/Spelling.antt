@@ -7,16 +7,16 @@ use Rattle.std.proofs.lemmas.Slice.Eq.{bytes_eq-Decides}
 use Rattle.std.proofs.lemmas.Str.Ascii.{lowercase-uppercase}
 use Rattle.step_lexis.specs.declared.token.Sort.{Sort}
 use Rattle.step_lexis.specs.declared.token.Sort.TheVariants as sorts
-use Rattle.step_lexis.specs.Bytes.{is_letter, is_word_byte, Each}
-use Rattle.step_lexis.specs.Tokens.{Kind, IsKeyword, Spells, Allows, IsNext}
-use Rattle.step_lexis.specs.Tokens as kinds
-use Rattle.step_lexis.specs.Literals.{IsDecimal, IsText}
+use Rattle.step_literals.specs.Bytes.{is_letter, is_word_byte, Each}
+use Rattle.step_literals.specs.Tokens.{Kind, IsKeyword, Spells, Allows, IsNext}
+use Rattle.step_literals.specs.Tokens as kinds
+use Rattle.step_literals.specs.Literals.{IsDecimal, IsText}
 use Rattle.step_lexis.specs.Front.{kind_of, HasValue}
 use Rattle.step_lexis.specs.Reading.{Reading}
 use Rattle.step_lexis.proofs.Standing.{stands}
 use Rattle.step_exchange.specs.Words.{Word, begins, ends, keyword, user_defined, scope, name, number, element, string, binary, mark, word_of, token, over, Seen, Shows, shows_token, shows_fault, shows_end, ShowsAll}
 use Rattle.step_exchange.specs.Trees.{Item, this, says, named, finish, Meets, Begins, is_said}
-use Rattle.step_exchange.specs.Normal.{upper}
+use Rattle.step_literals.specs.Words.{upper}
 use Rattle.step_exchange.proofs.FrontKept.{no_flaw}
 
 -- a word is spelt as a token is

@@ -7,7 +7,7 @@ use Rattle.step_exchange.specs.Words.{Word, keyword, name, mark, Sight, token, f
 use Rattle.step_exchange.specs.Trees.{Tree, leaf, typed, group, Trees, none, one, Part, Form, internal, external, Row, File, Item, this, says, named, finish, Meets, Begins, items_of_tree, items_of_more, items_of_list, items_of_part, items_of_parts, items_of_form, items_of_row, items_of_rows, items_of_records, items_of_start, items_of_header, items_of_data, items_of_end, items_of_file, section}
 use Rattle.step_exchange.specs.Fits.{Rules, IsLeaf, FitsTree, FitsTrees, FitsPart, FitsParts, FitsForm, FitsRows, FitsRecords, FitsHeader, FitsFile}
 use Rattle.step_exchange.specs.Texts.{items_of_opening}
-use Rattle.step_exchange.proofs.Begins.{meets_this, begins_split}
+use Rattle.step_exchange.proofs.Begins.{begins_split}
 
 abbrev pub Same : {A : Type 0} → A → A → List Seen → List Seen → Type 0
 Same x y r q = (x ≡ y) × (r ≡ q)

@@ -12,7 +12,8 @@ use Rattle.step_exchange.specs.declared.tree.Form.{Form}
 use Rattle.step_exchange.specs.Prints.{Printing, Prints}
 use Rattle.step_exchange.specs.Trees.{Tree, typed, group}
 use Rattle.step_exchange.specs.Views.{tree_step, tree_of, trees_of, part_of, row_of}
-use Rattle.step_exchange.specs.Normal.{upper, plain_tree, plain_more, plain_part, plain_parts, plain_row, plain_rows}
+use Rattle.step_literals.specs.Words.{upper}
+use Rattle.step_exchange.specs.Normal.{plain_tree, plain_more, plain_part, plain_parts, plain_row, plain_rows}
 use Rattle.step_exchange.proofs.Printing.{then_print, prints_as}
 
 -- in a loop over a list: what the first elements come to is printed, and then what one more comes to

@@ -12,10 +12,10 @@ use Rattle.step_lexis.specs.declared.token.Mark.{Mark}
 use Rattle.step_lexis.specs.declared.token.Mark.TheVariants.{Open, Close, Comma, Semicolon, Equals, Dollar, Asterisk}
 use Rattle.step_lexis.specs.declared.token.Sort.{Sort}
 use Rattle.step_lexis.specs.declared.token.Sort.TheVariants as sorts
-use Rattle.step_lexis.specs.Bytes.{is_digit, Each}
-use Rattle.step_lexis.specs.Tokens.{Kind, is_mark, IsKeyword, Spells, Allows, IsNext}
-use Rattle.step_lexis.specs.Tokens as kinds
-use Rattle.step_lexis.specs.Literals.{IsDecimal}
+use Rattle.step_literals.specs.Bytes.{is_digit, Each}
+use Rattle.step_literals.specs.Tokens.{Kind, is_mark, IsKeyword, Spells, Allows, IsNext}
+use Rattle.step_literals.specs.Tokens as kinds
+use Rattle.step_literals.specs.Literals.{IsDecimal}
 use Rattle.step_lexis.specs.Layout.{IsLayout, NoBlank}
 use Rattle.step_lexis.specs.Layout as blanks
 use Rattle.step_lexis.specs.Front.{kind_of, mark_byte, HasValue}
@@ -26,7 +26,8 @@ use Rattle.step_lexis.proofs.Standing.{Stands, token_at, takes}
 use Rattle.step_exchange.specs.Words.{Word, begins, ends, keyword, user_defined, scope, name, number, element, string, binary, mark, word_of, token, seen, seen_end, shows_token, shows_end}
 use Rattle.step_exchange.specs.Trees.{Item, this, says, named, finish, Meets, is_said}
 use Rattle.step_exchange.specs.Texts.{Reads}
-use Rattle.step_exchange.specs.Normal.{upper, plain_word, plain_name, normal_word}
+use Rattle.step_literals.specs.Words.{upper}
+use Rattle.step_exchange.specs.Normal.{plain_word, plain_name, normal_word}
 use Rattle.step_exchange.proofs.FrontKept.{at}
 use Rattle.step_exchange.proofs.Spelling.{IsSpelt, AllSpelt, upper_keyword, lower_upper}
 

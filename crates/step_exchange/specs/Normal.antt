@@ -1,14 +1,10 @@
 -- The normal text of an exchange structure, and the laws of it.
 use Rattle.std.specs.Prelude.{◌≡◌, ℕ, List, [], ◌∷◌, ◌++◌, map, codes, decimal}
-use Rattle.std.specs.Char.{to_ascii_uppercase}
+use Rattle.step_literals.specs.Words.{upper}
 use Rattle.step_lexis.specs.Front.{mark_byte}
 use Rattle.step_exchange.specs.Words.{Word, begins, ends, keyword, user_defined, scope, name, number, element, string, binary, mark}
 use Rattle.step_exchange.specs.Trees.{Tree, leaf, typed, group, Trees, none, one, Part, Form, internal, external, Row, File}
 use Rattle.step_exchange.specs.Texts.{ReadsAs}
-
--- a word in upper case
-abbrev pub upper : List ℕ → List ℕ
-upper w = map to_ascii_uppercase w
 
 -- an instance name or a reference
 abbrev pub plain_name : ℕ → List ℕ

@@ -4,8 +4,8 @@ use Rattle.step_lexis.specs.declared.token.Mark.{Mark}
 use Rattle.step_lexis.specs.declared.token.Sort.{Sort}
 use Rattle.step_lexis.specs.declared.token.Sort.TheVariants as sorts
 use Rattle.step_lexis.specs.declared.token.Token.{Token}
-use Rattle.step_lexis.specs.declared.fault.Flaw.{Flaw}
-use Rattle.step_lexis.specs.declared.fault.TextFault.{TextFault}
+use Rattle.step_literals.specs.declared.fault.Flaw.{Flaw}
+use Rattle.step_literals.specs.declared.fault.TextFault.{TextFault}
 use Rattle.step_lexis.specs.Reading.{Reading, Takes, IsAtEnd, IsFaulty}
 
 -- a token without its place; literals are as they are spelt, an element is what stands between its dots

@@ -4,7 +4,7 @@ ghost use Rattle.std.specs.Prelude.{◌≡◌};
 ghost use Rattle.step_exchange.specs.declared.fault.TextFault.TheVariants.{Memory};
 
 use std::alloc::{AllocError, AllocFailed};
-use step_lexis::fault::Flaw;
+use step_literals::fault::Flaw;
 use thiserror::Error;
 
 /// Parts of the standard that are left out, and limits.

@@ -14,8 +14,8 @@ use crate::tokens::{expect, expect_word, fault_at, is_mark, is_said, refuse, tak
 use crate::tree::{Param, Part};
 use std::alloc::Global;
 use step_lexis::lexer::Lexer;
-use step_lexis::literal::Word;
 use step_lexis::token::{Mark, Sort};
+use step_literals::literal::Word;
 
 /// Reads up to the first record, and answers the place of the first token.
 fn start(lexer: &mut Lexer<'_>) -> Result<u64, TextFault>

@@ -11,8 +11,8 @@ use crate::tokens::{expect, fault_at, is_mark, refuse, take};
 use crate::tree::Param;
 use std::alloc::Global;
 use step_lexis::lexer::Lexer;
-use step_lexis::literal::Word;
 use step_lexis::token::{Mark, Sort, Token};
+use step_literals::literal::Word;
 
 /// So many parentheses may be open at once.
 const LEVELS: u32 = 64;

@@ -17,8 +17,8 @@ use crate::tree::{Form, Part};
 use indexmap::IndexMap;
 use std::alloc::Global;
 use step_lexis::lexer::Lexer;
-use step_lexis::literal::Word;
 use step_lexis::token::{Mark, Sort, Token};
+use step_literals::literal::Word;
 
 /// So many instances may stand.
 const INSTANCES: usize = 0xFFFF_FFFF;

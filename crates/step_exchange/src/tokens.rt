@@ -12,8 +12,8 @@ ghost use Rattle.step_exchange.specs.Predict.{Symbol, Just, Say, Over, StopsIn, 
 
 use crate::fault::{Kind, LeftOut, TextFault};
 use step_lexis::lexer::Lexer;
-use step_lexis::literal::Word;
 use step_lexis::token::{Mark, Sort, Token};
+use step_literals::literal::Word;
 
 /// The next token, where the text doesn't end.
 pub fn take<'a>(lexer: &mut Lexer<'a>) -> Result<Token<'a>, TextFault>

@@ -1,6 +1,6 @@
 //! Parameters, records and instances (ISO 10303-21, 5.3, 8 and 11).
 
-use step_lexis::literal::{Bits, Decimal, Text, Word};
+use step_literals::literal::{Bits, Decimal, Text, Word};
 
 /// A parameter.
 #[derive(Drop)]

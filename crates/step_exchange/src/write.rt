@@ -6,7 +6,8 @@ ghost use Rattle.std.specs.List.{list_any};
 ghost use Rattle.step_exchange.specs.Prints.{Prints};
 ghost use Rattle.step_exchange.specs.Emits.{Emits};
 ghost use Rattle.step_exchange.specs.Views.{tree_of, trees_of, part_of, form_of, row_of, file_of};
-ghost use Rattle.step_exchange.specs.Normal.{upper, plain_name, plain_tree, plain_trees, plain_part, plain_parts, plain_form, plain_row, plain_rows, plain_text, normal_file};
+ghost use Rattle.step_literals.specs.Words.{upper};
+ghost use Rattle.step_exchange.specs.Normal.{plain_name, plain_tree, plain_trees, plain_part, plain_parts, plain_form, plain_row, plain_rows, plain_text, normal_file};
 ghost use Rattle.step_exchange.specs.Texts.{ReadsAs};
 
 use crate::device::{Sink, WriteFault};

@@ -5,12 +5,12 @@ use Rattle.std.specs.List.{list_all}
 use Rattle.std.specs.Char.{to_ascii_lowercase}
 use Rattle.std.proofs.lemmas.Bool.{false≢true}
 use Rattle.std.proofs.lemmas.Bool.Decides.{nat_tests}
-use Rattle.step_lexis.specs.Bytes.{is_digit, is_letter, is_word_byte, is_hex, Each}
-use Rattle.step_lexis.specs.Tokens.{Kind, begins, ends, keyword, user_defined, scope, name, integer, real, element, string, binary, mark, is_mark, is_sign, is_e, IsSign, IsKeyword, IsExponent, Allows, IsNext}
-use Rattle.step_lexis.proofs.Longest.{group, group_of, group_at, first_group, apostrophe, same_group, no_empty}
+use Rattle.step_literals.specs.Bytes.{is_digit, is_letter, is_word_byte, is_hex, Each}
+use Rattle.step_literals.specs.Tokens.{Kind, begins, ends, keyword, user_defined, scope, name, integer, real, element, string, binary, mark, is_mark, is_sign, is_e, IsSign, IsKeyword, IsExponent, Allows, IsNext}
+use Rattle.step_literals.proofs.Longest.{group, group_of, group_at, first_group, apostrophe, same_group, no_empty}
 use Rattle.step_lexis.specs.Layout.{Blank, space, new_line, form_feed, comment, SpellsBlank, NoBlank}
 use Rattle.step_lexis.proofs.LayoutLemmas.{blank_head}
-use Rattle.step_lexis.proofs.StringLemmas.{next_string}
+use Rattle.step_literals.proofs.StringLemmas.{next_string}
 
 -- layout begins with it, or it is a mark
 abbrev pub is_closer : ℕ → Bool

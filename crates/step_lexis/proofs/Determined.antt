@@ -2,14 +2,14 @@
 use Rattle.std.proofs.Common.{◌≡◌, ℕ, ◌≤◌, ◌<◌, ◌^◌, List, [], ◌∷◌, ◌++◌, length, take, drop, refl, sym, ap, ◌∙◌, ◌-◌, subst, arith, length-drop, length-append, take-append-drop, Option, Some, None, Result, Ok, Err, ◌⊎◌, inl, inr}
 use Rattle.std.specs.Str.Parse.{digits_value}
 use Rattle.step_lexis.specs.declared.token.Token.{Token}
-use Rattle.step_lexis.specs.declared.fault.TextFault.{TextFault}
+use Rattle.step_literals.specs.declared.fault.TextFault.{TextFault}
 use Rattle.step_lexis.specs.declared.token.Sort.{Sort}
 use Rattle.step_lexis.specs.declared.token.Sort.TheVariants as sorts
-use Rattle.step_lexis.specs.declared.fault.Flaw.{Flaw}
-use Rattle.step_lexis.specs.declared.fault.Flaw.TheVariants.{BadToken, UnendedString, BadEscape, NumberTooLong, NameTooLarge}
-use Rattle.step_lexis.specs.Tokens.{Kind, name, integer, real, string, IsNext, NoneAt}
-use Rattle.step_lexis.specs.Numbers.{IsShortNumber}
-use Rattle.step_lexis.specs.Strings.{content_of, IsReadable, IsBrokenAt}
+use Rattle.step_literals.specs.declared.fault.Flaw.{Flaw}
+use Rattle.step_literals.specs.declared.fault.Flaw.TheVariants.{BadToken, UnendedString, BadEscape, NumberTooLong, NameTooLarge}
+use Rattle.step_literals.specs.Tokens.{Kind, name, integer, real, string, IsNext, NoneAt}
+use Rattle.step_literals.specs.Numbers.{IsShortNumber}
+use Rattle.step_literals.specs.Strings.{content_of, IsReadable, IsBrokenAt}
 use Rattle.step_lexis.specs.Front.{kind_of, mark_byte, HasValue, IsFront, IsFlawed, HasBadEscape}
 use Rattle.step_lexis.specs.Reading.{Reading, Reaches, Takes, IsAtEnd, IsFaulty, Answers, SameSort, SameAnswer}
 use Rattle.step_lexis.specs.declared.token.Mark.{Mark}
@@ -18,7 +18,7 @@ use Rattle.std.specs.Prelude.{◌==◌, if◌then◌else◌}
 use Rattle.step_lexis.specs.Layout.{NoBlank}
 use Rattle.std.proofs.lemmas.List.{append_cancel_right}
 use Rattle.step_lexis.proofs.Unique.{one_next}
-use Rattle.step_lexis.proofs.DirectiveLemmas.{broken_once, readable_not_broken}
+use Rattle.step_literals.proofs.DirectiveLemmas.{broken_once, readable_not_broken}
 use Rattle.step_lexis.proofs.LayoutLemmas.{one_rest}
 use Rattle.step_lexis.proofs.ReadingLemmas.{some_bytes}
 

@@ -1,30 +1,27 @@
 -- Names, elements and marks.
-use Rattle.std.proofs.Common.{◌≡◌, ℕ, ◌+◌, ◌*◌, ◌-◌, ◌≤◌, ◌<◌, Bool, true, false, List, [], ◌∷◌, ◌++◌, length, get_or, take, drop, refl, sym, ap, ◌∙◌, subst, arith, append_assoc, length-append, take-append-drop, None, ◌||◌, suc, add-one}
+use Rattle.std.proofs.Common.{◌≡◌, ℕ, ◌+◌, ◌-◌, ◌≤◌, ◌<◌, Bool, true, false, List, [], ◌∷◌, ◌++◌, length, get_or, take, drop, refl, sym, ap, ◌∙◌, subst, arith, append_assoc, length-append, take-append-drop, None, ◌||◌}
 use Rattle.std.specs.Prelude.{◌==◌}
 use Rattle.std.specs.List.{prefix_len}
-use Rattle.std.specs.Char.{digit_value}
-use Rattle.std.specs.Str.Parse.{digits_value_after}
 use Rattle.std.proofs.lemmas.Bool.{false≢true}
 use Rattle.std.proofs.lemmas.Bool.Decides.{nat_tests}
-use Rattle.std.proofs.Math.ListN.{length-take, drop_of_length-le}
-use Rattle.std.proofs.Math.Seq.{drop-cons}
+use Rattle.std.proofs.Math.ListN.{length-take}
 use Rattle.std.proofs.lemmas.List.Sums.{prefix_len-le-length}
-use Rattle.step_lexis.specs.Bytes.{is_letter, is_digit, is_word_byte, Each, Stops}
-use Rattle.step_lexis.specs.Tokens.{Kind, name, element, string, mark, IsKeyword, IsDigits, is_mark, is_sign, Allows, IsNext, NoneAt, doubled, Spells}
-use Rattle.step_lexis.specs.Numbers.{StartsNumber}
+use Rattle.step_literals.specs.Bytes.{is_letter, is_digit, is_word_byte, Each, Stops}
+use Rattle.step_literals.specs.Tokens.{Kind, name, element, string, mark, IsKeyword, IsDigits, is_mark, is_sign, Allows, IsNext, NoneAt, doubled, Spells}
+use Rattle.step_literals.specs.Numbers.{StartsNumber}
 use Rattle.step_lexis.specs.declared.token.Mark.{Mark}
 use Rattle.step_lexis.specs.declared.token.Mark.TheVariants.{Open, Close, Comma, Semicolon, Equals, Dollar, Asterisk}
 use Rattle.step_lexis.specs.declared.token.Sort.TheVariants as sorts
-use Rattle.step_lexis.specs.declared.fault.Flaw.TheVariants.{BadToken}
-use Rattle.step_lexis.specs.declared.literal.Text.{Text}
-use Rattle.step_lexis.specs.Strings.{content_of, IsReadable, IsBrokenAt}
-use Rattle.step_lexis.specs.Literals.{IsText}
+use Rattle.step_literals.specs.declared.fault.Flaw.TheVariants.{BadToken}
+use Rattle.step_literals.specs.declared.literal.Text.{Text}
+use Rattle.step_literals.specs.Strings.{content_of, IsReadable, IsBrokenAt}
+use Rattle.step_literals.specs.Literals.{IsText}
 use Rattle.step_lexis.specs.Front.{mark_byte, IsFront, IsFlawed, HasBadEscape}
-use Rattle.step_lexis.proofs.Runs.{cut_unique, run_fits, run_at_prefix, front_back, stops_at, each_at}
-use Rattle.step_lexis.proofs.Longest.{hash, dot, marks, group, group_at, group_of, first_group, same_group}
-use Rattle.step_lexis.proofs.NumberLemmas.{dot_stops}
-use Rattle.step_lexis.proofs.NumberCuts.{digits_counted, digits_are, take_one}
-use Rattle.step_lexis.proofs.WordLemmas.{keyword_each, keyword_run}
+use Rattle.step_literals.proofs.Runs.{begins_with, cut_unique, run_fits, run_at_prefix, front_back, stops_at}
+use Rattle.step_literals.proofs.Longest.{hash, dot, marks, group, group_at, group_of, first_group, same_group}
+use Rattle.step_literals.proofs.NumberLemmas.{dot_stops}
+use Rattle.step_literals.proofs.NumberCuts.{digits_counted, digits_are, take_one}
+use Rattle.step_literals.proofs.KeywordLemmas.{keyword_each, keyword_run}
 
 longest_mark : (b : ℕ) (k : Kind) (other rest : List ℕ) → group k ≡ marks → Allows k other rest → length other ≤ 1
 longest_mark b mark other rest g a = omega (arith, ap length a.2)
@@ -96,15 +93,6 @@ element_no_dot l after ha stop =
     element_none l (λ w rest k e.
     let cut = cut_unique is_word_byte w (take (prefix_len is_word_byte l) l) (46 ∷ rest) (drop (prefix_len is_word_byte l) l) (keyword_each w k) run.passes refl run.stops (e ∙ sym (take-append-drop (prefix_len is_word_byte l) l)) in
     dot_stops after rest stop (cut.1 ∙ sym ha))
-
--- a list that begins with a byte
-pub begins_with : (b : ℕ) (l rest : List ℕ) → take 1 l ≡ b ∷ [] → rest ≡ drop 1 l → l ≡ b ∷ rest
-begins_with b l rest h e = sym (take-append-drop 1 l) ∙ (λ i. h i ++ sym e i)
-
--- more digits make no lesser number
-pub value_grows : (n : ℕ) (ds : List ℕ) → n ≤ digits_value_after 10 n ds
-value_grows n [] = omega arith
-value_grows n (d ∷ ds) = omega (arith, value_grows (n * 10 + digit_value d) ds)
 
 pub take_first : (b : ℕ) (l : List ℕ) → 0 < length l → get_or l 0 0 ≡ b → take 1 l ≡ b ∷ []
 take_first b l some h = take_one l some ∙ ap (λ x. x ∷ []) h
@@ -181,26 +169,6 @@ element_open_at l r after n h hr hn ha bare =
 
 pub run_taken : (p : ℕ → Bool) (l front : List ℕ) (n : ℕ) → n ≡ prefix_len p l → front ≡ take n l → Each p front
 run_taken p l front n hn hf = rw (hf, hn) (run_at_prefix p l).passes
-
-digit_is : (b : ℕ) → is_digit b ≡ true → (48 ≤ b) × (digit_value b ≡ b - 48)
-digit_is b h = (grind (arith, nat_tests), grind (arith, nat_tests))
-
--- one more digit is read
-module _ (ds : List ℕ) (i n total : ℕ) (digits : Each is_digit ds) (lt : i < length ds) (so_far : digits_value_after 10 n (drop i ds) ≡ total) where
-  pub digit_at : 48 ≤ get_or ds i 0
-  digit_at = (digit_is (get_or ds i 0) (each_at is_digit ds i digits lt)).0
-
-  pub value_more : digits_value_after 10 (n * 10 + (get_or ds i 0 - 48)) (drop (i + 1) ds) ≡ total
-  value_more =
-      let head : drop i ds ≡ get_or ds i 0 ∷ drop (suc i) ds = drop-cons ds i 0 lt in
-      let digit = (digit_is (get_or ds i 0) (each_at is_digit ds i digits lt)).1 in
-      (λ k. digits_value_after 10 (n * 10 + sym digit k) (drop (add-one i k) ds)) ∙ sym (ap (digits_value_after 10 n) head) ∙ so_far
-
-  pub value_bound : n * 10 + (get_or ds i 0 - 48) ≤ total
-  value_bound = omega (arith, value_grows (n * 10 + (get_or ds i 0 - 48)) (drop (i + 1) ds), value_more)
-
-pub value_whole : (ds : List ℕ) (i n total : ℕ) → length ds ≤ i → digits_value_after 10 n (drop i ds) ≡ total → n ≡ total
-value_whole ds i n total h e = sym (ap (digits_value_after 10 n) (drop_of_length-le ds h)) ∙ e
 
 -- the string that the code finds
 module _ (l t content : List ℕ) (n : ℕ) (within : n ≤ length l) (next : IsNext string (take n l) (drop n l)) (ht : t ≡ take n l) where

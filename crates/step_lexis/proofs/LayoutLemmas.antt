@@ -7,9 +7,9 @@ use Rattle.std.specs.List.{AllByRecursion}
 use Rattle.std.proofs.Math.ListN.{length-take}
 use Rattle.std.proofs.lemmas.List.{get_or-take}
 use Rattle.memchr.specs.Find.{FindsNeedle, OccursAt, Nowhere}
-use Rattle.step_lexis.specs.Tokens.{Says}
+use Rattle.step_literals.specs.Tokens.{Says}
 use Rattle.step_lexis.specs.Layout.{Blank, space, new_line, form_feed, comment, SpellsBlank, IsBlank, NoBlank, joined}
-use Rattle.step_lexis.proofs.Runs.{front_back}
+use Rattle.step_literals.proofs.Runs.{front_back}
 use Rattle.step_lexis.proofs.WordLemmas.{taken}
 
 abbrev pub star_slash : List ℕ

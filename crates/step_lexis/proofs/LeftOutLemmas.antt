@@ -6,15 +6,16 @@ use Rattle.std.proofs.lemmas.Bool.{false≢true}
 use Rattle.std.proofs.lemmas.List.{length-map}
 use Rattle.std.proofs.Math.ListN.{length-take}
 use Rattle.std.proofs.lemmas.List.Sums.{prefix_len-le-length}
-use Rattle.step_lexis.specs.Bytes.{is_letter, is_word_byte, Stops}
-use Rattle.step_lexis.specs.Tokens.{Kind, user_defined, scope, IsKeyword, Says, Allows, IsNext}
+use Rattle.step_literals.specs.Bytes.{is_letter, is_word_byte, Stops}
+use Rattle.step_literals.specs.Tokens.{Kind, user_defined, scope, IsKeyword, Says, Allows, IsNext}
 use Rattle.step_lexis.specs.declared.token.Sort.TheVariants as sorts
-use Rattle.step_lexis.specs.declared.fault.Flaw.TheVariants.{BadToken}
+use Rattle.step_literals.specs.declared.fault.Flaw.TheVariants.{BadToken}
 use Rattle.step_lexis.specs.Front.{IsFront, IsFlawed}
-use Rattle.step_lexis.proofs.Runs.{run_fits, run_at_prefix, front_back}
-use Rattle.step_lexis.proofs.Longest.{exclaim, ampersand, group, first_group, same_group}
-use Rattle.step_lexis.proofs.WordLemmas.{keyword_each, keyword_run, taken, said_len}
-use Rattle.step_lexis.proofs.FrontLemmas.{begins_with, one_only}
+use Rattle.step_literals.proofs.Runs.{begins_with, run_fits, run_at_prefix, front_back}
+use Rattle.step_literals.proofs.Longest.{exclaim, ampersand, group, first_group, same_group}
+use Rattle.step_literals.proofs.KeywordLemmas.{keyword_each, keyword_run}
+use Rattle.step_lexis.proofs.WordLemmas.{taken, said_len}
+use Rattle.step_lexis.proofs.FrontLemmas.{one_only}
 
 longest_user : (w after : List ℕ) → Stops is_word_byte after → (k : Kind) (other rest : List ℕ) → group k ≡ exclaim → Allows k other rest → other ++ rest ≡ 33 ∷ (w ++ after) → length other ≤ 1 + length w
 longest_user w after stop user_defined other rest g a e =

@@ -1,10 +1,10 @@
 -- How far a text is read.
 use Rattle.std.proofs.Common.{◌≡◌, ℕ, ◌+◌, ◌≤◌, List, length, drop, refl, sym, ap, ◌∙◌, arith, length-drop, subst, zero, suc, ◌<◌, length-append}
 use Rattle.std.proofs.lemmas.List.{drop-drop}
-use Rattle.step_lexis.specs.declared.fault.Flaw.{Flaw}
+use Rattle.step_literals.specs.declared.fault.Flaw.{Flaw}
 use Rattle.step_lexis.specs.declared.token.Token.{Token}
 use Rattle.step_lexis.specs.declared.token.Sort.{Sort}
-use Rattle.step_lexis.proofs.Longest.{no_empty}
+use Rattle.step_literals.proofs.Longest.{no_empty}
 use Rattle.step_lexis.specs.Front.{IsFlawed, IsFront, kind_of}
 use Rattle.step_lexis.specs.Layout.{SkipsLayout}
 use Rattle.step_lexis.specs.Reading.{Reading, Reaches, Takes, IsFaulty, left}

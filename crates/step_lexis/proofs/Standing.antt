@@ -3,11 +3,11 @@ use Rattle.std.proofs.Common.{◌≡◌, ℕ, ◌+◌, ◌≤◌, List, ◌++◌
 use Rattle.std.proofs.lemmas.List.{drop-drop}
 use Rattle.step_lexis.specs.declared.token.Token.{Token}
 use Rattle.step_lexis.specs.declared.token.Sort.{Sort}
-use Rattle.step_lexis.specs.Tokens.{IsNext}
+use Rattle.step_literals.specs.Tokens.{IsNext}
 use Rattle.step_lexis.specs.Front.{kind_of, HasValue}
 use Rattle.step_lexis.specs.Layout.{IsLayout, NoBlank}
 use Rattle.step_lexis.specs.Reading.{Reading, Takes, left}
-use Rattle.step_lexis.proofs.Runs.{front_back}
+use Rattle.step_literals.proofs.Runs.{front_back}
 use Rattle.step_lexis.proofs.Closers.{no_blank_at_token}
 use Rattle.step_lexis.proofs.ReadingLemmas.{some_bytes}
 

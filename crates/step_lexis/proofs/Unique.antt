@@ -2,12 +2,13 @@
 use Rattle.std.proofs.Common.{◌≡◌, ℕ, List, [], ◌∷◌, ◌++◌, length, refl, sym, ap, ◌∙◌, arith, append_assoc, codes, subst}
 use Rattle.std.specs.Char.{to_ascii_lowercase}
 use Rattle.std.proofs.lemmas.List.{length-map}
-use Rattle.step_lexis.specs.Bytes.{is_digit}
-use Rattle.step_lexis.specs.Tokens.{Kind, begins, ends, keyword, user_defined, scope, name, integer, real, element, string, binary, mark, Says, IsKeyword, Allows, IsNext}
-use Rattle.step_lexis.proofs.Runs.{cut_unique, front_back}
-use Rattle.step_lexis.proofs.Longest.{group, same_group}
-use Rattle.step_lexis.proofs.NumberLemmas.{sign_unique}
-use Rattle.step_lexis.proofs.WordLemmas.{keyword_stops, keyword_each}
+use Rattle.step_literals.specs.Bytes.{is_digit}
+use Rattle.step_literals.specs.Tokens.{Kind, begins, ends, keyword, user_defined, scope, name, integer, real, element, string, binary, mark, Says, IsKeyword, Allows, IsNext}
+use Rattle.step_literals.proofs.Runs.{cut_unique, front_back}
+use Rattle.step_literals.proofs.Longest.{group, same_group}
+use Rattle.step_literals.proofs.NumberLemmas.{sign_unique}
+use Rattle.step_literals.proofs.KeywordLemmas.{keyword_each}
+use Rattle.step_lexis.proofs.WordLemmas.{keyword_stops}
 
 said_length : (word t : List ℕ) → Says word t → length t ≡ length word
 said_length word t h = omega (arith, ap length h, length-map t to_ascii_lowercase, length-map word to_ascii_lowercase)

@@ -1,15 +1,14 @@
 -- The longest token that begins with a letter.
-use Rattle.std.proofs.Common.{◌≡◌, ℕ, ◌≤◌, true, List, [], ◌∷◌, ◌++◌, length, get_or, take, map, refl, sym, ap, ◌∙◌, arith, codes, one-add}
+use Rattle.std.proofs.Common.{◌≡◌, ℕ, ◌≤◌, List, [], ◌∷◌, ◌++◌, length, take, map, refl, sym, ap, ◌∙◌, arith, codes}
 use Rattle.std.specs.Char.{to_ascii_lowercase}
-use Rattle.std.specs.List.{prefix_len}
 use Rattle.std.proofs.lemmas.List.{length-map}
 use Rattle.std.proofs.lemmas.Bool.{false≢true}
-use Rattle.std.proofs.lemmas.Bool.Decides.{nat_tests}
 use Rattle.std.proofs.Math.ListN.{length-take}
-use Rattle.step_lexis.specs.Bytes.{is_letter, is_word_byte, Each, Stops}
-use Rattle.step_lexis.specs.Tokens.{Kind, begins, ends, keyword, IsKeyword, Says, Allows, IsNext}
-use Rattle.step_lexis.proofs.Runs.{run_fits, run_at_prefix, front_back}
-use Rattle.step_lexis.proofs.Longest.{words, group, same_group, lower_dash, says_first}
+use Rattle.step_literals.specs.Bytes.{is_word_byte, Each, Stops}
+use Rattle.step_literals.specs.Tokens.{Kind, begins, ends, keyword, IsKeyword, Says, Allows, IsNext}
+use Rattle.step_literals.proofs.Runs.{run_fits, front_back}
+use Rattle.step_literals.proofs.Longest.{words, group, same_group, lower_dash, says_first}
+use Rattle.step_literals.proofs.KeywordLemmas.{keyword_each}
 
 -- no word goes past a dash
 pub keyword_stops : (w tail t : List ℕ) (xs rest after : List ℕ) → map to_ascii_lowercase t ≡ w ++ 45 ∷ tail → Each is_word_byte xs → xs ++ rest ≡ t ++ after → length xs ≤ length w
@@ -25,13 +24,6 @@ keyword_stops (c ∷ w) tail (y ∷ ys) (x ∷ xs) rest after h each e =
     let more : map to_ascii_lowercase ys ≡ w ++ 45 ∷ tail = cc in
     let q : xs ++ rest ≡ ys ++ after = cc in
     omega (arith, keyword_stops w tail ys xs rest after more each.1 q)
-
-letter_in_word : (b : ℕ) → is_letter b ≡ true → is_word_byte b ≡ true
-letter_in_word b h = grind (arith, nat_tests)
-
-pub keyword_each : (t : List ℕ) → IsKeyword t → Each is_word_byte t
-keyword_each [] h = absurd h
-keyword_each (b ∷ bs) h = (letter_in_word b h.0, h.1)
 
 -- two texts at one place begin alike
 heads : (c d : ℕ) (cs ds t u after rest : List ℕ) → map to_ascii_lowercase t ≡ c ∷ cs → map to_ascii_lowercase u ≡ d ∷ ds → u ++ rest ≡ t ++ after → c ≡ d
@@ -76,11 +68,6 @@ module _ (l t after : List ℕ) (split : l ≡ t ++ after) (word : IsKeyword t) 
 
   pub next_keyword : IsNext keyword t after
   next_keyword = record { allowed = word; longest = λ k other rest e a. longest_keyword k other rest (same_group keyword k t after other rest word a e) a e }
-
--- a run that begins with a letter is a keyword
-pub keyword_run : (l : List ℕ) → is_letter (get_or l 0 0) ≡ true → IsKeyword (take (prefix_len is_word_byte l) l)
-keyword_run [] h = absurd (false≢true h)
-keyword_run (b ∷ bs) h = rw (letter_in_word b h, one-add) (h, (run_at_prefix is_word_byte bs).passes)
 
 pub said_len : (n : ℕ) (word l : List ℕ) → length word ≡ n → Says word (take n l) → n ≤ length l
 said_len n word l len h = omega (arith, ap length h, length-map (take n l) to_ascii_lowercase, length-map word to_ascii_lowercase, length-take n l, len)

@@ -6,11 +6,11 @@ use Rattle.step_lexis.specs.declared.token.Mark.{Mark}
 use Rattle.step_lexis.specs.declared.token.Mark.TheVariants.{Open, Close, Comma, Semicolon, Equals, Dollar, Asterisk}
 use Rattle.step_lexis.specs.declared.token.Sort.{Sort}
 use Rattle.step_lexis.specs.declared.token.Sort.TheVariants as sorts
-use Rattle.step_lexis.specs.declared.fault.Flaw.{Flaw}
-use Rattle.step_lexis.specs.declared.fault.Flaw.TheVariants.{BadToken, UnendedString, BadEscape, NumberTooLong, NameTooLarge}
-use Rattle.step_lexis.specs.Tokens.{Kind, begins, ends, keyword, user_defined, scope, name, integer, real, element, string, binary, mark, IsNext, NoneAt}
-use Rattle.step_lexis.specs.Numbers.{IsShortNumber}
-use Rattle.step_lexis.specs.Strings.{content_of, IsReadable, IsBrokenAt}
+use Rattle.step_literals.specs.declared.fault.Flaw.{Flaw}
+use Rattle.step_literals.specs.declared.fault.Flaw.TheVariants.{BadToken, UnendedString, BadEscape, NumberTooLong, NameTooLarge}
+use Rattle.step_literals.specs.Tokens.{Kind, begins, ends, keyword, user_defined, scope, name, integer, real, element, string, binary, mark, IsNext, NoneAt}
+use Rattle.step_literals.specs.Numbers.{IsShortNumber}
+use Rattle.step_literals.specs.Strings.{content_of, IsReadable, IsBrokenAt}
 
 abbrev pub kind_of : Sort → Kind
 kind_of sorts.Begin = begins

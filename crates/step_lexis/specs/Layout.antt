@@ -2,7 +2,7 @@
 use Rattle.std.specs.Prelude.{◌≡◌, ℕ, ◌+◌, ◌≤◌, List, [], ◌∷◌, ◌++◌, length, codes, Some}
 use Rattle.std.specs.List.{AllByRecursion}
 use Rattle.memchr.specs.Find.{FindsNeedle}
-use Rattle.step_lexis.specs.Tokens.{Says}
+use Rattle.step_literals.specs.Tokens.{Says}
 
 -- the lists, one after another
 abbrev pub joined : List (List ℕ) → List ℕ

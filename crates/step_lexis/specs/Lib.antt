@@ -1,10 +1,3 @@
-pub mod Bytes
-pub mod Tokens
-pub mod Numbers
-pub mod Strings
-pub mod Directives
-pub mod Literals
-pub mod Faults
 pub mod Front
 pub mod Layout
 pub mod Reading

@@ -4,7 +4,7 @@ use Rattle.std.specs.List.{starts_with}
 use Rattle.step_lexis.specs.declared.token.Token.{Token}
 use Rattle.step_lexis.specs.declared.token.Sort.{Sort}
 use Rattle.step_lexis.specs.declared.token.Sort.TheVariants as sorts
-use Rattle.step_lexis.specs.declared.fault.TextFault.{TextFault}
+use Rattle.step_literals.specs.declared.fault.TextFault.{TextFault}
 use Rattle.step_lexis.specs.Front.{IsFront, IsFlawed}
 use Rattle.step_lexis.specs.Layout.{SkipsLayout}
 

@@ -1,19 +1,19 @@
 //! The token at the front of what is left of a text, by its first byte.
 ghost use Rattle.std.specs.Prelude.{◌≡◌, ◌||◌, ◌≤◌, ◌<◌, ◌∷◌, [], length, take, drop, MatchResult, slice_index, true, false, IfSome, IfNone};
-ghost use Rattle.step_lexis.specs.Bytes.{is_digit, is_letter};
-ghost use Rattle.step_lexis.specs.Tokens.{is_mark, is_sign};
-ghost use Rattle.step_lexis.specs.Numbers.{StartsNumber};
+ghost use Rattle.step_literals.specs.Bytes.{is_digit, is_letter};
+ghost use Rattle.step_literals.specs.Tokens.{is_mark, is_sign};
+ghost use Rattle.step_literals.specs.Numbers.{StartsNumber};
 ghost use Rattle.step_lexis.specs.Front.{IsFront, IsFlawed, mark_byte};
 
-use crate::binaries::binary_len;
-use crate::bytes::{digits_len, is_letter, word_len};
-use crate::directives::broken_directive;
-use crate::fault::Flaw;
-use crate::literal::{Bits, Decimal, Text, Word};
-use crate::numbers::{is_short_number, number_len, number_of, starts_number};
-use crate::strings::{content_of, string_len};
 use crate::token::{Mark, Sort};
 use crate::words::{scope_at, user_defined_at, word_at};
+use step_literals::binaries::binary_len;
+use step_literals::bytes::{digits_len, is_letter, word_len};
+use step_literals::directives::broken_directive;
+use step_literals::fault::Flaw;
+use step_literals::literal::{Bits, Decimal, Text, Word};
+use step_literals::numbers::{is_short_number, number_len, number_of, starts_number};
+use step_literals::strings::{content_of, string_len};
 
 /// The number at the front of the bytes.
 fn number_at(bytes: &[u8]) -> Result<(Sort<'_>, usize), (Flaw, usize)>

@@ -1,11 +1,11 @@
 //! The lexer.
 ghost use Rattle.std.specs.Prelude.{◌≡◌};
 
-use crate::fault::TextFault;
 use crate::fronts::front_at;
 use crate::layout::layout_len;
 use crate::token::Token;
 use std::marker::Model;
+use step_literals::fault::TextFault;
 
 const BYTE_ORDER_MARK: [u8; 3] = [0xEF, 0xBB, 0xBF];
 

@@ -1,19 +1,11 @@
-//! Tokens of the exchange structure (ISO 10303-21), and its literals as they are spelt.
+//! Tokens of the exchange structure (ISO 10303-21), read one by one.
 //!
-//! Nothing here takes memory: tokens and literals are slices of the text that is read.
+//! Nothing here takes memory: tokens are slices of the text that is read.
 #![tactic(auto)]
 
-mod binaries;
-mod bytes;
-mod clean;
-mod directives;
-pub mod fault;
 mod fronts;
 pub mod laws;
 mod layout;
 pub mod lexer;
-pub mod literal;
-mod numbers;
-mod strings;
 pub mod token;
 mod words;

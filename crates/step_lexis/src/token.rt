@@ -1,6 +1,6 @@
 //! Tokens of the exchange structure (ISO 10303-21, 5.2 and 6).
 
-use crate::literal::{Bits, Decimal, Text, Word};
+use step_literals::literal::{Bits, Decimal, Text, Word};
 
 /// A mark between tokens.
 #[derive(Clone, Copy, Debug, PartialEq, Eq)]

@@ -1,13 +1,13 @@
 //! Tokens that begin with a letter, and those that the profile leaves out.
 ghost use Rattle.std.specs.Prelude.{◌≡◌, ◌≤◌, ◌∷◌, ◌↔◌, [], length, take, drop, IsTrue, slice_index, true, MatchResult};
-ghost use Rattle.step_lexis.specs.Bytes.{is_letter};
-ghost use Rattle.step_lexis.specs.Tokens.{Says};
+ghost use Rattle.step_literals.specs.Bytes.{is_letter};
+ghost use Rattle.step_literals.specs.Tokens.{Says};
 ghost use Rattle.step_lexis.specs.Front.{IsFront, IsFlawed};
 
-use crate::bytes::{is_letter, word_len};
-use crate::fault::Flaw;
-use crate::literal::Word;
 use crate::token::Sort;
+use step_literals::bytes::{is_letter, word_len};
+use step_literals::fault::Flaw;
+use step_literals::literal::Word;
 
 /// Whether the bytes begin with this word, whatever the case of its letters.
 pub fn says(bytes: &[u8], word: &[u8]) -> bool

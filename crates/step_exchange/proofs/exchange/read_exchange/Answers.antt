@@ -1,4 +1,4 @@
-use Rattle.std.proofs.Common.{ap, ◌∙◌, ◌≡◌, ◌+◌, ◌-◌, ◌≤◌, ℕ, map, List, subst, take, drop, arith}
+use Rattle.std.proofs.Common.{map, subst, arith}
 use Rattle.std.proofs.lemmas.Result.{err_from_is_err_and}
 use Rattle.step_lexis.specs.Reading.{Reading}
 use Rattle.step_exchange.specs.Views.{part_of, row_of, file_of}

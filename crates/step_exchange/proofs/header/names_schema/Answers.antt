@@ -1,6 +1,6 @@
 use Rattle.std.proofs.Common.{[], ◌∷◌, IsTrue, ◌↔◌, ◌≡◌, ◌≤◌, ◌<◌, false, List, Vec, Global, sym, ap, ◌∙◌, refl, subst, length, get_or, arith}
 use Rattle.std.proofs.lemmas.Bool.{false≢true}
-use Rattle.step_lexis.specs.declared.literal.Text.{Text as Literal}
+use Rattle.step_literals.specs.declared.literal.Text.{Text as Literal}
 use Rattle.step_exchange.specs.declared.tree.Param.{Param, Text, List as Listed, out-Param, roll-Param, roll-out-Param, map-Param, fold_out-Param, fold-roll-Param}
 use Rattle.step_exchange.specs.declared.tree.Param.TheOpen.{Param-F}
 use Rattle.step_exchange.specs.declared.tree.Param.TheOpen as layer

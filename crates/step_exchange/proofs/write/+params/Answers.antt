@@ -3,7 +3,8 @@ use Rattle.std.proofs.lemmas.List.{take_all}
 use Rattle.step_exchange.specs.Prints.{Prints}
 use Rattle.step_exchange.specs.Trees.{typed, group}
 use Rattle.step_exchange.specs.Views.{tree_of, trees_of}
-use Rattle.step_exchange.specs.Normal.{upper, plain_tree, plain_trees, plain_more}
+use Rattle.step_literals.specs.Words.{upper}
+use Rattle.step_exchange.specs.Normal.{plain_tree, plain_trees, plain_more}
 use Rattle.step_exchange.proofs.Printing.{then_print, prints_as, printing}
 use Rattle.step_exchange.proofs.Writing.{tree_typed, tree_list, prints_next, more_push}
 use Rattle.step_exchange.proofs.write.+params.Goals as goal

@@ -1,6 +1,7 @@
 use Rattle.std.proofs.Common.{ap}
 use Rattle.step_exchange.specs.Views.{trees_of}
-use Rattle.step_exchange.specs.Normal.{upper, plain_trees}
+use Rattle.step_literals.specs.Words.{upper}
+use Rattle.step_exchange.specs.Normal.{plain_trees}
 use Rattle.step_exchange.proofs.Printing.{then_print, prints_as}
 use Rattle.step_exchange.proofs.write.print_part.Goals as goal
 

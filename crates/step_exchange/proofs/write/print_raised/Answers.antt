@@ -1,6 +1,6 @@
 use Rattle.std.proofs.Common.{[], ◌∷◌, refl, ap, get_or}
 use Rattle.std.specs.Char.{to_ascii_uppercase}
-use Rattle.step_exchange.specs.Normal.{upper}
+use Rattle.step_literals.specs.Words.{upper}
 use Rattle.step_exchange.proofs.Printing.{prints_as}
 use Rattle.step_exchange.proofs.Writing.{prints_next, upper_push}
 use Rattle.step_exchange.proofs.write.print_raised.Goals as goal

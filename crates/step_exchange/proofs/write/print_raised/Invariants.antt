@@ -1,6 +1,6 @@
 use Rattle.std.proofs.Common.{take}
 use Rattle.step_exchange.specs.Prints.{Prints}
-use Rattle.step_exchange.specs.Normal.{upper}
+use Rattle.step_literals.specs.Words.{upper}
 use Rattle.step_exchange.proofs.write.print_raised.Given as goal
 
 abbrev pub invariant-loop-byte : goal.invariant-loop-byte

@@ -1,6 +1,6 @@
 use Rattle.std.proofs.Common.{sym, refl, arith, ◌∙◌, ap, ◌+◌}
 use Rattle.std.specs.Str.Parse.{digits_value}
-use Rattle.step_lexis.specs.Bytes.{is_digit}
+use Rattle.step_literals.specs.Bytes.{is_digit}
 use Rattle.step_lexis.proofs.FrontLemmas.{name_at, name_none_at, run_taken}
 use Rattle.step_lexis.proofs.fronts.name_at.Goals as goal
 

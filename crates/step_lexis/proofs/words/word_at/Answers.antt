@@ -1,10 +1,11 @@
 use Rattle.std.proofs.Common.{◌≡◌, take, drop, sym, ◌∙◌, take-append-drop, refl, codes}
 use Rattle.std.specs.List.{prefix_len}
 use Rattle.std.proofs.lemmas.Bool.{false≢true}
-use Rattle.step_lexis.specs.Bytes.{is_word_byte}
-use Rattle.step_lexis.specs.Tokens.{Says}
-use Rattle.step_lexis.proofs.Runs.{run_at_prefix}
-use Rattle.step_lexis.proofs.WordLemmas.{next_begins, next_ends, next_keyword, keyword_run, said_len}
+use Rattle.step_literals.specs.Bytes.{is_word_byte}
+use Rattle.step_literals.specs.Tokens.{Says}
+use Rattle.step_literals.proofs.Runs.{run_at_prefix}
+use Rattle.step_literals.proofs.KeywordLemmas.{keyword_run}
+use Rattle.step_lexis.proofs.WordLemmas.{next_begins, next_ends, next_keyword, said_len}
 use Rattle.step_lexis.proofs.LeftOutLemmas.{word_run}
 use Rattle.step_lexis.proofs.words.word_at.Goals as goal
 

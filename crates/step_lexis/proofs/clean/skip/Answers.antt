@@ -1,5 +1,0 @@
-use Rattle.step_lexis.proofs.CleanLemmas.{skips_on}
-use Rattle.step_lexis.proofs.clean.skip.Goals as goal
-
-pub loop-preserved : goal.loop-preserved
-loop-preserved c = skips_on c.loop.invariant c.in-Some.ensures.rest

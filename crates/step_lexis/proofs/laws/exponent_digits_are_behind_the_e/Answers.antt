@@ -1,8 +1,0 @@
-use Rattle.step_lexis.proofs.NumberLimits.{exponent_written, no_exponent}
-use Rattle.step_lexis.proofs.laws.exponent_digits_are_behind_the_e.Goals as goal
-
-pub returns-clause-written : goal.returns-clause-written
-returns-clause-written c = λ front sign ds e. exponent_written front sign ds e
-
-pub returns-clause-none : goal.returns-clause-none
-returns-clause-none c = no_exponent

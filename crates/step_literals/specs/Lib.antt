@@ -1,0 +1,12 @@
+pub mod Bytes
+pub mod Tokens
+pub mod Numbers
+pub mod Strings
+pub mod Directives
+pub mod Literals
+pub mod Words
+pub mod Bits
+pub mod BitsLeft
+pub mod BitLists
+pub mod Values
+pub mod Faults

@@ -1,0 +1,30 @@
+//! Where a binary ends.
+ghost use Rattle.std.specs.Prelude.{◌≡◌, ◌≤◌, ◌∷◌, [], length, take, drop, MatchOption};
+ghost use Rattle.step_literals.specs.Tokens.{binary, IsNext, NoneAt};
+
+use crate::bytes::hex_len;
+
+/// How long the binary is that begins with a quote at the front of the bytes, if one stands there.
+pub fn binary_len(bytes: &[u8]) -> Option<usize>
+    requires { take 1 bytes.now ≡ 34 ∷ [] }
+    ensures { MatchOption result (NoneAt bytes.now) (λ n. (n ≤ length bytes.now) × IsNext binary (take n bytes.now) (drop n bytes.now)) }
+{
+    let (_, rest) = bytes.split_at(1);
+    if rest.is_empty() {
+        return None;
+    }
+    let unused = rest[0];
+    if unused < b'0' || unused > b'3' {
+        return None;
+    }
+    let (_, digits) = rest.split_at(1);
+    let len = hex_len(digits);
+    if len == 0 && unused != b'0' {
+        return None;
+    }
+    let (_, after) = digits.split_at(len);
+    if after.is_empty() || after[0] != b'"' {
+        return None;
+    }
+    Some(len + 3)
+}

@@ -1,0 +1,63 @@
+//! Classes of bytes, and runs of them.
+ghost use Rattle.std.specs.Prelude.{◌≡◌, ◌≤◌, ◌↔◌, IsTrue, length};
+ghost use Rattle.std.specs.List.{prefix_len};
+ghost use Rattle.step_literals.specs.Bytes.{is_digit, is_letter, is_word_byte, is_hex};
+ghost use Rattle.step_literals.specs.Tokens.{IsKeyword};
+
+pub fn is_digit(b: u8) -> bool
+    ensures { result ≡ is_digit b }
+{
+    matches!(b, b'0'..=b'9')
+}
+
+pub fn is_letter(b: u8) -> bool
+    ensures { result ≡ is_letter b }
+{
+    matches!(b, b'A'..=b'Z' | b'a'..=b'z' | b'_')
+}
+
+pub fn is_word_byte(b: u8) -> bool
+    ensures { result ≡ is_word_byte b }
+{
+    is_letter(b) || is_digit(b)
+}
+
+/// How many digits the bytes begin with.
+pub fn digits_len(bytes: &[u8]) -> usize
+    ensures within { result ≤ length bytes.now }
+    ensures len { result ≡ prefix_len is_digit bytes.now }
+{
+    bytes.iter().take_while(|b| is_digit(**b)).count()
+}
+
+/// How many bytes of a word the bytes begin with.
+pub fn word_len(bytes: &[u8]) -> usize
+    ensures within { result ≤ length bytes.now }
+    ensures len { result ≡ prefix_len is_word_byte bytes.now }
+{
+    bytes.iter().take_while(|b| is_word_byte(**b)).count()
+}
+
+/// Whether the bytes are a keyword and nothing more.
+pub fn is_keyword(bytes: &[u8]) -> bool
+    ensures { IsTrue result ↔ IsKeyword bytes.now }
+{
+    if bytes.is_empty() || !is_letter(bytes[0]) {
+        return false;
+    }
+    word_len(bytes) == bytes.len()
+}
+
+pub fn is_hex(b: u8) -> bool
+    ensures { result ≡ is_hex b }
+{
+    matches!(b, b'0'..=b'9' | b'A'..=b'F' | b'a'..=b'f')
+}
+
+/// How many hexadecimal digits the bytes begin with.
+pub fn hex_len(bytes: &[u8]) -> usize
+    ensures within { result ≤ length bytes.now }
+    ensures len { result ≡ prefix_len is_hex bytes.now }
+{
+    bytes.iter().take_while(|b| is_hex(**b)).count()
+}

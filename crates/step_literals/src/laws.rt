@@ -1,0 +1,54 @@
+//! Laws of the definitions alone.
+
+ghost use Rattle.std.specs.Prelude.{◌≡◌, ◌≤◌, ◌↔◌, ℕ, ◌*◌, ◌-◌, List, [], ◌∷◌, ◌++◌, length, drop, None, Some, true, not, IsTrue, nat_eq};
+ghost use Rattle.std.specs.Bool.{beq};
+ghost use Rattle.std.specs.List.{flat_map};
+ghost use Rattle.std.specs.Ordering.{on};
+ghost use Rattle.std.specs.Cmp.Lexicographic.{pointwise};
+ghost use Rattle.step_literals.specs.Bytes.{Each};
+ghost use Rattle.step_literals.specs.Tokens.{is_e, IsSign, IsDigits, Says};
+ghost use Rattle.step_literals.specs.Words.{upper};
+ghost use Rattle.step_literals.specs.Numbers.{exponent_digits};
+ghost use Rattle.step_literals.specs.Strings.{Piece, piece_at, BeginsPiece, BeginsDirective};
+ghost use Rattle.step_literals.specs.Bits.{digit_bits, bits_of};
+ghost use Rattle.step_literals.specs.Values.{word_value, bits_value};
+ghost use Rattle.step_literals.specs.declared.literal.Word.{Word};
+ghost use Rattle.step_literals.specs.declared.literal.Bits.{Bits};
+
+/// The digits that the limit of an exponent speaks of are those behind the `E` and its sign.
+pub fn exponent_digits_are_behind_the_e()
+    ensures written { (front sign ds : List ℕ) (e : ℕ) → Each (λ b. not (is_e b)) front → is_e e ≡ true → IsSign sign → IsDigits ds
+        → exponent_digits (front ++ e ∷ (sign ++ ds)) ≡ ds }
+    ensures none { (front : List ℕ) → Each (λ b. not (is_e b)) front → exponent_digits front ≡ [] }
+{}
+
+/// What the table of a string's pieces finds at the front is spelled there and has its length, and
+/// where it finds none one of the directives that have to be completed is begun.
+pub fn pieces_are_spelled()
+    ensures found { (bs : List ℕ) (p : Piece) → piece_at bs ≡ Some p → BeginsPiece bs p }
+    ensures none { (b : ℕ) (bs : List ℕ) → piece_at (b ∷ bs) ≡ None → BeginsDirective (b ∷ bs) }
+{}
+
+/// A text says a word exactly where both are the same in upper case.
+pub fn words_are_said_in_upper_case()
+    ensures { (word text : List ℕ) → Says word text ↔ (upper text ≡ upper word) }
+{}
+
+/// `==` of words says exactly that they are the same in upper case.
+pub fn equal_words_are_the_same_in_upper_case()
+    ensures { (v w : Word) → IsTrue (on word_value (pointwise nat_eq) v w) ↔ (word_value v ≡ word_value w) }
+{}
+
+/// `==` of binaries says exactly that they have the same bits.
+pub fn equal_binaries_have_the_same_bits()
+    ensures { (a b : Bits) → IsTrue (on bits_value (pointwise beq) a b) ↔ (bits_value a ≡ bits_value b) }
+{}
+
+/// The bits of a binary are the four of each hexadecimal digit, without as many of the first as the
+/// digit behind the quote says.
+pub fn bits_are_those_of_the_digits()
+    ensures bits { (unused : ℕ) (digits : List ℕ) → 48 ≤ unused → unused ≤ 51
+        → bits_of (34 ∷ unused ∷ digits ++ 34 ∷ []) ≡ drop (unused - 48) (flat_map digit_bits digits) }
+    ensures len { (unused : ℕ) (digits : List ℕ) → 48 ≤ unused → unused ≤ 51
+        → length (bits_of (34 ∷ unused ∷ digits ++ 34 ∷ [])) ≡ 4 * length digits - (unused - 48) }
+{}

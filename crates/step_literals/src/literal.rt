@@ -1,0 +1,258 @@
+//! Literals and words, as slices of the text that spells them.
+
+ghost use Rattle.std.specs.Prelude.{◌≡◌, MatchResult};
+ghost use Rattle.step_literals.specs.Tokens.{IsKeyword, Spells, binary};
+ghost use Rattle.step_literals.specs.Literals.{IsDecimal, IsText};
+
+mod bits_value;
+mod word_value;
+
+use crate::binaries::binary_len;
+use crate::bytes::is_keyword;
+use crate::directives::broken_directive;
+use crate::fault::{Flaw, TextFault};
+use crate::numbers::{is_number, is_short_number};
+use crate::strings::string_len;
+
+const APOSTROPHE: u8 = b'\'';
+
+const QUOTE: u8 = b'"';
+
+/// A keyword, or the name of an element (ISO 10303-21, 5.2): a letter or `_`, then letters, digits and `_`.
+#[derive(Clone, Copy)]
+pub struct Word<'a> {
+    text: &'a [u8],
+    pub ghost spelled: { ∥ IsKeyword text.now ∥₁ },
+}
+
+/// A number (ISO 10303-21, 6.4.1 and 6.4.2): an integer or a real of at most 400 bytes, whose
+/// exponent, if one is written, is from -999,999 to 999,999.
+#[derive(Clone, Copy)]
+pub struct Decimal<'a> {
+    text: &'a [u8],
+    pub ghost spelled: { ∥ IsDecimal text.now ∥₁ },
+}
+
+/// A string with its apostrophes (ISO 10303-21, 6.4.3), whose directives are all completed.
+#[derive(Clone, Copy)]
+pub struct Text<'a> {
+    text: &'a [u8],
+    pub ghost spelled: { ∥ IsText text.now ∥₁ },
+}
+
+/// A binary with its quotes (ISO 10303-21, 6.4.6).
+#[derive(Clone, Copy)]
+pub struct Bits<'a> {
+    text: &'a [u8],
+    pub ghost spelled: { ∥ Spells binary text.now ∥₁ },
+}
+
+impl<'a> Word<'a> {
+    ghost use Rattle.step_literals.specs.Faults.{IsNoWord};
+
+    /// The word that these bytes spell, all of them.
+    ///
+    /// Where they spell none the fault is E1 at place 0.
+    pub fn read(bytes: &'a [u8]) -> Result<Word<'a>, TextFault>
+        ensures { MatchResult result (λ w. (w.text.now ≡ bytes.now) × IsKeyword bytes.now) (λ e. IsNoWord bytes.now e.flaw e.place) }
+    {
+        if !is_keyword(bytes) {
+            return Err(TextFault {
+                flaw: Flaw::BadToken,
+                place: 0,
+            });
+        }
+        Ok(Word::from_keyword(bytes))
+    }
+
+    /// The word of these bytes, which spell one.
+    pub fn from_keyword(text: &'a [u8]) -> Word<'a>
+        requires { IsKeyword text.now }
+        ensures { result.text.now ≡ text.now }
+    {
+        Word { text }
+    }
+
+    /// The bytes that spell it, in the case in which they stand.
+    pub fn spelling(&self) -> &'a [u8]
+        ensures { result ≡ self.now.text }
+    {
+        self.text
+    }
+}
+
+impl<'a> Decimal<'a> {
+    ghost use Rattle.step_literals.specs.Faults.{IsNoDecimal};
+
+    /// The number that these bytes spell, all of them.
+    ///
+    /// Where they spell none the fault is E1, where it is beyond the limits E4, both at place 0.
+    pub fn read(bytes: &'a [u8]) -> Result<Decimal<'a>, TextFault>
+        ensures { MatchResult result (λ d. (d.text.now ≡ bytes.now) × IsDecimal bytes.now) (λ e. IsNoDecimal bytes.now e.flaw e.place) }
+    {
+        if !is_number(bytes) {
+            return Err(TextFault {
+                flaw: Flaw::BadToken,
+                place: 0,
+            });
+        }
+        if !is_short_number(bytes) {
+            return Err(TextFault {
+                flaw: Flaw::NumberTooLong,
+                place: 0,
+            });
+        }
+        Ok(Decimal::from_number(bytes))
+    }
+
+    /// The number of these bytes, which spell one within the limits.
+    pub fn from_number(text: &'a [u8]) -> Decimal<'a>
+        requires { IsDecimal text.now }
+        ensures { result.text.now ≡ text.now }
+    {
+        Decimal { text }
+    }
+
+    /// The bytes that spell it.
+    pub fn spelling(&self) -> &'a [u8]
+        ensures { result ≡ self.now.text }
+    {
+        self.text
+    }
+}
+
+impl<'a> Text<'a> {
+    ghost use Rattle.std.specs.Prelude.{IfErr};
+    ghost use Rattle.step_literals.specs.Faults.{IsNoText};
+
+    /// The string that these bytes spell, all of them.
+    ///
+    /// Where a directive of it is begun and not completed the fault is E3, at the directive's backslash.
+    /// Where the bytes begin with an apostrophe and no string ends in them it is E2, where they spell no
+    /// string otherwise E1, both at place 0.
+    pub fn read(bytes: &'a [u8]) -> Result<Text<'a>, TextFault>
+        ensures cases { MatchResult result (λ text. (text.text.now ≡ bytes.now) × IsText bytes.now) (λ e. IsNoText bytes.now e.flaw e.place) }
+        ensures otherwise { IfErr result (λ e. IsText bytes.now → ⊥) }
+    {
+        if bytes.is_empty() || bytes[0] != APOSTROPHE {
+            return Err(TextFault {
+                flaw: Flaw::BadToken,
+                place: 0,
+            });
+        }
+        let Some(len) = string_len(bytes) else {
+            return Err(TextFault {
+                flaw: Flaw::UnendedString,
+                place: 0,
+            });
+        };
+        if len < bytes.len() {
+            return Err(TextFault {
+                flaw: Flaw::BadToken,
+                place: 0,
+            });
+        }
+        if let Some(index) = broken_directive(&bytes[1..len - 1]) {
+            return Err(TextFault {
+                flaw: Flaw::BadEscape,
+                place: 1 + index as u64,
+            });
+        }
+        Ok(Text::from_string(bytes))
+    }
+
+    /// The string of these bytes, which spell one whose directives are all completed.
+    pub fn from_string(text: &'a [u8]) -> Text<'a>
+        requires { IsText text.now }
+        ensures { result.text.now ≡ text.now }
+    {
+        Text { text }
+    }
+
+    /// The bytes that spell it, its apostrophes included.
+    pub fn spelling(&self) -> &'a [u8]
+        ensures { result ≡ self.now.text }
+    {
+        self.text
+    }
+}
+
+impl<'a> Bits<'a> {
+    ghost use Rattle.step_literals.specs.Faults.{IsNoBits};
+
+    /// The binary that these bytes spell, all of them.
+    ///
+    /// Where they spell none the fault is E1 at place 0.
+    pub fn read(bytes: &'a [u8]) -> Result<Bits<'a>, TextFault>
+        ensures { MatchResult result (λ bits. (bits.text.now ≡ bytes.now) × Spells binary bytes.now) (λ e. IsNoBits bytes.now e.flaw e.place) }
+    {
+        let fault = TextFault {
+            flaw: Flaw::BadToken,
+            place: 0,
+        };
+        if bytes.is_empty() || bytes[0] != QUOTE {
+            return Err(fault);
+        }
+        match binary_len(bytes) {
+            Some(len) if len == bytes.len() => Ok(Bits::from_binary(bytes)),
+            _ => Err(fault),
+        }
+    }
+
+    /// The binary of these bytes, which spell one.
+    pub fn from_binary(text: &'a [u8]) -> Bits<'a>
+        requires { Spells binary text.now }
+        ensures { result.text.now ≡ text.now }
+    {
+        Bits { text }
+    }
+
+    /// The bytes that spell it, its quotes included.
+    pub fn spelling(&self) -> &'a [u8]
+        ensures { result ≡ self.now.text }
+    {
+        self.text
+    }
+}
+
+#[cfg(test)]
+mod tests {
+    use super::*;
+    use std::test::Fail;
+
+    #[test]
+    fn reads_strings(rt: HostRuntime) -> Result<(), Fail> {
+        let spelling = b"'it''s C:\\temp, \\X2\\00E900EA\\X0\\ and \\PB\\\\S\\i'";
+        let text = Text::read(spelling)?;
+        assert_eq!(rt; text.spelling(), spelling.as_slice());
+        Ok(())
+    }
+
+    #[test]
+    fn tells_what_is_wrong_with_a_string(rt: HostRuntime) {
+        let bad_escape = TextFault {
+            flaw: Flaw::BadEscape,
+            place: 6,
+        };
+        assert_eq!(rt; Text::read(b"'\\X\\E9\\X\\E'").err(), Some(bad_escape));
+        let unended = TextFault {
+            flaw: Flaw::UnendedString,
+            place: 0,
+        };
+        assert_eq!(rt; Text::read(b"'it''s").err(), Some(unended));
+        let two = TextFault {
+            flaw: Flaw::BadToken,
+            place: 0,
+        };
+        assert_eq!(rt; Text::read(b"'a' 'b'").err(), Some(two));
+    }
+
+    #[test]
+    fn reads_binaries(rt: HostRuntime) -> Result<(), Fail> {
+        assert_eq!(rt; Bits::read(b"\"1A3\"")?.spelling(), b"\"1A3\"".as_slice());
+        assert_eq!(rt; Bits::read(b"\"0\"")?.spelling(), b"\"0\"".as_slice());
+        assert!(rt; Bits::read(b"\"1\"").is_err());
+        assert!(rt; Bits::read(b"\"4A\"").is_err());
+        Ok(())
+    }
+}

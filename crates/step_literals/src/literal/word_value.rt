@@ -1,0 +1,100 @@
+//! Words without case: equality, order and hash.
+ghost use Rattle.std.specs.Prelude.{◌++◌, nat_eq};
+ghost use Rattle.std.specs.List.{flat_map};
+ghost use Rattle.std.specs.Ordering.{nat_cmp, on, as_partial_cmp};
+ghost use Rattle.std.specs.Cmp.Lexicographic.{slice_cmp, pointwise};
+ghost use Rattle.std.specs.Cmp.Rules.{comparing, hashing};
+ghost use Rattle.std.specs.Hash as fed;
+ghost use Rattle.std.proofs.Common.{rules};
+ghost use Rattle.step_literals.specs.Values.{word_value};
+
+use crate::literal::Word;
+use std::cmp::Ordering;
+use std::hash::{Hash, Hasher};
+
+/// Fed behind a word: no byte of one, so that no word's feed begins another's.
+const END: u8 = 0xFF;
+
+impl<'a> PartialEq for Word<'a> {
+    ghost eq = { on word_value (pointwise nat_eq) };
+
+    ghost laws = { Prim.search (comparing, rules) };
+
+    fn eq(&self, other: &Word<'a>) -> bool {
+        self.text.eq_ignore_ascii_case(other.text)
+    }
+}
+
+impl<'a> Eq for Word<'a> {
+    ghost laws = { Prim.search (comparing, rules) };
+}
+
+impl<'a> PartialOrd for Word<'a> {
+    ghost partial_cmp = { as_partial_cmp (on word_value (slice_cmp nat_cmp)) };
+
+    ghost laws = { Prim.search (comparing, rules) };
+
+    fn partial_cmp(&self, other: &Word<'a>) -> Option<Ordering> {
+        Some(self.cmp(other))
+    }
+}
+
+impl<'a> Ord for Word<'a> {
+    ghost cmp = { on word_value (slice_cmp nat_cmp) };
+
+    ghost total = { Prim.search (comparing, rules) };
+
+    ghost matches_partial_cmp = { Prim.search (comparing, rules) };
+
+    ghost matches_eq = { Prim.search (comparing, rules) };
+
+    fn cmp(&self, other: &Word<'a>) -> Ordering {
+        let mine = self.text.iter().map(|byte| byte.to_ascii_uppercase());
+        let theirs = other.text.iter().map(|byte| byte.to_ascii_uppercase());
+        mine.cmp(theirs)
+    }
+}
+
+impl<'a> Hash for Word<'a> {
+    ghost hash_input = { λ w. flat_map fed.u8 (word_value w) ++ fed.u8 255 };
+
+    ghost respects_eq = { Prim.search (hashing, rules) };
+
+    fn hash<H: Hasher>(&self, state: &mut H) {
+        for byte in self.text {
+            state.write_u8(byte.to_ascii_uppercase());
+        }
+        state.write_u8(END);
+    }
+}
+
+#[cfg(test)]
+mod tests {
+    use super::*;
+    use std::hash::DefaultHasher;
+    use std::test::Fail;
+
+    fn hash_of(word: Word<'_>) -> u64 {
+        let mut state = DefaultHasher::new();
+        word.hash(&mut state);
+        state.finish()
+    }
+
+    #[test]
+    fn words_have_no_case(rt: HostRuntime) -> Result<(), Fail> {
+        let point = Word::read(b"CARTESIAN_POINT")?;
+        assert!(rt; Word::read(b"cartesian_point")? == point);
+        assert!(rt; Word::read(b"CARTESIAN_POINTS")? != point);
+        assert_eq!(rt; hash_of(Word::read(b"Cartesian_Point")?), hash_of(point));
+        Ok(())
+    }
+
+    #[test]
+    fn words_stand_in_the_order_of_their_upper_case(rt: HostRuntime) -> Result<(), Fail> {
+        assert!(rt; Word::read(b"A1")? < Word::read(b"A_B")?);
+        assert!(rt; Word::read(b"ab")? < Word::read(b"A_")?);
+        assert!(rt; Word::read(b"Ab")? < Word::read(b"aB1")?);
+        assert!(rt; Word::read(b"b")? > Word::read(b"AA")?);
+        Ok(())
+    }
+}

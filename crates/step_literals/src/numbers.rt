@@ -1,0 +1,139 @@
+//! Numbers: where they end, and their limits.
+ghost use Rattle.std.specs.Prelude.{◌≡◌, ◌≤◌, ◌<◌, ◌^◌, ◌||◌, ◌↔◌, IsTrue, length, take, drop, not, MatchOption, if◌then◌else◌};
+ghost use Rattle.std.specs.List.{prefix_len};
+ghost use Rattle.std.specs.Option.{SomeIff};
+ghost use Rattle.std.specs.Str.Parse.{digits_value};
+ghost use Rattle.step_literals.specs.Bytes.{is_digit, Each};
+ghost use Rattle.step_literals.specs.Tokens.{is_e, is_sign, sign_len, integer, real, IsNext, NoneAt};
+ghost use Rattle.step_literals.specs.Numbers.{exponent_digits, IsShortNumber, IsLongestExponent, StartsNumber};
+ghost use Rattle.step_literals.specs.Literals.{IsNumber};
+
+use crate::bytes::{digits_len, is_digit};
+
+const LONGEST: usize = 400;
+
+const LARGEST_EXPONENT: u64 = 999_999;
+
+fn is_e(b: u8) -> bool
+    ensures { result ≡ is_e b }
+{
+    b == b'E' || b == b'e'
+}
+
+fn sign_len(bytes: &[u8]) -> usize
+    ensures value { result ≡ sign_len bytes.now }
+    ensures within { result ≤ length bytes.now }
+{
+    match bytes {
+        [b'+' | b'-', ..] => 1,
+        _ => 0,
+    }
+}
+
+/// How long the exponent is that the bytes begin with, 0 for none.
+fn exponent_len(bytes: &[u8]) -> usize
+    ensures within { result ≤ length bytes.now }
+    ensures longest { IsLongestExponent (take result bytes.now) (drop result bytes.now) }
+{
+    if bytes.is_empty() || !is_e(bytes[0]) {
+        return 0;
+    }
+    let (_, rest) = bytes.split_at(1);
+    let sign = sign_len(rest);
+    let (_, unsigned) = rest.split_at(sign);
+    let digits = digits_len(unsigned);
+    if digits == 0 { 0 } else { 1 + sign + digits }
+}
+
+/// Whether a number can begin with this byte.
+pub fn starts_number(byte: u8) -> bool
+    ensures { result ≡ (is_digit byte || is_sign byte) }
+{
+    is_digit(byte) || byte == b'+' || byte == b'-'
+}
+
+/// How long the number is that the bytes begin with, and whether it is real.
+pub fn number_len(bytes: &[u8]) -> Option<(usize, bool)>
+    requires { StartsNumber bytes.now }
+    ensures { MatchOption result (NoneAt bytes.now) (λ found. (found.0 ≤ length bytes.now)
+        × IsNext (if found.1 then real else integer) (take found.0 bytes.now) (drop found.0 bytes.now)) }
+{
+    let sign = sign_len(bytes);
+    let (_, unsigned) = bytes.split_at(sign);
+    let digits = digits_len(unsigned);
+    if digits == 0 {
+        return None;
+    }
+    let whole = sign + digits;
+    let (_, rest) = unsigned.split_at(digits);
+    if rest.is_empty() || rest[0] != b'.' {
+        return Some((whole, false));
+    }
+    let (_, rest) = rest.split_at(1);
+    let part = digits_len(rest);
+    let (_, rest) = rest.split_at(part);
+    let exponent = exponent_len(rest);
+    Some((whole + 1 + part + exponent, true))
+}
+
+/// The number that digits write, if it is below 2^64.
+pub fn number_of(digits: &[u8]) -> Option<u64>
+    requires { Each is_digit digits.now }
+    ensures { SomeIff result (digits_value 10 digits.now < 2 ^ 64) (digits_value 10 digits.now) }
+{
+    let mut value = 0u64;
+    for digit in digits {
+        value = value
+            .checked_mul(10)?
+            .checked_add(u64::from(*digit - b'0'))?;
+    }
+    Some(value)
+}
+
+/// How many bytes come before the first `E`.
+fn mantissa_len(number: &[u8]) -> usize
+    ensures within { result ≤ length number.now }
+    ensures len { result ≡ prefix_len (λ b. not (is_e b)) number.now }
+{
+    number.iter().take_while(|b| !is_e(**b)).count()
+}
+
+/// The digits of the exponent, none where there is none.
+fn exponent_digits(number: &[u8]) -> &[u8]
+    ensures { result.now ≡ exponent_digits number.now }
+{
+    let mantissa = mantissa_len(number);
+    if mantissa == number.len() {
+        return b"";
+    }
+    let (_, exponent) = number.split_at(mantissa + 1);
+    let (_, digits) = exponent.split_at(sign_len(exponent));
+    digits
+}
+
+/// Whether a number is within the limits.
+pub fn is_short_number(number: &[u8]) -> bool
+    requires { IsNumber number.now }
+    ensures { IsTrue result ↔ IsShortNumber number.now }
+{
+    if number.len() > LONGEST {
+        return false;
+    }
+    match number_of(exponent_digits(number)) {
+        Some(exponent) => exponent <= LARGEST_EXPONENT,
+        None => false,
+    }
+}
+
+/// Whether the bytes are a number and nothing more.
+pub fn is_number(bytes: &[u8]) -> bool
+    ensures { IsTrue result ↔ IsNumber bytes.now }
+{
+    if bytes.is_empty() || !starts_number(bytes[0]) {
+        return false;
+    }
+    match number_len(bytes) {
+        Some((len, _)) => len == bytes.len(),
+        None => false,
+    }
+}
