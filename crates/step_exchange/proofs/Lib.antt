@@ -3,6 +3,7 @@ pub mod Sound
 pub mod Turning
 pub mod Looking
 pub mod ParamSteps
+pub mod Keywords
 pub mod RecordSteps
 pub mod RowSteps
 pub mod DataSteps

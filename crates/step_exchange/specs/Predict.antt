@@ -1,11 +1,13 @@
 -- What may stand next, token by token: a stack of what is still to come. No promise rests on this table:
 -- it stands between the definitions, which speak of trees and of fronts, and the reader.
-use Rattle.std.specs.Prelude.{◌≡◌, ℕ, ◌+◌, nat_lt, Bool, true, false, not, ◌&&◌, ◌==◌, if◌then◌else◌, List, [], ◌∷◌, ◌++◌, ◌<◌, ◌≤◌, length, map, Result, Ok, Err, codes}
+use Rattle.std.specs.Prelude.{◌≡◌, ℕ, ◌+◌, nat_lt, Bool, true, false, not, ◌&&◌, ◌==◌, if◌then◌else◌, List, [], ◌∷◌, ◌++◌, ◌<◌, ◌≤◌, length, drop, map, Result, Ok, Err, codes}
 use Rattle.step_lexis.specs.declared.token.Mark.{Mark}
 use Rattle.step_lexis.specs.declared.token.Mark.TheVariants.{Open, Close, Comma, Semicolon, Equals, Dollar, Asterisk}
 use Rattle.step_lexis.specs.Reading.{Reading, Reaches}
 use Rattle.step_lexis.specs.Reading as Lexis
 use Rattle.step_lexis.specs.declared.token.Token.{Token}
+use Rattle.step_literals.specs.declared.literal.Word as literal
+use Rattle.step_exchange.specs.declared.tree.Part as tree
 use Rattle.step_exchange.specs.declared.fault.Kind.{Kind}
 use Rattle.step_exchange.specs.declared.fault.Kind.TheVariants as kinds
 use Rattle.step_exchange.specs.declared.fault.LeftOut.TheVariants as left_out
@@ -284,6 +286,10 @@ pub record SoFar (n : ℕ) (old : Reading) (xs : Trees) (here : Reading) : Type 
 
 abbrev pub keywords_of : List Part → List (List ℕ)
 keywords_of ps = map (λ (p : Part). p.keyword) ps
+
+-- the keywords of the partial records behind the first eight
+abbrev pub further_keywords : List tree.Part → List literal.Word
+further_keywords ps = map (λ (p : tree.Part). p.keyword) (drop 8 ps)
 
 -- a partial record, behind others with these keywords, whose first token is taken already
 pub record TakesPartial (before : List (List ℕ)) (first : Seen) (old : Reading) (p : Part) (new : Reading) : Type 0 where

@@ -1,6 +1,6 @@
 //! Instances, read from tokens (ISO 10303-21, 11).
 
-ghost use Rattle.std.specs.Prelude.{◌≡◌, false, [], ◌∷◌, MatchResult, map, codes};
+ghost use Rattle.std.specs.Prelude.{◌≡◌, false, [], ◌∷◌, ◌++◌, MatchResult, OnOk, map, codes};
 ghost use Rattle.step_lexis.specs.declared.token.Mark.TheVariants.{Close};
 ghost use Rattle.step_exchange.specs.Words.{seen};
 ghost use Rattle.step_exchange.specs.Fits;
@@ -8,14 +8,14 @@ ghost use Rattle.step_exchange.specs.Predict;
 ghost use Rattle.std.specs.List.{list_any};
 ghost use Rattle.step_exchange.specs.Trees;
 ghost use Rattle.step_exchange.specs.Views.{part_of, form_of, row_of};
-ghost use Rattle.step_exchange.specs.Predict.{Body, Parts, Rows, StopsIn, TakesPartial, TakesParts, TakesForm, TakesRow, TakesRows, IsNextName, IsNoName, AtMost, keywords_of, names_of, row_symbols};
+ghost use Rattle.step_exchange.specs.Predict.{Body, Parts, Rows, StopsIn, TakesPartial, TakesParts, TakesForm, TakesRow, TakesRows, IsNextName, IsNoName, AtMost, keywords_of, further_keywords, names_of, row_symbols};
 
 use crate::fault::{Kind, LeftOut, TextFault};
 use crate::params::record_params;
 use crate::tokens::{expect, fault_at, is_mark, is_said, is_word, refuse, take};
 use crate::tree::{Form, Part};
-use indexmap::IndexMap;
-use std::alloc::Global;
+use indexmap::{IndexMap, IndexSet};
+use std::alloc::{AllocFailed, Global};
 use step_lexis::lexer::Lexer;
 use step_lexis::token::{Mark, Sort, Token};
 use step_literals::literal::Word;
@@ -23,13 +23,45 @@ use step_literals::literal::Word;
 /// So many instances may stand.
 const INSTANCES: usize = 0xFFFF_FFFF;
 
-/// Whether one of the partial records has this keyword, whatever the case of its letters.
-fn has_keyword(parts: &[Part<'_>], keyword: Word<'_>) -> bool
+/// So many partial records are looked through one by one; most external records have no more. The
+/// keywords of those behind them are in a set.
+const LOOKED_THROUGH: usize = 8;
+
+/// Whether one of these partial records has this keyword, whatever the case of its letters.
+fn is_among(parts: &[Part<'_>], keyword: Word<'_>) -> bool
     ensures { result ≡ list_any (λ p. Trees.is_said p.keyword.text.now keyword.entry.text.now) parts.now }
 {
     parts
         .iter()
         .any(|part| is_said(keyword, part.keyword.spelling()))
+}
+
+/// The same, where the keywords behind those that are looked through are in a set.
+fn has_keyword(parts: &[Part<'_>], further: &IndexSet<Word<'_>>, keyword: Word<'_>) -> bool
+    requires { further.now.keys ≡ further_keywords parts.now }
+    ensures { result ≡ list_any (λ p. Trees.is_said p.keyword.text.now keyword.entry.text.now) parts.now }
+{
+    if parts.len() <= LOOKED_THROUGH {
+        return is_among(parts, keyword);
+    }
+    is_among(&parts[..LOOKED_THROUGH], keyword) || further.contains(&keyword)
+}
+
+/// Keeps the keyword of one more partial record behind these, which none of them has.
+fn keep_keyword<'a>(
+    further: &mut IndexSet<Word<'a>>,
+    parts: &[Part<'a>],
+    part: &Part<'a>,
+) -> Result<(), AllocFailed<Word<'a>>>
+    requires kept { further.old.keys ≡ further_keywords parts.now }
+    requires alone { list_any (λ p. Trees.is_said p.keyword.text.now part.now.keyword.text.now) parts.now ≡ false }
+    ensures { OnOk result (further.new.keys ≡ further_keywords (parts.now ++ part.now ∷ [])) }
+{
+    if parts.len() < LOOKED_THROUGH {
+        return Ok(());
+    }
+    further.insert(part.keyword)?;
+    Ok(())
 }
 
 /// The partial record that begins with this token, behind others.
@@ -38,8 +70,10 @@ fn partial<'a>(
     lexer: &mut Lexer<'a>,
     first: Token<'a>,
     parts: &[Part<'a>],
+    further: &IndexSet<Word<'a>>,
 ) -> Result<Part<'a>, TextFault>
-    requires { Predict.is_mark Close (seen first).sight ≡ false }
+    requires open { Predict.is_mark Close (seen first).sight ≡ false }
+    requires kept { further.now.keys ≡ further_keywords parts.now }
     ensures { MatchResult result
         (λ p. TakesPartial (keywords_of (map part_of parts.now)) (seen first.entry) lexer.old (part_of p) lexer.new)
         (λ e. StopsIn e (Parts (keywords_of (map part_of parts.now)) ∷ []) (seen first.entry ∷ []) lexer.old) }
@@ -47,7 +81,7 @@ fn partial<'a>(
     let Sort::Keyword(keyword) = first.sort else {
         return Err(refuse(first));
     };
-    if has_keyword(parts, keyword) {
+    if has_keyword(parts, further, keyword) {
         return Err(fault_at(Kind::DuplicateName, first));
     }
     let params = record_params(alloc, lexer, 1)?;
@@ -59,6 +93,7 @@ fn partials<'a>(alloc: Global, lexer: &mut Lexer<'a>) -> Result<Vec<Part<'a>>, T
     ensures { MatchResult result (λ ps. TakesParts lexer.old (map part_of ps.items) lexer.new) (λ e. StopsIn e (Parts [] ∷ []) [] lexer.old) }
 {
     let mut parts: Vec<Part<'a>> = Vec::new(alloc);
+    let mut further: IndexSet<Word<'a>> = IndexSet::new(alloc);
     loop {
         let token = take(lexer)?;
         if is_mark(token, Mark::Close) {
@@ -67,7 +102,8 @@ fn partials<'a>(alloc: Global, lexer: &mut Lexer<'a>) -> Result<Vec<Part<'a>>, T
             }
             return Ok(parts);
         }
-        let part = partial(alloc, lexer, token, &parts)?;
+        let part = partial(alloc, lexer, token, &parts, &further)?;
+        keep_keyword(&mut further, &parts, &part)?;
         parts.push(part)?;
     }
 }

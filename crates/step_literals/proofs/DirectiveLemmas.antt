@@ -45,7 +45,8 @@ each_drop p (suc k) (x ∷ xs) h = each_drop p k xs h.1
 abbrev pub no_slash : ℕ → Bool
 no_slash b = is_not 92 b
 
-plain_row : (x : ℕ) (zs : List ℕ) (t u : Bool) → no_slash x ≡ true → begins_with (codes "''") (x ∷ zs) ≡ t → is_high x ≡ u
+-- what stands at a byte that isn't a backslash
+pub plain_row : (x : ℕ) (zs : List ℕ) (t u : Bool) → no_slash x ≡ true → begins_with (codes "''") (x ∷ zs) ≡ t → is_high x ≡ u
     → piece_at (x ∷ zs) ≡ cond t (Some apostrophe) (cond u (Some (run (take (prefix_len is_high (x ∷ zs)) (x ∷ zs)))) (Some (byte x)))
 plain_row x zs t u h g k = let q : (92 == x) ≡ false = grind (arith, nat_tests) in rw (q, g, k) refl
 
@@ -59,7 +60,7 @@ high_stops (y ∷ ys) h = low_slash y h
 prefix_step : (p : ℕ → Bool) (m n : ℕ) (t : Bool) → m ≡ n → cond t (1 + m) 0 ≡ cond t (1 + n) 0
 prefix_step p m n t e = ap (λ k. cond t (1 + k) 0) e
 
-prefix_none : (p : ℕ → Bool) (ys : List ℕ) → Stops p ys → prefix_len p ys ≡ 0
+pub prefix_none : (p : ℕ → Bool) (ys : List ℕ) → Stops p ys → prefix_len p ys ≡ 0
 prefix_none p [] h = refl
 prefix_none p (y ∷ ys) h = rw h refl
 
@@ -224,11 +225,14 @@ fine_piece (b ∷ bs) =
     (fine_cond (begins_with (codes "\\X\\") all) (code_at (drop 3 all)) _ (fine_code (drop 3 all)) (fine_cond (begins_with (codes "\\X2\\") all) (groups_at 4 (drop 4 all)) _ (fine_groups 4 (drop 4 all))
     (fine_cond (begins_with (codes "\\X4\\") all) (groups_at 8 (drop 4 all)) _ (fine_groups 8 (drop 4 all)) (fine_run b bs (is_high b) refl)))))))
 
+pub piece_pos : (bs : List ℕ) (p : Piece) → piece_at bs ≡ Some p → 0 < piece_len p
+piece_pos bs p e = MatchOption-at_some (Unit {0}) (λ q. 0 < piece_len q) p e (fine_piece bs)
+
 -- less is left behind a piece
 pub shorter : (rest directive after : List ℕ) (at : ℕ) → directive ≡ drop at rest → Found 92 rest at → Completes (piece_at (clean directive)) 0 directive after → length (clean after) < length (clean rest)
 shorter rest directive after at e found h =
     let head : clean directive ≡ 92 ∷ clean (drop (at + 1) rest) = ap clean (e ∙ drop_found 92 rest at found) in
-    let some : 0 < piece_len h.piece = MatchOption-at_some (Unit {0}) (λ p. 0 < piece_len p) h.piece h.stands (fine_piece (clean directive)) in
+    let some : 0 < piece_len h.piece = piece_pos (clean directive) h.piece h.stands in
     let whole : length (clean rest) ≡ length (clean (take at rest)) + length (clean (drop at rest)) = ap (λ l. length (clean l)) (sym (take-append-drop at rest)) ∙ ap length (clean_parts (take at rest) (drop at rest)) ∙ length-append (clean (take at rest)) (clean (drop at rest)) in
     omega (arith, ap length h.skips.left, length-drop h.more (clean directive), h.len, some, whole, ap (λ l. length (clean l)) e, ap length head)
 

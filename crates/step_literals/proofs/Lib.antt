@@ -8,6 +8,9 @@ pub mod PieceLemmas
 pub mod DirectiveLemmas
 pub mod PieceSpelling
 pub mod StringExamples
+pub mod CharacterLemmas
+pub mod ItemLemmas
+pub mod ItemExamples
 pub mod NumberLemmas
 pub mod NumberCuts
 pub mod DigitLemmas
@@ -15,6 +18,12 @@ pub mod NumberLimits
 pub mod WholeNumbers
 pub mod BinaryLemmas
 pub mod LiteralLemmas
+pub mod DecimalDigits
+pub mod DecimalText
+pub mod UnitLemmas
+pub mod LesserExponent
+pub mod DecimalPieces
+pub mod DecimalExamples
 pub mod CaseLemmas
 pub mod BitsLemmas
 pub mod ValueExamples

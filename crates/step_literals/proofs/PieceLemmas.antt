@@ -1,11 +1,11 @@
 -- The rows of the table of pieces, each from what its function passes over.
-use Rattle.std.proofs.Common.{◌≡◌, ℕ, ◌+◌, ◌%◌, ◌≤◌, Bool, true, false, List, [], ◌∷◌, ◌++◌, get_or, take, drop, refl, sym, ap, ◌∙◌, arith, nat_le, cond, Some, None, Option, MatchOption, codes, take-append-drop, Bor}
+use Rattle.std.proofs.Common.{◌≡◌, ℕ, ◌+◌, ◌-◌, ◌%◌, ◌≤◌, Bool, true, false, List, [], ◌∷◌, ◌++◌, get_or, take, drop, refl, sym, ap, ◌∙◌, arith, nat_le, cond, Some, None, Option, MatchOption, codes, take-append-drop, Bor}
 use Rattle.std.specs.Prelude.{◌==◌}
 use Rattle.std.specs.List.{prefix_len}
 use Rattle.std.proofs.lemmas.Bool.Decides.{nat_tests}
 use Rattle.std.proofs.lemmas.List.Folds.{length-prefix_len}
 use Rattle.step_literals.specs.Bytes.{is_hex}
-use Rattle.step_literals.specs.Strings.{Piece, shift, groups, clean, begins_with, shift_at, code_at, groups_at, names_page, piece_at}
+use Rattle.step_literals.specs.Strings.{Piece, backslash, shift, page, groups, clean, begins_with, shift_at, code_at, groups_at, names_page, piece_at}
 use Rattle.step_literals.specs.Directives.{Skips, Completes}
 use Rattle.step_literals.proofs.CleanLemmas.{skips_on, begins_split}
 
@@ -54,15 +54,23 @@ page_row l p t low high h =
     let a : nat_le 65 p ≡ true = grind (arith, nat_tests) in let b : nat_le p 73 ≡ true = grind (arith, nat_tests) in
     rw (a, b) (last_row l t h)
 
+page_begins : {bytes mid : List ℕ} {p : ℕ} (more : List ℕ) → begins_with (codes "\\P") (clean bytes) ≡ true → Skips 2 bytes mid → clean mid ≡ p ∷ clean more → clean bytes ≡ 92 ∷ 80 ∷ p ∷ clean more
+page_begins {bytes} more begins h e = begins_split (codes "\\P") (clean bytes) begins ∙ ap (λ l. 92 ∷ 80 ∷ l) (sym h.left ∙ e)
+
+pub page_letter : {bytes mid : List ℕ} {p : ℕ} (more : List ℕ) → begins_with (codes "\\P") (clean bytes) ≡ true → Skips 2 bytes mid → clean mid ≡ p ∷ clean more → p - 64 ≡ get_or (clean bytes) 2 0 - 64
+page_letter more begins h e = ap (λ l. get_or l 2 0 - 64) (sym (page_begins more begins h e))
+
 pub page_is : {bytes mid : List ℕ} {p : ℕ} (more : List ℕ) (t : Bool) → begins_with (codes "\\P") (clean bytes) ≡ true → Skips 2 bytes mid → clean mid ≡ p ∷ clean more → 65 ≤ p → p ≤ 73
     → begins_with (92 ∷ []) (clean more) ≡ t → names_page (clean bytes) ≡ t
 page_is {bytes} {mid} {p} more t begins h e low high back =
-    let whole : clean bytes ≡ 92 ∷ 80 ∷ p ∷ clean more = begins_split (codes "\\P") (clean bytes) begins ∙ ap (λ l. 92 ∷ 80 ∷ l) (sym h.left ∙ e) in
-    ap names_page whole ∙ page_row (clean more) p t low high back
+    ap names_page (page_begins more begins h e) ∙ page_row (clean more) p t low high back
 
 -- what begins with a backslash
+pub slash_head : (bs : List ℕ) → take 1 bs ≡ 92 ∷ [] → bs ≡ 92 ∷ drop 1 bs
+slash_head bs h = sym (take-append-drop 1 bs) ∙ ap (λ l. l ++ drop 1 bs) h
+
 pub slash_first : (bytes : List ℕ) → take 1 bytes ≡ 92 ∷ [] → clean bytes ≡ 92 ∷ clean (drop 1 bytes)
-slash_first bytes h = ap clean (sym (take-append-drop 1 bytes) ∙ ap (λ l. l ++ drop 1 bytes) h)
+slash_first bytes h = ap clean (slash_head bytes h)
 
 -- a piece whose first bytes are passed
 pub deeper : {row whole : Option Piece} {begun : ℕ} {bytes mid after : List ℕ} → whole ≡ row → Skips begun bytes mid → Completes row begun mid after → Completes whole 0 bytes after
@@ -76,9 +84,15 @@ deeper_row row {begun} {bytes} {mid} o e h m =
     let same : piece_at (clean bytes) ≡ row (clean mid) = e ∙ ap row (sym h.left) in
     option_weaker o m (λ none. same ∙ none) (λ after g. deeper same h g)
 
+pub backslash_row : (l bs : List ℕ) → bs ≡ 92 ∷ l → begins_with (codes "\\\\") bs ≡ true → piece_at bs ≡ Some backslash
+backslash_row l bs e s = let h = rw e at s in rw e (rw h refl)
+
 module _ (l bs : List ℕ) (e : bs ≡ 92 ∷ l) (doubled : begins_with (codes "\\\\") bs ≡ false) where
   pub shift_row : begins_with (codes "\\S\\") bs ≡ true → piece_at bs ≡ shift_at (drop 3 bs)
   shift_row s = let h = rw e at doubled in let g = rw e at s in rw e (rw (h, g) refl)
+
+  pub page_found : begins_with (codes "\\S\\") bs ≡ false → names_page bs ≡ true → piece_at bs ≡ Some (page (get_or bs 2 0))
+  page_found s t = let h = rw e at doubled in let i = rw e at s in let g = rw e at t in rw e (rw (h, i, g) refl)
 
   module _ (shifts : begins_with (codes "\\S\\") bs ≡ false) (names : names_page bs ≡ false) where
     pub code_row : begins_with (codes "\\X\\") bs ≡ true → piece_at bs ≡ code_at (drop 3 bs)

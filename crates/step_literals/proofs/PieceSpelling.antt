@@ -18,7 +18,7 @@ by_test : (bs : List ℕ) (t : Bool) (o r : Option Piece) → (t ≡ true → Sa
 by_test bs true o r f g = f refl
 by_test bs false o r f g = g refl
 
-both : (a b : Bool) → (a && b) ≡ true → (a ≡ true) × (b ≡ true)
+pub both : (a b : Bool) → (a && b) ≡ true → (a ≡ true) × (b ≡ true)
 both true b h = (refl, h)
 both false b h = absurd (cc)
 
@@ -91,7 +91,7 @@ take_of_take (suc n) zero l h = absurd (omega (arith, h))
 take_of_take (suc n) (suc m) [] h = refl
 take_of_take (suc n) (suc m) (x ∷ l) h = ap (λ r. x ∷ r) (take_of_take n m l (omega (arith, h)))
 
-each_first : (n : ℕ) (l : List ℕ) → n ≤ prefix_len is_hex l → Each is_hex (take n l)
+pub each_first : (n : ℕ) (l : List ℕ) → n ≤ prefix_len is_hex l → Each is_hex (take n l)
 each_first n l h = subst (Each is_hex) (take_of_take n (prefix_len is_hex l) l h) (each_take n (take (prefix_len is_hex l) l) (run_at_prefix is_hex l).passes)
 
 code_says : (bs l : List ℕ) → bs ≡ codes "\\X\\" ++ l → Says bs (code_at l)

@@ -49,3 +49,13 @@ small_digit = refl
 one_first : slice_cmp bool_cmp (bits_of (codes "\"3F\"")) (bits_of (codes "\"23\"")) ≡ Less
 unfolding digit_bits
 one_first = refl
+
+-- `"092A"`: twelve bits
+twelve_bits : bits_of (codes "\"092A\"") ≡ true ∷ false ∷ false ∷ true ∷ false ∷ false ∷ true ∷ false ∷ true ∷ false ∷ true ∷ false ∷ []
+unfolding digit_bits
+twelve_bits = refl
+
+-- `"31"`: one digit, of which three bits are left out
+one_bit : bits_of (codes "\"31\"") ≡ true ∷ []
+unfolding digit_bits
+one_bit = refl

@@ -1,7 +1,7 @@
 -- The bits that an iterator over a binary still gives.
 use Rattle.std.specs.Prelude.{Bool, List, drop}
 use Rattle.std.specs.List.{flat_map}
-use Rattle.step_literals.specs.declared.literal.bits_value.BitsLeft.{BitsLeft}
+use Rattle.step_literals.specs.declared.literal.binaries.BitsLeft.{BitsLeft}
 use Rattle.step_literals.specs.Bits.{digit_bits}
 
 abbrev pub bits_left : BitsLeft → List Bool

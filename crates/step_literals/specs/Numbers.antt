@@ -5,9 +5,13 @@ use Rattle.std.specs.Str.Parse.{digits_value}
 use Rattle.step_literals.specs.Bytes.{is_digit}
 use Rattle.step_literals.specs.Tokens.{is_e, is_sign, sign_len, IsExponent}
 
--- the digits behind the `E` of a number and its sign, none where it has no `E`
+-- the bytes behind the `E` of a number, none where it has no `E`
+abbrev pub exponent_text : List ℕ → List ℕ
+exponent_text t = drop (1 + prefix_len (λ b. not (is_e b)) t) t
+
+-- .. without their sign
 abbrev pub exponent_digits : List ℕ → List ℕ
-exponent_digits t = let tail = drop (1 + prefix_len (λ b. not (is_e b)) t) t in drop (sign_len tail) tail
+exponent_digits t = drop (sign_len (exponent_text t)) (exponent_text t)
 
 -- a number is within the limits: 400 bytes, and a written exponent from -999,999 to 999,999
 pub record IsShortNumber (t : List ℕ) : Type 0 where

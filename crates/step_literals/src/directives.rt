@@ -1,5 +1,5 @@
 // The directives of a string (ISO 10303-21, 6.4.3).
-ghost use Rattle.std.specs.Prelude.{◌≡◌, ◌<◌, ◌∷◌, [], None, true, false, take, MatchOption};
+ghost use Rattle.std.specs.Prelude.{◌≡◌, ◌<◌, ◌∷◌, [], None, true, false, take, slice_index, ◌-◌, MatchOption};
 ghost use Rattle.step_literals.specs.Strings.{clean, piece_at, shift_at, names_page, code_at, groups_at, IsReadable, IsBrokenAt};
 ghost use Rattle.step_literals.specs.Directives.{Skips, Completes};
 
@@ -35,7 +35,7 @@ fn after_directive(bytes: &[u8]) -> Option<&[u8]>
     if let Some(rest) = strip(bytes, b"\\S\\") {
         return after_shift(rest);
     }
-    if let Some(after) = after_page(bytes) {
+    if let Some((_, after)) = page_at(bytes) {
         return Some(after);
     }
     if let Some(rest) = strip(bytes, b"\\X\\") {
@@ -51,7 +51,7 @@ fn after_directive(bytes: &[u8]) -> Option<&[u8]>
 }
 
 /// What follows the byte behind `\S\`.
-fn after_shift(bytes: &[u8]) -> Option<&[u8]>
+pub fn after_shift(bytes: &[u8]) -> Option<&[u8]>
     ensures { MatchOption result (shift_at (clean bytes.now) ≡ None) (λ after. Completes (shift_at (clean bytes.now)) 3 bytes.now after.now) }
 {
     let (byte, after) = take_clean(bytes)?;
@@ -62,20 +62,21 @@ fn after_shift(bytes: &[u8]) -> Option<&[u8]>
     }
 }
 
-/// What follows `\PA\` to `\PI\`.
-fn after_page(bytes: &[u8]) -> Option<&[u8]>
-    ensures { MatchOption result (names_page (clean bytes.now) ≡ false) (λ after. (names_page (clean bytes.now) ≡ true) × Skips 4 bytes.now after.now) }
+/// The page that `\PA\` to `\PI\` names, 1 for A, and what follows.
+pub fn page_at(bytes: &[u8]) -> Option<(u8, &[u8])>
+    ensures { MatchOption result (names_page (clean bytes.now) ≡ false) (λ found. (names_page (clean bytes.now) ≡ true) × (found.0 ≡ slice_index (clean bytes.now) 2 - 64) × Skips 4 bytes.now found.1.now) }
 {
     let rest = strip(bytes, b"\\P")?;
-    let (page, rest) = take_clean(rest)?;
-    if !matches!(page, b'A'..=b'I') {
+    let (letter, rest) = take_clean(rest)?;
+    if !matches!(letter, b'A'..=b'I') {
         return None;
     }
-    strip(rest, b"\\")
+    let after = strip(rest, b"\\")?;
+    Some((letter - b'@', after))
 }
 
 /// What follows the two digits behind `\X\`.
-fn after_code(bytes: &[u8]) -> Option<&[u8]>
+pub fn after_code(bytes: &[u8]) -> Option<&[u8]>
     ensures { MatchOption result (code_at (clean bytes.now) ≡ None) (λ after. Completes (code_at (clean bytes.now)) 3 bytes.now after.now) }
 {
     if hex_count(bytes) < 2 {
@@ -85,7 +86,7 @@ fn after_code(bytes: &[u8]) -> Option<&[u8]>
 }
 
 /// What follows the digits behind `\X2\` or `\X4\`, in groups of this width, and `\X0\`.
-fn after_groups(bytes: &[u8], width: usize) -> Option<&[u8]>
+pub fn after_groups(bytes: &[u8], width: usize) -> Option<&[u8]>
     requires { 0 < width }
     ensures { MatchOption result (groups_at width (clean bytes.now) ≡ None) (λ after. Completes (groups_at width (clean bytes.now)) 4 bytes.now after.now) }
 {

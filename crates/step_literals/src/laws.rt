@@ -1,19 +1,25 @@
 //! Laws of the definitions alone.
 
-ghost use Rattle.std.specs.Prelude.{◌≡◌, ◌≤◌, ◌↔◌, ℕ, ◌*◌, ◌-◌, List, [], ◌∷◌, ◌++◌, length, drop, None, Some, true, not, IsTrue, nat_eq};
+ghost use Rattle.std.specs.Prelude.{◌≡◌, ◌≤◌, ◌↔◌, ℕ, ◌*◌, ◌-◌, List, [], ◌∷◌, ◌++◌, length, drop, None, Some, true, not, IsTrue, nat_eq, pos, neg_ℤ, ◌-ℤ◌};
 ghost use Rattle.std.specs.Bool.{beq};
 ghost use Rattle.std.specs.List.{flat_map};
-ghost use Rattle.std.specs.Ordering.{on};
+ghost use Rattle.std.specs.Ordering.{on, int_eq};
 ghost use Rattle.std.specs.Cmp.Lexicographic.{pointwise};
-ghost use Rattle.step_literals.specs.Bytes.{Each};
+ghost use Rattle.std.specs.Str.Parse.{digits_value};
+ghost use Rattle.step_literals.specs.Bytes.{is_digit, Each};
 ghost use Rattle.step_literals.specs.Tokens.{is_e, IsSign, IsDigits, Says};
 ghost use Rattle.step_literals.specs.Words.{upper};
 ghost use Rattle.step_literals.specs.Numbers.{exponent_digits};
+ghost use Rattle.step_literals.specs.Decimals.{signed, is_negative, mantissa, exponent, ComparedAtLesserExponent};
+ghost use Rattle.step_literals.specs.DecimalKeys.{units_of};
 ghost use Rattle.step_literals.specs.Strings.{Piece, piece_at, BeginsPiece, BeginsDirective};
 ghost use Rattle.step_literals.specs.Bits.{digit_bits, bits_of};
 ghost use Rattle.step_literals.specs.Values.{word_value, bits_value};
 ghost use Rattle.step_literals.specs.declared.literal.Word.{Word};
 ghost use Rattle.step_literals.specs.declared.literal.Bits.{Bits};
+ghost use Rattle.step_literals.specs.declared.literal.Decimal.{Decimal};
+ghost use Rattle.step_literals.specs.Items.{StringsSayTheirPieces};
+ghost use Rattle.step_literals.specs.ItemKeys.{TextsAreTheirItems};
 
 /// The digits that the limit of an exponent speaks of are those behind the `E` and its sign.
 pub fn exponent_digits_are_behind_the_e()
@@ -51,4 +57,37 @@ pub fn bits_are_those_of_the_digits()
         → bits_of (34 ∷ unused ∷ digits ++ 34 ∷ []) ≡ drop (unused - 48) (flat_map digit_bits digits) }
     ensures len { (unused : ℕ) (digits : List ℕ) → 48 ≤ unused → unused ≤ 51
         → length (bits_of (34 ∷ unused ∷ digits ++ 34 ∷ [])) ≡ 4 * length digits - (unused - 48) }
+{}
+
+/// A number is worth what its pieces in the table of tokens say: m is the whole number that the digits
+/// before the exponent write, with the sign, e the written exponent less the number of digits behind the point.
+pub fn numbers_are_worth_their_pieces()
+    ensures integers { (sign ds : List ℕ) → IsSign sign → IsDigits ds
+        → (mantissa (sign ++ ds) ≡ signed (is_negative sign) (digits_value 10 ds)) × (exponent (sign ++ ds) ≡ pos 0) }
+    ensures reals { (sign whole part : List ℕ) → IsSign sign → IsDigits whole → Each is_digit part
+        → (mantissa (sign ++ whole ++ 46 ∷ part) ≡ signed (is_negative sign) (digits_value 10 (whole ++ part)))
+        × (exponent (sign ++ whole ++ 46 ∷ part) ≡ neg_ℤ (pos (length part))) }
+    ensures exponents { (sign whole part : List ℕ) (e : ℕ) (minus ds : List ℕ) → IsSign sign → IsDigits whole → Each is_digit part → is_e e ≡ true → IsSign minus → IsDigits ds
+        → (mantissa (sign ++ whole ++ 46 ∷ part ++ e ∷ (minus ++ ds)) ≡ signed (is_negative sign) (digits_value 10 (whole ++ part)))
+        × (exponent (sign ++ whole ++ 46 ∷ part ++ e ∷ (minus ++ ds)) ≡ signed (is_negative minus) (digits_value 10 ds) -ℤ pos (length part)) }
+{}
+
+/// `==` of numbers says exactly that they are worth the same.
+pub fn equal_numbers_are_worth_the_same()
+    ensures { (d e : Decimal) → IsTrue (on units_of int_eq d e) ↔ (units_of d ≡ units_of e) }
+{}
+
+/// Two numbers compare as their whole numbers do, both brought to the lesser exponent.
+pub fn numbers_compare_at_the_lesser_exponent()
+    ensures { ComparedAtLesserExponent }
+{}
+
+/// What a readable string says is what its pieces say one after another.
+pub fn strings_say_what_their_pieces_say()
+    ensures { StringsSayTheirPieces }
+{}
+
+/// Strings are equal exactly where their characters are.
+pub fn equal_strings_have_equal_characters()
+    ensures { TextsAreTheirItems }
 {}

@@ -6,6 +6,7 @@
 
 pub mod binaries;
 pub mod bytes;
+mod characters;
 mod clean;
 pub mod directives;
 pub mod fault;

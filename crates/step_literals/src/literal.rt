@@ -4,8 +4,12 @@ ghost use Rattle.std.specs.Prelude.{◌≡◌, MatchResult};
 ghost use Rattle.step_literals.specs.Tokens.{IsKeyword, Spells, binary};
 ghost use Rattle.step_literals.specs.Literals.{IsDecimal, IsText};
 
-mod bits_value;
-mod word_value;
+mod binaries;
+mod decimals;
+mod items;
+mod rest;
+mod texts;
+mod words;
 
 use crate::binaries::binary_len;
 use crate::bytes::is_keyword;
@@ -13,6 +17,7 @@ use crate::directives::broken_directive;
 use crate::fault::{Flaw, TextFault};
 use crate::numbers::{is_number, is_short_number};
 use crate::strings::string_len;
+pub use items::{Item, Items};
 
 const APOSTROPHE: u8 = b'\'';
 

@@ -5,8 +5,9 @@ ghost use Rattle.std.specs.Option.{SomeIff};
 ghost use Rattle.std.specs.Str.Parse.{digits_value};
 ghost use Rattle.step_literals.specs.Bytes.{is_digit, Each};
 ghost use Rattle.step_literals.specs.Tokens.{is_e, is_sign, sign_len, integer, real, IsNext, NoneAt};
-ghost use Rattle.step_literals.specs.Numbers.{exponent_digits, IsShortNumber, IsLongestExponent, StartsNumber};
+ghost use Rattle.step_literals.specs.Numbers.{exponent_text, IsShortNumber, IsLongestExponent, StartsNumber};
 ghost use Rattle.step_literals.specs.Literals.{IsNumber};
+ghost use Rattle.step_literals.specs.Decimals.{is_negative};
 
 use crate::bytes::{digits_len, is_digit};
 
@@ -20,7 +21,7 @@ fn is_e(b: u8) -> bool
     b == b'E' || b == b'e'
 }
 
-fn sign_len(bytes: &[u8]) -> usize
+pub fn sign_len(bytes: &[u8]) -> usize
     ensures value { result ≡ sign_len bytes.now }
     ensures within { result ≤ length bytes.now }
 {
@@ -91,24 +92,30 @@ pub fn number_of(digits: &[u8]) -> Option<u64>
 }
 
 /// How many bytes come before the first `E`.
-fn mantissa_len(number: &[u8]) -> usize
+pub fn mantissa_len(number: &[u8]) -> usize
     ensures within { result ≤ length number.now }
     ensures len { result ≡ prefix_len (λ b. not (is_e b)) number.now }
 {
     number.iter().take_while(|b| !is_e(**b)).count()
 }
 
-/// The digits of the exponent, none where there is none.
-fn exponent_digits(number: &[u8]) -> &[u8]
-    ensures { result.now ≡ exponent_digits number.now }
+/// The bytes behind the `E`, none where there is none.
+pub fn exponent_text(number: &[u8]) -> &[u8]
+    ensures { result.now ≡ exponent_text number.now }
 {
     let mantissa = mantissa_len(number);
     if mantissa == number.len() {
         return b"";
     }
     let (_, exponent) = number.split_at(mantissa + 1);
-    let (_, digits) = exponent.split_at(sign_len(exponent));
-    digits
+    exponent
+}
+
+/// Whether the bytes begin with `-`.
+pub fn is_negative(bytes: &[u8]) -> bool
+    ensures { result ≡ is_negative bytes.now }
+{
+    matches!(bytes, [b'-', ..])
 }
 
 /// Whether a number is within the limits.
@@ -119,7 +126,9 @@ pub fn is_short_number(number: &[u8]) -> bool
     if number.len() > LONGEST {
         return false;
     }
-    match number_of(exponent_digits(number)) {
+    let exponent = exponent_text(number);
+    let (_, digits) = exponent.split_at(sign_len(exponent));
+    match number_of(digits) {
         Some(exponent) => exponent <= LARGEST_EXPONENT,
         None => false,
     }

@@ -1,2 +1,5 @@
 pub mod Filling
 pub mod Answering
+pub mod Asking
+pub mod Running
+mod Examples

@@ -1,8 +1,11 @@
 //! The command line, over any store of files and any outputs.
 
-ghost use Rattle.std.specs.Prelude.{◌≡◌, ◌⊎◌, Bool, true, false, OnOk, is_err};
+ghost use Rattle.std.specs.Prelude.{◌≡◌, ◌++◌, ◌⊎◌, ℕ, List, Bool, true, false, OnOk, is_err, map, string_bytes, MatchResult};
 ghost use Rattle.std.specs.Bool.{if◌then◌else◌};
-ghost use Rattle.std.specs.Io.KnownBytes.{Keeps};
+ghost use Rattle.std.specs.Io.KnownBytes.{Appends, Keeps};
+ghost use Rattle.stepmin.specs.Commands.{AsksPlain};
+ghost use Rattle.stepmin.specs.Runs.{Does, IsStatusFor, Prints, Refuses, Runs, RunsPlain};
+ghost use Rattle.stepmin.specs.declared.usage.Refusal.TheVariants.{Memory};
 ghost use Rattle.stepmin.specs.Statuses.{IsStatus, fault_status, outcome_status};
 
 use crate::plain::{Fault, plain};
@@ -45,7 +48,10 @@ pub fn status_of(fault: &Fault) -> u8
 
 // Sends all of the text.
 fn send<S: Sink>(out: &mut S, text: &str) -> Result<(), Failed>
-    ensures { S.has_failed out.old ≡ false → S.has_failed out.new ≡ is_err result }
+    ensures sent { MatchResult result
+        (λ _. Appends (S.held out.old) (S.held out.new) text.now)
+        (λ _. (sent : List ℕ) × (left : List ℕ) × (text.now ≡ sent ++ left) × Appends (S.held out.old) (S.held out.new) sent) }
+    ensures failed { S.has_failed out.old ≡ false → S.has_failed out.new ≡ is_err result }
 {
     let mut rest = text.as_bytes();
     while !rest.is_empty() {
@@ -58,7 +64,7 @@ fn send<S: Sink>(out: &mut S, text: &str) -> Result<(), Failed>
 
 // Prints the text, and answers the status: this one, or the device's where the text can't be printed.
 fn print<S: Sink>(out: &mut S, text: &str, status: u8) -> u8
-    ensures either { (result ≡ status) ⊎ (result ≡ 4) }
+    ensures prints { Prints (S.held out.old) (S.held out.new) text.now status result }
     ensures failed { S.has_failed out.old ≡ false → result ≡ (if S.has_failed out.new then 4 else status) }
 {
     match send(out, text) {
@@ -70,8 +76,7 @@ fn print<S: Sink>(out: &mut S, text: &str, status: u8) -> u8
 // Prints the line of a fault, and answers the status for what a command came to, or the device's where
 // the line can't be printed.
 fn finish<E: Sink>(outcome: Result<(), Fault>, err: &mut E) -> u8
-    ensures either { (result ≡ outcome_status outcome) ⊎ (result ≡ 4) }
-    ensures failed { E.has_failed err.old ≡ false → result ≡ (if E.has_failed err.new then 4 else outcome_status outcome) }
+    ensures status { IsStatusFor outcome (E.has_failed err.old) (E.has_failed err.new) result }
     ensures silent { OnOk outcome ((result ≡ 0) × (err.new ≡ err.old)) }
 {
     match outcome {
@@ -88,6 +93,8 @@ fn finish<E: Sink>(outcome: Result<(), Fault>, err: &mut E) -> u8
 /// Prints why nothing is done, and answers the status: a help text on `out`, and everything else on `err`.
 pub fn refuse<O: Sink, E: Sink>(refusal: Refusal, out: &mut O, err: &mut E) -> u8
     ensures status { IsStatus result }
+    ensures refuses { Refuses refusal (O.held out.old) (O.held out.new) (E.held err.old) (E.held err.new) result }
+    ensures memory { refusal ≡ Memory → IsStatusFor (Err Fault.Memory) (E.has_failed err.old) (E.has_failed err.new) result }
     // Nothing goes out but for a help text, and where a device fails.
     ensures unwritten { (result ≡ 0) ⊎ (result ≡ 4) ⊎ Keeps (O.held out.old) (O.held out.new) }
     // Where an output fails, the status says so.
@@ -98,6 +105,25 @@ pub fn refuse<O: Sink, E: Sink>(refusal: Refusal, out: &mut O, err: &mut E) -> u
         Refusal::Help(text) => print(out, text.as_str(), DONE),
         Refusal::Usage(text) => print(err, text.as_str(), USAGE),
         Refusal::Memory => finish(Err(Fault::Memory), err),
+    }
+}
+
+// Does what is asked for, and answers the status.
+fn run<'p, S: Store<'p>, O: Sink, E: Sink>(
+    alloc: Global,
+    request: Request<'p>,
+    store: &mut S,
+    out: &mut O,
+    err: &mut E,
+) -> u8
+    ensures does { Does request.entry (S.contents store.old) (O.held out.old) (O.held out.new) (E.has_failed err.old) (E.has_failed err.new) result }
+    ensures out_failed { O.has_failed out.old ≡ false → O.has_failed out.new ≡ true → result ≡ 4 }
+{
+    match request {
+        Request::Plain(path) => {
+            let mut source = store.reader(path);
+            finish(plain(alloc, &mut source, out), err)
+        }
     }
 }
 
@@ -113,6 +139,11 @@ pub fn run_command<'p, S: Store<'p>, O: Sink, E: Sink>(
     out: &mut O,
     err: &mut E,
 ) -> u8
+    ensures runs { Runs (map string_bytes words.now) (S.contents store.old) (O.held out.old) (O.held out.new) (E.has_failed err.old) (E.has_failed err.new) result }
+    // Where the words ask for the normal text of a file, that is done with what the file holds.
+    ensures plain { (path : List ℕ) → AsksPlain (map string_bytes words.now) path → RunsPlain (S.contents store.old path) (O.held out.old) (O.held out.new) (E.has_failed err.old) (E.has_failed err.new) result }
+    // No file is opened where they ask for none.
+    ensures unopened { ((path : List ℕ) → AsksPlain (map string_bytes words.now) path → ⊥) → store.new ≡ store.old }
     ensures status { IsStatus result }
     // Nothing goes out but where all is done, and where a device fails.
     ensures unwritten { (result ≡ 0) ⊎ (result ≡ 4) ⊎ Keeps (O.held out.old) (O.held out.new) }
@@ -121,10 +152,7 @@ pub fn run_command<'p, S: Store<'p>, O: Sink, E: Sink>(
     ensures err_failed { E.has_failed err.old ≡ false → E.has_failed err.new ≡ true → result ≡ 4 }
 {
     match read_words(alloc, words) {
-        Ok(Request::Plain(path)) => {
-            let mut source = store.reader(path);
-            finish(plain(alloc, &mut source, out), err)
-        }
+        Ok(request) => run(alloc, request, store, out, err),
         Err(refusal) => refuse(refusal, out, err),
     }
 }

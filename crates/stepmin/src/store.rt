@@ -1,12 +1,15 @@
 //! Files by their names.
 
-ghost use Rattle.std.specs.Prelude.{◌≡◌, false};
+ghost use Rattle.std.specs.Prelude.{◌≡◌, ℕ, List, Option, None, false};
 
 use step_exchange::device::{Sink, Source};
 
 /// A place where files lie under their paths. What it gives is owned, so that several files are open
 /// at once.
 pub trait Store<'p> {
+    // what the file of this path holds, where the store tells it
+    ghost contents: { Self → List ℕ → Option (List ℕ) } = { λ _ _. None };
+
     /// A file that is read.
     type Reader: Source + Drop;
 
@@ -15,7 +18,10 @@ pub trait Store<'p> {
 
     /// The file of this path, opened at the first read: that read fails where it can't be opened.
     fn reader(&mut self, path: &'p str) -> Self::Reader
-        ensures { Self.Reader.has_failed result ≡ false };
+        ensures fresh { Self.Reader.has_failed result ≡ false }
+        ensures contents { Self.Reader.to_come result ≡ contents self.old path.now }
+        // Opening a file changes none.
+        ensures kept { (other : List ℕ) → contents self.new other ≡ contents self.old other };
 
     /// A file for this path, made at the first write: that write fails where it can't be made.
     fn writer(&mut self, path: &'p str) -> Self::Writer

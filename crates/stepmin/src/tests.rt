@@ -1,5 +1,9 @@
 //! The command line over one file in memory.
 
+ghost use Rattle.std.specs.Prelude.{Some, None, codes, option_map};
+ghost use Rattle.std.specs.Bool.{if◌then◌else◌};
+ghost use Rattle.std.specs.Str.{bytes_eq};
+
 use crate::command::run_command;
 use crate::plain::Fault;
 use crate::read::ReadFault;
@@ -29,6 +33,8 @@ struct Book<'b> {
 }
 
 impl Read for Book<'_> {
+    ghost remaining = { λ book. option_map (λ left. left.now) book.left };
+
     fn read(&mut self, buf: &mut [u8]) -> io::Result<usize> {
         let Some(left) = self.left else {
             return Err(io::Error::from(io::ErrorKind::NotFound));
@@ -84,6 +90,8 @@ struct Shelf<'b> {
 }
 
 impl<'p, 'b> Store<'p> for Shelf<'b> {
+    ghost contents = { λ shelf path. if bytes_eq path (codes "F") then Some shelf.bytes.now else None };
+
     type Reader = Counted<Book<'b>>;
 
     type Writer = Counted<Paper>;
@@ -242,6 +250,22 @@ fn faulty_rows_are_refused(rt: HostRuntime) -> Result<(), Fail> {
 }
 
 #[test]
+fn a_keyword_stands_once_among_many(rt: HostRuntime) -> Result<(), Fail> {
+    let alloc = rt.alloc();
+    let twelve = "#1=(A()B()C()D()E()F()G()H()I()J()K()L());\n";
+    let file = file_of(alloc, twelve)?;
+    let run = plain(alloc, file.as_str())?;
+    assert_eq!(rt; run.status, 0);
+    assert_eq!(rt; run.out.as_slice(), file.as_bytes());
+    let line = "file: E7 DuplicateName at byte 162";
+    for keyword in ["k()", "h()"] {
+        let faulty = file.replace(alloc, "L()", keyword)?;
+        assert!(rt; refused(alloc, faulty.as_str(), line)?, "{keyword}");
+    }
+    Ok(())
+}
+
+#[test]
 fn faulty_sections_are_refused(rt: HostRuntime) -> Result<(), Fail> {
     let alloc = rt.alloc();
     let cut = format!(in alloc; "{HEADER}{DATA}ENDSEC;\n")?;
@@ -339,6 +363,32 @@ fn a_file_that_is_too_large_is_refused(rt: HostRuntime) -> Result<(), Fail> {
 }
 
 #[test]
+fn words_name_a_file(rt: HostRuntime) -> Result<(), Fail> {
+    let alloc = rt.alloc();
+    let file = file_of(alloc, "")?;
+    for words in [
+        ["stepmin", "plain", "F"].as_slice(),
+        &["other", "plain", "--", "F"],
+        &["stepmin", "plain", "F", "--"],
+    ] {
+        let run = run(alloc, words, file.as_bytes())?;
+        assert_eq!(rt; run.status, 0, "{words:?}");
+        assert_eq!(rt; run.out.as_slice(), file.as_bytes(), "{words:?}");
+    }
+    for words in [
+        ["stepmin", "plain", ""].as_slice(),
+        &["stepmin", "plain", "-"],
+        &["stepmin", "plain", "help"],
+        &["stepmin", "plain", "--", "--help"],
+    ] {
+        let run = run(alloc, words, file.as_bytes())?;
+        assert_eq!(rt; run.status, 4, "{words:?}");
+        assert_eq!(rt; run.err.as_slice(), b"device: file\n".as_slice());
+    }
+    Ok(())
+}
+
+#[test]
 fn wrong_words_are_refused(rt: HostRuntime) -> Result<(), Fail> {
     let alloc = rt.alloc();
     for words in [
@@ -348,6 +398,8 @@ fn wrong_words_are_refused(rt: HostRuntime) -> Result<(), Fail> {
         &["stepmin", "plain"],
         &["stepmin", "plain", "F", "F"],
         &["stepmin", "plain", "--strict", "F"],
+        &["stepmin", "plain", "-F"],
+        &["stepmin", "--", "plain", "F"],
     ] {
         let run = run(alloc, words, b"")?;
         assert_eq!(rt; run.status, 3, "{words:?}");

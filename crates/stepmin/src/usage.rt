@@ -1,7 +1,17 @@
 //! The words of a command line.
 
+ghost use Rattle.std.specs.Prelude.{◌≡◌, ℕ, List, IfOk, IfErr, codes, map, option_map, string_bytes};
+ghost use Rattle.std.specs.IoError.{error_kind};
+ghost use Rattle.clap.specs.Simple.{app_of, subcommand_rows_of};
+ghost use Rattle.clap.specs.Values.{kind_of};
+ghost use Rattle.std.specs.declared.io.ErrorKind.TheVariants.{OutOfMemory};
+ghost use Rattle.stepmin.specs.Clap.{file_in, stepmin_app};
+ghost use Rattle.stepmin.specs.Commands.{AsksPlain};
+ghost use Rattle.stepmin.specs.Requests.{AskFor, CallFor, CallsFor, SaysUsage};
+ghost use Rattle.stepmin.specs.declared.usage.Refusal.TheVariants.{Memory};
+
 use clap::error::ErrorKind;
-use clap::{Arg, ArgAction, Command, Error};
+use clap::{Arg, ArgAction, ArgMatches, Command, Error};
 use std::alloc::{AllocError, Global};
 use std::io;
 
@@ -24,13 +34,17 @@ pub enum Refusal {
 }
 
 impl From<AllocError> for Refusal {
+    ghost from_gives = { λ _ result. result ≡ Memory };
+
     fn from(_: AllocError) -> Refusal {
         Refusal::Memory
     }
 }
 
 // The command line as clap reads it.
-fn stepmin<'a>(alloc: Global) -> Result<Command<'a>, AllocError> {
+fn stepmin<'a>(alloc: Global) -> Result<Command<'a>, AllocError>
+    ensures { IfOk result (λ command. app_of command ≡ stepmin_app) }
+{
     let file = Arg::new(alloc, "FILE")
         .required(true)
         .action(ArgAction::Set)
@@ -44,20 +58,33 @@ fn stepmin<'a>(alloc: Global) -> Result<Command<'a>, AllocError> {
         .subcommand(plain)
 }
 
+// The FILE of `plain`.
+fn path_in<'p>(matches: &ArgMatches<'p>) -> Option<&'p str>
+    ensures { (path : List ℕ) → file_in (subcommand_rows_of matches.now) ≡ Some (codes "plain", Some path) → option_map (λ text. text.now) result ≡ Some path }
+{
+    matches.subcommand_matches("plain")?.get_str("FILE")
+}
+
 // Why clap takes the words for no command.
-fn refused(alloc: Global, error: Error) -> Refusal {
-    if error.kind() == ErrorKind::OutOfMemory {
+fn refused(alloc: Global, error: Error) -> Refusal
+    ensures memory { kind_of error ≡ ErrorKind.OutOfMemory → result ≡ Memory }
+    ensures kind { CallsFor (kind_of error) result }
+{
+    let kind = error.kind();
+    if kind == ErrorKind::OutOfMemory {
         return Refusal::Memory;
     }
     match error.to_string(alloc) {
         Err(_) => Refusal::Memory,
-        Ok(text) if error.use_stderr() => Refusal::Usage(text),
-        Ok(text) => Refusal::Help(text),
+        Ok(text) if kind == ErrorKind::DisplayHelp => Refusal::Help(text),
+        Ok(text) => Refusal::Usage(text),
     }
 }
 
 // Why the words ask for nothing, in a text of the program's own.
-fn usage(alloc: Global, text: &str) -> Refusal {
+fn usage(alloc: Global, text: &str) -> Refusal
+    ensures { SaysUsage text.now result }
+{
     match String::from_str(alloc, text) {
         Ok(text) => Refusal::Usage(text),
         Err(_) => Refusal::Memory,
@@ -66,7 +93,10 @@ fn usage(alloc: Global, text: &str) -> Refusal {
 
 /// Why nothing is done where the system can't give the words: `Memory` where memory ran out, and else
 /// `Usage`, as for a word that is no text.
-pub fn unread_words(alloc: Global, error: &io::Error) -> Refusal {
+pub fn unread_words(alloc: Global, error: &io::Error) -> Refusal
+    ensures memory { error_kind error.now ≡ OutOfMemory → result ≡ Memory }
+    ensures usage { SaysUsage (codes "error: an argument is not text\n") result }
+{
     if error.kind() == io::ErrorKind::OutOfMemory {
         return Refusal::Memory;
     }
@@ -75,16 +105,19 @@ pub fn unread_words(alloc: Global, error: &io::Error) -> Refusal {
 
 /// What the words ask for, the program's own name first. `Help` comes for `--help` and `help`, `Usage`
 /// where the words are no command, and `Memory` where memory runs out.
-pub fn read_words<'p>(alloc: Global, words: &'p [String]) -> Result<Request<'p>, Refusal> {
+pub fn read_words<'p>(alloc: Global, words: &'p [String]) -> Result<Request<'p>, Refusal>
+    ensures asked { IfOk result (AskFor (map string_bytes words.now)) }
+    ensures refused { IfErr result (CallFor (map string_bytes words.now)) }
+    // Words that ask for something are refused for want of memory alone.
+    ensures granted { (path : List ℕ) → AsksPlain (map string_bytes words.now) path → IfErr result (λ refusal. refusal ≡ Memory) }
+{
     let matches = match stepmin(alloc)?.try_get_matches_from(words) {
         Ok(matches) => matches,
         Err(error) => return Err(refused(alloc, error)),
     };
-    if let Some(("plain", inner)) = matches.subcommand() {
-        if let Some(path) = inner.get_str("FILE") {
-            return Ok(Request::Plain(path));
-        }
+    match path_in(&matches) {
+        Some(path) => Ok(Request::Plain(path)),
+        // clap lets no such words pass.
+        None => Err(usage(alloc, "error: no command is given\n")),
     }
-    // clap lets no such words pass.
-    Err(usage(alloc, "error: no command is given\n"))
 }

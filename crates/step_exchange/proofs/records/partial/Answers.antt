@@ -8,7 +8,7 @@ use Rattle.step_exchange.proofs.records.partial.Goals as goal
 
 pub returns-in_default : goal.returns-in_default
 returns-in_default c =
-    partial_refused c.refuse.result (keywords_of (map part_of c.args.parts.now)) c.args.first c.args.lexer.now (parts_refused (keywords_of (map part_of c.args.parts.now)) c.args.first.sort c.args.first.text.now c.in_default.not-Keyword c.requires) c.refuse.ensures
+    partial_refused c.refuse.result (keywords_of (map part_of c.args.parts.now)) c.args.first c.args.lexer.now (parts_refused (keywords_of (map part_of c.args.parts.now)) c.args.first.sort c.args.first.text.now c.in_default.not-Keyword c.requires.open) c.refuse.ensures
 
 pub returns-then-has_keyword : goal.returns-then-has_keyword
 returns-then-has_keyword c =

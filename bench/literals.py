@@ -1,0 +1,94 @@
+#!/usr/bin/env python3
+"""Times equality, order and hash of literals by value, beside a plain comparison of their bytes.
+
+    bench/literals.py
+
+Proves and builds bench/literals/main.rt.in over crates/step_literals in a temporary folder, runs it on
+literals shaped like those of real files (each twice in two spellings, so half of the neighbours are
+equal), and prints nanoseconds a literal.
+"""
+import os
+import random
+import shutil
+import subprocess
+import sys
+import tempfile
+
+HERE = os.path.dirname(os.path.abspath(__file__))
+CRATES = os.path.join(os.path.dirname(HERE), "crates")
+MANIFEST = "step_literals: memchr thiserror\nliterals: step_literals\n"
+COUNT = 20000
+
+
+def words(rng):
+    for _ in range(COUNT):
+        name = rng.choice(["CARTESIAN_POINT", "DIRECTION", "AXIS2_PLACEMENT_3D", "ORIENTED_EDGE"])
+        yield name
+        yield name.lower()
+
+
+def numbers(rng):
+    for _ in range(COUNT):
+        value = rng.uniform(-500, 500)
+        yield f"{value:.6f}"
+        yield f"{value:.6f}0E0"
+
+
+def long_numbers(rng):
+    for _ in range(COUNT // 20):
+        digits = "".join(rng.choice("0123456789") for _ in range(390))
+        yield f"{digits}.E-999999"
+        yield f"{digits}0.E-9999"
+
+
+def strings(rng):
+    for k in range(COUNT):
+        yield f"'part no. {k}, made in {rng.choice(['Paris', 'Bern', 'Oslo'])}'"
+        yield f"'caf\\X2\\00E9\\X0\\ {k}'"
+        yield f"'caf\\X\\E9 {k}'"
+
+
+def binaries(rng):
+    for _ in range(COUNT):
+        digits = "".join(rng.choice("0123456789ABCDEF") for _ in range(16))
+        yield f'"0{digits}"'
+        yield f'"0{digits.lower()}"'
+
+
+def build(folder):
+    crates = os.path.join(folder, "crates")
+    shutil.copytree(os.path.join(CRATES, "step_literals"), os.path.join(crates, "step_literals"),
+                    ignore=shutil.ignore_patterns("out"))
+    os.makedirs(os.path.join(crates, "literals", "src"))
+    shutil.copy(os.path.join(HERE, "literals", "main.rt.in"), os.path.join(crates, "literals", "src", "main.rt"))
+    with open(os.path.join(folder, "crates.txt"), "w", encoding="ascii") as file:
+        file.write(MANIFEST)
+    crate = os.path.join(crates, "literals")
+    subprocess.run(["rt", "run"], cwd=crate, stdout=subprocess.DEVNULL, stderr=subprocess.DEVNULL, check=False)
+    program = os.path.join(crate, "out", "literals")
+    if not os.path.exists(program):
+        sys.exit("the program wasn't built: run `rt run` in a copy of it to see why")
+    return program
+
+
+def measure(program, folder, lines):
+    with open(os.path.join(folder, "literals.txt"), "w", encoding="ascii") as file:
+        file.write("\n".join(lines) + "\n")
+    output = subprocess.run([program], cwd=folder, capture_output=True, text=True, check=True).stdout
+    return [line.split() for line in output.splitlines()]
+
+
+def main():
+    rng = random.Random(1)
+    common = [*words(rng), *numbers(rng), *strings(rng), *binaries(rng)]
+    with tempfile.TemporaryDirectory() as folder:
+        program = build(folder)
+        rows = measure(program, folder, common)
+        rows += [["long numbers", *row[1:]] for row in measure(program, folder, long_numbers(rng)) if row[0] == "numbers"]
+    print(f"{'nanoseconds a literal':24}{'bytes':>8}{'==':>8}{'cmp':>8}{'hash':>8}")
+    for kind, byte_time, equal, order, digest, *_ in rows:
+        print(f"{kind:24}{byte_time:>8}{equal:>8}{order:>8}{digest:>8}")
+
+
+if __name__ == "__main__":
+    main()

@@ -1,0 +1,9 @@
+pub mod MarkLemmas
+pub mod Groups
+pub mod FrontLemmas
+pub mod Remarks
+pub mod LayoutLemmas
+pub mod ReadingLemmas
+pub mod Unique
+pub mod Determined
+pub mod Examples

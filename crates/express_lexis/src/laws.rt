@@ -1,0 +1,24 @@
+//! Laws of the definitions alone.
+
+ghost use Rattle.express_lexis.specs.Laws.{AnswersAreDetermined, EndIsAnsweredAgain, FaultIsAnsweredAgain, PlacesRise};
+
+/// What a lexer answers is determined by the text and by how far it is read, and so is how far it
+/// is read then.
+pub fn answers_are_determined()
+    ensures { AnswersAreDetermined }
+{}
+
+/// Behind the end the end is answered again.
+pub fn end_is_answered_again()
+    ensures { EndIsAnsweredAgain }
+{}
+
+/// Behind a fault the same fault is answered again.
+pub fn fault_is_answered_again()
+    ensures { FaultIsAnsweredAgain }
+{}
+
+/// The places of tokens rise.
+pub fn places_rise()
+    ensures { PlacesRise }
+{}

@@ -1,0 +1,63 @@
+// Layout between tokens.
+ghost use Rattle.std.specs.Prelude.{◌≡◌, ◌≤◌, ◌<◌, ◌++◌, ◌∷◌, [], ℕ, List, length, take, drop, MatchOption};
+ghost use Rattle.std.specs.List.{prefix_len};
+ghost use Rattle.express_lexis.specs.Layout.{IsBlank, IsRemark, NoBlank, SkipsLayout, in_line};
+
+/// How long the embedded remark is that the bytes begin with, if it ends.
+fn remark_len(bytes: &[u8]) -> Option<usize>
+    requires { take 2 bytes.now ≡ 40 ∷ 42 ∷ [] }
+    ensures { MatchOption result ((t rest : List ℕ) → bytes.now ≡ t ++ rest → IsRemark t → ⊥) (λ n. (2 ≤ n) × (n ≤ length bytes.now) × IsRemark (take n bytes.now)) }
+{
+    let (_, mut rest) = bytes.split_at(2);
+    let mut open = 1usize;
+    while open > 0 {
+        if let Some(after) = rest.strip_prefix(b"(*") {
+            open += 1;
+            rest = after;
+        } else if let Some(after) = rest.strip_prefix(b"*)") {
+            open -= 1;
+            rest = after;
+        } else {
+            let (_, after) = rest.split_first()?;
+            rest = after;
+        }
+    }
+    Some(bytes.len() - rest.len())
+}
+
+/// How many bytes come before the end of the line.
+fn line_len(bytes: &[u8]) -> usize
+    ensures within { result ≤ length bytes.now }
+    ensures len { result ≡ prefix_len in_line bytes.now }
+{
+    bytes.iter().take_while(|b| **b != b'\n').count()
+}
+
+/// How long the blank or remark is that the bytes begin with, if there is one.
+fn blank_len(bytes: &[u8]) -> Option<usize>
+    ensures { MatchOption result (NoBlank bytes.now) (λ n. (0 < n) × (n ≤ length bytes.now) × IsBlank (take n bytes.now) (drop n bytes.now)) }
+{
+    if *bytes.first()? <= 32 {
+        return Some(1);
+    }
+    if let Some(line) = bytes.strip_prefix(b"--") {
+        return Some(2 + line_len(line));
+    }
+    if bytes.starts_with(b"(*") {
+        return remark_len(bytes);
+    }
+    None
+}
+
+/// How long the layout is that the bytes begin with.
+pub(crate) fn layout_len(bytes: &[u8]) -> usize
+    ensures within { result ≤ length bytes.now }
+    ensures layout { SkipsLayout bytes.now (drop result bytes.now) }
+{
+    let mut rest = bytes;
+    while let Some(n) = blank_len(rest) {
+        let (_, next) = rest.split_at(n);
+        rest = next;
+    }
+    bytes.len() - rest.len()
+}

@@ -1,0 +1,14 @@
+//! Tokens of EXPRESS text (ISO 10303-11), read one by one.
+//!
+//! Nothing here takes memory: tokens are slices of the text that is read.
+#![tactic(auto)]
+
+mod fronts;
+pub mod laws;
+mod layout;
+pub mod lexer;
+pub mod literal;
+pub mod marks;
+#[cfg(test)]
+mod tests;
+pub mod token;

@@ -1,0 +1,97 @@
+//! Words and literals, as slices of the text that spells them.
+
+ghost use Rattle.std.specs.Prelude.{◌≡◌};
+ghost use Rattle.express_lexis.specs.Tokens.{Spells, word, string, encoded, binary};
+
+/// A word (ISO 10303-11, 7.2 and 7.4): a letter, then letters, digits and `_`. Whether it is a
+/// keyword is the grammar's affair.
+#[derive(Clone, Copy)]
+pub struct Word<'a> {
+    text: &'a [u8],
+    pub ghost spelled: { ∥ Spells word text.now ∥₁ },
+}
+
+/// A string with its apostrophes (ISO 10303-11, 7.5.5).
+#[derive(Clone, Copy)]
+pub struct SimpleString<'a> {
+    text: &'a [u8],
+    pub ghost spelled: { ∥ Spells string text.now ∥₁ },
+}
+
+/// A string of codes, each of eight hexadecimal digits, with its quotes (ISO 10303-11, 7.5.5).
+#[derive(Clone, Copy)]
+pub struct EncodedString<'a> {
+    text: &'a [u8],
+    pub ghost spelled: { ∥ Spells encoded text.now ∥₁ },
+}
+
+/// A binary with its `%` (ISO 10303-11, 7.5.1).
+#[derive(Clone, Copy)]
+pub struct Binary<'a> {
+    text: &'a [u8],
+    pub ghost spelled: { ∥ Spells binary text.now ∥₁ },
+}
+
+impl<'a> Word<'a> {
+    pub(crate) fn from_word(text: &'a [u8]) -> Word<'a>
+        requires { Spells word text.now }
+        ensures { result.text.now ≡ text.now }
+    {
+        Word { text }
+    }
+
+    /// The bytes that spell it, in the case in which they stand.
+    pub fn spelling(&self) -> &'a [u8]
+        ensures { result ≡ self.now.text }
+    {
+        self.text
+    }
+}
+
+impl<'a> SimpleString<'a> {
+    pub(crate) fn from_string(text: &'a [u8]) -> SimpleString<'a>
+        requires { Spells string text.now }
+        ensures { result.text.now ≡ text.now }
+    {
+        SimpleString { text }
+    }
+
+    /// The bytes that spell it, its apostrophes included.
+    pub fn spelling(&self) -> &'a [u8]
+        ensures { result ≡ self.now.text }
+    {
+        self.text
+    }
+}
+
+impl<'a> EncodedString<'a> {
+    pub(crate) fn from_encoded(text: &'a [u8]) -> EncodedString<'a>
+        requires { Spells encoded text.now }
+        ensures { result.text.now ≡ text.now }
+    {
+        EncodedString { text }
+    }
+
+    /// The bytes that spell it, its quotes included.
+    pub fn spelling(&self) -> &'a [u8]
+        ensures { result ≡ self.now.text }
+    {
+        self.text
+    }
+}
+
+impl<'a> Binary<'a> {
+    pub(crate) fn from_binary(text: &'a [u8]) -> Binary<'a>
+        requires { Spells binary text.now }
+        ensures { result.text.now ≡ text.now }
+    {
+        Binary { text }
+    }
+
+    /// The bytes that spell it, its `%` included.
+    pub fn spelling(&self) -> &'a [u8]
+        ensures { result ≡ self.now.text }
+    {
+        self.text
+    }
+}

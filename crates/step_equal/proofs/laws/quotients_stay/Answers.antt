@@ -1,0 +1,5 @@
+use Rattle.step_equal.proofs.Stays.{quotients_stay}
+use Rattle.step_equal.proofs.laws.quotients_stay.Goals as goal
+
+pub returns : goal.returns
+returns c = quotients_stay

@@ -1,0 +1,12 @@
+use Rattle.std.proofs.Common.{arith}
+use Rattle.step_equal.proofs.Settling.{settled_len, settled_left, settled_done}
+use Rattle.step_equal.proofs.settled.settle_rows.Goals as goal
+
+pub loop-i-preserved : goal.loop-i-preserved
+loop-i-preserved c =
+    let l = c.loop-i.invariant in
+    record {
+      same_len = settled_len c.args.rows.now c.loop-i.rows c.loop-i.i c.index-rows-i.result c.settle.new.row l.same_len l.rest (omega (arith, l.same_len)) c.index-rows-i.is;
+      done = settled_done c.args.rows.now c.loop-i.rows c.loop-i.i c.index-rows-i.result c.settle.new.row l.same_len l.rest (omega (arith, l.same_len)) c.index-rows-i.is l.done c.in_ok-settle.ensures;
+      rest = settled_left c.args.rows.now c.loop-i.rows c.loop-i.i c.index-rows-i.result c.settle.new.row l.same_len l.rest (omega (arith, l.same_len)) c.index-rows-i.is;
+    }

@@ -1,0 +1,81 @@
+-- The laws of value equality, images and tables. Pins are any set of names.
+use Rattle.std.specs.Prelude.{◌≡◌, ◌≤◌, ◌↔◌, ℕ, Bool, true, List, Some, length}
+use Rattle.step_equal.specs.Rows.{Row, names, IsName, IsPopulation, BagsArePinned, SamePopulation}
+use Rattle.step_equal.specs.Keeping.{Keeps, ValueEqual, IsValueEquality, IsCongruence}
+use Rattle.step_equal.specs.Images.{IsImage, kernel, head_of, quotient}
+use Rattle.step_equal.specs.Tables.{Table, last_class, IsAncestor, class_at, shares, IsValid}
+use Rattle.step_equal.specs.Standard.{IsStandard}
+
+-- Value equality is a congruence ..
+abbrev pub ValueEqualityIsCongruence : Type 0
+ValueEqualityIsCongruence =
+    (P : List Row) (pinned : ℕ → Bool) (E : ℕ → ℕ → Bool) → IsPopulation P → IsValueEquality P pinned E
+    → IsCongruence P pinned E
+
+-- .. and the greatest relation that keeps.
+abbrev pub ValueEqualityIsGreatest : Type 0
+ValueEqualityIsGreatest =
+    (P : List Row) (pinned : ℕ → Bool) (E R : ℕ → ℕ → Bool) → IsValueEquality P pinned E → Keeps P pinned R
+    → (x z : ℕ) → R x z ≡ true → E x z ≡ true
+
+-- The kernel of an image is a congruence, whoever made the image, where bags refer to pinned instances alone.
+abbrev pub KernelsAreCongruences : Type 0
+KernelsAreCongruences =
+    (P Q : List Row) (pinned : ℕ → Bool) (h : ℕ → ℕ) → IsPopulation P → BagsArePinned P pinned → IsImage P Q h pinned
+    → IsCongruence P pinned (kernel P h)
+
+-- So no image has fewer instances than the quotient by value equality.
+abbrev pub NoImageHasFewer : Type 0
+NoImageHasFewer =
+    (P Q : List Row) (pinned : ℕ → Bool) (E : ℕ → ℕ → Bool) (h : ℕ → ℕ) → IsPopulation P → BagsArePinned P pinned
+    → IsValueEquality P pinned E → IsImage P Q h pinned → length (quotient P E) ≤ length Q
+
+-- A valid table, whoever made it, has value equality as its last partition.
+abbrev pub TablesDecide : Type 0
+TablesDecide =
+    (P : List Row) (pinned : ℕ → Bool) (t : Table) → IsPopulation P → IsValid P pinned t
+    → IsValueEquality P pinned (shares t t.rounds)
+
+-- The quotient by a congruence is an image, and a population.
+abbrev pub QuotientsAreImages : Type 0
+QuotientsAreImages =
+    (P : List Row) (pinned : ℕ → Bool) (E : ℕ → ℕ → Bool) → IsPopulation P → IsCongruence P pinned E
+    → IsImage P (quotient P E) (head_of (names P) E) pinned × IsPopulation (quotient P E)
+
+-- Value equality on the quotient by value equality is the identity.
+abbrev pub QuotientsAreReduced : Type 0
+QuotientsAreReduced =
+    (P : List Row) (pinned : ℕ → Bool) (E : ℕ → ℕ → Bool) → IsPopulation P → BagsArePinned P pinned → IsValueEquality P pinned E
+    → (x z : ℕ) → ValueEqual (quotient P E) pinned x z ↔ (IsName (quotient P E) x × (x ≡ z))
+
+-- So a second quotient changes nothing.
+abbrev pub QuotientsStay : Type 0
+QuotientsStay =
+    (P : List Row) (pinned : ℕ → Bool) (E F : ℕ → ℕ → Bool) → IsPopulation P → BagsArePinned P pinned → IsValueEquality P pinned E
+    → IsValueEquality (quotient P E) pinned F → quotient (quotient P E) F ≡ quotient P E
+
+-- The table that partition refinement makes is valid ..
+abbrev pub StandardIsValid : Type 0
+StandardIsValid = (P : List Row) (pinned : ℕ → Bool) (t : Table) → IsStandard P pinned t → IsValid P pinned t
+
+-- .. is the only one ..
+abbrev pub StandardIsUnique : Type 0
+StandardIsUnique = (P : List Row) (pinned : ℕ → Bool) (s t : Table) → IsPopulation P → IsStandard P pinned s → IsStandard P pinned t → s ≡ t
+
+-- .. and has at most as many rounds as there are instances.
+abbrev pub RoundsAreFew : Type 0
+RoundsAreFew = (P : List Row) (pinned : ℕ → Bool) (t : Table) → IsPopulation P → IsStandard P pinned t → t.rounds ≤ length P
+
+-- A valid table, and an output that is the quotient by its last partition, prove that output an image, and a least
+-- one where bags refer to pinned instances alone, whoever made both.
+abbrev pub CertificatesProve : Type 0
+CertificatesProve =
+    (P out : List Row) (pinned : ℕ → Bool) (t : Table) → IsPopulation P → IsValid P pinned t
+    → IsPopulation out → SamePopulation out (quotient P (shares t t.rounds))
+    → IsImage P out (head_of (names P) (shares t t.rounds)) pinned
+    × (BagsArePinned P pinned → (Q : List Row) (h : ℕ → ℕ) → IsImage P Q h pinned → length out ≤ length Q)
+
+-- The class of a name at a round is the nearest ancestor of its last class that had begun by then.
+abbrev pub ClassesAreAncestors : Type 0
+ClassesAreAncestors =
+    (t : Table) (x round a : ℕ) → (class_at t x round ≡ Some a) ↔ ((c : ℕ) × (last_class t.members x ≡ Some c) × IsAncestor t.classes round c a)

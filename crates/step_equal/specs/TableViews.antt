@@ -1,0 +1,16 @@
+-- The table that the program's table is.
+use Rattle.std.specs.Prelude.{ℕ, map}
+use Rattle.step_equal.specs.declared.table.Origin.{Origin}
+use Rattle.step_equal.specs.declared.table.Origin.TheVariants.{Start, Split}
+use Rattle.step_equal.specs.declared.table.Table.{Table}
+use Rattle.step_equal.specs.Tables as tables
+
+abbrev pub origin_of : Origin → tables.Origin
+origin_of Start = tables.Origin.start
+origin_of (Split parent round) = tables.Origin.split parent round
+
+abbrev pub member_of : ℕ × ℕ → ℕ × ℕ
+member_of m = m
+
+abbrev pub table_of : Table → tables.Table
+table_of t = record { rounds = t.rounds; classes = map origin_of t.classes.items; members = map member_of t.members.items }

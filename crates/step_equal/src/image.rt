@@ -1,0 +1,213 @@
+//! Whether a map is an image.
+
+ghost use Rattle.std.specs.Prelude.{◌≡◌, ◌↔◌, ◌==◌, ◌||◌, ℕ, nat_eq, is_some, map, IfOk, IsTrue, None, true};
+ghost use Rattle.std.specs.BTreeMap.{get, keys};
+ghost use Rattle.std.specs.BTreeSet.{contains};
+ghost use Rattle.std.specs.HashMap.{get as hash_get};
+ghost use Rattle.std.specs.HashSet.{contains as hash_contains};
+ghost use Rattle.std.specs.List.{list_all, list_any};
+ghost use Rattle.std.specs.Ordering.{nat_cmp, eq_by_cmp};
+ghost use Rattle.std.specs.Str.{bytes_eq};
+ghost use Rattle.step_equal.specs.Checks.{Lands, IsOnto, LeavesAlone, row_lands, source, is_source};
+ghost use Rattle.step_equal.specs.Maps.{led_by, is_key, IsMapImage};
+ghost use Rattle.step_equal.specs.Rows.{row_at, IsName};
+ghost use Rattle.step_equal.specs.Tests.{each_test};
+ghost use Rattle.step_equal.specs.Views.{word_of, row_of, rows_of};
+
+use crate::agree::{Map, Renaming, lead, same_each};
+use crate::literals::same_word;
+use crate::plain::Plain;
+use crate::row::PlainRow;
+use std::alloc::{AllocError, Global};
+use std::collections::{BTreeSet, HashMap, HashSet};
+use step_literals::literal::Word;
+
+/// Whether the map is an image of the first population on the second.
+///
+/// It is one where it leads each name of the first, and no other, so that types, values and references are
+/// kept, each name of the second is reached, and nothing else is led to where a pinned instance is.
+pub fn is_image<'a>(
+    alloc: Global,
+    p: &Plain<'a>,
+    q: &Plain<'a>,
+    map: &Map,
+    pinned: &BTreeSet<u64>,
+) -> Result<bool, AllocError>
+    ensures { IfOk result (λ b. IsTrue b ↔ IsMapImage p.now q.now map.now (contains nat_cmp pinned.now)) }
+{
+    if !has_domain(map, p) {
+        return Ok(false);
+    }
+    if !rows_land(map, p.rows(), q) {
+        return Ok(false);
+    }
+    if !is_onto(alloc, map, p.rows(), q.rows())? {
+        return Ok(false);
+    }
+    leaves_alone(alloc, map, p.rows(), pinned)
+}
+
+/// Whether the map has the names of the rows, and no other.
+fn has_domain<'a>(map: &Map, p: &Plain<'a>) -> bool
+    ensures { IsTrue result ↔ ((y : ℕ) → (is_key map.now y ≡ true) ↔ IsName p.now y) }
+{
+    if keys_are_names(map, p) {
+        names_are_keys(map, p.rows())
+    } else {
+        false
+    }
+}
+
+/// Whether each name that the map has is a row's.
+fn keys_are_names<'a>(map: &Map, p: &Plain<'a>) -> bool
+    ensures all { result ≡ list_all (λ y. is_some (row_at p.now y)) (keys map.now) }
+    ensures keys { (y : ℕ) → is_key map.now y ≡ list_any (eq_by_cmp nat_cmp y) (keys map.now) }
+{
+    map.keys().all(|name| p.contains(*name))
+}
+
+/// Whether the map has the name of each row.
+fn names_are_keys<'a>(map: &Map, rows: &[PlainRow<'a>]) -> bool
+    ensures { result ≡ list_all (λ p. is_key map.now p.name) (rows_of rows.now) }
+{
+    for row in rows {
+        if !map.contains_key(&row.name) {
+            return false;
+        }
+    }
+    true
+}
+
+/// Whether each row is led to one of its kind, with values that agree.
+fn rows_land<'a>(map: &Map, rows: &[PlainRow<'a>], q: &Plain<'a>) -> bool
+    ensures { result ≡ list_all (λ p. row_lands (led_by map.now) p (row_at q.now (led_by map.now p.name))) (rows_of rows.now) }
+{
+    for row in rows {
+        if !row_lands(map, row, q) {
+            return false;
+        }
+    }
+    true
+}
+
+/// Whether a row is.
+fn row_lands<'a>(map: &Map, row: &PlainRow<'a>, q: &Plain<'a>) -> bool
+    ensures { result ≡ row_lands (led_by map.now) (row_of row.now) (row_at q.now (led_by map.now row.now.name)) }
+{
+    match q.find(lead(map, row.name)) {
+        None => false,
+        Some(other) => {
+            same_words(&row.types, &other.types)
+                && same_each(
+                    &Renaming::By(map),
+                    &Renaming::Itself,
+                    &row.values,
+                    &other.values,
+                )
+        }
+    }
+}
+
+/// Whether two lists of words are equal, whatever the case of their letters.
+fn same_words<'a>(a: &[Word<'a>], b: &[Word<'a>]) -> bool
+    ensures { result ≡ each_test bytes_eq (map word_of a.now) (map word_of b.now) }
+{
+    if a.len() != b.len() {
+        return false;
+    }
+    for i in 0..a.len() {
+        if !same_word(&a[i], &b[i]) {
+            return false;
+        }
+    }
+    true
+}
+
+/// Whether each of the others is reached.
+fn is_onto<'a>(
+    alloc: Global,
+    map: &Map,
+    rows: &[PlainRow<'a>],
+    others: &[PlainRow<'a>],
+) -> Result<bool, AllocError>
+    ensures { IfOk result (λ b. IsTrue b ↔ IsOnto (rows_of rows.now) (rows_of others.now) (led_by map.now)) }
+{
+    let reached = reached(alloc, map, rows)?;
+    Ok(are_reached(&reached, others))
+}
+
+/// The names to which the rows are led.
+fn reached<'a>(alloc: Global, map: &Map, rows: &[PlainRow<'a>]) -> Result<HashSet<u64>, AllocError>
+    ensures { IfOk result (λ s. (y : ℕ) → hash_contains nat_eq s y ≡ list_any (λ p. led_by map.now p.name == y) (rows_of rows.now)) }
+{
+    let mut reached = HashSet::new(alloc);
+    for row in rows {
+        reached.insert(lead(map, row.name))?;
+    }
+    Ok(reached)
+}
+
+/// Whether each row's name is one of them.
+fn are_reached<'a>(reached: &HashSet<u64>, rows: &[PlainRow<'a>]) -> bool
+    ensures { result ≡ list_all (λ q. hash_contains nat_eq reached.now q.name) (rows_of rows.now) }
+{
+    for row in rows {
+        if !reached.contains(&row.name) {
+            return false;
+        }
+    }
+    true
+}
+
+/// Whether nothing else is led to where a pinned row is.
+fn leaves_alone<'a>(
+    alloc: Global,
+    map: &Map,
+    rows: &[PlainRow<'a>],
+    pinned: &BTreeSet<u64>,
+) -> Result<bool, AllocError>
+    ensures { IfOk result (λ b. IsTrue b ↔ LeavesAlone (rows_of rows.now) (led_by map.now) (contains nat_cmp pinned.now)) }
+{
+    let sources = pinned_sources(alloc, map, rows, pinned)?;
+    Ok(are_sources(&sources, map, rows))
+}
+
+/// By the name to which it is led, the last pinned row that is led there.
+fn pinned_sources<'a>(
+    alloc: Global,
+    map: &Map,
+    rows: &[PlainRow<'a>],
+    pinned: &BTreeSet<u64>,
+) -> Result<HashMap<u64, u64>, AllocError>
+    ensures { IfOk result (λ s. (y : ℕ) → hash_get nat_eq s y ≡ source (led_by map.now) (contains nat_cmp pinned.now) (rows_of rows.now) None y) }
+{
+    let mut sources = HashMap::new(alloc);
+    for row in rows {
+        if pinned.contains(&row.name) {
+            sources.insert(lead(map, row.name), row.name)?;
+        }
+    }
+    Ok(sources)
+}
+
+/// Whether each row that is led to where a pinned one is, is that one.
+fn are_sources<'a>(sources: &HashMap<u64, u64>, map: &Map, rows: &[PlainRow<'a>]) -> bool
+    ensures { result ≡ list_all (λ p. is_source (hash_get nat_eq sources.now (led_by map.now p.name)) p.name) (rows_of rows.now) }
+{
+    for row in rows {
+        if !is_source(sources, map, row) {
+            return false;
+        }
+    }
+    true
+}
+
+/// Whether a row is.
+fn is_source<'a>(sources: &HashMap<u64, u64>, map: &Map, row: &PlainRow<'a>) -> bool
+    ensures { result ≡ is_source (hash_get nat_eq sources.now (led_by map.now row.now.name)) row.now.name }
+{
+    match sources.get(&lead(map, row.name)) {
+        None => true,
+        Some(source) => *source == row.name,
+    }
+}

@@ -1,0 +1,83 @@
+//! Laws of the definitions alone.
+
+ghost use Rattle.step_equal.specs.Laws.{
+  CertificatesProve,
+  ClassesAreAncestors,
+  KernelsAreCongruences,
+  NoImageHasFewer,
+  QuotientsAreImages,
+  QuotientsAreReduced,
+  QuotientsStay,
+  RoundsAreFew,
+  StandardIsUnique,
+  StandardIsValid,
+  TablesDecide,
+  ValueEqualityIsCongruence,
+  ValueEqualityIsGreatest,
+};
+
+/// Value equality is a congruence.
+pub fn value_equality_is_a_congruence()
+    ensures { ValueEqualityIsCongruence }
+{}
+
+/// Value equality is the greatest relation that keeps.
+pub fn value_equality_is_the_greatest()
+    ensures { ValueEqualityIsGreatest }
+{}
+
+/// The kernel of an image is a congruence, where each reference in a bag names a pinned instance.
+pub fn kernels_are_congruences()
+    ensures { KernelsAreCongruences }
+{}
+
+/// No image has fewer instances than the quotient by value equality.
+pub fn no_image_has_fewer()
+    ensures { NoImageHasFewer }
+{}
+
+/// A valid table, whoever made it, has value equality as its last partition.
+pub fn tables_decide()
+    ensures { TablesDecide }
+{}
+
+/// The quotient by a congruence is an image, and a population.
+pub fn quotients_are_images()
+    ensures { QuotientsAreImages }
+{}
+
+/// Value equality on the quotient by value equality is the identity.
+pub fn quotients_are_reduced()
+    ensures { QuotientsAreReduced }
+{}
+
+/// A second quotient by value equality changes nothing.
+pub fn quotients_stay()
+    ensures { QuotientsStay }
+{}
+
+/// The table that partition refinement makes is valid.
+pub fn the_standard_table_is_valid()
+    ensures { StandardIsValid }
+{}
+
+/// There is one table that partition refinement makes.
+pub fn the_standard_table_is_unique()
+    ensures { StandardIsUnique }
+{}
+
+/// The table that partition refinement makes has at most as many rounds as there are instances.
+pub fn rounds_are_few()
+    ensures { RoundsAreFew }
+{}
+
+/// A valid table, and an output that is the quotient by its last partition, prove that output a least image,
+/// whoever made both.
+pub fn certificates_prove()
+    ensures { CertificatesProve }
+{}
+
+/// The class of a name at a round is the nearest ancestor of its last class that had begun by then.
+pub fn classes_are_ancestors()
+    ensures { ClassesAreAncestors }
+{}

@@ -1,0 +1,143 @@
+//! Populations whose rows are found by name.
+
+ghost use Rattle.std.specs.Prelude.{◌≡◌, nat_eq, is_some, length, map, IfOk, IfErr, List};
+ghost use Rattle.std.specs.List.{IsDistinct, AllZip};
+ghost use Rattle.std.specs.Option.{option_map};
+ghost use Rattle.indexmap.specs.IndexSet.{contains};
+ghost use Rattle.step_equal.specs.Closing.{references_pass, all_references_pass, rows_pass};
+ghost use Rattle.step_equal.specs.Coding.{coded_rows};
+ghost use Rattle.step_equal.specs.Faults.{IsFaultOf};
+ghost use Rattle.step_equal.specs.PlainViews.{IsPlaced};
+ghost use Rattle.step_equal.specs.Rows.{Row, IsPopulation, names, row_at};
+ghost use Rattle.step_equal.specs.Settled.{IsSettled};
+ghost use Rattle.step_equal.specs.Views.{value_of, values_of, row_of, rows_of};
+
+use crate::fault::PlainFault;
+use crate::row::{PlainRow, PlainValue};
+use crate::settled::settle_rows;
+use indexmap::IndexSet;
+use std::alloc::Global;
+use std::marker::Model;
+
+/// A population: no name stands twice, and each reference names a row.
+#[derive(Drop)]
+pub struct Plain<'a> {
+    rows: Vec<PlainRow<'a>>,
+    places: IndexSet<u64>,
+}
+
+impl<'a> Model for Plain<'a> {
+    ghost Value = { List Row };
+
+    ghost coded = { coded_rows };
+
+    ghost view = { λ p. rows_of p.rows.items };
+
+    ghost invariant = { λ p. IsPlaced p.places.keys (rows_of p.rows.items) };
+}
+
+impl<'a> Plain<'a> {
+    /// The population of these rows, in order, with the type words of each in order and none twice.
+    ///
+    /// Where a name stands twice the fault is `DuplicateRow`, else where a reference names no row
+    /// `UnknownReference`; where memory runs out it is `Memory`.
+    pub fn from_rows(alloc: Global, rows: Vec<PlainRow<'a>>) -> Result<Plain<'a>, PlainFault>
+        ensures rows { IfOk result (λ p. AllZip IsSettled (rows_of rows.entry.items) p × IsPopulation p) }
+        ensures fault { IfErr result (λ e. IsFaultOf (rows_of rows.entry.items) e) }
+    {
+        let places = places_of(alloc, &rows)?;
+        if !refer_within(&places, &rows) {
+            return Err(PlainFault::UnknownReference);
+        }
+        let mut rows = rows;
+        settle_rows(&mut rows)?;
+        Ok(Plain { rows, places })
+    }
+
+    /// How many rows it has.
+    pub fn len(&self) -> usize
+        ensures { result ≡ length self.now }
+    {
+        self.rows.len()
+    }
+
+    /// Its rows, in order.
+    pub fn rows(&self) -> &[PlainRow<'a>]
+        ensures rows { rows_of result.now ≡ self.now }
+        ensures population { IsPopulation self.now }
+    {
+        &self.rows
+    }
+
+    /// The row of a name.
+    pub fn find(&self, name: u64) -> Option<&PlainRow<'a>>
+        ensures { option_map (λ r. row_of r.now) result ≡ row_at self.now name }
+    {
+        let place = self.places.get_index_of(&name)?;
+        self.rows.get(place)
+    }
+
+    /// Whether a row has this name.
+    pub fn contains(&self, name: u64) -> bool
+        ensures { result ≡ is_some (row_at self.now name) }
+    {
+        self.places.contains(&name)
+    }
+}
+
+/// The names of the rows, in order.
+fn places_of<'a>(alloc: Global, rows: &[PlainRow<'a>]) -> Result<IndexSet<u64>, PlainFault>
+    ensures places { IfOk result (λ s. (s.keys ≡ names (rows_of rows.now)) × IsDistinct nat_eq (names (rows_of rows.now))) }
+    ensures fault { IfErr result (λ e. IsFaultOf (rows_of rows.now) e) }
+{
+    let mut places = IndexSet::with_capacity(alloc, rows.len())?;
+    for row in rows {
+        if !places.insert(row.name)? {
+            return Err(PlainFault::DuplicateRow);
+        }
+    }
+    Ok(places)
+}
+
+/// Whether each reference of each row is one of the names.
+fn refer_within<'a>(names: &IndexSet<u64>, rows: &[PlainRow<'a>]) -> bool
+    ensures { result ≡ rows_pass (contains nat_eq names.now) (rows_of rows.now) }
+{
+    for row in rows {
+        if !all_refer_within(names, &row.values) {
+            return false;
+        }
+    }
+    true
+}
+
+/// Whether each reference of a value is.
+#[cycle(refer)]
+fn refers_within<'a>(names: &IndexSet<u64>, value: &PlainValue<'a>) -> bool
+    ensures { result ≡ references_pass (contains nat_eq names.now) (value_of value.now) }
+{
+    match value {
+        PlainValue::Unset | PlainValue::Derived => true,
+        PlainValue::Number(_) => true,
+        PlainValue::Text(_) => true,
+        PlainValue::Bits(_) => true,
+        PlainValue::Element(_) => true,
+        PlainValue::Reference(name) => names.contains(name),
+        PlainValue::Typed(_, inner) => refers_within(names, inner),
+        PlainValue::Sequence(values) => all_refer_within(names, values),
+        PlainValue::Bag(values) => all_refer_within(names, values),
+    }
+}
+
+/// Whether each reference of some values is.
+#[cycle(refer)]
+fn all_refer_within<'a>(names: &IndexSet<u64>, values: &[PlainValue<'a>]) -> bool
+    ensures { result ≡ all_references_pass (contains nat_eq names.now) (values_of values.now) }
+{
+    for value in values {
+        if !refers_within(names, value) {
+            return false;
+        }
+    }
+    true
+}

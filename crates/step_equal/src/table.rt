@@ -1,0 +1,122 @@
+//! Tables of partition refinement: the classes of instances by rounds.
+
+ghost use Rattle.std.specs.Prelude.{◌≡◌, suc, map};
+ghost use Rattle.step_equal.specs.Tables.{ancestor, last_class};
+ghost use Rattle.step_equal.specs.Tables as tables;
+ghost use Rattle.step_equal.specs.TableViews.{origin_of, member_of, table_of};
+
+/// Where a class comes from.
+#[derive(Clone, Copy, Debug)]
+pub enum Origin {
+    /// It is there from round 0 on.
+    Start,
+    /// It was split off another class at a round.
+    Split { parent: u32, round: u32 },
+}
+
+/// The classes of instances by rounds, as a certificate tells them.
+#[derive(Debug, Drop)]
+pub struct Table {
+    /// The last round.
+    pub rounds: u32,
+    /// The classes, by number.
+    pub classes: Vec<Origin>,
+    /// The name of each instance, with its class at the last round.
+    pub members: Vec<(u64, u32)>,
+}
+
+impl Table {
+    /// The class of a name at a round.
+    ///
+    /// It is None where the name is no member, or where the chain of parents leaves the list of classes or
+    /// doesn't fall.
+    pub fn class_at(&self, name: u64, round: u32) -> Option<u32>
+        ensures { result ≡ tables.class_at (table_of self.now) name round }
+    {
+        match last_class(&self.members, name) {
+            None => None,
+            Some(class) => class_above(&self.classes, round, class),
+        }
+    }
+}
+
+/// The class of a name at the last round.
+fn last_class(members: &[(u64, u32)], name: u64) -> Option<u32>
+    ensures { result ≡ last_class (map member_of members.now) name }
+{
+    for member in members {
+        if member.0 == name {
+            return Some(member.1);
+        }
+    }
+    None
+}
+
+/// The nearest class from this one up that had begun by the round.
+fn class_above(classes: &[Origin], round: u32, first: u32) -> Option<u32>
+    ensures { result ≡ ancestor (map origin_of classes.now) round (suc first) first }
+{
+    let mut class = first;
+    loop {
+        let origin = *classes.get(class as usize)?;
+        let Origin::Split {
+            parent,
+            round: since,
+        } = origin
+        else {
+            return Some(class);
+        };
+        if since <= round {
+            return Some(class);
+        }
+        if parent >= class {
+            return None;
+        }
+        class = parent;
+    }
+}
+
+#[cfg(test)]
+mod tests {
+    use super::*;
+    use std::test::Fail;
+
+    #[test]
+    fn climbs_to_the_class_of_a_round(rt: HostRuntime) -> Result<(), Fail> {
+        let alloc = rt.alloc();
+        let late = Origin::Split {
+            parent: 1,
+            round: 2,
+        };
+        let split = Origin::Split {
+            parent: 0,
+            round: 1,
+        };
+        let table = Table {
+            rounds: 3,
+            classes: vec![in alloc;
+                Origin::Start,
+                split,
+                late,
+                Origin::Split {
+                    parent: 2,
+                    round: 3
+                },
+                Origin::Split {
+                    parent: 4,
+                    round: 3
+                },
+            ]?,
+            members: vec![in alloc; (7, 3), (8, 4), (9, 5)]?,
+        };
+        assert_eq!(rt; table.class_at(7, 0), Some(0));
+        assert_eq!(rt; table.class_at(7, 1), Some(1));
+        assert_eq!(rt; table.class_at(7, 2), Some(2));
+        assert_eq!(rt; table.class_at(7, 3), Some(3));
+        assert_eq!(rt; table.class_at(8, 3), Some(4));
+        assert_eq!(rt; table.class_at(8, 2), None);
+        assert_eq!(rt; table.class_at(9, 3), None);
+        assert_eq!(rt; table.class_at(1, 3), None);
+        Ok(())
+    }
+}

@@ -1,0 +1,29 @@
+-- What stands at the front of a clean string: a run, a character in UTF-8.
+use Rattle.std.specs.Prelude.{◌≡◌, ◌≤◌, ℕ, List, ◌++◌, take}
+use Rattle.std.specs.Char.{IsScalar, encode_utf8}
+use Rattle.std.specs.List.{prefix_len}
+use Rattle.step_literals.specs.Bytes.{is_hex}
+use Rattle.step_literals.specs.Strings.{is_high}
+
+-- the bytes from 128 up at the front
+abbrev pub high_run : List ℕ → List ℕ
+high_run bs = take (prefix_len is_high bs) bs
+
+-- the hexadecimal digits at the front
+abbrev pub hex_run : List ℕ → List ℕ
+hex_run bs = take (prefix_len is_hex bs) bs
+
+-- the bytes begin with this character in UTF-8
+pub record BeginsCharacter (bs : List ℕ) (c : ℕ) (rest : List ℕ) : Type 0 where
+  pub scalar_is : IsScalar c
+  pub split : bs ≡ encode_utf8 c ++ rest
+
+abbrev pub BeginsNone : List ℕ → Type 0
+BeginsNone bs = (c : ℕ) (rest : List ℕ) → BeginsCharacter bs c rest → ⊥
+
+-- they begin with one from 128 up
+abbrev pub BeginsHigh : List ℕ → ℕ → List ℕ → Type 0
+BeginsHigh bs c rest = BeginsCharacter bs c rest × (128 ≤ c)
+
+abbrev pub BeginsNoHigh : List ℕ → Type 0
+BeginsNoHigh bs = (c : ℕ) (rest : List ℕ) → BeginsHigh bs c rest → ⊥

@@ -1,0 +1,10 @@
+-- The digits of a number, as they are cut from its text.
+use Rattle.std.specs.Prelude.{ℕ, List, ◌++◌}
+use Rattle.step_literals.specs.declared.literal.decimals.Digits.{Digits}
+use Rattle.step_literals.specs.DigitStrings.{magnitude}
+
+abbrev pub digits_of : Digits → List ℕ
+digits_of d = d.whole.now ++ d.part.now
+
+abbrev pub magnitude_of : Digits → ℕ
+magnitude_of d = magnitude (digits_of d) d.shift

@@ -1,0 +1,365 @@
+//! Numbers, compared by what they are worth.
+
+ghost use Rattle.std.specs.Prelude.{◌≡◌, ◌+◌, ◌≤◌, ◌<◌, ◌||◌, ◌%◌, ◌^◌, ◌++◌, ◌==◌, ℕ, ℤ, length, not, FitsSigned, IsTrue, MatchOption};
+ghost use Rattle.std.specs.Int.{w64};
+ghost use Rattle.std.specs.List.{prefix_len};
+ghost use Rattle.std.specs.Ordering.{int_cmp, int_eq, nat_cmp, on, as_partial_cmp};
+ghost use Rattle.std.specs.Cmp.Rules.{comparing};
+ghost use Rattle.std.proofs.Common.{rules};
+ghost use Rattle.step_literals.specs.Decimals.{mantissa_digits, part_digits, signed, units, IsWorth};
+ghost use Rattle.step_literals.specs.DigitStrings.{is_significant, has_digit, digit, front_value, end_of, top, significant_digits, shift_of, is_below_zero};
+
+use super::Decimal;
+use crate::bytes::digits_len;
+use crate::numbers::{exponent_text, is_negative, mantissa_len, number_of, sign_len};
+use std::cmp::Ordering;
+use std::hash::{Hash, Hasher};
+
+/// Numbers are counted in units of 10 ^ -1,000,400, in which those within the limits are whole.
+const FINEST: u32 = 1_000_400;
+
+/// No number of more digits than this is within the range of `i64`.
+const LONGEST_WHOLE: usize = 19;
+
+/// The digits of a number from the first that isn't 0 on, before and behind the point.
+#[derive(Clone, Copy)]
+struct Digits<'a> {
+    below_zero: bool,
+    whole: &'a [u8],
+    part: &'a [u8],
+    /// The power of ten of the last digit, in units.
+    shift: u32,
+    ghost significant: { IsTrue (is_significant (whole.now ++ part.now)) },
+    ghost short: { length whole.now + length part.now ≤ 400 },
+    ghost sign: { IsTrue (not below_zero || has_digit (whole.now ++ part.now)) },
+}
+
+impl<'a> Digits<'a> {
+    ghost use Rattle.step_literals.specs.Digits.{digits_of, magnitude_of};
+
+    fn len(&self) -> usize
+        ensures len { result ≡ length (digits_of self.now) }
+        ensures short { result ≤ 400 }
+    {
+        self.whole.len() + self.part.len()
+    }
+
+    /// The value of digit `i`, 0 past the end.
+    fn digit(&self, i: usize) -> u8
+        ensures { result ≡ digit (digits_of self.now) i }
+    {
+        if i < self.whole.len() {
+            return self.whole[i] - b'0';
+        }
+        let i = i - self.whole.len();
+        if i < self.part.len() {
+            self.part[i] - b'0'
+        } else {
+            0
+        }
+    }
+
+    /// The power of ten above the first digit, 0 where there is none.
+    fn top(&self) -> usize
+        ensures { result ≡ top (digits_of self.now) self.now.shift }
+    {
+        let len = self.len();
+        if len == 0 {
+            0
+        } else {
+            len + self.shift as usize
+        }
+    }
+
+    /// How many digits are left without the zeros at their end.
+    fn end(&self) -> usize
+        ensures end { result ≡ end_of (length (digits_of self.now)) (digits_of self.now) }
+        ensures within { result ≤ length (digits_of self.now) }
+    {
+        let mut end = self.len();
+        while end > 0 && self.digit(end - 1) == 0 {
+            end -= 1;
+        }
+        end
+    }
+
+    /// The number that the first digits write, modulo 2^64.
+    fn front_value(&self, len: usize) -> u64
+        ensures { result ≡ front_value len (digits_of self.now) % 2 ^ 64 }
+    {
+        let mut value = 0u64;
+        for i in 0..len {
+            value = value
+                .wrapping_mul(10)
+                .wrapping_add(u64::from(self.digit(i)));
+        }
+        value
+    }
+
+    /// Compares the numbers without their signs.
+    fn compare_magnitude(&self, other: &Digits<'_>) -> Ordering
+        ensures { result ≡ nat_cmp (magnitude_of self.now) (magnitude_of other.now) }
+    {
+        let (top, other_top) = (self.top(), other.top());
+        if top != other_top {
+            return top.cmp(&other_top);
+        }
+        for i in 0..self.len().max(other.len()) {
+            let (digit, other_digit) = (self.digit(i), other.digit(i));
+            if digit != other_digit {
+                return digit.cmp(&other_digit);
+            }
+        }
+        Ordering::Equal
+    }
+}
+
+/// How many zeros the bytes begin with.
+fn zeros_len(bytes: &[u8]) -> usize
+    ensures len { result ≡ prefix_len (λ b. b == 48) bytes.now }
+    ensures within { result ≤ length bytes.now }
+{
+    bytes.iter().take_while(|b| **b == b'0').count()
+}
+
+/// How many zeros the digits before and behind the point begin with.
+fn leading_zeros(whole: &[u8], part: &[u8]) -> usize
+    ensures len { result ≡ prefix_len (λ b. b == 48) (whole.now ++ part.now) }
+    ensures within { result ≤ length whole.now + length part.now }
+{
+    let zeros = zeros_len(whole);
+    if zeros < whole.len() {
+        zeros
+    } else {
+        zeros + zeros_len(part)
+    }
+}
+
+impl<'a> Decimal<'a> {
+    ghost use Rattle.step_literals.specs.Digits.{digits_of, magnitude_of};
+
+    /// Its digits before the point and behind it.
+    fn parts(&self) -> (&'a [u8], &'a [u8])
+        ensures digits { result.0.now ++ result.1.now ≡ mantissa_digits self.now.text.now }
+        ensures part { length result.1.now ≡ length (part_digits self.now.text.now) }
+        ensures short { length result.0.now + length result.1.now ≤ 400 }
+    {
+        let (mantissa, _) = self.text.split_at(mantissa_len(self.text));
+        let (_, unsigned) = mantissa.split_at(sign_len(mantissa));
+        let (whole, rest) = unsigned.split_at(digits_len(unsigned));
+        let (_, part) = rest.split_at(rest.len().min(1));
+        (whole, part)
+    }
+
+    /// The power of ten of the last digit, in units, where so many stand behind the point.
+    fn shift(&self, part_len: usize) -> u32
+        requires { part_len ≡ length (part_digits self.now.text.now) }
+        ensures { result ≡ shift_of self.now.text.now }
+    {
+        let written = exponent_text(self.text);
+        let (_, digits) = written.split_at(sign_len(written));
+        let exponent = number_of(digits).unwrap_or(0) as u32;
+        let point = FINEST - part_len as u32;
+        if is_negative(written) {
+            point - exponent
+        } else {
+            point + exponent
+        }
+    }
+
+    fn digits(&self) -> Digits<'a>
+        ensures digits { digits_of result ≡ significant_digits self.now.text.now }
+        ensures shift { result.shift ≡ shift_of self.now.text.now }
+        ensures sign { result.below_zero ≡ is_below_zero self.now.text.now }
+    {
+        let (whole, part) = self.parts();
+        let shift = self.shift(part.len());
+        let zeros = leading_zeros(whole, part);
+        let below_zero = is_negative(self.text) && zeros < whole.len() + part.len();
+        let (_, significant_part) = part.split_at(zeros.saturating_sub(whole.len()));
+        let (_, significant_whole) = whole.split_at(zeros.min(whole.len()));
+        Digits {
+            below_zero,
+            whole: significant_whole,
+            part: significant_part,
+            shift,
+        }
+    }
+
+    /// The whole number that it is worth, however it is spelt; none where it isn't whole, or not
+    /// within the range of `i64`.
+    pub fn whole(&self) -> Option<i64>
+        ensures { MatchOption result ((n : ℤ) → FitsSigned w64 n → IsWorth self.now.text.now n → ⊥) (λ n. IsWorth self.now.text.now n) }
+    {
+        let digits = self.digits();
+        let len = digits.top().saturating_sub(FINEST as usize);
+        if len > LONGEST_WHOLE || digits.end() > len {
+            return None;
+        }
+        let magnitude = i128::from(digits.front_value(len));
+        i64::try_from(if digits.below_zero {
+            -magnitude
+        } else {
+            magnitude
+        })
+        .ok()
+    }
+}
+
+impl<'a> PartialEq for Decimal<'a> {
+    ghost use Rattle.step_literals.specs.DecimalKeys.{units_of};
+
+    ghost eq = { on units_of int_eq };
+
+    ghost laws = { Prim.search (comparing, rules) };
+
+    fn eq(&self, other: &Decimal<'a>) -> bool {
+        if self.text == other.text {
+            return true;
+        }
+        self.cmp(other).is_eq()
+    }
+}
+
+impl<'a> Eq for Decimal<'a> {
+    ghost laws = { Prim.search (comparing, rules) };
+}
+
+impl<'a> PartialOrd for Decimal<'a> {
+    ghost use Rattle.step_literals.specs.DecimalKeys.{units_of};
+
+    ghost partial_cmp = { as_partial_cmp (on units_of int_cmp) };
+
+    ghost laws = { Prim.search (comparing, rules) };
+
+    fn partial_cmp(&self, other: &Decimal<'a>) -> Option<Ordering> {
+        Some(self.cmp(other))
+    }
+}
+
+impl<'a> Ord for Decimal<'a> {
+    ghost use Rattle.step_literals.specs.DecimalKeys.{units_of};
+
+    ghost cmp = { on units_of int_cmp };
+
+    ghost total = { Prim.search (comparing, rules) };
+
+    ghost matches_partial_cmp = { Prim.search (comparing, rules) };
+
+    ghost matches_eq = { Prim.search (comparing, rules) };
+
+    fn cmp(&self, other: &Decimal<'a>) -> Ordering {
+        let (digits, other_digits) = (self.digits(), other.digits());
+        match (digits.below_zero, other_digits.below_zero) {
+            (false, false) => digits.compare_magnitude(&other_digits),
+            (true, true) => other_digits.compare_magnitude(&digits),
+            (true, false) => Ordering::Less,
+            (false, true) => Ordering::Greater,
+        }
+    }
+}
+
+impl<'a> Hash for Decimal<'a> {
+    ghost use Rattle.step_literals.specs.DecimalKeys.{key_writes, key_respects_eq};
+
+    ghost hash_input = { key_writes };
+
+    ghost respects_eq = { key_respects_eq };
+
+    fn hash<H: Hasher>(&self, state: &mut H) {
+        let digits = self.digits();
+        state.write_u8(u8::from(digits.below_zero));
+        state.write_u64(digits.front_value(digits.end()));
+        state.write_u64(digits.top() as u64);
+    }
+}
+
+#[cfg(test)]
+mod tests {
+    use super::*;
+    use crate::fault::{Flaw, TextFault};
+    use std::hash::DefaultHasher;
+    use std::test::Fail;
+
+    fn order(left: &[u8], right: &[u8]) -> Result<Ordering, TextFault> {
+        Ok(Decimal::read(left)?.cmp(&Decimal::read(right)?))
+    }
+
+    fn hash(text: &[u8]) -> Result<u64, TextFault> {
+        let mut state = DefaultHasher::new();
+        Decimal::read(text)?.hash(&mut state);
+        Ok(state.finish())
+    }
+
+    #[test]
+    fn equal_however_spelt(rt: HostRuntime) -> Result<(), Fail> {
+        let one = Decimal::read(b"1.")?;
+        assert!(rt; one == Decimal::read(b"1.0E0")?);
+        assert!(rt; one == Decimal::read(b"10.E-1")?);
+        assert!(rt; one == Decimal::read(b"+1")?);
+        assert!(rt; one == Decimal::read(b"00.001E+003")?);
+        assert!(rt; one != Decimal::read(b"-1.")?);
+        assert!(rt; Decimal::read(b"-0.")? == Decimal::read(b"0.E999999")?);
+        Ok(())
+    }
+
+    #[test]
+    fn ordered_by_value(rt: HostRuntime) -> Result<(), Fail> {
+        assert_eq!(rt; order(b"9.E999998", b"1.E999999")?, Ordering::Less);
+        assert_eq!(rt; order(b"1.E-999999", b"0.")?, Ordering::Greater);
+        assert_eq!(rt; order(b"-1.E-999999", b"0.")?, Ordering::Less);
+        assert_eq!(rt; order(b"-0.", b"0.")?, Ordering::Equal);
+        assert_eq!(rt; order(b"-2.5", b"-2.45")?, Ordering::Less);
+        assert_eq!(rt; order(b"-10", b"9")?, Ordering::Less);
+        assert_eq!(rt; order(b"0.3", b"0.25")?, Ordering::Greater);
+        Ok(())
+    }
+
+    #[test]
+    fn whole_numbers(rt: HostRuntime) -> Result<(), Fail> {
+        assert_eq!(rt; Decimal::read(b"10.E-1")?.whole(), Some(1));
+        assert_eq!(rt; Decimal::read(b"-7.00")?.whole(), Some(-7));
+        assert_eq!(rt; Decimal::read(b"0.E999999")?.whole(), Some(0));
+        assert_eq!(rt;
+            Decimal::read(b"1.E18")?.whole(),
+            Some(1_000_000_000_000_000_000)
+        );
+        assert_eq!(rt;
+            Decimal::read(b"-9223372036854775808.")?.whole(),
+            Some(i64::MIN)
+        );
+        assert_eq!(rt;
+            Decimal::read(b"9223372036854775807")?.whole(),
+            Some(i64::MAX)
+        );
+        assert_eq!(rt; Decimal::read(b"9223372036854775808")?.whole(), None);
+        assert_eq!(rt; Decimal::read(b"1.5")?.whole(), None);
+        assert_eq!(rt; Decimal::read(b"1.E30")?.whole(), None);
+        assert_eq!(rt; Decimal::read(b"1.E999999")?.whole(), None);
+        assert_eq!(rt; Decimal::read(b"1.E-999999")?.whole(), None);
+        Ok(())
+    }
+
+    #[test]
+    fn equal_hashes(rt: HostRuntime) -> Result<(), Fail> {
+        assert_eq!(rt; hash(b"10.E-1")?, hash(b"+1")?);
+        assert_eq!(rt; hash(b"-0.0E5")?, hash(b"0")?);
+        assert_eq!(rt; hash(b"-25.0")?, hash(b"-2.5E1")?);
+        assert_ne!(rt; hash(b"1.")?, hash(b"10.")?);
+        assert_ne!(rt; hash(b"1.")?, hash(b"-1.")?);
+        Ok(())
+    }
+
+    #[test]
+    fn limits(rt: HostRuntime) -> Result<(), Fail> {
+        let too_long = TextFault {
+            flaw: Flaw::NumberTooLong,
+            place: 0,
+        };
+        assert_eq!(rt; Decimal::read(b"1.E1000000").err(), Some(too_long));
+        let digits = [b'7'; 401];
+        assert_eq!(rt; Decimal::read(&digits).err(), Some(too_long));
+        assert_eq!(rt; Decimal::read(&digits[1..])?.whole(), None);
+        Ok(())
+    }
+}

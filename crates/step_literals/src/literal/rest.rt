@@ -1,0 +1,246 @@
+// What is left of the content of a string, read a character at a time.
+ghost use Rattle.std.specs.Prelude.{◌≡◌, ◌≤◌, ◌<◌, ◌∷◌, [], true, length, take, Some, MatchOption, MatchBool};
+ghost use Rattle.std.specs.List.{prefix_len};
+ghost use Rattle.step_literals.specs.Bytes.{Stops, is_hex};
+ghost use Rattle.step_literals.specs.Strings.{clean, is_high, shift_at, code_at, groups_at};
+ghost use Rattle.step_literals.specs.Inside.{is_sound, run_inside};
+
+use super::items::Item;
+use crate::bytes::is_hex;
+use crate::characters::{character_at, is_utf8_run, number_at};
+use crate::clean::{skip, strip, take_clean};
+use crate::directives::{after_code, after_groups, after_shift, page_at};
+
+const APOSTROPHE: Item = Item::Code(39);
+
+const BACKSLASH: Item = Item::Code(92);
+
+/// A piece of several characters, of which some are read already.
+#[derive(Clone, Copy)]
+pub enum Inside {
+    Nothing,
+    /// Behind `\X2\` or `\X4\`, before a group of so many digits or `\X0\`
+    Groups(usize),
+    /// In a run of bytes from 128 up that is UTF-8
+    Characters,
+    /// In one that isn't
+    Bytes,
+}
+
+/// What is left of a string's content, the page in force, and what it begins inside of.
+#[derive(Clone, Copy)]
+pub struct Rest<'a> {
+    bytes: &'a [u8],
+    page: u8,
+    inside: Inside,
+    pub ghost sound: { is_sound inside (clean bytes.now) ≡ true },
+}
+
+/// A character, unless what was read says none, and what is left.
+type Step<'a> = (Option<Item>, Rest<'a>);
+
+impl<'a> Rest<'a> {
+    ghost use Rattle.step_literals.specs.Rests.{rest_items, clean_items, IsOver, Goes, GoesOn, Steps, RowSteps};
+
+    /// What is left before a piece.
+    pub fn new(bytes: &'a [u8], page: u8) -> Rest<'a>
+        ensures bytes { result.bytes.now ≡ bytes.now }
+        ensures page { result.page ≡ page }
+        ensures left { rest_items result ≡ clean_items page (clean bytes.now) }
+    {
+        Rest {
+            bytes,
+            page,
+            inside: Inside::Nothing,
+        }
+    }
+
+    /// The next character, or a piece of none, and what is left.
+    pub fn step(self) -> Option<Step<'a>>
+        ensures { Steps (rest_items self.entry) (clean self.entry.bytes.now) result }
+    {
+        match self.inner() {
+            Some((item, rest)) => Some((Some(item), rest)),
+            None => self.outer().piece(),
+        }
+    }
+
+    /// The next character of what it is inside of, and what is left.
+    fn inner(self) -> Option<(Item, Rest<'a>)>
+        ensures { MatchOption result (IsOver self.entry.inside (clean self.entry.bytes.now)) (λ step. Goes (rest_items self.entry) (clean self.entry.bytes.now) (Some step.0) step.1) }
+    {
+        let (item, bytes) = self.character()?;
+        let Rest { page, inside, .. } = self;
+        Some((
+            item,
+            Rest {
+                bytes,
+                page,
+                inside,
+            },
+        ))
+    }
+
+    /// The next character of what it is inside of, and the bytes behind it.
+    fn character(self) -> Option<(Item, &'a [u8])>
+        ensures { MatchOption result (IsOver self.entry.inside (clean self.entry.bytes.now)) (λ next. GoesOn self.entry.inside self.entry.page (clean self.entry.bytes.now) next.0 (clean next.1.now)) }
+    {
+        match self.inside {
+            Inside::Nothing => None,
+            Inside::Groups(width) => {
+                if !begins_hex(self.bytes) {
+                    return None;
+                }
+                let (code, after) = number_at(self.bytes, width);
+                Some((Item::Code(code), after))
+            }
+            Inside::Characters => {
+                let (code, after) = character_at(self.bytes)?;
+                Some((Item::Code(code), after))
+            }
+            Inside::Bytes => {
+                let (byte, after) = take_clean(self.bytes)?;
+                if byte < 128 {
+                    return None;
+                }
+                Some((Item::Raw(byte), after))
+            }
+        }
+    }
+
+    /// What is left behind what it is inside of, where that has no more.
+    fn outer(self) -> Rest<'a>
+        requires { IsOver self.inside (clean self.bytes.now) }
+        ensures left { clean_items result.page (clean result.bytes.now) ≡ rest_items self.entry }
+        ensures shorter { length (clean result.bytes.now) ≤ length (clean self.entry.bytes.now) }
+    {
+        match self.inside {
+            Inside::Groups(_) => Rest::new(skip(self.bytes, 4), self.page),
+            _ => self,
+        }
+    }
+
+    /// The first character of the piece at the front, or a piece of none.
+    fn piece(self) -> Option<Step<'a>>
+        ensures { Steps (clean_items self.entry.page (clean self.entry.bytes.now)) (clean self.entry.bytes.now) result }
+    {
+        let (first, after) = take_clean(self.bytes)?;
+        match first {
+            b'\\' => self.directive(),
+            b'\'' => match strip(after, b"'") {
+                Some(rest) => Some((Some(APOSTROPHE), Rest::new(rest, self.page))),
+                None => Some((Some(APOSTROPHE), Rest::new(after, self.page))),
+            },
+            128.. => self.run(),
+            _ => Some((
+                Some(Item::Code(u32::from(first))),
+                Rest::new(after, self.page),
+            )),
+        }
+    }
+
+    /// The first character of a run of bytes from 128 up.
+    fn run(self) -> Option<Step<'a>>
+        requires { Stops is_high (clean self.bytes.now) → ⊥ }
+        ensures { Steps (clean_items self.entry.page (clean self.entry.bytes.now)) (clean self.entry.bytes.now) result }
+    {
+        let inside = inside_run(self.bytes);
+        let Rest { bytes, page, .. } = self;
+        let run = Rest {
+            bytes,
+            page,
+            inside,
+        };
+        let (item, rest) = run.inner()?;
+        Some((Some(item), rest))
+    }
+
+    /// The character of the directive at the front, or its first, or none.
+    fn directive(self) -> Option<Step<'a>>
+        requires { take 1 (clean self.bytes.now) ≡ 92 ∷ [] }
+        ensures { Steps (clean_items self.entry.page (clean self.entry.bytes.now)) (clean self.entry.bytes.now) result }
+    {
+        let bytes = self.bytes;
+        if let Some(after) = strip(bytes, b"\\\\") {
+            return Some((Some(BACKSLASH), Rest::new(after, self.page)));
+        }
+        if let Some(rest) = strip(bytes, b"\\S\\") {
+            return Rest::shifted(rest, self.page);
+        }
+        if let Some((page, after)) = page_at(bytes) {
+            return Some((None, Rest::new(after, page)));
+        }
+        if let Some(rest) = strip(bytes, b"\\X\\") {
+            return Rest::coded(rest, self.page);
+        }
+        if let Some(rest) = strip(bytes, b"\\X2\\") {
+            return Rest::grouped(rest, self.page, 4);
+        }
+        if let Some(rest) = strip(bytes, b"\\X4\\") {
+            return Rest::grouped(rest, self.page, 8);
+        }
+        Some((Some(BACKSLASH), Rest::new(skip(bytes, 1), self.page)))
+    }
+
+    /// The character behind `\S\`.
+    fn shifted(bytes: &'a [u8], page: u8) -> Option<Step<'a>>
+        ensures { RowSteps (shift_at (clean bytes.now)) 3 page (clean bytes.now) result }
+    {
+        let after = after_shift(bytes)?;
+        let (byte, _) = take_clean(bytes)?;
+        let item = if page == 1 {
+            Item::Code(u32::from(byte) + 128)
+        } else {
+            Item::Page(page, byte + 128)
+        };
+        Some((Some(item), Rest::new(after, page)))
+    }
+
+    /// The character behind `\X\`.
+    fn coded(bytes: &'a [u8], page: u8) -> Option<Step<'a>>
+        ensures { RowSteps (code_at (clean bytes.now)) 3 page (clean bytes.now) result }
+    {
+        let after = after_code(bytes)?;
+        let (code, _) = number_at(bytes, 2);
+        Some((Some(Item::Code(code)), Rest::new(after, page)))
+    }
+
+    /// What is left behind `\X2\` or `\X4\`.
+    fn grouped(bytes: &'a [u8], page: u8, width: usize) -> Option<Step<'a>>
+        requires some { 0 < width }
+        requires few { width ≤ 8 }
+        ensures { RowSteps (groups_at width (clean bytes.now)) 4 page (clean bytes.now) result }
+    {
+        after_groups(bytes, width)?;
+        let inside = Inside::Groups(width);
+        Some((
+            None,
+            Rest {
+                bytes,
+                page,
+                inside,
+            },
+        ))
+    }
+}
+
+/// Whether a hexadecimal digit stands at the front.
+fn begins_hex(bytes: &[u8]) -> bool
+    ensures { MatchBool result (0 < prefix_len is_hex (clean bytes.now)) (Stops is_hex (clean bytes.now)) }
+{
+    match take_clean(bytes) {
+        Some((byte, _)) => is_hex(byte),
+        None => false,
+    }
+}
+
+/// How the run of bytes from 128 up at the front is read.
+fn inside_run(bytes: &[u8]) -> Inside
+    ensures { result ≡ run_inside (clean bytes.now) }
+{
+    if is_utf8_run(bytes) {
+        Inside::Characters
+    } else {
+        Inside::Bytes
+    }
+}

@@ -1,0 +1,21 @@
+-- The command line as clap reads it.
+use Rattle.std.specs.Prelude.{true, codes, Option, List, option_map, Some}
+use Rattle.clap.specs.Walk.{Row, Rule, Text, first_of}
+use Rattle.clap.specs.Simple.{App, new_app, new_rule, on_top, with_rule, with_subcommand}
+use Rattle.clap.specs.declared.builder.action.ArgAction.TheVariants.{Set}
+
+-- the argument FILE
+abbrev pub file_rule : Rule
+file_rule = record (new_rule (codes "FILE")) { required = true; action = Some Set }
+
+-- the command `plain`
+abbrev pub plain_app : App
+plain_app = with_rule (new_app (codes "plain")) file_rule
+
+-- the program, which wants a command
+abbrev pub stepmin_app : App
+stepmin_app = with_subcommand (on_top (λ s. record s { subcommand_required = true }) (new_app (codes "stepmin"))) plain_app.top
+
+-- the name of the command that was met, and what its FILE is
+abbrev pub file_in : Option (Text × List Row) → Option (Text × Option Text)
+file_in = option_map (λ p. (p.0, first_of (codes "FILE") p.1))

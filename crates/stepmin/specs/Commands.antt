@@ -1,0 +1,21 @@
+-- The words of the command line.
+use Rattle.std.specs.Prelude.{◌≡◌, ◌⊎◌, ℕ, List, [], ◌∷◌, codes}
+
+-- it is no option: it begins with no hyphen (45), or is that alone
+abbrev pub IsOperand : List ℕ → Type 0
+IsOperand (first ∷ second ∷ rest) = first ≡ 45 → ⊥
+IsOperand word = Unit {0}
+
+-- the word behind which each word is an operand
+abbrev pub dashes : List ℕ
+dashes = codes "--"
+
+-- The words are one operand. Behind `--` any word is one, and `--` itself is none.
+abbrev pub AreOperand : List (List ℕ) → List ℕ → Type 0
+AreOperand words operand = ((words ≡ operand ∷ []) × IsOperand operand)
+    ⊎ ((words ≡ operand ∷ dashes ∷ []) × IsOperand operand)
+    ⊎ (words ≡ dashes ∷ operand ∷ [])
+
+-- The words, the program's own name first, ask for the normal text of the file of this path.
+abbrev pub AsksPlain : List (List ℕ) → List ℕ → Type 0
+AsksPlain words path = (program : List ℕ) × (operands : List (List ℕ)) × (words ≡ program ∷ codes "plain" ∷ operands) × AreOperand operands path
