@@ -11,11 +11,11 @@ use Rattle.step_equal.proofs.Rounds.{own, sharer_named}
 use Rattle.step_equal.proofs.Standard.{refinement_grounded}
 
 -- how many rows have a name that passes
-count : (ℕ → Bool) → List Row → ℕ
+pub count : (ℕ → Bool) → List Row → ℕ
 count p [] = 0
 count p (r ∷ rows) = cond (p r.name) (suc (count p rows)) (count p rows)
 
-count_length : (p : ℕ → Bool) (rows : List Row) → count p rows ≤ length rows
+pub count_length : (p : ℕ → Bool) (rows : List Row) → count p rows ≤ length rows
 unfolding count
 count_length p [] = omega arith
 count_length p (r ∷ rows) = go (p r.name) (count_length p rows)
@@ -102,7 +102,7 @@ module _ (P : List Row) (E : ℕ → ℕ → ℕ → Bool) (by : ArePartitions P
       go true true e f join nx nz hx hz = absurd (let yes = join e f in cc)
 
   -- each round has more heads than there are rounds before it
-  many_heads : (last : ℕ) → ((r : ℕ) → r < last → Falls r) → ((r : ℕ) → r ≤ last → (x : ℕ) → IsName P x → E r x x ≡ true) → ((r : ℕ) → r < last → (x : ℕ) × (z : ℕ) × (E r x z ≡ true) × (E (suc r) x z ≡ false)) → (r : ℕ) → r ≤ last → r ≤ count (is_head r) P
+  pub many_heads : (last : ℕ) → ((r : ℕ) → r < last → Falls r) → ((r : ℕ) → r ≤ last → (x : ℕ) → IsName P x → E r x x ≡ true) → ((r : ℕ) → r < last → (x : ℕ) × (z : ℕ) × (E r x z ≡ true) × (E (suc r) x z ≡ false)) → (r : ℕ) → r ≤ last → r ≤ count (is_head r) P
   many_heads last falls self parts zero h = omega arith
   many_heads last falls self parts (suc r) h =
       let less : r < last = omega arith in

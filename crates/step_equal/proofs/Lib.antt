@@ -31,3 +31,8 @@ pub mod Landing
 pub mod Walks
 pub mod Deciding
 pub mod Settling
+pub mod AgreeBy
+pub mod Parting
+pub mod Births
+pub mod Classes
+pub mod Existing

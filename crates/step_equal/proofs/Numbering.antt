@@ -16,7 +16,7 @@ pub record IsLeast (f : ℕ → Bool) (j : ℕ) : Type 0 where
   pub passes : f j ≡ true
   pub before : (k : ℕ) → k < j → f k ≡ false
 
-scan : (f : ℕ → Bool) (n : ℕ) → ((j : ℕ) × (j < n) × IsLeast f j) ⊎ ((k : ℕ) → k < n → f k ≡ false)
+pub scan : (f : ℕ → Bool) (n : ℕ) → ((j : ℕ) × (j < n) × IsLeast f j) ⊎ ((k : ℕ) → k < n → f k ≡ false)
 scan f zero = inr (λ k l. absurd (omega arith))
 scan f (suc n) = go (scan f n) (f n) refl
   where

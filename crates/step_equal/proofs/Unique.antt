@@ -1,4 +1,4 @@
--- There is one table that partition refinement makes.
+-- There is at most one table that partition refinement makes.
 use Rattle.std.proofs.Common.{◌≡◌, ◌≤◌, ◌<◌, ℕ, zero, suc, Bool, true, false, List, [], ◌∷◌, Option, Some, None, refl, sym, ◌∙◌, ◌+◌, ap, subst, ◌⊎◌, inl, inr, arith, add-one, length, eq-eqb}
 use Rattle.std.specs.Prelude.{◌==◌, cond, map, slice_get, slice_index}
 use Rattle.std.specs.List.{IsDistinct, AllByRecursion}
@@ -52,6 +52,11 @@ lists_same [] (y ∷ ys) f = absurd (let e = f 0 in cc)
 lists_same (x ∷ xs) [] f = absurd (let e = f 0 in cc)
 lists_same (x ∷ xs) (y ∷ ys) f = let first = f 0 in let rest = lists_same xs ys (λ i. f (suc i)) in cc
 
+pub apart_at : (y : ℕ) (zs : List ℕ) (i : ℕ) → i < length zs → AllByRecursion (λ z. (y == z) ≡ false) zs → (y == slice_index zs i) ≡ false
+apart_at y [] i l a = absurd (omega arith)
+apart_at y (z ∷ zs) zero l a = a.0
+apart_at y (z ∷ zs) (suc i) l a = apart_at y zs i (omega arith) a.1
+
 members_same : (ms ns : List (ℕ × ℕ)) (ys : List ℕ) → map (λ m. m.0) ms ≡ ys → map (λ m. m.0) ns ≡ ys → IsDistinct (◌==◌) ys → ((i : ℕ) → i < length ys → last_class ms (slice_index ys i) ≡ last_class ns (slice_index ys i)) → ms ≡ ns
 unfolding IsDistinct
 members_same [] [] ys e f d g = refl
@@ -64,17 +69,12 @@ members_same (m ∷ ms) (n ∷ ns) (y ∷ ys) e f d g =
     let here : cond (m.0 == y) (Some m.1) (last_class ms y) ≡ cond (n.0 == y) (Some n.1) (last_class ns y) = g 0 (omega arith) in
     let classes : Some m.1 ≡ Some n.1 = ap (λ b. cond b (Some m.1) (last_class ms y)) (sym (eq-eqb m.0 y one)) ∙ here ∙ ap (λ b. cond b (Some n.1) (last_class ns y)) (eq-eqb n.0 y two) in
     let rest = members_same ms ns ys (cc) (cc) d.1 (λ i l.
-    let apart : (y == slice_index ys i) ≡ false = apart_at ys i l d.0 in
+    let apart : (y == slice_index ys i) ≡ false = apart_at y ys i l d.0 in
     ap (λ b. cond b (Some m.1) (last_class ms (slice_index ys i))) (sym (ap (λ w. w == slice_index ys i) one ∙ apart)) ∙ g (suc i) (omega arith) ∙ ap (λ b. cond b (Some n.1) (last_class ns (slice_index ys i))) (ap (λ w. w == slice_index ys i) two ∙ apart)) in
     let names_same : m.0 ≡ n.0 = one ∙ sym two in
     let classes_same : m.1 ≡ n.1 = cc in
     let first : m ≡ n = ap (λ a. (a, m.1)) names_same ∙ ap (λ b. (n.0, b)) classes_same in
     cc
-  where
-    apart_at : (zs : List ℕ) (i : ℕ) → i < length zs → AllByRecursion (λ z. (y == z) ≡ false) zs → (y == slice_index zs i) ≡ false
-    apart_at [] i l a = absurd (omega arith)
-    apart_at (z ∷ zs) zero l a = a.0
-    apart_at (z ∷ zs) (suc i) l a = apart_at zs i (omega arith) a.1
 
 pub begins_once : (ys : List ℕ) (t : Table) (c round later i j : ℕ) → Begins ys t c round i → Begins ys t c later j → (round ≡ later) × (i ≡ j)
 begins_once ys t c round later i j a b =

@@ -62,9 +62,17 @@ StandardIsValid = (P : List Row) (pinned : ℕ → Bool) (t : Table) → IsStand
 abbrev pub StandardIsUnique : Type 0
 StandardIsUnique = (P : List Row) (pinned : ℕ → Bool) (s t : Table) → IsPopulation P → IsStandard P pinned s → IsStandard P pinned t → s ≡ t
 
--- .. and has at most as many rounds as there are instances.
+-- .. has at most as many rounds as there are instances ..
 abbrev pub RoundsAreFew : Type 0
 RoundsAreFew = (P : List Row) (pinned : ℕ → Bool) (t : Table) → IsPopulation P → IsStandard P pinned t → t.rounds ≤ length P
+
+-- .. and exists.
+abbrev pub StandardExists : Type 0
+StandardExists = (P : List Row) (pinned : ℕ → Bool) → IsPopulation P → (t : Table) × IsStandard P pinned t
+
+-- So there is a test of value equality.
+abbrev pub ValueEqualityExists : Type 0
+ValueEqualityExists = (P : List Row) (pinned : ℕ → Bool) → IsPopulation P → (E : ℕ → ℕ → Bool) × IsValueEquality P pinned E
 
 -- A valid table, and an output that is the quotient by its last partition, prove that output an image, and a least
 -- one where bags refer to pinned instances alone, whoever made both.

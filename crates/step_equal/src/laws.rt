@@ -9,9 +9,11 @@ ghost use Rattle.step_equal.specs.Laws.{
   QuotientsAreReduced,
   QuotientsStay,
   RoundsAreFew,
+  StandardExists,
   StandardIsUnique,
   StandardIsValid,
   TablesDecide,
+  ValueEqualityExists,
   ValueEqualityIsCongruence,
   ValueEqualityIsGreatest,
 };
@@ -61,7 +63,7 @@ pub fn the_standard_table_is_valid()
     ensures { StandardIsValid }
 {}
 
-/// There is one table that partition refinement makes.
+/// There is at most one table that partition refinement makes.
 pub fn the_standard_table_is_unique()
     ensures { StandardIsUnique }
 {}
@@ -69,6 +71,16 @@ pub fn the_standard_table_is_unique()
 /// The table that partition refinement makes has at most as many rounds as there are instances.
 pub fn rounds_are_few()
     ensures { RoundsAreFew }
+{}
+
+/// There is a table that partition refinement makes.
+pub fn the_standard_table_exists()
+    ensures { StandardExists }
+{}
+
+/// There is a test of value equality.
+pub fn value_equality_exists()
+    ensures { ValueEqualityExists }
 {}
 
 /// A valid table, and an output that is the quotient by its last partition, prove that output a least image,

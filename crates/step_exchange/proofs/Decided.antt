@@ -8,7 +8,7 @@ use Rattle.step_exchange.specs.declared.fault.LeftOut.TheVariants as left_out
 use Rattle.step_exchange.specs.Words.{begins, ends, keyword, name, string, mark, Sight, token, over, Seen, Shows, shows_token, shows_fault, shows_end, ShowsAll}
 use Rattle.step_exchange.specs.Trees.{leaf, group, Trees, none, one, Part, File, this, is_said, Begins, items_of_start, items_of_part, items_of_records, section, items_of_header, items_of_data, items_of_end}
 use Rattle.step_exchange.specs.Fits.{Rules, the_rules, has_keyword, has_name, FitsRecords, FitsHeader, IsHeader, HasSchema, NamesSchema}
-use Rattle.step_exchange.specs.Texts.{ReadsAs, items_of_opening, HoldsSchema, IsFirstFault, IsLast, ReadsOrFails}
+use Rattle.step_exchange.specs.Texts.{ReadsAs, items_of_opening, HoldsSchema, IsFirstFault}
 use Rattle.step_exchange.specs.Predict.{Symbol, Just, Start, Say, Head, Records, Ended, Data, Behind, Rows, Body, Parts, Value, Items, More, Finish, Over, Next, refused, is_mark, record_symbols, row_symbols, section_kind, next, next_close, next_value, then_more, next_over, opening_symbols, data_symbols, file_symbols, Outcome, passes, stops, short, step_on, run}
 use Rattle.step_exchange.proofs.Begins.{begins_join, begins_split, begins_front, meets_this}
 use Rattle.step_exchange.proofs.Shown.{shows_split}
@@ -17,6 +17,11 @@ use Rattle.step_exchange.proofs.Unique.{split_two}
 use Rattle.step_exchange.proofs.Unique as Unique
 use Rattle.step_exchange.proofs.FirstFault.{first_fault, schema_fault}
 use Rattle.step_exchange.proofs.Outcome.{opening_holds, known_holds}
+
+-- the text ends here, or no token stands here
+abbrev pub IsLast : Sight → Type 0
+IsLast (token w) = ⊥
+IsLast _ = Unit {0}
 
 -- the end of the text isn't to come
 abbrev NoOver : Symbol → Type 0
@@ -295,8 +300,9 @@ decides text s new shown h g = by (run the_rules first_symbols s) refl
         named m rest p q r fits header i j (inl schema) = named_decides text s new shown g (known_holds p q r s m fits schema i)
         named m rest p q r fits header i j (inr unnamed) = inr (unnamed_fails text s m rest new p q r shown fits header i j unnamed)
 
-pub reads_or_fails : ReadsOrFails
-reads_or_fails text before last end shown l =
+-- what a lexer shows of a text up to its last
+pub shown_decides : (text : List ℕ) (before : List Seen) (last : Seen) (end : Reading) → ShowsAll (start text) (before ++ last ∷ []) end → IsLast last.sight → IsRead text ⊎ Fails text
+shown_decides text before last end shown l =
     let s = before ++ last ∷ [] in
     let all : (ys : List Symbol) → NoOvers ys → IsSettled (run the_rules ys s) = settled the_rules last l before in
     decides text s end shown (all first_symbols (none_over opening_symbols (Just Semicolon ∷ []) opening (tt, tt))) (file_suffices s (all before_end (none_over opening_symbols (Just Semicolon ∷ Records ∷ Data ∷ Behind ∷ Rows [] ∷ Just Semicolon ∷ Finish ∷ Just Semicolon ∷ []) opening (tt, (tt, (tt, (tt, (tt, (tt, (tt, (tt, tt)))))))))))

@@ -36,5 +36,6 @@ pub mod FirstFault
 pub mod HeadSteps
 pub mod Outcome
 pub mod Decided
+pub mod AllShown
 pub mod Writing
 pub mod Places

@@ -153,13 +153,6 @@ ReadsWithoutFault = (text front : List ℕ) (x : File) (kind : Kind) (place : �
 abbrev pub FaultsOnce : Type 0
 FaultsOnce = (text : List ℕ) (kind other : Kind) (place elsewhere : ℕ) → IsFirstFault text kind place → IsFirstFault text other elsewhere → (kind ≡ other) × (place ≡ elsewhere)
 
--- the text ends here, or no token stands here
-abbrev pub IsLast : Sight → Type 0
-IsLast (token w) = ⊥
-IsLast _ = Unit {0}
-
--- All that a lexer shows of a text up to its end, or to something that is no token, decides it: the text reads
--- as a structure, or has a first fault.
+-- A text reads as a structure, or has a first fault.
 abbrev pub ReadsOrFails : Type 0
-ReadsOrFails = (text : List ℕ) (before : List Seen) (last : Seen) (end : Reading) → ShowsAll (start text) (before ++ last ∷ []) end → IsLast last.sight
-    → ((front : List ℕ) × (x : File) × ReadsAs text front x) ⊎ ((kind : Kind) × (place : ℕ) × IsFirstFault text kind place)
+ReadsOrFails = (text : List ℕ) → ((front : List ℕ) × (x : File) × ReadsAs text front x) ⊎ ((kind : Kind) × (place : ℕ) × IsFirstFault text kind place)

@@ -18,8 +18,7 @@ pub fn a_text_has_one_first_fault()
     ensures { FaultsOnce }
 {}
 
-/// All that a lexer shows of a text, up to its end or to something that is no token, decides it: the text
-/// reads as an exchange structure, or has a first fault.
+/// Each text reads as an exchange structure, or has a first fault.
 pub fn a_text_reads_or_has_a_fault()
     ensures { ReadsOrFails }
 {}

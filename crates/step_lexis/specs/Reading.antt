@@ -82,3 +82,7 @@ SameAnswer (Ok (Some t)) (Ok (Some u)) = (t.place ≡ u.place) × (t.text.now �
 SameAnswer (Ok None) (Ok None) = Unit {0}
 SameAnswer (Err f) (Err g) = f ≡ g
 SameAnswer _ _ = ⊥
+
+-- However far a text is read, there is an answer.
+abbrev pub EachReadingHasAnAnswer : Type 0
+EachReadingHasAnAnswer = (old : Reading) → old.place ≤ length old.text → (r : Result (Option Token) TextFault) × (new : Reading) × Answers old r new

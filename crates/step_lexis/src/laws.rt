@@ -1,7 +1,7 @@
 //! Laws of the definitions alone.
 
 ghost use Rattle.std.specs.Prelude.{◌≡◌, ◌≤◌, ◌<◌, length, Result, Option, None};
-ghost use Rattle.step_lexis.specs.Reading.{Reading, Answers, SameAnswer, Takes};
+ghost use Rattle.step_lexis.specs.Reading.{Reading, Answers, EachReadingHasAnAnswer, SameAnswer, Takes};
 ghost use Rattle.step_lexis.specs.declared.token.Token.{Token};
 ghost use Rattle.step_literals.specs.declared.fault.TextFault.{TextFault};
 
@@ -10,6 +10,11 @@ ghost use Rattle.step_literals.specs.declared.fault.TextFault.{TextFault};
 pub fn answers_are_determined()
     ensures { (old new next : Reading) (r s : Result (Option Token) TextFault) → Answers old r new → Answers old s next
         → SameAnswer r s × (new ≡ next) }
+{}
+
+/// There is an answer for each text, however far it is read.
+pub fn each_reading_has_an_answer()
+    ensures { EachReadingHasAnAnswer }
 {}
 
 /// Behind the end the end is answered again.
