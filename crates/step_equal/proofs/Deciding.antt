@@ -65,7 +65,7 @@ abbrev AllDecided : Values → Type 0
 AllDecided none = Unit {0}
 AllDecided (more v vs) = Decided v × AllDecided vs
 
-abbrev Member : Value → Values → Type 0
+abbrev pub Member : Value → Values → Type 0
 Member u none = ⊥
 Member u (more v vs) = (u ≡ v) ⊎ Member u vs
 
@@ -86,7 +86,7 @@ count_less : (b : Bool) (m n : ℕ) → cond b (suc m) m ≡ cond b (suc n) n �
 count_less true m n e = omega arith
 count_less false m n e = e
 
-count_swap : (b c : Bool) (n : ℕ) → cond b (suc (cond c (suc n) n)) (cond c (suc n) n) ≡ cond c (suc (cond b (suc n) n)) (cond b (suc n) n)
+pub count_swap : (b c : Bool) (n : ℕ) → cond b (suc (cond c (suc n) n)) (cond c (suc n) n) ≡ cond c (suc (cond b (suc n) n)) (cond b (suc n) n)
 count_swap true true n = refl
 count_swap true false n = refl
 count_swap false true n = refl
@@ -135,7 +135,7 @@ counts_each (more v rest) vs ws h u (inr m) =
     let parts = and_parts (count_in (same_test v) vs == count_in (same_test v) ws) (counts_test rest vs ws) h in
     counts_each rest vs ws parts.1 u m
 
-counts_from : (rest vs ws : Values) → ((u : Value) → Member u rest → count_in (same_test u) vs ≡ count_in (same_test u) ws) → counts_test rest vs ws ≡ true
+pub counts_from : (rest vs ws : Values) → ((u : Value) → Member u rest → count_in (same_test u) vs ≡ count_in (same_test u) ws) → counts_test rest vs ws ≡ true
 counts_from none vs ws f = refl
 counts_from (more v rest) vs ws f =
     and_from (count_in (same_test v) vs == count_in (same_test v) ws) (counts_test rest vs ws) (eq-eqb _ _ (f v (inl refl))) (counts_from rest vs ws (λ u m. f u (inr m)))

@@ -164,9 +164,13 @@ mutual
   renamed_each_itself none = refl
   renamed_each_itself (more v vs) = let first = renamed_itself v in let rest = renamed_each_itself vs in cc
 
-pub lands_where_words : (h : ℕ → ℕ) (p q : Row) (o : Option Row) (r : Bool) → Some q ≡ o → each_test bytes_eq p.types q.types ≡ true → r ≡ same_each_test (renamed_each h p.values) (renamed_each (λ y. y) q.values) → r ≡ row_lands h p o
+lands_where_words : (h : ℕ → ℕ) (p q : Row) (o : Option Row) (r : Bool) → Some q ≡ o → each_test bytes_eq p.types q.types ≡ true → r ≡ same_each_test (renamed_each h p.values) (renamed_each (λ y. y) q.values) → r ≡ row_lands h p o
 lands_where_words h p q o r found words e =
     e ∙ ap (same_each_test (renamed_each h p.values)) (renamed_each_itself q.values) ∙ ap (λ b. b && same_each_test (renamed_each h p.values) q.values) (sym words) ∙ ap (row_lands h p) found
+
+pub lands_if_words : {E : Type 0} (h : ℕ → ℕ) (p q : Row) (o : Option Row) (r : Result Bool E) → Some q ≡ o → each_test bytes_eq p.types q.types ≡ true → IfOk r (λ b. b ≡ same_each_test (renamed_each h p.values) (renamed_each (λ y. y) q.values)) → IfOk r (λ b. b ≡ row_lands h p o)
+lands_if_words h p q o (Ok b) found words f = lands_where_words h p q o b found words f
+lands_if_words h p q o (Err e) found words f = f
 
 pub image_where : {E : Type 0} (P Q : List Row) (m : BTreeMap ℕ ℕ) (pinned : ℕ → Bool) (r : Result Bool E) → ((y : ℕ) → (is_key m y ≡ true) ↔ IsName P y) → Lands P Q (led_by m) → IsOnto P Q (led_by m) → IfOk r (λ b. (b ≡ true) ↔ LeavesAlone P (led_by m) pinned)
     → IfOk r (λ b. (b ≡ true) ↔ IsMapImage P Q m pinned)

@@ -30,6 +30,9 @@ pub mod Closed
 pub mod Landing
 pub mod Walks
 pub mod Deciding
+pub mod Sorting
+pub mod NormalForms
+pub mod Forming
 pub mod Settling
 pub mod AgreeBy
 pub mod Parting

@@ -1,11 +1,11 @@
 -- Steps over slices of values.
-use Rattle.std.proofs.Common.{◌≡◌, ◌≢◌, ◌<◌, ℕ, suc, ◌+◌, Bool, true, false, List, [], ◌∷◌, length, get_or, drop, refl, sym, ◌∙◌, ap, eqb-true, eq-eqb, add-one, drop-cons}
+use Rattle.std.proofs.Common.{◌≡◌, ◌≢◌, ◌<◌, ℕ, suc, ◌+◌, Bool, true, false, List, [], ◌∷◌, length, get_or, drop, refl, sym, ◌∙◌, ap, eqb-true, add-one, drop-cons}
 use Rattle.std.specs.Prelude.{◌==◌, ◌&&◌}
 use Rattle.step_equal.specs.declared.row.PlainValue.{PlainValue}
 use Rattle.step_equal.specs.Values.{bag, Values, none, more}
 use Rattle.step_equal.specs.Renamings.{value_by, values_by}
 use Rattle.step_equal.specs.declared.agree.Renaming.{Renaming}
-use Rattle.step_equal.specs.Tests.{same_test, same_each_test, count_in, counts_test, size}
+use Rattle.step_equal.specs.Tests.{same_test, same_each_test, counts_test, size}
 
 -- what is left at i is its value and what is left after it
 pub values_at : (f : Renaming) (vs : List PlainValue) (i : ℕ) (v : PlainValue) → i < length vs → v ≡ get_or vs i v → values_by f (drop i vs) ≡ more (value_by f v) (values_by f (drop (i + 1) vs))
@@ -24,18 +24,6 @@ not_equal m n h = go (m == n) refl
     go : (b : Bool) → (m == n) ≡ b → (m == n) ≡ false
     go true e = absurd (h (eqb-true m n e))
     go false e = e
-
-pub counts_stop : (f : Renaming) (vs : List PlainValue) (i : ℕ) (v : PlainValue) → i < length vs → v ≡ get_or vs i v → (us zs : Values) → count_in (same_test (value_by f v)) us ≢ count_in (same_test (value_by f v)) zs → counts_test (values_by f (drop i vs)) us zs ≡ false
-counts_stop f vs i v h e us zs n =
-    ap (λ ts. counts_test ts us zs) (values_at f vs i v h e) ∙ ap (λ b. b && counts_test (values_by f (drop (i + 1) vs)) us zs) (not_equal _ _ n)
-
-pub counts_next : (f : Renaming) (vs : List PlainValue) (i : ℕ) (v : PlainValue) → i < length vs → v ≡ get_or vs i v → (us zs : Values) → count_in (same_test (value_by f v)) us ≡ count_in (same_test (value_by f v)) zs → counts_test (values_by f (drop i vs)) us zs ≡ counts_test (values_by f (drop (i + 1) vs)) us zs
-counts_next f vs i v h e us zs n =
-    ap (λ ts. counts_test ts us zs) (values_at f vs i v h e) ∙ ap (λ b. b && counts_test (values_by f (drop (i + 1) vs)) us zs) (eq-eqb _ _ n)
-
-pub bags_of_one_size : (f g : Renaming) (vs ws : List PlainValue) → length vs ≡ length ws → same_test (bag (values_by f vs)) (bag (values_by g ws)) ≡ counts_test (values_by f vs) (values_by f vs) (values_by g ws)
-bags_of_one_size f g vs ws e =
-    ap (λ b. b && counts_test (values_by f vs) (values_by f vs) (values_by g ws)) (eq-eqb _ _ (size_by f vs ∙ e ∙ sym (size_by g ws)))
 
 pub bags_of_two_sizes : (f g : Renaming) (vs ws : List PlainValue) → length vs ≢ length ws → same_test (bag (values_by f vs)) (bag (values_by g ws)) ≡ false
 bags_of_two_sizes f g vs ws n =

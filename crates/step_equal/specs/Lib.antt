@@ -16,5 +16,6 @@ pub mod PlainViews
 pub mod Tests
 pub mod Maps
 pub mod Renamings
+pub mod Normals
 pub mod Checks
 pub mod Settled

@@ -25,7 +25,8 @@ use step_literals::literal::Word;
 /// Whether the map is an image of the first population on the second.
 ///
 /// It is one where it leads each name of the first, and no other, so that types, values and references are
-/// kept, each name of the second is reached, and nothing else is led to where a pinned instance is.
+/// kept, each name of the second is reached, and nothing else is led to where a pinned instance is. `AllocError`
+/// comes where memory runs out.
 pub fn is_image<'a>(
     alloc: Global,
     p: &Plain<'a>,
@@ -38,7 +39,7 @@ pub fn is_image<'a>(
     if !has_domain(map, p) {
         return Ok(false);
     }
-    if !rows_land(map, p.rows(), q) {
+    if !rows_land(alloc, map, p.rows(), q)? {
         return Ok(false);
     }
     if !is_onto(alloc, map, p.rows(), q.rows())? {
@@ -79,33 +80,44 @@ fn names_are_keys<'a>(map: &Map, rows: &[PlainRow<'a>]) -> bool
 }
 
 /// Whether each row is led to one of its kind, with values that agree.
-fn rows_land<'a>(map: &Map, rows: &[PlainRow<'a>], q: &Plain<'a>) -> bool
-    ensures { result ≡ list_all (λ p. row_lands (led_by map.now) p (row_at q.now (led_by map.now p.name))) (rows_of rows.now) }
+fn rows_land<'a>(
+    alloc: Global,
+    map: &Map,
+    rows: &[PlainRow<'a>],
+    q: &Plain<'a>,
+) -> Result<bool, AllocError>
+    ensures { IfOk result (λ b. b ≡ list_all (λ p. row_lands (led_by map.now) p (row_at q.now (led_by map.now p.name))) (rows_of rows.now)) }
 {
     for row in rows {
-        if !row_lands(map, row, q) {
-            return false;
+        if !row_lands(alloc, map, row, q)? {
+            return Ok(false);
         }
     }
-    true
+    Ok(true)
 }
 
 /// Whether a row is.
-fn row_lands<'a>(map: &Map, row: &PlainRow<'a>, q: &Plain<'a>) -> bool
-    ensures { result ≡ row_lands (led_by map.now) (row_of row.now) (row_at q.now (led_by map.now row.now.name)) }
+fn row_lands<'a>(
+    alloc: Global,
+    map: &Map,
+    row: &PlainRow<'a>,
+    q: &Plain<'a>,
+) -> Result<bool, AllocError>
+    ensures { IfOk result (λ b. b ≡ row_lands (led_by map.now) (row_of row.now) (row_at q.now (led_by map.now row.now.name))) }
 {
-    match q.find(lead(map, row.name)) {
-        None => false,
-        Some(other) => {
-            same_words(&row.types, &other.types)
-                && same_each(
-                    &Renaming::By(map),
-                    &Renaming::Itself,
-                    &row.values,
-                    &other.values,
-                )
-        }
+    let Some(other) = q.find(lead(map, row.name)) else {
+        return Ok(false);
+    };
+    if !same_words(&row.types, &other.types) {
+        return Ok(false);
     }
+    same_each(
+        alloc,
+        &Renaming::By(map),
+        &Renaming::Itself,
+        &row.values,
+        &other.values,
+    )
 }
 
 /// Whether two lists of words are equal, whatever the case of their letters.

@@ -17,6 +17,8 @@ enum Sketch {
     Placement(u64),
     /// A bag of two references.
     Bundle(u64, u64),
+    /// A bag of two such bags.
+    Bundles((u64, u64), (u64, u64)),
 }
 
 fn type_word(sketch: Sketch) -> &'static [u8] {
@@ -24,7 +26,15 @@ fn type_word(sketch: Sketch) -> &'static [u8] {
         Sketch::Point(_) => b"POINT",
         Sketch::Placement(_) => b"Placement",
         Sketch::Bundle(_, _) => b"BUNDLE",
+        Sketch::Bundles(_, _) => b"BUNDLES",
     }
+}
+
+fn bundle(alloc: Global, names: (u64, u64)) -> Result<PlainValue<'static>, Fail> {
+    let mut inner = Vec::new(alloc);
+    inner.push(PlainValue::Reference(names.0))?;
+    inner.push(PlainValue::Reference(names.1))?;
+    Ok(PlainValue::Bag(inner))
 }
 
 fn value(alloc: Global, sketch: Sketch) -> Result<PlainValue<'static>, Fail> {
@@ -35,9 +45,10 @@ fn value(alloc: Global, sketch: Sketch) -> Result<PlainValue<'static>, Fail> {
             Ok(PlainValue::Sequence(inner))
         }
         Sketch::Placement(at) => Ok(PlainValue::Reference(at)),
-        Sketch::Bundle(first, second) => {
-            inner.push(PlainValue::Reference(first))?;
-            inner.push(PlainValue::Reference(second))?;
+        Sketch::Bundle(first, second) => bundle(alloc, (first, second)),
+        Sketch::Bundles(first, second) => {
+            inner.push(bundle(alloc, first)?)?;
+            inner.push(bundle(alloc, second)?)?;
             Ok(PlainValue::Bag(inner))
         }
     }
@@ -138,6 +149,28 @@ fn bags_have_no_order(rt: HostRuntime) -> Result<(), Fail> {
     let r = [first, second, (3, Sketch::Bundle(2, 2))];
     assert!(rt; maps(alloc, &p, &q, &ITSELF[..3], &[])?);
     assert!(rt; !maps(alloc, &p, &r, &ITSELF[..3], &[])?);
+    Ok(())
+}
+
+#[test]
+fn bags_of_bags_have_no_order(rt: HostRuntime) -> Result<(), Fail> {
+    let alloc = rt.alloc();
+    let (first, second) = ((1, Sketch::Point(b"1.")), (2, Sketch::Point(b"2.")));
+    let p = [first, second, (3, Sketch::Bundles((1, 2), (1, 1)))];
+    let q = [first, second, (3, Sketch::Bundles((1, 1), (2, 1)))];
+    let r = [first, second, (3, Sketch::Bundles((1, 1), (2, 2)))];
+    assert!(rt; maps(alloc, &p, &q, &ITSELF[..3], &[])?);
+    assert!(rt; !maps(alloc, &p, &r, &ITSELF[..3], &[])?);
+    Ok(())
+}
+
+#[test]
+fn members_of_bags_are_renamed(rt: HostRuntime) -> Result<(), Fail> {
+    let alloc = rt.alloc();
+    let p = [FOUR[0], FOUR[1], (3, Sketch::Bundle(1, 2))];
+    let q = [FOUR[0], (3, Sketch::Bundle(1, 1))];
+    assert!(rt; maps(alloc, &p, &q, &MERGE[..3], &[])?);
+    assert!(rt; !maps(alloc, &p, &p, &MERGE[..3], &[])?);
     Ok(())
 }
 

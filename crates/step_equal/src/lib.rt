@@ -13,6 +13,7 @@ pub mod image;
 mod image_tests;
 pub mod laws;
 mod literals;
+mod normal;
 pub mod plain;
 pub mod row;
 mod settled;

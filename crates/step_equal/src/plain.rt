@@ -40,7 +40,7 @@ impl<'a> Plain<'a> {
     /// The population of these rows, in order, with the type words of each in order and none twice.
     ///
     /// Where a name stands twice the fault is `DuplicateRow`, else where a reference names no row
-    /// `UnknownReference`; where memory runs out it is `Memory`.
+    /// `UnknownReference`; where memory runs out it is `Memory`. The number of rows has no limit of its own.
     pub fn from_rows(alloc: Global, rows: Vec<PlainRow<'a>>) -> Result<Plain<'a>, PlainFault>
         ensures rows { IfOk result (λ p. AllZip IsSettled (rows_of rows.entry.items) p × IsPopulation p) }
         ensures fault { IfErr result (λ e. IsFaultOf (rows_of rows.entry.items) e) }

@@ -1,0 +1,168 @@
+#!/usr/bin/env python3
+"""Times `Plain::from_rows` and `is_image` on large populations, beside an IndexSet of the same names.
+
+    bench/images.py [--no-bag]
+
+Proves and builds bench/images/main.rt.in over crates/step_equal in a temporary folder, runs it on populations
+of points, placements and small bags, half of which are led to an equal one, and prints nanoseconds a row, their
+ratio to those of an IndexSet that is filled with the names and asked for each, and how many times as long ten
+times the rows take. The last population, left out by --no-bag, is points and one pinned bag of all their names.
+"""
+import argparse
+import os
+import random
+import shutil
+import subprocess
+import sys
+import tempfile
+
+HERE = os.path.dirname(os.path.abspath(__file__))
+CRATES = os.path.join(os.path.dirname(HERE), "crates")
+MANIFEST = """step_literals: memchr thiserror
+step_equal: step_literals indexmap thiserror
+images: step_equal step_literals indexmap anyhow
+"""
+ROWS = 1_000_000
+# Bags are compared by counting, so the time is the square of this.
+BAG = 100_000
+RUNS = 5
+
+
+class Scene:
+    """Two populations, with the map from the first to the second and the pinned names."""
+
+    def __init__(self):
+        self.p, self.q, self.map, self.pins = [], [], [], []
+
+    def keep(self, name, text, image):
+        """A row of both, with references led in the second."""
+        self.p.append(f"{name} {text}")
+        self.q.append(f"{name} {image}")
+        self.map.append(f"{name} {name}")
+
+    def merge(self, name, text, other):
+        """A row of the first alone, led to an equal one."""
+        self.p.append(f"{name} {text}")
+        self.map.append(f"{name} {other}")
+
+    def write(self, folder):
+        for file_name, lines in vars(self).items():
+            with open(os.path.join(folder, f"{file_name}.txt"), "w", encoding="ascii") as file:
+                file.writelines(line + "\n" for line in lines)
+
+
+def points(scene, rng, name):
+    """A point, and behind it an equal one, spelled otherwise."""
+    numbers = [f"{rng.uniform(-500, 500):.6f}" for _ in range(3)]
+    text = "POINT ( " + " ".join(numbers)
+    scene.keep(name, text, text)
+    scene.merge(name + 1, "point ( " + " ".join(number + "0E0" for number in numbers), name)
+
+
+def bag(names):
+    return "BUNDLE { " + " ".join(f"#{name}" for name in names)
+
+
+def ten(scene, rng, name, pinned):
+    """Two pairs of points, a placement at each, and two equal bags, apart where the first is pinned."""
+    points(scene, rng, name)
+    points(scene, rng, name + 2)
+    for k in (0, 2):
+        placement = f"PLACEMENT = #{name + k}"
+        scene.keep(name + 4 + k, placement, placement)
+        scene.merge(name + 5 + k, f"PLACEMENT = #{name + k + 1}", name + 4 + k)
+    image = bag([name + 2, name, name + 2, name])
+    scene.keep(name + 8, bag([name, name + 1, name + 2, name + 3]), image)
+    other = bag([name + 3, name + 1, name, name + 2])
+    if pinned:
+        scene.pins.append(f"{name + 8}")
+        scene.keep(name + 9, other, image)
+    else:
+        scene.merge(name + 9, other, name + 8)
+
+
+def tens(rows):
+    scene, rng = Scene(), random.Random(1)
+    for k in range(rows // 10):
+        ten(scene, rng, 10 * k + 1, k % 10 == 0)
+    return scene
+
+
+def one_bag(count):
+    scene, rng = Scene(), random.Random(1)
+    for k in range(0, count, 2):
+        points(scene, rng, k + 1)
+    names = list(range(1, count + 1))
+    leads = [name - (name + 1) % 2 for name in names]
+    rng.shuffle(names)
+    rng.shuffle(leads)
+    scene.keep(count + 1, bag(names), bag(leads))
+    scene.pins.append(f"{count + 1}")
+    return scene
+
+
+def build(folder):
+    crates = os.path.join(folder, "crates")
+    for name in ("step_literals", "step_equal"):
+        shutil.copytree(os.path.join(CRATES, name), os.path.join(crates, name), ignore=shutil.ignore_patterns("out"))
+    os.makedirs(os.path.join(crates, "images", "src"))
+    shutil.copy(os.path.join(HERE, "images", "main.rt.in"), os.path.join(crates, "images", "src", "main.rt"))
+    with open(os.path.join(folder, "crates.txt"), "w", encoding="ascii") as file:
+        file.write(MANIFEST)
+    crate = os.path.join(crates, "images")
+    subprocess.run(["rt", "run"], cwd=crate, stdout=subprocess.DEVNULL, stderr=subprocess.DEVNULL, check=False)
+    program = os.path.join(crate, "out", "images")
+    if not os.path.exists(program):
+        sys.exit("the program wasn't built: run `rt run` in a copy of it to see why")
+    return program
+
+
+def place(folder, scene):
+    """A folder with the scene's files, and how many rows its first population has."""
+    own = tempfile.mkdtemp(dir=folder)
+    scene.write(own)
+    return own, len(scene.p)
+
+
+def run(program, folder):
+    """The nanoseconds of each kind, in one run."""
+    output = subprocess.run([program], cwd=folder, capture_output=True, text=True, check=True).stdout
+    lines = [line.split() for line in output.splitlines()]
+    if lines[-1] != ["is_image", lines[-1][1], "true"]:
+        sys.exit("the map is an image, and the program says that it is none")
+    return {kind: int(nanoseconds) for kind, nanoseconds, _ in lines}
+
+
+def best(runs):
+    return {kind: min(run[kind] for run in runs) for kind in runs[0]}
+
+
+def report(program, folder, title, make, most):
+    """Runs both sizes in turn, so that other work on the machine slows both."""
+    places = [place(folder, make(rows)) for rows in (most // 10, most)]
+    rounds = [[run(program, own) for own, _ in places] for _ in range(RUNS)]
+    few, many = (best(runs) for runs in zip(*rounds))
+    kinds = ("names", "from_rows", "is_image")
+    print(f"{title:24}{'nanoseconds a row':>36}{'times names':>24}")
+    print(f"{'':24}" + "".join(f"{kind:>12}" for kind in kinds + kinds[1:]))
+    for (_, rows), time in zip(places, (few, many)):
+        each = "".join(f"{time[kind] / rows:12.0f}" for kind in kinds)
+        ratios = "".join(f"{time[kind] / time['names']:12.1f}" for kind in kinds[1:])
+        print(f"{rows:<24,}{each}{ratios}")
+    print(f"{'times as long':24}" + "".join(f"{many[kind] / few[kind]:12.1f}" for kind in kinds))
+
+
+def main():
+    parser = argparse.ArgumentParser()
+    parser.add_argument("--bag", action=argparse.BooleanOptionalAction, default=True)
+    arguments = parser.parse_args()
+    with tempfile.TemporaryDirectory() as folder:
+        program = build(folder)
+        report(program, folder, "rows", tens, ROWS)
+        if arguments.bag:
+            print()
+            report(program, folder, "rows, one bag of all", one_bag, BAG)
+
+
+if __name__ == "__main__":
+    main()

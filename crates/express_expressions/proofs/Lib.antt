@@ -1,0 +1,13 @@
+pub mod ViewLemmas
+pub mod KeywordLemmas
+pub mod Standing
+pub mod Parser
+pub mod Stopping
+pub mod Ranks
+pub mod Parsed
+pub mod Unique
+pub mod Building
+pub mod Inversion
+pub mod Capitals
+pub mod Nothing
+pub mod Examples

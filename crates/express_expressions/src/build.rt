@@ -1,0 +1,153 @@
+//! Trees built from their parts.
+
+ghost use Rattle.std.specs.Prelude.{◌≡◌};
+ghost use Rattle.express_expressions.specs.Trees;
+ghost use Rattle.express_expressions.specs.Views.{choice, of_attribute, of_group, of_element, capitals, number_of, literal_of, root_of, tree_of, trees_of, selection_of, choice_of, qualifiers_of, alternatives_of};
+
+use crate::tree::{
+    Alternative, Expr, Function, Junction, Limit, Literal, Number, Qualifier, Relation, Root, Sign,
+};
+use express_lexis::literal::Word;
+
+/// A literal.
+pub(crate) fn literal(value: Literal<'_>) -> Expr<'_>
+    ensures { tree_of result ≡ Trees.literal (literal_of value.entry) }
+{
+    Expr::Literal(value)
+}
+
+/// A sign before a number.
+pub(crate) fn signed(sign: Sign, value: Number<'_>) -> Expr<'_>
+    ensures { tree_of result ≡ Trees.signed sign (number_of value.entry) }
+{
+    Expr::Signed(sign, value)
+}
+
+/// A reference with its qualifiers.
+pub(crate) fn reference<'a>(root: Root<'a>, qualifiers: Vec<Qualifier<'a>>) -> Expr<'a>
+    ensures { tree_of result ≡ Trees.reference (root_of root.entry) (qualifiers_of qualifiers.entry.items) }
+{
+    Expr::Reference(root, qualifiers)
+}
+
+/// An expression in parentheses.
+pub(crate) fn parenthesized(inner: Box<Expr<'_>>) -> Expr<'_>
+    ensures { tree_of result ≡ Trees.parenthesized (tree_of inner.entry.value) }
+{
+    Expr::Parenthesized(inner)
+}
+
+/// An aggregate with these elements.
+pub(crate) fn aggregate(elements: Vec<Expr<'_>>) -> Expr<'_>
+    ensures { tree_of result ≡ Trees.aggregate (trees_of elements.entry.items) }
+{
+    Expr::Aggregate(elements)
+}
+
+/// An interval, with how its ends compare to what lies between.
+pub(crate) fn interval<'a>(
+    low: Box<Expr<'a>>,
+    above: Limit,
+    item: Box<Expr<'a>>,
+    below: Limit,
+    high: Box<Expr<'a>>,
+) -> Expr<'a>
+    ensures { tree_of result ≡ Trees.interval (tree_of low.entry.value) above (tree_of item.entry.value) below (tree_of high.entry.value) }
+{
+    Expr::Interval {
+        low,
+        above,
+        item,
+        below,
+        high,
+    }
+}
+
+/// A query over a source.
+pub(crate) fn query<'a>(
+    variable: Word<'a>,
+    source: Box<Expr<'a>>,
+    condition: Box<Expr<'a>>,
+) -> Expr<'a>
+    ensures { tree_of result ≡ Trees.query (capitals variable.entry) (tree_of source.entry.value) (tree_of condition.entry.value) }
+{
+    Expr::Query {
+        variable,
+        source,
+        condition,
+    }
+}
+
+/// A function of the language on its argument.
+pub(crate) fn call(function: Function, argument: Box<Expr<'_>>) -> Expr<'_>
+    ensures { tree_of result ≡ Trees.call function (tree_of argument.entry.value) }
+{
+    Expr::Call(function, argument)
+}
+
+/// NVL of a value and what stands for it where there is none.
+pub(crate) fn nvl<'a>(value: Box<Expr<'a>>, substitute: Box<Expr<'a>>) -> Expr<'a>
+    ensures { tree_of result ≡ Trees.nvl (tree_of value.entry.value) (tree_of substitute.entry.value) }
+{
+    Expr::Nvl(value, substitute)
+}
+
+/// NOT before a primary.
+pub(crate) fn negation(inner: Box<Expr<'_>>) -> Expr<'_>
+    ensures { tree_of result ≡ Trees.negation (tree_of inner.entry.value) }
+{
+    Expr::Not(inner)
+}
+
+/// AND between the first and the others.
+pub(crate) fn conjunction<'a>(first: Box<Expr<'a>>, others: Vec<Expr<'a>>) -> Expr<'a>
+    ensures { tree_of result ≡ Trees.conjunction (tree_of first.entry.value) (trees_of others.entry.items) }
+{
+    Expr::Conjunction(first, others)
+}
+
+/// OR and XOR behind the first.
+pub(crate) fn disjunction<'a>(first: Box<Expr<'a>>, others: Vec<Alternative<'a>>) -> Expr<'a>
+    ensures { tree_of result ≡ Trees.disjunction (tree_of first.entry.value) (alternatives_of others.entry.items) }
+{
+    Expr::Disjunction(first, others)
+}
+
+/// Two values compared.
+pub(crate) fn comparison<'a>(
+    left: Box<Expr<'a>>,
+    relation: Relation,
+    right: Box<Expr<'a>>,
+) -> Expr<'a>
+    ensures { tree_of result ≡ Trees.comparison (tree_of left.entry.value) relation (tree_of right.entry.value) }
+{
+    Expr::Comparison(left, relation, right)
+}
+
+/// `.` and an attribute.
+pub(crate) fn attribute(name: Word<'_>) -> Qualifier<'_>
+    ensures { selection_of result ≡ of_attribute (capitals name.entry) }
+{
+    Qualifier::Attribute(name)
+}
+
+/// `\`, an entity, `.` and an attribute.
+pub(crate) fn group<'a>(entity: Word<'a>, name: Word<'a>) -> Qualifier<'a>
+    ensures { selection_of result ≡ of_group (capitals entity.entry) (capitals name.entry) }
+{
+    Qualifier::Group(entity, name)
+}
+
+/// An element, in brackets.
+pub(crate) fn index(element: Box<Expr<'_>>) -> Qualifier<'_>
+    ensures { selection_of result ≡ of_element (tree_of element.entry.value) }
+{
+    Qualifier::Index(element)
+}
+
+/// OR or XOR, and the term behind it.
+pub(crate) fn alternative(junction: Junction, term: Expr<'_>) -> Alternative<'_>
+    ensures { choice_of result ≡ choice junction (tree_of term.entry) }
+{
+    Alternative { junction, term }
+}

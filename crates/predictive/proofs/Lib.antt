@@ -1,0 +1,10 @@
+pub mod Lists
+pub mod Leading
+pub mod Running
+pub mod Shown
+pub mod Turning
+pub mod Faults
+pub mod Wider
+pub mod Texts
+pub mod Accepted
+pub mod Examples

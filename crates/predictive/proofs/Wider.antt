@@ -1,0 +1,54 @@
+-- A wider table against a narrow one.
+use Rattle.std.proofs.Common.{◌≡◌, ◌↔◌, List, [], ◌∷◌, ◌++◌, Ok, Err, Result, refl, sym, ap, ◌∙◌, subst}
+use Rattle.predictive.specs.Tables.{Seen, sights, Table, passes, run}
+use Rattle.predictive.specs.Languages.{IsFront, IsExact}
+use Rattle.predictive.proofs.Lists.{placed, sights_placed}
+use Rattle.predictive.proofs.Running.{Reaches, reaches_run, reaches_one, reaches_join, passed}
+use Rattle.predictive.proofs.Faults.{front_from, not_front}
+
+-- what may stand by one table may stand by another, and the same is to come then
+abbrev pub IsWider : {S W K : Type 0} → Table S W K → Table S W K → Type 0
+IsWider {S} {W} narrow wide = (y : S) (w : W) (zs : List S) → narrow y w ≡ Ok zs → wide y w ≡ Ok zs
+
+pub wider_self : {S W K : Type 0} (table : Table S W K) → IsWider table table
+wider_self table y w zs e = e
+
+pub wider_join : {S W K : Type 0} (a b c : Table S W K) → IsWider a b → IsWider b c → IsWider a c
+wider_join a b c h g y w zs e = g y w zs (h y w zs e)
+
+-- what leads from one stack to another by a table leads there by a wider one
+pub reaches_wider : {S W K : Type 0} (narrow wide : Table S W K) → IsWider narrow wide → (s : List (Seen W)) (ys zs : List S) → Reaches narrow ys s zs → Reaches wide ys s zs
+reaches_wider narrow wide i [] ys zs h = h
+reaches_wider narrow wide i (t ∷ s) [] zs h = absurd h
+reaches_wider narrow wide i (t ∷ s) (y ∷ ys) zs h = (h.0, i y t.sight h.0 h.1, reaches_wider narrow wide i s (h.0 ++ ys) zs h.2)
+
+-- .. so what passes passes
+pub passes_wider : {S W K : Type 0} (narrow wide : Table S W K) → IsWider narrow wide → (s rest : List (Seen W)) (ys : List S) → run narrow ys s ≡ passes rest → run wide ys s ≡ passes rest
+passes_wider narrow wide i s rest ys e =
+    let h = passed narrow s ys rest e in
+    ap (run wide ys) h.text ∙ reaches_run wide h.taken ys [] rest (reaches_wider narrow wide i h.taken ys [] h.reached)
+
+module _ {S W K : Type 0} (narrow wide : Table S W K) (i : IsWider narrow wide) (sort : S → Type 0) (start : List S) (L : List W → Type 0) (x : IsExact wide sort start L) where
+  -- where the narrow table stops and the wide one goes on, what stands there is a front of the wider language ..
+  pub front_wider : (s : List (Seen W)) (at : Seen W) (top : S) (others zs : List S) → Reaches narrow start s (top ∷ others) → wide top at.sight ≡ Ok zs → IsFront L (sights (s ++ at ∷ []))
+  front_wider s at top others zs h e =
+      front_from wide sort start L x (s ++ at ∷ []) (zs ++ others)
+      (reaches_join wide s (at ∷ []) start (top ∷ others) (zs ++ others) (reaches_wider narrow wide i s start (top ∷ others) h) (reaches_one wide top zs others at e))
+
+  -- .. and where the wide one stops too it is none
+  pub no_front_wider : (s : List (Seen W)) (at : Seen W) (top : S) (others : List S) (k : K) → Reaches narrow start s (top ∷ others) → wide top at.sight ≡ Err k → IsFront L (sights (s ++ at ∷ [])) → ⊥
+  no_front_wider s at top others k h e = not_front wide sort start L x s at top others k (reaches_wider narrow wide i s start (top ∷ others) h) e
+
+  -- both ways
+  pub goes_on_wider : (s : List (Seen W)) (at : Seen W) (top : S) (others : List S) → Reaches narrow start s (top ∷ others) → ((zs : List S) × (wide top at.sight ≡ Ok zs)) ↔ IsFront L (sights (s ++ at ∷ []))
+  goes_on_wider s at top others h = ((λ g. front_wider s at top others g.0 h g.1), λ f. by f (wide top at.sight) refl)
+    where
+      by : IsFront L (sights (s ++ at ∷ [])) → (r : Result (List S) K) → wide top at.sight ≡ r → (zs : List S) × (wide top at.sight ≡ Ok zs)
+      by f (Ok zs) e = (zs, e)
+      by f (Err k) e = absurd (no_front_wider s at top others k h e f)
+
+  -- a whole text of the narrow language is one of the wide
+  pub text_wider : (narrow_sort : S → Type 0) (M : List W → Type 0) → IsExact narrow narrow_sort start M → (ws : List W) → M ws → L ws
+  text_wider narrow_sort M n ws h =
+      let p = n.passing (placed ws) (subst M (sym (sights_placed ws)) h) in
+      subst L (sights_placed ws) (x.sound (placed ws) (passes_wider narrow wide i (placed ws) [] start p))

@@ -1,0 +1,4 @@
+pub mod Tables
+pub mod Lexers
+pub mod Languages
+pub mod Laws
