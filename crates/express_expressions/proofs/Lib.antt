@@ -1,5 +1,8 @@
 pub mod ViewLemmas
 pub mod KeywordLemmas
+pub mod Levels
+pub mod Chains
+pub mod Primaries
 pub mod Standing
 pub mod Parser
 pub mod Stopping

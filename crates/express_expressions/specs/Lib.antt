@@ -5,4 +5,5 @@ pub mod Grammar
 pub mod Views
 pub mod Letters
 pub mod Reads
+pub mod Pieces
 pub mod Laws

@@ -1,9 +1,15 @@
 //! Expressions of EXPRESS (ISO 10303-11, 12) as trees, read from the tokens of one expression.
 #![tactic(auto)]
 
-pub(crate) mod build;
+mod boxed;
+mod build;
+mod front;
 pub mod keyword;
 pub mod laws;
 pub mod lexeme;
-pub(crate) mod literals;
+mod literals;
+pub mod read;
+mod start;
+#[cfg(test)]
+mod tests;
 pub mod tree;

@@ -16,7 +16,7 @@ pub enum Sign {
     Minus,
 }
 
-/// The constants of LOGICAL (ISO 10303-11, 14.4, 14.7 and 14.9).
+/// The constants of LOGICAL (ISO 10303-11, 14).
 #[derive(Clone, Copy, Debug, PartialEq, Eq)]
 pub enum Logical {
     False,

@@ -1,0 +1,133 @@
+//! What stands at an index of lexemes, and the index behind it.
+
+ghost use Rattle.std.specs.Prelude.{◌≡◌, [], ◌∷◌, ◌+◌, ◌<◌, ℕ, List, length, MatchOption, MatchBool};
+ghost use Rattle.express_expressions.specs.declared.tree.Junction.{Junction};
+ghost use Rattle.express_expressions.specs.declared.tree.Limit.{Limit};
+ghost use Rattle.express_expressions.specs.declared.tree.Relation.{Relation};
+ghost use Rattle.express_expressions.specs.declared.tree.Sign.{Sign};
+ghost use Rattle.express_expressions.specs.Words.{word_of, name, keyword, mark};
+ghost use Rattle.express_expressions.specs.Trees;
+ghost use Rattle.express_expressions.specs.Trees.{word_of_number, word_of_sign, word_of_relation, word_of_limit, word_of_junction};
+ghost use Rattle.express_expressions.specs.Grammar.{primary};
+ghost use Rattle.express_expressions.specs.Reads.{Stops};
+ghost use Rattle.express_expressions.specs.Pieces.{words_from, Lacks, NoBeginning, begun, beginning_word};
+ghost use Rattle.express_expressions.specs.Views.{capitals, number_of};
+
+use crate::keyword::Keyword;
+use crate::lexeme::{Lexeme, is_keyword, is_mark};
+use crate::literals::{junction_at, limit_at, name_at, number_at, relation_at, sign_at};
+use crate::start::{Start, start_of};
+use crate::tree::{Junction, Limit, Number, Relation, Sign};
+use express_lexis::literal::Word;
+use express_lexis::marks::Mark;
+
+/// The lexeme at this index, if there are more.
+fn first_at<'a>(lexemes: &[Lexeme<'a>], at: usize) -> Option<Lexeme<'a>>
+    ensures { MatchOption result (words_from at lexemes.now ≡ []) (λ x. (at < length lexemes.now) × (words_from at lexemes.now ≡ word_of x ∷ words_from (at + 1) lexemes.now)) }
+{
+    lexemes.get(at).copied()
+}
+
+/// What is left behind this mark, if it stands first.
+pub(crate) fn behind_mark(lexemes: &[Lexeme<'_>], at: usize, wanted: Mark) -> Option<usize>
+    ensures { MatchOption result (Lacks (mark wanted) (words_from at lexemes.now)) (λ r. words_from at lexemes.now ≡ mark wanted ∷ words_from r lexemes.now) }
+{
+    let first = first_at(lexemes, at)?;
+    if is_mark(first, wanted) {
+        Some(at + 1)
+    } else {
+        None
+    }
+}
+
+/// What is left behind this keyword, if it stands first.
+pub(crate) fn behind_keyword(lexemes: &[Lexeme<'_>], at: usize, wanted: Keyword) -> Option<usize>
+    ensures { MatchOption result (Lacks (keyword wanted) (words_from at lexemes.now)) (λ r. words_from at lexemes.now ≡ keyword wanted ∷ words_from r lexemes.now) }
+{
+    let first = first_at(lexemes, at)?;
+    if is_keyword(first, wanted) {
+        Some(at + 1)
+    } else {
+        None
+    }
+}
+
+/// The name that stands first.
+pub(crate) fn name_first<'a>(lexemes: &[Lexeme<'a>], at: usize) -> Option<(Word<'a>, usize)>
+    ensures { MatchOption result ((x : List ℕ) → Lacks (name x) (words_from at lexemes.now)) (λ p. words_from at lexemes.now ≡ name (capitals p.0) ∷ words_from p.1 lexemes.now) }
+{
+    let first = first_at(lexemes, at)?;
+    let word = name_at(first)?;
+    Some((word, at + 1))
+}
+
+/// The number that stands first.
+pub(crate) fn number_first<'a>(lexemes: &[Lexeme<'a>], at: usize) -> Option<(Number<'a>, usize)>
+    ensures { MatchOption result ((x : Trees.Number) → Lacks (word_of_number x) (words_from at lexemes.now)) (λ p. words_from at lexemes.now ≡ word_of_number (number_of p.0) ∷ words_from p.1 lexemes.now) }
+{
+    let first = first_at(lexemes, at)?;
+    let number = number_at(first)?;
+    Some((number, at + 1))
+}
+
+/// The sign that stands first.
+pub(crate) fn sign_first<'a>(lexemes: &[Lexeme<'a>], at: usize) -> Option<(Sign, usize)>
+    ensures { MatchOption result ((x : Sign) → Lacks (word_of_sign x) (words_from at lexemes.now)) (λ p. words_from at lexemes.now ≡ word_of_sign p.0 ∷ words_from p.1 lexemes.now) }
+{
+    let first = first_at(lexemes, at)?;
+    let sign = sign_at(first)?;
+    Some((sign, at + 1))
+}
+
+/// The relation that stands first.
+pub(crate) fn relation_first<'a>(lexemes: &[Lexeme<'a>], at: usize) -> Option<(Relation, usize)>
+    ensures { MatchOption result ((x : Relation) → Lacks (word_of_relation x) (words_from at lexemes.now)) (λ p. words_from at lexemes.now ≡ word_of_relation p.0 ∷ words_from p.1 lexemes.now) }
+{
+    let first = first_at(lexemes, at)?;
+    let relation = relation_at(first)?;
+    Some((relation, at + 1))
+}
+
+/// The relation to an end of an interval that stands first.
+pub(crate) fn limit_first<'a>(lexemes: &[Lexeme<'a>], at: usize) -> Option<(Limit, usize)>
+    ensures { MatchOption result ((x : Limit) → Lacks (word_of_limit x) (words_from at lexemes.now)) (λ p. words_from at lexemes.now ≡ word_of_limit p.0 ∷ words_from p.1 lexemes.now) }
+{
+    let first = first_at(lexemes, at)?;
+    let limit = limit_at(first)?;
+    Some((limit, at + 1))
+}
+
+/// OR or XOR, where one of them stands first.
+pub(crate) fn junction_first<'a>(lexemes: &[Lexeme<'a>], at: usize) -> Option<(Junction, usize)>
+    ensures { MatchOption result ((x : Junction) → Lacks (word_of_junction x) (words_from at lexemes.now)) (λ p. words_from at lexemes.now ≡ word_of_junction p.0 ∷ words_from p.1 lexemes.now) }
+{
+    let first = first_at(lexemes, at)?;
+    let junction = junction_at(first)?;
+    Some((junction, at + 1))
+}
+
+/// The word that stands first, if a primary begins with it.
+pub(crate) fn start_first<'a>(lexemes: &[Lexeme<'a>], at: usize) -> Option<(Start<'a>, usize)>
+    ensures { MatchOption result (NoBeginning (words_from at lexemes.now)) (λ p. words_from at lexemes.now ≡ beginning_word (begun p.0) ∷ words_from p.1 lexemes.now) }
+{
+    let first = first_at(lexemes, at)?;
+    let start = start_of(first)?;
+    Some((start, at + 1))
+}
+
+/// Whether no qualifier stands first.
+pub(crate) fn is_unqualified(lexemes: &[Lexeme<'_>], at: usize) -> bool
+    ensures { MatchBool result (Stops primary (words_from at lexemes.now)) (Stops primary (words_from at lexemes.now) → ⊥) }
+{
+    match first_at(lexemes, at) {
+        Some(Lexeme::Mark(Mark::Dot | Mark::Backslash | Mark::OpenBracket)) => false,
+        _ => true,
+    }
+}
+
+/// Whether no relation stands first.
+pub(crate) fn is_unrelated(lexemes: &[Lexeme<'_>], at: usize) -> bool
+    ensures { MatchBool result ((x : Relation) → Lacks (word_of_relation x) (words_from at lexemes.now)) ((x : Relation) × (rest : List _) × (words_from at lexemes.now ≡ word_of_relation x ∷ rest)) }
+{
+    relation_first(lexemes, at).is_none()
+}
