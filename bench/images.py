@@ -11,19 +11,13 @@ times the rows take. The last population, left out by --no-bag, is points and on
 import argparse
 import os
 import random
-import shutil
 import subprocess
 import sys
 import tempfile
 
-HERE = os.path.dirname(os.path.abspath(__file__))
-CRATES = os.path.join(os.path.dirname(HERE), "crates")
-MANIFEST = """step_literals: memchr thiserror
-step_equal: step_literals indexmap thiserror
-images: step_equal step_literals indexmap anyhow
-"""
+from building import build
+
 ROWS = 1_000_000
-# Bags are compared by counting, so the time is the square of this.
 BAG = 100_000
 RUNS = 5
 
@@ -101,22 +95,6 @@ def one_bag(count):
     return scene
 
 
-def build(folder):
-    crates = os.path.join(folder, "crates")
-    for name in ("step_literals", "step_equal"):
-        shutil.copytree(os.path.join(CRATES, name), os.path.join(crates, name), ignore=shutil.ignore_patterns("out"))
-    os.makedirs(os.path.join(crates, "images", "src"))
-    shutil.copy(os.path.join(HERE, "images", "main.rt.in"), os.path.join(crates, "images", "src", "main.rt"))
-    with open(os.path.join(folder, "crates.txt"), "w", encoding="ascii") as file:
-        file.write(MANIFEST)
-    crate = os.path.join(crates, "images")
-    subprocess.run(["rt", "run"], cwd=crate, stdout=subprocess.DEVNULL, stderr=subprocess.DEVNULL, check=False)
-    program = os.path.join(crate, "out", "images")
-    if not os.path.exists(program):
-        sys.exit("the program wasn't built: run `rt run` in a copy of it to see why")
-    return program
-
-
 def place(folder, scene):
     """A folder with the scene's files, and how many rows its first population has."""
     own = tempfile.mkdtemp(dir=folder)
@@ -157,7 +135,7 @@ def main():
     parser.add_argument("--bag", action=argparse.BooleanOptionalAction, default=True)
     arguments = parser.parse_args()
     with tempfile.TemporaryDirectory() as folder:
-        program = build(folder)
+        program = build(folder, "images", ["step_equal", "step_literals", "indexmap", "anyhow"])
         report(program, folder, "rows", tens, ROWS)
         if arguments.bag:
             print()

@@ -9,14 +9,11 @@ equal), and prints nanoseconds a literal.
 """
 import os
 import random
-import shutil
 import subprocess
-import sys
 import tempfile
 
-HERE = os.path.dirname(os.path.abspath(__file__))
-CRATES = os.path.join(os.path.dirname(HERE), "crates")
-MANIFEST = "step_literals: memchr thiserror\nliterals: step_literals\n"
+from building import build
+
 COUNT = 20000
 
 
@@ -55,22 +52,6 @@ def binaries(rng):
         yield f'"0{digits.lower()}"'
 
 
-def build(folder):
-    crates = os.path.join(folder, "crates")
-    shutil.copytree(os.path.join(CRATES, "step_literals"), os.path.join(crates, "step_literals"),
-                    ignore=shutil.ignore_patterns("out"))
-    os.makedirs(os.path.join(crates, "literals", "src"))
-    shutil.copy(os.path.join(HERE, "literals", "main.rt.in"), os.path.join(crates, "literals", "src", "main.rt"))
-    with open(os.path.join(folder, "crates.txt"), "w", encoding="ascii") as file:
-        file.write(MANIFEST)
-    crate = os.path.join(crates, "literals")
-    subprocess.run(["rt", "run"], cwd=crate, stdout=subprocess.DEVNULL, stderr=subprocess.DEVNULL, check=False)
-    program = os.path.join(crate, "out", "literals")
-    if not os.path.exists(program):
-        sys.exit("the program wasn't built: run `rt run` in a copy of it to see why")
-    return program
-
-
 def measure(program, folder, lines):
     with open(os.path.join(folder, "literals.txt"), "w", encoding="ascii") as file:
         file.write("\n".join(lines) + "\n")
@@ -82,7 +63,7 @@ def main():
     rng = random.Random(1)
     common = [*words(rng), *numbers(rng), *strings(rng), *binaries(rng)]
     with tempfile.TemporaryDirectory() as folder:
-        program = build(folder)
+        program = build(folder, "literals", ["step_literals"])
         rows = measure(program, folder, common)
         rows += [["long numbers", *row[1:]] for row in measure(program, folder, long_numbers(rng)) if row[0] == "numbers"]
     print(f"{'nanoseconds a literal':24}{'bytes':>8}{'==':>8}{'cmp':>8}{'hash':>8}")

@@ -40,6 +40,13 @@ impl<'a> Lexer<'a> {
         }
     }
 
+    /// The text that is read.
+    pub fn text(&self) -> &'a [u8]
+        ensures { result.now ≡ self.now.text }
+    {
+        self.text
+    }
+
     /// How many bytes of the text are read.
     pub fn place(&self) -> u64
         ensures { result ≡ self.now.place }

@@ -47,3 +47,18 @@ leads_apart {S} table (w ∷ ws) (y ∷ ys) b h =
     let P : List S → Type 0 = λ l. Leads table l ws [] in
     let r = leads_apart table ws (h.0 ++ ys) b (subst P (sym (append_assoc h.0 ys b)) h.2) in
     (w ∷ r.0, r.1, ap (λ l. w ∷ l) r.2, (h.0, h.1, r.3), r.4)
+
+-- of sights no more and no fewer lead to nothing more
+pub leads_once : {S W K : Type 0} (table : Table S W K) (ys : List S) (u v a b : List W) → Leads table ys u [] → Leads table ys v [] → u ++ a ≡ v ++ b → (u ≡ v) × (a ≡ b)
+leads_once table ys [] [] a b h g e = (refl, e)
+leads_once table [] [] (w ∷ v) a b h g e = absurd g
+leads_once table (y ∷ ys) [] (w ∷ v) a b h g e = absurd cc
+leads_once table [] (w ∷ u) v a b h g e = absurd h
+leads_once table (y ∷ ys) (w ∷ u) [] a b h g e = absurd cc
+leads_once {S} {W} table (y ∷ ys) (w ∷ u) (x ∷ v) a b h g e =
+    let first : w ≡ x = cc in
+    let behind : u ++ a ≡ v ++ b = cc in
+    let same : g.0 ≡ h.0 = cc in
+    let P : List S → Type 0 = λ l. Leads table (l ++ ys) v [] in
+    let more = leads_once table (h.0 ++ ys) u v a b h.2 (subst P same g.2) behind in
+    ((λ i. first i ∷ more.0 i), more.1)

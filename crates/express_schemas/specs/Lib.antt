@@ -1,0 +1,11 @@
+pub mod Runs
+pub mod Schemas
+pub mod Written
+pub mod Profile
+pub mod Texts
+pub mod Predict
+pub mod Steps
+pub mod Sets
+pub mod Passages
+pub mod Views
+pub mod Laws
