@@ -24,9 +24,10 @@ pub(crate) fn signed(sign: Sign, value: Number<'_>) -> Expr<'_>
 }
 
 /// A reference with its qualifiers.
-pub(crate) fn reference<'a>(root: Root<'a>, qualifiers: Vec<Qualifier<'a>>) -> Expr<'a>
+pub(crate) fn reference<'a>(root: Root<'a>, mut qualifiers: Vec<Qualifier<'a>>) -> Expr<'a>
     ensures { tree_of result ≡ Trees.reference (root_of root.entry) (qualifiers_of qualifiers.entry.items) }
 {
+    qualifiers.shrink_to_fit();
     Expr::Reference(root, qualifiers)
 }
 
@@ -38,9 +39,10 @@ pub(crate) fn parenthesized(inner: Box<Expr<'_>>) -> Expr<'_>
 }
 
 /// An aggregate with these elements.
-pub(crate) fn aggregate(elements: Vec<Expr<'_>>) -> Expr<'_>
+pub(crate) fn aggregate(mut elements: Vec<Expr<'_>>) -> Expr<'_>
     ensures { tree_of result ≡ Trees.aggregate (trees_of elements.entry.items) }
 {
+    elements.shrink_to_fit();
     Expr::Aggregate(elements)
 }
 
@@ -100,16 +102,18 @@ pub(crate) fn negation(inner: Box<Expr<'_>>) -> Expr<'_>
 }
 
 /// AND between the first and the others.
-pub(crate) fn conjunction<'a>(first: Box<Expr<'a>>, others: Vec<Expr<'a>>) -> Expr<'a>
+pub(crate) fn conjunction<'a>(first: Box<Expr<'a>>, mut others: Vec<Expr<'a>>) -> Expr<'a>
     ensures { tree_of result ≡ Trees.conjunction (tree_of first.entry.value) (trees_of others.entry.items) }
 {
+    others.shrink_to_fit();
     Expr::Conjunction(first, others)
 }
 
 /// OR and XOR behind the first.
-pub(crate) fn disjunction<'a>(first: Box<Expr<'a>>, others: Vec<Alternative<'a>>) -> Expr<'a>
+pub(crate) fn disjunction<'a>(first: Box<Expr<'a>>, mut others: Vec<Alternative<'a>>) -> Expr<'a>
     ensures { tree_of result ≡ Trees.disjunction (tree_of first.entry.value) (alternatives_of others.entry.items) }
 {
+    others.shrink_to_fit();
     Expr::Disjunction(first, others)
 }
 

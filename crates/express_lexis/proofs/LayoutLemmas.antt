@@ -41,7 +41,7 @@ skips_to bytes rest n len go none =
     rw cut.2 h
 
 -- the first byte of a blank
-blank_head : (k : Blank) (t r : List ℕ) → AllowsBlank k t r → elim k as (λ _. Type 0) [ space ↦ get_or (t ++ r) 0 0 ≤ 32 | tail_remark ↦ get_or (t ++ r) 0 0 ≡ 45 | embedded_remark ↦ get_or (t ++ r) 0 0 ≡ 40 ]
+pub blank_head : (k : Blank) (t r : List ℕ) → AllowsBlank k t r → elim k as (λ _. Type 0) [ space ↦ get_or (t ++ r) 0 0 ≤ 32 | tail_remark ↦ get_or (t ++ r) 0 0 ≡ 45 | embedded_remark ↦ get_or (t ++ r) 0 0 ≡ 40 ]
 blank_head space t r h = omega (arith, ap (λ l. get_or (l ++ r) 0 0) h.2, h.1)
 blank_head tail_remark t r h = ap (λ l. get_or (l ++ r) 0 0) h.3
 blank_head embedded_remark t r h = ap (λ l. get_or (l ++ r) 0 0) h.2

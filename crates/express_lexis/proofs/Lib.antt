@@ -7,3 +7,7 @@ pub mod ReadingLemmas
 pub mod Unique
 pub mod Determined
 pub mod Examples
+pub mod RemarkFound
+pub mod LayoutFound
+pub mod FrontFound
+pub mod Answered

@@ -9,6 +9,10 @@ abbrev pub AnswersAreDetermined : Type 0
 AnswersAreDetermined =
     (old new next : Reading) (r s : Result (Option Token) TextFault) → Answers old r new → Answers old s next → SameAnswer r s × (new ≡ next)
 
+-- However far a text is read, there is an answer.
+abbrev pub EachReadingHasAnAnswer : Type 0
+EachReadingHasAnAnswer = (old : Reading) → old.place ≤ length old.text → (r : Result (Option Token) TextFault) × (new : Reading) × Answers old r new
+
 -- behind the end the end is answered again
 abbrev pub EndIsAnsweredAgain : Type 0
 EndIsAnsweredAgain =

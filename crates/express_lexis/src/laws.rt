@@ -1,11 +1,16 @@
 //! Laws of the definitions alone.
 
-ghost use Rattle.express_lexis.specs.Laws.{AnswersAreDetermined, EndIsAnsweredAgain, FaultIsAnsweredAgain, PlacesRise};
+ghost use Rattle.express_lexis.specs.Laws.{AnswersAreDetermined, EachReadingHasAnAnswer, EndIsAnsweredAgain, FaultIsAnsweredAgain, PlacesRise};
 
 /// What a lexer answers is determined by the text and by how far it is read, and so is how far it
 /// is read then.
 pub fn answers_are_determined()
     ensures { AnswersAreDetermined }
+{}
+
+/// There is an answer for each text, however far it is read.
+pub fn each_reading_has_an_answer()
+    ensures { EachReadingHasAnAnswer }
 {}
 
 /// Behind the end the end is answered again.

@@ -41,7 +41,7 @@ place_skipping (Until end) e = tt
 place_skipping y e = absurd cc
 
 -- the end of a text is its schema's last sight
-nothing_more : (a : List Sight) (s : Sight) (rest : List Sight) → a ++ s ∷ rest ≡ [] → ⊥
+pub nothing_more : (a : List Sight) (s : Sight) (rest : List Sight) → a ++ s ∷ rest ≡ [] → ⊥
 nothing_more [] s rest e = cc
 nothing_more (t ∷ a) s rest e = cc
 
@@ -51,10 +51,10 @@ last_over [] rest (w ∷ ws) e = absurd cc
 last_over (s ∷ a) rest [] e = absurd (nothing_more a over rest (let t : a ++ over ∷ rest ≡ [] = cc in t))
 last_over (s ∷ a) rest (w ∷ ws) e = last_over a rest ws (let t : a ++ over ∷ rest ≡ map token ws ++ over ∷ [] = cc in t)
 
-one_more : (s : List Seen) (at : Seen) → sights (s ++ at ∷ []) ≡ sights s ++ at.sight ∷ []
+pub one_more : (s : List Seen) (at : Seen) → sights (s ++ at ∷ []) ≡ sights s ++ at.sight ∷ []
 one_more s at = sights_append s (at ∷ [])
 
-ended_once : (before : List Seen) (f : languages.IsFront (IsSchema depth_limit) (sights before ++ over ∷ [])) → IsWhole (sights before)
+pub ended_once : (before : List Seen) (f : languages.IsFront (IsSchema depth_limit) (sights before ++ over ∷ [])) → IsWhole (sights before)
 ended_once before f =
     let e = sym (append_assoc (sights before) (over ∷ []) f.0) in
     let none = last_over (sights before) f.0 (words_of_schema f.1.0) (e ∙ f.1.2) in

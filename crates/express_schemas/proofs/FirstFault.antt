@@ -24,7 +24,8 @@ use Rattle.express_schemas.proofs.Complete.{IsAny}
 use Rattle.express_schemas.proofs.Exact.{exact}
 use Rattle.express_schemas.proofs.DueKinds.{kind_of, kind_is}
 
-stopped : (text : List ℕ) (s : List Seen) (new : Reading) (kind : Kind) (place : ℕ) → ShowsAll (start text) s new → run depth_limit schema_symbols s ≡ stops kind place → IsFirstFault text kind place
+-- where the table stops in what a lexer shows
+pub stopped : (text : List ℕ) (s : List Seen) (new : Reading) (kind : Kind) (place : ℕ) → ShowsAll (start text) s new → run depth_limit schema_symbols s ≡ stops kind place → IsFirstFault text kind place
 stopped text s new kind place h e =
     let x = exact depth_limit (omega arith) in
     let f = first_fault table IsAny schema_symbols (IsSchema depth_limit) x s kind place e in

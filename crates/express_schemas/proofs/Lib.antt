@@ -33,4 +33,5 @@ pub mod Reasons
 pub mod InSkipped
 pub mod DueKinds
 pub mod FirstFault
+pub mod EachText
 pub mod StandLemmas

@@ -1,5 +1,5 @@
 -- Laws of the definitions alone: what a text reads as, and what its fault is.
-use Rattle.std.specs.Prelude.{◌≡◌, ℕ, List}
+use Rattle.std.specs.Prelude.{◌≡◌, ℕ, List, ◌⊎◌}
 use Rattle.express_schemas.specs.declared.fault.Kind.{Kind}
 use Rattle.express_schemas.specs.Schemas.{Schema}
 use Rattle.express_schemas.specs.Texts.{ReadsAs, IsFirstFault}
@@ -15,3 +15,7 @@ ReadsWithoutFault = (text : List ℕ) (x : Schema) (kind : Kind) (place : ℕ) �
 -- A text has one first fault at most.
 abbrev pub FaultsOnce : Type 0
 FaultsOnce = (text : List ℕ) (kind other : Kind) (place other_place : ℕ) → IsFirstFault text kind place → IsFirstFault text other other_place → (kind ≡ other) × (place ≡ other_place)
+
+-- A text reads as a schema, or has a first fault.
+abbrev pub ReadsOrFails : Type 0
+ReadsOrFails = (text : List ℕ) → ((x : Schema) × ReadsAs text x) ⊎ ((kind : Kind) × (place : ℕ) × IsFirstFault text kind place)

@@ -1,6 +1,6 @@
 //! Laws of the definitions alone.
 
-ghost use Rattle.express_schemas.specs.Laws.{FaultsOnce, ReadsOnce, ReadsWithoutFault};
+ghost use Rattle.express_schemas.specs.Laws.{FaultsOnce, ReadsOnce, ReadsOrFails, ReadsWithoutFault};
 
 /// A text reads as one schema at most.
 pub fn a_text_reads_as_one_schema()
@@ -15,4 +15,9 @@ pub fn what_reads_has_no_fault()
 /// A text has one first fault at most.
 pub fn a_text_has_one_first_fault()
     ensures { FaultsOnce }
+{}
+
+/// Each text reads as a schema, or has a first fault.
+pub fn a_text_reads_or_has_a_fault()
+    ensures { ReadsOrFails }
 {}

@@ -47,8 +47,8 @@ impl<'a> Passage<'a> {
     pub fn text(&self) -> &'a [u8]
         ensures { result.now ≡ slice_range self.now.text.now self.now.from self.now.to }
     {
-        let text = self.text;
-        &text[self.from..self.to]
+        let Passage { text, from, to, .. } = *self;
+        &text[from..to]
     }
 
     /// How many bytes of the text come before it.

@@ -1,12 +1,2 @@
-mod AttributeSteps
-mod OpenRunLemmas
-mod BoundSteps
-mod RunSteps
-mod RuleSteps
-mod NameSteps
-mod KindSteps
 mod TypeSteps
-mod EntitySteps
-mod ClauseSteps
-mod SkippedSteps
 mod SchemaSteps

@@ -29,7 +29,7 @@ use Rattle.express_schemas.specs.Steps.{StopsIn, Passes}
 use Rattle.express_schemas.proofs.Turning.{stops_shown}
 use Rattle.express_schemas.proofs.Looking.{mark_met, keyword_met, shows_lexeme, shown_less, takes_less}
 use Rattle.express_schemas.proofs.Taking.{passes_as, passes_join, passes_more, passes_token, passes_taken, passes_first, stops_behind, stops_behind_taken}
-use Rattle.express_text.proofs.SkippedSteps.{passes_both}
+use Rattle.express_runs.proofs.SkippedSteps.{passes_both}
 use Rattle.express_schemas.proofs.Lists.{every_push, joined_push, map_push}
 
 -- a fault at a token

@@ -14,7 +14,7 @@ use Rattle.express_schemas.specs.Written.{joined, words_of_names, words_of_under
 use Rattle.express_schemas.specs.Profile.{Maybe, FitsRules, FitsUnderlying, FitsType}
 use Rattle.express_schemas.specs.Predict.{Symbol, Just, Say, Id, TypeEnd, Rules, KindThen, semicolon, names_symbols, next, refused, is_keyword}
 use Rattle.express_schemas.specs.Predict as table
-use Rattle.express_text.specs.KindParts.{PassesKind}
+use Rattle.express_parts.specs.KindParts.{PassesKind}
 use Rattle.express_schemas.specs.Steps.{StopsIn, Passes}
 use Rattle.express_schemas.proofs.Taking.{passes_as, passes_join, passes_more, passes_then, passes_token, passes_first, stops_behind, stops_first, passes_other, stops_as}
 use Rattle.express_schemas.proofs.Looking.{keyword_met, stops_refused}

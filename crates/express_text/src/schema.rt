@@ -16,20 +16,20 @@ ghost use Rattle.express_schemas.specs.Profile.{Every, Maybe, IsVersion, FitsDec
 ghost use Rattle.express_schemas.specs.Texts.{token, Seen, ShowsAll, sights_of, ReadsAs, IsFaultOf, IsMemory};
 ghost use Rattle.express_schemas.specs.Predict;
 ghost use Rattle.express_schemas.specs.Predict.{Declarations, Over, refused, next_over, next_version, schema_symbols};
-ghost use Rattle.express_text.specs.Items.{seen_of};
+ghost use Rattle.express_runs.specs.Items.{seen_of};
 ghost use Rattle.express_schemas.specs.Steps.{Passes, StopsIn};
 
-use crate::entities::entity;
-use crate::runs::Buffer;
-use crate::skipped::skipped;
-use crate::tokens::{
-    Item, expect, expect_keyword, expect_name, fault_at, is_keyword, is_mark, refuse, take,
-};
 use crate::types::type_declaration;
+use express_entities::entities::entity;
 use express_expressions::keyword::Keyword;
 use express_expressions::lexeme::Lexeme;
 use express_lexis::lexer::Lexer;
 use express_lexis::marks::Mark;
+use express_runs::runs::Buffer;
+use express_runs::skipped::skipped;
+use express_runs::tokens::{
+    Item, expect, expect_keyword, expect_name, fault_at, is_keyword, is_mark, refuse, take,
+};
 use express_schemas::fault::{Kind, LeftOut, SchemaFault};
 use express_schemas::tree::{Declaration, SchemaTree, Version};
 use std::alloc::Global;
@@ -106,6 +106,7 @@ fn all_declarations<'a>(
         let first = take(lexer)?;
         if is_keyword(first, Keyword::EndSchema) {
             expect(lexer, Mark::Semicolon)?;
+            declarations.shrink_to_fit();
             return Ok(declarations);
         }
         let next = declaration(alloc, lexer, first, buffer)?;

@@ -6,5 +6,6 @@ pub mod Turning
 pub mod Faults
 pub mod Wider
 pub mod Texts
+pub mod Ending
 pub mod Accepted
 pub mod Examples

@@ -28,9 +28,10 @@ use Rattle.step_literals.proofs.BinaryLemmas.{none_empty, none_low, none_high, n
 use Rattle.step_lexis.proofs.WordLemmas.{next_begins, next_ends, next_keyword, said_len}
 use Rattle.step_lexis.proofs.FrontLemmas.{mark_front, no_token, name_at, name_none_at, element_at, element_none_at, element_open_at, take_first, one_only, starts_number, text_read, text_broken, text_front}
 use Rattle.step_lexis.proofs.LeftOutLemmas.{user_none_at, user_at, scope_none_at, scope_front, word_run}
-use Rattle.step_lexis.proofs.Choices.{Decided, says_or_not}
-use Rattle.step_lexis.proofs.NumberFound.{NumberAt, number_or_none, short_or_not, some_there}
-use Rattle.step_lexis.proofs.StringFound.{Ended, Unended, ends_or_not, ReadOrBroken, read_or_broken}
+use Rattle.step_literals.proofs.Choices.{Decided, says_or_not}
+use Rattle.step_literals.proofs.NumberFound.{NumberAt, number_or_none, short_or_not, some_there}
+use Rattle.step_literals.proofs.StringEnds.{Ended, Unended, ends_or_not}
+use Rattle.step_lexis.proofs.StringFound.{ReadOrBroken, read_or_broken}
 
 -- a token stands at the front, or something is wrong there
 abbrev pub FrontAt : List ℕ → Type 0

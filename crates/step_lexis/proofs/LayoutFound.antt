@@ -8,7 +8,7 @@ use Rattle.step_literals.proofs.Runs.{front_back}
 use Rattle.step_lexis.proofs.WordLemmas.{said_len}
 use Rattle.step_lexis.proofs.LayoutLemmas.{star_slash, no_blank, not_opened, not_closed, comment_at, opens}
 use Rattle.step_lexis.proofs.Closers.{no_blank_at_end}
-use Rattle.step_lexis.proofs.Choices.{Decided, says_or_not, first_below}
+use Rattle.step_literals.proofs.Choices.{Decided, says_or_not, first_below}
 
 -- an asterisk and a slash stand here, or they don't
 closes_or_not : (l : List ℕ) (k : ℕ) → Decided (OccursAt l star_slash k)

@@ -7,9 +7,7 @@ pub mod Closers
 pub mod Unique
 pub mod Determined
 pub mod Standing
-pub mod Choices
 pub mod LayoutFound
-pub mod NumberFound
 pub mod StringFound
 pub mod FrontFound
 pub mod Answered

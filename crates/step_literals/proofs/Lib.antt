@@ -27,3 +27,6 @@ pub mod DecimalExamples
 pub mod CaseLemmas
 pub mod BitsLemmas
 pub mod ValueExamples
+pub mod Choices
+pub mod NumberFound
+pub mod StringEnds

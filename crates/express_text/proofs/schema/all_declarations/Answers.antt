@@ -1,6 +1,6 @@
 use Rattle.std.proofs.Common.{◌≡◌, map, sym, ◌∙◌}
 use Rattle.std.proofs.lemmas.Result.{err_from_is_err_and}
-use Rattle.express_text.specs.Items.{seen_of}
+use Rattle.express_runs.specs.Items.{seen_of}
 use Rattle.express_schemas.specs.Views.{declaration_of}
 use Rattle.express_schemas.specs.Predict.{Declarations, Over}
 use Rattle.express_text.proofs.SchemaSteps.{declarations_stop, declarations_stop_end, declarations_stop_taken, declarations_done, declarations_next, declaration_less}
@@ -19,8 +19,7 @@ returns-in_err-expect c =
 
 pub returns-then-is_keyword : goal.returns-then-is_keyword
 returns-then-is_keyword c =
-    declarations_done c.args.lexer.now c.loop-declarations.lexer c.take.new.lexer c.expect.new.lexer (map declaration_of c.loop-declarations.declarations.items) (seen_of c.in_ok-first.first) c.loop-declarations.invariant c.in_ok-first.ensures
-    (sym c.is_keyword.ensures ∙ c.if-is_keyword.true) c.in_ok-expect.ensures
+    rw c.shrink_to_fit.ensures.items (declarations_done c.args.lexer.now c.loop-declarations.lexer c.take.new.lexer c.expect.new.lexer (map declaration_of c.loop-declarations.declarations.items) (seen_of c.in_ok-first.first) c.loop-declarations.invariant c.in_ok-first.ensures (sym c.is_keyword.ensures ∙ c.if-is_keyword.true) c.in_ok-expect.ensures)
 
 pub returns-in_err-next : goal.returns-in_err-next
 returns-in_err-next c =

@@ -1,7 +1,7 @@
 use Rattle.std.proofs.Common.{[], ◌∷◌, refl, sym, ◌∙◌}
 use Rattle.express_lexis.specs.declared.marks.Mark.TheVariants as marks
 use Rattle.express_expressions.specs.declared.keyword.Keyword.TheVariants as keywords
-use Rattle.express_text.specs.Items.{seen_of}
+use Rattle.express_runs.specs.Items.{seen_of}
 use Rattle.express_schemas.specs.Views.{type_of, entity_of}
 use Rattle.express_schemas.specs.Written.{words_of_type, words_of_entity}
 use Rattle.express_schemas.specs.Predict.{Id, Just, Underlying, TypeEnd, Head, Body, explicits}

@@ -4,7 +4,7 @@ use Rattle.express_expressions.specs.Views.{capitals}
 use Rattle.express_schemas.specs.Schemas.{Schema}
 use Rattle.express_schemas.specs.Views.{if_some, version_of, declaration_of}
 use Rattle.express_schemas.specs.Predict.{Id, Version, Declarations, Over}
-use Rattle.express_text.proofs.SkippedSteps.{stops_second, passes_both}
+use Rattle.express_runs.proofs.SkippedSteps.{stops_second, passes_both}
 use Rattle.express_text.proofs.SchemaSteps.{passes_opening, schema_done}
 use Rattle.express_text.proofs.schema.whole_schema.Goals as goal
 

@@ -1,6 +1,6 @@
 use Rattle.std.proofs.lemmas.Result.{err_from_is_err_and}
 use Rattle.std.proofs.Common.{sym, ◌∙◌}
-use Rattle.express_text.specs.Items.{seen_of}
+use Rattle.express_runs.specs.Items.{seen_of}
 use Rattle.express_schemas.specs.Views.{rules_of}
 use Rattle.express_text.proofs.TypeSteps.{where_stopped, where_done, type_end_refused, type_end_stopped, type_end_done}
 use Rattle.express_text.proofs.types.rules_to_end.Goals as goal

@@ -1,6 +1,6 @@
 use Rattle.std.proofs.lemmas.Result.{err_from_is_err_and}
 use Rattle.std.proofs.Common.{sym, ◌∙◌}
-use Rattle.express_text.specs.Items.{seen_of}
+use Rattle.express_runs.specs.Items.{seen_of}
 use Rattle.express_schemas.specs.Views.{names_of, kind_of}
 use Rattle.express_text.proofs.TypeSteps.{enumeration_unsaid, enumeration_stopped, enumeration_done, select_stopped, select_done, underlying_stopped, underlying_done}
 use Rattle.express_text.proofs.types.underlying.Goals as goal

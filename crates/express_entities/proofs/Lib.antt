@@ -1,0 +1,3 @@
+mod AttributeSteps
+mod EntitySteps
+mod ClauseSteps

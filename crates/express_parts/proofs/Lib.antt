@@ -1,0 +1,3 @@
+mod BoundSteps
+mod RuleSteps
+mod KindSteps

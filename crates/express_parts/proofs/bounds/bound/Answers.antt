@@ -1,0 +1,11 @@
+use Rattle.std.proofs.Common.{ap, ◌∙◌}
+use Rattle.express_expressions.specs.Words.{words_of}
+use Rattle.express_schemas.specs.Views.{run_of, bound_of}
+use Rattle.express_runs.specs.OpenRuns.{part_of, may_of}
+use Rattle.express_parts.proofs.BoundSteps.{bound_known}
+use Rattle.express_parts.proofs.bounds.bound.Goals as goal
+
+pub returns-in-Some : goal.returns-in-Some
+returns-in-Some c =
+    bound_known (part_of c.args.part) c.args.around c.next_run.new.buffer.lexemes.items (run_of c.in_ok-tokens.tokens) (bound_of c.in-Some.bound) c.args.lexer.now c.next_run.new.lexer c.in_ok-tokens.ensures
+    (c.in-Some.ensures.0 ∙ ap words_of c.deref.ensures.value) (c.in-Some.ensures.1 (may_of (part_of c.args.part)) c.args.around)

@@ -1,0 +1,11 @@
+use Rattle.std.proofs.Common.{◌∷◌, [], subst, MatchResult}
+use Rattle.express_lexis.specs.declared.marks.Mark.{Mark}
+use Rattle.express_expressions.specs.Words.{mark}
+use Rattle.express_schemas.specs.Predict.{Just}
+use Rattle.express_schemas.specs.Steps.{Passes, StopsIn}
+use Rattle.express_parts.proofs.kinds.expect_end.Goals as goal
+
+pub returns : goal.returns
+returns c =
+    let P : Mark → Type 0 = λ m. MatchResult c.expect.result (λ _. Passes (Just m ∷ []) [] [] (mark m ∷ []) c.args.lexer.now c.expect.new.lexer) (λ e. StopsIn e (Just m ∷ []) [] c.args.lexer.now) in
+    subst P c.mark.ensures c.expect.ensures

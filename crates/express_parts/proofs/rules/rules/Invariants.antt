@@ -1,0 +1,11 @@
+use Rattle.std.proofs.Common.{length}
+use Rattle.express_lexis.specs.Reading.{left}
+use Rattle.express_schemas.specs.Views.{rules_of}
+use Rattle.express_parts.proofs.RuleSteps.{RulesSoFar}
+use Rattle.express_parts.proofs.rules.rules.Given as goal
+
+abbrev pub invariant-loop-rules : goal.invariant-loop-rules
+invariant-loop-rules l = RulesSoFar l.end (rules_of l.rules.items) l.fn.lexer l.lexer
+
+abbrev pub decreases-loop-rules : goal.decreases-loop-rules
+decreases-loop-rules l = length (left l.lexer)

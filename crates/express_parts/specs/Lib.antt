@@ -1,0 +1,3 @@
+pub mod RuleReading
+pub mod Endings
+pub mod KindParts

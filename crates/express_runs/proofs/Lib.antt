@@ -1,0 +1,4 @@
+pub mod OpenRunLemmas
+pub mod RunSteps
+pub mod NameSteps
+pub mod SkippedSteps

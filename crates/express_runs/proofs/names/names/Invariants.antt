@@ -1,0 +1,11 @@
+use Rattle.std.proofs.Common.{length}
+use Rattle.express_lexis.specs.Reading.{left}
+use Rattle.express_schemas.specs.Views.{names_of}
+use Rattle.express_runs.proofs.NameSteps.{NamesSoFar}
+use Rattle.express_runs.proofs.names.names.Given as goal
+
+abbrev pub invariant-loop-names : goal.invariant-loop-names
+invariant-loop-names l = NamesSoFar (names_of l.names.items) l.fn.lexer l.lexer
+
+abbrev pub decreases-loop-names : goal.decreases-loop-names
+decreases-loop-names l = length (left l.lexer)

@@ -1,0 +1,19 @@
+use Rattle.std.proofs.Common.{[], sym, ◌∙◌}
+use Rattle.express_expressions.specs.Words.{mark}
+use Rattle.express_runs.specs.Items.{seen_of}
+use Rattle.express_schemas.specs.Predict.{Just}
+use Rattle.express_expressions.specs.Grammar.{depth_limit}
+use Rattle.express_schemas.proofs.Taking.{passes_token}
+use Rattle.express_schemas.proofs.Passing.{next_mark}
+use Rattle.express_schemas.proofs.Looking.{mark_met, mark_refused, stops_refused}
+use Rattle.express_runs.proofs.tokens.expect.Goals as goal
+
+pub returns-then-not-is_mark : goal.returns-then-not-is_mark
+returns-then-not-is_mark c =
+    stops_refused c.refuse.result (Just c.args.wanted) (seen_of c.in_ok-item.item) c.args.lexer.now c.take.new.lexer c.in_ok-item.ensures
+    (mark_refused c.args.wanted (seen_of c.in_ok-item.item).sight (sym c.is_mark.ensures ∙ c.if-not-is_mark.true)) c.refuse.ensures
+
+pub returns : goal.returns
+returns c =
+    passes_token (Just c.args.wanted) [] (mark c.args.wanted) (seen_of c.in_ok-item.item) c.args.lexer.now c.take.new.lexer c.in_ok-item.ensures
+    (mark_met c.args.wanted (seen_of c.in_ok-item.item).sight (sym c.is_mark.ensures ∙ c.if-not-is_mark.false)) (next_mark depth_limit c.args.wanted)

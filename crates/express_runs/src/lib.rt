@@ -1,0 +1,7 @@
+//! Tokens of EXPRESS schemas, runs of them, and skipped declarations (ISO 10303-11).
+#![tactic(auto)]
+
+pub mod names;
+pub mod runs;
+pub mod skipped;
+pub mod tokens;

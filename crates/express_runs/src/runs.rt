@@ -1,0 +1,278 @@
+//! Runs of tokens up to what ends them.
+
+ghost use Rattle.std.specs.Prelude.{◌≡◌, ℕ, ◌≤◌, true, false, [], ◌∷◌, length, IfOk, MatchResult};
+ghost use Rattle.express_lexis.specs.Reading.{Reading};
+ghost use Rattle.express_expressions.specs.Words.{words_of, mark, name};
+ghost use Rattle.express_expressions.specs.Views.{capitals};
+ghost use Rattle.express_expressions.specs.Grammar.{depth_limit};
+ghost use Rattle.express_schemas.specs.declared.fault.SchemaFault.TheVariants.{Fault};
+ghost use Rattle.express_runs.specs.Items.{seen_of, named};
+ghost use Rattle.express_schemas.specs.Texts.{Shows};
+ghost use Rattle.express_schemas.specs.Views.{run_of};
+ghost use Rattle.express_schemas.specs.Runs;
+ghost use Rattle.express_schemas.specs.Runs.{words_of_run};
+ghost use Rattle.express_schemas.specs.Predict;
+ghost use Rattle.express_schemas.specs.Predict.{Part, Running};
+ghost use Rattle.express_schemas.specs.Steps.{StopsIn};
+ghost use Rattle.express_runs.specs.OpenRuns.{part_of, bracket_of, brackets_of, Agrees, IsBegun, IsPushed, Gathered};
+ghost use Rattle.express_schemas.specs.Runs.{has_some};
+ghost use Rattle.express_schemas.specs.Passages.{Stands, IsRun};
+
+use crate::tokens::{Item, take};
+use express_expressions::lexeme::Lexeme;
+use express_lexis::lexer::Lexer;
+use express_lexis::literal::Word;
+use express_lexis::marks::Mark;
+use express_schemas::fault::{Kind, SchemaFault};
+use express_schemas::passage::{Passage, Run};
+use std::alloc::{AllocError, Global};
+
+/// So many brackets may be open at once, and aggregate types with them.
+const LEVELS: usize = 64;
+
+/// What ends a run.
+#[derive(Clone, Copy, Debug, PartialEq, Eq)]
+pub enum Ends {
+    /// The semicolon of a rule.
+    Rule,
+    /// The colon of a lower bound.
+    Lower,
+    /// The bracket of an upper bound.
+    Upper,
+    /// The closing parenthesis.
+    Parentheses,
+}
+
+#[derive(Clone, Copy, Debug, PartialEq, Eq)]
+pub enum Bracket {
+    Parenthesis,
+    Square,
+    Brace,
+}
+
+/// The tokens of a run as far as it is read, its brackets that are open, the outermost first, and how many
+/// bytes come before the first token and before the end of the last. It is used again for the next run.
+#[derive(Drop)]
+pub struct Buffer<'a> {
+    pub lexemes: Vec<Lexeme<'a>>,
+    pub open: Vec<Bracket>,
+    pub from: u64,
+    pub to: u64,
+}
+
+impl<'a> Buffer<'a> {
+    /// A buffer without tokens.
+    pub fn new(alloc: Global) -> Self
+        ensures { (result.lexemes.items ≡ []) × (result.open.items ≡ []) }
+    {
+        Buffer {
+            lexemes: Vec::new(alloc),
+            open: Vec::new(alloc),
+            from: 0,
+            to: 0,
+        }
+    }
+
+    /// Forgets all tokens.
+    pub fn clear(&mut self)
+        ensures empty { (self.new.lexemes.items ≡ []) × (self.new.open.items ≡ []) }
+        ensures begun { (part : Part) (n : ℕ) (here : Reading) → IsBegun part n self.new here }
+    {
+        self.lexemes.clear();
+        self.open.clear();
+    }
+
+    /// Forgets all tokens but this name.
+    pub fn begin(&mut self, first: Word<'a>, place: u64, end: u64) -> Result<(), AllocError>
+        ensures { IfOk result (λ _. (words_of self.new.lexemes.items ≡ name (capitals first.entry) ∷ []) × (self.new.open.items ≡ [])
+            × ((part : Part) (n : ℕ) (old here : Reading) → Shows old (named first.entry place) here → end ≡ here.place → IsBegun part n self.new here)) }
+    {
+        self.clear();
+        self.lexemes.push(Lexeme::Name(first))?;
+        self.from = place;
+        self.to = end;
+        Ok(())
+    }
+
+    /// One token more, behind which so many bytes are read.
+    fn push(&mut self, item: Item<'a>, end: u64) -> Result<(), AllocError>
+        ensures { IfOk result (λ _. IsPushed self.old item.entry end self.new) }
+    {
+        if self.lexemes.is_empty() {
+            self.from = item.place;
+        }
+        self.lexemes.push(item.lexeme)?;
+        self.to = end;
+        Ok(())
+    }
+}
+
+/// The run from one place of a text to another.
+fn run_between(text: &[u8], from: u64, to: u64) -> Run<'_>
+    requires { (r : Runs.Run) × IsRun r × Stands text.now from (words_of_run r) to }
+    ensures { (r : Runs.Run) → IsRun r → Stands text.now from (words_of_run r) to → run_of result ≡ r }
+{
+    Run::of(Passage::between(text, from as usize, to as usize))
+}
+
+fn fault(kind: Kind, place: u64) -> SchemaFault
+    ensures { result ≡ Fault kind place }
+{
+    SchemaFault::Fault { kind, place }
+}
+
+/// Whether the mark ends such a run where none of its brackets is open.
+fn ends_run(part: Ends, mark: Mark) -> bool
+    ensures { result ≡ Predict.ends_part (part_of part) mark }
+{
+    match (part, mark) {
+        (Ends::Rule, Mark::Semicolon) => true,
+        (Ends::Lower, Mark::Colon) => true,
+        (Ends::Upper, Mark::CloseBracket) => true,
+        (Ends::Parentheses, Mark::Close) => true,
+        _ => false,
+    }
+}
+
+fn is_same(one: Bracket, other: Bracket) -> bool
+    ensures { result ≡ Predict.same_bracket (bracket_of one) (bracket_of other) }
+{
+    match (one, other) {
+        (Bracket::Parenthesis, Bracket::Parenthesis) => true,
+        (Bracket::Square, Bracket::Square) => true,
+        (Bracket::Brace, Bracket::Brace) => true,
+        _ => false,
+    }
+}
+
+/// An opening bracket, with so many open around the run.
+fn opened(
+    around: u32,
+    open: &mut Vec<Bracket>,
+    bracket: Bracket,
+    place: u64,
+) -> Result<bool, SchemaFault>
+    requires around { around ≤ 64 }
+    requires within { length open.old.items ≤ 64 }
+    ensures { (part : Part) → Agrees (Predict.opened depth_limit part around (brackets_of open.old.items) (bracket_of bracket)) part around (brackets_of open.new.items) place result }
+{
+    if around as usize + open.len() >= LEVELS {
+        return Err(fault(Kind::TooDeep, place));
+    }
+    open.push(bracket)?;
+    Ok(false)
+}
+
+/// A mark where none of the run's brackets is open; it closes one, or it doesn't.
+fn outside(
+    part: Ends,
+    some: bool,
+    closes: bool,
+    mark: Mark,
+    place: u64,
+) -> Result<bool, SchemaFault>
+    ensures { (around : _) → Agrees (Predict.next_outside (part_of part) around some closes mark) (part_of part) around [] place result }
+{
+    if ends_run(part, mark) {
+        if some {
+            return Ok(true);
+        }
+        return Err(fault(Kind::Expected, place));
+    }
+    if closes {
+        return Err(fault(Kind::Expected, place));
+    }
+    Ok(false)
+}
+
+/// A closing bracket.
+fn closed(
+    part: Ends,
+    open: &mut Vec<Bracket>,
+    some: bool,
+    bracket: Bracket,
+    mark: Mark,
+    place: u64,
+) -> Result<bool, SchemaFault>
+    ensures { (around : _) → Agrees (Predict.closed (part_of part) around (brackets_of open.old.items) some (bracket_of bracket) mark) (part_of part) around (brackets_of open.new.items) place result }
+{
+    match open.pop() {
+        None => outside(part, some, true, mark, place),
+        Some(last) => {
+            if is_same(bracket, last) {
+                Ok(false)
+            } else {
+                Err(fault(Kind::Expected, place))
+            }
+        }
+    }
+}
+
+/// A mark that is no bracket.
+fn beside(
+    part: Ends,
+    open: &[Bracket],
+    some: bool,
+    mark: Mark,
+    place: u64,
+) -> Result<bool, SchemaFault>
+    ensures { (around : _) → Agrees (Predict.next_mark (part_of part) around (brackets_of open.now) some mark) (part_of part) around (brackets_of open.now) place result }
+{
+    if open.is_empty() {
+        return outside(part, some, false, mark, place);
+    }
+    Ok(false)
+}
+
+/// One token of a run, or what ends it: whether it is ended.
+fn step(
+    part: Ends,
+    around: u32,
+    open: &mut Vec<Bracket>,
+    some: bool,
+    item: Item<'_>,
+) -> Result<bool, SchemaFault>
+    requires around { around ≤ 64 }
+    requires within { length open.old.items ≤ 64 }
+    ensures { Agrees (Predict.next_running depth_limit (part_of part) around (brackets_of open.old.items) some (seen_of item.entry).sight) (part_of part) around (brackets_of open.new.items) item.entry.place result }
+{
+    let place = item.place;
+    let Lexeme::Mark(mark) = item.lexeme else {
+        return Ok(false);
+    };
+    match mark {
+        Mark::Open => opened(around, open, Bracket::Parenthesis, place),
+        Mark::OpenBracket => opened(around, open, Bracket::Square, place),
+        Mark::OpenBrace => opened(around, open, Bracket::Brace, place),
+        Mark::Close => closed(part, open, some, Bracket::Parenthesis, Mark::Close, place),
+        Mark::CloseBracket => closed(part, open, some, Bracket::Square, Mark::CloseBracket, place),
+        Mark::CloseBrace => closed(part, open, some, Bracket::Brace, Mark::CloseBrace, place),
+        _ => beside(part, open, some, mark, place),
+    }
+}
+
+/// Reads a run up to what ends it, and that, behind the tokens that the buffer has already. The next token
+/// is taken; so many brackets and aggregate types are open around the run.
+pub fn gather<'a>(
+    lexer: &mut Lexer<'a>,
+    part: Ends,
+    around: u32,
+    buffer: &mut Buffer<'a>,
+    first: Item<'a>,
+) -> Result<Run<'a>, SchemaFault>
+    requires around { around ≤ 64 }
+    requires begun { (mid : Reading) × IsBegun (part_of part) around buffer.old mid × Shows mid (seen_of first) lexer.old }
+    ensures { MatchResult result
+        (λ r. Gathered (part_of part) around buffer.old buffer.new (seen_of first.entry) (run_of r) lexer.old lexer.new)
+        (λ e. StopsIn e (Running (part_of part) around (brackets_of buffer.old.open.items) (has_some (words_of buffer.old.lexemes.items)) ∷ []) (seen_of first.entry ∷ []) lexer.old) }
+{
+    let mut item = first;
+    loop {
+        let some = !buffer.lexemes.is_empty();
+        if step(part, around, &mut buffer.open, some, item)? {
+            return Ok(run_between(lexer.text(), buffer.from, buffer.to));
+        }
+        buffer.push(item, lexer.place())?;
+        item = take(lexer)?;
+    }
+}

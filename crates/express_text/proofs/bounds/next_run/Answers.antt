@@ -1,9 +1,0 @@
-use Rattle.express_text.specs.Items.{seen_of}
-use Rattle.express_schemas.specs.Views.{run_of}
-use Rattle.express_text.specs.OpenRuns.{part_of}
-use Rattle.express_text.proofs.BoundSteps.{run_of_gather}
-use Rattle.express_text.proofs.bounds.next_run.Goals as goal
-
-pub returns : goal.returns
-returns c =
-    run_of_gather run_of (part_of c.args.part) c.args.around c.clear.new.self c.gather.new.buffer (seen_of c.in_ok-first.first) c.args.lexer.now c.take.new.lexer c.gather.new.lexer c.gather.result c.clear.ensures.empty c.in_ok-first.ensures c.gather.ensures

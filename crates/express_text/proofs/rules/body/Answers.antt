@@ -1,7 +1,0 @@
-use Rattle.express_text.specs.Items.{seen_of}
-use Rattle.express_text.proofs.RuleSteps.{body_done}
-use Rattle.express_text.proofs.rules.body.Goals as goal
-
-pub returns : goal.returns
-returns c =
-    body_done c.gathered_body.result c.clear.new.self (seen_of c.in_ok-first.first) c.args.lexer.now c.take.new.lexer c.gathered_body.new.lexer c.clear.ensures.empty.0 c.clear.ensures.empty.1 c.in_ok-first.ensures c.gathered_body.ensures

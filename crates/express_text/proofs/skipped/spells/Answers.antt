@@ -1,9 +1,0 @@
-use Rattle.std.proofs.Common.{ap, ◌∙◌}
-use Rattle.std.specs.Str.{bytes_eq}
-use Rattle.step_literals.specs.Words.{upper}
-use Rattle.express_text.proofs.SkippedSteps.{spelled}
-use Rattle.express_text.proofs.skipped.spells.Goals as goal
-
-pub returns : goal.returns
-returns c =
-    spelled c.spelling.result.now c.args.wanted.now c.eq_ignore_ascii_case.result c.requires c.eq_ignore_ascii_case.ensures.test ∙ ap (λ r. bytes_eq (upper r.now) c.args.wanted.now) c.spelling.ensures
