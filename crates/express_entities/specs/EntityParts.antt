@@ -2,17 +2,17 @@
 use Rattle.std.specs.Prelude.{◌≡◌, Bool, true, List, [], ◌∷◌, ◌++◌, map, Option, None, Some}
 use Rattle.express_lexis.specs.declared.marks.Mark.TheVariants as marks
 use Rattle.express_lexis.specs.Reading.{Reading}
-use Rattle.express_expressions.specs.declared.keyword.Keyword.{Keyword}
-use Rattle.express_expressions.specs.declared.keyword.Keyword.TheVariants as keywords
-use Rattle.express_expressions.specs.Words.{Word, keyword, mark}
-use Rattle.express_expressions.specs.Grammar.{depth_limit}
+use Rattle.express_trees.specs.declared.keyword.Keyword.{Keyword}
+use Rattle.express_trees.specs.declared.keyword.Keyword.TheVariants as keywords
+use Rattle.express_trees.specs.Words.{Word, keyword, mark}
+use Rattle.express_trees.specs.Grammar.{depth_limit}
 use Rattle.express_entities.specs.declared.entities.Head.{Head}
 use Rattle.express_entities.specs.declared.clauses.Boundary.{Boundary}
 use Rattle.express_entities.specs.declared.clauses.Boundary.TheVariants as boundaries
 use Rattle.express_entities.specs.declared.clauses.Clause as code
 use Rattle.express_entities.specs.declared.clauses.Clause.TheVariants as clauses
-use Rattle.express_entities.specs.declared.clauses.Front.{Front}
-use Rattle.express_entities.specs.declared.clauses.Front.TheVariants as fronts
+use Rattle.express_entities.specs.declared.clauses.ClauseStart.{ClauseStart}
+use Rattle.express_entities.specs.declared.clauses.ClauseStart.TheVariants as starts
 use Rattle.express_entities.specs.declared.clauses.Clauses.{Clauses}
 use Rattle.express_schemas.specs.Schemas.{Attribute, own, redeclared}
 use Rattle.express_schemas.specs.Views.{if_some, names_of, supertype_of, attribute_of, explicit_of, derived_of, inverse_of, unique_of, rules_of}
@@ -27,11 +27,13 @@ pub record FitsHead (h : Head) : Type 0 where
 
 -- what a head says of supertypes and subtypes, and the semicolon
 abbrev pub words_of_types : Head → List Word
-words_of_types h = words_of_supertype (supertype_of h.supertype) ++ words_of_subtype (if_some (λ names. names_of names.items) h.subtype_of) ++ mark marks.Semicolon ∷ []
+words_of_types h = words_of_supertype (supertype_of h.supertype)
+    ++ words_of_subtype (if_some (λ names. names_of names.items) h.subtype_of) ++ mark marks.Semicolon ∷ []
 
 -- .. and whether it is abstract
 abbrev pub words_of_beginning : Head → List Word
-words_of_beginning h = said keywords.Abstract h.is_abstract ++ words_of_supertype (supertype_of h.supertype) ++ words_of_subtype (if_some (λ names. names_of names.items) h.subtype_of) ++ mark marks.Semicolon ∷ []
+words_of_beginning h = said keywords.Abstract h.is_abstract ++ words_of_supertype (supertype_of h.supertype)
+    ++ words_of_subtype (if_some (λ names. names_of names.items) h.subtype_of) ++ mark marks.Semicolon ∷ []
 
 abbrev pub clause_of : code.Clause → Clause
 clause_of clauses.Explicits = explicits
@@ -76,23 +78,28 @@ behind_first c (own n) = behind_name c
 behind_first c (redeclared e n) = behind_attribute c
 
 -- what stands next in the clause passes
-abbrev pub Begins : Clause → Front → Reading → Reading → Type 0
-Begins c (fronts.Attribute a) old new = Passes (Body c ∷ []) (behind_first c (attribute_of a) ++ Body c ∷ []) [] (words_of_attribute (attribute_of a)) old new
-Begins c (fronts.Boundary b) old new = (may_end c b ≡ true) × Passes (Body c ∷ []) (symbols_behind b) [] (keyword (keyword_of b) ∷ []) old new
+abbrev pub Begins : Clause → ClauseStart → Reading → Reading → Type 0
+Begins c (starts.Attribute a) old new = Passes (Body c ∷ []) (behind_first c (attribute_of a) ++ Body c ∷ []) []
+    (words_of_attribute (attribute_of a)) old new
+Begins c (starts.Boundary b) old new = (may_end c b ≡ true) × Passes (Body c ∷ []) (symbols_behind b) []
+    (keyword (keyword_of b) ∷ []) old new
 
 -- these items of the clause stand, and fit
-pub record Stand {A : Type 0} (c : Clause) (Fit : A → Type 0) (write : A → List Word) (xs : List A) (old new : Reading) : Type 0 where
+pub record Stand {A : Type 0} (c : Clause) (Fit : A → Type 0) (write : A → List Word) (xs : List A)
+    (old new : Reading) : Type 0 where
   pub fits : Every Fit xs
   pub passes : Passes (Body c ∷ []) (Body c ∷ []) [] (joined (map write xs)) old new
 
 -- .. up to this keyword
-pub record Ended {A : Type 0} (c : Clause) (Fit : A → Type 0) (write : A → List Word) (xs : List A) (b : Boundary) (old new : Reading) : Type 0 where
+pub record Ended {A : Type 0} (c : Clause) (Fit : A → Type 0) (write : A → List Word) (xs : List A) (b : Boundary)
+    (old new : Reading) : Type 0 where
   pub fits : Every Fit xs
   pub ends : may_end c b ≡ true
   pub passes : Passes (Body c ∷ []) (symbols_behind b) [] (joined (map write xs) ++ keyword (keyword_of b) ∷ []) old new
 
 -- a clause that may be absent stands behind a keyword, which is its own where it isn't, up to another
-pub record Clausal {A : Type 0} (c : Clause) (k : Keyword) (Fit : A → Type 0) (write : A → List Word) (xs : Option (List A)) (from to : Boundary) (old new : Reading) : Type 0 where
+pub record Clausal {A : Type 0} (c : Clause) (k : Keyword) (Fit : A → Type 0) (write : A → List Word)
+    (xs : Option (List A)) (from to : Boundary) (old new : Reading) : Type 0 where
   pub fits : Maybe (Every Fit) xs
   pub ends : may_end c to ≡ true
   pub behind : List Word
@@ -108,6 +115,9 @@ pub record FitsClauses (x : Clauses) : Type 0 where
 
 abbrev pub words_of_clauses : Clauses → List Word
 words_of_clauses x =
-    joined (map words_of_explicit (map explicit_of x.explicits.items)) ++ words_of_clause keywords.Derive words_of_derived (if_some (λ list. map derived_of list.items) x.derived)
-    ++ words_of_clause keywords.Inverse words_of_inverse (if_some (λ list. map inverse_of list.items) x.inverses) ++ words_of_clause keywords.Unique words_of_unique (if_some (λ us. map unique_of us.items) x.uniques)
-    ++ words_of_clause keywords.Where words_of_rule (if_some (λ rs. rules_of rs.items) x.rules) ++ keyword keywords.EndEntity ∷ mark marks.Semicolon ∷ []
+    joined (map words_of_explicit (map explicit_of x.explicits.items)) ++ words_of_clause keywords.Derive
+    words_of_derived (if_some (λ list. map derived_of list.items) x.derived)
+    ++ words_of_clause keywords.Inverse words_of_inverse (if_some (λ list. map inverse_of list.items) x.inverses)
+    ++ words_of_clause keywords.Unique words_of_unique (if_some (λ us. map unique_of us.items) x.uniques)
+    ++ words_of_clause keywords.Where words_of_rule (if_some (λ rs. rules_of rs.items) x.rules)
+    ++ keyword keywords.EndEntity ∷ mark marks.Semicolon ∷ []

@@ -2,60 +2,99 @@
 
 ghost use Rattle.std.specs.Prelude.{◌≡◌, false, [], ◌∷◌, ◌++◌, List, map, MatchResult};
 ghost use Rattle.express_lexis.specs.declared.marks.Mark.TheVariants as marks;
-ghost use Rattle.express_expressions.specs.declared.keyword.Keyword.TheVariants as keywords;
-ghost use Rattle.express_expressions.specs.Words;
-ghost use Rattle.express_expressions.specs.Words.{keyword, name, mark};
-ghost use Rattle.express_expressions.specs.Views.{capitals};
-ghost use Rattle.express_expressions.specs.Grammar.{depth_limit};
-ghost use Rattle.express_runs.specs.Items.{seen_of};
-ghost use Rattle.express_schemas.specs.Views.{if_some, kind_of, attribute_of, explicit_of, derived_of, collection_of, inverse_of, unique_of};
-ghost use Rattle.express_schemas.specs.Written.{said, with_commas, words_of_kind, words_of_attribute, words_of_explicit, words_of_derived, words_of_collection, words_of_holder, words_of_inverse, words_of_unique};
-ghost use Rattle.express_schemas.specs.Profile.{IsFilled, FitsKind, FitsExplicit, FitsDerived, FitsCollection, FitsInverse, FitsUnique};
-ghost use Rattle.express_schemas.specs.Predict.{Symbol, derived, inverses, AnAttribute, Explicits, OptionalKind, Inverted, Holder, Uniques, UniqueNamed, redeclared_symbols, behind_attribute, is_mark};
-ghost use Rattle.express_schemas.specs.Steps.{Passes, StopsIn};
+ghost use Rattle.express_trees.specs.declared.keyword.Keyword.TheVariants as keywords;
+ghost use Rattle.express_trees.specs.Words;
+ghost use Rattle.express_trees.specs.Words.{keyword, name, mark};
+ghost use Rattle.express_trees.specs.Views.{capitals};
+ghost use Rattle.express_trees.specs.Grammar.{depth_limit};
+ghost use Rattle.express_runs.specs.Items.{located_of};
+ghost use Rattle.express_schemas.specs.Views.{
+  if_some,
+  data_type_of,
+  attribute_of,
+  explicit_of,
+  derived_of,
+  collection_of,
+  inverse_of,
+  unique_of,
+};
+ghost use Rattle.express_schemas.specs.Written.{
+  said,
+  with_commas,
+  words_of_data_type,
+  words_of_attribute,
+  words_of_explicit,
+  words_of_derived,
+  words_of_collection,
+  words_of_holder,
+  words_of_inverse,
+  words_of_unique,
+};
+ghost use Rattle.express_schemas.specs.Profile.{
+  IsFilled,
+  FitsDataType,
+  FitsExplicit,
+  FitsDerived,
+  FitsCollection,
+  FitsInverse,
+  FitsUnique,
+};
+ghost use Rattle.express_schemas.specs.Predict.{
+  Symbol,
+  derived,
+  inverses,
+  AnAttribute,
+  Explicits,
+  OptionalDataType,
+  Inverted,
+  Holder,
+  Uniques,
+  UniqueNamed,
+  redeclared_symbols,
+  behind_attribute,
+  is_mark,
+};
+ghost use Rattle.express_schemas.specs.Steps.{Passes, Parses, ParsesWhere, ParsesBehind, StopsIn};
 ghost use Rattle.express_entities.specs.Lists.{IsListed, ListsOn, UniqueOn};
 
-use express_expressions::keyword::Keyword;
-use express_expressions::lexeme::Lexeme;
-use express_lexis::lexer::Lexer;
 use express_lexis::literal::Word;
 use express_lexis::marks::Mark;
 use express_parts::bounds::some_bounds;
-use express_parts::kinds::{Ending, kind, kind_from};
+use express_parts::data_types::{Ending, data_type, data_type_from};
 use express_parts::rules::body;
-use express_runs::runs::Buffer;
-use express_runs::tokens::{
-    Item, expect, expect_keyword, expect_name, is_keyword, is_mark, refuse, take,
-};
+use express_runs::reader::Reader;
+use express_runs::tokens::{Item, is_keyword, is_mark, refuse};
 use express_schemas::fault::SchemaFault;
-use express_schemas::tree::{Attribute, Collection, Derived, Explicit, Inverse, Kind, Unique};
-use std::alloc::Global;
+use express_schemas::tree::{Attribute, Collection, DataType, Derived, Explicit, Inverse, Unique};
+use express_trees::keyword::Keyword;
+use express_trees::lexeme::Lexeme;
 
 /// Reads the attribute that is redeclared, behind SELF.
-pub fn redeclared<'a>(lexer: &mut Lexer<'a>) -> Result<Attribute<'a>, SchemaFault>
+pub fn redeclared<'a>(reader: &mut Reader<'a>) -> Result<Attribute<'a>, SchemaFault>
     ensures { MatchResult result
-        (λ a. (ws : List Words.Word) × (words_of_attribute (attribute_of a) ≡ keyword keywords.Own ∷ ws) × Passes redeclared_symbols [] [] ws lexer.old lexer.new)
-        (λ e. StopsIn e redeclared_symbols [] lexer.old) }
+        (λ a. (ws : List Words.Word)
+        × (words_of_attribute (attribute_of a) ≡ keyword keywords.SelfWord ∷ ws)
+        × Passes redeclared_symbols [] [] ws reader.old reader.new)
+        (λ e. StopsIn e redeclared_symbols [] reader.old) }
 {
-    expect(lexer, Mark::Backslash)?;
-    let entity = expect_name(lexer)?;
-    expect(lexer, Mark::Dot)?;
-    let name = expect_name(lexer)?;
+    reader.expect(Mark::Backslash)?;
+    let entity = reader.expect_name()?;
+    reader.expect(Mark::Dot)?;
+    let name = reader.expect_name()?;
     Ok(Attribute::Redeclared(entity, name))
 }
 
 /// Reads an attribute.
-pub fn attribute<'a>(lexer: &mut Lexer<'a>) -> Result<Attribute<'a>, SchemaFault>
-    ensures { MatchResult result
-        (λ a. Passes (AnAttribute ∷ []) [] [] (words_of_attribute (attribute_of a)) lexer.old lexer.new)
-        (λ e. StopsIn e (AnAttribute ∷ []) [] lexer.old) }
+pub fn attribute<'a>(reader: &mut Reader<'a>) -> Result<Attribute<'a>, SchemaFault>
+    ensures { Parses result (AnAttribute ∷ [])
+        (λ a. words_of_attribute (attribute_of a)) reader.old reader.new }
 {
-    let item = take(lexer)?;
-    if is_keyword(item, Keyword::Own) {
-        return redeclared(lexer);
+    let item = reader.take()?;
+    if is_keyword(item, Keyword::SelfWord) {
+        return redeclared(reader);
     }
     match item.lexeme {
-        Lexeme::Name(name) => Ok(Attribute::Own(name)),
+        Lexeme::Name(name) => Ok(Attribute::Unqualified(name)),
         _ => Err(refuse(item)),
     }
 }
@@ -63,16 +102,17 @@ pub fn attribute<'a>(lexer: &mut Lexer<'a>) -> Result<Attribute<'a>, SchemaFault
 /// Reads the attributes behind the first, each behind a comma. `next` is the token behind the first; the
 /// token behind the last is answered too.
 fn attributes<'a>(
-    alloc: Global,
-    lexer: &mut Lexer<'a>,
+    reader: &mut Reader<'a>,
     first: Attribute<'a>,
     next: Item<'a>,
 ) -> Result<(Vec<Attribute<'a>>, Item<'a>), SchemaFault>
     ensures { (y : Symbol) → IsListed y → MatchResult result
-        (λ p. ListsOn y (attribute_of first.entry) (seen_of next.entry) lexer.old (map attribute_of p.0.items) (seen_of p.1) lexer.new × (is_mark marks.Comma (seen_of p.1).sight ≡ false))
-        (λ e. StopsIn e (y ∷ []) (seen_of next.entry ∷ []) lexer.old) }
+        (λ p. ListsOn y (attribute_of first.entry) (located_of next.entry) reader.old
+        (map attribute_of p.0.items) (located_of p.1) reader.new
+        × (is_mark marks.Comma (located_of p.1).lookahead ≡ false))
+        (λ e. StopsIn e (y ∷ []) (located_of next.entry ∷ []) reader.old) }
 {
-    let mut list = Vec::new(alloc);
+    let mut list = Vec::new(reader.alloc());
     list.push(first)?;
     let mut item = next;
     loop {
@@ -80,94 +120,85 @@ fn attributes<'a>(
             list.shrink_to_fit();
             return Ok((list, item));
         }
-        let other = attribute(lexer)?;
+        let other = attribute(reader)?;
         list.push(other)?;
-        item = take(lexer)?;
+        item = reader.take()?;
     }
 }
 
-/// Reads a kind, and whether OPTIONAL stands before it.
-fn optional_kind<'a>(
-    alloc: Global,
-    lexer: &mut Lexer<'a>,
-    buffer: &mut Buffer<'a>,
-) -> Result<(bool, Kind<'a>), SchemaFault>
-    ensures { MatchResult result
-        (λ p. FitsKind depth_limit 0 (kind_of p.1) × Passes (OptionalKind ∷ []) [] [] (said keywords.Optional p.0 ++ words_of_kind (kind_of p.1) ++ mark marks.Semicolon ∷ []) lexer.old lexer.new)
-        (λ e. StopsIn e (OptionalKind ∷ []) [] lexer.old) }
+/// Reads a data type, and whether OPTIONAL stands before it.
+fn optional_data_type<'a>(reader: &mut Reader<'a>) -> Result<(bool, DataType<'a>), SchemaFault>
+    ensures { ParsesWhere result (OptionalDataType ∷ [])
+        (λ p. said keywords.Optional p.0 ++ words_of_data_type (data_type_of p.1)
+        ++ mark marks.Semicolon ∷ [])
+        (λ p. FitsDataType depth_limit 0 (data_type_of p.1)) reader.old reader.new }
 {
-    let item = take(lexer)?;
+    let item = reader.take()?;
     if is_keyword(item, Keyword::Optional) {
-        let kind = kind(alloc, lexer, 0, Ending::Semicolon, buffer)?;
-        return Ok((true, kind));
+        let data_type = data_type(reader, 0, Ending::Semicolon)?;
+        return Ok((true, data_type));
     }
-    let kind = kind_from(alloc, lexer, item, 0, Ending::Semicolon, buffer)?;
-    Ok((false, kind))
+    let data_type = data_type_from(reader, item, 0, Ending::Semicolon)?;
+    Ok((false, data_type))
 }
 
 /// Reads explicit attributes behind the first of them.
 pub fn explicit<'a>(
-    alloc: Global,
-    lexer: &mut Lexer<'a>,
+    reader: &mut Reader<'a>,
     first: Attribute<'a>,
-    buffer: &mut Buffer<'a>,
 ) -> Result<Explicit<'a>, SchemaFault>
-    ensures { MatchResult result
-        (λ x. FitsExplicit depth_limit (explicit_of x) × (ws : List Words.Word) × (words_of_explicit (explicit_of x) ≡ words_of_attribute (attribute_of first.entry) ++ ws) × Passes (Explicits ∷ []) [] [] ws lexer.old lexer.new)
-        (λ e. StopsIn e (Explicits ∷ []) [] lexer.old) }
+    ensures { ParsesBehind (words_of_attribute (attribute_of first.entry)) result (Explicits ∷ [])
+        (λ x. words_of_explicit (explicit_of x))
+        (λ x. FitsExplicit depth_limit (explicit_of x)) reader.old reader.new }
 {
-    let next = take(lexer)?;
-    let (attributes, end) = attributes(alloc, lexer, first, next)?;
+    let next = reader.take()?;
+    let (attributes, end) = attributes(reader, first, next)?;
     if !is_mark(end, Mark::Colon) {
         return Err(refuse(end));
     }
-    let (is_optional, kind) = optional_kind(alloc, lexer, buffer)?;
+    let (is_optional, data_type) = optional_data_type(reader)?;
     Ok(Explicit {
         attributes,
         is_optional,
-        kind,
+        data_type,
     })
 }
 
 /// Reads a derived attribute behind its name.
 pub fn derived<'a>(
-    alloc: Global,
-    lexer: &mut Lexer<'a>,
+    reader: &mut Reader<'a>,
     attribute: Attribute<'a>,
-    buffer: &mut Buffer<'a>,
 ) -> Result<Derived<'a>, SchemaFault>
-    ensures { MatchResult result
-        (λ x. FitsDerived depth_limit (derived_of x) × (ws : List Words.Word) × (words_of_derived (derived_of x) ≡ words_of_attribute (attribute_of attribute.entry) ++ ws) × Passes (behind_attribute derived) [] [] ws lexer.old lexer.new)
-        (λ e. StopsIn e (behind_attribute derived) [] lexer.old) }
+    ensures { ParsesBehind (words_of_attribute (attribute_of attribute.entry)) result
+        (behind_attribute derived)
+        (λ x. words_of_derived (derived_of x))
+        (λ x. FitsDerived depth_limit (derived_of x)) reader.old reader.new }
 {
-    expect(lexer, Mark::Colon)?;
-    let kind = kind(alloc, lexer, 0, Ending::Assignment, buffer)?;
-    let body = body(alloc, lexer, buffer)?;
+    reader.expect(Mark::Colon)?;
+    let data_type = data_type(reader, 0, Ending::Assignment)?;
+    let body = body(reader)?;
     Ok(Derived {
         attribute,
-        kind,
+        data_type,
         body,
     })
 }
 
 /// Reads the collection of an inverse attribute, and the entity.
-fn collection<'a>(
-    lexer: &mut Lexer<'a>,
-    buffer: &mut Buffer<'a>,
-) -> Result<(Collection<'a>, Word<'a>), SchemaFault>
-    ensures { MatchResult result
-        (λ p. FitsCollection depth_limit (collection_of p.0) × Passes (Inverted ∷ []) [] [] (words_of_collection (collection_of p.0) ++ name (capitals p.1) ∷ []) lexer.old lexer.new)
-        (λ e. StopsIn e (Inverted ∷ []) [] lexer.old) }
+fn collection<'a>(reader: &mut Reader<'a>) -> Result<(Collection<'a>, Word<'a>), SchemaFault>
+    ensures { ParsesWhere result (Inverted ∷ [])
+        (λ p. words_of_collection (collection_of p.0) ++ name (capitals p.1) ∷ [])
+        (λ p. FitsCollection depth_limit (collection_of p.0)) reader.old reader.new }
 {
-    let item = take(lexer)?;
+    let item = reader.take()?;
     if is_keyword(item, Keyword::Set) {
-        let bounds = some_bounds(lexer, 0, buffer)?;
-        let entity = expect_name(lexer)?;
+        let bounds = some_bounds(reader, 0)?;
+        let entity = reader.expect_name()?;
         return Ok((Collection::Set(bounds), entity));
     }
     if is_keyword(item, Keyword::Bag) {
-        let bounds = some_bounds(lexer, 0, buffer)?;
-        let entity = expect_name(lexer)?;
+        let bounds = some_bounds(reader, 0)?;
+        let entity = reader.expect_name()?;
         return Ok((Collection::Bag(bounds), entity));
     }
     match item.lexeme {
@@ -179,40 +210,43 @@ fn collection<'a>(
 /// Reads the rest of an inverse attribute behind the first name that follows FOR: the entity that declares the
 /// attribute that is inverted, or this attribute.
 fn holder<'a>(
-    lexer: &mut Lexer<'a>,
+    reader: &mut Reader<'a>,
     first: Word<'a>,
 ) -> Result<(Option<Word<'a>>, Word<'a>), SchemaFault>
     ensures { MatchResult result
-        (λ p. (ws : List Words.Word) × (words_of_holder (if_some capitals p.0) ++ name (capitals p.1) ∷ mark marks.Semicolon ∷ [] ≡ name (capitals first.entry) ∷ ws) × Passes (Holder ∷ []) [] [] ws lexer.old lexer.new)
-        (λ e. StopsIn e (Holder ∷ []) [] lexer.old) }
+        (λ p. (ws : List Words.Word)
+        × (words_of_holder (if_some capitals p.0)
+        ++ name (capitals p.1) ∷ mark marks.Semicolon ∷ [] ≡ name (capitals first.entry) ∷ ws)
+        × Passes (Holder ∷ []) [] [] ws reader.old reader.new)
+        (λ e. StopsIn e (Holder ∷ []) [] reader.old) }
 {
-    let item = take(lexer)?;
+    let item = reader.take()?;
     if is_mark(item, Mark::Semicolon) {
         return Ok((None, first));
     }
     if !is_mark(item, Mark::Dot) {
         return Err(refuse(item));
     }
-    let inverted = expect_name(lexer)?;
-    expect(lexer, Mark::Semicolon)?;
+    let inverted = reader.expect_name()?;
+    reader.expect(Mark::Semicolon)?;
     Ok((Some(first), inverted))
 }
 
 /// Reads an inverse attribute behind its name.
 pub fn inverse<'a>(
-    lexer: &mut Lexer<'a>,
+    reader: &mut Reader<'a>,
     attribute: Attribute<'a>,
-    buffer: &mut Buffer<'a>,
 ) -> Result<Inverse<'a>, SchemaFault>
-    ensures { MatchResult result
-        (λ x. FitsInverse depth_limit (inverse_of x) × (ws : List Words.Word) × (words_of_inverse (inverse_of x) ≡ words_of_attribute (attribute_of attribute.entry) ++ ws) × Passes (behind_attribute inverses) [] [] ws lexer.old lexer.new)
-        (λ e. StopsIn e (behind_attribute inverses) [] lexer.old) }
+    ensures { ParsesBehind (words_of_attribute (attribute_of attribute.entry)) result
+        (behind_attribute inverses)
+        (λ x. words_of_inverse (inverse_of x))
+        (λ x. FitsInverse depth_limit (inverse_of x)) reader.old reader.new }
 {
-    expect(lexer, Mark::Colon)?;
-    let (collection, entity) = collection(lexer, buffer)?;
-    expect_keyword(lexer, Keyword::For)?;
-    let first = expect_name(lexer)?;
-    let (holder, inverted) = holder(lexer, first)?;
+    reader.expect(Mark::Colon)?;
+    let (collection, entity) = collection(reader)?;
+    reader.expect_keyword(Keyword::For)?;
+    let first = reader.expect_name()?;
+    let (holder, inverted) = holder(reader, first)?;
     Ok(Inverse {
         attribute,
         collection,
@@ -225,16 +259,16 @@ pub fn inverse<'a>(
 /// Reads the attributes of a uniqueness rule behind the first, and the semicolon. `next` is the token behind the
 /// first.
 fn attributes_of_unique<'a>(
-    alloc: Global,
-    lexer: &mut Lexer<'a>,
+    reader: &mut Reader<'a>,
     first: Attribute<'a>,
     next: Item<'a>,
 ) -> Result<Vec<Attribute<'a>>, SchemaFault>
     ensures { MatchResult result
-        (λ l. UniqueOn (attribute_of first.entry) (seen_of next.entry) lexer.old (map attribute_of l.items) lexer.new)
-        (λ e. StopsIn e (Uniques ∷ []) (seen_of next.entry ∷ []) lexer.old) }
+        (λ l. UniqueOn (attribute_of first.entry) (located_of next.entry) reader.old
+        (map attribute_of l.items) reader.new)
+        (λ e. StopsIn e (Uniques ∷ []) (located_of next.entry ∷ []) reader.old) }
 {
-    let (attributes, end) = attributes(alloc, lexer, first, next)?;
+    let (attributes, end) = attributes(reader, first, next)?;
     if !is_mark(end, Mark::Semicolon) {
         return Err(refuse(end));
     }
@@ -243,29 +277,25 @@ fn attributes_of_unique<'a>(
 
 /// Reads the attributes of a uniqueness rule behind the first, and the semicolon.
 fn unique_attributes<'a>(
-    alloc: Global,
-    lexer: &mut Lexer<'a>,
+    reader: &mut Reader<'a>,
     first: Attribute<'a>,
 ) -> Result<Vec<Attribute<'a>>, SchemaFault>
-    ensures { MatchResult result
-        (λ l. IsFilled (map attribute_of l.items) × (ws : List Words.Word) × (with_commas (map words_of_attribute (map attribute_of l.items)) ++ mark marks.Semicolon ∷ [] ≡ words_of_attribute (attribute_of first.entry) ++ ws) × Passes (Uniques ∷ []) [] [] ws lexer.old lexer.new)
-        (λ e. StopsIn e (Uniques ∷ []) [] lexer.old) }
+    ensures { ParsesBehind (words_of_attribute (attribute_of first.entry)) result (Uniques ∷ [])
+        (λ l. with_commas (map words_of_attribute (map attribute_of l.items))
+        ++ mark marks.Semicolon ∷ [])
+        (λ l. IsFilled (map attribute_of l.items)) reader.old reader.new }
 {
-    let next = take(lexer)?;
-    attributes_of_unique(alloc, lexer, first, next)
+    let next = reader.take()?;
+    attributes_of_unique(reader, first, next)
 }
 
 /// Reads a uniqueness rule without a label behind its first attribute.
-pub fn unique<'a>(
-    alloc: Global,
-    lexer: &mut Lexer<'a>,
-    first: Attribute<'a>,
-) -> Result<Unique<'a>, SchemaFault>
-    ensures { MatchResult result
-        (λ x. FitsUnique (unique_of x) × (ws : List Words.Word) × (words_of_unique (unique_of x) ≡ words_of_attribute (attribute_of first.entry) ++ ws) × Passes (Uniques ∷ []) [] [] ws lexer.old lexer.new)
-        (λ e. StopsIn e (Uniques ∷ []) [] lexer.old) }
+pub fn unique<'a>(reader: &mut Reader<'a>, first: Attribute<'a>) -> Result<Unique<'a>, SchemaFault>
+    ensures { ParsesBehind (words_of_attribute (attribute_of first.entry)) result (Uniques ∷ [])
+        (λ x. words_of_unique (unique_of x))
+        (λ x. FitsUnique (unique_of x)) reader.old reader.new }
 {
-    let attributes = unique_attributes(alloc, lexer, first)?;
+    let attributes = unique_attributes(reader, first)?;
     Ok(Unique {
         label: None,
         attributes,
@@ -273,25 +303,21 @@ pub fn unique<'a>(
 }
 
 /// Reads a uniqueness rule behind the name with which it begins: its label, or its first attribute.
-pub fn unique_named<'a>(
-    alloc: Global,
-    lexer: &mut Lexer<'a>,
-    first: Word<'a>,
-) -> Result<Unique<'a>, SchemaFault>
-    ensures { MatchResult result
-        (λ x. FitsUnique (unique_of x) × (ws : List Words.Word) × (words_of_unique (unique_of x) ≡ name (capitals first.entry) ∷ ws) × Passes (UniqueNamed ∷ []) [] [] ws lexer.old lexer.new)
-        (λ e. StopsIn e (UniqueNamed ∷ []) [] lexer.old) }
+pub fn unique_named<'a>(reader: &mut Reader<'a>, first: Word<'a>) -> Result<Unique<'a>, SchemaFault>
+    ensures { ParsesBehind (name (capitals first.entry) ∷ []) result (UniqueNamed ∷ [])
+        (λ x. words_of_unique (unique_of x))
+        (λ x. FitsUnique (unique_of x)) reader.old reader.new }
 {
-    let next = take(lexer)?;
+    let next = reader.take()?;
     if is_mark(next, Mark::Colon) {
-        let attribute = attribute(lexer)?;
-        let attributes = unique_attributes(alloc, lexer, attribute)?;
+        let attribute = attribute(reader)?;
+        let attributes = unique_attributes(reader, attribute)?;
         return Ok(Unique {
             label: Some(first),
             attributes,
         });
     }
-    let attributes = attributes_of_unique(alloc, lexer, Attribute::Own(first), next)?;
+    let attributes = attributes_of_unique(reader, Attribute::Unqualified(first), next)?;
     Ok(Unique {
         label: None,
         attributes,

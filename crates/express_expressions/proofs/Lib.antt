@@ -1,16 +1,5 @@
 pub mod ViewLemmas
-pub mod KeywordLemmas
 pub mod Levels
 pub mod Chains
 pub mod Primaries
-pub mod Standing
-pub mod Parser
-pub mod Stopping
-pub mod Ranks
-pub mod Parsed
-pub mod Unique
-pub mod Building
-pub mod Inversion
-pub mod Capitals
-pub mod Nothing
-pub mod Examples
+pub mod Readings

@@ -1,20 +1,20 @@
 -- Primaries by their first word.
 use Rattle.std.proofs.Common.{◌≡◌, ℕ, ◌+◌, ◌<◌, ◌≤◌, inl, inr, List, [], ◌∷◌, ◌++◌, None, Some, refl, sym, ap, ◌∙◌, subst, append_assoc, arith}
 use Rattle.express_lexis.specs.declared.marks.Mark.TheVariants as marks
-use Rattle.express_expressions.specs.declared.keyword.Keyword.TheVariants as keywords
-use Rattle.express_expressions.specs.declared.tree.Logical.TheVariants as logicals
-use Rattle.express_expressions.specs.declared.tree.Limit.{Limit}
-use Rattle.express_expressions.specs.declared.tree.Sign.{Sign}
-use Rattle.express_expressions.specs.declared.tree.Sign.TheVariants as signs
-use Rattle.express_expressions.specs.declared.tree.Function.{Function}
-use Rattle.express_expressions.specs.declared.tree.Function.TheVariants as functions
-use Rattle.express_expressions.specs.Words.{Word, keyword, name, mark}
-use Rattle.express_expressions.specs.Trees.{Number, whole, decimal, Literal, number, text, codes_of_text, bits, constant, indeterminate, Root, own, named, Tree, literal, signed, reference, parenthesized, aggregate, interval, query, call, nvl, negation, conjunction, disjunction, comparison, Trees, Qualifiers, words, words_of_trees, words_of_qualifiers, word_of_number, word_of_sign, word_of_literal, word_of_limit, word_of_function, word_of_root}
-use Rattle.express_expressions.specs.Grammar.{Level, primary, unary, simple, expression, depth_limit, Fits}
-use Rattle.express_expressions.specs.Reads.{Stops, Stands, StandsNone}
+use Rattle.express_trees.specs.declared.keyword.Keyword.TheVariants as keywords
+use Rattle.express_trees.specs.declared.tree.Logical.TheVariants as logicals
+use Rattle.express_trees.specs.declared.tree.Limit.{Limit}
+use Rattle.express_trees.specs.declared.tree.Sign.{Sign}
+use Rattle.express_trees.specs.declared.tree.Sign.TheVariants as signs
+use Rattle.express_trees.specs.declared.tree.Function.{Function}
+use Rattle.express_trees.specs.declared.tree.Function.TheVariants as functions
+use Rattle.express_trees.specs.Words.{Word, keyword, name, mark}
+use Rattle.express_trees.specs.Trees.{Number, whole, decimal, Literal, number, text, codes_of_text, bits, constant, indeterminate, Root, own, named, Tree, literal, signed, reference, parenthesized, aggregate, interval, query, call, nvl, negation, conjunction, disjunction, comparison, Trees, Qualifiers, words, words_of_trees, words_of_qualifiers, word_of_number, word_of_sign, word_of_literal, word_of_limit, word_of_function, word_of_root}
+use Rattle.express_trees.specs.Grammar.{Level, primary, unary, simple, expression, depth_limit, Fits}
+use Rattle.express_trees.specs.Reads.{Stops, Stands, StandsNone}
 use Rattle.express_expressions.specs.Pieces.{Lacks, Before, BeforeNone, BoundNone, Elements, ElementsNone, Selects, SelectsNone, VariableNone, Beginning, value, parenthesis, bracket, brace, querying, calling, either, referring, beginning_word, beginning_of, NoBeginning, Heads}
-use Rattle.express_expressions.proofs.Stopping.{stops_primary, limit_behind}
-use Rattle.express_expressions.proofs.Unique.{one_elements, one_qualifiers}
+use Rattle.express_trees.proofs.Stopping.{stops_primary, limit_behind}
+use Rattle.express_trees.proofs.Unique.{one_elements, one_qualifiers}
 use Rattle.express_expressions.proofs.Levels.{stands_same, stands_along, stands_behind, primary_stops, unary_parts}
 use Rattle.express_expressions.proofs.Chains.{before_same, before_along}
 
@@ -77,13 +77,26 @@ record Shaped (n : ℕ) (ws rest : List Word) : Type 0 where
   shape : Shape n beginning more rest
 
 -- a tree, a word that ends it, and more behind it
-enclosed : (n : ℕ) (l : Level) (x : Tree) (w : Word) (more rest : List Word) → n < depth_limit → Fits (n + 1) l x → Stops l (w ∷ more) → Before n l w (words x ++ w ∷ more) x more
+enclosed : (n : ℕ) (l : Level) (x : Tree) (w : Word) (more rest : List Word) → n < depth_limit → Fits (n + 1) l x
+    → Stops l (w ∷ more) → Before n l w (words x ++ w ∷ more) x more
 enclosed n l x w more rest d f s = record { shallow = d; stands = record { fits = f; spelled = refl; whole = s } }
 
 shaped : (n : ℕ) (ws : List Word) (y : Tree) (rest : List Word) → Stands n primary ws y rest → Shaped n ws rest
 shaped n ws (literal v) rest h = record { beginning = value v; more = rest; begun = h.spelled; shape = refl }
 shaped n ws (signed s v) rest h = absurd (omega (arith, h.fits))
-shaped n ws (reference r qs) rest h = record { beginning = referring r; more = words_of_qualifiers qs ++ rest; begun = h.spelled; shape = (qs, record { fits = h.fits; spelled = refl; whole = h.whole }) }
+shaped n ws (reference r qs) rest h = record {
+  beginning = referring r;
+  more = words_of_qualifiers qs ++ rest;
+  begun = h.spelled;
+  shape = (
+    qs,
+    record {
+      fits = h.fits;
+      spelled = refl;
+      whole = h.whole;
+    },
+  );
+}
 shaped n ws (parenthesized x) rest h = record {
   beginning = parenthesis;
   more = words x ++ mark marks.Close ∷ rest;
@@ -93,12 +106,14 @@ shaped n ws (parenthesized x) rest h = record {
 shaped n ws (aggregate xs) rest h = record {
   beginning = bracket;
   more = words_of_trees xs ++ mark marks.CloseBracket ∷ rest;
-  begun = h.spelled ∙ ap (λ t. mark marks.OpenBracket ∷ t) (append_assoc (words_of_trees xs) (mark marks.CloseBracket ∷ []) rest);
+  begun = h.spelled ∙ ap (λ t. mark marks.OpenBracket ∷ t) (append_assoc (words_of_trees xs) (mark marks.CloseBracket
+      ∷ []) rest);
   shape = (xs, record { shallow = h.fits.0; fits = h.fits.1; spelled = refl });
 }
 shaped n ws (interval low above x below high) rest h = record {
   beginning = brace;
-  more = words low ++ word_of_limit above ∷ (words x ++ word_of_limit below ∷ (words high ++ mark marks.CloseBrace ∷ rest));
+  more = words low ++ word_of_limit above
+      ∷ (words x ++ word_of_limit below ∷ (words high ++ mark marks.CloseBrace ∷ rest));
   begun = h.spelled ∙ ap (λ t. mark marks.OpenBrace ∷ t) (simp append_assoc);
   shape = record {
     low = low;
@@ -115,8 +130,10 @@ shaped n ws (interval low above x below high) rest h = record {
 }
 shaped n ws (query v source condition) rest h = record {
   beginning = querying;
-  more = mark marks.Open ∷ name v ∷ mark marks.QuerySource ∷ (words source ++ mark marks.Bar ∷ (words condition ++ mark marks.Close ∷ rest));
-  begun = h.spelled ∙ ap (λ t. keyword keywords.Query ∷ mark marks.Open ∷ name v ∷ mark marks.QuerySource ∷ t) (simp append_assoc);
+  more = mark marks.Open ∷ name v ∷ mark marks.QuerySource
+      ∷ (words source ++ mark marks.Bar ∷ (words condition ++ mark marks.Close ∷ rest));
+  begun = h.spelled ∙ ap (λ t. keyword keywords.Query ∷ mark marks.Open ∷ name v ∷ mark marks.QuerySource ∷ t)
+      (simp append_assoc);
   shape = record {
     variable = v;
     first = words source ++ mark marks.Bar ∷ (words condition ++ mark marks.Close ∷ rest);
@@ -131,8 +148,14 @@ shaped n ws (query v source condition) rest h = record {
 shaped n ws (call f x) rest h = record {
   beginning = calling f;
   more = mark marks.Open ∷ (words x ++ mark marks.Close ∷ rest);
-  begun = h.spelled ∙ ap (λ t. word_of_function f ∷ mark marks.Open ∷ t) (append_assoc (words x) (mark marks.Close ∷ []) rest);
-  shape = record { first = words x ++ mark marks.Close ∷ rest; argument = x; begun = refl; argument_stands = enclosed n expression x (mark marks.Close) rest rest h.fits.0 h.fits.1 refl };
+  begun = h.spelled ∙ ap (λ t. word_of_function f ∷ mark marks.Open ∷ t) (append_assoc (words x) (mark marks.Close ∷ [])
+      rest);
+  shape = record {
+    first = words x ++ mark marks.Close ∷ rest;
+    argument = x;
+    begun = refl;
+    argument_stands = enclosed n expression x (mark marks.Close) rest rest h.fits.0 h.fits.1 refl;
+  };
 }
 shaped n ws (nvl x y) rest h = record {
   beginning = either;
@@ -180,7 +203,8 @@ begins_so (referring (named t)) = refl
 same_beginning : (a b : Beginning) → beginning_word a ≡ beginning_word b → a ≡ b
 same_beginning a b e = let i = begins_so a in let j = begins_so b in let k = ap beginning_of e in cc
 
-pub shape_of : (n : ℕ) (b : Beginning) (ws : List Word) (y : Tree) (rest : List Word) → Stands n primary (beginning_word b ∷ ws) y rest → Shape n b ws rest
+pub shape_of : (n : ℕ) (b : Beginning) (ws : List Word) (y : Tree) (rest : List Word)
+    → Stands n primary (beginning_word b ∷ ws) y rest → Shape n b ws rest
 shape_of n b ws y rest h =
     let s = shaped n (beginning_word b ∷ ws) y rest h in
     let w : beginning_word b ≡ beginning_word s.beginning = (let e = s.begun in cc) in
@@ -194,14 +218,18 @@ primary_none n ws f y rest h = let s = shaped n ws y rest h in f s.beginning s.m
 pub stands_none_along : (n : ℕ) (l : Level) (ws vs : List Word) → ws ≡ vs → StandsNone n l vs → StandsNone n l ws
 stands_none_along n l ws vs e f y rest h = f y rest (stands_along e h)
 
-pub primary_cut : (n : ℕ) (ws vs : List Word) (x : Tree) (rest : List Word) → ws ≡ vs → Heads n vs x rest → (Stops primary rest → ⊥) → StandsNone n primary ws
-primary_cut n ws vs x rest e a f y s h = f (let P : List Word → Type 0 = Stops primary in subst P (sym (a.alone y s (stands_along e h))) h.whole)
+pub primary_cut : (n : ℕ) (ws vs : List Word) (x : Tree) (rest : List Word) → ws ≡ vs → Heads n vs x rest
+    → (Stops primary rest → ⊥) → StandsNone n primary ws
+primary_cut n ws vs x rest e a f y s h = f (let P : List Word → Type 0 = Stops primary in
+    subst P (sym (a.alone y s (stands_along e h))) h.whole)
 
-pub primary_done : (n : ℕ) (ws vs : List Word) (x : Tree) (rest : List Word) → ws ≡ vs → Heads n vs x rest → Stops primary rest → Stands n primary ws x rest
+pub primary_done : (n : ℕ) (ws vs : List Word) (x : Tree) (rest : List Word) → ws ≡ vs → Heads n vs x rest
+    → Stops primary rest → Stands n primary ws x rest
 primary_done n ws vs x rest e a s = record { fits = a.fits; spelled = e ∙ a.spelled; whole = s }
 
 -- no primary begins with NOT or a sign
-pub not_begins : (n : ℕ) (ws more : List Word) (y : Tree) (rest : List Word) → ws ≡ keyword keywords.Not ∷ more → Stands n primary ws y rest → ⊥
+pub not_begins : (n : ℕ) (ws more : List Word) (y : Tree) (rest : List Word) → ws ≡ keyword keywords.Not ∷ more
+    → Stands n primary ws y rest → ⊥
 not_begins n ws more y rest e h =
     let s = shaped n ws y rest h in
     let w : beginning_word s.beginning ≡ keyword keywords.Not = (let i = s.begun in cc) in
@@ -213,7 +241,8 @@ sign_begins_none : (s : Sign) → beginning_of (word_of_sign s) ≡ None
 sign_begins_none signs.Plus = refl
 sign_begins_none signs.Minus = refl
 
-sign_begins : (n : ℕ) (ws more : List Word) (s : Sign) (y : Tree) (rest : List Word) → ws ≡ word_of_sign s ∷ more → Stands n primary ws y rest → ⊥
+sign_begins : (n : ℕ) (ws more : List Word) (s : Sign) (y : Tree) (rest : List Word) → ws ≡ word_of_sign s ∷ more
+    → Stands n primary ws y rest → ⊥
 sign_begins n ws more s y rest e h =
     let p = shaped n ws y rest h in
     let w : beginning_word p.beginning ≡ word_of_sign s = (let i = p.begun in cc) in
@@ -225,20 +254,51 @@ not_sign : (s : Sign) (ws more rest : List Word) → ws ≡ word_of_sign s ∷ m
 not_sign signs.Plus ws more rest e f = cc
 not_sign signs.Minus ws more rest e f = cc
 
-pub negation_none : (n : ℕ) (ws more : List Word) → ws ≡ keyword keywords.Not ∷ more → StandsNone n primary more → StandsNone n unary ws
+pub negation_none : (n : ℕ) (ws more : List Word) → ws ≡ keyword keywords.Not ∷ more → StandsNone n primary more
+    → StandsNone n unary ws
 negation_none n ws more e f y rest h =
-    elim (unary_parts n ws y rest h) [ inl a ↦ not_begins n ws more y rest e a | inr b ↦ elim b [ inl i ↦ (let m : i.more ≡ more = (let j = i.spelled in cc) in f i.inner rest (stands_along m i.inner_stands)) | inr i ↦ not_sign i.sign ws _ more i.spelled e ] ]
+    elim (unary_parts n ws y rest h) [
+      | inl a ↦ not_begins n ws more y rest e a
+      | inr b ↦ elim b [
+        | inl i ↦ (let m : i.more ≡ more = (let j = i.spelled in cc) in f i.inner rest (stands_along m i.inner_stands))
+        | inr i ↦ not_sign i.sign ws _ more i.spelled e
+      ]
+    ]
 
-pub signed_none : (n : ℕ) (s : Sign) (more : List Word) → ((v : Number) → Lacks (word_of_number v) more) → StandsNone n unary (word_of_sign s ∷ more)
+pub signed_none : (n : ℕ) (s : Sign) (more : List Word) → ((v : Number) → Lacks (word_of_number v) more)
+    → StandsNone n unary (word_of_sign s ∷ more)
 signed_none n s more f y rest h =
-    elim (unary_parts n (word_of_sign s ∷ more) y rest h) [ inl a ↦ sign_begins n (word_of_sign s ∷ more) more s y rest refl a | inr b ↦ elim b [ inl i ↦ not_sign s (word_of_sign s ∷ more) more i.more refl i.spelled | inr i ↦ (let e : more ≡ word_of_number i.value ∷ rest = (let j = i.spelled in cc) in f i.value rest e) ] ]
+    elim (unary_parts n (word_of_sign s ∷ more) y rest h) [
+      | inl a ↦ sign_begins n (word_of_sign s ∷ more) more s y rest
+          refl a
+      | inr b ↦ elim b [
+        | inl i ↦ not_sign s (word_of_sign s ∷ more) more i.more refl i.spelled
+        | inr i ↦
+            (let e : more ≡ word_of_number i.value ∷ rest = (let j = i.spelled in cc) in f i.value rest e)
+      ]
+    ]
 
-pub signed_cut : (n : ℕ) (s : Sign) (more : List Word) (v : Number) (rest : List Word) → more ≡ word_of_number v ∷ rest → (Stops primary rest → ⊥) → StandsNone n unary (word_of_sign s ∷ more)
+pub signed_cut : (n : ℕ) (s : Sign) (more : List Word) (v : Number) (rest : List Word) → more ≡ word_of_number v ∷ rest
+    → (Stops primary rest → ⊥) → StandsNone n unary (word_of_sign s ∷ more)
 signed_cut n s more v rest e f y end h =
-    elim (unary_parts n (word_of_sign s ∷ more) y end h) [ inl a ↦ sign_begins n (word_of_sign s ∷ more) more s y end refl a | inr b ↦ elim b [ inl i ↦ not_sign s (word_of_sign s ∷ more) more i.more refl i.spelled | inr i ↦ (let m : end ≡ rest = (let j = i.spelled in cc) in f (stops_primary rest (let P : List Word → Type 0 = Stops unary in subst P m i.whole))) ] ]
+    elim (unary_parts n (word_of_sign s ∷ more) y end h) [
+      | inl a ↦ sign_begins n (word_of_sign s ∷ more) more s y end
+          refl a
+      | inr b ↦ elim b [
+        | inl i ↦ not_sign s (word_of_sign s ∷ more) more i.more refl i.spelled
+        | inr i ↦
+            (let m : end ≡ rest = (let j = i.spelled in cc) in
+            f (stops_primary rest (let P : List Word → Type 0 = Stops unary in subst P m i.whole)))
+      ]
+    ]
 
-pub signed_done : (n : ℕ) (s : Sign) (more : List Word) (v : Number) (rest : List Word) → more ≡ word_of_number v ∷ rest → Stops primary rest → Stands n unary (word_of_sign s ∷ more) (signed s v) rest
-signed_done n s more v rest e h = record { fits = omega arith; spelled = ap (λ t. word_of_sign s ∷ t) e; whole = primary_stops rest h }
+pub signed_done : (n : ℕ) (s : Sign) (more : List Word) (v : Number) (rest : List Word) → more ≡ word_of_number v ∷ rest
+    → Stops primary rest → Stands n unary (word_of_sign s ∷ more) (signed s v) rest
+signed_done n s more v rest e h = record {
+  fits = omega arith;
+  spelled = ap (λ t. word_of_sign s ∷ t) e;
+  whole = primary_stops rest h;
+}
 
 -- what stands inside a bracket
 pub before_deep : (n : ℕ) (l : Level) (w : Word) (ws : List Word) → depth_limit ≤ n → BeforeNone n l w ws
@@ -247,103 +307,146 @@ before_deep n l w ws d x rest h = let a = h.shallow in omega arith
 pub before_none : (n : ℕ) (l : Level) (w : Word) (ws : List Word) → StandsNone (n + 1) l ws → BeforeNone n l w ws
 before_none n l w ws f x rest h = f x _ h.stands
 
-pub before_lacks : (n : ℕ) (l : Level) (w : Word) (ws : List Word) (x : Tree) (middle : List Word) → Stands (n + 1) l ws x middle → Lacks w middle → BeforeNone n l w ws
+pub before_lacks : (n : ℕ) (l : Level) (w : Word) (ws : List Word) (x : Tree) (middle : List Word)
+    → Stands (n + 1) l ws x middle → Lacks w middle → BeforeNone n l w ws
 before_lacks n l w ws x middle a f y rest h = f rest (stands_same a h.stands).1
 
-pub before_done : (n : ℕ) (l : Level) (w : Word) (ws : List Word) (x : Tree) (middle rest : List Word) → n < depth_limit → Stands (n + 1) l ws x middle → middle ≡ w ∷ rest → Before n l w ws x rest
+pub before_done : (n : ℕ) (l : Level) (w : Word) (ws : List Word) (x : Tree) (middle rest : List Word) → n < depth_limit
+    → Stands (n + 1) l ws x middle → middle ≡ w ∷ rest → Before n l w ws x rest
 before_done n l w ws x middle rest d a e = record { shallow = d; stands = stands_behind e a }
 
 -- the kinds
 pub literal_heads : (n : ℕ) (v : Literal) (ws : List Word) → Heads n (word_of_literal v ∷ ws) (literal v) ws
 literal_heads n v ws = record { fits = tt; spelled = refl; alone = λ y s h. shape_of n (value v) ws y s h }
 
-pub parenthesized_none : (n : ℕ) (ws : List Word) → BeforeNone n expression (mark marks.Close) ws → StandsNone n primary (mark marks.Open ∷ ws)
+pub parenthesized_none : (n : ℕ) (ws : List Word) → BeforeNone n expression (mark marks.Close) ws
+    → StandsNone n primary (mark marks.Open ∷ ws)
 parenthesized_none n ws f y rest h = let s = shape_of n parenthesis ws y rest h in f s.0 rest s.1
 
-pub parenthesized_heads : (n : ℕ) (ws : List Word) (x : Tree) (rest : List Word) → Before n expression (mark marks.Close) ws x rest → Heads n (mark marks.Open ∷ ws) (parenthesized x) rest
+pub parenthesized_heads : (n : ℕ) (ws : List Word) (x : Tree) (rest : List Word)
+    → Before n expression (mark marks.Close) ws x rest → Heads n (mark marks.Open ∷ ws) (parenthesized x) rest
 parenthesized_heads n ws x rest a = record {
   fits = (a.shallow, a.stands.fits);
-  spelled = ap (λ t. mark marks.Open ∷ t) (a.stands.spelled ∙ sym (append_assoc (words x) (mark marks.Close ∷ []) rest));
+  spelled = ap (λ t. mark marks.Open ∷ t) (a.stands.spelled
+      ∙ sym (append_assoc (words x) (mark marks.Close ∷ []) rest));
   alone = λ y s h. let p = shape_of n parenthesis ws y s h in before_same a p.1;
 }
 
 pub aggregate_none : (n : ℕ) (ws : List Word) → ElementsNone n ws → StandsNone n primary (mark marks.OpenBracket ∷ ws)
 aggregate_none n ws f y rest h = let s = shape_of n bracket ws y rest h in f s.0 rest s.1
 
-pub aggregate_heads : (n : ℕ) (ws : List Word) (xs : Trees) (rest : List Word) → Elements n ws xs rest → Heads n (mark marks.OpenBracket ∷ ws) (aggregate xs) rest
+pub aggregate_heads : (n : ℕ) (ws : List Word) (xs : Trees) (rest : List Word) → Elements n ws xs rest
+    → Heads n (mark marks.OpenBracket ∷ ws) (aggregate xs) rest
 aggregate_heads n ws xs rest a = record {
   fits = (a.shallow, a.fits);
-  spelled = ap (λ t. mark marks.OpenBracket ∷ t) (a.spelled ∙ sym (append_assoc (words_of_trees xs) (mark marks.CloseBracket ∷ []) rest));
-  alone = λ y s h. let p = shape_of n bracket ws y s h in (one_elements (n + 1) xs p.0 rest s a.fits p.1.fits (sym a.spelled ∙ p.1.spelled)).1;
+  spelled = ap (λ t. mark marks.OpenBracket ∷ t)
+      (a.spelled ∙ sym (append_assoc (words_of_trees xs) (mark marks.CloseBracket ∷ []) rest));
+  alone = λ y s h. let p = shape_of n bracket ws y s h in
+      (one_elements (n + 1) xs p.0 rest s a.fits p.1.fits (sym a.spelled ∙ p.1.spelled)).1;
 }
 
 pub reference_none : (n : ℕ) (r : Root) (ws : List Word) → SelectsNone n ws → StandsNone n primary (word_of_root r ∷ ws)
 reference_none n r ws f y rest h = let s = shape_of n (referring r) ws y rest h in f s.0 rest s.1
 
-pub reference_heads : (n : ℕ) (r : Root) (ws : List Word) (qs : Qualifiers) (rest : List Word) → Selects n ws qs rest → Heads n (word_of_root r ∷ ws) (reference r qs) rest
+pub reference_heads : (n : ℕ) (r : Root) (ws : List Word) (qs : Qualifiers) (rest : List Word) → Selects n ws qs rest
+    → Heads n (word_of_root r ∷ ws) (reference r qs) rest
 reference_heads n r ws qs rest a = record {
   fits = a.fits;
   spelled = ap (λ t. word_of_root r ∷ t) a.spelled;
-  alone = λ y s h. let p = shape_of n (referring r) ws y s h in (one_qualifiers n qs p.0 rest s a.fits p.1.fits (sym a.spelled ∙ p.1.spelled) a.whole p.1.whole).1;
+  alone = λ y s h. let p = shape_of n (referring r) ws y s h in
+      (one_qualifiers n qs p.0 rest s a.fits p.1.fits (sym a.spelled ∙ p.1.spelled) a.whole p.1.whole).1;
 }
 
 -- a call
-pub call_lacks : (n : ℕ) (f : Function) (ws : List Word) → Lacks (mark marks.Open) ws → StandsNone n primary (word_of_function f ∷ ws)
+pub call_lacks : (n : ℕ) (f : Function) (ws : List Word) → Lacks (mark marks.Open) ws
+    → StandsNone n primary (word_of_function f ∷ ws)
 call_lacks n f ws l y rest h = let s = shape_of n (calling f) ws y rest h in l s.first s.begun
 
-pub call_none : (n : ℕ) (f : Function) (ws more : List Word) → ws ≡ mark marks.Open ∷ more → BeforeNone n expression (mark marks.Close) more → StandsNone n primary (word_of_function f ∷ ws)
-call_none n f ws more e g y rest h = let s = shape_of n (calling f) ws y rest h in let m : s.first ≡ more = (let i = s.begun in cc) in g s.argument rest (before_along m s.argument_stands)
+pub call_none : (n : ℕ) (f : Function) (ws more : List Word) → ws ≡ mark marks.Open ∷ more → BeforeNone n expression
+    (mark marks.Close) more → StandsNone n primary (word_of_function f ∷ ws)
+call_none n f ws more e g y rest h = let s = shape_of n (calling f) ws y rest h in let m : s.first ≡ more =
+    (let i = s.begun in cc) in g s.argument rest (before_along m s.argument_stands)
 
-pub call_heads : (n : ℕ) (f : Function) (ws more : List Word) (x : Tree) (rest : List Word) → ws ≡ mark marks.Open ∷ more → Before n expression (mark marks.Close) more x rest → Heads n (word_of_function f ∷ ws) (call f x) rest
+pub call_heads : (n : ℕ) (f : Function) (ws more : List Word) (x : Tree) (rest : List Word) → ws ≡ mark marks.Open
+    ∷ more → Before n expression (mark marks.Close) more x rest → Heads n (word_of_function f ∷ ws) (call f x) rest
 call_heads n f ws more x rest e a = record {
   fits = (a.shallow, a.stands.fits);
-  spelled = ap (λ t. word_of_function f ∷ t) (e ∙ ap (λ t. mark marks.Open ∷ t) (a.stands.spelled ∙ sym (append_assoc (words x) (mark marks.Close ∷ []) rest)));
-  alone = λ y s h. let p = shape_of n (calling f) ws y s h in let m : p.first ≡ more = (let i = p.begun in cc) in before_same a (before_along m p.argument_stands);
+  spelled = ap (λ t. word_of_function f ∷ t)
+      (e ∙ ap (λ t. mark marks.Open ∷ t) (a.stands.spelled
+      ∙ sym (append_assoc (words x) (mark marks.Close ∷ []) rest)));
+  alone = λ y s h. let p = shape_of n (calling f) ws y s h in let m : p.first ≡ more = (let i = p.begun in cc) in
+      before_same a (before_along m p.argument_stands);
 }
 
 -- NVL
 pub nvl_lacks : (n : ℕ) (ws : List Word) → Lacks (mark marks.Open) ws → StandsNone n primary (keyword keywords.Nvl ∷ ws)
 nvl_lacks n ws l y rest h = let s = shape_of n either ws y rest h in l s.first s.begun
 
-nvl_item : (n : ℕ) (ws first rest : List Word) → ws ≡ mark marks.Open ∷ first → (s : Substituted n ws rest) → Before n expression (mark marks.Comma) first s.item s.second
+nvl_item : (n : ℕ) (ws first rest : List Word) → ws ≡ mark marks.Open ∷ first → (s : Substituted n ws rest)
+    → Before n expression (mark marks.Comma) first s.item s.second
 nvl_item n ws first rest e s = let m : s.first ≡ first = (let i = s.begun in cc) in before_along m s.item_stands
 
-pub nvl_none : (n : ℕ) (ws first : List Word) → ws ≡ mark marks.Open ∷ first → BeforeNone n expression (mark marks.Comma) first → StandsNone n primary (keyword keywords.Nvl ∷ ws)
-nvl_none n ws first e f y rest h = let s = shape_of n either ws y rest h in f s.item s.second (nvl_item n ws first rest e s)
+pub nvl_none : (n : ℕ) (ws first : List Word) → ws ≡ mark marks.Open ∷ first → BeforeNone n expression
+    (mark marks.Comma) first → StandsNone n primary (keyword keywords.Nvl ∷ ws)
+nvl_none n ws first e f y rest h = let s = shape_of n either ws y rest h in
+    f s.item s.second (nvl_item n ws first rest e s)
 
-pub nvl_half : (n : ℕ) (ws first : List Word) (x : Tree) (second : List Word) → ws ≡ mark marks.Open ∷ first → Before n expression (mark marks.Comma) first x second → BeforeNone n expression (mark marks.Close) second → StandsNone n primary (keyword keywords.Nvl ∷ ws)
-nvl_half n ws first x second e a f y rest h = let s = shape_of n either ws y rest h in f s.substitute rest (before_along (before_same (nvl_item n ws first rest e s) a) s.substitute_stands)
+pub nvl_half : (n : ℕ) (ws first : List Word) (x : Tree) (second : List Word) → ws ≡ mark marks.Open ∷ first
+    → Before n expression (mark marks.Comma) first x second → BeforeNone n expression (mark marks.Close) second
+    → StandsNone n primary (keyword keywords.Nvl ∷ ws)
+nvl_half n ws first x second e a f y rest h = let s = shape_of n either ws y rest h in
+    f s.substitute rest (before_along (before_same (nvl_item n ws first rest e s) a) s.substitute_stands)
 
-pub nvl_heads : (n : ℕ) (ws first : List Word) (x : Tree) (second : List Word) (z : Tree) (rest : List Word) → ws ≡ mark marks.Open ∷ first → Before n expression (mark marks.Comma) first x second → Before n expression (mark marks.Close) second z rest → Heads n (keyword keywords.Nvl ∷ ws) (nvl x z) rest
+pub nvl_heads : (n : ℕ) (ws first : List Word) (x : Tree) (second : List Word) (z : Tree) (rest : List Word)
+    → ws ≡ mark marks.Open ∷ first → Before n expression (mark marks.Comma) first x second
+    → Before n expression (mark marks.Close) second z rest → Heads n (keyword keywords.Nvl ∷ ws) (nvl x z) rest
 nvl_heads n ws first x second z rest e a b = record {
   fits = (a.shallow, a.stands.fits, b.stands.fits);
-  spelled = ap (λ t. keyword keywords.Nvl ∷ t) (e ∙ ap (λ t. mark marks.Open ∷ t) (a.stands.spelled ∙ ap (λ t. words x ++ mark marks.Comma ∷ t) b.stands.spelled ∙ simp append_assoc));
-  alone = λ y s h. let p = shape_of n either ws y s h in before_same b (before_along (before_same (nvl_item n ws first s e p) a) p.substitute_stands);
+  spelled = ap (λ t. keyword keywords.Nvl ∷ t)
+      (e ∙ ap (λ t. mark marks.Open ∷ t) (a.stands.spelled ∙ ap (λ t. words x ++ mark marks.Comma ∷ t) b.stands.spelled
+      ∙ simp append_assoc));
+  alone = λ y s h. let p = shape_of n either ws y s h in
+      before_same b (before_along (before_same (nvl_item n ws first s e p) a) p.substitute_stands);
 }
 
 -- a query
 pub query_lacks : (n : ℕ) (ws : List Word) → VariableNone ws → StandsNone n primary (keyword keywords.Query ∷ ws)
 query_lacks n ws l y rest h = let s = shape_of n querying ws y rest h in l s.variable s.first s.begun
 
-query_source : (n : ℕ) (ws : List Word) (v : List ℕ) (first rest : List Word) → ws ≡ mark marks.Open ∷ name v ∷ mark marks.QuerySource ∷ first → (s : Queried n ws rest) → Before n simple (mark marks.Bar) first s.source s.second
+query_source : (n : ℕ) (ws : List Word) (v : List ℕ) (first rest : List Word) → ws ≡ mark marks.Open ∷ name v
+    ∷ mark marks.QuerySource ∷ first → (s : Queried n ws rest) → Before n simple (mark marks.Bar) first s.source
+    s.second
 query_source n ws v first rest e s = let m : s.first ≡ first = (let i = s.begun in cc) in before_along m s.source_stands
 
-pub query_none : (n : ℕ) (ws : List Word) (v : List ℕ) (first : List Word) → ws ≡ mark marks.Open ∷ name v ∷ mark marks.QuerySource ∷ first → BeforeNone n simple (mark marks.Bar) first → StandsNone n primary (keyword keywords.Query ∷ ws)
-query_none n ws v first e f y rest h = let s = shape_of n querying ws y rest h in f s.source s.second (query_source n ws v first rest e s)
+pub query_none : (n : ℕ) (ws : List Word) (v : List ℕ) (first : List Word) → ws ≡ mark marks.Open ∷ name v
+    ∷ mark marks.QuerySource ∷ first → BeforeNone n simple (mark marks.Bar) first
+    → StandsNone n primary (keyword keywords.Query ∷ ws)
+query_none n ws v first e f y rest h = let s = shape_of n querying ws y rest h in
+    f s.source s.second (query_source n ws v first rest e s)
 
-pub query_half : (n : ℕ) (ws : List Word) (v : List ℕ) (first : List Word) (x : Tree) (second : List Word) → ws ≡ mark marks.Open ∷ name v ∷ mark marks.QuerySource ∷ first → Before n simple (mark marks.Bar) first x second → BeforeNone n expression (mark marks.Close) second → StandsNone n primary (keyword keywords.Query ∷ ws)
-query_half n ws v first x second e a f y rest h = let s = shape_of n querying ws y rest h in f s.condition rest (before_along (before_same (query_source n ws v first rest e s) a) s.condition_stands)
+pub query_half : (n : ℕ) (ws : List Word) (v : List ℕ) (first : List Word) (x : Tree) (second : List Word)
+    → ws ≡ mark marks.Open ∷ name v ∷ mark marks.QuerySource ∷ first → Before n simple (mark marks.Bar) first x second
+    → BeforeNone n expression (mark marks.Close) second → StandsNone n primary (keyword keywords.Query ∷ ws)
+query_half n ws v first x second e a f y rest h = let s = shape_of n querying ws y rest h in
+    f s.condition rest (before_along (before_same (query_source n ws v first rest e s) a) s.condition_stands)
 
-pub query_heads : (n : ℕ) (ws : List Word) (v : List ℕ) (first : List Word) (x : Tree) (second : List Word) (z : Tree) (rest : List Word) → ws ≡ mark marks.Open ∷ name v ∷ mark marks.QuerySource ∷ first → Before n simple (mark marks.Bar) first x second → Before n expression (mark marks.Close) second z rest → Heads n (keyword keywords.Query ∷ ws) (query v x z) rest
+pub query_heads : (n : ℕ) (ws : List Word) (v : List ℕ) (first : List Word) (x : Tree) (second : List Word) (z : Tree)
+    (rest : List Word) → ws ≡ mark marks.Open ∷ name v ∷ mark marks.QuerySource ∷ first
+    → Before n simple (mark marks.Bar) first x second → Before n expression (mark marks.Close) second z rest
+    → Heads n (keyword keywords.Query ∷ ws) (query v x z) rest
 query_heads n ws v first x second z rest e a b = record {
   fits = (a.shallow, a.stands.fits, b.stands.fits);
-  spelled = ap (λ t. keyword keywords.Query ∷ t) (e ∙ ap (λ t. mark marks.Open ∷ name v ∷ mark marks.QuerySource ∷ t) (a.stands.spelled ∙ ap (λ t. words x ++ mark marks.Bar ∷ t) b.stands.spelled ∙ simp append_assoc));
-  alone = λ y s h. let p = shape_of n querying ws y s h in before_same b (before_along (before_same (query_source n ws v first s e p) a) p.condition_stands);
+  spelled = ap (λ t. keyword keywords.Query ∷ t) (e ∙ ap (λ t. mark marks.Open ∷ name v ∷ mark marks.QuerySource ∷ t)
+      (a.stands.spelled ∙ ap (λ t. words x ++ mark marks.Bar ∷ t) b.stands.spelled ∙ simp append_assoc));
+  alone = λ y s h. let p = shape_of n querying ws y s h in
+      before_same b (before_along (before_same (query_source n ws v first s e p) a) p.condition_stands);
 }
 
 -- an interval
-bound_same : {n : ℕ} (k j : Limit) {ws r s : List Word} {x y : Tree} → Before n simple (word_of_limit k) ws x r → Before n simple (word_of_limit j) ws y s → r ≡ s
-bound_same {n} k j {ws} {r} {s} {x} {y} a b = let e : word_of_limit k ∷ r ≡ word_of_limit j ∷ s = (stands_same a.stands b.stands).1 in cc
+bound_same : {n : ℕ} (k j : Limit) {ws r s : List Word} {x y : Tree} → Before n simple (word_of_limit k) ws x r
+    → Before n simple (word_of_limit j) ws y s → r ≡ s
+bound_same {n} k j {ws} {r} {s} {x} {y} a b = let e : word_of_limit k ∷ r ≡ word_of_limit j ∷ s =
+    (stands_same a.stands b.stands).1 in cc
 
 pub bound_deep : (n : ℕ) (ws : List Word) → depth_limit ≤ n → BoundNone n ws
 bound_deep n ws d k = before_deep n simple (word_of_limit k) ws d
@@ -351,24 +454,42 @@ bound_deep n ws d k = before_deep n simple (word_of_limit k) ws d
 pub bound_none : (n : ℕ) (ws : List Word) → StandsNone (n + 1) simple ws → BoundNone n ws
 bound_none n ws f k = before_none n simple (word_of_limit k) ws f
 
-pub bound_lacks : (n : ℕ) (ws : List Word) (x : Tree) (middle : List Word) → Stands (n + 1) simple ws x middle → ((k : Limit) → Lacks (word_of_limit k) middle) → BoundNone n ws
+pub bound_lacks : (n : ℕ) (ws : List Word) (x : Tree) (middle : List Word) → Stands (n + 1) simple ws x middle
+    → ((k : Limit) → Lacks (word_of_limit k) middle) → BoundNone n ws
 bound_lacks n ws x middle a f k = before_lacks n simple (word_of_limit k) ws x middle a (f k)
 
 pub interval_none : (n : ℕ) (ws : List Word) → BoundNone n ws → StandsNone n primary (mark marks.OpenBrace ∷ ws)
 interval_none n ws f y rest h = let s = shape_of n brace ws y rest h in f s.above s.low s.second s.low_stands
 
-pub interval_second : (n : ℕ) (ws : List Word) (low : Tree) (above : Limit) (second : List Word) → Before n simple (word_of_limit above) ws low second → BoundNone n second → StandsNone n primary (mark marks.OpenBrace ∷ ws)
-interval_second n ws low above second a f y rest h = let s = shape_of n brace ws y rest h in f s.below s.item s.third (before_along (bound_same s.above above s.low_stands a) s.item_stands)
+pub interval_second : (n : ℕ) (ws : List Word) (low : Tree) (above : Limit) (second : List Word)
+    → Before n simple (word_of_limit above) ws low second → BoundNone n second
+    → StandsNone n primary (mark marks.OpenBrace ∷ ws)
+interval_second n ws low above second a f y rest h = let s = shape_of n brace ws y rest h in f s.below s.item s.third
+    (before_along (bound_same s.above above s.low_stands a) s.item_stands)
 
-interval_third : (n : ℕ) (ws : List Word) (low : Tree) (above : Limit) (second : List Word) (x : Tree) (below : Limit) (third rest : List Word) → Before n simple (word_of_limit above) ws low second → Before n simple (word_of_limit below) second x third → (s : Bounds n ws rest) → Before n simple (mark marks.CloseBrace) third s.high rest
-interval_third n ws low above second x below third rest a b s = before_along (bound_same s.below below (before_along (bound_same s.above above s.low_stands a) s.item_stands) b) s.high_stands
+interval_third : (n : ℕ) (ws : List Word) (low : Tree) (above : Limit) (second : List Word) (x : Tree) (below : Limit)
+    (third rest : List Word) → Before n simple (word_of_limit above) ws low second
+    → Before n simple (word_of_limit below) second x third → (s : Bounds n ws rest)
+    → Before n simple (mark marks.CloseBrace) third s.high rest
+interval_third n ws low above second x below third rest a b s =
+    before_along (bound_same s.below below (before_along (bound_same s.above above s.low_stands a) s.item_stands) b)
+    s.high_stands
 
-pub interval_half : (n : ℕ) (ws : List Word) (low : Tree) (above : Limit) (second : List Word) (x : Tree) (below : Limit) (third : List Word) → Before n simple (word_of_limit above) ws low second → Before n simple (word_of_limit below) second x third → BeforeNone n simple (mark marks.CloseBrace) third → StandsNone n primary (mark marks.OpenBrace ∷ ws)
-interval_half n ws low above second x below third a b f y rest h = let s = shape_of n brace ws y rest h in f s.high rest (interval_third n ws low above second x below third rest a b s)
+pub interval_half : (n : ℕ) (ws : List Word) (low : Tree) (above : Limit) (second : List Word) (x : Tree)
+    (below : Limit) (third : List Word) → Before n simple (word_of_limit above) ws low second
+    → Before n simple (word_of_limit below) second x third → BeforeNone n simple (mark marks.CloseBrace) third
+    → StandsNone n primary (mark marks.OpenBrace ∷ ws)
+interval_half n ws low above second x below third a b f y rest h = let s = shape_of n brace ws y rest h in
+    f s.high rest (interval_third n ws low above second x below third rest a b s)
 
-pub interval_heads : (n : ℕ) (ws : List Word) (low : Tree) (above : Limit) (second : List Word) (x : Tree) (below : Limit) (third : List Word) (high : Tree) (rest : List Word) → Before n simple (word_of_limit above) ws low second → Before n simple (word_of_limit below) second x third → Before n simple (mark marks.CloseBrace) third high rest → Heads n (mark marks.OpenBrace ∷ ws) (interval low above x below high) rest
+pub interval_heads : (n : ℕ) (ws : List Word) (low : Tree) (above : Limit) (second : List Word) (x : Tree)
+    (below : Limit) (third : List Word) (high : Tree) (rest : List Word) → Before n simple (word_of_limit above) ws low
+    second → Before n simple (word_of_limit below) second x third → Before n simple (mark marks.CloseBrace) third high
+    rest → Heads n (mark marks.OpenBrace ∷ ws) (interval low above x below high) rest
 interval_heads n ws low above second x below third high rest a b d = record {
   fits = (a.shallow, a.stands.fits, b.stands.fits, d.stands.fits);
-  spelled = ap (λ t. mark marks.OpenBrace ∷ t) (a.stands.spelled ∙ ap (λ t. words low ++ word_of_limit above ∷ t) (b.stands.spelled ∙ ap (λ t. words x ++ word_of_limit below ∷ t) d.stands.spelled) ∙ simp append_assoc);
-  alone = λ y s h. let p = shape_of n brace ws y s h in before_same d (interval_third n ws low above second x below third s a b p);
+  spelled = ap (λ t. mark marks.OpenBrace ∷ t) (a.stands.spelled ∙ ap (λ t. words low ++ word_of_limit above ∷ t)
+      (b.stands.spelled ∙ ap (λ t. words x ++ word_of_limit below ∷ t) d.stands.spelled) ∙ simp append_assoc);
+  alone = λ y s h. let p = shape_of n brace ws y s h in
+      before_same d (interval_third n ws low above second x below third s a b p);
 }

@@ -1,23 +1,28 @@
 -- The parts of expressions, as they are read one behind the other (ISO 10303-11, 12).
-use Rattle.std.specs.Prelude.{◌≡◌, ℕ, ◌+◌, ◌<◌, List, ◌∷◌, ◌++◌, Option, None, Some, drop}
+use Rattle.std.specs.Prelude.{◌≡◌, ℕ, ◌+◌, ◌<◌, List, ◌∷◌, ◌++◌, Option, None, Some, drop, MatchOption, Result, MatchResult}
 use Rattle.express_lexis.specs.declared.marks.Mark.{Mark}
 use Rattle.express_lexis.specs.declared.marks.Mark.TheVariants as marks
-use Rattle.express_expressions.specs.declared.keyword.Keyword.{Keyword}
-use Rattle.express_expressions.specs.declared.keyword.Keyword.TheVariants as keywords
-use Rattle.express_expressions.specs.declared.tree.Logical.TheVariants as logicals
-use Rattle.express_expressions.specs.declared.tree.Limit.{Limit}
-use Rattle.express_expressions.specs.declared.tree.Function.{Function}
-use Rattle.express_expressions.specs.declared.tree.Function.TheVariants as functions
-use Rattle.express_expressions.specs.declared.lexeme.Lexeme.{Lexeme}
+use Rattle.express_trees.specs.declared.keyword.Keyword.{Keyword}
+use Rattle.express_trees.specs.declared.keyword.Keyword.TheVariants as keywords
+use Rattle.express_trees.specs.declared.tree.Logical.TheVariants as logicals
+use Rattle.std.specs.Global.{Box}
+use Rattle.express_trees.specs.declared.tree.Expr.{Expr}
+use Rattle.express_trees.specs.declared.tree.Sign.{Sign}
+use Rattle.express_trees.specs.declared.tree.Limit.{Limit}
+use Rattle.express_expressions.specs.declared.not_read.NotRead.{NotRead}
+use Rattle.express_expressions.specs.declared.not_read.NotRead.TheVariants as failures
+use Rattle.express_trees.specs.declared.tree.Function.{Function}
+use Rattle.express_trees.specs.declared.tree.Function.TheVariants as functions
+use Rattle.express_trees.specs.declared.lexeme.Lexeme.{Lexeme}
 use Rattle.express_expressions.specs.declared.start.Start.{Start}
 use Rattle.express_expressions.specs.declared.start.Start.TheVariants as starts
 use Rattle.express_expressions.specs.declared.start.Inner.{Inner}
 use Rattle.express_expressions.specs.declared.start.Inner.TheVariants as inners
-use Rattle.express_expressions.specs.Words.{Word, words_of, keyword, name, integer, real, string, encoded, binary, mark}
-use Rattle.express_expressions.specs.Trees.{Tree, conjunction, disjunction, Trees, none, one, Alternatives, finish, another, Qualifiers, Literal, number, text, codes_of_text, bits, constant, indeterminate, whole, decimal, Root, own, named, words, words_of_trees, words_of_others, words_of_alternatives, words_of_qualifiers, word_of_literal, word_of_function, word_of_root, word_of_limit}
-use Rattle.express_expressions.specs.Grammar.{Level, primary, unary, term, simple, expression, depth_limit, Fits, FitsEach, FitsMore, FitsQualifiers}
-use Rattle.express_expressions.specs.Reads.{Stops, Stands}
-use Rattle.express_expressions.specs.Views.{literal_of, root_of, Selection, of_attribute, of_group, of_element}
+use Rattle.express_trees.specs.Words.{Word, word_of, words_of, keyword, name, integer, real, string, encoded, binary, mark}
+use Rattle.express_trees.specs.Trees.{Tree, conjunction, disjunction, Trees, none, one, Alternatives, finish, another, Qualifiers, Literal, number, text, codes_of_text, bits, constant, indeterminate, whole, decimal, Root, own, named, words, words_of_trees, words_of_others, words_of_alternatives, words_of_qualifiers, word_of_literal, word_of_function, word_of_root, word_of_limit, word_of_sign}
+use Rattle.express_trees.specs.Grammar.{Level, primary, unary, term, simple, expression, depth_limit, Fits, FitsEach, FitsMore, FitsQualifiers}
+use Rattle.express_trees.specs.Reads.{Stops, Stands, StandsNone}
+use Rattle.express_trees.specs.Views.{tree_of, literal_of, root_of, Selection, of_attribute, of_group, of_element}
 
 -- the words from this index on
 abbrev pub words_from : ℕ → List Lexeme → List Word
@@ -26,6 +31,22 @@ words_from at lexemes = words_of (drop at lexemes)
 -- the words don't begin with this one
 abbrev pub Lacks : Word → List Word → Type 0
 Lacks w ws = (rest : List Word) → ws ≡ w ∷ rest → ⊥
+
+-- the lexeme is the word of what is found; else of nothing of the kind
+abbrev pub Spells : {X Y : Type 0} → (Y → Word) → (X → Y) → Lexeme → Option X → Type 0
+Spells {X} {Y} word view lexeme r = MatchOption r ((y : Y) → word_of lexeme ≡ word y → ⊥)
+    (λ x. word_of lexeme ≡ word (view x))
+
+-- the words from an index on begin with this one, and go on at the index that is found
+abbrev pub FindsWord : Word → ℕ → List Lexeme → Option ℕ → Type 0
+FindsWord w at lexemes r = MatchOption r (Lacks w (words_from at lexemes)) (λ end. words_from at lexemes ≡ w
+    ∷ words_from end lexemes)
+
+-- they begin with the word of what is found, and go on at the index beside it; else with that of nothing of the kind
+abbrev pub Finds : {X Y : Type 0} → (Y → Word) → (X → Y) → ℕ → List Lexeme → Option (X × ℕ) → Type 0
+Finds {X} {Y} word view at lexemes r =
+    MatchOption r ((y : Y) → Lacks (word y) (words_from at lexemes)) (λ p. words_from at lexemes ≡ word (view p.0)
+    ∷ words_from p.1 lexemes)
 
 -- AND and a unary, any number of times
 pub record Others (n : ℕ) (ws : List Word) (xs : Trees) (rest : List Word) : Type 0 where
@@ -91,7 +112,8 @@ AttributeNone ws = (s : Selection) (rest : List Word) → Attribute ws s rest �
 abbrev pub Qualifies : ℕ → List Word → Selection → List Word → Type 0
 Qualifies n ws (of_attribute a) rest = ws ≡ mark marks.Dot ∷ name a ∷ rest
 Qualifies n ws (of_group e a) rest = ws ≡ mark marks.Backslash ∷ name e ∷ mark marks.Dot ∷ name a ∷ rest
-Qualifies n ws (of_element x) rest = (more : List Word) × (ws ≡ mark marks.OpenBracket ∷ more) × Before n simple (mark marks.CloseBracket) more x rest
+Qualifies n ws (of_element x) rest = (more : List Word) × (ws ≡ mark marks.OpenBracket ∷ more)
+    × Before n simple (mark marks.CloseBracket) more x rest
 
 abbrev pub QualifierNone : ℕ → List Word → Type 0
 QualifierNone n ws = (s : Selection) (rest : List Word) → Qualifies n ws s rest → ⊥
@@ -128,7 +150,7 @@ beginning_of_keyword keywords.Hiindex = Some (calling functions.Hiindex)
 beginning_of_keyword keywords.Loindex = Some (calling functions.Loindex)
 beginning_of_keyword keywords.Typeof = Some (calling functions.Typeof)
 beginning_of_keyword keywords.Nvl = Some either
-beginning_of_keyword keywords.Own = Some (referring own)
+beginning_of_keyword keywords.SelfWord = Some (referring own)
 beginning_of_keyword _ = None
 
 abbrev pub beginning_of_mark : Mark → Option Beginning
@@ -172,6 +194,47 @@ pub record Heads (n : ℕ) (ws : List Word) (x : Tree) (rest : List Word) : Type
   pub fits : Fits n primary x
   pub spelled : ws ≡ words x ++ rest
   pub alone : (y : Tree) (s : List Word) → Stands n primary ws y s → rest ≡ s
+
+-- what stands for it where no expression is read; nothing is said where memory ran out
+abbrev pub Unless : NotRead → Type 0 → Type 0
+Unless failures.NoExpression n = n
+Unless failures.Memory n = Unit {0}
+
+abbrev pub Reading : {X : Type 0} → Result X NotRead → Type 0 → (X → Type 0) → Type 0
+Reading r n p = MatchResult r p (λ e. Unless e n)
+
+-- what is read stands so at the front of the words from an index on; else nothing does
+abbrev pub Reads : {X Y : Type 0} → (List Word → Y → List Word → Type 0) → (X → Y) → ℕ → List Lexeme
+    → Result (X × ℕ) NotRead → Type 0
+Reads {X} {Y} Is view at lexemes r =
+    Reading r ((y : Y) (rest : List Word) → Is (words_from at lexemes) y rest → ⊥)
+    (λ p. Is (words_from at lexemes) (view p.0) (words_from p.1 lexemes))
+
+abbrev pub boxed_tree : Box Expr → Tree
+boxed_tree b = tree_of b.value
+
+-- a primary behind its first word
+abbrev pub ReadsBehind : Word → ℕ → ℕ → List Lexeme → Result (Box Expr × ℕ) NotRead → Type 0
+ReadsBehind w n at lexemes r =
+    Reading r (StandsNone n primary (w ∷ words_from at lexemes)) (λ p. Heads n (w ∷ words_from at lexemes)
+    (boxed_tree p.0) (words_from p.1 lexemes))
+
+-- what stands before a limit of an interval, and the limit
+abbrev pub ReadsBound : ℕ → ℕ → List Lexeme → Result (Box Expr × Limit × ℕ) NotRead → Type 0
+ReadsBound n at lexemes r =
+    Reading r (BoundNone n (words_from at lexemes)) (λ p. Before n simple (word_of_limit p.1) (words_from at lexemes)
+    (boxed_tree p.0) (words_from p.2 lexemes))
+
+-- a number behind its sign, with however many brackets open around it
+abbrev pub ReadsSigned : Sign → ℕ → List Lexeme → Result (Box Expr × ℕ) NotRead → Type 0
+ReadsSigned s at lexemes r =
+    Reading r ((n : ℕ) → StandsNone n unary (word_of_sign s ∷ words_from at lexemes))
+    (λ p. (n : ℕ) → Stands n unary (word_of_sign s ∷ words_from at lexemes) (boxed_tree p.0)
+    (words_from p.1 lexemes))
+
+-- the tree is put on the heap, with this index beside it, or memory runs out
+abbrev pub Builds : Tree → ℕ → Result (Box Expr × ℕ) NotRead → Type 0
+Builds t end r = MatchResult r (λ p. (boxed_tree p.0 ≡ t) × (p.1 ≡ end)) (λ e. e ≡ failures.Memory)
 
 abbrev pub conjoined : Tree → Trees → Tree
 conjoined x none = x

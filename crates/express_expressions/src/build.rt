@@ -1,13 +1,28 @@
 //! Trees built from their parts.
 
 ghost use Rattle.std.specs.Prelude.{◌≡◌};
-ghost use Rattle.express_expressions.specs.Trees;
-ghost use Rattle.express_expressions.specs.Views.{choice, of_attribute, of_group, of_element, capitals, number_of, literal_of, root_of, tree_of, trees_of, selection_of, choice_of, qualifiers_of, alternatives_of};
+ghost use Rattle.express_trees.specs.Trees;
+ghost use Rattle.express_trees.specs.Views.{
+  choice,
+  of_attribute,
+  of_group,
+  of_element,
+  capitals,
+  number_of,
+  literal_of,
+  root_of,
+  tree_of,
+  trees_of,
+  selection_of,
+  choice_of,
+  qualifiers_of,
+  alternatives_of,
+};
 
-use crate::tree::{
+use express_lexis::literal::Word;
+use express_trees::tree::{
     Alternative, Expr, Function, Junction, Limit, Literal, Number, Qualifier, Relation, Root, Sign,
 };
-use express_lexis::literal::Word;
 
 /// A literal.
 pub(crate) fn literal(value: Literal<'_>) -> Expr<'_>
@@ -25,7 +40,8 @@ pub(crate) fn signed(sign: Sign, value: Number<'_>) -> Expr<'_>
 
 /// A reference with its qualifiers.
 pub(crate) fn reference<'a>(root: Root<'a>, mut qualifiers: Vec<Qualifier<'a>>) -> Expr<'a>
-    ensures { tree_of result ≡ Trees.reference (root_of root.entry) (qualifiers_of qualifiers.entry.items) }
+    ensures { tree_of result
+        ≡ Trees.reference (root_of root.entry) (qualifiers_of qualifiers.entry.items) }
 {
     qualifiers.shrink_to_fit();
     Expr::Reference(root, qualifiers)
@@ -54,7 +70,9 @@ pub(crate) fn interval<'a>(
     below: Limit,
     high: Box<Expr<'a>>,
 ) -> Expr<'a>
-    ensures { tree_of result ≡ Trees.interval (tree_of low.entry.value) above (tree_of item.entry.value) below (tree_of high.entry.value) }
+    ensures { tree_of result
+        ≡ Trees.interval (tree_of low.entry.value) above (tree_of item.entry.value) below
+        (tree_of high.entry.value) }
 {
     Expr::Interval {
         low,
@@ -71,7 +89,9 @@ pub(crate) fn query<'a>(
     source: Box<Expr<'a>>,
     condition: Box<Expr<'a>>,
 ) -> Expr<'a>
-    ensures { tree_of result ≡ Trees.query (capitals variable.entry) (tree_of source.entry.value) (tree_of condition.entry.value) }
+    ensures { tree_of result
+        ≡ Trees.query (capitals variable.entry) (tree_of source.entry.value)
+        (tree_of condition.entry.value) }
 {
     Expr::Query {
         variable,
@@ -89,7 +109,8 @@ pub(crate) fn call(function: Function, argument: Box<Expr<'_>>) -> Expr<'_>
 
 /// NVL of a value and what stands for it where there is none.
 pub(crate) fn nvl<'a>(value: Box<Expr<'a>>, substitute: Box<Expr<'a>>) -> Expr<'a>
-    ensures { tree_of result ≡ Trees.nvl (tree_of value.entry.value) (tree_of substitute.entry.value) }
+    ensures { tree_of result
+        ≡ Trees.nvl (tree_of value.entry.value) (tree_of substitute.entry.value) }
 {
     Expr::Nvl(value, substitute)
 }
@@ -103,7 +124,8 @@ pub(crate) fn negation(inner: Box<Expr<'_>>) -> Expr<'_>
 
 /// AND between the first and the others.
 pub(crate) fn conjunction<'a>(first: Box<Expr<'a>>, mut others: Vec<Expr<'a>>) -> Expr<'a>
-    ensures { tree_of result ≡ Trees.conjunction (tree_of first.entry.value) (trees_of others.entry.items) }
+    ensures { tree_of result
+        ≡ Trees.conjunction (tree_of first.entry.value) (trees_of others.entry.items) }
 {
     others.shrink_to_fit();
     Expr::Conjunction(first, others)
@@ -111,7 +133,8 @@ pub(crate) fn conjunction<'a>(first: Box<Expr<'a>>, mut others: Vec<Expr<'a>>) -
 
 /// OR and XOR behind the first.
 pub(crate) fn disjunction<'a>(first: Box<Expr<'a>>, mut others: Vec<Alternative<'a>>) -> Expr<'a>
-    ensures { tree_of result ≡ Trees.disjunction (tree_of first.entry.value) (alternatives_of others.entry.items) }
+    ensures { tree_of result
+        ≡ Trees.disjunction (tree_of first.entry.value) (alternatives_of others.entry.items) }
 {
     others.shrink_to_fit();
     Expr::Disjunction(first, others)
@@ -123,7 +146,8 @@ pub(crate) fn comparison<'a>(
     relation: Relation,
     right: Box<Expr<'a>>,
 ) -> Expr<'a>
-    ensures { tree_of result ≡ Trees.comparison (tree_of left.entry.value) relation (tree_of right.entry.value) }
+    ensures { tree_of result
+        ≡ Trees.comparison (tree_of left.entry.value) relation (tree_of right.entry.value) }
 {
     Expr::Comparison(left, relation, right)
 }

@@ -1,36 +1,59 @@
 //! What stands at an index of lexemes, and the index behind it.
 
-ghost use Rattle.std.specs.Prelude.{◌≡◌, [], ◌∷◌, ◌+◌, ◌<◌, ℕ, List, length, MatchOption, MatchBool};
-ghost use Rattle.express_expressions.specs.declared.tree.Junction.{Junction};
-ghost use Rattle.express_expressions.specs.declared.tree.Limit.{Limit};
-ghost use Rattle.express_expressions.specs.declared.tree.Relation.{Relation};
-ghost use Rattle.express_expressions.specs.declared.tree.Sign.{Sign};
-ghost use Rattle.express_expressions.specs.Words.{word_of, name, keyword, mark};
-ghost use Rattle.express_expressions.specs.Trees;
-ghost use Rattle.express_expressions.specs.Trees.{word_of_number, word_of_sign, word_of_relation, word_of_limit, word_of_junction};
-ghost use Rattle.express_expressions.specs.Grammar.{primary};
-ghost use Rattle.express_expressions.specs.Reads.{Stops};
-ghost use Rattle.express_expressions.specs.Pieces.{words_from, Lacks, NoBeginning, begun, beginning_word};
-ghost use Rattle.express_expressions.specs.Views.{capitals, number_of};
+ghost use Rattle.std.specs.Prelude.{
+  ◌≡◌,
+  [],
+  ◌∷◌,
+  ◌+◌,
+  ◌<◌,
+  ◌≤◌,
+  ℕ,
+  List,
+  length,
+  MatchOption,
+  MatchBool,
+};
+ghost use Rattle.express_trees.specs.declared.tree.Relation.{Relation};
+ghost use Rattle.express_trees.specs.Words.{word_of, name, keyword, mark};
+ghost use Rattle.express_trees.specs.Trees.{
+  word_of_number,
+  word_of_sign,
+  word_of_relation,
+  word_of_limit,
+  word_of_junction,
+};
+ghost use Rattle.express_trees.specs.Grammar.{primary, depth_limit};
+ghost use Rattle.express_trees.specs.Reads.{Stops};
+ghost use Rattle.express_expressions.specs.Pieces.{
+  words_from,
+  Lacks,
+  Finds,
+  FindsWord,
+  begun,
+  beginning_word,
+};
+ghost use Rattle.express_trees.specs.Views.{capitals, number_of};
 
-use crate::keyword::Keyword;
-use crate::lexeme::{Lexeme, is_keyword, is_mark};
 use crate::literals::{junction_at, limit_at, name_at, number_at, relation_at, sign_at};
 use crate::start::{Start, start_of};
-use crate::tree::{Junction, Limit, Number, Relation, Sign};
 use express_lexis::literal::Word;
 use express_lexis::marks::Mark;
+use express_trees::keyword::Keyword;
+use express_trees::lexeme::{Lexeme, is_keyword, is_mark};
+use express_trees::tree::{Junction, LEVELS, Limit, Number, Relation, Sign};
 
 /// The lexeme at this index, if there are more.
 fn first_at<'a>(lexemes: &[Lexeme<'a>], at: usize) -> Option<Lexeme<'a>>
-    ensures { MatchOption result (words_from at lexemes.now ≡ []) (λ x. (at < length lexemes.now) × (words_from at lexemes.now ≡ word_of x ∷ words_from (at + 1) lexemes.now)) }
+    ensures { MatchOption result (words_from at lexemes.now ≡ [])
+        (λ x. (at < length lexemes.now)
+        × (words_from at lexemes.now ≡ word_of x ∷ words_from (at + 1) lexemes.now)) }
 {
     lexemes.get(at).copied()
 }
 
 /// What is left behind this mark, if it stands first.
 pub(crate) fn behind_mark(lexemes: &[Lexeme<'_>], at: usize, wanted: Mark) -> Option<usize>
-    ensures { MatchOption result (Lacks (mark wanted) (words_from at lexemes.now)) (λ r. words_from at lexemes.now ≡ mark wanted ∷ words_from r lexemes.now) }
+    ensures { FindsWord (mark wanted) at lexemes.now result }
 {
     let first = first_at(lexemes, at)?;
     if is_mark(first, wanted) {
@@ -42,7 +65,7 @@ pub(crate) fn behind_mark(lexemes: &[Lexeme<'_>], at: usize, wanted: Mark) -> Op
 
 /// What is left behind this keyword, if it stands first.
 pub(crate) fn behind_keyword(lexemes: &[Lexeme<'_>], at: usize, wanted: Keyword) -> Option<usize>
-    ensures { MatchOption result (Lacks (keyword wanted) (words_from at lexemes.now)) (λ r. words_from at lexemes.now ≡ keyword wanted ∷ words_from r lexemes.now) }
+    ensures { FindsWord (keyword wanted) at lexemes.now result }
 {
     let first = first_at(lexemes, at)?;
     if is_keyword(first, wanted) {
@@ -54,7 +77,7 @@ pub(crate) fn behind_keyword(lexemes: &[Lexeme<'_>], at: usize, wanted: Keyword)
 
 /// The name that stands first.
 pub(crate) fn name_first<'a>(lexemes: &[Lexeme<'a>], at: usize) -> Option<(Word<'a>, usize)>
-    ensures { MatchOption result ((x : List ℕ) → Lacks (name x) (words_from at lexemes.now)) (λ p. words_from at lexemes.now ≡ name (capitals p.0) ∷ words_from p.1 lexemes.now) }
+    ensures { Finds name capitals at lexemes.now result }
 {
     let first = first_at(lexemes, at)?;
     let word = name_at(first)?;
@@ -63,7 +86,7 @@ pub(crate) fn name_first<'a>(lexemes: &[Lexeme<'a>], at: usize) -> Option<(Word<
 
 /// The number that stands first.
 pub(crate) fn number_first<'a>(lexemes: &[Lexeme<'a>], at: usize) -> Option<(Number<'a>, usize)>
-    ensures { MatchOption result ((x : Trees.Number) → Lacks (word_of_number x) (words_from at lexemes.now)) (λ p. words_from at lexemes.now ≡ word_of_number (number_of p.0) ∷ words_from p.1 lexemes.now) }
+    ensures { Finds word_of_number number_of at lexemes.now result }
 {
     let first = first_at(lexemes, at)?;
     let number = number_at(first)?;
@@ -72,7 +95,7 @@ pub(crate) fn number_first<'a>(lexemes: &[Lexeme<'a>], at: usize) -> Option<(Num
 
 /// The sign that stands first.
 pub(crate) fn sign_first<'a>(lexemes: &[Lexeme<'a>], at: usize) -> Option<(Sign, usize)>
-    ensures { MatchOption result ((x : Sign) → Lacks (word_of_sign x) (words_from at lexemes.now)) (λ p. words_from at lexemes.now ≡ word_of_sign p.0 ∷ words_from p.1 lexemes.now) }
+    ensures { Finds word_of_sign (λ s. s) at lexemes.now result }
 {
     let first = first_at(lexemes, at)?;
     let sign = sign_at(first)?;
@@ -81,7 +104,7 @@ pub(crate) fn sign_first<'a>(lexemes: &[Lexeme<'a>], at: usize) -> Option<(Sign,
 
 /// The relation that stands first.
 pub(crate) fn relation_first<'a>(lexemes: &[Lexeme<'a>], at: usize) -> Option<(Relation, usize)>
-    ensures { MatchOption result ((x : Relation) → Lacks (word_of_relation x) (words_from at lexemes.now)) (λ p. words_from at lexemes.now ≡ word_of_relation p.0 ∷ words_from p.1 lexemes.now) }
+    ensures { Finds word_of_relation (λ r. r) at lexemes.now result }
 {
     let first = first_at(lexemes, at)?;
     let relation = relation_at(first)?;
@@ -90,7 +113,7 @@ pub(crate) fn relation_first<'a>(lexemes: &[Lexeme<'a>], at: usize) -> Option<(R
 
 /// The relation to an end of an interval that stands first.
 pub(crate) fn limit_first<'a>(lexemes: &[Lexeme<'a>], at: usize) -> Option<(Limit, usize)>
-    ensures { MatchOption result ((x : Limit) → Lacks (word_of_limit x) (words_from at lexemes.now)) (λ p. words_from at lexemes.now ≡ word_of_limit p.0 ∷ words_from p.1 lexemes.now) }
+    ensures { Finds word_of_limit (λ l. l) at lexemes.now result }
 {
     let first = first_at(lexemes, at)?;
     let limit = limit_at(first)?;
@@ -99,7 +122,7 @@ pub(crate) fn limit_first<'a>(lexemes: &[Lexeme<'a>], at: usize) -> Option<(Limi
 
 /// OR or XOR, where one of them stands first.
 pub(crate) fn junction_first<'a>(lexemes: &[Lexeme<'a>], at: usize) -> Option<(Junction, usize)>
-    ensures { MatchOption result ((x : Junction) → Lacks (word_of_junction x) (words_from at lexemes.now)) (λ p. words_from at lexemes.now ≡ word_of_junction p.0 ∷ words_from p.1 lexemes.now) }
+    ensures { Finds word_of_junction (λ j. j) at lexemes.now result }
 {
     let first = first_at(lexemes, at)?;
     let junction = junction_at(first)?;
@@ -108,7 +131,7 @@ pub(crate) fn junction_first<'a>(lexemes: &[Lexeme<'a>], at: usize) -> Option<(J
 
 /// The word that stands first, if a primary begins with it.
 pub(crate) fn start_first<'a>(lexemes: &[Lexeme<'a>], at: usize) -> Option<(Start<'a>, usize)>
-    ensures { MatchOption result (NoBeginning (words_from at lexemes.now)) (λ p. words_from at lexemes.now ≡ beginning_word (begun p.0) ∷ words_from p.1 lexemes.now) }
+    ensures { Finds beginning_word begun at lexemes.now result }
 {
     let first = first_at(lexemes, at)?;
     let start = start_of(first)?;
@@ -117,7 +140,8 @@ pub(crate) fn start_first<'a>(lexemes: &[Lexeme<'a>], at: usize) -> Option<(Star
 
 /// Whether no qualifier stands first.
 pub(crate) fn is_unqualified(lexemes: &[Lexeme<'_>], at: usize) -> bool
-    ensures { MatchBool result (Stops primary (words_from at lexemes.now)) (Stops primary (words_from at lexemes.now) → ⊥) }
+    ensures { MatchBool result (Stops primary (words_from at lexemes.now))
+        (Stops primary (words_from at lexemes.now) → ⊥) }
 {
     match first_at(lexemes, at) {
         Some(Lexeme::Mark(Mark::Dot | Mark::Backslash | Mark::OpenBracket)) => false,
@@ -127,7 +151,17 @@ pub(crate) fn is_unqualified(lexemes: &[Lexeme<'_>], at: usize) -> bool
 
 /// Whether no relation stands first.
 pub(crate) fn is_unrelated(lexemes: &[Lexeme<'_>], at: usize) -> bool
-    ensures { MatchBool result ((x : Relation) → Lacks (word_of_relation x) (words_from at lexemes.now)) ((x : Relation) × (rest : List _) × (words_from at lexemes.now ≡ word_of_relation x ∷ rest)) }
+    ensures { MatchBool result
+        ((x : Relation) → Lacks (word_of_relation x) (words_from at lexemes.now))
+        ((x : Relation) × (rest : List _)
+        × (words_from at lexemes.now ≡ word_of_relation x ∷ rest)) }
 {
     relation_first(lexemes, at).is_none()
+}
+
+/// Whether no more parentheses, brackets and braces may be open.
+pub(crate) fn is_deepest(depth: u32) -> bool
+    ensures { MatchBool result (depth_limit ≤ depth) (depth < depth_limit) }
+{
+    depth >= LEVELS
 }

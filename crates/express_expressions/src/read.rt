@@ -2,48 +2,86 @@
 
 ghost use Rattle.std.specs.Prelude.{◌≡◌, ◌∷◌, ℕ, List, MatchOption, IfOk};
 ghost use Rattle.express_lexis.specs.declared.marks.Mark.TheVariants as marks;
-ghost use Rattle.express_expressions.specs.declared.keyword.Keyword.TheVariants as keywords;
-ghost use Rattle.express_expressions.specs.Words.{words_of, keyword, mark, name};
-ghost use Rattle.express_expressions.specs.Trees.{word_of_function, word_of_limit, word_of_sign};
-ghost use Rattle.express_expressions.specs.Grammar.{primary, unary, term, simple, expression, IsExpression, IsNone};
-ghost use Rattle.express_expressions.specs.Reads.{Stops, Stands, StandsNone};
-ghost use Rattle.express_expressions.specs.Pieces.{words_from, begun, beginning_word, level_of, Before, BeforeNone, BoundNone, Elements, ElementsNone, Heads, More, MoreNone, Others, OthersNone, Selects, SelectsNone, Attribute, AttributeNone, Qualifies, QualifierNone, VariableNone};
-ghost use Rattle.express_expressions.specs.Views.{capitals, tree_of, trees_of, alternatives_of, selection_of, qualifiers_of};
-
-use crate::front::{
-    behind_keyword, behind_mark, is_unqualified, is_unrelated, junction_first, limit_first,
-    name_first, number_first, relation_first, sign_first, start_first,
+ghost use Rattle.express_trees.specs.declared.keyword.Keyword.TheVariants as keywords;
+ghost use Rattle.express_trees.specs.Words.{words_of, keyword, mark, name};
+ghost use Rattle.express_trees.specs.Trees.{word_of_function};
+ghost use Rattle.express_trees.specs.Grammar.{
+  primary,
+  unary,
+  term,
+  simple,
+  expression,
+  IsExpression,
+  IsNone,
 };
-use crate::keyword::Keyword;
-use crate::lexeme::Lexeme;
+ghost use Rattle.express_trees.specs.Reads.{Stops, Stands};
+ghost use Rattle.express_expressions.specs.Pieces.{
+  words_from,
+  begun,
+  beginning_word,
+  level_of,
+  Before,
+  Elements,
+  More,
+  Others,
+  Selects,
+  Attribute,
+  AttributeNone,
+  Qualifies,
+  VariableNone,
+  boxed_tree,
+  Reads,
+  ReadsBehind,
+  ReadsBound,
+  ReadsSigned,
+};
+ghost use Rattle.express_trees.specs.Views.{
+  capitals,
+  tree_of,
+  trees_of,
+  alternatives_of,
+  selection_of,
+  qualifiers_of,
+};
+
+use crate::boxed::{boxed, conjoined, disjoined};
+use crate::build;
+use crate::front::{
+    behind_keyword, behind_mark, is_deepest, is_unqualified, is_unrelated, junction_first,
+    limit_first, name_first, number_first, relation_first, sign_first, start_first,
+};
+use crate::not_read::NotRead;
 use crate::start::{Inner, Start};
-use crate::tree::{Alternative, Expr, Function, Limit, Qualifier, Sign};
-use crate::{boxed, build};
 use express_lexis::literal::Word;
 use express_lexis::marks::Mark;
+use express_trees::keyword::Keyword;
+use express_trees::lexeme::Lexeme;
+use express_trees::tree::{Alternative, Expr, Function, Limit, Qualifier, Sign};
 use std::alloc::{AllocError, Global};
 
-/// So many parentheses, brackets and braces may be open at once.
-const LEVELS: u32 = 64;
-
 /// What is read, and the index behind it.
-type Read<X> = Result<Option<(X, usize)>, AllocError>;
+type Read<X> = Result<(X, usize), NotRead>;
 
 /// The number behind a sign.
-fn signed<'a>(sign: Sign, lexemes: &[Lexeme<'a>], at: usize) -> Option<(Expr<'a>, usize)>
-    ensures { MatchOption result ((n : ℕ) → StandsNone n unary (word_of_sign sign ∷ words_from at lexemes.now)) (λ p. (n : ℕ) → Stands n unary (word_of_sign sign ∷ words_from at lexemes.now) (tree_of p.0) (words_from p.1 lexemes.now)) }
+fn signed<'a>(alloc: Global, sign: Sign, lexemes: &[Lexeme<'a>], at: usize) -> Read<Box<Expr<'a>>>
+    ensures { ReadsSigned sign at lexemes.now result }
 {
-    let (number, rest) = number_first(lexemes, at)?;
+    let Some((number, rest)) = number_first(lexemes, at) else {
+        return Err(NotRead::NoExpression);
+    };
     if is_unqualified(lexemes, rest) {
-        Some((build::signed(sign, number), rest))
+        boxed(alloc, build::signed(sign, number), rest)
     } else {
-        None
+        Err(NotRead::NoExpression)
     }
 }
 
 /// The variable behind QUERY, up to what it ranges over.
 fn variable<'a>(lexemes: &[Lexeme<'a>], at: usize) -> Option<(Word<'a>, usize)>
-    ensures { MatchOption result (VariableNone (words_from at lexemes.now)) (λ p. words_from at lexemes.now ≡ mark marks.Open ∷ name (capitals p.0) ∷ mark marks.QuerySource ∷ words_from p.1 lexemes.now) }
+    ensures { MatchOption result (VariableNone (words_from at lexemes.now))
+        (λ p. words_from at lexemes.now
+        ≡ mark marks.Open ∷ name (capitals p.0) ∷ mark marks.QuerySource
+        ∷ words_from p.1 lexemes.now) }
 {
     let first = behind_mark(lexemes, at, Mark::Open)?;
     let (variable, second) = name_first(lexemes, first)?;
@@ -53,7 +91,9 @@ fn variable<'a>(lexemes: &[Lexeme<'a>], at: usize) -> Option<(Word<'a>, usize)>
 
 /// An attribute that a reference selects.
 fn attribute<'a>(lexemes: &[Lexeme<'a>], at: usize) -> Option<(Qualifier<'a>, usize)>
-    ensures { MatchOption result (AttributeNone (words_from at lexemes.now)) (λ p. Attribute (words_from at lexemes.now) (selection_of p.0) (words_from p.1 lexemes.now)) }
+    ensures { MatchOption result (AttributeNone (words_from at lexemes.now))
+        (λ p. Attribute (words_from at lexemes.now) (selection_of p.0)
+        (words_from p.1 lexemes.now)) }
 {
     let Some(more) = behind_mark(lexemes, at, Mark::Backslash) else {
         let more = behind_mark(lexemes, at, Mark::Dot)?;
@@ -68,38 +108,33 @@ fn attribute<'a>(lexemes: &[Lexeme<'a>], at: usize) -> Option<(Qualifier<'a>, us
 
 /// A simple expression, or two with a relation between.
 #[cycle(reader)]
-fn expression<'a>(alloc: Global, lexemes: &[Lexeme<'a>], at: usize, depth: u32) -> Read<Expr<'a>>
-    ensures { IfOk result (λ r. MatchOption r (StandsNone depth expression (words_from at lexemes.now)) (λ p. Stands depth expression (words_from at lexemes.now) (tree_of p.0) (words_from p.1 lexemes.now))) }
+fn expression<'a>(
+    alloc: Global,
+    lexemes: &[Lexeme<'a>],
+    at: usize,
+    depth: u32,
+) -> Read<Box<Expr<'a>>>
+    ensures { Reads (Stands depth expression) boxed_tree at lexemes.now result }
 {
-    let Some((left, rest)) = simple(alloc, lexemes, at, depth)? else {
-        return Ok(None);
-    };
+    let (left, rest) = simple(alloc, lexemes, at, depth)?;
     let Some((relation, more)) = relation_first(lexemes, rest) else {
-        return Ok(Some((left, rest)));
+        return Ok((left, rest));
     };
-    let Some((right, end)) = simple(alloc, lexemes, more, depth)? else {
-        return Ok(None);
-    };
+    let (right, end) = simple(alloc, lexemes, more, depth)?;
     if !is_unrelated(lexemes, end) {
-        return Ok(None);
+        return Err(NotRead::NoExpression);
     }
-    let whole = boxed::compared(alloc, left, relation, right)?;
-    Ok(Some((whole, end)))
+    boxed(alloc, build::comparison(left, relation, right), end)
 }
 
 /// Terms, with OR or XOR between.
 #[cycle(reader)]
-fn simple<'a>(alloc: Global, lexemes: &[Lexeme<'a>], at: usize, depth: u32) -> Read<Expr<'a>>
-    ensures { IfOk result (λ r. MatchOption r (StandsNone depth simple (words_from at lexemes.now)) (λ p. Stands depth simple (words_from at lexemes.now) (tree_of p.0) (words_from p.1 lexemes.now))) }
+fn simple<'a>(alloc: Global, lexemes: &[Lexeme<'a>], at: usize, depth: u32) -> Read<Box<Expr<'a>>>
+    ensures { Reads (Stands depth simple) boxed_tree at lexemes.now result }
 {
-    let Some((first, rest)) = term(alloc, lexemes, at, depth)? else {
-        return Ok(None);
-    };
-    let Some((others, end)) = alternatives(alloc, lexemes, rest, depth)? else {
-        return Ok(None);
-    };
-    let whole = boxed::disjoined(alloc, first, others)?;
-    Ok(Some((whole, end)))
+    let (first, rest) = term(alloc, lexemes, at, depth)?;
+    let (others, end) = alternatives(alloc, lexemes, rest, depth)?;
+    disjoined(alloc, first, others, end)
 }
 
 /// What OR and XOR add.
@@ -111,35 +146,28 @@ fn alternatives<'a>(
     depth: u32,
 ) -> Read<Vec<Alternative<'a>>>
     requires { Stops term (words_from at lexemes.now) }
-    ensures { IfOk result (λ r. MatchOption r (MoreNone depth (words_from at lexemes.now)) (λ p. More depth (words_from at lexemes.now) (alternatives_of p.0.items) (words_from p.1 lexemes.now))) }
+    ensures { Reads (More depth) (λ xs. alternatives_of xs.items) at lexemes.now result }
 {
     let mut others = Vec::new(alloc);
     let mut left = at;
     loop {
         let Some((junction, more)) = junction_first(lexemes, left) else {
-            return Ok(Some((others, left)));
+            return Ok((others, left));
         };
-        let Some((term, rest)) = term(alloc, lexemes, more, depth)? else {
-            return Ok(None);
-        };
-        others.push(build::alternative(junction, term))?;
+        let (term, rest) = term(alloc, lexemes, more, depth)?;
+        others.push(build::alternative(junction, Box::into_inner(term)))?;
         left = rest;
     }
 }
 
 /// Unaries, with AND between.
 #[cycle(reader)]
-fn term<'a>(alloc: Global, lexemes: &[Lexeme<'a>], at: usize, depth: u32) -> Read<Expr<'a>>
-    ensures { IfOk result (λ r. MatchOption r (StandsNone depth term (words_from at lexemes.now)) (λ p. Stands depth term (words_from at lexemes.now) (tree_of p.0) (words_from p.1 lexemes.now))) }
+fn term<'a>(alloc: Global, lexemes: &[Lexeme<'a>], at: usize, depth: u32) -> Read<Box<Expr<'a>>>
+    ensures { Reads (Stands depth term) boxed_tree at lexemes.now result }
 {
-    let Some((first, rest)) = unary(alloc, lexemes, at, depth)? else {
-        return Ok(None);
-    };
-    let Some((others, end)) = conjuncts(alloc, lexemes, rest, depth)? else {
-        return Ok(None);
-    };
-    let whole = boxed::conjoined(alloc, first, others)?;
-    Ok(Some((whole, end)))
+    let (first, rest) = unary(alloc, lexemes, at, depth)?;
+    let (others, end) = conjuncts(alloc, lexemes, rest, depth)?;
+    conjoined(alloc, first, others, end)
 }
 
 /// What AND adds.
@@ -151,55 +179,48 @@ fn conjuncts<'a>(
     depth: u32,
 ) -> Read<Vec<Expr<'a>>>
     requires { Stops unary (words_from at lexemes.now) }
-    ensures { IfOk result (λ r. MatchOption r (OthersNone depth (words_from at lexemes.now)) (λ p. Others depth (words_from at lexemes.now) (trees_of p.0.items) (words_from p.1 lexemes.now))) }
+    ensures { Reads (Others depth) (λ xs. trees_of xs.items) at lexemes.now result }
 {
     let mut others = Vec::new(alloc);
     let mut left = at;
     loop {
         let Some(more) = behind_keyword(lexemes, left, Keyword::And) else {
-            return Ok(Some((others, left)));
+            return Ok((others, left));
         };
-        let Some((other, rest)) = unary(alloc, lexemes, more, depth)? else {
-            return Ok(None);
-        };
-        others.push(other)?;
+        let (other, rest) = unary(alloc, lexemes, more, depth)?;
+        others.push(Box::into_inner(other))?;
         left = rest;
     }
 }
 
 /// A primary, or one behind NOT, or a number behind a sign.
 #[cycle(reader)]
-fn unary<'a>(alloc: Global, lexemes: &[Lexeme<'a>], at: usize, depth: u32) -> Read<Expr<'a>>
-    ensures { IfOk result (λ r. MatchOption r (StandsNone depth unary (words_from at lexemes.now)) (λ p. Stands depth unary (words_from at lexemes.now) (tree_of p.0) (words_from p.1 lexemes.now))) }
+fn unary<'a>(alloc: Global, lexemes: &[Lexeme<'a>], at: usize, depth: u32) -> Read<Box<Expr<'a>>>
+    ensures { Reads (Stands depth unary) boxed_tree at lexemes.now result }
 {
     if let Some((sign, more)) = sign_first(lexemes, at) {
-        return Ok(signed(sign, lexemes, more));
+        return signed(alloc, sign, lexemes, more);
     }
     let Some(more) = behind_keyword(lexemes, at, Keyword::Not) else {
         return primary(alloc, lexemes, at, depth);
     };
-    let Some((inner, end)) = primary(alloc, lexemes, more, depth)? else {
-        return Ok(None);
-    };
-    let whole = boxed::negated(alloc, inner)?;
-    Ok(Some((whole, end)))
+    let (inner, end) = primary(alloc, lexemes, more, depth)?;
+    boxed(alloc, build::negation(inner), end)
 }
 
 /// A primary, with all its qualifiers.
 #[cycle(reader)]
-fn primary<'a>(alloc: Global, lexemes: &[Lexeme<'a>], at: usize, depth: u32) -> Read<Expr<'a>>
-    ensures { IfOk result (λ r. MatchOption r (StandsNone depth primary (words_from at lexemes.now)) (λ p. Stands depth primary (words_from at lexemes.now) (tree_of p.0) (words_from p.1 lexemes.now))) }
+fn primary<'a>(alloc: Global, lexemes: &[Lexeme<'a>], at: usize, depth: u32) -> Read<Box<Expr<'a>>>
+    ensures { Reads (Stands depth primary) boxed_tree at lexemes.now result }
 {
     let Some((start, more)) = start_first(lexemes, at) else {
-        return Ok(None);
+        return Err(NotRead::NoExpression);
     };
-    let Some((whole, end)) = started(alloc, start, lexemes, more, depth)? else {
-        return Ok(None);
-    };
+    let (whole, end) = started(alloc, start, lexemes, more, depth)?;
     if !is_unqualified(lexemes, end) {
-        return Ok(None);
+        return Err(NotRead::NoExpression);
     }
-    Ok(Some((whole, end)))
+    Ok((whole, end))
 }
 
 /// The primary that begins with this, as far as it is complete.
@@ -210,42 +231,39 @@ fn started<'a>(
     lexemes: &[Lexeme<'a>],
     at: usize,
     depth: u32,
-) -> Read<Expr<'a>>
-    ensures { IfOk result (λ r. MatchOption r (StandsNone depth primary (beginning_word (begun start.entry) ∷ words_from at lexemes.now)) (λ p. Heads depth (beginning_word (begun start.entry) ∷ words_from at lexemes.now) (tree_of p.0) (words_from p.1 lexemes.now))) }
+) -> Read<Box<Expr<'a>>>
+    ensures { ReadsBehind (beginning_word (begun start.entry)) depth at lexemes.now result }
 {
     match start {
-        Start::Literal(value) => Ok(Some((build::literal(value), at))),
+        Start::Literal(value) => boxed(alloc, build::literal(value), at),
         Start::Parenthesis => parenthesized(alloc, lexemes, at, depth),
         Start::Bracket => {
-            let Some((values, end)) = elements(alloc, lexemes, at, depth)? else {
-                return Ok(None);
-            };
-            Ok(Some((build::aggregate(values), end)))
+            let (values, end) = elements(alloc, lexemes, at, depth)?;
+            boxed(alloc, build::aggregate(values), end)
         }
         Start::Brace => interval(alloc, lexemes, at, depth),
         Start::Query => query(alloc, lexemes, at, depth),
         Start::Call(function) => called(alloc, function, lexemes, at, depth),
         Start::Nvl => nvl(alloc, lexemes, at, depth),
         Start::Reference(root) => {
-            let Some((qualifiers, end)) = qualifiers(alloc, lexemes, at, depth)? else {
-                return Ok(None);
-            };
-            Ok(Some((build::reference(root, qualifiers), end)))
+            let (qualifiers, end) = qualifiers(alloc, lexemes, at, depth)?;
+            boxed(alloc, build::reference(root, qualifiers), end)
         }
     }
 }
 
 /// An expression in parentheses, behind the first of them.
 #[cycle(reader)]
-fn parenthesized<'a>(alloc: Global, lexemes: &[Lexeme<'a>], at: usize, depth: u32) -> Read<Expr<'a>>
-    ensures { IfOk result (λ r. MatchOption r (StandsNone depth primary (mark marks.Open ∷ words_from at lexemes.now)) (λ p. Heads depth (mark marks.Open ∷ words_from at lexemes.now) (tree_of p.0) (words_from p.1 lexemes.now))) }
+fn parenthesized<'a>(
+    alloc: Global,
+    lexemes: &[Lexeme<'a>],
+    at: usize,
+    depth: u32,
+) -> Read<Box<Expr<'a>>>
+    ensures { ReadsBehind (mark marks.Open) depth at lexemes.now result }
 {
-    let Some((inner, end)) = before(alloc, lexemes, at, depth, Inner::Expression, Mark::Close)?
-    else {
-        return Ok(None);
-    };
-    let whole = boxed::parenthesized(alloc, inner)?;
-    Ok(Some((whole, end)))
+    let (inner, end) = before(alloc, lexemes, at, depth, Inner::Expression, Mark::Close)?;
+    boxed(alloc, build::parenthesized(inner), end)
 }
 
 /// The argument of a function.
@@ -256,18 +274,14 @@ fn called<'a>(
     lexemes: &[Lexeme<'a>],
     at: usize,
     depth: u32,
-) -> Read<Expr<'a>>
-    ensures { IfOk result (λ r. MatchOption r (StandsNone depth primary (word_of_function function ∷ words_from at lexemes.now)) (λ p. Heads depth (word_of_function function ∷ words_from at lexemes.now) (tree_of p.0) (words_from p.1 lexemes.now))) }
+) -> Read<Box<Expr<'a>>>
+    ensures { ReadsBehind (word_of_function function) depth at lexemes.now result }
 {
     let Some(more) = behind_mark(lexemes, at, Mark::Open) else {
-        return Ok(None);
+        return Err(NotRead::NoExpression);
     };
-    let Some((argument, end)) = before(alloc, lexemes, more, depth, Inner::Expression, Mark::Close)?
-    else {
-        return Ok(None);
-    };
-    let whole = boxed::called(alloc, function, argument)?;
-    Ok(Some((whole, end)))
+    let (argument, end) = before(alloc, lexemes, more, depth, Inner::Expression, Mark::Close)?;
+    boxed(alloc, build::call(function, argument), end)
 }
 
 /// A simple expression, or any.
@@ -278,8 +292,8 @@ fn inside<'a>(
     at: usize,
     depth: u32,
     inner: Inner,
-) -> Read<Expr<'a>>
-    ensures { IfOk result (λ r. MatchOption r (StandsNone depth (level_of inner) (words_from at lexemes.now)) (λ p. Stands depth (level_of inner) (words_from at lexemes.now) (tree_of p.0) (words_from p.1 lexemes.now))) }
+) -> Read<Box<Expr<'a>>>
+    ensures { Reads (Stands depth (level_of inner)) boxed_tree at lexemes.now result }
 {
     match inner {
         Inner::Simple => simple(alloc, lexemes, at, depth),
@@ -296,155 +310,118 @@ fn before<'a>(
     depth: u32,
     inner: Inner,
     end: Mark,
-) -> Read<Expr<'a>>
-    ensures { IfOk result (λ r. MatchOption r (BeforeNone depth (level_of inner) (mark end) (words_from at lexemes.now)) (λ p. Before depth (level_of inner) (mark end) (words_from at lexemes.now) (tree_of p.0) (words_from p.1 lexemes.now))) }
+) -> Read<Box<Expr<'a>>>
+    ensures { Reads (Before depth (level_of inner) (mark end)) boxed_tree at lexemes.now result }
 {
-    if depth >= LEVELS {
-        return Ok(None);
+    if is_deepest(depth) {
+        return Err(NotRead::NoExpression);
     }
-    let Some((whole, rest)) = inside(alloc, lexemes, at, depth + 1, inner)? else {
-        return Ok(None);
-    };
+    let (whole, rest) = inside(alloc, lexemes, at, depth + 1, inner)?;
     let Some(behind) = behind_mark(lexemes, rest, end) else {
-        return Ok(None);
+        return Err(NotRead::NoExpression);
     };
-    Ok(Some((whole, behind)))
+    Ok((whole, behind))
 }
 
-/// An end of an interval or its item, and the limit behind it.
-#[derive(Drop)]
-struct Limited<'a> {
-    value: Expr<'a>,
-    limit: Limit,
-}
-
-/// What stands before a limit of an interval.
+/// What stands before a limit of an interval, and the limit.
 #[cycle(reader)]
-fn bound<'a>(alloc: Global, lexemes: &[Lexeme<'a>], at: usize, depth: u32) -> Read<Limited<'a>>
-    ensures { IfOk result (λ r. MatchOption r (BoundNone depth (words_from at lexemes.now)) (λ p. Before depth simple (word_of_limit p.0.limit) (words_from at lexemes.now) (tree_of p.0.value) (words_from p.1 lexemes.now))) }
+fn bound<'a>(
+    alloc: Global,
+    lexemes: &[Lexeme<'a>],
+    at: usize,
+    depth: u32,
+) -> Result<(Box<Expr<'a>>, Limit, usize), NotRead>
+    ensures { ReadsBound depth at lexemes.now result }
 {
-    if depth >= LEVELS {
-        return Ok(None);
+    if is_deepest(depth) {
+        return Err(NotRead::NoExpression);
     }
-    let Some((value, rest)) = simple(alloc, lexemes, at, depth + 1)? else {
-        return Ok(None);
-    };
+    let (value, rest) = simple(alloc, lexemes, at, depth + 1)?;
     let Some((limit, behind)) = limit_first(lexemes, rest) else {
-        return Ok(None);
+        return Err(NotRead::NoExpression);
     };
-    Ok(Some((Limited { value, limit }, behind)))
+    Ok((value, limit, behind))
 }
 
 /// An interval, behind its brace.
 #[cycle(reader)]
-fn interval<'a>(alloc: Global, lexemes: &[Lexeme<'a>], at: usize, depth: u32) -> Read<Expr<'a>>
-    ensures { IfOk result (λ r. MatchOption r (StandsNone depth primary (mark marks.OpenBrace ∷ words_from at lexemes.now)) (λ p. Heads depth (mark marks.OpenBrace ∷ words_from at lexemes.now) (tree_of p.0) (words_from p.1 lexemes.now))) }
+fn interval<'a>(alloc: Global, lexemes: &[Lexeme<'a>], at: usize, depth: u32) -> Read<Box<Expr<'a>>>
+    ensures { ReadsBehind (mark marks.OpenBrace) depth at lexemes.now result }
 {
-    let Some((low, second)) = bound(alloc, lexemes, at, depth)? else {
-        return Ok(None);
-    };
-    let Some((item, third)) = bound(alloc, lexemes, second, depth)? else {
-        return Ok(None);
-    };
-    let Some((high, end)) = before(
+    let (low, above, second) = bound(alloc, lexemes, at, depth)?;
+    let (item, below, third) = bound(alloc, lexemes, second, depth)?;
+    let (high, end) = before(
         alloc,
         lexemes,
         third,
         depth,
         Inner::Simple,
         Mark::CloseBrace,
-    )?
-    else {
-        return Ok(None);
-    };
-    let whole = boxed::interval(alloc, low.value, low.limit, item.value, item.limit, high)?;
-    Ok(Some((whole, end)))
+    )?;
+    boxed(alloc, build::interval(low, above, item, below, high), end)
 }
 
 /// A query, behind its first word.
 #[cycle(reader)]
-fn query<'a>(alloc: Global, lexemes: &[Lexeme<'a>], at: usize, depth: u32) -> Read<Expr<'a>>
-    ensures { IfOk result (λ r. MatchOption r (StandsNone depth primary (keyword keywords.Query ∷ words_from at lexemes.now)) (λ p. Heads depth (keyword keywords.Query ∷ words_from at lexemes.now) (tree_of p.0) (words_from p.1 lexemes.now))) }
+fn query<'a>(alloc: Global, lexemes: &[Lexeme<'a>], at: usize, depth: u32) -> Read<Box<Expr<'a>>>
+    ensures { ReadsBehind (keyword keywords.Query) depth at lexemes.now result }
 {
     let Some((variable, first)) = variable(lexemes, at) else {
-        return Ok(None);
+        return Err(NotRead::NoExpression);
     };
-    let Some((source, second)) = before(alloc, lexemes, first, depth, Inner::Simple, Mark::Bar)?
-    else {
-        return Ok(None);
-    };
-    let Some((condition, end)) = before(
+    let (source, second) = before(alloc, lexemes, first, depth, Inner::Simple, Mark::Bar)?;
+    let (condition, end) = before(
         alloc,
         lexemes,
         second,
         depth,
         Inner::Expression,
         Mark::Close,
-    )?
-    else {
-        return Ok(None);
-    };
-    let whole = boxed::query(alloc, variable, source, condition)?;
-    Ok(Some((whole, end)))
+    )?;
+    boxed(alloc, build::query(variable, source, condition), end)
 }
 
 /// The arguments of NVL.
 #[cycle(reader)]
-fn nvl<'a>(alloc: Global, lexemes: &[Lexeme<'a>], at: usize, depth: u32) -> Read<Expr<'a>>
-    ensures { IfOk result (λ r. MatchOption r (StandsNone depth primary (keyword keywords.Nvl ∷ words_from at lexemes.now)) (λ p. Heads depth (keyword keywords.Nvl ∷ words_from at lexemes.now) (tree_of p.0) (words_from p.1 lexemes.now))) }
+fn nvl<'a>(alloc: Global, lexemes: &[Lexeme<'a>], at: usize, depth: u32) -> Read<Box<Expr<'a>>>
+    ensures { ReadsBehind (keyword keywords.Nvl) depth at lexemes.now result }
 {
     let Some(first) = behind_mark(lexemes, at, Mark::Open) else {
-        return Ok(None);
+        return Err(NotRead::NoExpression);
     };
-    let Some((value, second)) = before(
-        alloc,
-        lexemes,
-        first,
-        depth,
-        Inner::Expression,
-        Mark::Comma,
-    )?
-    else {
-        return Ok(None);
-    };
-    let Some((substitute, end)) = before(
+    let (value, second) = before(alloc, lexemes, first, depth, Inner::Expression, Mark::Comma)?;
+    let (substitute, end) = before(
         alloc,
         lexemes,
         second,
         depth,
         Inner::Expression,
         Mark::Close,
-    )?
-    else {
-        return Ok(None);
-    };
-    let whole = boxed::nvl(alloc, value, substitute)?;
-    Ok(Some((whole, end)))
+    )?;
+    boxed(alloc, build::nvl(value, substitute), end)
 }
 
 /// The elements of an aggregate, and the bracket that closes it.
 #[cycle(reader)]
 fn elements<'a>(alloc: Global, lexemes: &[Lexeme<'a>], at: usize, depth: u32) -> Read<Vec<Expr<'a>>>
-    ensures { IfOk result (λ r. MatchOption r (ElementsNone depth (words_from at lexemes.now)) (λ p. Elements depth (words_from at lexemes.now) (trees_of p.0.items) (words_from p.1 lexemes.now))) }
+    ensures { Reads (Elements depth) (λ xs. trees_of xs.items) at lexemes.now result }
 {
-    if depth >= LEVELS {
-        return Ok(None);
+    if is_deepest(depth) {
+        return Err(NotRead::NoExpression);
     }
     let mut values = Vec::new(alloc);
     if let Some(end) = behind_mark(lexemes, at, Mark::CloseBracket) {
-        return Ok(Some((values, end)));
+        return Ok((values, end));
     }
     let mut left = at;
     loop {
-        let Some((value, rest)) = expression(alloc, lexemes, left, depth + 1)? else {
-            return Ok(None);
-        };
-        values.push(value)?;
+        let (value, rest) = expression(alloc, lexemes, left, depth + 1)?;
+        values.push(Box::into_inner(value))?;
         if let Some(end) = behind_mark(lexemes, rest, Mark::CloseBracket) {
-            return Ok(Some((values, end)));
+            return Ok((values, end));
         }
         let Some(more) = behind_mark(lexemes, rest, Mark::Comma) else {
-            return Ok(None);
+            return Err(NotRead::NoExpression);
         };
         left = more;
     }
@@ -458,17 +435,15 @@ fn qualifiers<'a>(
     at: usize,
     depth: u32,
 ) -> Read<Vec<Qualifier<'a>>>
-    ensures { IfOk result (λ r. MatchOption r (SelectsNone depth (words_from at lexemes.now)) (λ p. Selects depth (words_from at lexemes.now) (qualifiers_of p.0.items) (words_from p.1 lexemes.now))) }
+    ensures { Reads (Selects depth) (λ xs. qualifiers_of xs.items) at lexemes.now result }
 {
     let mut qualifiers = Vec::new(alloc);
     let mut left = at;
     loop {
         if is_unqualified(lexemes, left) {
-            return Ok(Some((qualifiers, left)));
+            return Ok((qualifiers, left));
         }
-        let Some((qualifier, rest)) = qualifier(alloc, lexemes, left, depth)? else {
-            return Ok(None);
-        };
+        let (qualifier, rest) = qualifier(alloc, lexemes, left, depth)?;
         qualifiers.push(qualifier)?;
         left = rest;
     }
@@ -482,29 +457,28 @@ fn qualifier<'a>(
     at: usize,
     depth: u32,
 ) -> Read<Qualifier<'a>>
-    ensures { IfOk result (λ r. MatchOption r (QualifierNone depth (words_from at lexemes.now)) (λ p. Qualifies depth (words_from at lexemes.now) (selection_of p.0) (words_from p.1 lexemes.now))) }
+    ensures { Reads (Qualifies depth) selection_of at lexemes.now result }
 {
     let Some(more) = behind_mark(lexemes, at, Mark::OpenBracket) else {
-        return Ok(attribute(lexemes, at));
+        return match attribute(lexemes, at) {
+            Some(found) => Ok(found),
+            None => Err(NotRead::NoExpression),
+        };
     };
-    let Some((element, end)) = before(
+    let (element, end) = before(
         alloc,
         lexemes,
         more,
         depth,
         Inner::Simple,
         Mark::CloseBracket,
-    )?
-    else {
-        return Ok(None);
-    };
-    let element = Box::new(alloc, element)?;
-    Ok(Some((build::index(element), end)))
+    )?;
+    Ok((build::index(element), end))
 }
 
 /// Reads the lexemes of one expression (ISO 10303-11, 12), with `depth` parentheses, brackets and
-/// braces open around it; with its own they are 64 at most. `None` where the lexemes are not those of
-/// an expression.
+/// braces open around it; with its own they are 64 at most. `None` where the lexemes are not those
+/// of an expression.
 ///
 /// # Errors
 ///
@@ -514,14 +488,18 @@ pub fn read_expression<'a>(
     lexemes: &[Lexeme<'a>],
     depth: u32,
 ) -> Result<Option<Expr<'a>>, AllocError>
-    ensures { IfOk result (λ r. MatchOption r (IsNone depth (words_of lexemes.now)) (λ e. IsExpression depth (words_of lexemes.now) (tree_of e))) }
+    ensures { IfOk result (λ r. MatchOption r (IsNone depth (words_of lexemes.now))
+        (λ e. IsExpression depth (words_of lexemes.now) (tree_of e))) }
 {
-    let Some((whole, rest)) = expression(alloc, lexemes, 0, depth)? else {
-        return Ok(None);
-    };
-    if rest >= lexemes.len() {
-        Ok(Some(whole))
-    } else {
-        Ok(None)
+    match expression(alloc, lexemes, 0, depth) {
+        Ok((whole, rest)) => {
+            if rest >= lexemes.len() {
+                Ok(Some(Box::into_inner(whole)))
+            } else {
+                Ok(None)
+            }
+        }
+        Err(NotRead::NoExpression) => Ok(None),
+        Err(NotRead::Memory) => Err(AllocError),
     }
 }

@@ -1,13 +1,18 @@
 //! What a primary begins with.
 
 ghost use Rattle.std.specs.Prelude.{◌≡◌};
-ghost use Rattle.express_expressions.specs.Words.{word_of};
-ghost use Rattle.express_expressions.specs.Pieces.{begins, beginning_of, beginning_of_keyword, beginning_of_mark};
+ghost use Rattle.express_trees.specs.Words.{word_of};
+ghost use Rattle.express_expressions.specs.Pieces.{
+  begins,
+  beginning_of,
+  beginning_of_keyword,
+  beginning_of_mark,
+};
 
-use crate::keyword::Keyword;
-use crate::lexeme::Lexeme;
-use crate::tree::{Function, Literal, Logical, Number, Root};
 use express_lexis::marks::Mark;
+use express_trees::keyword::Keyword;
+use express_trees::lexeme::Lexeme;
+use express_trees::tree::{Function, Literal, Logical, Number, Root};
 
 /// What stands inside brackets.
 #[derive(Clone, Copy)]
@@ -43,7 +48,7 @@ fn start_of_keyword<'a>(keyword: Keyword) -> Option<Start<'a>>
         Keyword::Loindex => Some(Start::Call(Function::Loindex)),
         Keyword::Typeof => Some(Start::Call(Function::Typeof)),
         Keyword::Nvl => Some(Start::Nvl),
-        Keyword::Own => Some(Start::Reference(Root::Own)),
+        Keyword::SelfWord => Some(Start::Reference(Root::SelfInstance)),
         _ => None,
     }
 }

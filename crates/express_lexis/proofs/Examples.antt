@@ -6,7 +6,11 @@ use Rattle.express_lexis.specs.Layout.{closing, byte, remark, turns, IsRemark, t
 
 -- a remark in a remark
 nested : IsRemark (codes "(*a(*b*)*c*)")
-nested = (byte 97 (remark (byte 98 closing) (byte 42 (byte 99 closing))), (refl, ((refl, tt), (refl, (refl, tt)))), refl)
+nested = (
+  byte 97 (remark (byte 98 closing) (byte 42 (byte 99 closing))),
+  (refl, ((refl, tt), (refl, (refl, tt)))),
+  refl,
+)
 
 -- the shortest
 bare : IsRemark (codes "(**)")
@@ -36,7 +40,15 @@ an_integer = (lit< tt, (refl, (refl, tt)))
 
 -- a real without digits behind its dot, with an exponent
 a_real : Spells real (codes "1.E-5")
-a_real = (codes "1", [], codes "E-5", (lit< tt, (refl, tt)), tt, (refl, codes "-", codes "5", refl, (lit< tt, (refl, tt)), refl), refl)
+a_real = (
+  codes "1",
+  [],
+  codes "E-5",
+  (lit< tt, (refl, tt)),
+  tt,
+  (refl, codes "-", codes "5", refl, (lit< tt, (refl, tt)), refl),
+  refl,
+)
 
 a_string : Spells string (codes "'it''s'")
 a_string = (codes "it's", refl)

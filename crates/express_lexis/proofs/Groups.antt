@@ -7,7 +7,7 @@ use Rattle.step_literals.specs.Bytes.{is_digit}
 use Rattle.step_literals.specs.Tokens.{IsDigits}
 use Rattle.express_lexis.specs.declared.marks.Mark.{Mark}
 use Rattle.express_lexis.specs.Marks.{mark_text}
-use Rattle.express_lexis.specs.Tokens.{Kind, word, integer, real, string, encoded, binary, mark, is_letter, IsWord, Allows, IsNext, NoneAt}
+use Rattle.express_lexis.specs.Tokens.{TokenKind, word, integer, real, string, encoded, binary, mark, is_letter, IsWord, Allows, IsNext, NoneAt}
 use Rattle.express_lexis.proofs.MarkLemmas.{each_mark, below}
 
 pub data Group : Type 0 where
@@ -18,7 +18,7 @@ pub data Group : Type 0 where
   percent : Group
   others : Group
 
-abbrev pub group : Kind → Group
+abbrev pub group : TokenKind → Group
 group word = words
 group integer = numbers
 group real = numbers
@@ -48,8 +48,10 @@ digit_numbers b h = rw (digit_no_letter b h, h) refl
 other_byte : (b n : ℕ) → (b ≡ n → ⊥) → (b == n) ≡ false
 other_byte b n h = grind (arith, nat_tests)
 
-pub others_left : (b : ℕ) → is_letter b ≡ false → is_digit b ≡ false → (b ≡ 39 → ⊥) → (b ≡ 34 → ⊥) → (b ≡ 37 → ⊥) → group_of b ≡ others
-others_left b letter digit h1 h2 h3 = rw (letter, digit, other_byte b 39 h1, other_byte b 34 h2, other_byte b 37 h3) refl
+pub others_left : (b : ℕ) → is_letter b ≡ false → is_digit b ≡ false → (b ≡ 39 → ⊥) → (b ≡ 34 → ⊥) → (b ≡ 37 → ⊥)
+    → group_of b ≡ others
+others_left b letter digit h1 h2 h3 = rw (letter, digit, other_byte b 39 h1, other_byte b 34 h2, other_byte b 37 h3)
+    refl
 
 abbrev is_others : Group → Bool
 is_others others = true
@@ -63,7 +65,8 @@ others_is quote h = absurd (false≢true h)
 others_is percent h = absurd (false≢true h)
 others_is others h = refl
 
-mark_first : (m : Mark) (t rest more : List ℕ) (b : ℕ) → t ≡ mark_text m → t ++ rest ≡ b ∷ more → 0 < length t → b ≡ get_or (mark_text m) 0 0
+mark_first : (m : Mark) (t rest more : List ℕ) (b : ℕ) → t ≡ mark_text m → t ++ rest ≡ b ∷ more → 0 < length t
+    → b ≡ get_or (mark_text m) 0 0
 mark_first m [] rest more b h e some = absurd (omega (arith, some))
 mark_first m (x ∷ xs) rest more b h e some = let q : x ≡ b = cc in sym q ∙ ap (λ l. get_or l 0 0) h
 
@@ -71,7 +74,7 @@ pub mark_some : (m : Mark) → 0 < length (mark_text m)
 mark_some m = below 0 (length (mark_text m)) (each_mark (λ n. nat_lt 0 (length (mark_text n))) refl m)
 
 -- no token is empty
-pub no_empty : (k : Kind) (rest : List ℕ) → Allows k [] rest → ⊥
+pub no_empty : (k : TokenKind) (rest : List ℕ) → Allows k [] rest → ⊥
 no_empty word rest h = h
 no_empty integer rest h = omega (arith, h.0)
 no_empty real rest h = omega (arith, h.3.0, ap length h.6, length-append {A = ℕ})
@@ -92,39 +95,51 @@ digits_first [] rest more b h e = absurd (omega (arith, h.0))
 digits_first (x ∷ xs) rest more b h e = let s : x ≡ b = cc in ap is_digit (sym s) ∙ h.1.0
 
 -- the first byte of a token tells its group
-first_byte : (k : Kind) (t rest more : List ℕ) (b : ℕ) → Allows k t rest → t ++ rest ≡ b ∷ more → 0 < length t → group_of b ≡ group k
+first_byte : (k : TokenKind) (t rest more : List ℕ) (b : ℕ) → Allows k t rest → t ++ rest ≡ b ∷ more → 0 < length t
+    → group_of b ≡ group k
 first_byte word t rest more b h e some = letter_words b (word_first t rest more b h e)
 first_byte integer t rest more b h e some = digit_numbers b (digits_first t rest more b h e)
 first_byte real t rest more b h e some =
-    digit_numbers b (digits_first h.0 (46 ∷ (h.1 ++ (h.2 ++ rest))) more b h.3 ((simp append_assoc at (ap (λ l. l ++ rest) (sym h.6))) ∙ e))
-first_byte string t rest more b h e some = let q : b ≡ 39 = at_byte 39 b _ rest more (ap (λ l. l ++ rest) (sym h.0.1) ∙ e) in rw q refl
-first_byte encoded t rest more b h e some = let q : b ≡ 34 = at_byte 34 b _ rest more (ap (λ l. l ++ rest) (sym h.3) ∙ e) in rw q refl
-first_byte binary t rest more b h e some = let q : b ≡ 37 = at_byte 37 b h.0 rest more (ap (λ l. l ++ rest) (sym h.3) ∙ e) in rw q refl
+    digit_numbers b (digits_first h.0 (46 ∷ (h.1 ++ (h.2 ++ rest))) more b h.3
+    ((simp append_assoc at (ap (λ l. l ++ rest) (sym h.6))) ∙ e))
+first_byte string t rest more b h e some = let q : b ≡ 39 = at_byte 39 b _ rest more (ap (λ l. l ++ rest) (sym h.0.1)
+    ∙ e) in rw q refl
+first_byte encoded t rest more b h e some = let q : b ≡ 34 = at_byte 34 b _ rest more (ap (λ l. l ++ rest) (sym h.3)
+    ∙ e) in rw q refl
+first_byte binary t rest more b h e some = let q : b ≡ 37 = at_byte 37 b h.0 rest more (ap (λ l. l ++ rest) (sym h.3)
+    ∙ e) in rw q refl
 first_byte mark t rest more b h e some =
-    ap group_of (mark_first h.0.0 t rest more b h.0.1 e some) ∙ others_is (group_of (get_or (mark_text h.0.0) 0 0)) (each_mark (λ n. is_others (group_of (get_or (mark_text n) 0 0))) refl h.0.0)
+    ap group_of (mark_first h.0.0 t rest more b h.0.1 e some) ∙ others_is (group_of (get_or (mark_text h.0.0) 0 0))
+    (each_mark (λ n. is_others (group_of (get_or (mark_text n) 0 0))) refl h.0.0)
 
 abbrev pub group_at : List ℕ → Option Group
 group_at [] = None
 group_at (b ∷ bs) = Some (group_of b)
 
-pub first_group : (k : Kind) (t rest u : List ℕ) → Allows k t rest → t ++ rest ≡ u → group_at u ≡ Some (group k)
+pub first_group : (k : TokenKind) (t rest u : List ℕ) → Allows k t rest → t ++ rest ≡ u → group_at u ≡ Some (group k)
 first_group k [] rest u h e = absurd (no_empty k rest h)
 first_group k (x ∷ xs) rest [] h e = absurd (cc)
 first_group k (x ∷ xs) rest (b ∷ more) h e = ap Some (first_byte k (x ∷ xs) rest more b h e (omega arith))
 
 -- two tokens at one place are of one group
-pub same_group : (j k : Kind) (t after other rest : List ℕ) → Allows j t after → Allows k other rest → other ++ rest ≡ t ++ after → group k ≡ group j
+pub same_group : (j k : TokenKind) (t after other rest : List ℕ) → Allows j t after → Allows k other rest → other
+    ++ rest ≡ t ++ after → group k ≡ group j
 same_group j k t after other rest h g e =
     let p = first_group j t after (t ++ after) h refl in
     let q = first_group k other rest (t ++ after) g e in cc
 
 -- a token is the longest where it is the longest of its group
-pub next_of : (k : Kind) (t after : List ℕ) → Allows k t after
-    → ((j : Kind) (other rest : List ℕ) → group j ≡ group k → Allows j other rest → other ++ rest ≡ t ++ after → length other ≤ length t) → IsNext k t after
-next_of k t after own longest = record { allowed = own; longest = λ j other rest e a. longest j other rest (same_group k j t after other rest own a e) a e }
+pub next_of : (k : TokenKind) (t after : List ℕ) → Allows k t after
+    → ((j : TokenKind) (other rest : List ℕ) → group j ≡ group k → Allows j other rest → other ++ rest ≡ t ++ after
+    → length other ≤ length t) → IsNext k t after
+next_of k t after own longest = record {
+  allowed = own;
+  longest = λ j other rest e a. longest j other rest (same_group k j t after other rest own a e) a e;
+}
 
 -- no token stands where none of the group of the first byte does
-pub none_of : (l : List ℕ) (g : Group) → group_at l ≡ Some g → ((j : Kind) (other rest : List ℕ) → group j ≡ g → Allows j other rest → other ++ rest ≡ l → ⊥) → NoneAt l
+pub none_of : (l : List ℕ) (g : Group) → group_at l ≡ Some g → ((j : TokenKind) (other rest : List ℕ) → group j ≡ g
+    → Allows j other rest → other ++ rest ≡ l → ⊥) → NoneAt l
 none_of l g at none j other rest e a = none j other rest (let p = first_group j other rest l a (sym e) in cc) a (sym e)
 
 -- the group of the first byte

@@ -87,42 +87,51 @@ abbrev falls : List Mark → Bool
 falls [] = true
 falls (m ∷ ms) = list_all (is_below m) ms && falls ms
 
-falls_to : (ms : List Mark) (i j : ℕ) → falls ms ≡ true → i ≤ j → j < length ms → length (mark_text (mark_in ms j)) ≤ length (mark_text (mark_in ms i))
+falls_to : (ms : List Mark) (i j : ℕ) → falls ms ≡ true → i ≤ j → j < length ms → length (mark_text (mark_in ms j)) ≤
+    length (mark_text (mark_in ms i))
 falls_to [] i j h le lt = absurd (omega (arith, lt))
 falls_to (m ∷ ms) zero zero h le lt = omega arith
 falls_to (m ∷ ms) zero (suc j) h le lt =
-    not_above (length (mark_text (mark_in ms j))) (length (mark_text m)) (all_at (is_below m) ms j (first_of (list_all (is_below m) ms) (falls ms) h) (omega (arith, lt)))
+    not_above (length (mark_text (mark_in ms j))) (length (mark_text m))
+    (all_at (is_below m) ms j (first_of (list_all (is_below m) ms) (falls ms) h) (omega (arith, lt)))
 falls_to (m ∷ ms) (suc i) zero h le lt = absurd (omega (arith, le))
-falls_to (m ∷ ms) (suc i) (suc j) h le lt = falls_to ms i j (second_of (list_all (is_below m) ms) (falls ms) h) (omega (arith, le)) (omega (arith, lt))
+falls_to (m ∷ ms) (suc i) (suc j) h le lt = falls_to ms i j (second_of (list_all (is_below m) ms) (falls ms) h)
+    (omega (arith, le)) (omega (arith, lt))
 
 -- no mark before this place of the list stands at the front
 abbrev pub NoneBefore : List ℕ → ℕ → Type 0
 NoneBefore text i = (k : ℕ) → k < i → begins_with (mark_text (mark_in MARKS k)) text ≡ false
 
 module _ (text : List ℕ) where
-  stands_at : (m : Mark) → begins_with (mark_text m) text ≡ true → begins_with (mark_text (mark_in MARKS (place m))) text ≡ true
+  stands_at : (m : Mark) → begins_with (mark_text m) text ≡ true → begins_with (mark_text (mark_in MARKS (place m)))
+      text ≡ true
   stands_at m h = ap (λ n. begins_with (mark_text n) text) (listed m).1 ∙ h
 
   not_before : (i : ℕ) → NoneBefore text i → (m : Mark) → begins_with (mark_text m) text ≡ true → i ≤ place m
   not_before i none m h = omega (arith, λ (lt : place m < i). false≢true (sym (none (place m) lt) ∙ stands_at m h))
 
   -- the first that stands is the longest
-  pub longest_mark : (i : ℕ) → i < length MARKS → NoneBefore text i → begins_with (mark_text (mark_in MARKS i)) text ≡ true → IsLongestMark text (mark_in MARKS i)
+  pub longest_mark : (i : ℕ) → i < length MARKS → NoneBefore text i → begins_with (mark_text (mark_in MARKS i))
+      text ≡ true → IsLongestMark text (mark_in MARKS i)
   longest_mark i lt none h = record {
     stands = h;
-    longest = λ m stands. (let l = listed m in let le = falls_to MARKS i (place m) refl (not_before i none m stands) (below (place m) (length MARKS) l.0) in rw l.1 at le);
+    longest = λ m stands. (let l = listed m in let le = falls_to MARKS i (place m) refl (not_before i none m stands)
+        (below (place m) (length MARKS) l.0) in rw l.1 at le);
   }
 
   none_stands : (m : Mark) (t : Bool) → begins_with (mark_text m) text ≡ t → NoneBefore text (length MARKS) → t ≡ false
   none_stands m false e none = refl
-  none_stands m true e none = let l = listed m in absurd (false≢true (sym (none (place m) (below (place m) (length MARKS) l.0)) ∙ stands_at m e))
+  none_stands m true e none = let l = listed m in
+      absurd (false≢true (sym (none (place m) (below (place m) (length MARKS) l.0)) ∙ stands_at m e))
 
   pub no_mark : NoneBefore text (length MARKS) → NoMark text
   no_mark none m = none_stands m (begins_with (mark_text m) text) refl none
 
-  one_more : (i k : ℕ) (t : Bool) → nat_lt k i ≡ t → k < i + 1 → NoneBefore text i → begins_with (mark_text (mark_in MARKS i)) text ≡ false → begins_with (mark_text (mark_in MARKS k)) text ≡ false
+  one_more : (i k : ℕ) (t : Bool) → nat_lt k i ≡ t → k < i + 1 → NoneBefore text i
+      → begins_with (mark_text (mark_in MARKS i)) text ≡ false → begins_with (mark_text (mark_in MARKS k)) text ≡ false
   one_more i k true e lt none h = none k (below k i e)
   one_more i k false e lt none h = let same : k ≡ i = grind (arith, nat_tests) in rw same h
 
-  pub none_more : (i : ℕ) → NoneBefore text i → begins_with (mark_text (mark_in MARKS i)) text ≡ false → NoneBefore text (i + 1)
+  pub none_more : (i : ℕ) → NoneBefore text i → begins_with (mark_text (mark_in MARKS i)) text ≡ false
+      → NoneBefore text (i + 1)
   none_more i none h k lt = one_more i k (nat_lt k i) refl lt none h

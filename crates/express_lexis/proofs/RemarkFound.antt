@@ -18,8 +18,11 @@ plain l h g = rw (h, g) refl
 
 module _ (bytes : List ℕ) where
   -- behind a byte, or behind what opens or closes a remark
-  turn : (n : ℕ) → 0 < n → (b : ℕ) (r : List ℕ) → Counts bytes n (b ∷ r) → ((m : ℕ) (rest : List ℕ) → length rest ≤ length r → Counts bytes m rest → RemarkAt bytes ⊎ NoRemark bytes)
-      → (begins_with (codes "(*") (b ∷ r) ≡ true) ⊎ (begins_with (codes "(*") (b ∷ r) ≡ false) → (begins_with (codes "*)") (b ∷ r) ≡ true) ⊎ (begins_with (codes "*)") (b ∷ r) ≡ false) → RemarkAt bytes ⊎ NoRemark bytes
+  turn : (n : ℕ) → 0 < n → (b : ℕ) (r : List ℕ) → Counts bytes n (b ∷ r)
+      → ((m : ℕ) (rest : List ℕ) → length rest ≤ length r → Counts bytes m rest → RemarkAt bytes ⊎ NoRemark bytes)
+      → (begins_with (codes "(*") (b ∷ r) ≡ true) ⊎ (begins_with (codes "(*") (b ∷ r) ≡ false)
+      → (begins_with (codes "*)") (b ∷ r) ≡ true) ⊎ (begins_with (codes "*)") (b ∷ r) ≡ false) → RemarkAt bytes
+      ⊎ NoRemark bytes
   turn n some b r c on (inl opens) closes =
       let rest = drop 2 (b ∷ r) in
       let split : b ∷ r ≡ 40 ∷ 42 ∷ rest = begins_split (codes "(*") (b ∷ r) opens in
@@ -28,18 +31,25 @@ module _ (bytes : List ℕ) where
       let rest = drop 2 (b ∷ r) in
       let split : b ∷ r ≡ 42 ∷ 41 ∷ rest = begins_split (codes "*)") (b ∷ r) closes in
       on (n - 1) rest (omega (arith, ap length split)) (counts_close bytes n some rest (subst (Counts bytes n) split c))
-  turn n some b r c on (inr stays) (inr still) = on n r (omega arith) (counts_byte bytes n some r b (plain (b ∷ r) stays still) c)
+  turn n some b r c on (inr stays) (inr still) = on n r (omega arith)
+      (counts_byte bytes n some r b (plain (b ∷ r) stays still) c)
 
-  count_within : (fuel n : ℕ) (rest : List ℕ) → length rest ≤ fuel → Counts bytes n rest → RemarkAt bytes ⊎ NoRemark bytes
-  count_within fuel zero rest le c = let r = remark_at bytes (length bytes - length rest) rest refl c in inl (length bytes - length rest, r.0, r.1, r.2)
+  count_within : (fuel n : ℕ) (rest : List ℕ) → length rest ≤ fuel → Counts bytes n rest → RemarkAt bytes
+      ⊎ NoRemark bytes
+  count_within fuel zero rest le c = let r = remark_at bytes (length bytes - length rest) rest refl c in
+      inl (length bytes - length rest, r.0, r.1, r.2)
   count_within fuel (suc n) [] le c = inr (not_closed bytes (suc n) (omega arith) c)
   count_within zero (suc n) (b ∷ r) le c = absurd (omega (arith, le))
   count_within (suc fuel) (suc n) (b ∷ r) le c =
-      turn (suc n) (omega arith) b r c (λ m rest less d. count_within fuel m rest (omega (arith, le, less)) d) (cases_Bool (begins_with (codes "(*") (b ∷ r))) (cases_Bool (begins_with (codes "*)") (b ∷ r)))
+      turn (suc n) (omega arith) b r c (λ m rest less d. count_within fuel m rest (omega (arith, le, less)) d)
+      (cases_Bool (begins_with (codes "(*") (b ∷ r))) (cases_Bool (begins_with (codes "*)") (b ∷ r)))
 
-  remark_of : (begins_with (codes "(*") bytes ≡ true) ⊎ (begins_with (codes "(*") bytes ≡ false) → RemarkAt bytes ⊎ NoRemark bytes
-  remark_of (inl opens) = let rest = drop 2 bytes in count_within (length rest) 1 rest (omega arith) (counts_start bytes rest (begins_split (codes "(*") bytes opens))
-  remark_of (inr stays) = inr (λ t after e is. false≢true (sym stays ∙ begins_yes (codes "(*") bytes (written is.0 ++ after) (e ∙ ap (λ x. x ++ after) is.2)))
+  remark_of : (begins_with (codes "(*") bytes ≡ true) ⊎ (begins_with (codes "(*") bytes ≡ false) → RemarkAt bytes
+      ⊎ NoRemark bytes
+  remark_of (inl opens) = let rest = drop 2 bytes in count_within (length rest) 1 rest (omega arith)
+      (counts_start bytes rest (begins_split (codes "(*") bytes opens))
+  remark_of (inr stays) = inr (λ t after e is. false≢true (sym stays ∙ begins_yes (codes "(*") bytes
+      (written is.0 ++ after) (e ∙ ap (λ x. x ++ after) is.2)))
 
   -- a remark stands at the front, or none does
   pub remark_or_none : RemarkAt bytes ⊎ NoRemark bytes

@@ -1,12 +1,12 @@
 -- Which token stands at the front of what is left of a text, and its value.
-use Rattle.std.specs.Prelude.{◌≡◌, ℕ, ◌≤◌, List, length, take, drop, ◌⊎◌}
+use Rattle.std.specs.Prelude.{◌≡◌, ℕ, ◌≤◌, List, length, take, drop, ◌⊎◌, Option, MatchOption}
 use Rattle.express_lexis.specs.declared.token.Sort.{Sort}
 use Rattle.express_lexis.specs.declared.token.Sort.TheVariants as sorts
 use Rattle.step_literals.specs.Numbers.{IsShortNumber}
 use Rattle.express_lexis.specs.Marks.{mark_text}
-use Rattle.express_lexis.specs.Tokens.{Kind, word, integer, real, string, encoded, binary, mark, IsNext, NoneAt}
+use Rattle.express_lexis.specs.Tokens.{TokenKind, word, integer, real, string, encoded, binary, mark, IsNext, NoneAt}
 
-abbrev pub kind_of : Sort → Kind
+abbrev pub kind_of : Sort → TokenKind
 kind_of (sorts.Word w) = word
 kind_of (sorts.Integer d) = integer
 kind_of (sorts.Real d) = real
@@ -41,3 +41,7 @@ pub record IsLongNumber (left : List ℕ) : Type 0 where
 -- no token within the limits stands at the front
 abbrev pub IsFlawed : List ℕ → Type 0
 IsFlawed left = NoneAt left ⊎ IsLongNumber left
+
+-- the token at the front of what is left and how many bytes it has, if one within the limits stands there
+abbrev pub FrontOrFlaw : List ℕ → Option (Sort × ℕ) → Type 0
+FrontOrFlaw left result = MatchOption result (IsFlawed left) (λ front. IsFront left front.0 front.1)

@@ -1,5 +1,5 @@
 -- Layout: what may stand between tokens (ISO 10303-11, 7.1.5 and 7.1.6).
-use Rattle.std.specs.Prelude.{◌≡◌, ℕ, ◌≤◌, Bool, false, not, ◌==◌, ◌||◌, List, [], ◌∷◌, ◌++◌, codes}
+use Rattle.std.specs.Prelude.{◌≡◌, ℕ, ◌<◌, ◌≤◌, Bool, false, not, ◌==◌, ◌||◌, List, [], ◌∷◌, ◌++◌, length, take, drop, codes}
 use Rattle.step_literals.specs.Bytes.{Each, Stops}
 use Rattle.step_literals.specs.Strings.{begins_with}
 
@@ -37,6 +37,14 @@ IsContent (remark inner more) = IsContent inner × IsContent more
 abbrev pub IsRemark : List ℕ → Type 0
 IsRemark t = (content : Content) × IsContent content × (t ≡ 40 ∷ 42 ∷ written content)
 
+-- an embedded remark of n bytes stands at the front
+abbrev pub HasRemark : List ℕ → ℕ → Type 0
+HasRemark l n = (2 ≤ n) × (n ≤ length l) × IsRemark (take n l)
+
+-- no embedded remark stands at the front
+abbrev pub NoRemark : List ℕ → Type 0
+NoRemark l = (t after : List ℕ) → l ≡ t ++ after → IsRemark t → ⊥
+
 -- any byte but that of a new line
 abbrev pub in_line : ℕ → Bool
 in_line b = not (b == 10)
@@ -55,6 +63,10 @@ AllowsBlank embedded_remark t after = IsRemark t
 
 abbrev pub IsBlank : List ℕ → List ℕ → Type 0
 IsBlank t after = (kind : Blank) × AllowsBlank kind t after
+
+-- a blank of n bytes stands at the front
+abbrev pub HasBlank : List ℕ → ℕ → Type 0
+HasBlank l n = (0 < n) × (n ≤ length l) × IsBlank (take n l) (drop n l)
 
 -- no blank stands at the front
 abbrev pub NoBlank : List ℕ → Type 0

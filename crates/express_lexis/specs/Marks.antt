@@ -39,7 +39,8 @@ mark_text marks.Backslash = codes "\\"
 -- a mark stands at the front of a text, and no longer one does
 pub record IsLongestMark (text : List ℕ) (mark : Mark) : Type 0 where
   pub stands : begins_with (mark_text mark) text ≡ true
-  pub longest : (other : Mark) → begins_with (mark_text other) text ≡ true → length (mark_text other) ≤ length (mark_text mark)
+  pub longest : (other : Mark) → begins_with (mark_text other) text ≡ true → length (mark_text other) ≤ length
+      (mark_text mark)
 
 -- no mark stands at the front of a text
 abbrev pub NoMark : List ℕ → Type 0

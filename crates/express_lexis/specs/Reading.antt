@@ -1,61 +1,14 @@
 -- How far a text is read, and what its next token is.
-use Rattle.std.specs.Prelude.{◌≡◌, ℕ, ◌+◌, ◌<◌, ◌≤◌, nat_eq, List, [], ◌∷◌, length, take, drop, Option, None, Some, Result, Ok, Err, if◌then◌else◌}
-use Rattle.std.specs.List.{starts_with}
+use Rattle.std.specs.Prelude.{◌≡◌, ℕ, length, Option, Result}
 use Rattle.express_lexis.specs.declared.token.Token.{Token}
 use Rattle.express_lexis.specs.declared.token.TextFault.{TextFault}
 use Rattle.express_lexis.specs.declared.token.Sort.{Sort}
 use Rattle.express_lexis.specs.declared.token.Sort.TheVariants as sorts
 use Rattle.express_lexis.specs.Front.{IsFront, IsFlawed}
 use Rattle.express_lexis.specs.Layout.{SkipsLayout}
-
--- a text, and how many bytes of it are read
-pub record Reading : Type 0 where
-  pub text : List ℕ
-  pub place : ℕ
-
--- a byte order mark at the start is skipped
-abbrev pub start_of : List ℕ → ℕ
-start_of text = if starts_with nat_eq text (239 ∷ 187 ∷ 191 ∷ []) then 3 else 0
-
--- nothing of a text is read yet
-abbrev pub start : List ℕ → Reading
-start text = record { text = text; place = start_of text }
-
-abbrev pub left : Reading → List ℕ
-left r = drop r.place r.text
-
--- a token stands at this place, or the text ends there: only layout comes before it, and no more
--- layout behind that
-pub record Reaches (old : Reading) (place : ℕ) : Type 0 where
-  pub within : place ≤ length old.text
-  pub layout : SkipsLayout (left old) (drop place old.text)
-
--- after layout the token stands, and the text is read up to its end
-pub record Takes (old : Reading) (token : Token) (new : Reading) : Type 0 where
-  pub reaches : Reaches old token.place
-  pub front : IsFront (drop token.place old.text) token.sort (length token.text.now)
-  pub text : token.text.now ≡ take (length token.text.now) (drop token.place old.text)
-  pub new_text : new.text ≡ old.text
-  pub new_place : new.place ≡ token.place + length token.text.now
-
--- only layout is left of the text
-pub record IsAtEnd (old new : Reading) : Type 0 where
-  pub reaches : Reaches old (length old.text)
-  pub new_text : new.text ≡ old.text
-  pub new_place : new.place ≡ length old.text
-
--- after layout no token stands that is within the limits, and nothing is read
-pub record IsFaulty (old : Reading) (fault : TextFault) (new : Reading) : Type 0 where
-  pub reaches : Reaches old fault.place
-  pub more : fault.place < length old.text
-  pub flawed : IsFlawed (drop fault.place old.text)
-  pub same : new ≡ old
-
--- what the next call of a lexer answers, and how far the text is read then
-abbrev pub Answers : Reading → Result (Option Token) TextFault → Reading → Type 0
-Answers old (Ok (Some token)) new = Takes old token new
-Answers old (Ok None) new = IsAtEnd old new
-Answers old (Err fault) new = IsFaulty old fault new
+use Rattle.lexing.specs.Reading as lexing
+-- a text and how many bytes of it are read, the start behind a byte order mark, and what is left
+pub use Rattle.lexing.specs.Reading.{Reading, start_of, start, left}
 
 -- two tokens have one kind and one value
 abbrev pub SameSort : Sort → Sort → Type 0
@@ -68,9 +21,39 @@ SameSort (sorts.Binary a) (sorts.Binary b) = a.text.now ≡ b.text.now
 SameSort (sorts.Mark m) (sorts.Mark n) = m ≡ n
 SameSort _ _ = ⊥
 
--- two answers say the same
+-- what tells the tokens and faults of a text from each other
+abbrev pub lexis : lexing.Lexis Token TextFault
+lexis = record {
+  place_of = λ t. t.place;
+  bytes_of = λ t. t.text.now;
+  SkipsLayout = SkipsLayout;
+  IsFront = λ l t. IsFront l t.sort (length t.text.now);
+  -- the fault's place is that at which the token would begin
+  IsFlawed = λ l place f. IsFlawed l × (f.place ≡ place);
+  SameValue = λ t u. SameSort t.sort u.sort;
+}
+
+-- a token stands at this place, or the text ends there: only layout comes before it, and no more
+-- layout behind that
+abbrev pub Reaches : Reading → ℕ → Type 0
+Reaches = lexing.Reaches lexis
+
+-- after layout the token stands, and the text is read up to its end
+abbrev pub Takes : Reading → Token → Reading → Type 0
+Takes = lexing.Takes lexis
+
+-- only layout is left of the text
+abbrev pub IsAtEnd : Reading → Reading → Type 0
+IsAtEnd = lexing.IsAtEnd lexis
+
+-- after layout no token stands that is within the limits, and nothing is read
+abbrev pub IsFaulty : Reading → TextFault → Reading → Type 0
+IsFaulty = lexing.IsFaulty lexis
+
+-- what the next call of a lexer answers, and how far the text is read then
+abbrev pub Answers : Reading → Result (Option Token) TextFault → Reading → Type 0
+Answers = lexing.Answers lexis
+
+-- two answers say the same: a token of one place, of the same bytes and value, the end, or one fault
 abbrev pub SameAnswer : Result (Option Token) TextFault → Result (Option Token) TextFault → Type 0
-SameAnswer (Ok (Some t)) (Ok (Some u)) = (t.place ≡ u.place) × (t.text.now ≡ u.text.now) × SameSort t.sort u.sort
-SameAnswer (Ok None) (Ok None) = Unit {0}
-SameAnswer (Err f) (Err g) = f ≡ g
-SameAnswer _ _ = ⊥
+SameAnswer = lexing.SameAnswer lexis

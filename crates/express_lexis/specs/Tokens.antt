@@ -18,20 +18,21 @@ abbrev pub is_bit : ℕ → Bool
 is_bit b = b == 48 || b == 49
 
 -- the rows of the table
-pub data Kind : Type 0 where
-  word : Kind
-  integer : Kind
-  real : Kind
-  string : Kind
-  encoded : Kind
-  binary : Kind
-  mark : Kind
+pub data TokenKind : Type 0 where
+  word : TokenKind
+  integer : TokenKind
+  real : TokenKind
+  string : TokenKind
+  encoded : TokenKind
+  binary : TokenKind
+  mark : TokenKind
 
 -- the table: how a token of each kind is spelled
-abbrev pub Spells : Kind → List ℕ → Type 0
+abbrev pub Spells : TokenKind → List ℕ → Type 0
 Spells word t = IsWord t
 Spells integer t = IsDigits t
-Spells real t = (whole part exponent : List ℕ) × IsDigits whole × Each is_digit part × IsExponent exponent × (t ≡ whole ++ 46 ∷ part ++ exponent)
+Spells real t = (whole part exponent : List ℕ) × IsDigits whole × Each is_digit part × IsExponent exponent
+    × (t ≡ whole ++ 46 ∷ part ++ exponent)
 Spells string t = (content : List ℕ) × (t ≡ 39 ∷ doubled content ++ 39 ∷ [])
 -- hexadecimal digits in groups of eight, between quotes
 Spells encoded t = (digits : List ℕ) × Each is_hex digits × (length digits % 8 ≡ 0) × (t ≡ 34 ∷ digits ++ 34 ∷ [])
@@ -41,16 +42,17 @@ Spells mark t = (m : Mark) × (t ≡ mark_text m)
 
 -- The table allows the token before what follows it: a string ends only where no apostrophe follows,
 -- and `(` is a mark only where no `*` follows, since a remark begins with both.
-abbrev pub Allows : Kind → List ℕ → List ℕ → Type 0
+abbrev pub Allows : TokenKind → List ℕ → List ℕ → Type 0
 Allows string t after = Spells string t × Stops (λ b. b == 39) after
 Allows mark t after = Spells mark t × (t ≡ codes "(" → Stops (λ b. b == 42) after)
 Allows kind t after = Spells kind t
 
 -- t is the longest token that the table allows at the front of a text, and after is what follows it
-pub record IsNext (kind : Kind) (t after : List ℕ) : Type 0 where
+pub record IsNext (kind : TokenKind) (t after : List ℕ) : Type 0 where
   pub allowed : Allows kind t after
-  pub longest : (k : Kind) (other rest : List ℕ) → other ++ rest ≡ t ++ after → Allows k other rest → length other ≤ length t
+  pub longest : (k : TokenKind) (other rest : List ℕ) → other ++ rest ≡ t ++ after → Allows k other rest
+      → length other ≤ length t
 
 -- the table allows no token at the front of the text
 abbrev pub NoneAt : List ℕ → Type 0
-NoneAt left = (k : Kind) (other rest : List ℕ) → left ≡ other ++ rest → Allows k other rest → ⊥
+NoneAt left = (k : TokenKind) (other rest : List ℕ) → left ≡ other ++ rest → Allows k other rest → ⊥

@@ -1,9 +1,24 @@
 //! The token at the front of what is left of a text, by its first byte.
-ghost use Rattle.std.specs.Prelude.{◌≡◌, ◌≢◌, ◌||◌, ◌≤◌, ◌<◌, ◌∷◌, [], length, take, drop, MatchOption, slice_index, true, false};
+ghost use Rattle.std.specs.Prelude.{
+  ◌≡◌,
+  ◌≢◌,
+  ◌||◌,
+  ◌≤◌,
+  ◌<◌,
+  ◌∷◌,
+  [],
+  length,
+  take,
+  drop,
+  MatchOption,
+  slice_index,
+  true,
+  false,
+};
 ghost use Rattle.std.specs.List.{prefix_len};
 ghost use Rattle.step_literals.specs.Bytes.{is_digit};
 ghost use Rattle.express_lexis.specs.Tokens.{is_letter, is_bit};
-ghost use Rattle.express_lexis.specs.Front.{IsFront, IsFlawed};
+ghost use Rattle.express_lexis.specs.Front.{FrontOrFlaw, IsFront, IsFlawed};
 
 use crate::literal::{Binary, EncodedString, SimpleString, Word};
 use crate::marks::mark_of;
@@ -43,7 +58,7 @@ fn word_at(bytes: &[u8]) -> (Sort<'_>, usize)
 /// The number at the front of the bytes, if it is within the limits.
 fn number_at(bytes: &[u8]) -> Option<(Sort<'_>, usize)>
     requires { is_digit (slice_index bytes.now 0) ≡ true }
-    ensures { MatchOption result (IsFlawed bytes.now) (λ front. IsFront bytes.now front.0 front.1) }
+    ensures { FrontOrFlaw bytes.now result }
 {
     let (len, is_real) = number_len(bytes)?;
     let (text, _) = bytes.split_at(len);
@@ -62,7 +77,7 @@ fn number_at(bytes: &[u8]) -> Option<(Sort<'_>, usize)>
 /// The string at the front of the bytes, if it ends.
 fn string_at(bytes: &[u8]) -> Option<(Sort<'_>, usize)>
     requires { take 1 bytes.now ≡ 39 ∷ [] }
-    ensures { MatchOption result (IsFlawed bytes.now) (λ front. IsFront bytes.now front.0 front.1) }
+    ensures { FrontOrFlaw bytes.now result }
 {
     let len = string_len(bytes)?;
     let (text, _) = bytes.split_at(len);
@@ -72,7 +87,7 @@ fn string_at(bytes: &[u8]) -> Option<(Sort<'_>, usize)>
 /// The encoded string at the front of the bytes, if one stands there.
 fn encoded_at(bytes: &[u8]) -> Option<(Sort<'_>, usize)>
     requires { take 1 bytes.now ≡ 34 ∷ [] }
-    ensures { MatchOption result (IsFlawed bytes.now) (λ front. IsFront bytes.now front.0 front.1) }
+    ensures { FrontOrFlaw bytes.now result }
 {
     let (_, rest) = bytes.split_at(1);
     let digits = hex_len(rest);
@@ -87,7 +102,7 @@ fn encoded_at(bytes: &[u8]) -> Option<(Sort<'_>, usize)>
 /// The binary at the front of the bytes, if one stands there.
 fn binary_at(bytes: &[u8]) -> Option<(Sort<'_>, usize)>
     requires { take 1 bytes.now ≡ 37 ∷ [] }
-    ensures { MatchOption result (IsFlawed bytes.now) (λ front. IsFront bytes.now front.0 front.1) }
+    ensures { FrontOrFlaw bytes.now result }
 {
     let (_, rest) = bytes.split_at(1);
     let bits = bits_len(rest);
@@ -106,7 +121,7 @@ fn mark_at(bytes: &[u8]) -> Option<(Sort<'_>, usize)>
     requires no_apostrophe { slice_index bytes.now 0 ≢ 39 }
     requires no_quote { slice_index bytes.now 0 ≢ 34 }
     requires no_percent { slice_index bytes.now 0 ≢ 37 }
-    ensures { MatchOption result (IsFlawed bytes.now) (λ front. IsFront bytes.now front.0 front.1) }
+    ensures { FrontOrFlaw bytes.now result }
 {
     if bytes.starts_with(b"(*") {
         return None;
@@ -118,7 +133,7 @@ fn mark_at(bytes: &[u8]) -> Option<(Sort<'_>, usize)>
 /// The token at the front of the bytes and its length, if one within the limits stands there.
 pub(crate) fn front_at(bytes: &[u8]) -> Option<(Sort<'_>, usize)>
     requires { 0 < length bytes.now }
-    ensures { MatchOption result (IsFlawed bytes.now) (λ front. IsFront bytes.now front.0 front.1) }
+    ensures { FrontOrFlaw bytes.now result }
 {
     let first = bytes[0];
     if is_letter(first) {

@@ -1,6 +1,12 @@
 //! Laws of the definitions alone.
 
-ghost use Rattle.express_lexis.specs.Laws.{AnswersAreDetermined, EachReadingHasAnAnswer, EndIsAnsweredAgain, FaultIsAnsweredAgain, PlacesRise};
+ghost use Rattle.express_lexis.specs.Laws.{
+  AnswersAreDetermined,
+  EachReadingHasAnAnswer,
+  EndIsAnsweredAgain,
+  FaultIsAnsweredAgain,
+  PlacesRise,
+};
 
 /// What a lexer answers is determined by the text and by how far it is read, and so is how far it
 /// is read then.

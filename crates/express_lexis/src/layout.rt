@@ -1,12 +1,32 @@
 // Layout between tokens.
-ghost use Rattle.std.specs.Prelude.{◌≡◌, ◌≤◌, ◌<◌, ◌++◌, ◌∷◌, [], ℕ, List, length, take, drop, MatchOption};
+ghost use Rattle.std.specs.Prelude.{
+  ◌≡◌,
+  ◌≤◌,
+  ◌<◌,
+  ◌++◌,
+  ◌∷◌,
+  [],
+  ℕ,
+  List,
+  length,
+  take,
+  drop,
+  MatchOption,
+};
 ghost use Rattle.std.specs.List.{prefix_len};
-ghost use Rattle.express_lexis.specs.Layout.{IsBlank, IsRemark, NoBlank, SkipsLayout, in_line};
+ghost use Rattle.express_lexis.specs.Layout.{
+  HasBlank,
+  HasRemark,
+  NoBlank,
+  NoRemark,
+  SkipsLayout,
+  in_line,
+};
 
 /// How long the embedded remark is that the bytes begin with, if it ends.
 fn remark_len(bytes: &[u8]) -> Option<usize>
     requires { take 2 bytes.now ≡ 40 ∷ 42 ∷ [] }
-    ensures { MatchOption result ((t rest : List ℕ) → bytes.now ≡ t ++ rest → IsRemark t → ⊥) (λ n. (2 ≤ n) × (n ≤ length bytes.now) × IsRemark (take n bytes.now)) }
+    ensures { MatchOption result (NoRemark bytes.now) (HasRemark bytes.now) }
 {
     let (_, mut rest) = bytes.split_at(2);
     let mut open = 1usize;
@@ -35,7 +55,7 @@ fn line_len(bytes: &[u8]) -> usize
 
 /// How long the blank or remark is that the bytes begin with, if there is one.
 fn blank_len(bytes: &[u8]) -> Option<usize>
-    ensures { MatchOption result (NoBlank bytes.now) (λ n. (0 < n) × (n ≤ length bytes.now) × IsBlank (take n bytes.now) (drop n bytes.now)) }
+    ensures { MatchOption result (NoBlank bytes.now) (HasBlank bytes.now) }
 {
     if *bytes.first()? <= 32 {
         return Some(1);

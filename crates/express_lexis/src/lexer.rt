@@ -56,8 +56,8 @@ impl<'a> Lexer<'a> {
 
     /// The next token, the longest that stands behind the layout; `None` at the end of the text.
     ///
-    /// At a fault nothing is read, so the same fault is answered again. Its place is that at which the
-    /// token would begin.
+    /// At a fault nothing is read, so the same fault is answered again. Its place is that at which
+    /// the token would begin.
     pub fn next_token(&mut self) -> Result<Option<Token<'a>>, TextFault>
         ensures { Answers self.old result self.new }
     {

@@ -9,6 +9,4 @@ mod layout;
 pub mod lexer;
 pub mod literal;
 pub mod marks;
-#[cfg(test)]
-mod tests;
 pub mod token;

@@ -25,9 +25,9 @@ pub struct Token<'a> {
     pub place: u64,
 }
 
-/// No token within the limits stands behind the layout, and how many bytes come before that place: a
-/// byte that begins no token, a string, a binary or a remark that isn't complete, a number of more than
-/// 400 bytes or with an exponent beyond 999,999 either way.
+/// No token within the limits stands behind the layout, and how many bytes come before that place:
+/// a byte that begins no token, a string, a binary or a remark that isn't complete, a number of
+/// more than 400 bytes or with an exponent beyond 999,999 either way.
 #[derive(Clone, Copy, Debug, PartialEq, Eq, Error)]
 #[error("S1 BadToken at byte {place}")]
 pub struct TextFault {

@@ -1,3 +1,3 @@
 mod BoundSteps
 mod RuleSteps
-mod KindSteps
+mod DataTypeSteps

@@ -1,6 +1,6 @@
--- What stands behind a kind.
-use Rattle.express_parts.specs.declared.kinds.Ending as code
-use Rattle.express_parts.specs.declared.kinds.Ending.TheVariants as endings
+-- What stands behind a data type.
+use Rattle.express_parts.specs.declared.data_types.Ending as code
+use Rattle.express_parts.specs.declared.data_types.Ending.TheVariants as endings
 use Rattle.express_schemas.specs.Predict.{Ending, semicolon, assignment}
 
 abbrev pub ending_of : code.Ending → Ending

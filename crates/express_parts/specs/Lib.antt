@@ -1,3 +1,3 @@
 pub mod RuleReading
 pub mod Endings
-pub mod KindParts
+pub mod DataTypeParts

@@ -2,28 +2,27 @@
 use Rattle.std.specs.Prelude.{◌≡◌, List, [], ◌∷◌, ◌++◌}
 use Rattle.express_lexis.specs.declared.marks.Mark.TheVariants as marks
 use Rattle.express_lexis.specs.Reading.{Reading}
-use Rattle.express_expressions.specs.declared.keyword.Keyword.{Keyword}
-use Rattle.express_expressions.specs.Words.{Word, words_of, mark}
-use Rattle.express_expressions.specs.Grammar.{depth_limit}
+use Rattle.express_trees.specs.declared.keyword.Keyword.{Keyword}
+use Rattle.express_trees.specs.Words.{Word, words_of, mark}
+use Rattle.express_trees.specs.Grammar.{depth_limit}
 use Rattle.express_runs.specs.declared.runs.Buffer.{Buffer}
 use Rattle.express_schemas.specs.Schemas.{Body, Rule}
 use Rattle.express_schemas.specs.Written.{words_of_body, words_of_rule}
 use Rattle.express_schemas.specs.Profile.{FitsBody, BeginsRule}
-use Rattle.express_runs.specs.OpenRuns.{brackets_of}
-use Rattle.express_schemas.specs.Runs.{has_some}
-use Rattle.express_schemas.specs.Predict.{in_rule, Running, Rules}
-use Rattle.express_schemas.specs.Texts.{Seen}
+use Rattle.express_runs.specs.OpenRuns.{more_of}
+use Rattle.express_schemas.specs.Predict.{in_rule, Rules}
+use Rattle.express_schemas.specs.Texts.{LocatedToken}
 use Rattle.express_schemas.specs.Steps.{Passes}
 
 -- Behind the tokens of a buffer, of the next of which this is taken, stands the rest of a body, and its semicolon.
-pub record BodyRead (before : Buffer) (first : Seen) (b : Body) (old new : Reading) : Type 0 where
+pub record BodyRead (before : Buffer) (first : LocatedToken) (b : Body) (old new : Reading) : Type 0 where
   pub further : List Word
   pub fits : FitsBody depth_limit b
   pub words : words_of_body b ≡ words_of before.lexemes.items ++ further
-  pub passes : Passes (Running in_rule 0 (brackets_of before.open.items) (has_some (words_of before.lexemes.items)) ∷ []) [] (first ∷ []) (further ++ mark marks.Semicolon ∷ []) old new
+  pub passes : Passes (more_of in_rule 0 before ∷ []) [] (first ∷ []) (further ++ mark marks.Semicolon ∷ []) old new
 
 -- With this token, that is taken, begins a rule before the word that ends the rules.
-pub record RuleRead (end : Keyword) (first : Seen) (r : Rule) (old new : Reading) : Type 0 where
+pub record RuleRead (end : Keyword) (first : LocatedToken) (r : Rule) (old new : Reading) : Type 0 where
   pub fits : FitsBody depth_limit r.body
   pub begins : BeginsRule end r
   pub passes : Passes (Rules end ∷ []) (Rules end ∷ []) (first ∷ []) (words_of_rule r) old new

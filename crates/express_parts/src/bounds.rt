@@ -1,38 +1,84 @@
 //! Bounds, widths and supertype expressions (ISO 10303-11, 8.1, 8.2 and 9.2.5): parts that stand in brackets.
 
-ghost use Rattle.std.specs.Prelude.{◌≡◌, ℕ, [], ◌∷◌, ◌+◌, ◌<◌, ◌≤◌, ◌++◌, List, Bool, false, IsTrue, ◌↔◌, codes, IfOk, MatchOption, MatchResult};
+ghost use Rattle.std.specs.Prelude.{
+  ◌≡◌,
+  ℕ,
+  [],
+  ◌∷◌,
+  ◌+◌,
+  ◌<◌,
+  ◌≤◌,
+  ◌++◌,
+  List,
+  Bool,
+  false,
+  IsTrue,
+  ◌↔◌,
+  codes,
+  IfOk,
+  MatchOption,
+  MatchResult,
+};
 ghost use Rattle.express_lexis.specs.declared.marks.Mark.TheVariants as marks;
-ghost use Rattle.express_expressions.specs.declared.keyword.Keyword.TheVariants as keywords;
-ghost use Rattle.express_expressions.specs.declared.tree.Sign as signs;
-ghost use Rattle.express_expressions.specs.Trees.{word_of_sign};
-ghost use Rattle.express_expressions.specs.Words;
-ghost use Rattle.express_expressions.specs.Words.{word_of, words_of, integer, mark, keyword, name};
-ghost use Rattle.express_expressions.specs.Views.{capitals};
-ghost use Rattle.express_expressions.specs.Grammar.{depth_limit};
-ghost use Rattle.express_schemas.specs.Views.{if_some, run_of, names_of, bound_of, bounds_of, width_of, supertype_of};
-ghost use Rattle.express_schemas.specs.Written.{words_of_names, words_of_bound, words_of_bounds, words_of_some_bounds, words_of_width, words_of_expression, words_of_supertype};
-ghost use Rattle.express_schemas.specs.Profile.{Maybe, IsFilled, IsBoundText, IsSupertypeText, FitsBound, FitsBounds, FitsWidth, FitsSupertype};
+ghost use Rattle.express_trees.specs.declared.keyword.Keyword.TheVariants as keywords;
+ghost use Rattle.express_trees.specs.declared.tree.Sign as signs;
+ghost use Rattle.express_trees.specs.Trees.{word_of_sign};
+ghost use Rattle.express_trees.specs.Words;
+ghost use Rattle.express_trees.specs.Words.{word_of, words_of, integer, mark, keyword, name};
+ghost use Rattle.express_trees.specs.Views.{capitals};
+ghost use Rattle.express_trees.specs.Grammar.{depth_limit};
+ghost use Rattle.express_schemas.specs.Views.{
+  if_some,
+  run_of,
+  names_of,
+  bound_of,
+  bounds_of,
+  width_of,
+  supertype_of,
+};
+ghost use Rattle.express_schemas.specs.Written.{
+  words_of_names,
+  words_of_bound,
+  words_of_bounds,
+  words_of_some_bounds,
+  words_of_width,
+  words_of_expression,
+  words_of_supertype,
+};
+ghost use Rattle.express_schemas.specs.Profile.{
+  Maybe,
+  IsFilled,
+  IsBoundText,
+  IsSupertypeText,
+  FitsBound,
+  FitsBounds,
+  FitsWidth,
+  FitsSupertype,
+};
 ghost use Rattle.express_schemas.specs.Runs.{words_of_run, FitsRun, IsSome};
 ghost use Rattle.express_runs.specs.OpenRuns.{part_of, may_of, end_of};
-ghost use Rattle.express_schemas.specs.Predict.{BoundsOrOf, Running, in_parentheses, bounds_symbols};
-ghost use Rattle.express_schemas.specs.Steps.{Passes, StopsIn};
+ghost use Rattle.express_schemas.specs.Predict.{
+  BoundsOrOf,
+  Running,
+  in_parentheses,
+  bounds_symbols,
+};
+ghost use Rattle.express_schemas.specs.Steps.{Passes, ParsesWhere, ParsesBehind, StopsIn};
 
-use express_expressions::keyword::Keyword;
-use express_expressions::lexeme::Lexeme;
-use express_expressions::tree::Sign;
 use express_lexis::lexer::Lexer;
 use express_lexis::literal::Word;
 use express_lexis::marks::Mark;
+use express_runs::reader::Reader;
 use express_runs::runs::{Buffer, Ends, gather};
-use express_runs::tokens::{expect_keyword, fault_at, is_keyword, is_mark, refuse, take};
-use express_schemas::fault::{Kind, SchemaFault};
+use express_runs::tokens::{fault_at, is_keyword, is_mark, next_item, refuse};
+use express_schemas::fault::{FaultKind, SchemaFault};
 use express_schemas::passage::Run;
 use express_schemas::tree::{Bound, Bounds, Supertype, Width};
+use express_trees::keyword::Keyword;
+use express_trees::lexeme::Lexeme;
+use express_trees::tree::{LEVELS, Sign};
 use std::alloc::{AllocError, Global};
 use step_literals::literal::Decimal;
-
-/// So many brackets and aggregate types may be open at once.
-const LEVELS: u32 = 64;
 
 /// Reads a run of tokens behind an opening bracket, or behind the colon of bounds, and what ends it.
 fn next_run<'a>(
@@ -43,19 +89,23 @@ fn next_run<'a>(
 ) -> Result<Run<'a>, SchemaFault>
     requires around { around ≤ 64 }
     ensures { MatchResult result
-        (λ r. (words_of_run (run_of r) ≡ words_of buffer.new.lexemes.items) × FitsRun depth_limit (may_of (part_of part)) around (run_of r) × IsSome (run_of r)
-        × Passes (Running (part_of part) around [] false ∷ []) [] [] (words_of buffer.new.lexemes.items ++ mark (end_of (part_of part)) ∷ []) lexer.old lexer.new)
+        (λ r. (words_of_run (run_of r) ≡ words_of buffer.new.lexemes.items)
+        × FitsRun depth_limit (may_of (part_of part)) around (run_of r) × IsSome (run_of r)
+        × Passes (Running (part_of part) around [] false ∷ []) [] []
+        (words_of buffer.new.lexemes.items
+        ++ mark (end_of (part_of part)) ∷ []) lexer.old lexer.new)
         (λ e. StopsIn e (Running (part_of part) around [] false ∷ []) [] lexer.old) }
 {
     buffer.clear();
-    let first = take(lexer)?;
+    let first = next_item(lexer)?;
     gather(lexer, part, around, buffer, first)
 }
 
 /// The bound that one token is, if it is one.
 fn plain_bound(lexeme: Lexeme<'_>) -> Option<Bound<'_>>
     ensures { MatchOption result (IsBoundText (word_of lexeme.entry ∷ []) → ⊥)
-        (λ b. (words_of_bound (bound_of b) ≡ word_of lexeme.entry ∷ []) × ((may : Words.Word → Bool) (n : ℕ) → FitsBound depth_limit may n (bound_of b))) }
+        (λ b. (words_of_bound (bound_of b) ≡ word_of lexeme.entry ∷ [])
+        × ((may : Words.Word → Bool) (n : ℕ) → FitsBound depth_limit may n (bound_of b))) }
 {
     match lexeme {
         Lexeme::Integer(digits) => Some(Bound::Value(None, digits)),
@@ -66,7 +116,8 @@ fn plain_bound(lexeme: Lexeme<'_>) -> Option<Bound<'_>>
 
 /// The integer that it is, if it is one.
 fn integer_at(lexeme: Lexeme<'_>) -> Option<Decimal<'_>>
-    ensures { MatchOption result ((t : List ℕ) → word_of lexeme.entry ≡ integer t → ⊥) (λ d. word_of lexeme.entry ≡ integer d.text.now) }
+    ensures { MatchOption result ((t : List ℕ) → word_of lexeme.entry ≡ integer t → ⊥)
+        (λ d. word_of lexeme.entry ≡ integer d.text.now) }
 {
     match lexeme {
         Lexeme::Integer(digits) => Some(digits),
@@ -76,7 +127,8 @@ fn integer_at(lexeme: Lexeme<'_>) -> Option<Decimal<'_>>
 
 /// The sign that it is, if it is one.
 fn sign_at(lexeme: Lexeme<'_>) -> Option<Sign>
-    ensures { MatchOption result ((s : signs.Sign) → word_of lexeme.entry ≡ word_of_sign s → ⊥) (λ s. word_of lexeme.entry ≡ word_of_sign s) }
+    ensures { MatchOption result ((s : signs.Sign) → word_of lexeme.entry ≡ word_of_sign s → ⊥)
+        (λ s. word_of lexeme.entry ≡ word_of_sign s) }
 {
     match lexeme {
         Lexeme::Mark(Mark::Plus) => Some(Sign::Plus),
@@ -87,7 +139,8 @@ fn sign_at(lexeme: Lexeme<'_>) -> Option<Sign>
 
 /// The name that it is, if it is one.
 fn name_at(lexeme: Lexeme<'_>) -> Option<Word<'_>>
-    ensures { MatchOption result ((n : List ℕ) → word_of lexeme.entry ≡ name n → ⊥) (λ w. word_of lexeme.entry ≡ name (capitals w)) }
+    ensures { MatchOption result ((n : List ℕ) → word_of lexeme.entry ≡ name n → ⊥)
+        (λ w. word_of lexeme.entry ≡ name (capitals w)) }
 {
     match lexeme {
         Lexeme::Name(word) => Some(word),
@@ -108,7 +161,8 @@ fn shows_mark(lexeme: Lexeme<'_>, wanted: Mark) -> bool
 /// The bound that these tokens are, if they are one.
 fn known_bound<'a>(lexemes: &[Lexeme<'a>]) -> Option<Bound<'a>>
     ensures { MatchOption result (IsBoundText (words_of lexemes.now) → ⊥)
-        (λ b. (words_of_bound (bound_of b) ≡ words_of lexemes.now) × ((may : Words.Word → Bool) (n : ℕ) → FitsBound depth_limit may n (bound_of b))) }
+        (λ b. (words_of_bound (bound_of b) ≡ words_of lexemes.now)
+        × ((may : Words.Word → Bool) (n : ℕ) → FitsBound depth_limit may n (bound_of b))) }
 {
     match lexemes {
         [lexeme] => plain_bound(*lexeme),
@@ -123,7 +177,8 @@ fn known_bound<'a>(lexemes: &[Lexeme<'a>]) -> Option<Bound<'a>>
 
 /// The integer that these tokens are, if they are one.
 fn known_width<'a>(lexemes: &[Lexeme<'a>]) -> Option<Decimal<'a>>
-    ensures { MatchOption result ((t : List ℕ) → words_of lexemes.now ≡ integer t ∷ [] → ⊥) (λ d. words_of lexemes.now ≡ integer d.text.now ∷ []) }
+    ensures { MatchOption result ((t : List ℕ) → words_of lexemes.now ≡ integer t ∷ [] → ⊥)
+        (λ d. words_of lexemes.now ≡ integer d.text.now ∷ []) }
 {
     match lexemes {
         [lexeme] => integer_at(*lexeme),
@@ -143,9 +198,11 @@ fn known_names<'a>(
     alloc: Global,
     lexemes: &[Lexeme<'a>],
 ) -> Result<Option<Vec<Word<'a>>>, AllocError>
-    ensures { IfOk result (λ r. MatchOption r
-        ((names : List (List ℕ)) → IsFilled names → words_of lexemes.now ≡ words_of_names names → ⊥)
-        (λ names. IsFilled (names_of names.items) × (words_of lexemes.now ≡ words_of_names (names_of names.items)))) }
+    ensures { IfOk result
+        (λ r. MatchOption r ((names : List (List ℕ)) → IsFilled names
+        → words_of lexemes.now ≡ words_of_names names → ⊥)
+        (λ names. IsFilled (names_of names.items)
+        × (words_of lexemes.now ≡ words_of_names (names_of names.items)))) }
 {
     let [opening, inner @ ..] = lexemes else {
         return Ok(None);
@@ -183,8 +240,10 @@ fn known_supertype<'a>(
     alloc: Global,
     lexemes: &[Lexeme<'a>],
 ) -> Result<Option<Supertype<'a>>, AllocError>
-    ensures { IfOk result (λ r. MatchOption r (IsSupertypeText (words_of lexemes.now) → ⊥)
-        (λ s. FitsSupertype depth_limit (supertype_of s) × (words_of_supertype (supertype_of s) ≡ words_of_expression (words_of lexemes.now)))) }
+    ensures { IfOk result
+        (λ r. MatchOption r (IsSupertypeText (words_of lexemes.now) → ⊥)
+        (λ s. FitsSupertype depth_limit (supertype_of s)
+        × (words_of_supertype (supertype_of s) ≡ words_of_expression (words_of lexemes.now)))) }
 {
     let [first, names @ ..] = lexemes else {
         return Ok(None);
@@ -206,54 +265,45 @@ fn known_supertype<'a>(
 }
 
 /// Reads a bound and what ends it.
-fn bound<'a>(
-    lexer: &mut Lexer<'a>,
-    part: Ends,
-    around: u32,
-    buffer: &mut Buffer<'a>,
-) -> Result<Bound<'a>, SchemaFault>
+fn bound<'a>(reader: &mut Reader<'a>, part: Ends, around: u32) -> Result<Bound<'a>, SchemaFault>
     requires around { around ≤ 64 }
-    ensures { MatchResult result
-        (λ b. FitsBound depth_limit (may_of (part_of part)) around (bound_of b) × Passes (Running (part_of part) around [] false ∷ []) [] [] (words_of_bound (bound_of b) ++ mark (end_of (part_of part)) ∷ []) lexer.old lexer.new)
-        (λ e. StopsIn e (Running (part_of part) around [] false ∷ []) [] lexer.old) }
+    ensures { ParsesWhere result (Running (part_of part) around [] false ∷ [])
+        (λ b. words_of_bound (bound_of b) ++ mark (end_of (part_of part)) ∷ [])
+        (λ b. FitsBound depth_limit (may_of (part_of part)) around (bound_of b)) reader.old
+        reader.new }
 {
-    let tokens = next_run(lexer, part, around, buffer)?;
-    match known_bound(&buffer.lexemes) {
-        Some(bound) => Ok(bound),
-        None => Ok(Bound::Other(tokens)),
+    let tokens = next_run(&mut reader.lexer, part, around, &mut reader.buffer)?;
+    if let Some(bound) = known_bound(&reader.buffer.lexemes) {
+        return Ok(bound);
     }
+    Ok(Bound::Other(tokens))
 }
 
 /// Reads the bounds of an aggregate type behind their bracket, and OF, with so many brackets and aggregate
 /// types open around it.
-pub fn bounds<'a>(
-    lexer: &mut Lexer<'a>,
-    around: u32,
-    buffer: &mut Buffer<'a>,
-) -> Result<Bounds<'a>, SchemaFault>
+pub fn bounds<'a>(reader: &mut Reader<'a>, around: u32) -> Result<Bounds<'a>, SchemaFault>
     requires around { around < 64 }
-    ensures { MatchResult result
-        (λ b. FitsBounds depth_limit around (bounds_of b) × (ws : List Words.Word) × (words_of_bounds (bounds_of b) ++ keyword keywords.Of ∷ [] ≡ mark marks.OpenBracket ∷ ws) × Passes (bounds_symbols around) [] [] ws lexer.old lexer.new)
-        (λ e. StopsIn e (bounds_symbols around) [] lexer.old) }
+    ensures { ParsesBehind (mark marks.OpenBracket ∷ []) result (bounds_symbols around)
+        (λ b. words_of_bounds (bounds_of b) ++ keyword keywords.Of ∷ [])
+        (λ b. FitsBounds depth_limit around (bounds_of b)) reader.old reader.new }
 {
-    let lower = bound(lexer, Ends::Lower, around + 1, buffer)?;
-    let upper = bound(lexer, Ends::Upper, around + 1, buffer)?;
-    expect_keyword(lexer, Keyword::Of)?;
+    let lower = bound(reader, Ends::Lower, around + 1)?;
+    let upper = bound(reader, Ends::Upper, around + 1)?;
+    reader.expect_keyword(Keyword::Of)?;
     Ok(Bounds { lower, upper })
 }
 
 /// Reads the bounds of an aggregate type, if there are any, and OF.
 pub fn some_bounds<'a>(
-    lexer: &mut Lexer<'a>,
+    reader: &mut Reader<'a>,
     around: u32,
-    buffer: &mut Buffer<'a>,
 ) -> Result<Option<Bounds<'a>>, SchemaFault>
     requires around { around ≤ 64 }
-    ensures { MatchResult result
-        (λ b. Maybe (FitsBounds depth_limit around) (if_some bounds_of b) × Passes (BoundsOrOf around ∷ []) [] [] (words_of_some_bounds (if_some bounds_of b) ++ keyword keywords.Of ∷ []) lexer.old lexer.new)
-        (λ e. StopsIn e (BoundsOrOf around ∷ []) [] lexer.old) }
+    ensures { ParsesWhere result (BoundsOrOf around ∷ [])
+        (λ b. words_of_some_bounds (if_some bounds_of b) ++ keyword keywords.Of ∷ [])
+        (λ b. Maybe (FitsBounds depth_limit around) (if_some bounds_of b)) reader.old reader.new }
 {
-    let item = take(lexer)?;
+    let item = reader.take()?;
     if is_keyword(item, Keyword::Of) {
         return Ok(None);
     }
@@ -261,44 +311,43 @@ pub fn some_bounds<'a>(
         return Err(refuse(item));
     }
     if around >= LEVELS {
-        return Err(fault_at(Kind::TooDeep, item));
+        return Err(fault_at(FaultKind::TooDeep, item));
     }
-    let bounds = bounds(lexer, around, buffer)?;
+    let bounds = bounds(reader, around)?;
     Ok(Some(bounds))
 }
 
 /// Reads a width behind its parenthesis, and the closing one.
-pub fn width<'a>(
-    lexer: &mut Lexer<'a>,
-    around: u32,
-    buffer: &mut Buffer<'a>,
-) -> Result<Width<'a>, SchemaFault>
+pub fn width<'a>(reader: &mut Reader<'a>, around: u32) -> Result<Width<'a>, SchemaFault>
     requires around { around < 64 }
-    ensures { MatchResult result
-        (λ w. FitsWidth depth_limit around (width_of w) × (ws : List Words.Word) × (words_of_width (width_of w) ≡ mark marks.Open ∷ ws) × Passes (Running in_parentheses (around + 1) [] false ∷ []) [] [] ws lexer.old lexer.new)
-        (λ e. StopsIn e (Running in_parentheses (around + 1) [] false ∷ []) [] lexer.old) }
+    ensures { ParsesBehind (mark marks.Open ∷ []) result
+        (Running in_parentheses (around + 1) [] false ∷ [])
+        (λ w. words_of_width (width_of w))
+        (λ w. FitsWidth depth_limit around (width_of w)) reader.old reader.new }
 {
-    let tokens = next_run(lexer, Ends::Parentheses, around + 1, buffer)?;
-    match known_width(&buffer.lexemes) {
-        Some(width) => Ok(Width::Value(width)),
-        None => Ok(Width::Other(tokens)),
+    let tokens = next_run(
+        &mut reader.lexer,
+        Ends::Parentheses,
+        around + 1,
+        &mut reader.buffer,
+    )?;
+    if let Some(width) = known_width(&reader.buffer.lexemes) {
+        return Ok(Width::Value(width));
     }
+    Ok(Width::Other(tokens))
 }
 
 /// Reads a supertype expression behind its parenthesis, and the closing one.
-pub fn supertype<'a>(
-    alloc: Global,
-    lexer: &mut Lexer<'a>,
-    buffer: &mut Buffer<'a>,
-) -> Result<Supertype<'a>, SchemaFault>
-    ensures { MatchResult result
-        (λ s. FitsSupertype depth_limit (supertype_of s) × (ws : List Words.Word) × (words_of_supertype (supertype_of s) ≡ keyword keywords.Supertype ∷ keyword keywords.Of ∷ mark marks.Open ∷ ws) × Passes (Running in_parentheses 1 [] false ∷ []) [] [] ws lexer.old lexer.new)
-        (λ e. StopsIn e (Running in_parentheses 1 [] false ∷ []) [] lexer.old) }
+pub fn supertype<'a>(reader: &mut Reader<'a>) -> Result<Supertype<'a>, SchemaFault>
+    ensures { ParsesBehind (keyword keywords.Supertype ∷ keyword keywords.Of ∷ mark marks.Open ∷ [])
+        result (Running in_parentheses 1 [] false ∷ [])
+        (λ s. words_of_supertype (supertype_of s))
+        (λ s. FitsSupertype depth_limit (supertype_of s)) reader.old reader.new }
 {
-    let tokens = next_run(lexer, Ends::Parentheses, 1, buffer)?;
-    let known = known_supertype(alloc, &buffer.lexemes)?;
-    match known {
-        Some(supertype) => Ok(supertype),
-        None => Ok(Supertype::OfOther(tokens)),
+    let tokens = next_run(&mut reader.lexer, Ends::Parentheses, 1, &mut reader.buffer)?;
+    let known = known_supertype(reader.alloc, &reader.buffer.lexemes)?;
+    if let Some(supertype) = known {
+        return Ok(supertype);
     }
+    Ok(Supertype::OfOther(tokens))
 }

@@ -2,15 +2,15 @@
 
 ghost use Rattle.std.specs.Prelude.{◌≡◌};
 ghost use Rattle.express_schemas.specs.Schemas;
-ghost use Rattle.express_schemas.specs.Views.{kind_of, width_of, bounds_of, if_some};
+ghost use Rattle.express_schemas.specs.Views.{data_type_of, width_of, bounds_of, if_some};
 
-use express_schemas::tree::{Bounds, Kind, Width};
+use express_schemas::tree::{Bounds, DataType, Width};
 
 /// A REAL, with its precision if it has one.
-pub fn real(width: Option<Width<'_>>) -> Kind<'_>
-    ensures { kind_of result ≡ Schemas.real (if_some width_of width.entry) }
+pub fn real(width: Option<Width<'_>>) -> DataType<'_>
+    ensures { data_type_of result ≡ Schemas.real (if_some width_of width.entry) }
 {
-    Kind::Real(width)
+    DataType::Real(width)
 }
 
 /// An array of such elements.
@@ -18,11 +18,13 @@ pub fn array<'a>(
     bounds: Bounds<'a>,
     is_optional: bool,
     is_unique: bool,
-    element: Box<Kind<'a>>,
-) -> Kind<'a>
-    ensures { kind_of result ≡ Schemas.array (bounds_of bounds.entry) is_optional is_unique (kind_of element.entry.value) }
+    element: Box<DataType<'a>>,
+) -> DataType<'a>
+    ensures { data_type_of result
+        ≡ Schemas.array (bounds_of bounds.entry) is_optional is_unique
+        (data_type_of element.entry.value) }
 {
-    Kind::Array {
+    DataType::Array {
         bounds,
         is_optional,
         is_unique,
@@ -31,10 +33,16 @@ pub fn array<'a>(
 }
 
 /// A list of such elements.
-pub fn list<'a>(bounds: Option<Bounds<'a>>, is_unique: bool, element: Box<Kind<'a>>) -> Kind<'a>
-    ensures { kind_of result ≡ Schemas.list (if_some bounds_of bounds.entry) is_unique (kind_of element.entry.value) }
+pub fn list<'a>(
+    bounds: Option<Bounds<'a>>,
+    is_unique: bool,
+    element: Box<DataType<'a>>,
+) -> DataType<'a>
+    ensures { data_type_of result
+        ≡ Schemas.list (if_some bounds_of bounds.entry) is_unique
+        (data_type_of element.entry.value) }
 {
-    Kind::List {
+    DataType::List {
         bounds,
         is_unique,
         element,
@@ -42,15 +50,17 @@ pub fn list<'a>(bounds: Option<Bounds<'a>>, is_unique: bool, element: Box<Kind<'
 }
 
 /// A bag of such elements.
-pub fn bag<'a>(bounds: Option<Bounds<'a>>, element: Box<Kind<'a>>) -> Kind<'a>
-    ensures { kind_of result ≡ Schemas.bag (if_some bounds_of bounds.entry) (kind_of element.entry.value) }
+pub fn bag<'a>(bounds: Option<Bounds<'a>>, element: Box<DataType<'a>>) -> DataType<'a>
+    ensures { data_type_of result
+        ≡ Schemas.bag (if_some bounds_of bounds.entry) (data_type_of element.entry.value) }
 {
-    Kind::Bag { bounds, element }
+    DataType::Bag { bounds, element }
 }
 
 /// A set of such elements.
-pub fn set<'a>(bounds: Option<Bounds<'a>>, element: Box<Kind<'a>>) -> Kind<'a>
-    ensures { kind_of result ≡ Schemas.set (if_some bounds_of bounds.entry) (kind_of element.entry.value) }
+pub fn set<'a>(bounds: Option<Bounds<'a>>, element: Box<DataType<'a>>) -> DataType<'a>
+    ensures { data_type_of result
+        ≡ Schemas.set (if_some bounds_of bounds.entry) (data_type_of element.entry.value) }
 {
-    Kind::Set { bounds, element }
+    DataType::Set { bounds, element }
 }

@@ -1,7 +1,7 @@
-//! The parts of declarations of EXPRESS schemas (ISO 10303-11): bounds, kinds and domain rules.
+//! The parts of declarations of EXPRESS schemas (ISO 10303-11): bounds, data types and domain rules.
 #![tactic(auto)]
 
 pub mod bounds;
 mod build;
-pub mod kinds;
+pub mod data_types;
 pub mod rules;

@@ -3,31 +3,31 @@
 ghost use Rattle.std.specs.Prelude.{◌≡◌, [], ◌∷◌, ◌++◌, List, map, false, MatchResult};
 ghost use Rattle.express_lexis.specs.Reading.{Reading};
 ghost use Rattle.express_lexis.specs.declared.marks.Mark.TheVariants as marks;
-ghost use Rattle.express_expressions.specs.declared.keyword.Keyword.{Keyword};
-ghost use Rattle.express_expressions.specs.Words.{mark, keyword, words_of};
-ghost use Rattle.express_expressions.specs.Grammar.{depth_limit};
-ghost use Rattle.express_runs.specs.Items.{seen_of, named};
+ghost use Rattle.express_trees.specs.declared.keyword.Keyword.{Keyword};
+ghost use Rattle.express_trees.specs.Words.{mark, keyword};
+ghost use Rattle.express_trees.specs.Grammar.{depth_limit};
+ghost use Rattle.express_runs.specs.Items.{located_of, named};
 ghost use Rattle.express_schemas.specs.Texts.{Shows};
 ghost use Rattle.express_schemas.specs.Views.{body_of, rule_of, rules_of};
 ghost use Rattle.express_schemas.specs.Written.{joined, words_of_body, words_of_rule};
 ghost use Rattle.express_schemas.specs.Profile.{FitsBody, FitsRules};
-ghost use Rattle.express_runs.specs.OpenRuns.{IsBegun, brackets_of};
-ghost use Rattle.express_schemas.specs.Runs.{has_some};
+ghost use Rattle.express_runs.specs.OpenRuns.{IsBegun, more_of};
 ghost use Rattle.express_schemas.specs.Predict;
 ghost use Rattle.express_schemas.specs.Predict.{Running, in_rule, Rules};
-ghost use Rattle.express_schemas.specs.Steps.{Passes, StopsIn};
+ghost use Rattle.express_schemas.specs.Steps.{ParsesWhere, StopsIn};
 ghost use Rattle.express_parts.specs.RuleReading.{BodyRead, RuleRead};
 
-use express_expressions::keyword::Keyword;
-use express_expressions::lexeme::Lexeme;
 use express_expressions::read::read_expression;
 use express_lexis::lexer::Lexer;
 use express_lexis::literal::Word;
 use express_lexis::marks::Mark;
+use express_runs::reader::Reader;
 use express_runs::runs::{Buffer, Ends, gather};
-use express_runs::tokens::{Item, expect, is_keyword, is_mark, take};
+use express_runs::tokens::{Item, is_keyword, is_mark};
 use express_schemas::fault::SchemaFault;
 use express_schemas::tree::{Body, Rule};
+use express_trees::keyword::Keyword;
+use express_trees::lexeme::Lexeme;
 use std::alloc::Global;
 
 /// The tokens of the buffer and those behind them up to a semicolon, of which this one is taken: an
@@ -38,10 +38,12 @@ fn gathered_body<'a>(
     first: Item<'a>,
     buffer: &mut Buffer<'a>,
 ) -> Result<Body<'a>, SchemaFault>
-    requires begun { (mid : Reading) × IsBegun in_rule 0 buffer.old mid × Shows mid (seen_of first) lexer.old }
+    requires begun { (mid : Reading) × IsBegun in_rule 0 buffer.old mid
+        × Shows mid (located_of first) lexer.old }
     ensures { MatchResult result
-        (λ b. BodyRead buffer.old (seen_of first.entry) (body_of b) lexer.old lexer.new)
-        (λ e. StopsIn e (Running in_rule 0 (brackets_of buffer.old.open.items) (has_some (words_of buffer.old.lexemes.items)) ∷ []) (seen_of first.entry ∷ []) lexer.old) }
+        (λ b. BodyRead buffer.old (located_of first.entry) (body_of b) lexer.old lexer.new)
+        (λ e. StopsIn e (more_of in_rule 0 buffer.old ∷ []) (located_of first.entry ∷ [])
+        lexer.old) }
 {
     let run = gather(lexer, Ends::Rule, 0, buffer, first)?;
     match read_expression(alloc, &buffer.lexemes, 0)? {
@@ -51,87 +53,73 @@ fn gathered_body<'a>(
 }
 
 /// Reads an expression, or tokens that are none, and the semicolon behind it.
-pub fn body<'a>(
-    alloc: Global,
-    lexer: &mut Lexer<'a>,
-    buffer: &mut Buffer<'a>,
-) -> Result<Body<'a>, SchemaFault>
-    ensures { MatchResult result
-        (λ b. FitsBody depth_limit (body_of b) × Passes (Running in_rule 0 [] false ∷ []) [] [] (words_of_body (body_of b) ++ mark marks.Semicolon ∷ []) lexer.old lexer.new)
-        (λ e. StopsIn e (Running in_rule 0 [] false ∷ []) [] lexer.old) }
+pub fn body<'a>(reader: &mut Reader<'a>) -> Result<Body<'a>, SchemaFault>
+    ensures { ParsesWhere result (Running in_rule 0 [] false ∷ [])
+        (λ b. words_of_body (body_of b) ++ mark marks.Semicolon ∷ [])
+        (λ b. FitsBody depth_limit (body_of b)) reader.old reader.new }
 {
-    buffer.clear();
-    let first = take(lexer)?;
-    gathered_body(alloc, lexer, first, buffer)
+    let first = reader.take()?;
+    reader.buffer.clear();
+    gathered_body(reader.alloc, &mut reader.lexer, first, &mut reader.buffer)
 }
 
 /// The rule that begins with this name, which is its label where a colon stands behind it.
 fn named_rule<'a>(
-    alloc: Global,
-    lexer: &mut Lexer<'a>,
+    reader: &mut Reader<'a>,
     word: Word<'a>,
     place: u64,
-    buffer: &mut Buffer<'a>,
 ) -> Result<Rule<'a>, SchemaFault>
-    requires shown { (mid : Reading) × Shows mid (named word place) lexer.old }
+    requires shown { (mid : Reading) × Shows mid (named word place) reader.old }
     ensures { (end : Keyword) → MatchResult result
-        (λ r. RuleRead end (named word.entry place) (rule_of r) lexer.old lexer.new)
-        (λ e. StopsIn e (Rules end ∷ []) (named word.entry place ∷ []) lexer.old) }
+        (λ r. RuleRead end (named word.entry place) (rule_of r) reader.old reader.new)
+        (λ e. StopsIn e (Rules end ∷ []) (named word.entry place ∷ []) reader.old) }
 {
-    let to = lexer.place();
-    let next = take(lexer)?;
+    let to = reader.place();
+    let next = reader.take()?;
     if is_mark(next, Mark::Colon) {
-        let body = body(alloc, lexer, buffer)?;
+        let body = body(reader)?;
         return Ok(Rule {
             label: Some(word),
             body,
         });
     }
-    buffer.begin(word, place, to)?;
-    let body = gathered_body(alloc, lexer, next, buffer)?;
+    reader.buffer.begin(word, place, to)?;
+    let body = gathered_body(reader.alloc, &mut reader.lexer, next, &mut reader.buffer)?;
     Ok(Rule { label: None, body })
 }
 
 /// The rule that begins with this token.
-fn rule_from<'a>(
-    alloc: Global,
-    lexer: &mut Lexer<'a>,
-    first: Item<'a>,
-    buffer: &mut Buffer<'a>,
-) -> Result<Rule<'a>, SchemaFault>
-    requires shown { (mid : Reading) × Shows mid (seen_of first) lexer.old }
-    ensures { (end : Keyword) → Predict.is_keyword end (seen_of first.entry).sight ≡ false → MatchResult result
-        (λ r. RuleRead end (seen_of first.entry) (rule_of r) lexer.old lexer.new)
-        (λ e. StopsIn e (Rules end ∷ []) (seen_of first.entry ∷ []) lexer.old) }
+fn rule_from<'a>(reader: &mut Reader<'a>, first: Item<'a>) -> Result<Rule<'a>, SchemaFault>
+    requires shown { (mid : Reading) × Shows mid (located_of first) reader.old }
+    ensures { (end : Keyword) → Predict.is_keyword end (located_of first.entry).lookahead ≡ false
+        → MatchResult result
+        (λ r. RuleRead end (located_of first.entry) (rule_of r) reader.old reader.new)
+        (λ e. StopsIn e (Rules end ∷ []) (located_of first.entry ∷ []) reader.old) }
 {
     if let Lexeme::Name(word) = first.lexeme {
-        return named_rule(alloc, lexer, word, first.place, buffer);
+        return named_rule(reader, word, first.place);
     }
-    buffer.clear();
-    let body = gathered_body(alloc, lexer, first, buffer)?;
+    reader.buffer.clear();
+    let body = gathered_body(reader.alloc, &mut reader.lexer, first, &mut reader.buffer)?;
     Ok(Rule { label: None, body })
 }
 
 /// Reads rules up to the keyword that ends them, and its semicolon.
-pub fn rules<'a>(
-    alloc: Global,
-    lexer: &mut Lexer<'a>,
-    end: Keyword,
-    buffer: &mut Buffer<'a>,
-) -> Result<Vec<Rule<'a>>, SchemaFault>
-    ensures { MatchResult result
-        (λ rs. FitsRules depth_limit end (rules_of rs.items) × Passes (Rules end ∷ []) [] [] (joined (map words_of_rule (rules_of rs.items)) ++ keyword end ∷ mark marks.Semicolon ∷ []) lexer.old lexer.new)
-        (λ e. StopsIn e (Rules end ∷ []) [] lexer.old) }
+pub fn rules<'a>(reader: &mut Reader<'a>, end: Keyword) -> Result<Vec<Rule<'a>>, SchemaFault>
+    ensures { ParsesWhere result (Rules end ∷ [])
+        (λ rs. joined (map words_of_rule (rules_of rs.items))
+        ++ keyword end ∷ mark marks.Semicolon ∷ [])
+        (λ rs. FitsRules depth_limit end (rules_of rs.items)) reader.old reader.new }
 {
-    let mut rules = Vec::new(alloc);
+    let mut rules = Vec::new(reader.alloc());
     loop {
-        let first = take(lexer)?;
+        let first = reader.take()?;
         if is_keyword(first, end) {
-            expect(lexer, Mark::Semicolon)?;
+            reader.expect(Mark::Semicolon)?;
             rules.shrink_to_fit();
             return Ok(rules);
         }
-        let rule = rule_from(alloc, lexer, first, buffer)?;
+        let rule = rule_from(reader, first)?;
         rules.push(rule)?;
     }
 }

@@ -3,8 +3,8 @@ use Rattle.std.specs.Prelude.{◌≡◌, ℕ, ◌+◌, ◌<◌, Bool, true, fals
 use Rattle.express_lexis.specs.declared.marks.Mark.{Mark}
 use Rattle.express_lexis.specs.declared.marks.Mark.TheVariants as marks
 use Rattle.express_lexis.specs.Reading.{Reading}
-use Rattle.express_expressions.specs.Words.{Word, word_of, words_of, mark}
-use Rattle.express_expressions.specs.Grammar.{depth_limit}
+use Rattle.express_trees.specs.Words.{Word, word_of, words_of, mark}
+use Rattle.express_trees.specs.Grammar.{depth_limit}
 use Rattle.express_runs.specs.declared.runs.Ends.{Ends}
 use Rattle.express_runs.specs.declared.runs.Ends.TheVariants as ends
 use Rattle.express_runs.specs.declared.runs.Buffer.{Buffer}
@@ -16,12 +16,12 @@ use Rattle.express_schemas.specs.declared.fault.SchemaFault.TheVariants as fault
 use Rattle.express_schemas.specs.Runs.{Bracket, parenthesis, square, brace, opening, Run, words_of_run, inside, FitsRun, IsSome, in_brackets}
 use Rattle.express_schemas.specs.Runs.{has_some}
 use Rattle.express_schemas.specs.Runs as runs
-use Rattle.express_schemas.specs.Predict.{Part, in_rule, in_lower, in_upper, in_parentheses, Symbol, Running, Next}
-use Rattle.express_schemas.specs.Texts.{Seen}
+use Rattle.express_schemas.specs.Predict.{RunEnd, in_rule, in_lower, in_upper, in_parentheses, Symbol, Running, Next}
+use Rattle.express_schemas.specs.Texts.{LocatedToken}
 use Rattle.express_schemas.specs.Passages.{Stands}
 use Rattle.express_schemas.specs.Steps.{Passes}
 
-abbrev pub part_of : Ends → Part
+abbrev pub part_of : Ends → RunEnd
 part_of ends.Rule = in_rule
 part_of ends.Lower = in_lower
 part_of ends.Upper = in_upper
@@ -41,14 +41,14 @@ abbrev pub brackets_of : List code.Bracket → List Bracket
 brackets_of bs = stacked bs []
 
 -- what may stand in none of its brackets
-abbrev pub may_of : Part → Word → Bool
+abbrev pub may_of : RunEnd → Word → Bool
 may_of in_rule = runs.in_rule
 may_of in_lower = runs.in_lower
 may_of in_upper = in_brackets
 may_of in_parentheses = in_brackets
 
 -- the mark that ends it
-abbrev pub end_of : Part → Mark
+abbrev pub end_of : RunEnd → Mark
 end_of in_rule = marks.Semicolon
 end_of in_lower = marks.Colon
 end_of in_upper = marks.CloseBracket
@@ -60,25 +60,27 @@ level n [] = n
 level n (b ∷ inner) = level n inner + 1
 
 -- The words so far are those of a run, of which these brackets are open, the innermost first.
-abbrev pub IsOpenRun : Part → ℕ → List Bracket → List Word → Type 0
+abbrev pub IsOpenRun : RunEnd → ℕ → List Bracket → List Word → Type 0
 IsOpenRun part n [] ws = (r : Run) × FitsRun depth_limit (may_of part) n r × (ws ≡ words_of_run r)
-IsOpenRun part n (b ∷ inner) ws = (u : List Word) × (r : Run) × IsOpenRun part n inner u × (level n inner < depth_limit) × FitsRun depth_limit inside (level n inner + 1) r × (ws ≡ u ++ opening b ∷ words_of_run r)
+IsOpenRun part n (b ∷ inner) ws = (u : List Word) × (r : Run) × IsOpenRun part n inner u × (level n inner < depth_limit)
+    × FitsRun depth_limit inside (level n inner + 1) r × (ws ≡ u ++ opening b ∷ words_of_run r)
 
 -- what is to come of a run, where it isn't ended
-abbrev pub going_on : Part → ℕ → List Bracket → Bool → List Symbol
+abbrev pub going_on : RunEnd → ℕ → List Bracket → Bool → List Symbol
 going_on part n inner true = []
 going_on part n inner false = Running part n inner true ∷ []
 
 -- the answer to one token is what the table says: whether the run is ended, or a fault at this place
-abbrev pub Agrees : Next → Part → ℕ → List Bracket → ℕ → Result Bool SchemaFault → Type 0
+abbrev pub Agrees : Next → RunEnd → ℕ → List Bracket → ℕ → Result Bool SchemaFault → Type 0
 Agrees t part n inner place (Ok ended) = t ≡ Ok (going_on part n inner ended)
 Agrees t part n inner place (Err faults.Memory) = Unit {0}
 Agrees t part n inner place (Err (faults.Fault kind p)) = (t ≡ Err kind) × (p ≡ place)
 
 -- The tokens of a buffer are a run so far, and stand up to this place of the text.
-pub record IsBegun (part : Part) (n : ℕ) (b : Buffer) (here : Reading) : Type 0 where
+pub record IsBegun (part : RunEnd) (n : ℕ) (b : Buffer) (here : Reading) : Type 0 where
   pub run : IsOpenRun part n (brackets_of b.open.items) (words_of b.lexemes.items)
-  pub stand : (words_of b.lexemes.items ≡ []) ⊎ ((b.to ≡ here.place) × Stands here.text b.from (words_of b.lexemes.items) b.to)
+  pub stand : (words_of b.lexemes.items ≡ [])
+      ⊎ ((b.to ≡ here.place) × Stands here.text b.from (words_of b.lexemes.items) b.to)
 
 -- one token more, behind which the text is read up to this place
 pub record IsPushed (before : Buffer) (i : Item) (end : ℕ) (after : Buffer) : Type 0 where
@@ -87,11 +89,16 @@ pub record IsPushed (before : Buffer) (i : Item) (end : ℕ) (after : Buffer) : 
   pub from : after.from ≡ (if has_some (words_of before.lexemes.items) then before.from else i.place)
   pub to : after.to ≡ end
 
+-- what is to come of a run whose first tokens are in a buffer
+abbrev pub more_of : RunEnd → ℕ → Buffer → Symbol
+more_of part n b = Running part n (brackets_of b.open.items) (has_some (words_of b.lexemes.items))
+
 -- Behind the tokens of a buffer, of the next of which this is taken, stand others that end the run, and what ends it.
-pub record Gathered (part : Part) (n : ℕ) (before after : Buffer) (first : Seen) (r : Run) (old new : Reading) : Type 0 where
+pub record Gathered (part : RunEnd) (n : ℕ) (before after : Buffer) (first : LocatedToken) (r : Run)
+    (old new : Reading) : Type 0 where
   pub further : List Word
   pub words : words_of after.lexemes.items ≡ words_of before.lexemes.items ++ further
   pub run : words_of_run r ≡ words_of after.lexemes.items
   pub fits : FitsRun depth_limit (may_of part) n r
   pub some : IsSome r
-  pub passes : Passes (Running part n (brackets_of before.open.items) (has_some (words_of before.lexemes.items)) ∷ []) [] (first ∷ []) (further ++ mark (end_of part) ∷ []) old new
+  pub passes : Passes (more_of part n before ∷ []) [] (first ∷ []) (further ++ mark (end_of part) ∷ []) old new

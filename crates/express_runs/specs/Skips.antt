@@ -1,12 +1,12 @@
 -- What a token means where declarations are skipped.
 use Rattle.std.specs.Prelude.{ℕ, Bool, false, List, [], ◌∷◌, Option, None, Some}
 use Rattle.std.specs.Str.{bytes_eq}
-use Rattle.express_expressions.specs.Words.{name}
-use Rattle.express_schemas.specs.Texts.{Sight, token}
+use Rattle.express_trees.specs.Words.{name}
+use Rattle.express_schemas.specs.Texts.{Lookahead, token}
 use Rattle.express_schemas.specs.Predict.{Symbol, Routine}
 
 -- the token is this name
-abbrev pub is_name : List ℕ → Sight → Bool
+abbrev pub is_name : List ℕ → Lookahead → Bool
 is_name n (token (name m)) = bytes_eq m n
 is_name n _ = false
 

@@ -2,6 +2,7 @@
 #![tactic(auto)]
 
 pub mod names;
+pub mod reader;
 pub mod runs;
 pub mod skipped;
 pub mod tokens;

@@ -2,33 +2,39 @@
 
 ghost use Rattle.std.specs.Prelude.{◌≡◌, ℕ, ◌≤◌, true, false, [], ◌∷◌, length, IfOk, MatchResult};
 ghost use Rattle.express_lexis.specs.Reading.{Reading};
-ghost use Rattle.express_expressions.specs.Words.{words_of, mark, name};
-ghost use Rattle.express_expressions.specs.Views.{capitals};
-ghost use Rattle.express_expressions.specs.Grammar.{depth_limit};
+ghost use Rattle.express_trees.specs.Words.{words_of, mark, name};
+ghost use Rattle.express_trees.specs.Views.{capitals};
+ghost use Rattle.express_trees.specs.Grammar.{depth_limit};
 ghost use Rattle.express_schemas.specs.declared.fault.SchemaFault.TheVariants.{Fault};
-ghost use Rattle.express_runs.specs.Items.{seen_of, named};
+ghost use Rattle.express_runs.specs.Items.{located_of, named};
 ghost use Rattle.express_schemas.specs.Texts.{Shows};
 ghost use Rattle.express_schemas.specs.Views.{run_of};
 ghost use Rattle.express_schemas.specs.Runs;
 ghost use Rattle.express_schemas.specs.Runs.{words_of_run};
 ghost use Rattle.express_schemas.specs.Predict;
-ghost use Rattle.express_schemas.specs.Predict.{Part, Running};
+ghost use Rattle.express_schemas.specs.Predict.{RunEnd};
 ghost use Rattle.express_schemas.specs.Steps.{StopsIn};
-ghost use Rattle.express_runs.specs.OpenRuns.{part_of, bracket_of, brackets_of, Agrees, IsBegun, IsPushed, Gathered};
-ghost use Rattle.express_schemas.specs.Runs.{has_some};
+ghost use Rattle.express_runs.specs.OpenRuns.{
+  part_of,
+  bracket_of,
+  brackets_of,
+  Agrees,
+  IsBegun,
+  IsPushed,
+  Gathered,
+  more_of,
+};
 ghost use Rattle.express_schemas.specs.Passages.{Stands, IsRun};
 
-use crate::tokens::{Item, take};
-use express_expressions::lexeme::Lexeme;
+use crate::tokens::{Item, next_item};
 use express_lexis::lexer::Lexer;
 use express_lexis::literal::Word;
 use express_lexis::marks::Mark;
-use express_schemas::fault::{Kind, SchemaFault};
+use express_schemas::fault::{FaultKind, SchemaFault};
 use express_schemas::passage::{Passage, Run};
+use express_trees::lexeme::Lexeme;
+use express_trees::tree::LEVELS;
 use std::alloc::{AllocError, Global};
-
-/// So many brackets may be open at once, and aggregate types with them.
-const LEVELS: usize = 64;
 
 /// What ends a run.
 #[derive(Clone, Copy, Debug, PartialEq, Eq)]
@@ -76,7 +82,7 @@ impl<'a> Buffer<'a> {
     /// Forgets all tokens.
     pub fn clear(&mut self)
         ensures empty { (self.new.lexemes.items ≡ []) × (self.new.open.items ≡ []) }
-        ensures begun { (part : Part) (n : ℕ) (here : Reading) → IsBegun part n self.new here }
+        ensures begun { (part : RunEnd) (n : ℕ) (here : Reading) → IsBegun part n self.new here }
     {
         self.lexemes.clear();
         self.open.clear();
@@ -84,8 +90,12 @@ impl<'a> Buffer<'a> {
 
     /// Forgets all tokens but this name.
     pub fn begin(&mut self, first: Word<'a>, place: u64, end: u64) -> Result<(), AllocError>
-        ensures { IfOk result (λ _. (words_of self.new.lexemes.items ≡ name (capitals first.entry) ∷ []) × (self.new.open.items ≡ [])
-            × ((part : Part) (n : ℕ) (old here : Reading) → Shows old (named first.entry place) here → end ≡ here.place → IsBegun part n self.new here)) }
+        ensures { IfOk result (λ _.
+            (words_of self.new.lexemes.items ≡ name (capitals first.entry) ∷ [])
+            × (self.new.open.items ≡ [])
+            × ((part : RunEnd) (n : ℕ) (old here : Reading)
+            → Shows old (named first.entry place) here → end ≡ here.place
+            → IsBegun part n self.new here)) }
     {
         self.clear();
         self.lexemes.push(Lexeme::Name(first))?;
@@ -110,12 +120,13 @@ impl<'a> Buffer<'a> {
 /// The run from one place of a text to another.
 fn run_between(text: &[u8], from: u64, to: u64) -> Run<'_>
     requires { (r : Runs.Run) × IsRun r × Stands text.now from (words_of_run r) to }
-    ensures { (r : Runs.Run) → IsRun r → Stands text.now from (words_of_run r) to → run_of result ≡ r }
+    ensures { (r : Runs.Run) → IsRun r → Stands text.now from (words_of_run r) to
+        → run_of result ≡ r }
 {
     Run::of(Passage::between(text, from as usize, to as usize))
 }
 
-fn fault(kind: Kind, place: u64) -> SchemaFault
+fn fault(kind: FaultKind, place: u64) -> SchemaFault
     ensures { result ≡ Fault kind place }
 {
     SchemaFault::Fault { kind, place }
@@ -154,10 +165,12 @@ fn opened(
 ) -> Result<bool, SchemaFault>
     requires around { around ≤ 64 }
     requires within { length open.old.items ≤ 64 }
-    ensures { (part : Part) → Agrees (Predict.opened depth_limit part around (brackets_of open.old.items) (bracket_of bracket)) part around (brackets_of open.new.items) place result }
+    ensures { (part : RunEnd) → Agrees
+        (Predict.opened depth_limit part around (brackets_of open.old.items) (bracket_of bracket))
+        part around (brackets_of open.new.items) place result }
 {
-    if around as usize + open.len() >= LEVELS {
-        return Err(fault(Kind::TooDeep, place));
+    if around as usize + open.len() >= LEVELS as usize {
+        return Err(fault(FaultKind::TooDeep, place));
     }
     open.push(bracket)?;
     Ok(false)
@@ -171,16 +184,17 @@ fn outside(
     mark: Mark,
     place: u64,
 ) -> Result<bool, SchemaFault>
-    ensures { (around : _) → Agrees (Predict.next_outside (part_of part) around some closes mark) (part_of part) around [] place result }
+    ensures { (around : _) → Agrees (Predict.next_outside (part_of part) around some closes mark)
+        (part_of part) around [] place result }
 {
     if ends_run(part, mark) {
         if some {
             return Ok(true);
         }
-        return Err(fault(Kind::Expected, place));
+        return Err(fault(FaultKind::Expected, place));
     }
     if closes {
-        return Err(fault(Kind::Expected, place));
+        return Err(fault(FaultKind::Expected, place));
     }
     Ok(false)
 }
@@ -194,7 +208,10 @@ fn closed(
     mark: Mark,
     place: u64,
 ) -> Result<bool, SchemaFault>
-    ensures { (around : _) → Agrees (Predict.closed (part_of part) around (brackets_of open.old.items) some (bracket_of bracket) mark) (part_of part) around (brackets_of open.new.items) place result }
+    ensures { (around : _) → Agrees
+        (Predict.closed (part_of part) around (brackets_of open.old.items) some
+        (bracket_of bracket) mark)
+        (part_of part) around (brackets_of open.new.items) place result }
 {
     match open.pop() {
         None => outside(part, some, true, mark, place),
@@ -202,7 +219,7 @@ fn closed(
             if is_same(bracket, last) {
                 Ok(false)
             } else {
-                Err(fault(Kind::Expected, place))
+                Err(fault(FaultKind::Expected, place))
             }
         }
     }
@@ -216,7 +233,9 @@ fn beside(
     mark: Mark,
     place: u64,
 ) -> Result<bool, SchemaFault>
-    ensures { (around : _) → Agrees (Predict.next_mark (part_of part) around (brackets_of open.now) some mark) (part_of part) around (brackets_of open.now) place result }
+    ensures { (around : _) → Agrees
+        (Predict.next_mark (part_of part) around (brackets_of open.now) some mark)
+        (part_of part) around (brackets_of open.now) place result }
 {
     if open.is_empty() {
         return outside(part, some, false, mark, place);
@@ -234,7 +253,10 @@ fn step(
 ) -> Result<bool, SchemaFault>
     requires around { around ≤ 64 }
     requires within { length open.old.items ≤ 64 }
-    ensures { Agrees (Predict.next_running depth_limit (part_of part) around (brackets_of open.old.items) some (seen_of item.entry).sight) (part_of part) around (brackets_of open.new.items) item.entry.place result }
+    ensures { Agrees
+        (Predict.next_running depth_limit (part_of part) around (brackets_of open.old.items) some
+        (located_of item.entry).lookahead)
+        (part_of part) around (brackets_of open.new.items) item.entry.place result }
 {
     let place = item.place;
     let Lexeme::Mark(mark) = item.lexeme else {
@@ -261,10 +283,13 @@ pub fn gather<'a>(
     first: Item<'a>,
 ) -> Result<Run<'a>, SchemaFault>
     requires around { around ≤ 64 }
-    requires begun { (mid : Reading) × IsBegun (part_of part) around buffer.old mid × Shows mid (seen_of first) lexer.old }
+    requires begun { (mid : Reading) × IsBegun (part_of part) around buffer.old mid
+        × Shows mid (located_of first) lexer.old }
     ensures { MatchResult result
-        (λ r. Gathered (part_of part) around buffer.old buffer.new (seen_of first.entry) (run_of r) lexer.old lexer.new)
-        (λ e. StopsIn e (Running (part_of part) around (brackets_of buffer.old.open.items) (has_some (words_of buffer.old.lexemes.items)) ∷ []) (seen_of first.entry ∷ []) lexer.old) }
+        (λ r. Gathered (part_of part) around buffer.old buffer.new (located_of first.entry)
+        (run_of r) lexer.old lexer.new)
+        (λ e. StopsIn e (more_of (part_of part) around buffer.old ∷ [])
+        (located_of first.entry ∷ []) lexer.old) }
 {
     let mut item = first;
     loop {
@@ -273,6 +298,6 @@ pub fn gather<'a>(
             return Ok(run_between(lexer.text(), buffer.from, buffer.to));
         }
         buffer.push(item, lexer.place())?;
-        item = take(lexer)?;
+        item = next_item(lexer)?;
     }
 }

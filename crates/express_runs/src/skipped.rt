@@ -5,9 +5,9 @@ ghost use Rattle.std.specs.Str.{bytes_eq};
 ghost use Rattle.step_literals.specs.Words.{upper};
 ghost use Rattle.express_lexis.specs.declared.marks.Mark.TheVariants as marks;
 ghost use Rattle.express_lexis.specs.Reading.{Reading};
-ghost use Rattle.express_expressions.specs.Words;
-ghost use Rattle.express_expressions.specs.Words.{name, mark, word_of};
-ghost use Rattle.express_expressions.specs.Views.{capitals};
+ghost use Rattle.express_trees.specs.Words;
+ghost use Rattle.express_trees.specs.Words.{name, mark, word_of};
+ghost use Rattle.express_trees.specs.Views.{capitals};
 ghost use Rattle.express_schemas.specs.Texts.{Shows};
 ghost use Rattle.express_schemas.specs.Passages.{Stands};
 ghost use Rattle.express_schemas.specs.Runs.{words_of_routine, FitsRoutine};
@@ -15,19 +15,27 @@ ghost use Rattle.express_schemas.specs.Views.{routine_of, words_of_passage, skip
 ghost use Rattle.express_schemas.specs.Written.{words_of_skipped};
 ghost use Rattle.express_schemas.specs.Profile.{IsWithout, FitsSkipped};
 ghost use Rattle.express_schemas.specs.Predict;
-ghost use Rattle.express_schemas.specs.Predict.{Declarations, SkippedName, SkippedEnd, Until, opens_routine, closes_routine, next_routine};
+ghost use Rattle.express_schemas.specs.Predict.{
+  Declarations,
+  SkippedName,
+  SkippedEnd,
+  Until,
+  opens_routine,
+  closes_routine,
+  next_routine,
+};
 ghost use Rattle.express_runs.specs.Skips.{is_name, still_open};
-ghost use Rattle.express_runs.specs.Items.{seen_of, named};
-ghost use Rattle.express_schemas.specs.Steps.{Passes, StopsIn};
+ghost use Rattle.express_runs.specs.Items.{located_of, named};
+ghost use Rattle.express_schemas.specs.Steps.{Passes, Parses, ParsesWhere, StopsIn};
 
-use crate::tokens::{Item, fault_at, is_mark, take};
-use express_expressions::lexeme::Lexeme;
-use express_lexis::lexer::Lexer;
+use crate::reader::Reader;
+use crate::tokens::{Item, fault_at, is_mark};
 use express_lexis::literal::Word;
 use express_lexis::marks::Mark;
-use express_schemas::fault::{Kind, SchemaFault};
+use express_schemas::fault::{FaultKind, SchemaFault};
 use express_schemas::passage::{Passage, Routine};
 use express_schemas::tree::Skipped;
+use express_trees::lexeme::Lexeme;
 
 /// Whether a name is this word, which is in capitals.
 fn spells(found: Word<'_>, wanted: &[u8]) -> bool
@@ -40,7 +48,7 @@ fn spells(found: Word<'_>, wanted: &[u8]) -> bool
 /// Whether a token is this name, which is in capitals.
 fn is_named(item: Item<'_>, wanted: &[u8]) -> bool
     requires { upper wanted.now ≡ wanted.now }
-    ensures { result ≡ is_name wanted.now (seen_of item.entry).sight }
+    ensures { result ≡ is_name wanted.now (located_of item.entry).lookahead }
 {
     match item.lexeme {
         Lexeme::Name(found) => spells(found, wanted),
@@ -49,23 +57,24 @@ fn is_named(item: Item<'_>, wanted: &[u8]) -> bool
 }
 
 /// The name of a declaration.
-fn skipped_name<'a>(lexer: &mut Lexer<'a>) -> Result<Word<'a>, SchemaFault>
-    ensures { MatchResult result (λ w. Passes (SkippedName ∷ []) [] [] (name (capitals w) ∷ []) lexer.old lexer.new) (λ e. StopsIn e (SkippedName ∷ []) [] lexer.old) }
+fn skipped_name<'a>(reader: &mut Reader<'a>) -> Result<Word<'a>, SchemaFault>
+    ensures { Parses result (SkippedName ∷ []) (λ w. name (capitals w) ∷ []) reader.old reader.new }
 {
-    let item = take(lexer)?;
+    let item = reader.take()?;
     match item.lexeme {
         Lexeme::Name(word) => Ok(word),
-        _ => Err(fault_at(Kind::Expected, item)),
+        _ => Err(fault_at(FaultKind::Expected, item)),
     }
 }
 
 /// The semicolon behind a declaration.
-fn skipped_end(lexer: &mut Lexer<'_>) -> Result<(), SchemaFault>
-    ensures { MatchResult result (λ _. Passes (SkippedEnd ∷ []) [] [] (mark marks.Semicolon ∷ []) lexer.old lexer.new) (λ e. StopsIn e (SkippedEnd ∷ []) [] lexer.old) }
+fn skipped_end(reader: &mut Reader<'_>) -> Result<(), SchemaFault>
+    ensures { Parses result (SkippedEnd ∷ [])
+        (λ _. mark marks.Semicolon ∷ []) reader.old reader.new }
 {
-    let item = take(lexer)?;
+    let item = reader.take()?;
     if !is_mark(item, Mark::Semicolon) {
-        return Err(fault_at(Kind::Expected, item));
+        return Err(fault_at(FaultKind::Expected, item));
     }
     Ok(())
 }
@@ -73,7 +82,9 @@ fn skipped_end(lexer: &mut Lexer<'_>) -> Result<(), SchemaFault>
 /// How many bytes come before the first of some tokens, of which this one is the last; those before it stand
 /// between these places.
 fn begun(from: u64, to: u64, item: Item<'_>) -> u64
-    ensures { (ws : List Words.Word) → (old : Reading) → (new : Reading) → Stands old.text from ws to → to ≡ old.place → Shows old (seen_of item.entry) new → Stands new.text result (ws ++ word_of item.entry.lexeme ∷ []) new.place }
+    ensures { (ws : List Words.Word) (old new : Reading)
+        → Stands old.text from ws to → to ≡ old.place → Shows old (located_of item.entry) new
+        → Stands new.text result (ws ++ word_of item.entry.lexeme ∷ []) new.place }
 {
     if from == to {
         return item.place;
@@ -98,7 +109,7 @@ fn closes(found: Word<'_>) -> bool
 /// How many functions and procedures are open behind a token, beside the outermost; none where that is ended.
 fn left_open(others: u64, item: Item<'_>) -> Option<u64>
     requires { others + 1 < 2 ^ 64 }
-    ensures { next_routine others (seen_of item.entry).sight ≡ Ok (still_open result) }
+    ensures { next_routine others (located_of item.entry).lookahead ≡ Ok (still_open result) }
 {
     let Lexeme::Name(found) = item.lexeme else {
         return Some(others);
@@ -116,20 +127,20 @@ fn left_open(others: u64, item: Item<'_>) -> Option<u64>
 }
 
 /// The tokens of a function or procedure behind its name, with the word that ends it.
-fn routine_tokens<'a>(lexer: &mut Lexer<'a>) -> Result<Routine<'a>, SchemaFault>
-    ensures { MatchResult result
-        (λ r. FitsRoutine (routine_of r) × Passes (Predict.Routine 0 ∷ []) [] [] (words_of_routine (routine_of r)) lexer.old lexer.new)
-        (λ e. StopsIn e (Predict.Routine 0 ∷ []) [] lexer.old) }
+fn routine_tokens<'a>(reader: &mut Reader<'a>) -> Result<Routine<'a>, SchemaFault>
+    ensures { ParsesWhere result (Predict.Routine 0 ∷ [])
+        (λ r. words_of_routine (routine_of r)) (λ r. FitsRoutine (routine_of r))
+        reader.old reader.new }
 {
     let mut others = 0;
-    let mut from = lexer.place();
+    let mut from = reader.place();
     let mut to = from;
     loop {
-        let item = take(lexer)?;
+        let item = reader.take()?;
         from = begun(from, to, item);
-        to = lexer.place();
+        to = reader.place();
         let Some(left) = left_open(others, item) else {
-            let passage = Passage::between(lexer.text(), from as usize, to as usize);
+            let passage = Passage::between(reader.text(), from as usize, to as usize);
             return Ok(Routine::of(passage));
         };
         others = left;
@@ -137,95 +148,99 @@ fn routine_tokens<'a>(lexer: &mut Lexer<'a>) -> Result<Routine<'a>, SchemaFault>
 }
 
 /// The tokens up to a name, which is in capitals, and that.
-fn tokens_until<'a>(lexer: &mut Lexer<'a>, end: &[u8]) -> Result<Passage<'a>, SchemaFault>
+fn tokens_until<'a>(reader: &mut Reader<'a>, end: &[u8]) -> Result<Passage<'a>, SchemaFault>
     requires { upper end.now ≡ end.now }
-    ensures { MatchResult result
-        (λ p. IsWithout end.now (words_of_passage p) × Passes (Until end.now ∷ []) [] [] (words_of_passage p ++ name end.now ∷ []) lexer.old lexer.new)
-        (λ e. StopsIn e (Until end.now ∷ []) [] lexer.old) }
+    ensures { ParsesWhere result (Until end.now ∷ [])
+        (λ p. words_of_passage p ++ name end.now ∷ []) (λ p. IsWithout end.now (words_of_passage p))
+        reader.old reader.new }
 {
-    let mut from = lexer.place();
+    let mut from = reader.place();
     let mut to = from;
     loop {
-        let item = take(lexer)?;
+        let item = reader.take()?;
         if is_named(item, end) {
-            return Ok(Passage::between(lexer.text(), from as usize, to as usize));
+            return Ok(Passage::between(reader.text(), from as usize, to as usize));
         }
         from = begun(from, to, item);
-        to = lexer.place();
+        to = reader.place();
     }
 }
 
 /// A function or procedure behind its first word.
-fn named_routine<'a>(lexer: &mut Lexer<'a>) -> Result<(Word<'a>, Routine<'a>), SchemaFault>
-    ensures { MatchResult result
-        (λ r. FitsRoutine (routine_of r.1) × Passes (SkippedName ∷ Predict.Routine 0 ∷ SkippedEnd ∷ []) [] [] (name (capitals r.0) ∷ (words_of_routine (routine_of r.1) ++ mark marks.Semicolon ∷ [])) lexer.old lexer.new)
-        (λ e. StopsIn e (SkippedName ∷ Predict.Routine 0 ∷ SkippedEnd ∷ []) [] lexer.old) }
+fn named_routine<'a>(reader: &mut Reader<'a>) -> Result<(Word<'a>, Routine<'a>), SchemaFault>
+    ensures { ParsesWhere result (SkippedName ∷ Predict.Routine 0 ∷ SkippedEnd ∷ [])
+        (λ r. name (capitals r.0)
+        ∷ (words_of_routine (routine_of r.1) ++ mark marks.Semicolon ∷ []))
+        (λ r. FitsRoutine (routine_of r.1)) reader.old reader.new }
 {
-    let name = skipped_name(lexer)?;
-    let tokens = routine_tokens(lexer)?;
-    skipped_end(lexer)?;
+    let name = skipped_name(reader)?;
+    let tokens = routine_tokens(reader)?;
+    skipped_end(reader)?;
     Ok((name, tokens))
 }
 
 /// The tokens of a declaration up to this name, with that and the semicolon.
-fn tokens_ended<'a>(lexer: &mut Lexer<'a>, end: &[u8]) -> Result<Passage<'a>, SchemaFault>
+fn tokens_ended<'a>(reader: &mut Reader<'a>, end: &[u8]) -> Result<Passage<'a>, SchemaFault>
     requires { upper end.now ≡ end.now }
-    ensures { MatchResult result
-        (λ p. IsWithout end.now (words_of_passage p) × Passes (Until end.now ∷ SkippedEnd ∷ []) [] [] (words_of_passage p ++ name end.now ∷ mark marks.Semicolon ∷ []) lexer.old lexer.new)
-        (λ e. StopsIn e (Until end.now ∷ SkippedEnd ∷ []) [] lexer.old) }
+    ensures { ParsesWhere result (Until end.now ∷ SkippedEnd ∷ [])
+        (λ p. words_of_passage p ++ name end.now ∷ mark marks.Semicolon ∷ [])
+        (λ p. IsWithout end.now (words_of_passage p)) reader.old reader.new }
 {
-    let tokens = tokens_until(lexer, end)?;
-    skipped_end(lexer)?;
+    let tokens = tokens_until(reader, end)?;
+    skipped_end(reader)?;
     Ok(tokens)
 }
 
 /// A declaration with a name, behind its first word.
 fn named_tokens<'a>(
-    lexer: &mut Lexer<'a>,
+    reader: &mut Reader<'a>,
     end: &[u8],
 ) -> Result<(Word<'a>, Passage<'a>), SchemaFault>
     requires { upper end.now ≡ end.now }
-    ensures { MatchResult result
-        (λ p. IsWithout end.now (words_of_passage p.1) × Passes (SkippedName ∷ Until end.now ∷ SkippedEnd ∷ []) [] [] (name (capitals p.0) ∷ (words_of_passage p.1 ++ name end.now ∷ mark marks.Semicolon ∷ [])) lexer.old lexer.new)
-        (λ e. StopsIn e (SkippedName ∷ Until end.now ∷ SkippedEnd ∷ []) [] lexer.old) }
+    ensures { ParsesWhere result (SkippedName ∷ Until end.now ∷ SkippedEnd ∷ [])
+        (λ p. name (capitals p.0)
+        ∷ (words_of_passage p.1 ++ name end.now ∷ mark marks.Semicolon ∷ []))
+        (λ p. IsWithout end.now (words_of_passage p.1)) reader.old reader.new }
 {
-    let name = skipped_name(lexer)?;
-    let tokens = tokens_ended(lexer, end)?;
+    let name = skipped_name(reader)?;
+    let tokens = tokens_ended(reader, end)?;
     Ok((name, tokens))
 }
 
 /// Reads a declaration that begins with this name.
 pub fn skipped<'a>(
-    lexer: &mut Lexer<'a>,
+    reader: &mut Reader<'a>,
     first: Word<'a>,
     place: u64,
 ) -> Result<Skipped<'a>, SchemaFault>
     ensures { MatchResult result
-        (λ s. FitsSkipped (skipped_of s) × Passes (Declarations ∷ []) (Declarations ∷ []) (named first.entry place ∷ []) (words_of_skipped (skipped_of s)) lexer.old lexer.new)
-        (λ e. StopsIn e (Declarations ∷ []) (named first.entry place ∷ []) lexer.old) }
+        (λ s. FitsSkipped (skipped_of s)
+        × Passes (Declarations ∷ []) (Declarations ∷ []) (named first.entry place ∷ [])
+        (words_of_skipped (skipped_of s)) reader.old reader.new)
+        (λ e. StopsIn e (Declarations ∷ []) (named first.entry place ∷ []) reader.old) }
 {
     if spells(first, b"FUNCTION") {
-        let (name, tokens) = named_routine(lexer)?;
+        let (name, tokens) = named_routine(reader)?;
         return Ok(Skipped::Function(name, tokens));
     }
     if spells(first, b"PROCEDURE") {
-        let (name, tokens) = named_routine(lexer)?;
+        let (name, tokens) = named_routine(reader)?;
         return Ok(Skipped::Procedure(name, tokens));
     }
     if spells(first, b"RULE") {
-        let (name, tokens) = named_tokens(lexer, b"END_RULE")?;
+        let (name, tokens) = named_tokens(reader, b"END_RULE")?;
         return Ok(Skipped::Rule(name, tokens));
     }
     if spells(first, b"CONSTANT") {
-        let tokens = tokens_ended(lexer, b"END_CONSTANT")?;
+        let tokens = tokens_ended(reader, b"END_CONSTANT")?;
         return Ok(Skipped::Constants(tokens));
     }
     if spells(first, b"SUBTYPE_CONSTRAINT") {
-        let (name, tokens) = named_tokens(lexer, b"END_SUBTYPE_CONSTRAINT")?;
+        let (name, tokens) = named_tokens(reader, b"END_SUBTYPE_CONSTRAINT")?;
         return Ok(Skipped::SubtypeConstraint(name, tokens));
     }
     Err(SchemaFault::Fault {
-        kind: Kind::Expected,
+        kind: FaultKind::Expected,
         place,
     })
 }

@@ -1,21 +1,21 @@
 //! The tokens of a text, one at a time.
 
 ghost use Rattle.std.specs.Prelude.{◌≡◌, [], ◌∷◌, MatchResult};
-ghost use Rattle.express_expressions.specs.Words.{keyword, mark, name};
-ghost use Rattle.express_expressions.specs.Views.{capitals};
+ghost use Rattle.express_trees.specs.Words.{keyword, mark, name};
+ghost use Rattle.express_trees.specs.Views.{capitals};
 ghost use Rattle.express_schemas.specs.declared.fault.SchemaFault.TheVariants.{Fault};
 ghost use Rattle.express_schemas.specs.Texts.{Shows, token};
 ghost use Rattle.express_schemas.specs.Predict;
-ghost use Rattle.express_schemas.specs.Predict.{Symbol, Just, Say, Id, Over, refused};
+ghost use Rattle.express_schemas.specs.Predict.{Symbol, Just, Say, Id, EndOfText, refused};
 ghost use Rattle.express_schemas.specs.Steps.{Passes, StopsIn};
-ghost use Rattle.express_runs.specs.Items.{seen_of};
+ghost use Rattle.express_runs.specs.Items.{located_of};
 
-use express_expressions::keyword::Keyword;
-use express_expressions::lexeme::Lexeme;
 use express_lexis::lexer::Lexer;
 use express_lexis::literal::Word;
 use express_lexis::marks::Mark;
-use express_schemas::fault::{Kind, LeftOut, SchemaFault};
+use express_schemas::fault::{FaultKind, LeftOut, SchemaFault};
+use express_trees::keyword::Keyword;
+use express_trees::lexeme::Lexeme;
 
 /// A token as the grammar sees it, and how many bytes come before it.
 #[derive(Clone, Copy)]
@@ -25,8 +25,10 @@ pub struct Item<'a> {
 }
 
 /// The next token, where the text doesn't end.
-pub fn take<'a>(lexer: &mut Lexer<'a>) -> Result<Item<'a>, SchemaFault>
-    ensures { MatchResult result (λ i. Shows lexer.old (seen_of i) lexer.new) (λ e. (y : Symbol) → (y ≡ Over → ⊥) → StopsIn e (y ∷ []) [] lexer.old) }
+pub fn next_item<'a>(lexer: &mut Lexer<'a>) -> Result<Item<'a>, SchemaFault>
+    ensures { MatchResult result
+        (λ i. Shows lexer.old (located_of i) lexer.new)
+        (λ e. (y : Symbol) → (y ≡ EndOfText → ⊥) → StopsIn e (y ∷ []) [] lexer.old) }
 {
     match lexer.next_token() {
         Ok(Some(token)) => Ok(Item {
@@ -34,18 +36,18 @@ pub fn take<'a>(lexer: &mut Lexer<'a>) -> Result<Item<'a>, SchemaFault>
             place: token.place,
         }),
         Ok(None) => Err(SchemaFault::Fault {
-            kind: Kind::Expected,
+            kind: FaultKind::Expected,
             place: lexer.place(),
         }),
         Err(fault) => Err(SchemaFault::Fault {
-            kind: Kind::BadToken,
+            kind: FaultKind::BadToken,
             place: fault.place,
         }),
     }
 }
 
 /// A fault at a token.
-pub fn fault_at(kind: Kind, at: Item<'_>) -> SchemaFault
+pub fn fault_at(kind: FaultKind, at: Item<'_>) -> SchemaFault
     ensures { result ≡ Fault kind at.entry.place }
 {
     SchemaFault::Fault {
@@ -55,33 +57,33 @@ pub fn fault_at(kind: Kind, at: Item<'_>) -> SchemaFault
 }
 
 /// What is wrong with a keyword that can't stand where it stands.
-fn refused_keyword(found: Keyword) -> Kind
+fn refused_keyword(found: Keyword) -> FaultKind
     ensures { result ≡ refused (token (keyword found)) }
 {
     match found {
-        Keyword::Use => Kind::LeftOut(LeftOut::Use),
-        Keyword::Reference => Kind::LeftOut(LeftOut::Reference),
-        Keyword::Renamed => Kind::LeftOut(LeftOut::Renamed),
-        Keyword::Extensible => Kind::LeftOut(LeftOut::Extensible),
-        Keyword::BasedOn => Kind::LeftOut(LeftOut::BasedOn),
-        Keyword::GenericEntity => Kind::LeftOut(LeftOut::GenericEntity),
-        _ => Kind::Expected,
+        Keyword::Use => FaultKind::LeftOut(LeftOut::Use),
+        Keyword::Reference => FaultKind::LeftOut(LeftOut::Reference),
+        Keyword::Renamed => FaultKind::LeftOut(LeftOut::Renamed),
+        Keyword::Extensible => FaultKind::LeftOut(LeftOut::Extensible),
+        Keyword::BasedOn => FaultKind::LeftOut(LeftOut::BasedOn),
+        Keyword::GenericEntity => FaultKind::LeftOut(LeftOut::GenericEntity),
+        _ => FaultKind::Expected,
     }
 }
 
 /// The fault at a token that can't stand where it stands.
 pub fn refuse(item: Item<'_>) -> SchemaFault
-    ensures { result ≡ Fault (refused (seen_of item.entry).sight) item.entry.place }
+    ensures { result ≡ Fault (refused (located_of item.entry).lookahead) item.entry.place }
 {
     match item.lexeme {
         Lexeme::Keyword(found) => fault_at(refused_keyword(found), item),
-        _ => fault_at(Kind::Expected, item),
+        _ => fault_at(FaultKind::Expected, item),
     }
 }
 
 /// Whether a token is this mark.
 pub fn is_mark(item: Item<'_>, wanted: Mark) -> bool
-    ensures { result ≡ Predict.is_mark wanted (seen_of item.entry).sight }
+    ensures { result ≡ Predict.is_mark wanted (located_of item.entry).lookahead }
 {
     match item.lexeme {
         Lexeme::Mark(found) => wanted.text() == found.text(),
@@ -91,43 +93,10 @@ pub fn is_mark(item: Item<'_>, wanted: Mark) -> bool
 
 /// Whether a token is this keyword.
 pub fn is_keyword(item: Item<'_>, wanted: Keyword) -> bool
-    ensures { result ≡ Predict.is_keyword wanted (seen_of item.entry).sight }
+    ensures { result ≡ Predict.is_keyword wanted (located_of item.entry).lookahead }
 {
     match item.lexeme {
         Lexeme::Keyword(found) => wanted.text() == found.text(),
         _ => false,
-    }
-}
-
-/// Reads this mark.
-pub fn expect(lexer: &mut Lexer<'_>, wanted: Mark) -> Result<(), SchemaFault>
-    ensures { MatchResult result (λ _. Passes (Just wanted ∷ []) [] [] (mark wanted ∷ []) lexer.old lexer.new) (λ e. StopsIn e (Just wanted ∷ []) [] lexer.old) }
-{
-    let item = take(lexer)?;
-    if !is_mark(item, wanted) {
-        return Err(refuse(item));
-    }
-    Ok(())
-}
-
-/// Reads this keyword.
-pub fn expect_keyword(lexer: &mut Lexer<'_>, wanted: Keyword) -> Result<(), SchemaFault>
-    ensures { MatchResult result (λ _. Passes (Say wanted ∷ []) [] [] (keyword wanted ∷ []) lexer.old lexer.new) (λ e. StopsIn e (Say wanted ∷ []) [] lexer.old) }
-{
-    let item = take(lexer)?;
-    if !is_keyword(item, wanted) {
-        return Err(refuse(item));
-    }
-    Ok(())
-}
-
-/// Reads a name.
-pub fn expect_name<'a>(lexer: &mut Lexer<'a>) -> Result<Word<'a>, SchemaFault>
-    ensures { MatchResult result (λ w. Passes (Id ∷ []) [] [] (name (capitals w) ∷ []) lexer.old lexer.new) (λ e. StopsIn e (Id ∷ []) [] lexer.old) }
-{
-    let item = take(lexer)?;
-    match item.lexeme {
-        Lexeme::Name(word) => Ok(word),
-        _ => Err(refuse(item)),
     }
 }

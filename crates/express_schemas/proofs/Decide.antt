@@ -6,16 +6,16 @@ use Rattle.std.proofs.lemmas.Slice.Eq.{bytes_eq-Decides}
 use Rattle.express_lexis.specs.declared.marks.Mark.{Mark}
 use Rattle.express_lexis.specs.declared.marks.Mark.TheVariants as marks
 use Rattle.express_lexis.specs.Marks.{mark_text}
-use Rattle.express_expressions.specs.declared.keyword.Keyword.{Keyword}
-use Rattle.express_expressions.specs.declared.keyword.Keyword.TheVariants as keywords
-use Rattle.express_expressions.specs.declared.tree.Sign.TheVariants as signs
-use Rattle.express_expressions.specs.Keywords.{keyword_text, keyword_at}
-use Rattle.express_expressions.specs.Words.{Word, keyword, name, integer, real, string, encoded, binary, mark}
-use Rattle.express_expressions.specs.Trees.{Tree, literal, signed, reference, parenthesized, aggregate, interval, query, call, nvl, negation, conjunction, disjunction, comparison, Trees, none, one, Alternatives, finish, another, Qualifiers, plain, attribute, group, index, words}
-use Rattle.express_expressions.specs.Grammar.{Level, primary, unary, term, simple, expression, rank, depth_limit, Fits, FitsEach, FitsOthers, FitsAlternatives, FitsMore, FitsQualifiers, IsExpression, IsNone}
-use Rattle.express_expressions.proofs.Parser.{parser}
-use Rattle.express_expressions.proofs.Parsed.{reads}
-use Rattle.express_expressions.proofs.Nothing.{none_parsed, none_fits}
+use Rattle.express_trees.specs.declared.keyword.Keyword.{Keyword}
+use Rattle.express_trees.specs.declared.keyword.Keyword.TheVariants as keywords
+use Rattle.express_trees.specs.declared.tree.Sign.TheVariants as signs
+use Rattle.express_trees.specs.Keywords.{keyword_text, keyword_at}
+use Rattle.express_trees.specs.Words.{Word, keyword, name, integer, real, string, encoded, binary, mark}
+use Rattle.express_trees.specs.Trees.{Tree, literal, signed, reference, parenthesized, aggregate, interval, query, call, nvl, negation, conjunction, disjunction, comparison, Trees, none, one, Alternatives, finish, another, Qualifiers, plain, attribute, group, index, words}
+use Rattle.express_trees.specs.Grammar.{Level, primary, unary, term, simple, expression, rank, depth_limit, Fits, FitsEach, FitsOthers, FitsAlternatives, FitsMore, FitsQualifiers, IsExpression, IsNone}
+use Rattle.express_trees.proofs.Parser.{parser}
+use Rattle.express_trees.proofs.Parsed.{reads}
+use Rattle.express_trees.proofs.Nothing.{none_parsed, none_fits}
 use Rattle.express_schemas.specs.Schemas as schemas
 use Rattle.express_schemas.specs.Written.{words_of_name, words_of_names, words_of_bound, joined}
 use Rattle.express_schemas.specs.Profile.{IsFilled, IsBoundText, IsSupertypeText}
@@ -66,7 +66,11 @@ mark_among [] t = None
 mark_among (m ∷ ms) t = if bytes_eq (mark_text m) t then Some m else mark_among ms t
 
 abbrev every_mark : List Mark
-every_mark = marks.Semicolon ∷ marks.Comma ∷ marks.Colon ∷ marks.Dot ∷ marks.Open ∷ marks.Close ∷ marks.OpenBracket ∷ marks.CloseBracket ∷ marks.OpenBrace ∷ marks.CloseBrace ∷ marks.Equal ∷ marks.NotEqual ∷ marks.Less ∷ marks.Greater ∷ marks.LessOrEqual ∷ marks.GreaterOrEqual ∷ marks.Assign ∷ marks.InstanceEqual ∷ marks.InstanceNotEqual ∷ marks.Plus ∷ marks.Minus ∷ marks.Times ∷ marks.Divide ∷ marks.Power ∷ marks.Combine ∷ marks.Bar ∷ marks.QuerySource ∷ marks.Unknown ∷ marks.Backslash ∷ []
+every_mark = marks.Semicolon ∷ marks.Comma ∷ marks.Colon ∷ marks.Dot ∷ marks.Open ∷ marks.Close ∷ marks.OpenBracket
+    ∷ marks.CloseBracket ∷ marks.OpenBrace ∷ marks.CloseBrace ∷ marks.Equal ∷ marks.NotEqual ∷ marks.Less
+    ∷ marks.Greater ∷ marks.LessOrEqual ∷ marks.GreaterOrEqual ∷ marks.Assign ∷ marks.InstanceEqual
+    ∷ marks.InstanceNotEqual ∷ marks.Plus ∷ marks.Minus ∷ marks.Times ∷ marks.Divide ∷ marks.Power ∷ marks.Combine
+    ∷ marks.Bar ∷ marks.QuerySource ∷ marks.Unknown ∷ marks.Backslash ∷ []
 
 mark_found : (m : Mark) → mark_among every_mark (mark_text m) ≡ Some m
 mark_found marks.Semicolon = refl
@@ -138,7 +142,7 @@ keyword_found keywords.Reference = refl
 keyword_found keywords.Renamed = refl
 keyword_found keywords.Schema = refl
 keyword_found keywords.Select = refl
-keyword_found keywords.Own = refl
+keyword_found keywords.SelfWord = refl
 keyword_found keywords.Set = refl
 keyword_found keywords.Sizeof = refl
 keyword_found keywords.String = refl
@@ -157,10 +161,12 @@ same_some : {A : Type 0} (a b : A) → ◌≡◌ {A = Option A} (Some a) (Some b
 same_some a b e = cc
 
 pub mark_is : (m k : Mark) → bytes_eq (mark_text m) (mark_text k) ≡ true → m ≡ k
-mark_is m k e = same_some m k (sym (mark_found m) ∙ ap (mark_among every_mark) ((bytes_eq-Decides (mark_text m) (mark_text k)).0 e) ∙ mark_found k)
+mark_is m k e = same_some m k (sym (mark_found m) ∙ ap (mark_among every_mark)
+    ((bytes_eq-Decides (mark_text m) (mark_text k)).0 e) ∙ mark_found k)
 
 pub keyword_is : (k j : Keyword) → bytes_eq (keyword_text k) (keyword_text j) ≡ true → k ≡ j
-keyword_is k j e = same_some k j (sym (keyword_found k) ∙ ap keyword_at ((bytes_eq-Decides (keyword_text k) (keyword_text j)).0 e) ∙ keyword_found j)
+keyword_is k j e = same_some k j (sym (keyword_found k)
+    ∙ ap keyword_at ((bytes_eq-Decides (keyword_text k) (keyword_text j)).0 e) ∙ keyword_found j)
 
 true_or_false : (b : Bool) → b ≡ true → b ≡ false → ⊥
 true_or_false b e f = cc
@@ -221,14 +227,20 @@ mutual
   fits_decided n l (reference r qs) = qualifiers_decided n qs
   fits_decided n l (parenthesized x) = both (below n depth_limit) (fits_decided (n + 1) expression x)
   fits_decided n l (aggregate xs) = both (below n depth_limit) (each_decided (n + 1) expression xs)
-  fits_decided n l (interval low above x under high) = all_four (below n depth_limit) (fits_decided (n + 1) simple low) (fits_decided (n + 1) simple x) (fits_decided (n + 1) simple high)
-  fits_decided n l (query v source condition) = all_three (below n depth_limit) (fits_decided (n + 1) simple source) (fits_decided (n + 1) expression condition)
+  fits_decided n l (interval low above x under high) = all_four (below n depth_limit) (fits_decided (n + 1) simple low)
+      (fits_decided (n + 1) simple x) (fits_decided (n + 1) simple high)
+  fits_decided n l (query v source condition) = all_three (below n depth_limit) (fits_decided (n + 1) simple source)
+      (fits_decided (n + 1) expression condition)
   fits_decided n l (call f x) = both (below n depth_limit) (fits_decided (n + 1) expression x)
-  fits_decided n l (nvl x y) = all_three (below n depth_limit) (fits_decided (n + 1) expression x) (fits_decided (n + 1) expression y)
+  fits_decided n l (nvl x y) = all_three (below n depth_limit) (fits_decided (n + 1) expression x)
+      (fits_decided (n + 1) expression y)
   fits_decided n l (negation x) = both (at_most (rank unary) (rank l)) (fits_decided n primary x)
-  fits_decided n l (conjunction x xs) = all_three (at_most (rank term) (rank l)) (fits_decided n unary x) (others_decided n xs)
-  fits_decided n l (disjunction x xs) = all_three (at_most (rank simple) (rank l)) (fits_decided n term x) (alternatives_decided n xs)
-  fits_decided n l (comparison x r y) = all_three (at_most (rank expression) (rank l)) (fits_decided n simple x) (fits_decided n simple y)
+  fits_decided n l (conjunction x xs) = all_three (at_most (rank term) (rank l)) (fits_decided n unary x)
+      (others_decided n xs)
+  fits_decided n l (disjunction x xs) = all_three (at_most (rank simple) (rank l)) (fits_decided n term x)
+      (alternatives_decided n xs)
+  fits_decided n l (comparison x r y) = all_three (at_most (rank expression) (rank l)) (fits_decided n simple x)
+      (fits_decided n simple y)
 
   pub each_decided : (n : ℕ) (l : Level) (xs : Trees) → Decided (FitsEach n l xs)
   each_decided n l none = inl tt
@@ -250,18 +262,21 @@ mutual
   qualifiers_decided n plain = inl tt
   qualifiers_decided n (attribute a qs) = qualifiers_decided n qs
   qualifiers_decided n (group e a qs) = qualifiers_decided n qs
-  qualifiers_decided n (index x qs) = all_three (below n depth_limit) (fits_decided (n + 1) simple x) (qualifiers_decided n qs)
+  qualifiers_decided n (index x qs) = all_three (below n depth_limit) (fits_decided (n + 1) simple x)
+      (qualifiers_decided n qs)
 
 -- whether words are those of an expression
 pub expression_decided : (n : ℕ) (ws : List Word) → ((x : Tree) × IsExpression n ws x) ⊎ IsNone n ws
 expression_decided n ws = by ((parser (suc (length ws))).at expression ws) refl
   where
-    by : (o : Option (Tree × List Word)) → (parser (suc (length ws))).at expression ws ≡ o → ((x : Tree) × IsExpression n ws x) ⊎ IsNone n ws
+    by : (o : Option (Tree × List Word)) → (parser (suc (length ws))).at expression ws ≡ o
+        → ((x : Tree) × IsExpression n ws x) ⊎ IsNone n ws
     by None e = inr (none_parsed n ws (rw e refl))
     by (Some (x, w ∷ more)) e = inr (none_parsed n ws (rw e refl))
     by (Some (x, [])) e = whole (fits_decided n expression x) (words_decided ws (words x))
       where
-        whole : Decided (Fits n expression x) → Decided (ws ≡ words x) → ((x : Tree) × IsExpression n ws x) ⊎ IsNone n ws
+        whole : Decided (Fits n expression x) → Decided (ws ≡ words x) → ((x : Tree) × IsExpression n ws x)
+            ⊎ IsNone n ws
         whole (inl f) (inl s) = inl (x, record { fits = f; spelled = s })
         whole (inr f) s = inr (none_fits n ws x e f)
         whole (inl f) (inr s) = inr (λ y h. s (spelled y h))
@@ -270,7 +285,9 @@ expression_decided n ws = by ((parser (suc (length ws))).at expression ws) refl
             spelled y h =
                 let long : length ws ≡ length (words y) = ap length h.spelled in
                 let d : ws ≡ words y ++ [] = h.spelled ∙ sym (append-nil (words y)) in
-                let g : ◌≡◌ {A = Option (Tree × List Word)} (Some (y, [])) (Some (x, [])) = sym (reads y n expression [] (suc (length ws)) h.fits tt (omega arith)) ∙ sym (ap ((parser (suc (length ws))).at expression) d) ∙ e in
+                let g : ◌≡◌ {A = Option (Tree × List Word)} (Some (y, [])) (Some (x, [])) =
+                sym (reads y n expression [] (suc (length ws)) h.fits tt (omega arith))
+                ∙ sym (ap ((parser (suc (length ws))).at expression) d) ∙ e in
                 let f : Option (Tree × List Word) → Tree = elim [ None ↦ x | Some p ↦ p.0 ] in
                 h.spelled ∙ ap (λ o. words (f o)) g
 
@@ -292,10 +309,15 @@ pub bound_decided : (ws : List Word) → PlainBound ws ⊎ (IsBoundText ws → �
 unfolding integer_in
 bound_decided ws =
     let n : List ℕ = integer_in ws in
-    by n (λ m e. ap integer_in e) (λ m e. ap integer_in e) (λ m e. ap integer_in e) (words_decided ws (integer n ∷ [])) (words_decided ws (mark marks.Plus ∷ integer n ∷ [])) (words_decided ws (mark marks.Minus ∷ integer n ∷ [])) (words_decided ws (mark marks.Unknown ∷ []))
+    by n (λ m e. ap integer_in e) (λ m e. ap integer_in e) (λ m e. ap integer_in e) (words_decided ws (integer n ∷ []))
+    (words_decided ws (mark marks.Plus ∷ integer n ∷ [])) (words_decided ws (mark marks.Minus ∷ integer n ∷ []))
+    (words_decided ws (mark marks.Unknown ∷ []))
   where
-    by : (n : List ℕ) → ((m : List ℕ) → ws ≡ integer m ∷ [] → n ≡ m) → ((m : List ℕ) → ws ≡ mark marks.Plus ∷ integer m ∷ [] → n ≡ m) → ((m : List ℕ) → ws ≡ mark marks.Minus ∷ integer m ∷ [] → n ≡ m)
-        → Decided (ws ≡ integer n ∷ []) → Decided (ws ≡ mark marks.Plus ∷ integer n ∷ []) → Decided (ws ≡ mark marks.Minus ∷ integer n ∷ []) → Decided (ws ≡ mark marks.Unknown ∷ []) → PlainBound ws ⊎ (IsBoundText ws → ⊥)
+    by : (n : List ℕ) → ((m : List ℕ) → ws ≡ integer m ∷ [] → n ≡ m) → ((m : List ℕ) → ws ≡ mark marks.Plus ∷ integer m
+        ∷ [] → n ≡ m) → ((m : List ℕ) → ws ≡ mark marks.Minus ∷ integer m ∷ [] → n ≡ m)
+        → Decided (ws ≡ integer n ∷ []) → Decided (ws ≡ mark marks.Plus ∷ integer n ∷ [])
+        → Decided (ws ≡ mark marks.Minus ∷ integer n ∷ []) → Decided (ws ≡ mark marks.Unknown ∷ []) → PlainBound ws
+        ⊎ (IsBoundText ws → ⊥)
     by n a b c (inl e) q r u = inl (schemas.value None n, tt, sym e)
     by n a b c (inr f) (inl e) r u = inl (schemas.value (Some signs.Plus) n, tt, sym e)
     by n a b c (inr f) (inr g) (inl e) u = inl (schemas.value (Some signs.Minus) n, tt, sym e)
@@ -315,7 +337,8 @@ width_decided ws =
     let n : List ℕ = integer_in ws in
     by n (λ m e. ap integer_in e) (words_decided ws (integer n ∷ []))
   where
-    by : (n : List ℕ) → ((m : List ℕ) → ws ≡ integer m ∷ [] → n ≡ m) → Decided (ws ≡ integer n ∷ []) → ((t : List ℕ) × (ws ≡ integer t ∷ [])) ⊎ ((t : List ℕ) → ws ≡ integer t ∷ [] → ⊥)
+    by : (n : List ℕ) → ((m : List ℕ) → ws ≡ integer m ∷ [] → n ≡ m) → Decided (ws ≡ integer n ∷ [])
+        → ((t : List ℕ) × (ws ≡ integer t ∷ [])) ⊎ ((t : List ℕ) → ws ≡ integer t ∷ [] → ⊥)
     by n a (inl e) = inl (n, e)
     by n a (inr f) = inr (λ t e. f (e ∙ ap (λ l. integer l ∷ []) (sym (a t e))))
 
@@ -359,9 +382,13 @@ unfolding names_in first_name other_names
 supertype_decided ws =
     let n : List ℕ = first_name (names_in ws) in
     let ns : List (List ℕ) = other_names (names_in ws) in
-    by n ns (λ m e. ap (λ l. first_name (names_in l)) e) (λ ms e. ap (λ l. other_names (names_in l)) e ∙ names_in_names ms) (words_decided ws (name n ∷ [])) (filled_decided ns) (words_decided ws (words_of_one_of ns))
+    by n ns (λ m e. ap (λ l. first_name (names_in l)) e) (λ ms e. ap (λ l. other_names (names_in l)) e
+    ∙ names_in_names ms) (words_decided ws (name n ∷ [])) (filled_decided ns)
+    (words_decided ws (words_of_one_of ns))
   where
-    by : (n : List ℕ) (ns : List (List ℕ)) → ((m : List ℕ) → ws ≡ name m ∷ [] → n ≡ m) → ((ms : List (List ℕ)) → ws ≡ words_of_one_of ms → ns ≡ ms) → Decided (ws ≡ name n ∷ []) → Decided (IsFilled ns) → Decided (ws ≡ words_of_one_of ns) → Decided (IsSupertypeText ws)
+    by : (n : List ℕ) (ns : List (List ℕ)) → ((m : List ℕ) → ws ≡ name m ∷ [] → n ≡ m)
+        → ((ms : List (List ℕ)) → ws ≡ words_of_one_of ms → ns ≡ ms) → Decided (ws ≡ name n ∷ [])
+        → Decided (IsFilled ns) → Decided (ws ≡ words_of_one_of ns) → Decided (IsSupertypeText ws)
     by n ns a b (inl e) p q = inl (inl (n, e))
     by n ns a b (inr f) (inl p) (inl e) = inl (inr (ns, p, e))
     by n ns a b (inr f) (inr g) q = inr (λ t. out t)

@@ -1,6 +1,6 @@
 -- Each text reads as a schema, or has a first fault.
 use Rattle.std.proofs.Common.{◌≡◌, ℕ, ◌-◌, ◌≤◌, List, [], ◌∷◌, ◌++◌, map, length, refl, sym, ap, ◌∙◌, subst, arith, append_assoc, Option, Some, None, Result, Ok, Err, ◌⊎◌, inl, inr}
-use Rattle.predictive.specs.Tables.{sights, stops}
+use Rattle.predictive.specs.Tables.{lookaheads, stops}
 use Rattle.predictive.specs.Languages as languages
 use Rattle.predictive.proofs.Shown.{shows_split}
 use Rattle.predictive.proofs.Ending.{ShowsOne, shown_to_last, BeginsWhole, whole_or_stops}
@@ -10,22 +10,22 @@ use Rattle.express_lexis.specs.Reading.{Reading, Answers, start}
 use Rattle.express_lexis.proofs.Determined.{places_rise}
 use Rattle.express_lexis.proofs.ReadingLemmas.{token_within, start_within}
 use Rattle.express_lexis.proofs.Answered.{answered}
-use Rattle.express_expressions.specs.Words.{Word}
-use Rattle.express_expressions.specs.Grammar.{depth_limit}
-use Rattle.express_schemas.specs.declared.fault.Kind.{Kind}
+use Rattle.express_trees.specs.Words.{Word}
+use Rattle.express_trees.specs.Grammar.{depth_limit}
+use Rattle.express_schemas.specs.declared.fault.FaultKind.{FaultKind}
 use Rattle.express_schemas.specs.Schemas.{Schema}
 use Rattle.express_schemas.specs.Written.{words_of_schema}
-use Rattle.express_schemas.specs.Texts.{Sight, token, flawed, over, Seen, seen, Shows, shows_token, shows_fault, shows_end, ShowsAll, ReadsAs, IsFirstFault}
+use Rattle.express_schemas.specs.Texts.{Lookahead, token, flawed, end_of_text, LocatedToken, located, Shows, shows_token, shows_fault, shows_end, ShowsAll, ReadsAs, IsFirstFault}
 use Rattle.express_schemas.specs.Laws.{ReadsOrFails}
 use Rattle.express_schemas.specs.Predict.{schema_symbols, run}
 use Rattle.express_schemas.specs.Steps.{table, IsSchema}
 use Rattle.express_schemas.proofs.Complete.{IsAny}
 use Rattle.express_schemas.proofs.Exact.{exact}
-use Rattle.express_schemas.proofs.DueKinds.{nothing_more, one_more, ended_once}
+use Rattle.express_schemas.proofs.FaultKinds.{nothing_more, one_more, ended_once}
 use Rattle.express_schemas.proofs.FirstFault.{stopped}
 
 -- the text ends here, or no token stands here
-abbrev IsLast : Sight → Type 0
+abbrev IsLast : Lookahead → Type 0
 IsLast (token w) = ⊥
 IsLast _ = Unit {0}
 
@@ -36,41 +36,69 @@ IsWithin r = r.place ≤ length r.text
 abbrev left_of : Reading → ℕ
 left_of r = length r.text - r.place
 
-shown_answer : (old : Reading) → IsWithin old → (r : Result (Option Token) TextFault) (new : Reading) → Answers old r new → ShowsOne Shows IsLast IsWithin left_of old
-shown_answer old within (Ok None) new h = (record { sight = over; place = length old.text }, new, shows_end h refl, inl tt)
-shown_answer old within (Err f) new h = (record { sight = flawed; place = f.place }, new, shows_fault f h refl, inl tt)
+shown_answer : (old : Reading) → IsWithin old → (r : Result (Option Token) TextFault) (new : Reading)
+    → Answers old r new → ShowsOne Shows IsLast IsWithin left_of old
+shown_answer old within (Ok None) new h = (
+  record {
+    lookahead = end_of_text;
+    place = length old.text;
+  },
+  new,
+  shows_end h refl,
+  inl tt,
+)
+shown_answer old within (Err f) new h = (
+  record {
+    lookahead = flawed;
+    place = f.place;
+  },
+  new,
+  shows_fault f h refl,
+  inl tt,
+)
 shown_answer old within (Ok (Some t)) new h =
-    let inside = token_within old new t h in
-    (seen t, new, shows_token t h refl, inr (inside, omega (arith, inside, ap length h.new_text, places_rise old new t within h)))
+    let inside = token_within old new t h in (
+      located t,
+      new,
+      shows_token t h refl,
+      inr (inside, omega (arith, inside, ap length h.new_text, places_rise old new t within h)),
+    )
 
 -- a lexer shows something wherever a text is read up to
 shown_next : (old : Reading) → IsWithin old → ShowsOne Shows IsLast IsWithin left_of old
 shown_next old within = let a = answered old within in shown_answer old within a.0 a.1 a.2
 
 -- what is no token is in no schema
-never_flawed : (a rest : List Sight) (ws : List Word) → a ++ flawed ∷ rest ≡ map token ws ++ over ∷ [] → ⊥
+never_flawed : (a rest : List Lookahead) (ws : List Word) → a ++ flawed ∷ rest ≡ map token ws ++ end_of_text ∷ [] → ⊥
 never_flawed [] rest [] e = cc
 never_flawed [] rest (w ∷ ws) e = cc
 never_flawed (s ∷ a) rest [] e = nothing_more a flawed rest (let t : a ++ flawed ∷ rest ≡ [] = cc in t)
-never_flawed (s ∷ a) rest (w ∷ ws) e = never_flawed a rest ws (let t : a ++ flawed ∷ rest ≡ map token ws ++ over ∷ [] = cc in t)
+never_flawed (s ∷ a) rest (w ∷ ws) e = never_flawed a rest ws (let t : a ++ flawed ∷ rest ≡ map token ws ++ end_of_text
+    ∷ [] = cc in t)
 
--- up to the last sight a front is a whole schema
-whole_to : (before : List Seen) (s : Sight) → IsLast s → languages.IsFront (IsSchema depth_limit) (sights before ++ s ∷ []) → IsSchema depth_limit (sights before ++ s ∷ [])
+-- up to the last lookahead a front is a whole schema
+whole_to : (before : List LocatedToken) (s : Lookahead) → IsLast s → languages.IsViablePrefix (IsSchema depth_limit)
+    (lookaheads before ++ s ∷ []) → IsSchema depth_limit (lookaheads before ++ s ∷ [])
 whole_to before (token w) l f = absurd l
-whole_to before over l f = ended_once before f
-whole_to before flawed l f = absurd (never_flawed (sights before) f.0 (words_of_schema f.1.0) (sym (append_assoc (sights before) (flawed ∷ []) f.0) ∙ f.1.2))
+whole_to before end_of_text l f = ended_once before f
+whole_to before flawed l f = absurd (never_flawed (lookaheads before) f.0 (words_of_schema f.1.0)
+    (sym (append_assoc (lookaheads before) (flawed ∷ []) f.0) ∙ f.1.2))
 
-whole_at_last : (before : List Seen) (last : Seen) → IsLast last.sight → languages.IsFront (IsSchema depth_limit) (sights (before ++ last ∷ [])) → IsSchema depth_limit (sights (before ++ last ∷ []))
+whole_at_last : (before : List LocatedToken) (last : LocatedToken) → IsLast last.lookahead → languages.IsViablePrefix
+    (IsSchema depth_limit) (lookaheads (before ++ last ∷ [])) → IsSchema depth_limit (lookaheads (before ++ last ∷ []))
 whole_at_last before last l =
-    let P : List Sight → Type 0 = λ ws. (languages.IsFront (IsSchema depth_limit) ws → IsSchema depth_limit ws) in
-    subst P (sym (one_more before last)) (whole_to before last.sight l)
+    let P : List Lookahead → Type 0 = λ ws. (languages.IsViablePrefix (IsSchema depth_limit) ws
+    → IsSchema depth_limit ws) in
+    subst P (sym (one_more before last)) (whole_to before last.lookahead l)
 
-decided : (text : List ℕ) (s : List Seen) (new : Reading) → ShowsAll (start text) s new → BeginsWhole (IsSchema depth_limit) s ⊎ ((kind : Kind) × (place : ℕ) × (run depth_limit schema_symbols s ≡ stops kind place))
-    → ((x : Schema) × ReadsAs text x) ⊎ ((kind : Kind) × (place : ℕ) × IsFirstFault text kind place)
+decided : (text : List ℕ) (s : List LocatedToken) (new : Reading) → ShowsAll (start text) s new
+    → BeginsWhole (IsSchema depth_limit) s
+    ⊎ ((kind : FaultKind) × (place : ℕ) × (run depth_limit schema_symbols s ≡ stops kind place))
+    → ((x : Schema) × ReadsAs text x) ⊎ ((kind : FaultKind) × (place : ℕ) × IsFirstFault text kind place)
 decided text s new h (inl w) =
-    let P : List Seen → Type 0 = λ l. ShowsAll (start text) l new in
+    let P : List LocatedToken → Type 0 = λ l. ShowsAll (start text) l new in
     let a = shows_split Shows (start text) w.0 w.1 new (subst P w.2 h) in
-    let whole : IsSchema depth_limit (sights w.0) = w.3 in
+    let whole : IsSchema depth_limit (lookaheads w.0) = w.3 in
     inl (whole.0, record { fits = whole.1; shown = w.0; end = a.0; shows = a.1; are = whole.2 })
 decided text s new h (inr f) = inr (f.0, f.1, stopped text s new f.0 f.1 h f.2)
 
@@ -78,4 +106,5 @@ pub reads_or_fails : ReadsOrFails
 reads_or_fails text =
     let g = shown_to_last Shows IsLast IsWithin left_of shown_next (start text) (start_within text) in
     let s = g.0 ++ g.1 ∷ [] in
-    decided text s g.2 g.3 (whole_or_stops table IsAny schema_symbols (IsSchema depth_limit) (exact depth_limit (omega arith)) s (whole_at_last g.0 g.1 g.4))
+    decided text s g.2 g.3 (whole_or_stops table IsAny schema_symbols (IsSchema depth_limit)
+    (exact depth_limit (omega arith)) s (whole_at_last g.0 g.1 g.4))

@@ -2,13 +2,14 @@
 use Rattle.std.proofs.Common.{ℕ, ◌≤◌}
 use Rattle.predictive.specs.Languages.{IsExact}
 use Rattle.predictive.proofs.Accepted.{exact_leads}
-use Rattle.express_expressions.specs.Grammar.{depth_limit}
+use Rattle.express_trees.specs.Grammar.{depth_limit}
 use Rattle.express_schemas.specs.Predict.{next, schema_symbols}
 use Rattle.express_schemas.specs.Steps.{IsSchema}
 use Rattle.express_schemas.proofs.PassingSchemas.{pass_language}
 use Rattle.express_schemas.proofs.Complete.{IsAny, complete}
 use Rattle.express_schemas.proofs.Sound.{schema_led}
 
--- the table takes the sights of schemas, and no others
+-- the table takes the lookaheads of schemas, and no others
 pub exact : (levels : ℕ) → depth_limit ≤ levels → IsExact (next levels) IsAny schema_symbols (IsSchema levels)
-exact levels deep = exact_leads (next levels) IsAny schema_symbols (IsSchema levels) (complete levels) (tt, (tt, (tt, (tt, (tt, tt))))) (pass_language levels deep) (schema_led levels)
+exact levels deep = exact_leads (next levels) IsAny schema_symbols (IsSchema levels) (complete levels)
+    (tt, (tt, (tt, (tt, (tt, tt))))) (pass_language levels deep) (schema_led levels)

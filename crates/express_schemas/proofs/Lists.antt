@@ -1,7 +1,7 @@
 -- Lists with one more at the end, and what is written of them.
 use Rattle.std.proofs.Common.{◌≡◌, List, [], ◌∷◌, ◌++◌, map, refl, sym, ap, ◌∙◌, append_assoc, append-nil}
 use Rattle.express_lexis.specs.declared.marks.Mark.TheVariants as marks
-use Rattle.express_expressions.specs.Words.{Word, mark}
+use Rattle.express_trees.specs.Words.{Word, mark}
 use Rattle.express_schemas.specs.Written.{joined, with_commas}
 use Rattle.express_schemas.specs.Profile.{Every, IsFilled}
 
@@ -17,14 +17,18 @@ pub map_push : {A B : Type 0} (f : A → B) (xs : List A) (x : A) → map f (xs 
 map_push f [] x = refl
 map_push f (y ∷ ys) x = ap (λ l. f y ∷ l) (map_push f ys x)
 
-pub joined_push : {A : Type 0} (write : A → List Word) (xs : List A) (x : A) → joined (map write (xs ++ x ∷ [])) ≡ joined (map write xs) ++ write x
+pub joined_push : {A : Type 0} (write : A → List Word) (xs : List A) (x : A)
+    → joined (map write (xs ++ x ∷ [])) ≡ joined (map write xs) ++ write x
 joined_push write [] x = append-nil (write x)
-joined_push write (y ∷ ys) x = ap (λ l. write y ++ l) (joined_push write ys x) ∙ sym (append_assoc (write y) (joined (map write ys)) (write x))
+joined_push write (y ∷ ys) x = ap (λ l. write y ++ l) (joined_push write ys x)
+    ∙ sym (append_assoc (write y) (joined (map write ys)) (write x))
 
 -- with commas between
-pub commas_push : {A : Type 0} (write : A → List Word) (xs : List A) (x : A) → IsFilled xs → with_commas (map write (xs ++ x ∷ [])) ≡ with_commas (map write xs) ++ mark marks.Comma ∷ write x
+pub commas_push : {A : Type 0} (write : A → List Word) (xs : List A) (x : A) → IsFilled xs
+    → with_commas (map write (xs ++ x ∷ [])) ≡ with_commas (map write xs) ++ mark marks.Comma ∷ write x
 commas_push write [] x h = absurd h
 commas_push write (y ∷ ys) x h =
     let comma : List Word → List Word = λ ws. mark marks.Comma ∷ ws in
-    ap (λ l. write y ++ joined (map comma l)) (map_push write ys x) ∙ ap (λ l. write y ++ l) (joined_push comma (map write ys) (write x))
+    ap (λ l. write y ++ joined (map comma l)) (map_push write ys x)
+    ∙ ap (λ l. write y ++ l) (joined_push comma (map write ys) (write x))
     ∙ sym (append_assoc (write y) (joined (map comma (map write ys))) (mark marks.Comma ∷ write x))

@@ -1,9 +1,9 @@
 -- A keyword is told by its spelling.
 use Rattle.std.proofs.Common.{◌≡◌, Bool, true, false, Some, refl, sym, ap, ◌∙◌}
 use Rattle.std.proofs.lemmas.Slice.Eq.{bytes_eq-Decides}
-use Rattle.express_expressions.specs.declared.keyword.Keyword.{Keyword}
-use Rattle.express_expressions.specs.declared.keyword.Keyword.TheVariants as keywords
-use Rattle.express_expressions.specs.Keywords.{keyword_text, keyword_at}
+use Rattle.express_trees.specs.declared.keyword.Keyword.{Keyword}
+use Rattle.express_trees.specs.declared.keyword.Keyword.TheVariants as keywords
+use Rattle.express_trees.specs.Keywords.{keyword_text, keyword_at}
 use Rattle.express_schemas.specs.Predict.{same_keyword}
 
 found : (k : Keyword) → keyword_at (keyword_text k) ≡ Some k
@@ -45,7 +45,7 @@ found keywords.Reference = refl
 found keywords.Renamed = refl
 found keywords.Schema = refl
 found keywords.Select = refl
-found keywords.Own = refl
+found keywords.SelfWord = refl
 found keywords.Set = refl
 found keywords.Sizeof = refl
 found keywords.String = refl

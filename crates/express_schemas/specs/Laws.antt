@@ -1,6 +1,6 @@
 -- Laws of the definitions alone: what a text reads as, and what its fault is.
 use Rattle.std.specs.Prelude.{◌≡◌, ℕ, List, ◌⊎◌}
-use Rattle.express_schemas.specs.declared.fault.Kind.{Kind}
+use Rattle.express_schemas.specs.declared.fault.FaultKind.{FaultKind}
 use Rattle.express_schemas.specs.Schemas.{Schema}
 use Rattle.express_schemas.specs.Texts.{ReadsAs, IsFirstFault}
 
@@ -10,12 +10,15 @@ ReadsOnce = (text : List ℕ) (x y : Schema) → ReadsAs text x → ReadsAs text
 
 -- A text that reads as a schema has no fault.
 abbrev pub ReadsWithoutFault : Type 0
-ReadsWithoutFault = (text : List ℕ) (x : Schema) (kind : Kind) (place : ℕ) → ReadsAs text x → IsFirstFault text kind place → ⊥
+ReadsWithoutFault = (text : List ℕ) (x : Schema) (kind : FaultKind) (place : ℕ) → ReadsAs text x
+    → IsFirstFault text kind place → ⊥
 
 -- A text has one first fault at most.
 abbrev pub FaultsOnce : Type 0
-FaultsOnce = (text : List ℕ) (kind other : Kind) (place other_place : ℕ) → IsFirstFault text kind place → IsFirstFault text other other_place → (kind ≡ other) × (place ≡ other_place)
+FaultsOnce = (text : List ℕ) (kind other : FaultKind) (place other_place : ℕ) → IsFirstFault text kind place
+    → IsFirstFault text other other_place → (kind ≡ other) × (place ≡ other_place)
 
 -- A text reads as a schema, or has a first fault.
 abbrev pub ReadsOrFails : Type 0
-ReadsOrFails = (text : List ℕ) → ((x : Schema) × ReadsAs text x) ⊎ ((kind : Kind) × (place : ℕ) × IsFirstFault text kind place)
+ReadsOrFails = (text : List ℕ) → ((x : Schema) × ReadsAs text x)
+    ⊎ ((kind : FaultKind) × (place : ℕ) × IsFirstFault text kind place)

@@ -7,5 +7,6 @@ pub mod Predict
 pub mod Steps
 pub mod Sets
 pub mod Passages
+pub mod PassageLemmas
 pub mod Views
 pub mod Laws

@@ -1,13 +1,13 @@
 -- Which trees are schemas: what is asked beside their words, and where a part stands as a run of tokens.
 use Rattle.std.specs.Prelude.{◌≡◌, ℕ, ◌+◌, ◌<◌, List, [], ◌∷◌, ◌++◌, Option, None, Some, codes, ◌⊎◌, Bool}
 use Rattle.express_lexis.specs.declared.marks.Mark.TheVariants as marks
-use Rattle.express_expressions.specs.declared.keyword.Keyword.{Keyword}
-use Rattle.express_expressions.specs.declared.keyword.Keyword.TheVariants as keywords
-use Rattle.express_expressions.specs.Words.{Word, keyword, name, mark}
-use Rattle.express_expressions.specs.Words as words
-use Rattle.express_expressions.specs.Grammar.{Fits, expression, IsNone}
+use Rattle.express_trees.specs.declared.keyword.Keyword.{Keyword}
+use Rattle.express_trees.specs.declared.keyword.Keyword.TheVariants as keywords
+use Rattle.express_trees.specs.Words.{Word, keyword, name, mark}
+use Rattle.express_trees.specs.Words as words
+use Rattle.express_trees.specs.Grammar.{Fits, expression, IsNone}
 use Rattle.express_schemas.specs.Runs.{words_of_run, FitsRun, IsSome, in_rule, in_lower, in_brackets, FitsRoutine}
-use Rattle.express_schemas.specs.Schemas.{Body, parsed, set_aside, Rule, Bound, value, unlimited, other_bound, Bounds, Width, width, other_width, Kind, real, string, binary, array, list, bag, set, Underlying, enumeration, select, kind, TypeDeclaration, Supertype, of_one_of, of_other, Explicit, Derived, Collection, alone, in_set, in_bag, Inverse, Unique, Entity, Skipped, function, procedure, rule, constants, subtype_constraint, Declaration, type, entity, skipped, Schema}
+use Rattle.express_schemas.specs.Schemas.{Body, parsed, set_aside, Rule, Bound, value, unlimited, other_bound, Bounds, Width, width, other_width, DataType, real, string, binary, array, list, bag, set, Underlying, enumeration, select, data_type, TypeDeclaration, Supertype, of_one_of, of_other, Explicit, Derived, Collection, alone, in_set, in_bag, Inverse, Unique, Entity, Skipped, function, procedure, rule, constants, subtype_constraint, Declaration, type, entity, skipped, Schema}
 use Rattle.express_schemas.specs.Written.{words_of_sign, words_of_names, words_of_body}
 
 -- each of a list
@@ -45,7 +45,8 @@ FitsRules levels end rules = Every (λ (r : Rule). FitsBody levels r.body × Beg
 
 -- the words of a bound that is a tree
 abbrev pub IsBoundText : List Word → Type 0
-IsBoundText ws = ((s : _) × (n : List ℕ) × (ws ≡ words_of_sign s ++ words.integer n ∷ [])) ⊎ (ws ≡ mark marks.Unknown ∷ [])
+IsBoundText ws = ((s : _) × (n : List ℕ) × (ws ≡ words_of_sign s ++ words.integer n ∷ []))
+    ⊎ (ws ≡ mark marks.Unknown ∷ [])
 
 -- a bound with n brackets and aggregate types open around it
 abbrev pub FitsBound : ℕ → (Word → Bool) → ℕ → Bound → Type 0
@@ -55,34 +56,37 @@ FitsBound levels may n (other_bound r) = FitsRun levels may n r × IsSome r × (
 
 -- .. in its bracket
 abbrev pub FitsBounds : ℕ → ℕ → Bounds → Type 0
-FitsBounds levels n b = (n < levels) × FitsBound levels in_lower (n + 1) b.lower × FitsBound levels in_brackets (n + 1) b.upper
+FitsBounds levels n b = (n < levels) × FitsBound levels in_lower (n + 1) b.lower × FitsBound levels in_brackets (n + 1)
+    b.upper
 
 abbrev pub FitsWidth : ℕ → ℕ → Width → Type 0
 FitsWidth levels n (width t) = n < levels
-FitsWidth levels n (other_width r) = (n < levels) × FitsRun levels in_brackets (n + 1) r × IsSome r × ((t : List ℕ) → words_of_run r ≡ words.integer t ∷ [] → ⊥)
+FitsWidth levels n (other_width r) = (n < levels) × FitsRun levels in_brackets (n + 1) r × IsSome r
+    × ((t : List ℕ) → words_of_run r ≡ words.integer t ∷ [] → ⊥)
 
--- A kind with so many aggregate types around it: each counts for what is behind its OF.
-abbrev pub FitsKind : ℕ → ℕ → Kind → Type 0
-FitsKind levels n (real w) = Maybe (FitsWidth levels n) w
-FitsKind levels n (string w) = Maybe (λ p. FitsWidth levels n p.0) w
-FitsKind levels n (binary w) = Maybe (λ p. FitsWidth levels n p.0) w
-FitsKind levels n (array b o u k) = (n < levels) × FitsBounds levels n b × FitsKind levels (n + 1) k
-FitsKind levels n (list b u k) = (n < levels) × Maybe (FitsBounds levels n) b × FitsKind levels (n + 1) k
-FitsKind levels n (bag b k) = (n < levels) × Maybe (FitsBounds levels n) b × FitsKind levels (n + 1) k
-FitsKind levels n (set b k) = (n < levels) × Maybe (FitsBounds levels n) b × FitsKind levels (n + 1) k
-FitsKind levels n k = Unit {0}
+-- A data type with so many aggregate types around it: each counts for what is behind its OF.
+abbrev pub FitsDataType : ℕ → ℕ → DataType → Type 0
+FitsDataType levels n (real w) = Maybe (FitsWidth levels n) w
+FitsDataType levels n (string w) = Maybe (λ p. FitsWidth levels n p.0) w
+FitsDataType levels n (binary w) = Maybe (λ p. FitsWidth levels n p.0) w
+FitsDataType levels n (array b o u k) = (n < levels) × FitsBounds levels n b × FitsDataType levels (n + 1) k
+FitsDataType levels n (list b u k) = (n < levels) × Maybe (FitsBounds levels n) b × FitsDataType levels (n + 1) k
+FitsDataType levels n (bag b k) = (n < levels) × Maybe (FitsBounds levels n) b × FitsDataType levels (n + 1) k
+FitsDataType levels n (set b k) = (n < levels) × Maybe (FitsBounds levels n) b × FitsDataType levels (n + 1) k
+FitsDataType levels n k = Unit {0}
 
 abbrev pub FitsUnderlying : ℕ → Underlying → Type 0
 FitsUnderlying levels (enumeration names) = IsFilled names
 FitsUnderlying levels (select names) = IsFilled names
-FitsUnderlying levels (kind k) = FitsKind levels 0 k
+FitsUnderlying levels (data_type k) = FitsDataType levels 0 k
 
 abbrev pub FitsType : ℕ → TypeDeclaration → Type 0
 FitsType levels t = FitsUnderlying levels t.underlying × Maybe (FitsRules levels keywords.EndType) t.rules
 
 -- the words of a supertype expression that is a tree
 abbrev pub IsSupertypeText : List Word → Type 0
-IsSupertypeText ws = ((n : List ℕ) × (ws ≡ name n ∷ [])) ⊎ ((names : List (List ℕ)) × IsFilled names × (ws ≡ name (codes "ONEOF") ∷ words_of_names names))
+IsSupertypeText ws = ((n : List ℕ) × (ws ≡ name n ∷ [])) ⊎ ((names : List (List ℕ)) × IsFilled names
+    × (ws ≡ name (codes "ONEOF") ∷ words_of_names names))
 
 abbrev pub FitsSupertype : ℕ → Supertype → Type 0
 FitsSupertype levels (of_one_of names) = IsFilled names
@@ -95,10 +99,10 @@ FitsCollection levels (in_set b) = Maybe (FitsBounds levels 0) b
 FitsCollection levels (in_bag b) = Maybe (FitsBounds levels 0) b
 
 abbrev pub FitsExplicit : ℕ → Explicit → Type 0
-FitsExplicit levels a = IsFilled a.attributes × FitsKind levels 0 a.kind
+FitsExplicit levels a = IsFilled a.attributes × FitsDataType levels 0 a.data_type
 
 abbrev pub FitsDerived : ℕ → Derived → Type 0
-FitsDerived levels a = FitsKind levels 0 a.kind × FitsBody levels a.body
+FitsDerived levels a = FitsDataType levels 0 a.data_type × FitsBody levels a.body
 
 abbrev pub FitsInverse : ℕ → Inverse → Type 0
 FitsInverse levels a = FitsCollection levels a.collection

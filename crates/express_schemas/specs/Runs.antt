@@ -1,7 +1,7 @@
 -- Runs of tokens that stand for a part that the grammar has no tree for, and those of skipped declarations.
 use Rattle.std.specs.Prelude.{◌≡◌, ℕ, ◌+◌, ◌<◌, Bool, true, false, not, List, [], ◌∷◌, ◌++◌, codes, ◌⊎◌}
 use Rattle.express_lexis.specs.declared.marks.Mark.TheVariants as marks
-use Rattle.express_expressions.specs.Words.{Word, name, mark}
+use Rattle.express_trees.specs.Words.{Word, name, mark}
 
 pub data Bracket : Type 0 where
   parenthesis : Bracket

@@ -1,8 +1,8 @@
 -- Schemas as trees (ISO 10303-11, 8 and 9). Names are in capitals; of a part that is set aside its tokens are kept.
 use Rattle.std.specs.Prelude.{ℕ, Bool, List, Option}
-use Rattle.express_expressions.specs.declared.tree.Sign.{Sign}
-use Rattle.express_expressions.specs.Words.{Word}
-use Rattle.express_expressions.specs.Trees.{Tree}
+use Rattle.express_trees.specs.declared.tree.Sign.{Sign}
+use Rattle.express_trees.specs.Words.{Word}
+use Rattle.express_trees.specs.Trees.{Tree}
 use Rattle.express_schemas.specs.Runs.{Run, Routine}
 
 -- an expression, or what is set aside
@@ -30,26 +30,26 @@ pub data Width : Type 0 where
   other_width : Run → Width
 
 -- the kind of an attribute's values or of a defined type
-pub data Kind : Type 0 where
-  integer : Kind
-  number : Kind
-  boolean : Kind
-  logical : Kind
-  real : Option Width → Kind
+pub data DataType : Type 0 where
+  integer : DataType
+  number : DataType
+  boolean : DataType
+  logical : DataType
+  real : Option Width → DataType
   -- with FIXED or without
-  string : Option (Width × Bool) → Kind
-  binary : Option (Width × Bool) → Kind
-  named : List ℕ → Kind
+  string : Option (Width × Bool) → DataType
+  binary : Option (Width × Bool) → DataType
+  named : List ℕ → DataType
   -- of OPTIONAL, of UNIQUE
-  array : Bounds → Bool → Bool → Kind → Kind
-  list : Option Bounds → Bool → Kind → Kind
-  bag : Option Bounds → Kind → Kind
-  set : Option Bounds → Kind → Kind
+  array : Bounds → Bool → Bool → DataType → DataType
+  list : Option Bounds → Bool → DataType → DataType
+  bag : Option Bounds → DataType → DataType
+  set : Option Bounds → DataType → DataType
 
 pub data Underlying : Type 0 where
   enumeration : List (List ℕ) → Underlying
   select : List (List ℕ) → Underlying
-  kind : Kind → Underlying
+  data_type : DataType → Underlying
 
 -- rules are kept apart from no WHERE at all
 pub record TypeDeclaration : Type 0 where
@@ -73,11 +73,11 @@ pub data Attribute : Type 0 where
 pub record Explicit : Type 0 where
   pub attributes : List Attribute
   pub optional : Bool
-  pub kind : Kind
+  pub data_type : DataType
 
 pub record Derived : Type 0 where
   pub attribute : Attribute
-  pub kind : Kind
+  pub data_type : DataType
   pub body : Body
 
 -- the collection of an inverse attribute: SET or BAG, with bounds or without

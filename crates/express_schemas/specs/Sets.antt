@@ -1,11 +1,12 @@
--- Words and runs are compared by what they are: no two proofs tell equal ones apart.
+-- Words and runs are compared by what they are: no two proofs tell equal ones apart. Lemmas for the ghost
+-- fields of passages; no promise stands here.
 use Rattle.std.specs.Prelude.{List}
 use mathlib.Core.Sum.{⊎_set}
 use mathlib.Core.List.{is_set}
 use Rattle.std.proofs.Math.Nat.{ℕ_set}
 use Rattle.express_lexis.specs.declared.marks.Mark.{Mark}
-use Rattle.express_expressions.specs.declared.keyword.Keyword.{Keyword}
-use Rattle.express_expressions.specs.Words.{Word}
+use Rattle.express_trees.specs.declared.keyword.Keyword.{Keyword}
+use Rattle.express_trees.specs.Words.{Word}
 use Rattle.express_schemas.specs.Runs.{Bracket, Run, Run-derived, Routine, Routine-derived}
 
 Mark-set : IsSet Mark

@@ -1,8 +1,8 @@
 -- The trees that the program's values are; letters of names have no case.
 use Rattle.std.specs.Prelude.{ℕ, Bool, List, map, Option, None, Some}
 use Rattle.express_lexis.specs.declared.literal.Word.{Word}
-use Rattle.express_expressions.specs.Words as words
-use Rattle.express_expressions.specs.Views.{capitals, tree_of}
+use Rattle.express_trees.specs.Words as words
+use Rattle.express_trees.specs.Views.{capitals, tree_of}
 use Rattle.express_schemas.specs.declared.passage.Passage.{Passage}
 use Rattle.express_schemas.specs.declared.passage.Run.{Run}
 use Rattle.express_schemas.specs.declared.passage.Routine.{Routine}
@@ -15,10 +15,10 @@ use Rattle.express_schemas.specs.declared.tree.Bounds.{Bounds}
 use Rattle.express_schemas.specs.declared.tree.Width.{Width}
 use Rattle.express_schemas.specs.declared.tree.Width.TheVariants as widths
 use Rattle.express_schemas.specs.declared.tree.FixedWidth.{FixedWidth}
-use Rattle.express_schemas.specs.declared.tree.Kind.{Kind}
-use Rattle.express_schemas.specs.declared.tree.Kind.TheOpen.{Kind-F}
-use Rattle.express_schemas.specs.declared.tree.Kind.TheOpen as layer
-use Rattle.express_schemas.specs.declared.tree.Kind.TheFolds.{fold-Kind}
+use Rattle.express_schemas.specs.declared.tree.DataType.{DataType}
+use Rattle.express_schemas.specs.declared.tree.DataType.TheOpen.{DataType-F}
+use Rattle.express_schemas.specs.declared.tree.DataType.TheOpen as layer
+use Rattle.express_schemas.specs.declared.tree.DataType.TheFolds.{fold-DataType}
 use Rattle.express_schemas.specs.declared.tree.Underlying.{Underlying}
 use Rattle.express_schemas.specs.declared.tree.Underlying.TheVariants as underlyings
 use Rattle.express_schemas.specs.declared.tree.TypeDeclaration.{TypeDeclaration}
@@ -83,33 +83,37 @@ abbrev pub fixed_of : FixedWidth → trees.Width × Bool
 fixed_of f = (width_of f.width, f.is_fixed)
 
 -- one kind, with that of its elements in its place
-abbrev pub kind_step : Kind-F trees.Kind → trees.Kind
-kind_step layer.Integer = trees.integer
-kind_step layer.Number = trees.number
-kind_step layer.Boolean = trees.boolean
-kind_step layer.Logical = trees.logical
-kind_step (layer.Real w) = trees.real (if_some width_of w)
-kind_step (layer.String w) = trees.string (if_some fixed_of w)
-kind_step (layer.Binary w) = trees.binary (if_some fixed_of w)
-kind_step (layer.Named w) = trees.named (capitals w)
-kind_step (layer.Array b o u k) = trees.array (bounds_of b) o u k.value
-kind_step (layer.List b u k) = trees.list (if_some bounds_of b) u k.value
-kind_step (layer.Bag b k) = trees.bag (if_some bounds_of b) k.value
-kind_step (layer.Set b k) = trees.set (if_some bounds_of b) k.value
+abbrev pub data_type_step : DataType-F trees.DataType → trees.DataType
+data_type_step layer.Integer = trees.integer
+data_type_step layer.Number = trees.number
+data_type_step layer.Boolean = trees.boolean
+data_type_step layer.Logical = trees.logical
+data_type_step (layer.Real w) = trees.real (if_some width_of w)
+data_type_step (layer.String w) = trees.string (if_some fixed_of w)
+data_type_step (layer.Binary w) = trees.binary (if_some fixed_of w)
+data_type_step (layer.Named w) = trees.named (capitals w)
+data_type_step (layer.Array b o u k) = trees.array (bounds_of b) o u k.value
+data_type_step (layer.List b u k) = trees.list (if_some bounds_of b) u k.value
+data_type_step (layer.Bag b k) = trees.bag (if_some bounds_of b) k.value
+data_type_step (layer.Set b k) = trees.set (if_some bounds_of b) k.value
 
-abbrev pub kind_of : Kind → trees.Kind
-kind_of = fold-Kind trees.Kind kind_step
+abbrev pub data_type_of : DataType → trees.DataType
+data_type_of = fold-DataType trees.DataType data_type_step
 
 abbrev pub underlying_of : Underlying → trees.Underlying
 underlying_of (underlyings.Enumeration names) = trees.enumeration (names_of names.items)
 underlying_of (underlyings.Select names) = trees.select (names_of names.items)
-underlying_of (underlyings.Kind k) = trees.kind (kind_of k)
+underlying_of (underlyings.DataType k) = trees.data_type (data_type_of k)
 
 abbrev pub rules_of : List Rule → List trees.Rule
 rules_of rs = map rule_of rs
 
 abbrev pub type_of : TypeDeclaration → trees.TypeDeclaration
-type_of t = record { name = capitals t.name; underlying = underlying_of t.underlying; rules = if_some (λ rs. rules_of rs.items) t.rules }
+type_of t = record {
+  name = capitals t.name;
+  underlying = underlying_of t.underlying;
+  rules = if_some (λ rs. rules_of rs.items) t.rules;
+}
 
 abbrev pub supertype_of : Supertype → trees.Supertype
 supertype_of supertypes.Unsaid = trees.unsaid
@@ -119,14 +123,22 @@ supertype_of (supertypes.OfOneOf names) = trees.of_one_of (names_of names.items)
 supertype_of (supertypes.OfOther r) = trees.of_other (run_of r)
 
 abbrev pub attribute_of : Attribute → trees.Attribute
-attribute_of (attributes.Own w) = trees.own (capitals w)
+attribute_of (attributes.Unqualified w) = trees.own (capitals w)
 attribute_of (attributes.Redeclared e w) = trees.redeclared (capitals e) (capitals w)
 
 abbrev pub explicit_of : Explicit → trees.Explicit
-explicit_of a = record { attributes = map attribute_of a.attributes.items; optional = a.is_optional; kind = kind_of a.kind }
+explicit_of a = record {
+  attributes = map attribute_of a.attributes.items;
+  optional = a.is_optional;
+  data_type = data_type_of a.data_type;
+}
 
 abbrev pub derived_of : Derived → trees.Derived
-derived_of a = record { attribute = attribute_of a.attribute; kind = kind_of a.kind; body = body_of a.body }
+derived_of a = record {
+  attribute = attribute_of a.attribute;
+  data_type = data_type_of a.data_type;
+  body = body_of a.body;
+}
 
 abbrev pub collection_of : Collection → trees.Collection
 collection_of collections.One = trees.alone
@@ -177,4 +189,8 @@ version_of (versions.Encoded s) = words.encoded s.text.now
 
 -- the schema that a value is
 abbrev pub schema_of : SchemaTree → trees.Schema
-schema_of x = record { name = capitals x.name; version = if_some version_of x.version; declarations = map declaration_of x.declarations.items }
+schema_of x = record {
+  name = capitals x.name;
+  version = if_some version_of x.version;
+  declarations = map declaration_of x.declarations.items;
+}

@@ -37,7 +37,7 @@ pub enum LeftOut {
 
 /// What is wrong at the place of a fault.
 #[derive(Clone, Copy, Debug, PartialEq, Eq, Error)]
-pub enum Kind {
+pub enum FaultKind {
     /// No token within the limits begins there.
     #[error("S1 BadToken")]
     BadToken,
@@ -57,7 +57,7 @@ pub enum Kind {
 pub enum SchemaFault {
     /// What is wrong, and how many bytes come before it.
     #[error("{kind} at byte {place}")]
-    Fault { kind: Kind, place: u64 },
+    Fault { kind: FaultKind, place: u64 },
     /// Memory ran out.
     #[error("memory")]
     Memory,

@@ -1,6 +1,11 @@
 //! Laws of the definitions alone.
 
-ghost use Rattle.express_schemas.specs.Laws.{FaultsOnce, ReadsOnce, ReadsOrFails, ReadsWithoutFault};
+ghost use Rattle.express_schemas.specs.Laws.{
+  FaultsOnce,
+  ReadsOnce,
+  ReadsOrFails,
+  ReadsWithoutFault,
+};
 
 /// A text reads as one schema at most.
 pub fn a_text_reads_as_one_schema()

@@ -1,10 +1,11 @@
 //! Passages of a text that are kept as they stand.
 
 ghost use Rattle.std.specs.Prelude.{◌≡◌, ◌≤◌, List, length, slice_range};
-ghost use Rattle.express_expressions.specs.Words.{Word};
+ghost use Rattle.express_trees.specs.Words.{Word};
 ghost use Rattle.express_schemas.specs.Runs;
 ghost use Rattle.express_schemas.specs.Runs.{words_of_run, words_of_routine, FitsRoutine};
-ghost use Rattle.express_schemas.specs.Passages.{Stands, IsRun, words_prop, run_prop, routine_prop};
+ghost use Rattle.express_schemas.specs.Passages.{Stands, IsRun, WordsBetween, RunOf, RoutineOf};
+ghost use Rattle.express_schemas.specs.PassageLemmas.{words_prop, run_prop, routine_prop};
 
 /// Tokens of a text, from the first byte of the first to the last byte of the last, and the layout
 /// between them.
@@ -15,7 +16,7 @@ pub struct Passage<'a> {
     to: usize,
     pub ghost order: { from ≤ to },
     pub ghost within: { to ≤ length text.now },
-    pub ghost words: { (ws : List Word) × ∥ Stands text.now from ws to ∥₁ } by { words_prop text.now from to },
+    pub ghost words: { WordsBetween text.now from to } by { words_prop text.now from to },
 }
 
 /// Tokens in which brackets are closed as they are opened: a part that there is no tree for, or that is
@@ -23,7 +24,7 @@ pub struct Passage<'a> {
 #[derive(Clone, Copy)]
 pub struct Run<'a> {
     passage: Passage<'a>,
-    pub ghost run: { (r : Runs.Run) × ∥ IsRun r × (words_of_run r ≡ passage.words.0) ∥₁ } by { run_prop passage.words.0 },
+    pub ghost run: { RunOf passage.words.0 } by { run_prop passage.words.0 },
 }
 
 /// What stands behind the name of a function or procedure, up to the word that ends it; those in it nest
@@ -31,7 +32,7 @@ pub struct Run<'a> {
 #[derive(Clone, Copy)]
 pub struct Routine<'a> {
     passage: Passage<'a>,
-    pub ghost routine: { (r : Runs.Routine) × ∥ FitsRoutine r × (words_of_routine r ≡ passage.words.0) ∥₁ } by { routine_prop passage.words.0 },
+    pub ghost routine: { RoutineOf passage.words.0 } by { routine_prop passage.words.0 },
 }
 
 impl<'a> Passage<'a> {
@@ -63,7 +64,8 @@ impl<'a> Run<'a> {
     /// The run that a passage is.
     pub fn of(passage: Passage<'a>) -> Run<'a>
         requires { (r : Runs.Run) × IsRun r × (words_of_run r ≡ passage.words.0) }
-        ensures { (r : Runs.Run) → IsRun r → words_of_run r ≡ passage.entry.words.0 → result.run.0 ≡ r }
+        ensures { (r : Runs.Run) → IsRun r → words_of_run r ≡ passage.entry.words.0
+            → result.run.0 ≡ r }
     {
         Run { passage }
     }
@@ -80,7 +82,8 @@ impl<'a> Routine<'a> {
     /// The routine that a passage is.
     pub fn of(passage: Passage<'a>) -> Routine<'a>
         requires { (r : Runs.Routine) × FitsRoutine r × (words_of_routine r ≡ passage.words.0) }
-        ensures { (r : Runs.Routine) → FitsRoutine r → words_of_routine r ≡ passage.entry.words.0 → result.routine.0 ≡ r }
+        ensures { (r : Runs.Routine) → FitsRoutine r → words_of_routine r ≡ passage.entry.words.0
+            → result.routine.0 ≡ r }
     {
         Routine { passage }
     }

@@ -1,8 +1,8 @@
 //! Schemas as trees (ISO 10303-11, 8 and 9).
 
 use crate::passage::{Passage, Routine, Run};
-use express_expressions::tree::{Expr, Sign};
 use express_lexis::literal::{EncodedString, SimpleString, Word};
+use express_trees::tree::{Expr, Sign};
 use step_literals::literal::Decimal;
 
 /// What a rule or a derived attribute says.
@@ -53,9 +53,9 @@ pub struct FixedWidth<'a> {
     pub is_fixed: bool,
 }
 
-/// The kind of an attribute's values, or of a defined type (ISO 10303-11, 8).
+/// The data type of an attribute's values, or of a defined type (ISO 10303-11, 8).
 #[derive(Drop)]
-pub enum Kind<'a> {
+pub enum DataType<'a> {
     Integer,
     Number,
     Boolean,
@@ -70,23 +70,23 @@ pub enum Kind<'a> {
         bounds: Bounds<'a>,
         is_optional: bool,
         is_unique: bool,
-        element: Box<Kind<'a>>,
+        element: Box<DataType<'a>>,
     },
     /// A list (ISO 10303-11, 8.2.2).
     List {
         bounds: Option<Bounds<'a>>,
         is_unique: bool,
-        element: Box<Kind<'a>>,
+        element: Box<DataType<'a>>,
     },
     /// A bag (ISO 10303-11, 8.2.3).
     Bag {
         bounds: Option<Bounds<'a>>,
-        element: Box<Kind<'a>>,
+        element: Box<DataType<'a>>,
     },
     /// A set (ISO 10303-11, 8.2.4).
     Set {
         bounds: Option<Bounds<'a>>,
-        element: Box<Kind<'a>>,
+        element: Box<DataType<'a>>,
     },
 }
 
@@ -97,7 +97,7 @@ pub enum Underlying<'a> {
     Enumeration(Vec<Word<'a>>),
     /// A select of these types, of which there is one at least.
     Select(Vec<Word<'a>>),
-    Kind(Kind<'a>),
+    DataType(DataType<'a>),
 }
 
 /// A defined type (ISO 10303-11, 9.1).
@@ -127,25 +127,25 @@ pub enum Supertype<'a> {
 /// An attribute, as it is declared (ISO 10303-11, 9.2.1 and 9.2.3.4).
 #[derive(Clone, Copy)]
 pub enum Attribute<'a> {
-    Own(Word<'a>),
+    Unqualified(Word<'a>),
     /// `SELF\entity.attribute`
     Redeclared(Word<'a>, Word<'a>),
 }
 
-/// Explicit attributes of one kind (ISO 10303-11, 9.2.1.1).
+/// Explicit attributes of one data type (ISO 10303-11, 9.2.1.1).
 #[derive(Drop)]
 pub struct Explicit<'a> {
     /// One at least.
     pub attributes: Vec<Attribute<'a>>,
     pub is_optional: bool,
-    pub kind: Kind<'a>,
+    pub data_type: DataType<'a>,
 }
 
 /// A derived attribute (ISO 10303-11, 9.2.1.2).
 #[derive(Drop)]
 pub struct Derived<'a> {
     pub attribute: Attribute<'a>,
-    pub kind: Kind<'a>,
+    pub data_type: DataType<'a>,
     pub body: Body<'a>,
 }
 

@@ -2,6 +2,4 @@
 #![tactic(auto)]
 
 pub mod schema;
-#[cfg(test)]
-mod tests;
 mod types;

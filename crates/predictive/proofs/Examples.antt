@@ -1,6 +1,6 @@
 -- Brackets in brackets, with so many open at most, up to the end of the text: worked examples.
 use Rattle.std.proofs.Common.{◌≡◌, ℕ, zero, suc, nat_lt, if◌then◌else◌, List, [], ◌∷◌, ◌++◌, Ok, Err, refl}
-use Rattle.predictive.specs.Tables.{Seen, Table, Outcome, passes, stops, short, run}
+use Rattle.predictive.specs.Tables.{LocatedToken, Table, Outcome, passes, stops, short, run}
 use Rattle.predictive.specs.Languages.{AllAre, IsComplete}
 
 data Bracket : Type 0 where
@@ -22,9 +22,9 @@ nested levels (rest zero) over = Ok []
 nested levels (rest (suc n)) closing = Ok []
 nested levels _ _ = Err expected
 
-abbrev at_places : ℕ → List Bracket → List (Seen Bracket)
+abbrev at_places : ℕ → List Bracket → List (LocatedToken Bracket)
 at_places n [] = []
-at_places n (b ∷ bs) = record { sight = b; place = n } ∷ at_places (suc n) bs
+at_places n (b ∷ bs) = record { lookahead = b; place = n } ∷ at_places (suc n) bs
 
 abbrev answer : List Bracket → Outcome Bracket Fault
 answer bs = run (nested 2) (rest 0 ∷ []) (at_places 0 bs)
@@ -55,6 +55,7 @@ nested_complete levels = record { kept = λ y w zs a e. all zs; completing = λ 
     all [] = tt
     all (z ∷ zs) = (tt, all zs)
 
-    complete : (y : Rest) → (u : List (Seen Bracket)) × ((b : List Rest) (q : List (Seen Bracket)) → run (nested levels) (y ∷ b) (u ++ q) ≡ run (nested levels) b q)
+    complete : (y : Rest) → (u : List (LocatedToken Bracket)) × ((b : List Rest) (q : List (LocatedToken Bracket))
+        → run (nested levels) (y ∷ b) (u ++ q) ≡ run (nested levels) b q)
     complete (rest zero) = (at_places 0 (over ∷ []), λ b q. refl)
     complete (rest (suc n)) = (at_places 0 (closing ∷ []), λ b q. refl)

@@ -1,46 +1,54 @@
--- What turns a stack into another, by sights alone.
+-- What turns a stack into another, by lookaheads alone.
 use Rattle.std.proofs.Common.{◌≡◌, List, [], ◌∷◌, ◌++◌, Ok, refl, sym, ap, subst, append_assoc}
 use Rattle.predictive.specs.Tables.{Table}
 
--- these sights turn what is to come into something else
+-- these lookaheads turn what is to come into something else
 abbrev pub Leads : {S W K : Type 0} → Table S W K → List S → List W → List S → Type 0
 Leads table ys [] zs = ys ≡ zs
 Leads table [] (w ∷ ws) zs = ⊥
 Leads {S} table (y ∷ ys) (w ∷ ws) zs = (us : List S) × (table y w ≡ Ok us) × Leads table (us ++ ys) ws zs
 
--- one sight
-pub leads_one : {S W K : Type 0} (table : Table S W K) (y : S) (zs ys : List S) (w : W) → table y w ≡ Ok zs → Leads table (y ∷ ys) (w ∷ []) (zs ++ ys)
+-- one lookahead
+pub leads_one : {S W K : Type 0} (table : Table S W K) (y : S) (zs ys : List S) (w : W) → table y w ≡ Ok zs
+    → Leads table (y ∷ ys) (w ∷ []) (zs ++ ys)
 leads_one table y zs ys w e = (zs, e, refl)
 
--- a sight and others
-pub leads_first : {S W K : Type 0} (table : Table S W K) (y : S) (us ys zs : List S) (w : W) (ws : List W) → table y w ≡ Ok us → Leads table (us ++ ys) ws zs → Leads table (y ∷ ys) (w ∷ ws) zs
+-- a lookahead and others
+pub leads_first : {S W K : Type 0} (table : Table S W K) (y : S) (us ys zs : List S) (w : W) (ws : List W)
+    → table y w ≡ Ok us → Leads table (us ++ ys) ws zs → Leads table (y ∷ ys) (w ∷ ws) zs
 leads_first table y us ys zs w ws e h = (us, e, h)
 
--- some sights and others
-pub leads_join : {S W K : Type 0} (table : Table S W K) (u v : List W) (xs ys zs : List S) → Leads table xs u ys → Leads table ys v zs → Leads table xs (u ++ v) zs
+-- some lookaheads and others
+pub leads_join : {S W K : Type 0} (table : Table S W K) (u v : List W) (xs ys zs : List S) → Leads table xs u ys
+    → Leads table ys v zs → Leads table xs (u ++ v) zs
 leads_join {S} table [] v xs ys zs h g = let P : List S → Type 0 = λ l. Leads table l v zs in subst P (sym h) g
 leads_join table (w ∷ u) v [] ys zs h g = absurd h
 leads_join table (w ∷ u) v (x ∷ xs) ys zs h g = (h.0, h.1, leads_join table u v (h.0 ++ xs) ys zs h.2 g)
 
-pub leads_split : {S W K : Type 0} (table : Table S W K) (u v : List W) (xs zs : List S) → Leads table xs (u ++ v) zs → (ys : List S) × Leads table xs u ys × Leads table ys v zs
+pub leads_split : {S W K : Type 0} (table : Table S W K) (u v : List W) (xs zs : List S) → Leads table xs (u ++ v) zs
+    → (ys : List S) × Leads table xs u ys × Leads table ys v zs
 leads_split table [] v xs zs h = (xs, refl, h)
 leads_split table (w ∷ u) v [] zs h = absurd h
-leads_split table (w ∷ u) v (x ∷ xs) zs h = let r = leads_split table u v (h.0 ++ xs) zs h.2 in (r.0, (h.0, h.1, r.1), r.2)
+leads_split table (w ∷ u) v (x ∷ xs) zs h = let r = leads_split table u v (h.0 ++ xs) zs h.2 in
+    (r.0, (h.0, h.1, r.1), r.2)
 
 -- with more to come behind
-pub leads_more : {S W K : Type 0} (table : Table S W K) (ws : List W) (ys zs b : List S) → Leads table ys ws zs → Leads table (ys ++ b) ws (zs ++ b)
+pub leads_more : {S W K : Type 0} (table : Table S W K) (ws : List W) (ys zs b : List S) → Leads table ys ws zs
+    → Leads table (ys ++ b) ws (zs ++ b)
 leads_more table [] ys zs b h = ap (λ l. l ++ b) h
 leads_more table (w ∷ ws) [] zs b h = absurd h
 leads_more {S} table (w ∷ ws) (y ∷ ys) zs b h =
     let P : List S → Type 0 = λ l. Leads table l ws (zs ++ b) in
     (h.0, h.1, subst P (append_assoc h.0 ys b) (leads_more table ws (h.0 ++ ys) zs b h.2))
 
--- sights for some of the stack, and others for what is behind it
-pub leads_both : {S W K : Type 0} (table : Table S W K) (u v : List W) (ys b zs : List S) → Leads table ys u [] → Leads table b v zs → Leads table (ys ++ b) (u ++ v) zs
+-- lookaheads for some of the stack, and others for what is behind it
+pub leads_both : {S W K : Type 0} (table : Table S W K) (u v : List W) (ys b zs : List S) → Leads table ys u []
+    → Leads table b v zs → Leads table (ys ++ b) (u ++ v) zs
 leads_both table u v ys b zs h g = leads_join table u v (ys ++ b) b zs (leads_more table u ys [] b h) g
 
 -- .. of which each has its own where nothing is left
-pub leads_apart : {S W K : Type 0} (table : Table S W K) (ws : List W) (ys b : List S) → Leads table (ys ++ b) ws [] → (u v : List W) × (ws ≡ u ++ v) × Leads table ys u [] × Leads table b v []
+pub leads_apart : {S W K : Type 0} (table : Table S W K) (ws : List W) (ys b : List S) → Leads table (ys ++ b) ws []
+    → (u v : List W) × (ws ≡ u ++ v) × Leads table ys u [] × Leads table b v []
 leads_apart table ws [] b h = ([], ws, refl, refl, h)
 leads_apart table [] (y ∷ ys) b h = absurd cc
 leads_apart {S} table (w ∷ ws) (y ∷ ys) b h =
@@ -48,8 +56,9 @@ leads_apart {S} table (w ∷ ws) (y ∷ ys) b h =
     let r = leads_apart table ws (h.0 ++ ys) b (subst P (sym (append_assoc h.0 ys b)) h.2) in
     (w ∷ r.0, r.1, ap (λ l. w ∷ l) r.2, (h.0, h.1, r.3), r.4)
 
--- of sights no more and no fewer lead to nothing more
-pub leads_once : {S W K : Type 0} (table : Table S W K) (ys : List S) (u v a b : List W) → Leads table ys u [] → Leads table ys v [] → u ++ a ≡ v ++ b → (u ≡ v) × (a ≡ b)
+-- of lookaheads no more and no fewer lead to nothing more
+pub leads_once : {S W K : Type 0} (table : Table S W K) (ys : List S) (u v a b : List W) → Leads table ys u []
+    → Leads table ys v [] → u ++ a ≡ v ++ b → (u ≡ v) × (a ≡ b)
 leads_once table ys [] [] a b h g e = (refl, e)
 leads_once table [] [] (w ∷ v) a b h g e = absurd g
 leads_once table (y ∷ ys) [] (w ∷ v) a b h g e = absurd cc

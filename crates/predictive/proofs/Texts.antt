@@ -1,84 +1,100 @@
 -- First faults of what a lexer shows, which is determined: a text has one at most, and none where it is whole.
 use Rattle.std.proofs.Common.{◌≡◌, ℕ, List, [], ◌∷◌, ◌++◌, refl, sym, ap, ◌∙◌, subst, append_assoc, append-nil, ◌⊎◌, inl, inr}
-use Rattle.predictive.specs.Tables.{Seen, sights}
+use Rattle.predictive.specs.Tables.{LocatedToken, lookaheads}
 use Rattle.predictive.specs.Lexers.{ShowsAll}
-use Rattle.predictive.specs.Languages.{IsFront, IsFirstFault}
+use Rattle.predictive.specs.Languages.{IsViablePrefix, IsFirstFault}
 use Rattle.predictive.proofs.Lists.{IsWithin, cut}
 use Rattle.predictive.proofs.Shown.{IsDetermined, IsMore, shown_alike, shows_split}
 use Rattle.predictive.proofs.Faults.{front_before, whole_is_front}
 
 -- no text is the front of a longer one
 abbrev pub EndsAlone : {W : Type 0} → (List W → Type 0) → Type 0
-EndsAlone {W} L = (s more : List (Seen W)) → L (sights s) → IsFront L (sights (s ++ more)) → more ≡ []
+EndsAlone {W} L = (s more : List (LocatedToken W)) → L (lookaheads s) → IsViablePrefix L (lookaheads (s ++ more))
+    → more ≡ []
 
 no_last : {X : Type 0} (a m : List X) (s : X) → (a ++ s ∷ []) ++ m ≡ [] → ⊥
 no_last [] m s e = cc
 no_last (y ∷ a) m s e = cc
 
 -- where a list ends by a token
-ends_by : {X : Type 0} (a b m : List X) (s t : X) → (a ++ s ∷ []) ++ m ≡ b ++ t ∷ [] → ((a ≡ b) × (s ≡ t)) ⊎ ((i : List X) × (b ≡ (a ++ s ∷ []) ++ i))
+ends_by : {X : Type 0} (a b m : List X) (s t : X) → (a ++ s ∷ []) ++ m ≡ b ++ t ∷ [] → ((a ≡ b) × (s ≡ t))
+    ⊎ ((i : List X) × (b ≡ (a ++ s ∷ []) ++ i))
 ends_by [] [] m s t e = inl (refl, cc)
 ends_by [] (z ∷ b) m s t e =
     let h : z ≡ s = cc in
     inr (b, (λ i. h i ∷ b))
 ends_by (y ∷ a) [] m s t e = absurd (no_last a m s (let h : (a ++ s ∷ []) ++ m ≡ [] = cc in h))
-ends_by {X} (y ∷ a) (z ∷ b) m s t e = behind (let h : y ≡ z = cc in h) (ends_by a b m s t (let h : (a ++ s ∷ []) ++ m ≡ b ++ t ∷ [] = cc in h))
+ends_by {X} (y ∷ a) (z ∷ b) m s t e = behind (let h : y ≡ z = cc in h)
+    (ends_by a b m s t (let h : (a ++ s ∷ []) ++ m ≡ b ++ t ∷ [] = cc in h))
   where
-    behind : y ≡ z → ((a ≡ b) × (s ≡ t)) ⊎ ((i : List X) × (b ≡ (a ++ s ∷ []) ++ i)) → ((y ∷ a ≡ z ∷ b) × (s ≡ t)) ⊎ ((i : List X) × (z ∷ b ≡ (y ∷ a ++ s ∷ []) ++ i))
+    behind : y ≡ z → ((a ≡ b) × (s ≡ t)) ⊎ ((i : List X) × (b ≡ (a ++ s ∷ []) ++ i)) → ((y ∷ a ≡ z ∷ b) × (s ≡ t))
+        ⊎ ((i : List X) × (z ∷ b ≡ (y ∷ a ++ s ∷ []) ++ i))
     behind h (inl g) = inl ((λ i. h i ∷ g.0 i), g.1)
     behind h (inr g) = inr (g.0, (λ i. sym h i ∷ g.1 i))
 
 -- where the lexer stands before the first fault and behind it
-pub fault_shown : {R W : Type 0} (shows : R → Seen W → R → Type 0) (L : List W → Type 0) (old new : R) (s : List (Seen W)) (place : ℕ) → ShowsAll shows old s new → (f : IsFirstFault L s place) → (here next : R) × ShowsAll shows old f.before here × shows here f.at next
+pub fault_shown : {R W : Type 0} (shows : R → LocatedToken W → R → Type 0) (L : List W → Type 0) (old new : R)
+    (s : List (LocatedToken W)) (place : ℕ) → ShowsAll shows old s new → (f : IsFirstFault L s place) → (here next : R)
+    × ShowsAll shows old f.before here × shows here f.at next
 fault_shown {R} {W} shows L old new s place h f =
-    let P : List (Seen W) → Type 0 = λ l. ShowsAll shows old l new in
+    let P : List (LocatedToken W) → Type 0 = λ l. ShowsAll shows old l new in
     let a = shows_split shows old f.before (f.at ∷ f.after) new (subst P f.text h) in
     (a.0, a.2.0, a.1, a.2.1)
 
-module _ {R W : Type 0} (shows : R → Seen W → R → Type 0) (d : IsDetermined shows) (L : List W → Type 0) where
+module _ {R W : Type 0} (shows : R → LocatedToken W → R → Type 0) (d : IsDetermined shows) (L : List W → Type 0) where
   -- what can't go on goes no further in another run, whose front can
-  longest : (a b m : List (Seen W)) (s t : Seen W) → (IsFront L (sights (a ++ s ∷ [])) → ⊥) → IsFront L (sights b) → (a ++ s ∷ []) ++ m ≡ b ++ t ∷ [] → (a ≡ b) × (s ≡ t)
+  longest : (a b m : List (LocatedToken W)) (s t : LocatedToken W) → (IsViablePrefix L (lookaheads (a ++ s ∷ [])) → ⊥)
+      → IsViablePrefix L (lookaheads b) → (a ++ s ∷ []) ++ m ≡ b ++ t ∷ [] → (a ≡ b) × (s ≡ t)
   longest a b m s t refused viable e = by (ends_by a b m s t e)
     where
-      by : ((a ≡ b) × (s ≡ t)) ⊎ ((i : List (Seen W)) × (b ≡ (a ++ s ∷ []) ++ i)) → (a ≡ b) × (s ≡ t)
+      by : ((a ≡ b) × (s ≡ t)) ⊎ ((i : List (LocatedToken W)) × (b ≡ (a ++ s ∷ []) ++ i)) → (a ≡ b) × (s ≡ t)
       by (inl h) = h
       by (inr h) = absurd (refused (front_before L b (a ++ s ∷ []) h.0 h.1 viable))
 
   -- two first faults of a text stand at one token
-  pub same_token : (old x y : R) (a b : List (Seen W)) (s t : Seen W) → ShowsAll shows old (a ++ s ∷ []) x → ShowsAll shows old (b ++ t ∷ []) y
-      → IsFront L (sights a) → (IsFront L (sights (a ++ s ∷ [])) → ⊥) → IsFront L (sights b) → (IsFront L (sights (b ++ t ∷ [])) → ⊥) → (a ≡ b) × (s ≡ t)
-  same_token old x y a b s t h k viable refused viable' refused' = by (shown_alike shows d old x y (a ++ s ∷ []) (b ++ t ∷ []) h k)
+  pub same_token : (old x y : R) (a b : List (LocatedToken W)) (s t : LocatedToken W) → ShowsAll shows old (a ++ s ∷ [])
+      x → ShowsAll shows old (b ++ t ∷ []) y
+      → IsViablePrefix L (lookaheads a) → (IsViablePrefix L (lookaheads (a ++ s ∷ [])) → ⊥)
+      → IsViablePrefix L (lookaheads b) → (IsViablePrefix L (lookaheads (b ++ t ∷ [])) → ⊥) → (a ≡ b) × (s ≡ t)
+  same_token old x y a b s t h k viable refused viable' refused' =
+      by (shown_alike shows d old x y (a ++ s ∷ []) (b ++ t ∷ []) h k)
     where
-      by : IsMore shows (a ++ s ∷ []) x (b ++ t ∷ []) y ⊎ IsMore shows (b ++ t ∷ []) y (a ++ s ∷ []) x → (a ≡ b) × (s ≡ t)
+      by : IsMore shows (a ++ s ∷ []) x (b ++ t ∷ []) y ⊎ IsMore shows (b ++ t ∷ []) y (a ++ s ∷ []) x → (a ≡ b)
+          × (s ≡ t)
       by (inl m) = longest a b m.0 s t refused viable' m.1
       by (inr m) = let e = longest b a m.0 t s refused' viable m.1 in (sym e.0, sym e.1)
 
   -- a text that is whole has none
-  pub whole_no_fault : EndsAlone L → (old x y : R) (w a : List (Seen W)) (s : Seen W) → ShowsAll shows old w x → L (sights w) → ShowsAll shows old (a ++ s ∷ []) y
-      → IsFront L (sights a) → (L (sights a) → ⊥) → (IsFront L (sights (a ++ s ∷ [])) → ⊥) → ⊥
-  whole_no_fault alone old x y w a s h whole k viable unended refused = by (shown_alike shows d old x y w (a ++ s ∷ []) h k)
+  pub whole_no_fault : EndsAlone L → (old x y : R) (w a : List (LocatedToken W)) (s : LocatedToken W)
+      → ShowsAll shows old w x → L (lookaheads w) → ShowsAll shows old (a ++ s ∷ []) y
+      → IsViablePrefix L (lookaheads a) → (L (lookaheads a) → ⊥) → (IsViablePrefix L (lookaheads (a ++ s ∷ [])) → ⊥) → ⊥
+  whole_no_fault alone old x y w a s h whole k viable unended refused =
+      by (shown_alike shows d old x y w (a ++ s ∷ []) h k)
     where
-      within : IsWithin a s w ⊎ ((i : List (Seen W)) × (a ≡ w ++ i)) → ⊥
-      within (inl g) = refused (front_before L w (a ++ s ∷ []) g.0 (g.1 ∙ sym (append_assoc a (s ∷ []) g.0)) (whole_is_front L (sights w) whole))
+      within : IsWithin a s w ⊎ ((i : List (LocatedToken W)) × (a ≡ w ++ i)) → ⊥
+      within (inl g) = refused (front_before L w (a ++ s ∷ []) g.0 (g.1 ∙ sym (append_assoc a (s ∷ []) g.0))
+          (whole_is_front L (lookaheads w) whole))
       within (inr g) =
-          let P : List (Seen W) → Type 0 = λ l. IsFront L (sights l) in
+          let P : List (LocatedToken W) → Type 0 = λ l. IsViablePrefix L (lookaheads l) in
           let none = alone w g.0 whole (subst P g.1 viable) in
           let same : w ≡ a = sym (append-nil w) ∙ ap (λ l. w ++ l) (sym none) ∙ sym g.1 in
-          unended (subst L (ap sights same) whole)
+          unended (subst L (ap lookaheads same) whole)
 
       by : IsMore shows w x (a ++ s ∷ []) y ⊎ IsMore shows (a ++ s ∷ []) y w x → ⊥
       by (inl m) = within (cut w a m.0 [] s m.1)
-      by (inr m) = refused (front_before L w (a ++ s ∷ []) m.0 (sym m.1) (whole_is_front L (sights w) whole))
+      by (inr m) = refused (front_before L w (a ++ s ∷ []) m.0 (sym m.1) (whole_is_front L (lookaheads w) whole))
 
   -- a text is whole by one list of tokens at most
-  pub whole_once : EndsAlone L → (old x y : R) (v w : List (Seen W)) → ShowsAll shows old v x → ShowsAll shows old w y → L (sights v) → L (sights w) → (v ≡ w) × (x ≡ y)
+  pub whole_once : EndsAlone L → (old x y : R) (v w : List (LocatedToken W)) → ShowsAll shows old v x
+      → ShowsAll shows old w y → L (lookaheads v) → L (lookaheads w) → (v ≡ w) × (x ≡ y)
   whole_once alone old x y v w h k f g = by (shown_alike shows d old x y v w h k)
     where
-      longer : (v w m : List (Seen W)) (x y : R) → v ++ m ≡ w → ShowsAll shows x m y → L (sights v) → L (sights w) → (v ≡ w) × (x ≡ y)
+      longer : (v w m : List (LocatedToken W)) (x y : R) → v ++ m ≡ w → ShowsAll shows x m y → L (lookaheads v)
+          → L (lookaheads w) → (v ≡ w) × (x ≡ y)
       longer v w m x y e more f g =
-          let P : List (Seen W) → Type 0 = λ l. IsFront L (sights l) in
-          let none = alone v m f (subst P (sym e) (whole_is_front L (sights w) g)) in
-          let Q : List (Seen W) → Type 0 = λ l. ShowsAll shows x l y in
+          let P : List (LocatedToken W) → Type 0 = λ l. IsViablePrefix L (lookaheads l) in
+          let none = alone v m f (subst P (sym e) (whole_is_front L (lookaheads w) g)) in
+          let Q : List (LocatedToken W) → Type 0 = λ l. ShowsAll shows x l y in
           let at : ShowsAll shows x [] y = subst Q none more in
           (sym (append-nil v) ∙ ap (λ l. v ++ l) (sym none) ∙ e, at)
 

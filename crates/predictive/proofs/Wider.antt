@@ -1,8 +1,8 @@
 -- A wider table against a narrow one.
 use Rattle.std.proofs.Common.{◌≡◌, ◌↔◌, List, [], ◌∷◌, ◌++◌, Ok, Err, Result, refl, sym, ap, ◌∙◌, subst}
-use Rattle.predictive.specs.Tables.{Seen, sights, Table, passes, run}
-use Rattle.predictive.specs.Languages.{IsFront, IsExact}
-use Rattle.predictive.proofs.Lists.{placed, sights_placed}
+use Rattle.predictive.specs.Tables.{LocatedToken, lookaheads, Table, passes, run}
+use Rattle.predictive.specs.Languages.{IsViablePrefix, IsExact}
+use Rattle.predictive.proofs.Lists.{placed, lookaheads_placed}
 use Rattle.predictive.proofs.Running.{Reaches, reaches_run, reaches_one, reaches_join, passed}
 use Rattle.predictive.proofs.Faults.{front_from, not_front}
 
@@ -17,38 +17,60 @@ pub wider_join : {S W K : Type 0} (a b c : Table S W K) → IsWider a b → IsWi
 wider_join a b c h g y w zs e = g y w zs (h y w zs e)
 
 -- what leads from one stack to another by a table leads there by a wider one
-pub reaches_wider : {S W K : Type 0} (narrow wide : Table S W K) → IsWider narrow wide → (s : List (Seen W)) (ys zs : List S) → Reaches narrow ys s zs → Reaches wide ys s zs
+pub reaches_wider : {S W K : Type 0} (narrow wide : Table S W K) → IsWider narrow wide → (s : List (LocatedToken W))
+    (ys zs : List S) → Reaches narrow ys s zs → Reaches wide ys s zs
 reaches_wider narrow wide i [] ys zs h = h
 reaches_wider narrow wide i (t ∷ s) [] zs h = absurd h
-reaches_wider narrow wide i (t ∷ s) (y ∷ ys) zs h = (h.0, i y t.sight h.0 h.1, reaches_wider narrow wide i s (h.0 ++ ys) zs h.2)
+reaches_wider narrow wide i (t ∷ s) (y ∷ ys) zs h = (
+  h.0,
+  i y t.lookahead h.0 h.1,
+  reaches_wider narrow wide i s
+      (h.0 ++ ys) zs h.2,
+)
 
 -- .. so what passes passes
-pub passes_wider : {S W K : Type 0} (narrow wide : Table S W K) → IsWider narrow wide → (s rest : List (Seen W)) (ys : List S) → run narrow ys s ≡ passes rest → run wide ys s ≡ passes rest
+pub passes_wider : {S W K : Type 0} (narrow wide : Table S W K) → IsWider narrow wide → (s rest : List (LocatedToken W))
+    (ys : List S) → run narrow ys s ≡ passes rest → run wide ys s ≡ passes rest
 passes_wider narrow wide i s rest ys e =
     let h = passed narrow s ys rest e in
     ap (run wide ys) h.text ∙ reaches_run wide h.taken ys [] rest (reaches_wider narrow wide i h.taken ys [] h.reached)
 
-module _ {S W K : Type 0} (narrow wide : Table S W K) (i : IsWider narrow wide) (sort : S → Type 0) (start : List S) (L : List W → Type 0) (x : IsExact wide sort start L) where
+module _ {S W K : Type 0} (narrow wide : Table S W K) (i : IsWider narrow wide) (sort : S → Type 0) (start : List S)
+    (L : List W → Type 0) (x : IsExact wide sort start L) where
   -- where the narrow table stops and the wide one goes on, what stands there is a front of the wider language ..
-  pub front_wider : (s : List (Seen W)) (at : Seen W) (top : S) (others zs : List S) → Reaches narrow start s (top ∷ others) → wide top at.sight ≡ Ok zs → IsFront L (sights (s ++ at ∷ []))
+  pub front_wider : (s : List (LocatedToken W)) (at : LocatedToken W) (top : S) (others zs : List S)
+      → Reaches narrow start s (top ∷ others) → wide top at.lookahead ≡ Ok zs
+      → IsViablePrefix L (lookaheads (s ++ at ∷ []))
   front_wider s at top others zs h e =
       front_from wide sort start L x (s ++ at ∷ []) (zs ++ others)
-      (reaches_join wide s (at ∷ []) start (top ∷ others) (zs ++ others) (reaches_wider narrow wide i s start (top ∷ others) h) (reaches_one wide top zs others at e))
+      (reaches_join wide s (at ∷ []) start (top ∷ others) (zs ++ others)
+      (reaches_wider narrow wide i s start (top ∷ others) h) (reaches_one wide top zs others at e))
 
   -- .. and where the wide one stops too it is none
-  pub no_front_wider : (s : List (Seen W)) (at : Seen W) (top : S) (others : List S) (k : K) → Reaches narrow start s (top ∷ others) → wide top at.sight ≡ Err k → IsFront L (sights (s ++ at ∷ [])) → ⊥
-  no_front_wider s at top others k h e = not_front wide sort start L x s at top others k (reaches_wider narrow wide i s start (top ∷ others) h) e
+  pub no_front_wider : (s : List (LocatedToken W)) (at : LocatedToken W) (top : S) (others : List S) (k : K)
+      → Reaches narrow start s (top ∷ others) → wide top at.lookahead ≡ Err k
+      → IsViablePrefix L (lookaheads (s ++ at ∷ [])) → ⊥
+  no_front_wider s at top others k h e = not_front wide sort start L x s at top others k
+      (reaches_wider narrow wide i s start (top ∷ others) h) e
 
   -- both ways
-  pub goes_on_wider : (s : List (Seen W)) (at : Seen W) (top : S) (others : List S) → Reaches narrow start s (top ∷ others) → ((zs : List S) × (wide top at.sight ≡ Ok zs)) ↔ IsFront L (sights (s ++ at ∷ []))
-  goes_on_wider s at top others h = ((λ g. front_wider s at top others g.0 h g.1), λ f. by f (wide top at.sight) refl)
+  pub goes_on_wider : (s : List (LocatedToken W)) (at : LocatedToken W) (top : S) (others : List S)
+      → Reaches narrow start s (top ∷ others) → ((zs : List S) × (wide top at.lookahead ≡ Ok zs))
+      ↔ IsViablePrefix L (lookaheads (s ++ at ∷ []))
+  goes_on_wider s at top others h = (
+    (λ g. front_wider s at top others g.0 h g.1),
+    λ f. by f (wide top at.lookahead)
+        refl,
+  )
     where
-      by : IsFront L (sights (s ++ at ∷ [])) → (r : Result (List S) K) → wide top at.sight ≡ r → (zs : List S) × (wide top at.sight ≡ Ok zs)
+      by : IsViablePrefix L (lookaheads (s ++ at ∷ [])) → (r : Result (List S) K) → wide top at.lookahead ≡ r
+          → (zs : List S) × (wide top at.lookahead ≡ Ok zs)
       by f (Ok zs) e = (zs, e)
       by f (Err k) e = absurd (no_front_wider s at top others k h e f)
 
   -- a whole text of the narrow language is one of the wide
-  pub text_wider : (narrow_sort : S → Type 0) (M : List W → Type 0) → IsExact narrow narrow_sort start M → (ws : List W) → M ws → L ws
+  pub text_wider : (narrow_sort : S → Type 0) (M : List W → Type 0) → IsExact narrow narrow_sort start M → (ws : List W)
+      → M ws → L ws
   text_wider narrow_sort M n ws h =
-      let p = n.passing (placed ws) (subst M (sym (sights_placed ws)) h) in
-      subst L (sights_placed ws) (x.sound (placed ws) (passes_wider narrow wide i (placed ws) [] start p))
+      let p = n.passing (placed ws) (subst M (sym (lookaheads_placed ws)) h) in
+      subst L (lookaheads_placed ws) (x.sound (placed ws) (passes_wider narrow wide i (placed ws) [] start p))

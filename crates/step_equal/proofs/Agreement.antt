@@ -5,7 +5,8 @@ use Rattle.step_equal.specs.Values.{Value, leaf, reference, typed, sequence, bag
 use Rattle.step_equal.specs.References.{EachReference, EachReferenceOf}
 
 mutual
-  pub agree_grows : (l m : ℕ → ℕ → Bool) → ((y z : ℕ) → l y z ≡ true → m y z ≡ true) → (v w : Value) → Agree l v w → Agree m v w
+  pub agree_grows : (l m : ℕ → ℕ → Bool) → ((y z : ℕ) → l y z ≡ true → m y z ≡ true) → (v w : Value) → Agree l v w
+      → Agree m v w
   agree_grows l m f (leaf a) (leaf b) h = h
   agree_grows l m f (reference y) (reference z) h = f y z h
   agree_grows l m f (typed n v) (typed k w) h = (h.0, agree_grows l m f v w h.1)
@@ -13,7 +14,8 @@ mutual
   agree_grows l m f (bag vs) (bag ws) h = h
   agree_grows l m f _ _ h = absurd h
 
-  pub agree_each_grows : (l m : ℕ → ℕ → Bool) → ((y z : ℕ) → l y z ≡ true → m y z ≡ true) → (vs ws : Values) → AgreeEach l vs ws → AgreeEach m vs ws
+  pub agree_each_grows : (l m : ℕ → ℕ → Bool) → ((y z : ℕ) → l y z ≡ true → m y z ≡ true) → (vs ws : Values)
+      → AgreeEach l vs ws → AgreeEach m vs ws
   agree_each_grows l m f none none h = tt
   agree_each_grows l m f (more v vs) (more w ws) h = (agree_grows l m f v w h.0, agree_each_grows l m f vs ws h.1)
   agree_each_grows l m f _ _ h = absurd h
@@ -55,7 +57,8 @@ reordering_sym (swapped v w vs) = swapped w v vs
 reordering_sym (joined r s) = joined (reordering_sym s) (reordering_sym r)
 
 -- a reordering of the left side is matched by one of the right side
-pub reordered_pairs : (l : ℕ → ℕ → Bool) {us ws : Values} → IsReordering us ws → (zs : Values) → AgreeEach l us zs → (ts : Values) × IsReordering zs ts × AgreeEach l ws ts
+pub reordered_pairs : (l : ℕ → ℕ → Bool) {us ws : Values} → IsReordering us ws → (zs : Values) → AgreeEach l us zs
+    → (ts : Values) × IsReordering zs ts × AgreeEach l ws ts
 reordered_pairs l (unchanged us) zs h = (zs, unchanged zs, h)
 reordered_pairs l (kept v r) none h = absurd h
 reordered_pairs l (kept v r) (more z zs) h =
@@ -69,14 +72,19 @@ reordered_pairs l (joined r s) zs h =
     (second.0, joined first.1 second.1, second.2)
 
 mutual
-  pub agree_trans : (l m n : ℕ → ℕ → Bool) → ((x y z : ℕ) → l x y ≡ true → m y z ≡ true → n x z ≡ true) → (u v w : Value) → Agree l u v → Agree m v w → Agree n u w
+  pub agree_trans : (l m n : ℕ → ℕ → Bool) → ((x y z : ℕ) → l x y ≡ true → m y z ≡ true → n x z ≡ true)
+      → (u v w : Value) → Agree l u v → Agree m v w → Agree n u w
   agree_trans l m n f (leaf a) (leaf b) (leaf c) h k = h ∙ k
   agree_trans l m n f (reference x) (reference y) (reference z) h k = f x y z h k
   agree_trans l m n f (typed s u) (typed t v) (typed o w) h k = (h.0 ∙ k.0, agree_trans l m n f u v w h.1 k.1)
   agree_trans l m n f (sequence us) (sequence vs) (sequence ws) h k = agree_each_trans l m n f us vs ws h k
   agree_trans l m n f (bag us) (bag vs) (bag ws) h k =
-      let moved = reordered_pairs (◌==◌) (reordering_sym h.1) k.0 k.2 in
-      (moved.0, joined (reordering_sym moved.1) k.1, agree_each_trans (◌==◌) (◌==◌) (◌==◌) eqb_trans us h.0 moved.0 h.2 moved.2)
+      let moved = reordered_pairs (◌==◌) (reordering_sym h.1) k.0 k.2 in (
+        moved.0,
+        joined (reordering_sym moved.1) k.1,
+        agree_each_trans (◌==◌) (◌==◌) (◌==◌) eqb_trans us h.0 moved.0 h.2
+            moved.2,
+      )
   agree_trans l m n f (leaf a) (leaf b) _ h k = absurd k
   agree_trans l m n f (reference a) (reference b) _ h k = absurd k
   agree_trans l m n f (typed s a) (typed t b) _ h k = absurd k
@@ -84,16 +92,19 @@ mutual
   agree_trans l m n f (bag a) (bag b) _ h k = absurd k
   agree_trans l m n f _ _ _ h k = absurd h
 
-  pub agree_each_trans : (l m n : ℕ → ℕ → Bool) → ((x y z : ℕ) → l x y ≡ true → m y z ≡ true → n x z ≡ true) → (us vs ws : Values) → AgreeEach l us vs → AgreeEach m vs ws → AgreeEach n us ws
+  pub agree_each_trans : (l m n : ℕ → ℕ → Bool) → ((x y z : ℕ) → l x y ≡ true → m y z ≡ true → n x z ≡ true)
+      → (us vs ws : Values) → AgreeEach l us vs → AgreeEach m vs ws → AgreeEach n us ws
   agree_each_trans l m n f none none none h k = tt
-  agree_each_trans l m n f (more u us) (more v vs) (more w ws) h k = (agree_trans l m n f u v w h.0 k.0, agree_each_trans l m n f us vs ws h.1 k.1)
+  agree_each_trans l m n f (more u us) (more v vs) (more w ws) h k =
+      (agree_trans l m n f u v w h.0 k.0, agree_each_trans l m n f us vs ws h.1 k.1)
   agree_each_trans l m n f (more u us) (more v vs) none h k = absurd k
   agree_each_trans l m n f none none (more w ws) h k = absurd k
   agree_each_trans l m n f _ _ _ h k = absurd h
 
 -- under tests of which one is the converse of the other
 mutual
-  pub agree_back : (l m : ℕ → ℕ → Bool) → ((y z : ℕ) → l y z ≡ true → m z y ≡ true) → (v w : Value) → Agree l v w → Agree m w v
+  pub agree_back : (l m : ℕ → ℕ → Bool) → ((y z : ℕ) → l y z ≡ true → m z y ≡ true) → (v w : Value) → Agree l v w
+      → Agree m w v
   agree_back l m f (leaf a) (leaf b) h = sym h
   agree_back l m f (reference y) (reference z) h = f y z h
   agree_back l m f (typed n v) (typed k w) h = (sym h.0, agree_back l m f v w h.1)
@@ -104,7 +115,8 @@ mutual
       (moved.0, reordering_sym moved.1, moved.2)
   agree_back l m f _ _ h = absurd h
 
-  pub agree_each_back : (l m : ℕ → ℕ → Bool) → ((y z : ℕ) → l y z ≡ true → m z y ≡ true) → (vs ws : Values) → AgreeEach l vs ws → AgreeEach m ws vs
+  pub agree_each_back : (l m : ℕ → ℕ → Bool) → ((y z : ℕ) → l y z ≡ true → m z y ≡ true) → (vs ws : Values)
+      → AgreeEach l vs ws → AgreeEach m ws vs
   agree_each_back l m f none none h = tt
   agree_each_back l m f (more v vs) (more w ws) h = (agree_back l m f v w h.0, agree_each_back l m f vs ws h.1)
   agree_each_back l m f _ _ h = absurd h

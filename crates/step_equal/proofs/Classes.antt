@@ -70,17 +70,21 @@ module _ (n last : ℕ) (R : ℕ → ℕ → ℕ → Bool) (by : ArePartings n l
 
   pub number_is : (r i : ℕ) → i < n → IsNumber r i
   number_is r i l =
-      let found = birth_of n last R by r (first n last R by r i) (first_below n last R by r i l) (first_first n last R by r i l) in
+      let found = birth_of n last R by r (first n last R by r i) (first_below n last R by r i l)
+      (first_first n last R by r i l) in
       record { round = found.0; in_time = found.1; at = placed n last R by found.0 (first n last R by r i) found.2 }
 
-  pub first_from_number : (r i j : ℕ) → i < n → j < n → number r i ≡ number r j → first n last R by r i ≡ first n last R by r j
+  pub first_from_number : (r i j : ℕ) → i < n → j < n → number r i ≡ number r j → first n last R by r i ≡ first n last R
+      by r j
   first_from_number r i j l m e =
       let a = number_is r i l in
       let b = number_is r j m in
-      let both : Some (a.round, first n last R by r i) ≡ Some (b.round, first n last R by r j) = sym a.at ∙ ap (slice_get list) e ∙ b.at in
+      let both : Some (a.round, first n last R by r i) ≡ Some (b.round, first n last R by r j) = sym a.at
+      ∙ ap (slice_get list) e ∙ b.at in
       ap (λ p. p.1) (same_pair (a.round, first n last R by r i) (b.round, first n last R by r j) both)
 
-  pub in_order : (c d q h r j : ℕ) → c < d → slice_get list c ≡ Some (q, h) → slice_get list d ≡ Some (r, j) → IsBefore q h r j
+  pub in_order : (c d q h r j : ℕ) → c < d → slice_get list c ≡ Some (q, h) → slice_get list d ≡ Some (r, j)
+      → IsBefore q h r j
   in_order = (births n last R by).1.ordered
 
   -- a class is born after its parent
@@ -91,11 +95,14 @@ module _ (n last : ℕ) (R : ℕ → ℕ → ℕ → Bool) (by : ArePartings n l
       let at = placed n last R by (suc r) h b in
       elim (cases_order (number r h) (place n last R by h)) [
         | inl e ↦ absurd (
-            let both : Some (parent.round, first n last R by r h) ≡ Some (suc r, h) = sym parent.at ∙ ap (slice_get list) e ∙ at in
-            let same : parent.round ≡ suc r = ap (λ p. p.0) (same_pair (parent.round, first n last R by r h) (suc r, h) both) in
+            let both : Some (parent.round, first n last R by r h) ≡ Some (suc r, h) = sym parent.at
+            ∙ ap (slice_get list) e ∙ at in
+            let same : parent.round ≡ suc r = ap (λ p. p.0) (same_pair (parent.round, first n last R by r h) (suc r, h)
+            both) in
             omega arith)
         | inr (inl l) ↦ l
-        | inr (inr l) ↦ absurd (elim (in_order (place n last R by h) (number r h) (suc r) h parent.round (first n last R by r h) l at parent.at) [ inl m ↦ omega arith | inr m ↦ let s = m.0 in omega arith ])
+        | inr (inr l) ↦ absurd (elim (in_order (place n last R by h) (number r h) (suc r) h parent.round
+            (first n last R by r h) l at parent.at) [ inl m ↦ omega arith | inr m ↦ let s = m.0 in omega arith ])
       ]
 
   -- a class with a parent is of a birth after round 0
@@ -109,7 +116,8 @@ module _ (n last : ℕ) (R : ℕ → ℕ → ℕ → Bool) (by : ArePartings n l
 
   pub split_of : (c parent round : ℕ) → slice_get classes c ≡ Some (split parent round) → IsSplit c parent round
   unfolding origin_by
-  split_of c parent round e = let is = of_class c (split parent round) e in go is.round is.head is.birth is.place_is is.origin_is
+  split_of c parent round e = let is = of_class c (split parent round) e in go is.round is.head is.birth is.place_is
+      is.origin_is
     where
       go : (q h : ℕ) → Birth q h → place n last R by h ≡ c → origin_by q h ≡ split parent round → IsSplit c parent round
       go zero h b at f = absurd (cc)
@@ -119,30 +127,41 @@ module _ (n last : ℕ) (R : ℕ → ℕ → ℕ → Bool) (by : ArePartings n l
   begun r i l round h =
       let is = number_is r i l in
       let le : is.round ≤ r = is.in_time in
-      let began_at : began (origin_by is.round (first n last R by r i)) ≡ is.round = began_by is.round (first n last R by r i) in
-      itself (number r i) (origin_by is.round (first n last R by r i)) (class_of (number r i) is.round (first n last R by r i) is.at) (omega arith)
+      let began_at : began (origin_by is.round (first n last R by r i)) ≡ is.round =
+      began_by is.round (first n last R by r i) in
+      itself (number r i) (origin_by is.round (first n last R by r i))
+      (class_of (number r i) is.round (first n last R by r i) is.at) (omega arith)
 
   split_at : (r h : ℕ) → Birth (suc r) h → slice_get classes (place n last R by h) ≡ Some (split (number r h) (suc r))
   unfolding origin_by
   split_at r h b = class_of (place n last R by h) (suc r) h (placed n last R by (suc r) h b)
 
-  raised : (round r i a : ℕ) → i < n → round ≤ r → IsAncestor classes round (number r i) a → IsAncestor classes round (number (suc r) i) a
+  raised : (round r i a : ℕ) → i < n → round ≤ r → IsAncestor classes round (number r i) a → IsAncestor classes round
+      (number (suc r) i) a
   raised round r i a l h up =
       let f : ℕ = first n last R by (suc r) i in
       let within : first n last R by r f ≡ first n last R by r i = first_within n last R by r i l in
       elim (cases_eq (first n last R by r f) f) [
         | inl was ↦ subst (λ m. IsAncestor classes round (place n last R by m) a) (sym within ∙ was) up
         | inr new ↦
-            let birth : Birth (suc r) f = record { within = first_below n last R by (suc r) i l; first = first_first n last R by (suc r) i l; fresh = new } in
-            through (place n last R by f) (number r f) (suc r) a (split_at r f birth) (omega arith) (parent_before r f birth)
+            let birth : Birth (suc r) f = record {
+              within = first_below n last R by (suc r) i l;
+              first = first_first n last R by (suc r) i l;
+              fresh = new;
+            } in
+            through (place n last R by f) (number r f) (suc r) a (split_at r f birth) (omega arith)
+            (parent_before r f birth)
             (subst (λ m. IsAncestor classes round (place n last R by m) a) (sym within) up)
       ]
 
   -- the class at a round is an ancestor of that at a later one
   rising : (round later i : ℕ) → i < n → round ≤ later → IsAncestor classes round (number later i) (number round i)
-  rising round zero i l h = let same : zero ≡ round = omega arith in subst (λ m. IsAncestor classes round (number m i) (number round i)) (sym same) (begun round i l round (omega arith))
+  rising round zero i l h = let same : zero ≡ round = omega arith in
+      subst (λ m. IsAncestor classes round (number m i) (number round i)) (sym same)
+      (begun round i l round (omega arith))
   rising round (suc r) i l h = elim (cases_lt r round) [
-    | inl m ↦ let same : round ≡ suc r = omega arith in subst (λ m. IsAncestor classes round (number m i) (number round i)) same (begun round i l round (omega arith))
+    | inl m ↦ let same : round ≡ suc r = omega arith in
+        subst (λ m. IsAncestor classes round (number m i) (number round i)) same (begun round i l round (omega arith))
     | inr m ↦ raised round r i (number round i) l m (rising round r i l m)
   ]
 
@@ -155,6 +174,7 @@ module _ (n last : ℕ) (R : ℕ → ℕ → ℕ → Bool) (by : ArePartings n l
 
   pub ancestor_at : (round i : ℕ) → i < n → IsAncestor classes round (number last i) (number round i)
   ancestor_at round i l = elim (cases_lt last round) [
-    | inl m ↦ subst (λ a. IsAncestor classes round (number last i) a) (sym (number_stays round i l (omega arith))) (begun last i l round (omega arith))
+    | inl m ↦ subst (λ a. IsAncestor classes round (number last i) a) (sym (number_stays round i l (omega arith)))
+        (begun last i l round (omega arith))
     | inr m ↦ rising round last i l m
   ]

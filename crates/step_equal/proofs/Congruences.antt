@@ -29,16 +29,21 @@ composed : (R S : ℕ → ℕ → Bool) → List Row → ℕ → ℕ → Bool
 composed R S [] x z = false
 composed R S (r ∷ rows) x z = (R x r.name && S r.name z) || composed R S rows x z
 
-composed_from : (R S : ℕ → ℕ → Bool) (rows : List Row) (x y z : ℕ) → IsName rows y → R x y ≡ true → S y z ≡ true → composed R S rows x z ≡ true
+composed_from : (R S : ℕ → ℕ → Bool) (rows : List Row) (x y z : ℕ) → IsName rows y → R x y ≡ true → S y z ≡ true
+    → composed R S rows x z ≡ true
 unfolding composed
 composed_from R S [] x y z n h k = absurd (let e = n.1 in cc)
 composed_from R S (r ∷ rows) x y z n h k =
     elim (row_cases r rows y n.0 n.1) [
-      | inl here ↦ or_left (R x r.name && S r.name z) (composed R S rows x z) (and_from (R x r.name) (S r.name z) (subst (λ w. R x w ≡ true) (sym here.0) h) (subst (λ w. S w z ≡ true) (sym here.0) k))
-      | inr there ↦ or_right (R x r.name && S r.name z) (composed R S rows x z) (composed_from R S rows x y z (n.0, there.1) h k)
+      | inl here ↦ or_left (R x r.name && S r.name z) (composed R S rows x z)
+          (and_from (R x r.name) (S r.name z) (subst (λ w. R x w ≡ true) (sym here.0) h)
+          (subst (λ w. S w z ≡ true) (sym here.0) k))
+      | inr there ↦ or_right (R x r.name && S r.name z) (composed R S rows x z)
+          (composed_from R S rows x y z (n.0, there.1) h k)
     ]
 
-between : (R S : ℕ → ℕ → Bool) (rows : List Row) (x z : ℕ) → composed R S rows x z ≡ true → (y : ℕ) × (R x y ≡ true) × (S y z ≡ true)
+between : (R S : ℕ → ℕ → Bool) (rows : List Row) (x z : ℕ) → composed R S rows x z ≡ true → (y : ℕ) × (R x y ≡ true)
+    × (S y z ≡ true)
 unfolding composed
 between R S [] x z h = absurd (cc)
 between R S (r ∷ rows) x z h =
@@ -47,7 +52,8 @@ between R S (r ∷ rows) x z h =
       | inr there ↦ between R S rows x z there
     ]
 
-module _ (P : List Row) (pinned : ℕ → Bool) (E : ℕ → ℕ → Bool) (population : IsPopulation P) (equal : IsValueEquality P pinned E) where
+module _ (P : List Row) (pinned : ℕ → Bool) (E : ℕ → ℕ → Bool) (population : IsPopulation P)
+    (equal : IsValueEquality P pinned E) where
   keeps : Keeps P pinned E
   keeps x z h =
       let found = (equal x z).0 h in
@@ -70,8 +76,11 @@ module _ (P : List Row) (pinned : ℕ → Bool) (E : ℕ → ℕ → Bool) (popu
   composed_keeps x z h =
       let step = between E E P x z h in
       let first = keeps x step.0 step.1 in
-      let second = keeps step.0 z step.2 in
-      (alike_trans P pinned x step.0 z first.0 second.0, agree_under_trans P pinned E E (composed E E P) through x step.0 z first.1 second.1)
+      let second = keeps step.0 z step.2 in (
+        alike_trans P pinned x step.0 z first.0 second.0,
+        agree_under_trans P pinned E E (composed E E P) through x
+            step.0 z first.1 second.1,
+      )
 
   pub congruence : IsCongruence P pinned E
   unfolding converse

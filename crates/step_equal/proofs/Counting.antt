@@ -17,14 +17,17 @@ use Rattle.step_equal.proofs.Chosen.{row_of_quotient}
 use Rattle.step_equal.proofs.Quotients.{same_head, quotient_population}
 
 -- different names have different images
-images_apart : (h : ℕ → ℕ) (n : ℕ) (rows : List Row) → ((a : ℕ) → IsName rows a → h n ≡ h a → n ≡ a) → AllByRecursion (λ y. (n == y) ≡ false) (names rows) → AllByRecursion (λ y. (h n == y) ≡ false) (map h (names rows))
+images_apart : (h : ℕ → ℕ) (n : ℕ) (rows : List Row) → ((a : ℕ) → IsName rows a → h n ≡ h a → n ≡ a)
+    → AllByRecursion (λ y. (n == y) ≡ false) (names rows) → AllByRecursion (λ y. (h n == y) ≡ false)
+    (map h (names rows))
 images_apart h n [] f a = tt
 images_apart h n (r ∷ rows) f a = (
   ne_eqb (h n) (h r.name) (λ e. eqb-false n r.name a.0 (f r.name (name_here r rows) e)),
   images_apart h n rows (λ b m e. f b (name_later r rows b m) e) a.1,
 )
 
-images_distinct : (h : ℕ → ℕ) (rows : List Row) → ((a b : ℕ) → IsName rows a → IsName rows b → h a ≡ h b → a ≡ b) → IsDistinct (◌==◌) (names rows) → IsDistinct (◌==◌) (map h (names rows))
+images_distinct : (h : ℕ → ℕ) (rows : List Row) → ((a b : ℕ) → IsName rows a → IsName rows b → h a ≡ h b → a ≡ b)
+    → IsDistinct (◌==◌) (names rows) → IsDistinct (◌==◌) (map h (names rows))
 unfolding IsDistinct
 images_distinct h [] f d = tt
 images_distinct h (r ∷ rows) f d = (
@@ -41,27 +44,43 @@ name_member (r ∷ rows) y n =
       | inr there ↦ or_right (y == r.name) (list_any (◌==◌ y) (names rows)) (name_member rows y (n.0, there.1))
     ]
 
-images_members : (h : ℕ → ℕ) (Q rows : List Row) → ((a : ℕ) → IsName rows a → IsName Q (h a)) → (q : ℕ) → list_any (◌==◌ q) (map h (names rows)) ≡ true → list_any (◌==◌ q) (names Q) ≡ true
+images_members : (h : ℕ → ℕ) (Q rows : List Row) → ((a : ℕ) → IsName rows a → IsName Q (h a)) → (q : ℕ)
+    → list_any (◌==◌ q) (map h (names rows)) ≡ true → list_any (◌==◌ q) (names Q) ≡ true
 images_members h Q [] f q e = absurd (cc)
 images_members h Q (r ∷ rows) f q e =
     elim (or_cases (q == h r.name) (list_any (◌==◌ q) (map h (names rows))) e) [
-      | inl here ↦ let n = f r.name (name_here r rows) in name_member Q q (n.0, ap (row_at Q) (eqb-true q (h r.name) here) ∙ n.1)
+      | inl here ↦ let n = f r.name (name_here r rows) in
+          name_member Q q (n.0, ap (row_at Q) (eqb-true q (h r.name) here) ∙ n.1)
       | inr there ↦ images_members h Q rows (λ a m. f a (name_later r rows a m)) q there
     ]
 
 -- names that a map keeps apart are no more than those that it goes to
-pub apart_no_more : (h : ℕ → ℕ) (rows Q : List Row) → IsDistinct (◌==◌) (names rows) → ((a b : ℕ) → IsName rows a → IsName rows b → h a ≡ h b → a ≡ b) → ((a : ℕ) → IsName rows a → IsName Q (h a)) → length rows ≤ length Q
+pub apart_no_more : (h : ℕ → ℕ) (rows Q : List Row) → IsDistinct (◌==◌) (names rows)
+    → ((a b : ℕ) → IsName rows a → IsName rows b → h a ≡ h b → a ≡ b) → ((a : ℕ) → IsName rows a → IsName Q (h a))
+    → length rows ≤ length Q
 apart_no_more h rows Q d f g =
-    let le : length (map h (names rows)) ≤ length (names Q) = length-le_from_is_member nat_eq_equiv (map h (names rows)) (names Q) (images_distinct h rows f d) (images_members h Q rows g) in
-    omega (arith, le, length-map (names rows) h, length-map rows (λ (r : Row). r.name), length-map Q (λ (r : Row). r.name))
+    let le : length (map h (names rows)) ≤ length (names Q) = length-le_from_is_member nat_eq_equiv (map h (names rows))
+    (names Q) (images_distinct h rows f d) (images_members h Q rows g) in
+    omega (
+      arith,
+      le,
+      length-map (names rows) h,
+      length-map rows (λ (r : Row). r.name),
+      length-map Q (λ (r : Row). r.name),
+    )
 
-module _ (P Q : List Row) (pinned : ℕ → Bool) (E : ℕ → ℕ → Bool) (h : ℕ → ℕ) (population : IsPopulation P) (bags : BagsArePinned P pinned) (equal : IsValueEquality P pinned E) (image : IsImage P Q h pinned) where
+module _ (P Q : List Row) (pinned : ℕ → Bool) (E : ℕ → ℕ → Bool) (h : ℕ → ℕ) (population : IsPopulation P)
+    (bags : BagsArePinned P pinned) (equal : IsValueEquality P pinned E) (image : IsImage P Q h pinned) where
   -- different classes have different images
   classes_apart : (a b : ℕ) → IsName (quotient P E) a → IsName (quotient P E) b → h a ≡ h b → a ≡ b
   classes_apart a b n m e =
       let from_a = row_of_quotient P E a n.0 n.1 in
       let from_b = row_of_quotient P E b m.0 m.1 in
-      let met : kernel P h a b ≡ true = kernel_from P h a b (record { left = (from_a.row, from_a.row_is); right = (from_b.row, from_b.row_is); image = e }) in
+      let met : kernel P h a b ≡ true = kernel_from P h a b (record {
+        left = (from_a.row, from_a.row_is);
+        right = (from_b.row, from_b.row_is);
+        image = e;
+      }) in
       let related : E a b ≡ true = (equal a b).1 (kernel P h, met, kernel_keeps P Q pinned h population bags image) in
       sym from_a.first ∙ same_head P pinned E (congruence P pinned E population equal) a b related ∙ from_b.first
 
@@ -72,7 +91,8 @@ module _ (P Q : List Row) (pinned : ℕ → Bool) (E : ℕ → ℕ → Bool) (h 
       (landed.0, landed.1)
 
   pub quotient_least : length (quotient P E) ≤ length Q
-  quotient_least = apart_no_more h (quotient P E) Q (quotient_population P pinned E (congruence P pinned E population equal) population).distinct classes_apart into
+  quotient_least = apart_no_more h (quotient P E) Q
+      (quotient_population P pinned E (congruence P pinned E population equal) population).distinct classes_apart into
 
 pub no_image_has_fewer : NoImageHasFewer
 no_image_has_fewer = quotient_least

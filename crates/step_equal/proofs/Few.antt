@@ -7,8 +7,7 @@ use Rattle.step_equal.specs.Tables.{Table, shares, same_class, class_at, HasMemb
 use Rattle.step_equal.specs.Laws.{RoundsAreFew}
 use Rattle.step_equal.proofs.Lookup.{row_cases, name_here, name_later}
 use Rattle.step_equal.proofs.Heads.{head_found, one_head, head_stays}
-use Rattle.step_equal.proofs.Rounds.{own, sharer_named}
-use Rattle.step_equal.proofs.Standard.{refinement_grounded}
+use Rattle.step_equal.proofs.Rounds.{own, sharer_named, refinement_grounded}
 
 -- how many rows have a name that passes
 pub count : (ℕ → Bool) → List Row → ℕ
@@ -35,21 +34,27 @@ cond_lt true c m n e f h = absurd (cc)
 cond_lt false true m n e f h = omega arith
 cond_lt false false m n e f h = absurd (cc)
 
-count_le : (p q : ℕ → Bool) (rows : List Row) → ((y : ℕ) → IsName rows y → p y ≡ true → q y ≡ true) → count p rows ≤ count q rows
+count_le : (p q : ℕ → Bool) (rows : List Row) → ((y : ℕ) → IsName rows y → p y ≡ true → q y ≡ true)
+    → count p rows ≤ count q rows
 unfolding count
 count_le p q [] f = omega arith
-count_le p q (r ∷ rows) f = cond_le (p r.name) (q r.name) (count p rows) (count q rows) (f r.name (name_here r rows)) (count_le p q rows (λ y n. f y (name_later r rows y n)))
+count_le p q (r ∷ rows) f = cond_le (p r.name) (q r.name) (count p rows) (count q rows) (f r.name (name_here r rows))
+    (count_le p q rows (λ y n. f y (name_later r rows y n)))
 
-count_lt : (p q : ℕ → Bool) (rows : List Row) → ((y : ℕ) → IsName rows y → p y ≡ true → q y ≡ true) → (w : ℕ) → IsName rows w → q w ≡ true → p w ≡ false → suc (count p rows) ≤ count q rows
+count_lt : (p q : ℕ → Bool) (rows : List Row) → ((y : ℕ) → IsName rows y → p y ≡ true → q y ≡ true) → (w : ℕ)
+    → IsName rows w → q w ≡ true → p w ≡ false → suc (count p rows) ≤ count q rows
 unfolding count
 count_lt p q [] f w n h k = absurd (let e = n.1 in cc)
 count_lt p q (r ∷ rows) f w n h k =
     elim (row_cases r rows w n.0 n.1) [
-      | inl here ↦ cond_lt (p r.name) (q r.name) (count p rows) (count q rows) (ap p here.0 ∙ k) (ap q here.0 ∙ h) (count_le p q rows (λ y m. f y (name_later r rows y m)))
-      | inr there ↦ more (p r.name) (q r.name) (f r.name (name_here r rows)) (count_lt p q rows (λ y m. f y (name_later r rows y m)) w (n.0, there.1) h k)
+      | inl here ↦ cond_lt (p r.name) (q r.name) (count p rows) (count q rows) (ap p here.0 ∙ k) (ap q here.0 ∙ h)
+          (count_le p q rows (λ y m. f y (name_later r rows y m)))
+      | inr there ↦ more (p r.name) (q r.name) (f r.name (name_here r rows))
+          (count_lt p q rows (λ y m. f y (name_later r rows y m)) w (n.0, there.1) h k)
     ]
   where
-    more : (b c : Bool) → (b ≡ true → c ≡ true) → suc (count p rows) ≤ count q rows → suc (cond b (suc (count p rows)) (count p rows)) ≤ cond c (suc (count q rows)) (count q rows)
+    more : (b c : Bool) → (b ≡ true → c ≡ true) → suc (count p rows) ≤ count q rows
+        → suc (cond b (suc (count p rows)) (count p rows)) ≤ cond c (suc (count q rows)) (count q rows)
     more true true g i = omega arith
     more true false g i = absurd (let e : false ≡ true = g refl in cc)
     more false true g i = omega arith
@@ -81,28 +86,38 @@ module _ (P : List Row) (E : ℕ → ℕ → ℕ → Bool) (by : ArePartitions P
   top_is_head r x h = eq-eqb (head r (head r x)) (head r x) (same_head r (head r x) x (top r x h).0)
 
   -- names of one class, whose firsts at the next round are firsts now, don't part
-  stay_together : (r : ℕ) → Falls r → (x z : ℕ) → E r x z ≡ true → E (suc r) x x ≡ true → E (suc r) z z ≡ true → is_head r (head (suc r) x) ≡ true → is_head r (head (suc r) z) ≡ true → E (suc r) x z ≡ true
+  stay_together : (r : ℕ) → Falls r → (x z : ℕ) → E r x z ≡ true → E (suc r) x x ≡ true → E (suc r) z z ≡ true
+      → is_head r (head (suc r) x) ≡ true → is_head r (head (suc r) z) ≡ true → E (suc r) x z ≡ true
   stay_together r falls x z h sx sz e f =
       let u : ℕ = head (suc r) x in
       let v : ℕ = head (suc r) z in
       let ux : E (suc r) u x ≡ true = (top (suc r) x sx).0 in
       let vz : E (suc r) v z ≡ true = (top (suc r) z sz).0 in
-      let uv : E r u v ≡ true = by.transitive r u x v (falls u x ux) (by.transitive r x z v h (by.symmetric r v z (falls v z vz))) in
+      let uv : E r u v ≡ true = by.transitive r u x v (falls u x ux)
+      (by.transitive r x z v h (by.symmetric r v z (falls v z vz))) in
       let one : u ≡ v = sym (eqb-true (head r u) u e) ∙ same_head r u v uv ∙ eqb-true (head r v) v f in
       by.transitive (suc r) x u z (by.symmetric (suc r) u x ux) (subst (λ c. E (suc r) c z ≡ true) (sym one) vz)
 
   -- of two names that part, the first of one's class was none before
-  new_head : (r : ℕ) → Falls r → (x z : ℕ) → E r x z ≡ true → E (suc r) x z ≡ false → E (suc r) x x ≡ true → E (suc r) z z ≡ true → (w : ℕ) × IsName P w × (is_head (suc r) w ≡ true) × (is_head r w ≡ false)
+  new_head : (r : ℕ) → Falls r → (x z : ℕ) → E r x z ≡ true → E (suc r) x z ≡ false → E (suc r) x x ≡ true
+      → E (suc r) z z ≡ true → (w : ℕ) × IsName P w × (is_head (suc r) w ≡ true) × (is_head r w ≡ false)
   new_head r falls x z h k sx sz =
-      go (is_head r (head (suc r) x)) (is_head r (head (suc r) z)) refl refl (stay_together r falls x z h sx sz) (top (suc r) x sx).1 (top (suc r) z sz).1 (top_is_head (suc r) x sx) (top_is_head (suc r) z sz)
+      go (is_head r (head (suc r) x)) (is_head r (head (suc r) z)) refl refl (stay_together r falls x z h sx sz)
+      (top (suc r) x sx).1 (top (suc r) z sz).1 (top_is_head (suc r) x sx) (top_is_head (suc r) z sz)
     where
-      go : (c d : Bool) → is_head r (head (suc r) x) ≡ c → is_head r (head (suc r) z) ≡ d → (is_head r (head (suc r) x) ≡ true → is_head r (head (suc r) z) ≡ true → E (suc r) x z ≡ true) → IsName P (head (suc r) x) → IsName P (head (suc r) z) → is_head (suc r) (head (suc r) x) ≡ true → is_head (suc r) (head (suc r) z) ≡ true → (w : ℕ) × IsName P w × (is_head (suc r) w ≡ true) × (is_head r w ≡ false)
+      go : (c d : Bool) → is_head r (head (suc r) x) ≡ c → is_head r (head (suc r) z) ≡ d
+          → (is_head r (head (suc r) x) ≡ true → is_head r (head (suc r) z) ≡ true → E (suc r) x z ≡ true)
+          → IsName P (head (suc r) x) → IsName P (head (suc r) z) → is_head (suc r) (head (suc r) x) ≡ true
+          → is_head (suc r) (head (suc r) z) ≡ true → (w : ℕ) × IsName P w × (is_head (suc r) w ≡ true)
+          × (is_head r w ≡ false)
       go false d e f join nx nz hx hz = (head (suc r) x, nx, hx, e)
       go true false e f join nx nz hx hz = (head (suc r) z, nz, hz, f)
       go true true e f join nx nz hx hz = absurd (let yes = join e f in cc)
 
   -- each round has more heads than there are rounds before it
-  pub many_heads : (last : ℕ) → ((r : ℕ) → r < last → Falls r) → ((r : ℕ) → r ≤ last → (x : ℕ) → IsName P x → E r x x ≡ true) → ((r : ℕ) → r < last → (x : ℕ) × (z : ℕ) × (E r x z ≡ true) × (E (suc r) x z ≡ false)) → (r : ℕ) → r ≤ last → r ≤ count (is_head r) P
+  pub many_heads : (last : ℕ) → ((r : ℕ) → r < last → Falls r) → ((r : ℕ) → r ≤ last → (x : ℕ) → IsName P x
+      → E r x x ≡ true) → ((r : ℕ) → r < last → (x : ℕ) × (z : ℕ) × (E r x z ≡ true) × (E (suc r) x z ≡ false))
+      → (r : ℕ) → r ≤ last → r ≤ count (is_head r) P
   many_heads last falls self parts zero h = omega arith
   many_heads last falls self parts (suc r) h =
       let less : r < last = omega arith in
@@ -110,9 +125,11 @@ module _ (P : List Row) (E : ℕ → ℕ → ℕ → Bool) (by : ArePartitions P
       let parted = parts r less in
       let nx = by.named r parted.0 parted.1 parted.2 in
       let nz = by.named r parted.1 parted.0 (by.symmetric r parted.0 parted.1 parted.2) in
-      let new = new_head r (falls r less) parted.0 parted.1 parted.2 parted.3 (self (suc r) h parted.0 nx) (self (suc r) h parted.1 nz) in
+      let new = new_head r (falls r less) parted.0 parted.1 parted.2 parted.3 (self (suc r) h parted.0 nx)
+      (self (suc r) h parted.1 nz) in
       let stays : (y : ℕ) → IsName P y → is_head r y ≡ true → is_head (suc r) y ≡ true =
-      λ y n e. eq-eqb (head (suc r) y) y (head_stays (E r) (E (suc r)) (falls r less) (names P) y (self (suc r) h y n) (eqb-true (head r y) y e)) in
+      λ y n e. eq-eqb (head (suc r) y) y (head_stays (E r) (E (suc r)) (falls r less) (names P) y (self (suc r) h y n)
+      (eqb-true (head r y) y e)) in
       let more = count_lt (is_head r) (is_head (suc r)) P stays new.0 new.1 new.2 new.3 in
       omega (arith, before, more)
 

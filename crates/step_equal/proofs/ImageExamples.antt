@@ -1,15 +1,13 @@
 -- Images and quotients by examples.
-use Rattle.std.proofs.Common.{◌≡◌, ℕ, Bool, true, cond, List, [], ◌∷◌, Some, None, refl, ◌∙◌, eqb-true, length, codes}
+use Rattle.std.proofs.Common.{◌≡◌, ℕ, Bool, true, cond, List, [], ◌∷◌, Some, None, refl, ◌∙◌, eqb-true, length}
 use Rattle.std.specs.Prelude.{◌==◌, ◌&&◌, ◌||◌}
-use Rattle.step_literals.specs.declared.literal.items.Item.TheVariants.{Code}
-use Rattle.step_equal.specs.Leaves.{text}
-use Rattle.step_equal.specs.Values.{leaf, AgreeEach, reference, Values, none, more, unchanged}
+use Rattle.step_equal.specs.Values.{AgreeEach, reference, Values, none, more, unchanged}
 use Rattle.step_equal.specs.References.{EachReferenceOf}
 use Rattle.step_equal.specs.Rows.{Row, row_at, IsName, RowsAgree, renamed_row}
 use Rattle.step_equal.specs.Keeping.{ValueEqual}
 use Rattle.step_equal.specs.Images.{IsImage, quotient}
 use Rattle.step_equal.proofs.References.{each_reordered}
-use Rattle.step_equal.proofs.Samples.{each_row, row, free, point, placement, node, bundle, twice}
+use Rattle.step_equal.proofs.Samples.{each_row, note, free, point, placement, node, bundle, twice}
 use Rattle.step_equal.proofs.ValueExamples.{differ, agree_of, bundles, cycles}
 
 abbrev once : List Row
@@ -49,7 +47,10 @@ once_is_an_image = record {
       ),
     ),
   );
-  onto = λ y n. each_row (IsReached twice to_first) once ((1, (point 1 0, refl), refl), ((3, (placement 3 1, refl), refl), tt)) y n.0 n.1;
+  onto = λ y n. each_row (IsReached twice to_first) once (
+    (1, (point 1 0, refl), refl),
+    ((3, (placement 3 1, refl), refl), tt),
+  ) y n.0 n.1;
   alone = λ x z n m pinned e. absurd (cc);
 }
 
@@ -84,7 +85,11 @@ itself_is_an_image pinned = record {
 }
 
 empty_is_an_image : (h : ℕ → ℕ) (pinned : ℕ → Bool) → IsImage [] [] h pinned
-empty_is_an_image h pinned = record { lands = λ x p n. absurd (cc); onto = λ y n. absurd (let e = n.1 in cc); alone = λ x z n m pin e. absurd (let f = n.1 in cc) }
+empty_is_an_image h pinned = record {
+  lands = λ x p n. absurd (cc);
+  onto = λ y n. absurd (let e = n.1 in cc);
+  alone = λ x z n m pin e. absurd (let f = n.1 in cc);
+}
 
 -- cycles of two lengths merge into one of length one
 one_cycle : quotient cycles (λ x z. true) ≡ node 1 1 ∷ []
@@ -96,9 +101,10 @@ bundles_merged = refl
 
 -- `#5=NOTE('a',#4);`: where #4 and #5 are pinned, #1 and #2 merge, and #4 refers to the first of them
 abbrev noted : List Row
-noted = point 1 0 ∷ point 2 0 ∷ placement 3 1 ∷ placement 4 2 ∷ row 5 (codes "NOTE") (more (leaf (text (Code 97 ∷ []))) (more (reference 4) none)) ∷ []
+noted = point 1 0 ∷ point 2 0 ∷ placement 3 1 ∷ placement 4 2 ∷ note 5 4 ∷ []
 
-noted_merged : quotient noted (λ x z. (x == z) || ((x == 1) && (z == 2))) ≡ point 1 0 ∷ placement 3 1 ∷ placement 4 1 ∷ row 5 (codes "NOTE") (more (leaf (text (Code 97 ∷ []))) (more (reference 4) none)) ∷ []
+noted_merged : quotient noted (λ x z. (x == z) || ((x == 1) && (z == 2))) ≡ point 1 0 ∷ placement 3 1 ∷ placement 4 1
+    ∷ note 5 4 ∷ []
 noted_merged = refl
 
 -- Where bags refer to free instances, an image can have fewer rows than the quotient by value equality: #1 and #2
@@ -110,7 +116,10 @@ abbrev tight : List Row
 tight = point 1 0 ∷ bundle 3 1 1 ∷ []
 
 same_bundle : (x y z : ℕ) → (z == z) ≡ true → RowsAgree (bundle x z z) (bundle y z z)
-same_bundle x y z e = record { same_kind = refl; values_agree = ((more (reference z) (more (reference z) none), unchanged _, (e, (e, tt))), tt) }
+same_bundle x y z e = record {
+  same_kind = refl;
+  values_agree = ((more (reference z) (more (reference z) none), unchanged _, (e, (e, tt))), tt);
+}
 
 tight_is_an_image : IsImage loose tight to_first free
 tight_is_an_image = record {
@@ -127,7 +136,10 @@ tight_is_an_image = record {
       ),
     ),
   );
-  onto = λ y n. each_row (IsReached loose to_first) tight ((1, (point 1 0, refl), refl), ((3, (bundle 3 1 1, refl), refl), tt)) y n.0 n.1;
+  onto = λ y n. each_row (IsReached loose to_first) tight (
+    (1, (point 1 0, refl), refl),
+    ((3, (bundle 3 1 1, refl), refl), tt),
+  ) y n.0 n.1;
   alone = λ x z n m pinned e. absurd (cc);
 }
 
@@ -135,7 +147,8 @@ three_rows : length (quotient loose (λ x z. (x == z) || ((x == 1) && (z == 2)) 
 three_rows = refl
 
 -- a set of #1 alone isn't one of #2 alone
-sets_differ : (us : Values) → EachReferenceOf (λ y. y ≡ 2) us → AgreeEach (◌==◌) (more (reference 1) (more (reference 1) none)) us → ⊥
+sets_differ : (us : Values) → EachReferenceOf (λ y. y ≡ 2) us
+    → AgreeEach (◌==◌) (more (reference 1) (more (reference 1) none)) us → ⊥
 sets_differ none r a = a
 sets_differ (more (reference y) us) r a = differ 1 2 refl (eqb-true 1 y a.0 ∙ r.0)
 sets_differ (more _ us) r a = absurd a.0

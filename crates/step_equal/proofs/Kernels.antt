@@ -36,13 +36,19 @@ module _ (P : List Row) (pinned : ℕ → Bool) (population : IsPopulation P) (b
   abbrev IsApart : (ℕ → ℕ) → Type 0
   IsApart h = (y w : ℕ) → IsName P y → IsName P w → (pinned y ≡ true) ⊎ (pinned w ≡ true) → h y ≡ h w → y ≡ w
 
-  pub reflected_values : (h : ℕ → ℕ) (m l : ℕ → ℕ → Bool) → IsApart h → ((y w : ℕ) → IsName P y → IsName P w → m (h y) (h w) ≡ true → l y w ≡ true) → (x z : ℕ) (n : IsName P x) (k : IsName P z) → AgreeEach m (renamed_each h n.0.values) (renamed_each h k.0.values) → AgreeEach l n.0.values k.0.values
+  pub reflected_values : (h : ℕ → ℕ) (m l : ℕ → ℕ → Bool) → IsApart h
+      → ((y w : ℕ) → IsName P y → IsName P w → m (h y) (h w) ≡ true → l y w ≡ true) → (x z : ℕ) (n : IsName P x)
+      (k : IsName P z) → AgreeEach m (renamed_each h n.0.values) (renamed_each h k.0.values)
+      → AgreeEach l n.0.values k.0.values
   reflected_values h m l apart f x z n k agree =
       let closed = population.closed x n.0 n.1 in
-      reflected_each h (λ y. IsName P y × (pinned y ≡ true)) (IsName P) (λ y w b i e. apart y w b.0 i (inl b.1) e) m l (IsName P) f n.0.values k.0.values
-      closed (bags_both_of (IsName P) (λ y. pinned y ≡ true) n.0.values closed (bags x n.0 n.1)) (population.closed z k.0 k.1) agree
+      reflected_each h (λ y. IsName P y × (pinned y ≡ true)) (IsName P) (λ y w b i e. apart y w b.0 i (inl b.1) e) m l
+      (IsName P) f n.0.values k.0.values
+      closed (bags_both_of (IsName P) (λ y. pinned y ≡ true) n.0.values closed (bags x n.0 n.1))
+      (population.closed z k.0 k.1) agree
 
-module _ (P Q : List Row) (pinned : ℕ → Bool) (h : ℕ → ℕ) (population : IsPopulation P) (bags : BagsArePinned P pinned) (image : IsImage P Q h pinned) where
+module _ (P Q : List Row) (pinned : ℕ → Bool) (h : ℕ → ℕ) (population : IsPopulation P) (bags : BagsArePinned P pinned)
+    (image : IsImage P Q h pinned) where
   apart : IsApart P pinned population bags h
   apart y w n m (inl py) e = sym (image.alone w y m n py (sym e))
   apart y w n m (inr pw) e = image.alone y w n m pw e
@@ -60,8 +66,12 @@ module _ (P Q : List Row) (pinned : ℕ → Bool) (h : ℕ → ℕ) (population 
       let qx = image.lands x m.left.0 m.left.1 in
       let qz = image.lands z m.right.0 m.right.1 in
       let one : qx.0 ≡ qz.0 = same_row (row_at Q (h x)) qx.1 (ap (row_at Q) m.image ∙ qz.1) in
-      let right : AgreeEach (◌==◌) (renamed_each h m.right.0.values) qx.0.values = subst (λ (q : Row). AgreeEach (◌==◌) (renamed_each h m.right.0.values) q.values) (sym one) qz.2.values_agree in
-      let both = agree_each_trans (◌==◌) (◌==◌) (◌==◌) eqb_trans (renamed_each h m.left.0.values) qx.0.values (renamed_each h m.right.0.values) qx.2.values_agree (agree_each_sym (renamed_each h m.right.0.values) qx.0.values right) in (
+      let right : AgreeEach (◌==◌) (renamed_each h m.right.0.values) qx.0.values =
+      subst (λ (q : Row). AgreeEach (◌==◌) (renamed_each h m.right.0.values) q.values) (sym one) qz.2.values_agree
+      in
+      let both = agree_each_trans (◌==◌) (◌==◌) (◌==◌) eqb_trans (renamed_each h m.left.0.values) qx.0.values
+      (renamed_each h m.right.0.values) qx.2.values_agree (agree_each_sym (renamed_each h m.right.0.values)
+      qx.0.values right) in (
         record {
           left = m.left.0;
           right = m.right.0;
@@ -75,7 +85,8 @@ module _ (P Q : List Row) (pinned : ℕ → Bool) (h : ℕ → ℕ) (population 
           right = m.right.0;
           left_is = m.left.1;
           right_is = m.right.1;
-          values_agree = reflected_values P pinned population bags h (◌==◌) (under pinned (kernel P h)) apart kernel_under x z m.left m.right both;
+          values_agree = reflected_values P pinned population bags h (◌==◌) (under pinned (kernel P h)) apart
+              kernel_under x z m.left m.right both;
         },
       )
 
@@ -86,7 +97,11 @@ pub kernels_are_congruences : KernelsAreCongruences
 kernels_are_congruences P Q pinned h population bags image = record {
   keeps = kernel_keeps P Q pinned h population bags image;
   reflexive = λ x n. kernel_from P h x x (record { left = n; right = n; image = refl });
-  symmetric = λ x z k. let m = meet_from P h x z k in kernel_from P h z x (record { left = m.right; right = m.left; image = sym m.image });
+  symmetric = λ x z k. let m = meet_from P h x z k in kernel_from P h z x (record {
+    left = m.right;
+    right = m.left;
+    image = sym m.image;
+  });
   transitive = λ x y z k l.
       let m = meet_from P h x y k in
       let n = meet_from P h y z l in

@@ -11,12 +11,16 @@ use Rattle.std.proofs.lemmas.Slice.Eq.{bytes_eq-Decides}
 use Rattle.step_equal.specs.Values.{Value, leaf, reference, typed, sequence, bag, Values, none, more}
 use Rattle.step_equal.specs.References.{renamed, renamed_each}
 use Rattle.step_equal.specs.Rows.{Row, names, row_at, IsName, RowsAgree, renamed_row}
-use Rattle.step_equal.specs.Tests.{each_test, same_each_test}
+use Rattle.step_equal.specs.ComputedAgreement.{each_test, same_each_test}
 use Rattle.step_equal.specs.Maps.{led_by, is_key, IsMapImage}
-use Rattle.step_equal.specs.Checks.{Lands, IsOnto, LeavesAlone, row_lands, source, is_source}
-use Rattle.step_equal.proofs.Lookup.{row_cases, held_name, name_held, name_here, name_later}
-use Rattle.step_equal.proofs.EachRow.{all_rows, rows_all, all_names, names_all, row_name}
+use Rattle.step_equal.specs.ComputedImages.{IsOnto, LeavesAlone, row_lands, source, is_source}
+use Rattle.step_equal.proofs.Lookup.{row_cases, held_name, name_held, name_here, name_later, all_rows, rows_all, all_names, names_all, row_name}
 use Rattle.step_equal.proofs.Deciding.{each_decides, each_sound, each_complete}
+
+-- each row of P is led to one of Q that agrees with it
+abbrev pub Lands : List Row → List Row → (ℕ → ℕ) → Type 0
+Lands P Q h = (x : ℕ) (p : Row) → row_at P x ≡ Some p → (q : Row) × (row_at Q (h x) ≡ Some q)
+    × RowsAgree (renamed_row h p) q
 
 -- the keys of a map
 exact : (a b : ℕ) → eq_by_cmp nat_cmp a b ≡ true → a ≡ b
@@ -26,26 +30,35 @@ itself : (a : ℕ) → eq_by_cmp nat_cmp a a ≡ true
 itself a = grind (arith, nat_tests)
 
 module _ (test : ℕ → Bool) where
-  all_keys : (ks : List ℕ) → list_all test ks ≡ true → (y : ℕ) → list_any (eq_by_cmp nat_cmp y) ks ≡ true → test y ≡ true
+  all_keys : (ks : List ℕ) → list_all test ks ≡ true → (y : ℕ) → list_any (eq_by_cmp nat_cmp y) ks ≡ true
+      → test y ≡ true
   all_keys [] h y k = absurd (cc)
   all_keys (x ∷ ks) h y k =
       let parts = and_parts (test x) (list_all test ks) h in
-      elim (or_cases (eq_by_cmp nat_cmp y x) (list_any (eq_by_cmp nat_cmp y) ks) k) [ inl here ↦ ap test (exact y x here) ∙ parts.0 | inr there ↦ all_keys ks parts.1 y there ]
+      elim (or_cases (eq_by_cmp nat_cmp y x) (list_any (eq_by_cmp nat_cmp y) ks) k)
+      [ inl here ↦ ap test (exact y x here) ∙ parts.0 | inr there ↦ all_keys ks parts.1 y there ]
 
-  keys_all : (ks : List ℕ) → ((y : ℕ) → list_any (eq_by_cmp nat_cmp y) ks ≡ true → test y ≡ true) → list_all test ks ≡ true
+  keys_all : (ks : List ℕ) → ((y : ℕ) → list_any (eq_by_cmp nat_cmp y) ks ≡ true → test y ≡ true)
+      → list_all test ks ≡ true
   keys_all [] f = refl
   keys_all (x ∷ ks) f =
-      and_from (test x) (list_all test ks) (f x (or_left (eq_by_cmp nat_cmp x x) (list_any (eq_by_cmp nat_cmp x) ks) (itself x)))
+      and_from (test x) (list_all test ks)
+      (f x (or_left (eq_by_cmp nat_cmp x x) (list_any (eq_by_cmp nat_cmp x) ks) (itself x)))
       (keys_all ks (λ y k. f y (or_right (eq_by_cmp nat_cmp y x) (list_any (eq_by_cmp nat_cmp y) ks) k)))
 
 module _ (P : List Row) (m : BTreeMap ℕ ℕ) (has : (y : ℕ) → is_key m y ≡ list_any (eq_by_cmp nat_cmp y) (keys m)) where
-  pub domain_where : list_all (λ y. is_some (row_at P y)) (keys m) ≡ true → (r : Bool) → r ≡ list_all (λ p. is_key m p.name) P → (r ≡ true) ↔ ((y : ℕ) → (is_key m y ≡ true) ↔ IsName P y)
+  pub domain_where : list_all (λ y. is_some (row_at P y)) (keys m) ≡ true → (r : Bool)
+      → r ≡ list_all (λ p. is_key m p.name) P → (r ≡ true) ↔ ((y : ℕ) → (is_key m y ≡ true) ↔ IsName P y)
   domain_where h r e = (
-    λ k y. (λ key. held_name P y (all_keys (λ y. is_some (row_at P y)) (keys m) h y (sym (has y) ∙ key)), all_names (is_key m) P (sym e ∙ k) y),
+    λ k y. (
+      λ key. held_name P y (all_keys (λ y. is_some (row_at P y)) (keys m) h y (sym (has y) ∙ key)),
+      all_names (is_key m) P (sym e ∙ k) y,
+    ),
     λ f. e ∙ names_all (is_key m) P (λ y n. (f y).1 n),
   )
 
-  pub no_domain_where : list_all (λ y. is_some (row_at P y)) (keys m) ≡ false → (false ≡ true) ↔ ((y : ℕ) → (is_key m y ≡ true) ↔ IsName P y)
+  pub no_domain_where : list_all (λ y. is_some (row_at P y)) (keys m) ≡ false → (false ≡ true)
+      ↔ ((y : ℕ) → (is_key m y ≡ true) ↔ IsName P y)
   no_domain_where h = (
     λ e. absurd (cc),
     λ f. sym h ∙ keys_all (λ y. is_some (row_at P y)) (keys m) (λ y k. name_held P y ((f y).0 (has y ∙ k))),
@@ -68,59 +81,88 @@ module _ (h : ℕ → ℕ) where
         | inr there ↦ or_right (h s.name == y) (list_any (λ p. h p.name == y) P) (led_any P y x p there.1 e)
       ]
 
-  pub onto_where : (P Q : List Row) (reached : ℕ → Bool) → ((y : ℕ) → reached y ≡ list_any (λ p. h p.name == y) P) → (r : Bool) → r ≡ list_all (λ q. reached q.name) Q → (r ≡ true) ↔ IsOnto P Q h
+  pub onto_where : (P Q : List Row) (reached : ℕ → Bool) → ((y : ℕ) → reached y ≡ list_any (λ p. h p.name == y) P)
+      → (r : Bool) → r ≡ list_all (λ q. reached q.name) Q → (r ≡ true) ↔ IsOnto P Q h
   onto_where P Q reached is r e = (
     λ k y n. any_led P y (sym (is y) ∙ all_names reached Q (sym e ∙ k) y n),
     λ onto. e ∙ names_all reached Q (λ y n. let x = onto y n in is y ∙ led_any P y x.0 x.1.0 x.1.1 x.2),
   )
 
-  lands_at : (p : Row) (o : Option Row) → row_lands h p o ≡ true → (q : Row) × (o ≡ Some q) × RowsAgree (renamed_row h p) q
+  lands_at : (p : Row) (o : Option Row) → row_lands h p o ≡ true → (q : Row) × (o ≡ Some q)
+      × RowsAgree (renamed_row h p) q
   lands_at p None e = absurd (cc)
   lands_at p (Some q) e =
-      let parts = and_parts (each_test bytes_eq p.types q.types) (same_each_test (renamed_each h p.values) q.values) e in
-      (q, refl, record { same_kind = (each_decides bytes_eq bytes_eq-Decides p.types q.types).0 parts.0; values_agree = each_sound (renamed_each h p.values) q.values parts.1 })
+      let parts = and_parts (each_test bytes_eq p.types q.types) (same_each_test (renamed_each h p.values) q.values) e
+      in (
+        q,
+        refl,
+        record {
+          same_kind = (each_decides bytes_eq bytes_eq-Decides p.types q.types).0 parts.0;
+          values_agree = each_sound (renamed_each h p.values) q.values parts.1;
+        },
+      )
 
   landed : (p q : Row) (o : Option Row) → o ≡ Some q → RowsAgree (renamed_row h p) q → row_lands h p o ≡ true
   landed p q o at agree =
       ap (row_lands h p) at
-      ∙ and_from (each_test bytes_eq p.types q.types) (same_each_test (renamed_each h p.values) q.values) ((each_decides bytes_eq bytes_eq-Decides p.types q.types).1 agree.same_kind)
+      ∙ and_from (each_test bytes_eq p.types q.types) (same_each_test (renamed_each h p.values) q.values)
+      ((each_decides bytes_eq bytes_eq-Decides p.types q.types).1 agree.same_kind)
       (each_complete (renamed_each h p.values) q.values agree.values_agree)
 
-  pub lands_where : (P Q : List Row) → IsDistinct (◌==◌) (names P) → (r : Bool) → r ≡ list_all (λ p. row_lands h p (row_at Q (h p.name))) P → (r ≡ true) ↔ Lands P Q h
+  pub lands_where : (P Q : List Row) → IsDistinct (◌==◌) (names P) → (r : Bool)
+      → r ≡ list_all (λ p. row_lands h p (row_at Q (h p.name))) P → (r ≡ true) ↔ Lands P Q h
   lands_where P Q distinct r e = (
-    λ k x p n. lands_at p (row_at Q (h x)) (ap (λ y. row_lands h p (row_at Q (h y))) (sym (row_name P x p n)) ∙ all_rows (λ p. row_lands h p (row_at Q (h p.name))) P (sym e ∙ k) x p n),
+    λ k x p n. lands_at p (row_at Q (h x)) (ap (λ y. row_lands h p (row_at Q (h y))) (sym (row_name P x p n))
+        ∙ all_rows (λ p. row_lands h p (row_at Q (h p.name))) P (sym e ∙ k) x p n),
     λ lands. e
-        ∙ rows_all (λ p. row_lands h p (row_at Q (h p.name))) P distinct (λ x p n. let q = lands x p n in landed p q.0 (row_at Q (h p.name)) (ap (λ y. row_at Q (h y)) (row_name P x p n) ∙ q.1) q.2),
+        ∙ rows_all (λ p. row_lands h p (row_at Q (h p.name))) P distinct (λ x p n. let q = lands x p n in
+        landed p q.0 (row_at Q (h p.name)) (ap (λ y. row_at Q (h y)) (row_name P x p n) ∙ q.1) q.2),
   )
 
   module _ (pinned : ℕ → Bool) where
     -- what is found is what was known before, or a pinned row that is led there
-    source_is : (P : List Row) (known : Option ℕ) (y z : ℕ) → source h pinned P known y ≡ Some z → (known ≡ Some z) ⊎ ((pinned z ≡ true) × (h z ≡ y) × IsName P z)
+    source_is : (P : List Row) (known : Option ℕ) (y z : ℕ) → source h pinned P known y ≡ Some z → (known ≡ Some z)
+        ⊎ ((pinned z ≡ true) × (h z ≡ y) × IsName P z)
     source_is [] known y z e = inl e
-    source_is (s ∷ P) known y z e = elim (source_is P (cond (pinned s.name && (h s.name == y)) (Some s.name) known) y z e) [ inl k ↦ here (pinned s.name && (h s.name == y)) refl k | inr later ↦ inr (later.0, later.1, name_later s P z later.2) ]
+    source_is (s ∷ P) known y z e = elim (source_is P (cond (pinned s.name && (h s.name == y)) (Some s.name) known) y z
+        e) [
+          | inl k ↦ here (pinned s.name && (h s.name == y)) refl k
+          | inr later ↦ inr
+              (later.0, later.1, name_later s P z later.2)
+        ]
       where
-        here : (b : Bool) → (pinned s.name && (h s.name == y)) ≡ b → cond b (Some s.name) known ≡ Some z → (known ≡ Some z) ⊎ ((pinned z ≡ true) × (h z ≡ y) × IsName (s ∷ P) z)
+        here : (b : Bool) → (pinned s.name && (h s.name == y)) ≡ b → cond b (Some s.name) known ≡ Some z
+            → (known ≡ Some z) ⊎ ((pinned z ≡ true) × (h z ≡ y) × IsName (s ∷ P) z)
         here true t k =
             let parts = and_parts (pinned s.name) (h s.name == y) t in
             let same : s.name ≡ z = cc in
-            inr (ap pinned (sym same) ∙ parts.0, ap h (sym same) ∙ eqb-true (h s.name) y parts.1, subst (IsName (s ∷ P)) same (name_here s P))
+            inr (
+              ap pinned (sym same) ∙ parts.0,
+              ap h (sym same) ∙ eqb-true (h s.name) y parts.1,
+              subst (IsName (s ∷ P))
+                  same (name_here s P),
+            )
         here false t k = inl k
 
     -- what is known stays known
-    known_stays : (P : List Row) (known : Option ℕ) (y : ℕ) → is_some known ≡ true → is_some (source h pinned P known y) ≡ true
+    known_stays : (P : List Row) (known : Option ℕ) (y : ℕ) → is_some known ≡ true
+        → is_some (source h pinned P known y) ≡ true
     known_stays [] known y e = e
-    known_stays (s ∷ P) known y e = known_stays P (cond (pinned s.name && (h s.name == y)) (Some s.name) known) y (go (pinned s.name && (h s.name == y)))
+    known_stays (s ∷ P) known y e = known_stays P (cond (pinned s.name && (h s.name == y)) (Some s.name) known) y
+        (go (pinned s.name && (h s.name == y)))
       where
         go : (b : Bool) → is_some (cond b (Some s.name) known) ≡ true
         go true = refl
         go false = e
 
-    source_known : (P : List Row) (known : Option ℕ) (z : ℕ) (p : Row) → row_at P z ≡ Some p → pinned z ≡ true → is_some (source h pinned P known (h z)) ≡ true
+    source_known : (P : List Row) (known : Option ℕ) (z : ℕ) (p : Row) → row_at P z ≡ Some p → pinned z ≡ true
+        → is_some (source h pinned P known (h z)) ≡ true
     source_known [] known z p n e = absurd (cc)
     source_known (s ∷ P) known z p n e =
         elim (row_cases s P z p n) [
           | inl here ↦ known_stays P (cond (pinned s.name && (h s.name == h z)) (Some s.name) known) (h z)
-              (ap (λ b. is_some (cond b (Some s.name) known)) (and_from (pinned s.name) (h s.name == h z) (ap pinned here.0 ∙ e) (eq-eqb (h s.name) (h z) (ap h here.0))))
+              (ap (λ b. is_some (cond b (Some s.name) known)) (and_from (pinned s.name) (h s.name == h z)
+              (ap pinned here.0 ∙ e) (eq-eqb (h s.name) (h z) (ap h here.0))))
           | inr there ↦ source_known P (cond (pinned s.name && (h s.name == h z)) (Some s.name) known) z p there.1 e
         ]
 
@@ -145,7 +187,8 @@ module _ (h : ℕ → ℕ) where
             | inr found ↦ eq-eqb w x (sym (apart x w n found.2 found.0 (sym found.1)))
           ]
 
-      pub alone_where : (r : Bool) → r ≡ list_all (λ p. is_source (g (h p.name)) p.name) P → (r ≡ true) ↔ LeavesAlone P h pinned
+      pub alone_where : (r : Bool) → r ≡ list_all (λ p. is_source (g (h p.name)) p.name) P → (r ≡ true)
+          ↔ LeavesAlone P h pinned
       alone_where r e = (
         λ k. alone (all_names (λ x. is_source (g (h x)) x) P (sym e ∙ k)),
         λ apart. e ∙ names_all (λ x. is_source (g (h x)) x) P (λ x n. its_source apart x n (g (h x)) refl),
@@ -164,16 +207,28 @@ mutual
   renamed_each_itself none = refl
   renamed_each_itself (more v vs) = let first = renamed_itself v in let rest = renamed_each_itself vs in cc
 
-lands_where_words : (h : ℕ → ℕ) (p q : Row) (o : Option Row) (r : Bool) → Some q ≡ o → each_test bytes_eq p.types q.types ≡ true → r ≡ same_each_test (renamed_each h p.values) (renamed_each (λ y. y) q.values) → r ≡ row_lands h p o
+lands_where_words : (h : ℕ → ℕ) (p q : Row) (o : Option Row) (r : Bool) → Some q ≡ o → each_test bytes_eq p.types
+    q.types ≡ true → r ≡ same_each_test (renamed_each h p.values) (renamed_each (λ y. y) q.values) → r ≡ row_lands h p o
 lands_where_words h p q o r found words e =
-    e ∙ ap (same_each_test (renamed_each h p.values)) (renamed_each_itself q.values) ∙ ap (λ b. b && same_each_test (renamed_each h p.values) q.values) (sym words) ∙ ap (row_lands h p) found
+    e ∙ ap (same_each_test (renamed_each h p.values)) (renamed_each_itself q.values)
+    ∙ ap (λ b. b && same_each_test (renamed_each h p.values) q.values) (sym words) ∙ ap (row_lands h p) found
 
-pub lands_if_words : {E : Type 0} (h : ℕ → ℕ) (p q : Row) (o : Option Row) (r : Result Bool E) → Some q ≡ o → each_test bytes_eq p.types q.types ≡ true → IfOk r (λ b. b ≡ same_each_test (renamed_each h p.values) (renamed_each (λ y. y) q.values)) → IfOk r (λ b. b ≡ row_lands h p o)
+pub lands_if_words : {E : Type 0} (h : ℕ → ℕ) (p q : Row) (o : Option Row) (r : Result Bool E) → Some q ≡ o
+    → each_test bytes_eq p.types q.types ≡ true
+    → IfOk r (λ b. b ≡ same_each_test (renamed_each h p.values) (renamed_each (λ y. y) q.values))
+    → IfOk r (λ b. b ≡ row_lands h p o)
 lands_if_words h p q o (Ok b) found words f = lands_where_words h p q o b found words f
 lands_if_words h p q o (Err e) found words f = f
 
-pub image_where : {E : Type 0} (P Q : List Row) (m : BTreeMap ℕ ℕ) (pinned : ℕ → Bool) (r : Result Bool E) → ((y : ℕ) → (is_key m y ≡ true) ↔ IsName P y) → Lands P Q (led_by m) → IsOnto P Q (led_by m) → IfOk r (λ b. (b ≡ true) ↔ LeavesAlone P (led_by m) pinned)
+pub image_where : {E : Type 0} (P Q : List Row) (m : BTreeMap ℕ ℕ) (pinned : ℕ → Bool) (r : Result Bool E)
+    → ((y : ℕ) → (is_key m y ≡ true) ↔ IsName P y) → Lands P Q (led_by m) → IsOnto P Q (led_by m)
+    → IfOk r (λ b. (b ≡ true) ↔ LeavesAlone P (led_by m) pinned)
     → IfOk r (λ b. (b ≡ true) ↔ IsMapImage P Q m pinned)
-image_where P Q m pinned (Ok b) domain lands onto f =
-    (λ e. record { domain = domain; image = record { lands = lands; onto = onto; alone = f.0 e } }, λ image. f.1 image.image.alone)
+image_where P Q m pinned (Ok b) domain lands onto f = (
+  λ e. record {
+    domain = domain;
+    image = record { lands = lands; onto = onto; alone = f.0 e };
+  },
+  λ image. f.1 image.image.alone,
+)
 image_where P Q m pinned (Err e) domain lands onto f = f

@@ -11,8 +11,6 @@ pub mod Chosen
 pub mod Quotients
 pub mod Counting
 pub mod Reduced
-pub mod Stays
-pub mod Standard
 pub mod Few
 pub mod Outputs
 pub mod Ancestors
@@ -23,18 +21,13 @@ pub mod ValueExamples
 pub mod ImageExamples
 pub mod TableExamples
 pub mod StandardExample
-pub mod Climbing
 pub mod Placing
-pub mod EachRow
-pub mod Closed
 pub mod Landing
 pub mod Walks
 pub mod Deciding
 pub mod Sorting
 pub mod NormalForms
-pub mod Forming
 pub mod Settling
-pub mod AgreeBy
 pub mod Parting
 pub mod Births
 pub mod Classes

@@ -1,13 +1,19 @@
 -- The row of a name.
-use Rattle.std.proofs.Common.{◌≡◌, ℕ, Bool, true, false, cond, List, ◌∷◌, Option, Some, None, refl, ◌∙◌, ap, ◌⊎◌, inl, inr, eqb-true, eq-eqb}
-use Rattle.std.specs.Prelude.{◌==◌, is_some}
-use Rattle.step_equal.specs.Rows.{Row, row_at, IsName}
+use Rattle.std.proofs.Common.{◌≡◌, ℕ, Bool, true, false, cond, List, ◌∷◌, Option, Some, None, refl, ◌∙◌, ap, ◌⊎◌, inl, inr, eqb-true, eq-eqb, ◌<◌, suc, ◌+◌, length, get_or, drop, add-one, drop-cons, [], nat_eq, sym, subst}
+use Rattle.std.specs.Prelude.{◌==◌, is_some, ◌&&◌}
+use Rattle.std.specs.List.{IsDistinct, AllByRecursion, list_all}
+use Rattle.std.proofs.lemmas.Bool.{and_parts, and_from}
+use Rattle.step_equal.specs.Rows.{Row, row_at, IsName, names}
+use Rattle.step_equal.specs.declared.row.PlainRow.{PlainRow}
+use Rattle.step_equal.specs.Views.{row_of, rows_of}
 
 -- it is the first row, or a later one
-pub row_cases : (r : Row) (rows : List Row) (y : ℕ) (p : Row) → row_at (r ∷ rows) y ≡ Some p → ((r.name ≡ y) × (r ≡ p)) ⊎ (((r.name == y) ≡ false) × (row_at rows y ≡ Some p))
+pub row_cases : (r : Row) (rows : List Row) (y : ℕ) (p : Row) → row_at (r ∷ rows) y ≡ Some p → ((r.name ≡ y) × (r ≡ p))
+    ⊎ (((r.name == y) ≡ false) × (row_at rows y ≡ Some p))
 row_cases r rows y p h = go (r.name == y) refl h
   where
-    go : (b : Bool) → (r.name == y) ≡ b → cond b (Some r) (row_at rows y) ≡ Some p → ((r.name ≡ y) × (r ≡ p)) ⊎ (((r.name == y) ≡ false) × (row_at rows y ≡ Some p))
+    go : (b : Bool) → (r.name == y) ≡ b → cond b (Some r) (row_at rows y) ≡ Some p → ((r.name ≡ y) × (r ≡ p))
+        ⊎ (((r.name == y) ≡ false) × (row_at rows y ≡ Some p))
     go true e k = inl (eqb-true r.name y e, cc)
     go false e k = inr (e, k)
 
@@ -41,3 +47,78 @@ held_name rows x h = go (row_at rows x) h
 
 pub name_held : (rows : List Row) (x : ℕ) → IsName rows x → is_some (row_at rows x) ≡ true
 name_held rows x n = ap is_some n.1
+
+-- A test of each row, or of each name, decides what holds of each row or name.
+
+-- the name of a row is none of those that are apart from it
+apart_name : (x : ℕ) (rows : List Row) (y : ℕ) (r : Row) → AllByRecursion (λ z. nat_eq x z ≡ false) (names rows)
+    → row_at rows y ≡ Some r → (x == y) ≡ false
+apart_name x [] y r a n = absurd (cc)
+apart_name x (s ∷ rows) y r a n =
+    elim (row_cases s rows y r n) [
+      | inl here ↦ ap (λ z. x == z) (sym here.0) ∙ a.0
+      | inr there ↦ apart_name x rows y r
+          a.1 there.1
+    ]
+
+-- a later row keeps its name where no name stands twice
+pub row_under : (s : Row) (rows : List Row) (y : ℕ) (r : Row) → IsDistinct (◌==◌) (names (s ∷ rows))
+    → row_at rows y ≡ Some r → row_at (s ∷ rows) y ≡ Some r
+unfolding IsDistinct
+row_under s rows y r d n = row_later s rows y (apart_name s.name rows y r d.0 n) ∙ n
+
+pub distinct_rest : (s : Row) (rows : List Row) → IsDistinct (◌==◌) (names (s ∷ rows)) → IsDistinct (◌==◌) (names rows)
+unfolding IsDistinct
+distinct_rest s rows d = d.1
+
+pub row_name : (rows : List Row) (y : ℕ) (p : Row) → row_at rows y ≡ Some p → p.name ≡ y
+row_name [] y p h = absurd (cc)
+row_name (r ∷ rows) y p h =
+    elim (row_cases r rows y p h) [
+      | inl here ↦ ap (λ (q : Row). q.name) (sym here.1) ∙ here.0
+      | inr there ↦ row_name
+          rows y p there.1
+    ]
+
+module _ (test : Row → Bool) where
+  pub all_rows : (rows : List Row) → list_all test rows ≡ true → (x : ℕ) (r : Row) → row_at rows x ≡ Some r
+      → test r ≡ true
+  all_rows [] h x r n = absurd (cc)
+  all_rows (s ∷ rows) h x r n =
+      let parts = and_parts (test s) (list_all test rows) h in
+      elim (row_cases s rows x r n) [
+        | inl here ↦ subst (λ (t : Row). test t ≡ true) here.1 parts.0
+        | inr there ↦
+            all_rows rows parts.1 x r there.1
+      ]
+
+  pub rows_all : (rows : List Row) → IsDistinct (◌==◌) (names rows) → ((x : ℕ) (r : Row) → row_at rows x ≡ Some r
+      → test r ≡ true) → list_all test rows ≡ true
+  rows_all [] d f = refl
+  rows_all (s ∷ rows) d f =
+      and_from (test s) (list_all test rows) (f s.name s (row_here s rows s.name refl))
+      (rows_all rows (distinct_rest s rows d) (λ x r n. f x r (row_under s rows x r d n)))
+
+module _ (test : ℕ → Bool) where
+  pub all_names : (rows : List Row) → list_all (λ r. test r.name) rows ≡ true → (x : ℕ) → IsName rows x → test x ≡ true
+  all_names rows h x n = ap test (sym (row_name rows x n.0 n.1)) ∙ all_rows (λ r. test r.name) rows h x n.0 n.1
+
+  pub names_all : (rows : List Row) → ((x : ℕ) → IsName rows x → test x ≡ true) → list_all (λ r. test r.name)
+      rows ≡ true
+  names_all [] f = refl
+  names_all (s ∷ rows) f = and_from (test s.name) (list_all (λ r. test r.name) rows) (f s.name (name_here s rows))
+      (names_all rows (λ x n. f x (name_later s rows x n)))
+
+-- a step of a loop over the program's rows
+module _ (test : Row → Bool) (rows : List PlainRow) (i : ℕ) (r : PlainRow) (within : i < length rows)
+    (at : r ≡ get_or rows i r) where
+  row_next : rows_of (drop i rows) ≡ row_of r ∷ rows_of (drop (i + 1) rows)
+  row_next = ap rows_of (drop-cons rows i r within) ∙ ap (λ (s : PlainRow). row_of s ∷ rows_of (drop (suc i) rows))
+      (sym at) ∙ ap (λ n. row_of r ∷ rows_of (drop n rows)) (sym (add-one i))
+
+  pub all_stop : test (row_of r) ≡ false → list_all test (rows_of (drop i rows)) ≡ false
+  all_stop e = ap (list_all test) row_next ∙ ap (λ b. b && list_all test (rows_of (drop (i + 1) rows))) e
+
+  pub all_next : test (row_of r) ≡ true → list_all test (rows_of (drop i rows)) ≡ list_all test
+      (rows_of (drop (i + 1) rows))
+  all_next e = ap (list_all test) row_next ∙ ap (λ b. b && list_all test (rows_of (drop (i + 1) rows))) e

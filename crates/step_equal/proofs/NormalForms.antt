@@ -9,7 +9,8 @@ use Rattle.std.specs.Str.{bytes_eq}
 use Rattle.std.proofs.lemmas.Bool.{and_parts, and_from}
 use Rattle.std.proofs.lemmas.List.Sorted.{length_permutation}
 use Rattle.step_literals.specs.Items.{text_items}
-use Rattle.step_literals.specs.ItemKeys.{text_key, texts_are_their_items}
+use Rattle.step_literals.specs.ItemKeys.{text_key}
+use Rattle.step_literals.specs.ItemKeyLemmas.{texts_are_their_items}
 use Rattle.step_literals.specs.declared.literal.Text.{Text}
 use Rattle.step_equal.specs.declared.normal.Normal.{Normal, out-Normal}
 use Rattle.step_equal.specs.declared.normal.Normal.TheVariants as variant
@@ -18,8 +19,8 @@ use Rattle.step_equal.specs.contracts.normal.NormalPartialEq.TheImpl.Laws as equ
 use Rattle.step_equal.specs.contracts.normal.NormalOrd.TheImpl.Laws as orders
 use Rattle.step_equal.specs.Leaves.{text}
 use Rattle.step_equal.specs.Values.{Value, leaf, reference, typed, sequence, bag, Values, none, more, IsReordering, unchanged, kept, swapped, joined, AgreeEach}
-use Rattle.step_equal.specs.Tests.{leaf_test, count_in, size, same_test, same_each_test, counts_test}
-use Rattle.step_equal.specs.Normals.{Form, plain, to, called, listed, bagged, form, normal_cmp, IsNormal, AreNormal, AreSorted}
+use Rattle.step_equal.specs.ComputedAgreement.{leaf_test, count_in, size, same_test, same_each_test, counts_test}
+use Rattle.step_equal.specs.ComputedForms.{Form, plain, to, called, listed, bagged, form, normal_cmp, IsNormal, AreNormal, AreSorted}
 use Rattle.step_equal.proofs.Deciding.{leaf_decides, same_bool, Member, counts_from, count_swap, test_sound, test_complete}
 use Rattle.step_equal.proofs.Sorting.{often, ascend, places_same, same_often, often_moved}
 
@@ -46,7 +47,8 @@ texts_same : (s t : Text) → on text_key (pointwise nat_eq) s t ≡ leaf_test (
 texts_same s t =
     let texts = texts_are_their_items s t in
     let leaves = leaf_decides (text (text_items s)) (text (text_items t)) in
-    same_bool _ _ (λ e. leaves.1 (ap text (texts.0 e))) (λ e. texts.1 (let same : text (text_items s) ≡ text (text_items t) = leaves.0 e in cc))
+    same_bool _ _ (λ e. leaves.1 (ap text (texts.0 e)))
+    (λ e. texts.1 (let same : text (text_items s) ≡ text (text_items t) = leaves.0 e in cc))
 
 unrolled : (m n : Normal) → equals.unfolded m n ≡ form_test (form m) (form n)
 unfolding out-Normal Carrier.out
@@ -65,23 +67,23 @@ unrolled _ _ = refl
 by_forms : (m n : Normal) (F G : Form) → form m ≡ F → form n ≡ G → normal_eq m n ≡ form_test F G
 by_forms m n F G p q = equals.is m n ∙ unrolled m n ∙ ap (λ x. form_test x (form n)) p ∙ ap (form_test F) q
 
--- Values and forms of two kinds
+-- Values and forms of two variants
 
-abbrev kind : Value → ℕ
-kind (leaf a) = 0
-kind (reference y) = 1
-kind (typed s v) = 2
-kind (sequence vs) = 3
-kind (bag vs) = 4
+abbrev value_variant : Value → ℕ
+value_variant (leaf a) = 0
+value_variant (reference y) = 1
+value_variant (typed s v) = 2
+value_variant (sequence vs) = 3
+value_variant (bag vs) = 4
 
-abbrev form_kind : Form → ℕ
-form_kind (plain a) = 0
-form_kind (to y) = 1
-form_kind (called s m) = 2
-form_kind (listed ms) = 3
-form_kind (bagged ms) = 4
+abbrev form_variant : Form → ℕ
+form_variant (plain a) = 0
+form_variant (to y) = 1
+form_variant (called s m) = 2
+form_variant (listed ms) = 3
+form_variant (bagged ms) = 4
 
-values_apart : (v w : Value) → kind v ≢ kind w → same_test v w ≡ false
+values_apart : (v w : Value) → value_variant v ≢ value_variant w → same_test v w ≡ false
 values_apart (leaf a) (leaf b) h = absurd (h refl)
 values_apart (reference y) (reference z) h = absurd (h refl)
 values_apart (typed s v) (typed t w) h = absurd (h refl)
@@ -89,7 +91,7 @@ values_apart (sequence vs) (sequence ws) h = absurd (h refl)
 values_apart (bag vs) (bag ws) h = absurd (h refl)
 values_apart _ _ h = refl
 
-forms_apart : (F G : Form) → form_kind F ≢ form_kind G → form_test F G ≡ false
+forms_apart : (F G : Form) → form_variant F ≢ form_variant G → form_test F G ≡ false
 forms_apart (plain a) (plain b) h = absurd (h refl)
 forms_apart (to y) (to z) h = absurd (h refl)
 forms_apart (called s m) (called t n) h = absurd (h refl)
@@ -97,17 +99,18 @@ forms_apart (listed ms) (listed ns) h = absurd (h refl)
 forms_apart (bagged ms) (bagged ns) h = absurd (h refl)
 forms_apart _ _ h = refl
 
-one_kind : (v : Value) (n : Normal) → IsNormal v n → form_kind (form n) ≡ kind v
-one_kind (leaf a) n p = ap form_kind p
-one_kind (reference y) n p = ap form_kind p
-one_kind (typed s v) n p = ap form_kind p.1
-one_kind (sequence vs) n p = ap form_kind p.1
-one_kind (bag vs) n p = ap form_kind p.1
+one_variant : (v : Value) (n : Normal) → IsNormal v n → form_variant (form n) ≡ value_variant v
+one_variant (leaf a) n p = ap form_variant p
+one_variant (reference y) n p = ap form_variant p
+one_variant (typed s v) n p = ap form_variant p.1
+one_variant (sequence vs) n p = ap form_variant p.1
+one_variant (bag vs) n p = ap form_variant p.1
 
-apart : (v w : Value) (m n : Normal) → IsNormal v m → IsNormal w n → kind v ≢ kind w → normal_eq m n ≡ same_test v w
+apart : (v w : Value) (m n : Normal) → IsNormal v m → IsNormal w n → value_variant v ≢ value_variant w
+    → normal_eq m n ≡ same_test v w
 apart v w m n p q h =
     by_forms m n (form m) (form n) refl refl
-    ∙ forms_apart (form m) (form n) (λ e. h (sym (one_kind v m p) ∙ e ∙ one_kind w n q))
+    ∙ forms_apart (form m) (form n) (λ e. h (sym (one_variant v m p) ∙ e ∙ one_variant w n q))
     ∙ sym (values_apart v w h)
 
 -- equality of normal forms of v is its agreement
@@ -137,13 +140,15 @@ lengths [] (n ∷ ns) h = absurd (cc)
 lengths (m ∷ ms) [] h = absurd (cc)
 lengths (m ∷ ms) (n ∷ ns) h = ap suc (lengths ms ns (and_parts (normal_eq m n) (pointwise normal_eq ms ns) h).1)
 
-member_normal : (u : Value) (vs : Values) (ms : List Normal) → AreNormal vs ms → Member u vs → (z : Normal) × IsNormal u z
+member_normal : (u : Value) (vs : Values) (ms : List Normal) → AreNormal vs ms → Member u vs → (z : Normal)
+    × IsNormal u z
 member_normal u none ms p m = absurd m
 member_normal u (more v vs) [] p m = absurd p
 member_normal u (more v vs) (n ∷ ms) p (inl e) = (n, subst (λ t. IsNormal t n) (sym e) p.0)
 member_normal u (more v vs) (n ∷ ms) p (inr m) = member_normal u vs ms p.1 m
 
-counted : (u : Value) → Faithful u → (z : Normal) → IsNormal u z → (vs : Values) (ms : List Normal) → AreNormal vs ms → often normal_eq z ms ≡ count_in (same_test u) vs
+counted : (u : Value) → Faithful u → (z : Normal) → IsNormal u z → (vs : Values) (ms : List Normal) → AreNormal vs ms
+    → often normal_eq z ms ≡ count_in (same_test u) vs
 counted u d z i none [] p = refl
 counted u d z i none (m ∷ ms) p = absurd p
 counted u d z i (more v vs) [] p = absurd p
@@ -151,11 +156,17 @@ counted u d z i (more v vs) (m ∷ ms) p =
     ap (λ b. cond b (suc (often normal_eq z ms)) (often normal_eq z ms)) (d.holds v z m i p.0)
     ∙ ap (λ k. cond (same_test u v) (suc k) k) (counted u d z i vs ms p.1)
 
-reordered : {us ws : Values} → IsReordering us ws → (ns : List Normal) → AreNormal ws ns → (os : List Normal) × AreNormal us os × ((z : Normal) → often normal_eq z os ≡ often normal_eq z ns)
+reordered : {us ws : Values} → IsReordering us ws → (ns : List Normal) → AreNormal ws ns → (os : List Normal)
+    × AreNormal us os × ((z : Normal) → often normal_eq z os ≡ often normal_eq z ns)
 reordered (unchanged vs) ns p = (ns, p, λ z. refl)
 reordered (kept v r) [] p = absurd p
 reordered (kept v r) (n ∷ ns) p =
-    let found = reordered r ns p.1 in (n ∷ found.0, (p.0, found.1), λ z. ap (λ k. cond (normal_eq z n) (suc k) k) (found.2 z))
+    let found = reordered r ns p.1 in (
+      n ∷ found.0,
+      (p.0, found.1),
+      λ z. ap (λ k. cond (normal_eq z n) (suc k) k)
+          (found.2 z),
+    )
 reordered (swapped v w vs) [] p = absurd p
 reordered (swapped v w vs) (m ∷ []) p = absurd p.1
 reordered (swapped v w vs) (m ∷ n ∷ ns) p =
@@ -164,41 +175,48 @@ reordered (joined r s) ns p =
     let later = reordered s ns p in
     let first = reordered r later.0 later.1 in (first.0, first.1, λ z. first.2 z ∙ later.2 z)
 
-places : (vs us : Values) → AllFaithful vs → AgreeEach (◌==◌) vs us → (ms os : List Normal) → AreNormal vs ms → AreNormal us os → pointwise normal_eq ms os ≡ true
+places : (vs us : Values) → AllFaithful vs → AgreeEach (◌==◌) vs us → (ms os : List Normal) → AreNormal vs ms
+    → AreNormal us os → pointwise normal_eq ms os ≡ true
 places none none d a [] [] p q = refl
 places none none d a (m ∷ ms) os p q = absurd p
 places none none d a [] (n ∷ os) p q = absurd q
 places (more v vs) (more u us) d a [] os p q = absurd p
 places (more v vs) (more u us) d a (m ∷ ms) [] p q = absurd q
 places (more v vs) (more u us) d a (m ∷ ms) (n ∷ os) p q =
-    and_from (normal_eq m n) (pointwise normal_eq ms os) (d.0.holds u m n p.0 q.0 ∙ test_complete v u a.0) (places vs us d.1 a.1 ms os p.1 q.1)
+    and_from (normal_eq m n) (pointwise normal_eq ms os) (d.0.holds u m n p.0 q.0 ∙ test_complete v u a.0)
+    (places vs us d.1 a.1 ms os p.1 q.1)
 places _ _ d a ms os p q = absurd a
 
-module _ (vs ws : Values) (faithful : AllFaithful vs) (ms ns : List Normal) (p : AreSorted vs ms) (q : AreSorted ws ns) where
-  bags_sound : pointwise normal_eq ms ns ≡ true → same_test (bag vs) (bag ws) ≡ true
-  bags_sound h =
-      let alike : (z : Normal) → often normal_eq z p.0 ≡ often normal_eq z q.0 =
-      λ z. often_moved normal_eq normal_cmp order ties z p.0 ms p.2 ∙ same_often normal_eq normal_cmp order ties ms ns h z ∙ sym (often_moved normal_eq normal_cmp order ties z q.0 ns q.2) in
-      let one_size : size vs ≡ size ws =
-      sizes vs p.0 p.1 ∙ sym (length_permutation p.0 ms p.2) ∙ lengths ms ns h ∙ length_permutation q.0 ns q.2 ∙ sym (sizes ws q.0 q.1) in
-      and_from (size vs == size ws) (counts_test vs vs ws) (eq-eqb _ _ one_size) (counts_from vs vs ws (λ u m.
-      let z = member_normal u vs p.0 p.1 m in
-      let d = member_faithful u vs faithful m in
-      sym (counted u d z.0 z.1 vs p.0 p.1) ∙ alike z.0 ∙ counted u d z.0 z.1 ws q.0 q.1))
+module _ (vs ws : Values) (faithful : AllFaithful vs) (ms ns : List Normal) (p : AreSorted vs ms) (q : AreSorted ws ns)
+  where
+    bags_sound : pointwise normal_eq ms ns ≡ true → same_test (bag vs) (bag ws) ≡ true
+    bags_sound h =
+        let alike : (z : Normal) → often normal_eq z p.0 ≡ often normal_eq z q.0 =
+        λ z. often_moved normal_eq normal_cmp order ties z p.0 ms p.2 ∙ same_often normal_eq normal_cmp order ties ms ns
+        h
+        z ∙ sym (often_moved normal_eq normal_cmp order ties z q.0 ns q.2) in
+        let one_size : size vs ≡ size ws =
+        sizes vs p.0 p.1 ∙ sym (length_permutation p.0 ms p.2) ∙ lengths ms ns h ∙ length_permutation q.0 ns q.2
+        ∙ sym (sizes ws q.0 q.1) in
+        and_from (size vs == size ws) (counts_test vs vs ws) (eq-eqb _ _ one_size) (counts_from vs vs ws (λ u m.
+        let z = member_normal u vs p.0 p.1 m in
+        let d = member_faithful u vs faithful m in
+        sym (counted u d z.0 z.1 vs p.0 p.1) ∙ alike z.0 ∙ counted u d z.0 z.1 ws q.0 q.1))
 
-  bags_complete : same_test (bag vs) (bag ws) ≡ true → pointwise normal_eq ms ns ≡ true
-  bags_complete h =
-      let agree = test_sound (bag vs) (bag ws) h in
-      let other = reordered agree.1 q.0 q.1 in
-      let paired = places vs agree.0 faithful agree.2 p.0 other.0 p.1 other.1 in
-      places_same normal_eq normal_cmp order ties ms ns (ascend normal_eq normal_cmp order ties ms p.3) (ascend normal_eq normal_cmp order ties ns q.3) (λ z.
-      sym (often_moved normal_eq normal_cmp order ties z p.0 ms p.2)
-      ∙ same_often normal_eq normal_cmp order ties p.0 other.0 paired z
-      ∙ other.2 z
-      ∙ often_moved normal_eq normal_cmp order ties z q.0 ns q.2)
+    bags_complete : same_test (bag vs) (bag ws) ≡ true → pointwise normal_eq ms ns ≡ true
+    bags_complete h =
+        let agree = test_sound (bag vs) (bag ws) h in
+        let other = reordered agree.1 q.0 q.1 in
+        let paired = places vs agree.0 faithful agree.2 p.0 other.0 p.1 other.1 in
+        places_same normal_eq normal_cmp order ties ms ns (ascend normal_eq normal_cmp order ties ms p.3)
+        (ascend normal_eq normal_cmp order ties ns q.3) (λ z.
+        sym (often_moved normal_eq normal_cmp order ties z p.0 ms p.2)
+        ∙ same_often normal_eq normal_cmp order ties p.0 other.0 paired z
+        ∙ other.2 z
+        ∙ often_moved normal_eq normal_cmp order ties z q.0 ns q.2)
 
-  bags_same : pointwise normal_eq ms ns ≡ same_test (bag vs) (bag ws)
-  bags_same = same_bool _ _ bags_sound bags_complete
+    bags_same : pointwise normal_eq ms ns ≡ same_test (bag vs) (bag ws)
+    bags_same = same_bool _ _ bags_sound bags_complete
 
 mutual
   pub forms_same : (v w : Value) (m n : Normal) → IsNormal v m → IsNormal w n → normal_eq m n ≡ same_test v w
@@ -206,16 +224,20 @@ mutual
   forms_same (reference y) (reference z) m n p q = by_forms m n (to y) (to z) p q
   forms_same (typed s v) (typed t w) m n p q =
       by_forms m n (called s p.0) (called t q.0) p.1 q.1 ∙ ap (λ b. bytes_eq s t && b) (forms_same v w p.0 q.0 p.2 q.2)
-  forms_same (sequence vs) (sequence ws) m n p q = by_forms m n (listed p.0) (listed q.0) p.1 q.1 ∙ lists_same vs ws p.0 q.0 p.2 q.2
-  forms_same (bag vs) (bag ws) m n p q = by_forms m n (bagged p.0) (bagged q.0) p.1 q.1 ∙ bags_same vs ws (all_faithful vs) p.0 q.0 p.2 q.2
+  forms_same (sequence vs) (sequence ws) m n p q = by_forms m n (listed p.0) (listed q.0) p.1 q.1
+      ∙ lists_same vs ws p.0 q.0 p.2 q.2
+  forms_same (bag vs) (bag ws) m n p q = by_forms m n (bagged p.0) (bagged q.0) p.1 q.1
+      ∙ bags_same vs ws (all_faithful vs) p.0 q.0 p.2 q.2
   forms_same v w m n p q = apart v w m n p q (λ e. absurd (omega (arith, e)))
 
-  lists_same : (vs ws : Values) (ms ns : List Normal) → AreNormal vs ms → AreNormal ws ns → pointwise normal_eq ms ns ≡ same_each_test vs ws
+  lists_same : (vs ws : Values) (ms ns : List Normal) → AreNormal vs ms → AreNormal ws ns
+      → pointwise normal_eq ms ns ≡ same_each_test vs ws
   lists_same none none [] [] p q = refl
   lists_same none (more w ws) [] (n ∷ ns) p q = refl
   lists_same (more v vs) none (m ∷ ms) [] p q = refl
   lists_same (more v vs) (more w ws) (m ∷ ms) (n ∷ ns) p q =
-      ap (λ b. b && pointwise normal_eq ms ns) (forms_same v w m n p.0 q.0) ∙ ap (λ b. same_test v w && b) (lists_same vs ws ms ns p.1 q.1)
+      ap (λ b. b && pointwise normal_eq ms ns) (forms_same v w m n p.0 q.0) ∙ ap (λ b. same_test v w && b)
+      (lists_same vs ws ms ns p.1 q.1)
   lists_same none ws (m ∷ ms) ns p q = absurd p
   lists_same (more v vs) ws [] ns p q = absurd p
   lists_same none none [] (n ∷ ns) p q = absurd q
@@ -228,5 +250,6 @@ mutual
   all_faithful (more v vs) = (record { holds = forms_same v }, all_faithful vs)
 
 -- bags agree where their sorted normal forms are equal
-pub sorted_same : (vs ws : Values) (ms ns : List Normal) → AreSorted vs ms → AreSorted ws ns → pointwise normal_eq ms ns ≡ same_test (bag vs) (bag ws)
+pub sorted_same : (vs ws : Values) (ms ns : List Normal) → AreSorted vs ms → AreSorted ws ns
+    → pointwise normal_eq ms ns ≡ same_test (bag vs) (bag ws)
 sorted_same vs ws ms ns p q = bags_same vs ws (all_faithful vs) ms ns p q

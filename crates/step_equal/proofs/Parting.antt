@@ -8,17 +8,15 @@ use Rattle.std.proofs.lemmas.Slice.Eq.{bytes_eq-Decides}
 use Rattle.step_equal.specs.Rows.{Row, names, kind_of, row_at, IsName, IsPopulation}
 use Rattle.step_equal.specs.Keeping.{under, AreAlike, AgreeUnder}
 use Rattle.step_equal.specs.Images.{head_of}
-use Rattle.step_equal.specs.Tests.{each_test}
+use Rattle.step_equal.specs.ComputedAgreement.{each_test}
 use Rattle.step_equal.specs.Standard.{IsRefinement}
 use Rattle.step_equal.specs.Tables.{IsGrounded}
 use Rattle.step_equal.specs.Laws.{ValueEqualityExists}
 use Rattle.step_equal.proofs.Lookup.{row_cases}
 use Rattle.step_equal.proofs.Pairs.{alike_sym, alike_trans, agree_under_grows, agree_under_back, agree_under_trans}
-use Rattle.step_equal.proofs.Deciding.{each_decides}
-use Rattle.step_equal.proofs.AgreeBy.{agree_each_by, each_by_sound, each_by_complete}
+use Rattle.step_equal.proofs.Deciding.{each_decides, agree_each_by, each_by_sound, each_by_complete}
 use Rattle.step_equal.proofs.Few.{count_length, ArePartitions, many_heads}
-use Rattle.step_equal.proofs.Rounds.{own, stable_decides}
-use Rattle.step_equal.proofs.Standard.{refinement_grounded, refinement_stable}
+use Rattle.step_equal.proofs.Rounds.{own, stable_decides, refinement_grounded, refinement_stable}
 use Rattle.step_equal.proofs.Numbering.{scan, IsLeast}
 
 -- a test of two rows, where there are two
@@ -27,22 +25,25 @@ rows_by test None q = false
 rows_by test (Some p) None = false
 rows_by test (Some p) (Some q) = test p q
 
-rows_there : (test : Row → Row → Bool) (o u : Option Row) → rows_by test o u ≡ true → (p : Row) × (q : Row) × (o ≡ Some p) × (u ≡ Some q) × (test p q ≡ true)
+rows_there : (test : Row → Row → Bool) (o u : Option Row) → rows_by test o u ≡ true → (p : Row) × (q : Row)
+    × (o ≡ Some p) × (u ≡ Some q) × (test p q ≡ true)
 rows_there test None u h = absurd (cc)
 rows_there test (Some p) None h = absurd (cc)
 rows_there test (Some p) (Some q) h = (p, q, refl, refl, h)
 
-rows_pass : (test : Row → Row → Bool) (o u : Option Row) (p q : Row) → o ≡ Some p → u ≡ Some q → test p q ≡ true → rows_by test o u ≡ true
+rows_pass : (test : Row → Row → Bool) (o u : Option Row) (p q : Row) → o ≡ Some p → u ≡ Some q → test p q ≡ true
+    → rows_by test o u ≡ true
 rows_pass test None u p q e f h = absurd (cc)
 rows_pass test (Some s) None p q e f h = absurd (cc)
-rows_pass test (Some s) (Some t) p q e f h = let one : s ≡ p = cc in let two : t ≡ q = cc in let both : test s t ≡ test p q = cc in cc
+rows_pass test (Some s) (Some t) p q e f h = let one : s ≡ p = cc in let two : t ≡ q = cc in
+    let both : test s t ≡ test p q = cc in cc
 
 module _ (P : List Row) (pinned : ℕ → Bool) where
-  abbrev same_kind : Row → Row → Bool
-  same_kind p q = each_test bytes_eq (kind_of p) (kind_of q)
+  abbrev kind_test : Row → Row → Bool
+  kind_test p q = each_test bytes_eq (kind_of p) (kind_of q)
 
   abbrev alike : ℕ → ℕ → Bool
-  alike x z = cond (pinned x || pinned z) (x == z) true && rows_by same_kind (row_at P x) (row_at P z)
+  alike x z = cond (pinned x || pinned z) (x == z) true && rows_by kind_test (row_at P x) (row_at P z)
 
   abbrev agreeing : (ℕ → ℕ → Bool) → ℕ → ℕ → Bool
   agreeing R x z = rows_by (λ p q. agree_each_by (under pinned R) p.values q.values) (row_at P x) (row_at P z)
@@ -57,8 +58,9 @@ module _ (P : List Row) (pinned : ℕ → Bool) where
 
   alike_sound : (x z : ℕ) → alike x z ≡ true → AreAlike P pinned x z
   alike_sound x z h =
-      let parts = and_parts (cond (pinned x || pinned z) (x == z) true) (rows_by same_kind (row_at P x) (row_at P z)) h in
-      let found = rows_there same_kind (row_at P x) (row_at P z) parts.1 in
+      let parts = and_parts (cond (pinned x || pinned z) (x == z) true) (rows_by kind_test (row_at P x) (row_at P z)) h
+      in
+      let found = rows_there kind_test (row_at P x) (row_at P z) parts.1 in
       record {
         left = found.0;
         right = found.1;
@@ -70,8 +72,10 @@ module _ (P : List Row) (pinned : ℕ → Bool) where
 
   alike_complete : (x z : ℕ) → AreAlike P pinned x z → alike x z ≡ true
   alike_complete x z a =
-      and_from (cond (pinned x || pinned z) (x == z) true) (rows_by same_kind (row_at P x) (row_at P z)) (from_same (pinned x || pinned z) x z a.same_if_pinned)
-      (rows_pass same_kind (row_at P x) (row_at P z) a.left a.right a.left_is a.right_is ((each_decides bytes_eq bytes_eq-Decides (kind_of a.left) (kind_of a.right)).1 a.same_kind))
+      and_from (cond (pinned x || pinned z) (x == z) true) (rows_by kind_test (row_at P x) (row_at P z))
+      (from_same (pinned x || pinned z) x z a.same_if_pinned)
+      (rows_pass kind_test (row_at P x) (row_at P z) a.left a.right a.left_is a.right_is
+      ((each_decides bytes_eq bytes_eq-Decides (kind_of a.left) (kind_of a.right)).1 a.same_kind))
 
   agreeing_sound : (R : ℕ → ℕ → Bool) (x z : ℕ) → agreeing R x z ≡ true → AgreeUnder P pinned R x z
   agreeing_sound R x z h =
@@ -86,7 +90,8 @@ module _ (P : List Row) (pinned : ℕ → Bool) where
 
   agreeing_complete : (R : ℕ → ℕ → Bool) (x z : ℕ) → AgreeUnder P pinned R x z → agreeing R x z ≡ true
   agreeing_complete R x z a =
-      rows_pass (λ p q. agree_each_by (under pinned R) p.values q.values) (row_at P x) (row_at P z) a.left a.right a.left_is a.right_is
+      rows_pass (λ p q. agree_each_by (under pinned R) p.values q.values) (row_at P x) (row_at P z) a.left a.right
+      a.left_is a.right_is
       (each_by_complete (under pinned R) a.left.values a.right.values a.values_agree)
 
   -- the partition of each round
@@ -94,31 +99,39 @@ module _ (P : List Row) (pinned : ℕ → Bool) where
   parted zero x z = alike x z
   parted (suc round) x z = parted round x z && agreeing (parted round) x z
 
-  parted_first : (x z : ℕ) → (parted 0 x z ≡ true → AreAlike P pinned x z) × (AreAlike P pinned x z → parted 0 x z ≡ true)
+  parted_first : (x z : ℕ) → (parted 0 x z ≡ true → AreAlike P pinned x z)
+      × (AreAlike P pinned x z → parted 0 x z ≡ true)
   unfolding parted
   parted_first x z = (alike_sound x z, alike_complete x z)
 
-  pub parted_from : (round x z : ℕ) → parted (suc round) x z ≡ true → (parted round x z ≡ true) × AgreeUnder P pinned (parted round) x z
+  pub parted_from : (round x z : ℕ) → parted (suc round) x z ≡ true → (parted round x z ≡ true)
+      × AgreeUnder P pinned (parted round) x z
   unfolding parted
   parted_from round x z h =
-      let parts = and_parts (parted round x z) (agreeing (parted round) x z) h in (parts.0, agreeing_sound (parted round) x z parts.1)
+      let parts = and_parts (parted round x z) (agreeing (parted round) x z) h in
+      (parts.0, agreeing_sound (parted round) x z parts.1)
 
-  parted_next : (round x z : ℕ) → parted round x z ≡ true → AgreeUnder P pinned (parted round) x z → parted (suc round) x z ≡ true
+  parted_next : (round x z : ℕ) → parted round x z ≡ true → AgreeUnder P pinned (parted round) x z
+      → parted (suc round) x z ≡ true
   unfolding parted
-  parted_next round x z h a = and_from (parted round x z) (agreeing (parted round) x z) h (agreeing_complete (parted round) x z a)
+  parted_next round x z h a = and_from (parted round x z) (agreeing (parted round) x z) h
+      (agreeing_complete (parted round) x z a)
 
   parted_back : (round x z : ℕ) → parted round x z ≡ true → parted round z x ≡ true
   parted_back zero x z h = (parted_first z x).1 (alike_sym P pinned x z ((parted_first x z).0 h))
   parted_back (suc r) x z h =
       let before = parted_from r x z h in
-      parted_next r z x (parted_back r x z before.0) (agree_under_back P pinned (parted r) (parted r) (parted_back r) x z before.1)
+      parted_next r z x (parted_back r x z before.0) (agree_under_back P pinned (parted r) (parted r) (parted_back r) x
+      z before.1)
 
   parted_through : (round x y z : ℕ) → parted round x y ≡ true → parted round y z ≡ true → parted round x z ≡ true
-  parted_through zero x y z h k = (parted_first x z).1 (alike_trans P pinned x y z ((parted_first x y).0 h) ((parted_first y z).0 k))
+  parted_through zero x y z h k = (parted_first x z).1 (alike_trans P pinned x y z ((parted_first x y).0 h)
+      ((parted_first y z).0 k))
   parted_through (suc r) x y z h k =
       let one = parted_from r x y h in
       let two = parted_from r y z k in
-      parted_next r x z (parted_through r x y z one.0 two.0) (agree_under_trans P pinned (parted r) (parted r) (parted r) (parted_through r) x y z one.1 two.1)
+      parted_next r x z (parted_through r x y z one.0 two.0) (agree_under_trans P pinned (parted r) (parted r)
+      (parted r) (parted_through r) x y z one.1 two.1)
 
   parted_named : (round x z : ℕ) → parted round x z ≡ true → IsName P x
   parted_named zero x z h = let a = (parted_first x z).0 h in (a.left, a.left_is)
@@ -135,7 +148,8 @@ module _ (P : List Row) (pinned : ℕ → Bool) where
 
 passing : (test : ℕ → Bool) (rows : List Row) → list_any test (names rows) ≡ true → (x : ℕ) × (test x ≡ true)
 passing test [] h = absurd (cc)
-passing test (r ∷ rows) h = elim (or_cases (test r.name) (list_any test (names rows)) h) [ inl here ↦ (r.name, here) | inr there ↦ passing test rows there ]
+passing test (r ∷ rows) h = elim (or_cases (test r.name) (list_any test (names rows)) h)
+    [ inl here ↦ (r.name, here) | inr there ↦ passing test rows there ]
 
 passes : (test : ℕ → Bool) (rows : List Row) (x : ℕ) → IsName rows x → test x ≡ true → list_any test (names rows) ≡ true
 passes test [] x n h = absurd (let e = n.1 in cc)
@@ -155,7 +169,8 @@ module _ (P : List Row) (pinned : ℕ → Bool) (population : IsPopulation P) wh
   parts round = list_any (λ x. list_any (leaves round x) (names P)) (names P)
 
   -- a round parts two names, ..
-  parts_found : (round : ℕ) → parts round ≡ true → (x : ℕ) × (z : ℕ) × (E round x z ≡ true) × (E (suc round) x z ≡ false)
+  parts_found : (round : ℕ) → parts round ≡ true → (x : ℕ) × (z : ℕ) × (E round x z ≡ true)
+      × (E (suc round) x z ≡ false)
   parts_found round h =
       let x = passing (λ x. list_any (leaves round x) (names P)) P h in
       let z = passing (leaves round x.0) P x.1 in
@@ -168,27 +183,36 @@ module _ (P : List Row) (pinned : ℕ → Bool) (population : IsPopulation P) wh
       let by = parted_partitions P pinned in
       let nx = by.named round x z h in
       let nz = by.named round z x (by.symmetric round x z h) in
-      let yes : parts round ≡ true = passes (λ w. list_any (leaves round w) (names P)) P x nx (passes (leaves round x) P z nz (and_from (E round x z) (not (E (suc round) x z)) h (not_from_false (E (suc round) x z) k))) in
+      let yes : parts round ≡ true = passes (λ w. list_any (leaves round w) (names P)) P x nx
+      (passes (leaves round x) P z nz (and_from (E round x z) (not (E (suc round) x z)) h
+      (not_from_false (E (suc round) x z) k))) in
       cc)
 
   -- once a round parts nothing, none after it does
-  settled : (last : ℕ) → parts last ≡ false → (round x z : ℕ) → last ≤ round → E round x z ≡ true → E (suc round) x z ≡ true
+  settled : (last : ℕ) → parts last ≡ false → (round x z : ℕ) → last ≤ round → E round x z ≡ true
+      → E (suc round) x z ≡ true
   settled last e zero x z l h = let same : last ≡ 0 = omega arith in parts_nothing 0 (ap parts (sym same) ∙ e) x z h
   settled last e (suc r) x z l h = elim (cases_lt r last) [
     | inl m ↦ let same : last ≡ suc r = omega arith in parts_nothing (suc r) (ap parts (sym same) ∙ e) x z h
-    | inr m ↦ parted_next P pinned (suc r) x z h (agree_under_grows P pinned (E r) (E (suc r)) (λ y w. settled last e r y w m) x z (parted_from P pinned r x z h).1)
+    | inr m ↦ parted_next P pinned (suc r) x z h (agree_under_grows P pinned (E r) (E (suc r))
+        (λ y w. settled last e r y w m) x z (parted_from P pinned r x z h).1)
   ]
 
   too_many : ((r : ℕ) → r < suc (length P) → not (parts r) ≡ false) → ⊥
   too_many all =
       let last : ℕ = suc (length P) in
-      let many = many_heads P E (parted_partitions P pinned) last (λ r l x z h. (parted_from P pinned r x z h).0) (own P pinned E last (parted_grounded P pinned last) population)
+      let many = many_heads P E (parted_partitions P pinned) last (λ r l x z h. (parted_from P pinned r x z h).0)
+      (own P pinned E last (parted_grounded P pinned last) population)
       (λ r l. parts_found r (not-false (parts r) (all r l))) last (omega arith) in
       omega (arith, many, count_length (λ y. head_of (names P) (E last) y == y) P)
 
   -- the first round that parts nothing
   pub stop : (last : ℕ) × IsLeast (λ r. not (parts r)) last
-  stop = elim (scan (λ r. not (parts r)) (suc (length P))) [ inl found ↦ (found.0, found.2) | inr nowhere ↦ absurd (too_many nowhere) ]
+  stop = elim (scan (λ r. not (parts r)) (suc (length P))) [
+    | inl found ↦ (found.0, found.2)
+    | inr nowhere ↦ absurd
+        (too_many nowhere)
+  ]
 
   pub stop_settled : (round x z : ℕ) → stop.0 ≤ round → E round x z ≡ true → E (suc round) x z ≡ true
   stop_settled = settled stop.0 (not-true (parts stop.0) stop.1.passes)
@@ -201,7 +225,8 @@ module _ (P : List Row) (pinned : ℕ → Bool) (population : IsPopulation P) wh
       λ h. subst (λ n. E n x z ≡ true) (sym (add-one r)) (parted_next P pinned r x z h.0 h.1),
     );
     stable = λ x z h. (parted_from P pinned stop.0 x z (stop_settled stop.0 x z (omega arith) h)).1;
-    parts = λ r l. let p = parts_found r (not-false (parts r) (stop.1.before r l)) in (p.0, p.1, p.2, subst (λ n. E n p.0 p.1 ≡ false) (sym (add-one r)) p.3);
+    parts = λ r l. let p = parts_found r (not-false (parts r) (stop.1.before r l)) in
+        (p.0, p.1, p.2, subst (λ n. E n p.0 p.1 ≡ false) (sym (add-one r)) p.3);
   }
 
 pub value_equality_exists : ValueEqualityExists
@@ -209,6 +234,7 @@ value_equality_exists P pinned population =
     let last = (stop P pinned population).0 in
     let refines = parted_refines P pinned population in (
       parted P pinned last,
-      stable_decides P pinned (parted P pinned) last (refinement_grounded P pinned (parted P pinned) last refines) population
+      stable_decides P pinned (parted P pinned) last (refinement_grounded P pinned (parted P pinned) last refines)
+          population
           (refinement_stable P pinned (parted P pinned) last refines) ((parted_partitions P pinned).named last),
     )

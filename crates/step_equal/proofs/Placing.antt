@@ -3,16 +3,19 @@ use Rattle.std.proofs.Common.{◌≡◌, ◌<◌, ℕ, suc, zero, Bool, true, fa
 use Rattle.std.specs.Prelude.{◌==◌, ◌||◌, is_some, slice_get, position, IfSome}
 use Rattle.std.specs.List.{IsDistinct, AllByRecursion, list_any}
 use Rattle.std.specs.Option.{option_map}
-use Rattle.std.proofs.lemmas.Bool.{or_cases}
+use Rattle.std.proofs.lemmas.Bool.{or_cases, and_parts, and_from}
 use Rattle.std.proofs.lemmas.Bool.Decides.{nat_tests}
 use Rattle.std.proofs.lemmas.List.{length-map}
 use Rattle.std.proofs.lemmas.List.Quantifiers.{position-Some}
 use Rattle.step_equal.specs.declared.row.PlainRow.{PlainRow}
-use Rattle.step_equal.specs.Rows.{Row, names, row_at}
+use Rattle.step_equal.specs.Rows.{Row, names, row_at, IsName, IsPopulation}
 use Rattle.step_equal.specs.Views.{row_of, rows_of}
 use Rattle.step_equal.proofs.Agreement.{eqb_sym}
-use Rattle.step_equal.proofs.Climbing.{seen_at}
-use Rattle.step_equal.proofs.Lookup.{row_here, row_later}
+use Rattle.step_equal.proofs.Ancestors.{seen_at}
+use Rattle.step_equal.proofs.Lookup.{row_here, row_later, held_name, name_held, all_rows, rows_all}
+use Rattle.step_equal.specs.Values.{Value, leaf, reference, typed, sequence, bag, Values, none, more}
+use Rattle.step_equal.specs.References.{EachReference, EachReferenceOf}
+use Rattle.step_equal.specs.ComputedClosure.{references_pass, all_references_pass, rows_pass}
 
 turned : (y z : ℕ) → (y == z) ≡ (z == y)
 turned y z = go (y == z) (z == y) refl refl
@@ -26,26 +29,32 @@ turned y z = go (y == z) (z == y) refl refl
 -- a name stands among the names exactly where a row has it
 pub name_stands : (rows : List Row) (y : ℕ) → list_any (nat_eq y) (names rows) ≡ is_some (row_at rows y)
 name_stands [] y = refl
-name_stands (r ∷ rows) y = ap (λ b. b || list_any (nat_eq y) (names rows)) (turned y r.name) ∙ go (r.name == y) (name_stands rows y)
+name_stands (r ∷ rows) y = ap (λ b. b || list_any (nat_eq y) (names rows)) (turned y r.name)
+    ∙ go (r.name == y) (name_stands rows y)
   where
-    go : (b : Bool) → list_any (nat_eq y) (names rows) ≡ is_some (row_at rows y) → (b || list_any (nat_eq y) (names rows)) ≡ is_some (cond b (Some r) (row_at rows y))
+    go : (b : Bool) → list_any (nat_eq y) (names rows) ≡ is_some (row_at rows y)
+        → (b || list_any (nat_eq y) (names rows)) ≡ is_some (cond b (Some r) (row_at rows y))
     go true e = refl
     go false e = e
 
 -- the first row of a name, by its place
-row_by_place : (rows : List Row) (i y : ℕ) (r : Row) → slice_get rows i ≡ Some r → nat_eq y r.name ≡ true → ((k : ℕ) → k < i → nat_eq y (get_or (names rows) k 0) ≡ false) → row_at rows y ≡ Some r
+row_by_place : (rows : List Row) (i y : ℕ) (r : Row) → slice_get rows i ≡ Some r → nat_eq y r.name ≡ true
+    → ((k : ℕ) → k < i → nat_eq y (get_or (names rows) k 0) ≡ false) → row_at rows y ≡ Some r
 row_by_place [] i y r at e before = absurd (cc)
 row_by_place (s ∷ rows) zero y r at e before =
-    let same : s ≡ r = cc in row_here s rows y (ap (λ (t : Row). t.name) same ∙ sym (eqb-true y r.name e)) ∙ ap Some same
+    let same : s ≡ r = cc in row_here s rows y (ap (λ (t : Row). t.name) same ∙ sym (eqb-true y r.name e))
+    ∙ ap Some same
 row_by_place (s ∷ rows) (suc i) y r at e before =
-    row_later s rows y (turned s.name y ∙ before 0 (omega arith)) ∙ row_by_place rows i y r at e (λ k l. before (suc k) (omega arith))
+    row_later s rows y (turned s.name y ∙ before 0 (omega arith)) ∙ row_by_place rows i y r at e
+    (λ k l. before (suc k) (omega arith))
 
 name_by_place : (rows : List Row) (i : ℕ) (r : Row) → slice_get rows i ≡ Some r → get_or (names rows) i 0 ≡ r.name
 name_by_place [] i r at = absurd (cc)
 name_by_place (s ∷ rows) zero r at = let same : s ≡ r = cc in ap (λ (t : Row). t.name) same
 name_by_place (s ∷ rows) (suc i) r at = name_by_place rows i r at
 
-pub row_found : (rows : List Row) (i y : ℕ) (r : Row) → position (nat_eq y) (names rows) ≡ Some i → slice_get rows i ≡ Some r → row_at rows y ≡ Some r
+pub row_found : (rows : List Row) (i y : ℕ) (r : Row) → position (nat_eq y) (names rows) ≡ Some i
+    → slice_get rows i ≡ Some r → row_at rows y ≡ Some r
 row_found rows i y r e at =
     let found = position-Some (nat_eq y) (names rows) i 0 e in
     row_by_place rows i y r at (ap (nat_eq y) (sym (name_by_place rows i r at)) ∙ found.1) found.2
@@ -59,25 +68,32 @@ lost (Some r) h = absurd (cc)
 
 module _ (rows : List PlainRow) (places : List ℕ) (in_order : places ≡ names (rows_of rows)) (y : ℕ) where
   pub row_lost : list_any (nat_eq y) places ≡ false → row_at (rows_of rows) y ≡ None
-  row_lost h = lost (row_at (rows_of rows) y) (sym (name_stands (rows_of rows) y) ∙ ap (list_any (nat_eq y)) (sym in_order) ∙ h)
+  row_lost h = lost (row_at (rows_of rows) y) (sym (name_stands (rows_of rows) y) ∙ ap (list_any (nat_eq y))
+      (sym in_order) ∙ h)
 
   within : {i : ℕ} → i < length places → i < length rows
   within l = omega (arith, l, ap length in_order, length-map (rows_of rows) (λ r. r.name), length-map rows row_of)
 
   -- what a look-up by place answers
-  pub row_got : (o : Option (Bor PlainRow)) (i : ℕ) → Some i ≡ position (nat_eq y) places → i < length places → is_some o ≡ nat_lt i (length rows) → IfSome o (λ r. r.now ≡ get_or rows i r.now) → option_map (λ r. row_of r.now) o ≡ row_at (rows_of rows) y
+  pub row_got : (o : Option (Bor PlainRow)) (i : ℕ) → Some i ≡ position (nat_eq y) places → i < length places
+      → is_some o ≡ nat_lt i (length rows) → IfSome o (λ r. r.now ≡ get_or rows i r.now)
+      → option_map (λ r. row_of r.now) o ≡ row_at (rows_of rows) y
   row_got None i e l held at = absurd (beyond i (length rows) (within l) held)
   row_got (Some r) i e l held at =
-      sym (row_found (rows_of rows) i y (row_of r.now) (ap (position (nat_eq y)) (sym in_order) ∙ sym e) (seen_at row_of rows i r.now (within l) at))
+      sym (row_found (rows_of rows) i y (row_of r.now) (ap (position (nat_eq y)) (sym in_order) ∙ sym e)
+      (seen_at row_of rows i r.now (within l) at))
 
 -- a name that stands among those before it stands twice
 module _ (r : PlainRow) where
-  twice : (rows : List PlainRow) (i : ℕ) → i < length rows → r ≡ get_or rows i r → (x : ℕ) → nat_eq x r.name ≡ true → AllByRecursion (λ y. nat_eq x y ≡ false) (names (rows_of rows)) → ⊥
+  twice : (rows : List PlainRow) (i : ℕ) → i < length rows → r ≡ get_or rows i r → (x : ℕ) → nat_eq x r.name ≡ true
+      → AllByRecursion (λ y. nat_eq x y ≡ false) (names (rows_of rows)) → ⊥
   twice [] i l at x e apart = absurd (omega arith)
-  twice (s ∷ rows) zero l at x e apart = let h : nat_eq x s.name ≡ false = apart.0 in let k : nat_eq x s.name ≡ true = ap (λ (t : PlainRow). nat_eq x t.name) (sym at) ∙ e in cc
+  twice (s ∷ rows) zero l at x e apart = let h : nat_eq x s.name ≡ false = apart.0 in let k : nat_eq x s.name ≡ true =
+      ap (λ (t : PlainRow). nat_eq x t.name) (sym at) ∙ e in cc
   twice (s ∷ rows) (suc i) l at x e apart = twice rows i (omega arith) at x e apart.1
 
-  pub not_distinct : (rows : List PlainRow) (i : ℕ) → i < length rows → r ≡ get_or rows i r → list_any (nat_eq r.name) (names (rows_of (take i rows))) ≡ true → IsDistinct nat_eq (names (rows_of rows)) → ⊥
+  pub not_distinct : (rows : List PlainRow) (i : ℕ) → i < length rows → r ≡ get_or rows i r → list_any (nat_eq r.name)
+      (names (rows_of (take i rows))) ≡ true → IsDistinct nat_eq (names (rows_of rows)) → ⊥
   unfolding IsDistinct
   not_distinct [] i l at h d = absurd (omega arith)
   not_distinct (s ∷ rows) zero l at h d = absurd (cc)
@@ -86,3 +102,53 @@ module _ (r : PlainRow) where
         | inl e ↦ twice rows i (omega arith) at s.name (turned s.name r.name ∙ e) d.0
         | inr later ↦ not_distinct rows i (omega arith) at later d.1
       ]
+
+-- The test of a population's references decides that they name rows.
+
+module _ (p : ℕ → Bool) (P : ℕ → Type 0) where
+  mutual
+    pass_sound : ((y : ℕ) → p y ≡ true → P y) → (v : Value) → references_pass p v ≡ true → EachReference P v
+    pass_sound f (leaf a) h = tt
+    pass_sound f (reference y) h = f y h
+    pass_sound f (typed n v) h = pass_sound f v h
+    pass_sound f (sequence vs) h = all_pass_sound f vs h
+    pass_sound f (bag vs) h = all_pass_sound f vs h
+
+    all_pass_sound : ((y : ℕ) → p y ≡ true → P y) → (vs : Values) → all_references_pass p vs ≡ true
+        → EachReferenceOf P vs
+    all_pass_sound f none h = tt
+    all_pass_sound f (more v vs) h = let parts = and_parts (references_pass p v) (all_references_pass p vs) h in
+        (pass_sound f v parts.0, all_pass_sound f vs parts.1)
+
+  mutual
+    pass_complete : ((y : ℕ) → P y → p y ≡ true) → (v : Value) → EachReference P v → references_pass p v ≡ true
+    pass_complete f (leaf a) h = refl
+    pass_complete f (reference y) h = f y h
+    pass_complete f (typed n v) h = pass_complete f v h
+    pass_complete f (sequence vs) h = all_pass_complete f vs h
+    pass_complete f (bag vs) h = all_pass_complete f vs h
+
+    all_pass_complete : ((y : ℕ) → P y → p y ≡ true) → (vs : Values) → EachReferenceOf P vs
+        → all_references_pass p vs ≡ true
+    all_pass_complete f none h = refl
+    all_pass_complete f (more v vs) h = and_from (references_pass p v) (all_references_pass p vs)
+        (pass_complete f v h.0) (all_pass_complete f vs h.1)
+
+module _ (places : List ℕ) (rows : List Row) (in_order : places ≡ names rows) where
+  stands : (y : ℕ) → list_any (nat_eq y) places ≡ is_some (row_at rows y)
+  stands y = ap (list_any (nat_eq y)) in_order ∙ name_stands rows y
+
+  pub closed : IsDistinct (◌==◌) (names rows) → rows_pass (λ y. list_any (nat_eq y) places) rows ≡ true
+      → IsPopulation rows
+  closed d h = record {
+    distinct = d;
+    closed = λ x r n. all_pass_sound (λ y. list_any (nat_eq y) places) (IsName rows)
+        (λ y e. held_name rows y (sym (stands y) ∙ e)) r.values
+        (all_rows (λ r. all_references_pass (λ y. list_any (nat_eq y) places) r.values) rows h x r n);
+  }
+
+  pub passes : IsPopulation rows → rows_pass (λ y. list_any (nat_eq y) places) rows ≡ true
+  passes population =
+      rows_all (λ r. all_references_pass (λ y. list_any (nat_eq y) places) r.values) rows population.distinct
+      (λ x r n. all_pass_complete (λ y. list_any (nat_eq y) places) (IsName rows) (λ y m. stands y ∙ name_held rows y m)
+      r.values (population.closed x r n))

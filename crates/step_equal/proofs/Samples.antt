@@ -1,7 +1,8 @@
 -- Rows to make examples of, and what holds of rows that are written out.
 use Rattle.std.proofs.Common.{◌≡◌, ℕ, Bool, false, List, [], ◌∷◌, Some, subst, inl, inr, codes}
 use Rattle.std.specs.Prelude.{⊤, pos}
-use Rattle.step_equal.specs.Leaves.{unset, number}
+use Rattle.step_literals.specs.declared.literal.items.Item.TheVariants.{Code}
+use Rattle.step_equal.specs.Leaves.{unset, number, text}
 use Rattle.step_equal.specs.Values.{leaf, reference, sequence, bag, Values, none, more}
 use Rattle.step_equal.specs.Rows.{Row, row_at}
 use Rattle.step_equal.proofs.Lookup.{row_cases}
@@ -11,7 +12,8 @@ abbrev pub EachRow : (ℕ → Row → Type 0) → List Row → Type 0
 EachRow F [] = ⊤
 EachRow F (r ∷ rows) = F r.name r × EachRow F rows
 
-pub each_row : (F : ℕ → Row → Type 0) (rows : List Row) → EachRow F rows → (x : ℕ) (p : Row) → row_at rows x ≡ Some p → F x p
+pub each_row : (F : ℕ → Row → Type 0) (rows : List Row) → EachRow F rows → (x : ℕ) (p : Row) → row_at rows x ≡ Some p
+    → F x p
 each_row F [] f x p n = absurd (cc)
 each_row F (r ∷ rows) f x p n =
     elim (row_cases r rows x p n) [
@@ -23,8 +25,10 @@ each_row F (r ∷ rows) f x p n =
 abbrev pub EachTwo : (ℕ → ℕ → Row → Row → Type 0) → List Row → Type 0
 EachTwo G rows = EachRow (λ x p. EachRow (λ z q. G x z p q) rows) rows
 
-pub each_two : (G : ℕ → ℕ → Row → Row → Type 0) (rows : List Row) → EachTwo G rows → (x z : ℕ) (p q : Row) → row_at rows x ≡ Some p → row_at rows z ≡ Some q → G x z p q
-each_two G rows f x z p q n m = each_row (λ w r. G x w p r) rows (each_row (λ y r. EachRow (λ w s. G y w r s) rows) rows f x p n) z q m
+pub each_two : (G : ℕ → ℕ → Row → Row → Type 0) (rows : List Row) → EachTwo G rows → (x z : ℕ) (p q : Row)
+    → row_at rows x ≡ Some p → row_at rows z ≡ Some q → G x z p q
+each_two G rows f x z p q n m = each_row (λ w r. G x w p r) rows (each_row (λ y r. EachRow (λ w s. G y w r s) rows) rows
+    f x p n) z q m
 
 abbrev pub row : ℕ → List ℕ → Values → Row
 row name word values = record { name = name; types = word ∷ []; values = values }
@@ -35,7 +39,8 @@ free y = false
 
 -- `POINT((x,1.))`
 abbrev pub point : ℕ → ℕ → Row
-point name x = row name (codes "POINT") (more (sequence (more (leaf (number (pos x))) (more (leaf (number (pos 1))) none))) none)
+point name x = row name (codes "POINT") (more
+    (sequence (more (leaf (number (pos x))) (more (leaf (number (pos 1))) none))) none)
 
 -- `PLACEMENT(#y,$)`
 abbrev pub placement : ℕ → ℕ → Row
@@ -48,6 +53,10 @@ node name next = row name (codes "NODE") (more (reference next) none)
 -- `BUNDLE((#y,#z))`, a set
 abbrev pub bundle : ℕ → ℕ → ℕ → Row
 bundle name y z = row name (codes "BUNDLE") (more (bag (more (reference y) (more (reference z) none))) none)
+
+-- `NOTE('a',#y)`
+abbrev pub note : ℕ → ℕ → Row
+note name y = row name (codes "NOTE") (more (leaf (text (Code 97 ∷ []))) (more (reference y) none))
 
 -- `#1=POINT((0.,1.));` `#2=POINT((0.0,1.E0));` `#3=PLACEMENT(#1,$);` `#4=PLACEMENT(#2,$);`
 abbrev pub twice : List Row

@@ -31,12 +31,14 @@ any_map : (p : List ℕ → Bool) (ws : List Word) → list_any p (map word_of w
 any_map p [] = refl
 any_map p (w ∷ ws) = ap (λ b. p (word_of w) || b) (any_map p ws)
 
-sorted_map : (ws : List Word) → IsStrictlySortedBy (on word_of (slice_cmp nat_cmp)) ws → IsStrictlySortedBy (slice_cmp nat_cmp) (map word_of ws)
+sorted_map : (ws : List Word) → IsStrictlySortedBy (on word_of (slice_cmp nat_cmp)) ws
+    → IsStrictlySortedBy (slice_cmp nat_cmp) (map word_of ws)
 unfolding IsStrictlySortedBy
 sorted_map [] s = tt
 sorted_map (w ∷ ws) s = (below ws s.0, sorted_map ws s.1)
   where
-    below : (vs : List Word) → AllByRecursion (λ v. on word_of (slice_cmp nat_cmp) w v ≡ Less) vs → AllByRecursion (λ v. slice_cmp nat_cmp (word_of w) v ≡ Less) (map word_of vs)
+    below : (vs : List Word) → AllByRecursion (λ v. on word_of (slice_cmp nat_cmp) w v ≡ Less) vs
+        → AllByRecursion (λ v. slice_cmp nat_cmp (word_of w) v ≡ Less) (map word_of vs)
     below [] h = tt
     below (v ∷ vs) h = (h.0, below vs h.1)
 
@@ -50,7 +52,8 @@ module _ {A : Type 0} (same : A → A → Bool) (p : A → Bool) (alike : (x y :
       twice true b c e = let t : b ≡ true = sym e in ap (λ d. d || c) t ∙ ap (λ d. d || true) (sym t)
       twice false b c e = refl
 
-      go : (b : Bool) → same x k ≡ b → list_any p (dedup_from same k xs) ≡ (p k || list_any p xs) → list_any p (dedup_from same x xs) ≡ (p x || list_any p xs)
+      go : (b : Bool) → same x k ≡ b → list_any p (dedup_from same k xs) ≡ (p k || list_any p xs)
+          → list_any p (dedup_from same x xs) ≡ (p x || list_any p xs)
           → list_any p (cond b (dedup_from same k xs) (k ∷ dedup_from same x xs)) ≡ (p k || (p x || list_any p xs))
       go true e here there = here ∙ twice (p x) (p k) (list_any p xs) (alike x k e)
       go false e here there = ap (λ b. p k || b) there
@@ -60,19 +63,23 @@ module _ {A : Type 0} (same : A → A → Bool) (p : A → Bool) (alike : (x y :
   any_dedup (x ∷ xs) = any_dedup_from x xs
 
 module _ (w : List ℕ) where
-  alike_words : (x y : Word) → on word_of (pointwise nat_eq) x y ≡ true → bytes_eq w (word_of x) ≡ bytes_eq w (word_of y)
+  alike_words : (x y : Word) → on word_of (pointwise nat_eq) x y ≡ true → bytes_eq w (word_of x) ≡ bytes_eq w
+      (word_of y)
   alike_words x y e = ap (bytes_eq w) ((bytes_eq-Decides (word_of x) (word_of y)).0 e)
 
 ties : (x y : Word) → on word_of (pointwise nat_eq) x y ≡ eq_by_cmp (on word_of (slice_cmp nat_cmp)) x y
 ties x y = search (comparing, rules)
 
 -- words that were sorted, and then left out where they stand again
-pub sorted_words : (old sorted new : List Word) → IsPermutation old sorted → IsSorted (on word_of (slice_cmp nat_cmp)) sorted → IsFiltered (DiffersFromLast (on word_of (pointwise nat_eq))) [] sorted new
+pub sorted_words : (old sorted new : List Word) → IsPermutation old sorted → IsSorted (on word_of (slice_cmp nat_cmp))
+    sorted → IsFiltered (DiffersFromLast (on word_of (pointwise nat_eq))) [] sorted new
     → AreInOrder (map word_of old) (map word_of new)
 sorted_words old sorted new reordered up kept =
-    let is : new ≡ dedup (on word_of (pointwise nat_eq)) sorted = dedup_is (on word_of (pointwise nat_eq)) sorted new kept in
+    let is : new ≡ dedup (on word_of (pointwise nat_eq)) sorted = dedup_is (on word_of (pointwise nat_eq)) sorted new
+    kept in
     record {
-      in_order = sorted_map new (subst (IsStrictlySortedBy (on word_of (slice_cmp nat_cmp))) (sym is) (IsStrictlySortedBy-dedup (on_total word_of nat_list_cmp_total) ties sorted up));
+      in_order = sorted_map new (subst (IsStrictlySortedBy (on word_of (slice_cmp nat_cmp))) (sym is)
+          (IsStrictlySortedBy-dedup (on_total word_of nat_list_cmp_total) ties sorted up));
       same = λ w.
           any_map (bytes_eq w) new
           ∙ ap (list_any (λ v. bytes_eq w (word_of v))) is
@@ -90,34 +97,44 @@ names_settled [] (q ∷ qs) z = absurd z
 names_settled (r ∷ rs) [] z = absurd z
 names_settled (r ∷ rs) (q ∷ qs) z = let first = z.0.name in let rest = names_settled rs qs z.1 in cc
 
-row_settled : (rs qs : List PlainRow) → AllZip Settles rs qs → (x : ℕ) (q : Row) → row_at (rows_of qs) x ≡ Some q → (r : Row) × (row_at (rows_of rs) x ≡ Some r) × (r.values ≡ q.values)
+row_settled : (rs qs : List PlainRow) → AllZip Settles rs qs → (x : ℕ) (q : Row) → row_at (rows_of qs) x ≡ Some q
+    → (r : Row) × (row_at (rows_of rs) x ≡ Some r) × (r.values ≡ q.values)
 row_settled [] [] z x q n = absurd (cc)
 row_settled [] (p ∷ qs) z x q n = absurd z
 row_settled (r ∷ rs) [] z x q n = absurd z
 row_settled (r ∷ rs) (p ∷ qs) z x q n =
     elim (row_cases (row_of p) (rows_of qs) x q n) [
-      | inl here ↦ (row_of r, row_here (row_of r) (rows_of rs) x (sym z.0.name ∙ here.0), sym z.0.values ∙ ap (λ (s : Row). s.values) here.1)
+      | inl here ↦ (
+        row_of r,
+        row_here (row_of r) (rows_of rs) x (sym z.0.name ∙ here.0),
+        sym z.0.values
+            ∙ ap (λ (s : Row). s.values) here.1,
+      )
       | inr there ↦ (
           let later = row_settled rs qs z.1 x q there.1 in
           (later.0, row_later (row_of r) (rows_of rs) x (ap (λ n. n == x) (sym z.0.name) ∙ there.0) ∙ later.1, later.2)
           )
     ]
 
-pub population_settled : (rs qs : List PlainRow) → AllZip Settles rs qs → IsPopulation (rows_of rs) → IsPopulation (rows_of qs)
+pub population_settled : (rs qs : List PlainRow) → AllZip Settles rs qs → IsPopulation (rows_of rs)
+    → IsPopulation (rows_of qs)
 population_settled rs qs z population = record {
   distinct = subst (IsDistinct (◌==◌)) (sym (names_settled rs qs z)) population.distinct;
   closed = λ x q n.
       let r = row_settled rs qs z x q n in
-      subst (EachReferenceOf (IsName (rows_of qs))) r.2 (each_weaker_of (IsName (rows_of rs)) (IsName (rows_of qs)) named r.0.values (population.closed x r.0 r.1));
+      subst (EachReferenceOf (IsName (rows_of qs))) r.2 (each_weaker_of (IsName (rows_of rs)) (IsName (rows_of qs))
+      named r.0.values (population.closed x r.0 r.1));
 }
   where
     named : (y : ℕ) → IsName (rows_of rs) y → IsName (rows_of qs) y
     named y m =
         held_name (rows_of qs) y
-        (sym (name_stands (rows_of qs) y) ∙ ap (list_any (nat_eq y)) (names_settled rs qs z) ∙ name_stands (rows_of rs) y ∙ name_held (rows_of rs) y m)
+        (sym (name_stands (rows_of qs) y) ∙ ap (list_any (nat_eq y)) (names_settled rs qs z) ∙ name_stands (rows_of rs)
+        y ∙ name_held (rows_of rs) y m)
 
 -- a step of a loop that settles rows in place
-module _ (first rows : List PlainRow) (i : ℕ) (r q : PlainRow) (len : length rows ≡ length first) (left : drop i rows ≡ drop i first) (within : i < length rows) (at : r ≡ get_or rows i r) where
+module _ (first rows : List PlainRow) (i : ℕ) (r q : PlainRow) (len : length rows ≡ length first)
+    (left : drop i rows ≡ drop i first) (within : i < length rows) (at : r ≡ get_or rows i r) where
   heads : get_or rows i r ∷ drop (suc i) rows ≡ get_or first i r ∷ drop (suc i) first
   heads = sym (drop-cons rows i r within) ∙ left ∙ drop-cons first i r (omega (arith, len, within))
 
@@ -127,13 +144,17 @@ module _ (first rows : List PlainRow) (i : ℕ) (r q : PlainRow) (len : length r
   pub settled_left : drop (i + 1) (set rows i q) ≡ drop (i + 1) first
   settled_left = rw add-one (drop-set-lt (suc i) rows i q (omega arith) ∙ (let e = heads in cc))
 
-  pub settled_done : AllZip Settles (take i first) (take i rows) → Settles (get_or rows i r) q → AllZip Settles (take (i + 1) first) (take (i + 1) (set rows i q))
+  pub settled_done : AllZip Settles (take i first) (take i rows) → Settles (get_or rows i r) q
+      → AllZip Settles (take (i + 1) first) (take (i + 1) (set rows i q))
   settled_done done settles =
       let here : r ≡ get_or first i r = at ∙ (let e = heads in cc) in
-      let before : take (i + 1) first ≡ take i first ++ r ∷ [] = rw add-one (take-suc first i r (omega (arith, len, within)) ∙ ap (λ s. take i first ++ s ∷ []) (sym here)) in
+      let before : take (i + 1) first ≡ take i first ++ r ∷ [] =
+      rw add-one (take-suc first i r (omega (arith, len, within)) ∙ ap (λ s. take i first ++ s ∷ []) (sym here)) in
       let after : take (i + 1) (set rows i q) ≡ take i rows ++ q ∷ [] = rw add-one (take-suc-set rows i q within) in
       subst (λ (t : List PlainRow). AllZip Settles t (take (i + 1) (set rows i q))) (sym before)
-      (subst (λ (t : List PlainRow). AllZip Settles (take i first ++ r ∷ []) t) (sym after) (AllZip-push Settles (take i first) (take i rows) r q done (subst (λ (t : PlainRow). Settles t q) (sym at) settles)))
+      (subst (λ (t : List PlainRow). AllZip Settles (take i first ++ r ∷ []) t) (sym after)
+      (AllZip-push Settles (take i first) (take i rows) r q done (subst (λ (t : PlainRow). Settles t q) (sym at)
+      settles)))
 
 pub rows_settled : (rs qs : List PlainRow) → AllZip Settles rs qs → AllZip IsSettled (rows_of rs) (rows_of qs)
 rows_settled [] [] z = tt
@@ -145,5 +166,6 @@ rows_settled (r ∷ rs) (q ∷ qs) z = (z.0, rows_settled rs qs z.1)
 whole : (n : ℕ) (old new : List PlainRow) → n ≡ length new → take n (new ++ drop (length new) old) ≡ new
 whole n old new e = ap (λ k. take k (new ++ drop (length new) old)) e ∙ take-append_seam new (drop (length new) old)
 
-pub whole_settled : (n : ℕ) (old new : List PlainRow) → n ≡ length old → AllZip Settles old new → take n (new ++ drop (length new) old) ≡ new
+pub whole_settled : (n : ℕ) (old new : List PlainRow) → n ≡ length old → AllZip Settles old new
+    → take n (new ++ drop (length new) old) ≡ new
 whole_settled n old new e z = whole n old new (e ∙ length_all_zip Settles old new z)

@@ -38,7 +38,12 @@ at_last : classes_at 2 ≡ Some 0 ∷ Some 2 ∷ Some 1 ∷ Some 3 ∷ None ∷ 
 at_last = refl
 
 -- no class where the chain of parents doesn't fall, or leaves the list
-no_class : map (λ x. class_at (record { rounds = 1; classes = split 1 1 ∷ split 1 1 ∷ []; members = (1, 0) ∷ (2, 1) ∷ (3, 2) ∷ [] }) x 0) (1 ∷ 2 ∷ 3 ∷ []) ≡ None ∷ None ∷ None ∷ []
+no_class : map (λ x. class_at (record {
+  rounds = 1;
+  classes = split 1 1 ∷ split 1 1 ∷ [];
+  members = (1, 0) ∷ (2, 1) ∷ (3, 2) ∷ [];
+}) x 0)
+    (1 ∷ 2 ∷ 3 ∷ []) ≡ None ∷ None ∷ None ∷ []
 no_class = refl
 
 -- what makes a table valid, of rows that are written out and where nothing is pinned
@@ -46,28 +51,41 @@ abbrev pub First : Table → ℕ → ℕ → Row → Row → Type 0
 First t x z p q = kind_of p ≡ kind_of q → shares t 0 x z ≡ true
 
 abbrev pub Next : Table → ℕ → ℕ → ℕ → Row → Row → Type 0
-Next t round x z p q = shares t round x z ≡ true → AgreeEach (under free (shares t round)) p.values q.values → shares t (round + 1) x z ≡ true
+Next t round x z p q = shares t round x z ≡ true → AgreeEach (under free (shares t round)) p.values q.values
+    → shares t (round + 1) x z ≡ true
 
 abbrev pub Last : Table → ℕ → ℕ → Row → Row → Type 0
-Last t x z p q = x ≢ z → shares t t.rounds x z ≡ true → (kind_of p ≡ kind_of q) × AgreeEach (under free (shares t t.rounds)) p.values q.values
+Last t x z p q = x ≢ z → shares t t.rounds x z ≡ true → (kind_of p ≡ kind_of q)
+    × AgreeEach (under free (shares t t.rounds)) p.values q.values
 
-valid_by : (rows : List Row) (t : Table) → HasMembers rows t → EachTwo (First t) rows → ((round : ℕ) → round < t.rounds → EachTwo (Next t round) rows) → EachTwo (Last t) rows → IsValid rows free t
+valid_by : (rows : List Row) (t : Table) → HasMembers rows t → EachTwo (First t) rows
+    → ((round : ℕ) → round < t.rounds → EachTwo (Next t round) rows) → EachTwo (Last t) rows → IsValid rows free t
 valid_by rows t members first next last = record {
   members = members;
   grounded = record {
     first = λ x z a. each_two (First t) rows first x z a.left a.right a.left_is a.right_is a.same_kind;
-    next = λ round x z l h a. each_two (Next t round) rows (next round l) x z a.left a.right a.left_is a.right_is h a.values_agree;
+    next = λ round x z l h a. each_two (Next t round) rows (next round l) x z a.left a.right a.left_is a.right_is h
+        a.values_agree;
   };
   stable = λ x z n h.
       let nx = sharer_named rows t members t.rounds x z h in
-      let nz = sharer_named rows t members t.rounds z x (same_class_back (class_at t x t.rounds) (class_at t z t.rounds) h) in
+      let nz = sharer_named rows t members t.rounds z x (same_class_back (class_at t x t.rounds) (class_at t z t.rounds)
+      h) in
       let both = each_two (Last t) rows last x z nx.0 nz.0 nx.1 nz.1 n h in (
-        record { left = nx.0; right = nz.0; left_is = nx.1; right_is = nz.1; same_kind = both.0; same_if_pinned = λ pin. absurd (cc) },
+        record {
+          left = nx.0;
+          right = nz.0;
+          left_is = nx.1;
+          right_is = nz.1;
+          same_kind = both.0;
+          same_if_pinned = λ pin. absurd (cc);
+        },
         record { left = nx.0; right = nz.0; left_is = nx.1; right_is = nz.1; values_agree = both.1 },
       );
 }
 
-points_differ : (l : ℕ → ℕ → Bool) (x z m n : ℕ) → (m == n) ≡ false → AgreeEach l (point x m).values (point z n).values → ⊥
+points_differ : (l : ℕ → ℕ → Bool) (x z m n : ℕ) → (m == n) ≡ false → AgreeEach l (point x m).values (point z n).values
+    → ⊥
 points_differ l x z m n e a =
     let numbers : number (pos m) ≡ number (pos n) = a.0.0 in
     let same : m ≡ n = cc in differ m n e same
@@ -86,9 +104,18 @@ first_of_refined = (
 
 pub next_of_refined : (round : ℕ) → round < 2 → EachTwo (Next refined round) apart
 next_of_refined zero l = (
-  (λ s a. refl, (λ s a. absurd (points_differ (under free (shares refined 0)) 1 2 0 5 refl a), (λ s a. absurd (cc), (λ s a. absurd (cc), tt)))),
   (
-    (λ s a. absurd (points_differ (under free (shares refined 0)) 2 1 5 0 refl a), (λ s a. refl, (λ s a. absurd (cc), (λ s a. absurd (cc), tt)))),
+    λ s a. refl,
+    (
+      λ s a. absurd (points_differ (under free (shares refined 0)) 1 2 0 5 refl a),
+      (λ s a. absurd (cc), (λ s a. absurd (cc), tt)),
+    ),
+  ),
+  (
+    (
+      λ s a. absurd (points_differ (under free (shares refined 0)) 2 1 5 0 refl a),
+      (λ s a. refl, (λ s a. absurd (cc), (λ s a. absurd (cc), tt))),
+    ),
     (
       (λ s a. absurd (cc), (λ s a. absurd (cc), (λ s a. refl, (λ s a. refl, tt)))),
       ((λ s a. absurd (cc), (λ s a. absurd (cc), (λ s a. refl, (λ s a. refl, tt)))), tt),
@@ -132,14 +159,26 @@ groundless = record {
 }
 
 groundless_is_refused : IsGrounded twice free (shares groundless) 1 → ⊥
-groundless_is_refused g = false≢true (g.next 0 1 2 (omega arith) refl (record { left = point 1 0; right = point 2 0; left_is = refl; right_is = refl; values_agree = ((refl, (refl, tt)), tt) }))
+groundless_is_refused g = false≢true (g.next 0 1 2 (omega arith) refl (record {
+  left = point 1 0;
+  right = point 2 0;
+  left_is = refl;
+  right_is = refl;
+  values_agree = ((refl, (refl, tt)), tt);
+}))
 
 -- a placement that parts at round 1, before its point has
 abbrev early : Table
 early = record refined { classes = start ∷ start ∷ split 0 1 ∷ split 1 1 ∷ [] }
 
 early_is_refused : IsGrounded apart free (shares early) 2 → ⊥
-early_is_refused g = false≢true (g.next 0 3 4 (omega arith) refl (record { left = placement 3 1; right = placement 4 2; left_is = refl; right_is = refl; values_agree = (refl, (refl, tt)) }))
+early_is_refused g = false≢true (g.next 0 3 4 (omega arith) refl (record {
+  left = placement 3 1;
+  right = placement 4 2;
+  left_is = refl;
+  right_is = refl;
+  values_agree = (refl, (refl, tt));
+}))
 
 -- classes that have to part and don't
 abbrev coarse : Table
@@ -154,7 +193,10 @@ coarse_is_refused stable =
     let agree = (stable 1 2 (differ 1 2 refl) refl).1 in
     let left : agree.left ≡ point 1 0 = same_row (row_at apart 1) agree.left_is refl in
     let right : agree.right ≡ point 2 5 = same_row (row_at apart 2) agree.right_is refl in
-    points_differ (under free (shares coarse 0)) 1 2 0 5 refl (subst (λ (p : Row). AgreeEach (under free (shares coarse 0)) p.values (point 2 5).values) left (subst (λ (q : Row). AgreeEach (under free (shares coarse 0)) agree.left.values q.values) right agree.values_agree))
+    points_differ (under free (shares coarse 0)) 1 2 0 5 refl
+    (subst (λ (p : Row). AgreeEach (under free (shares coarse 0)) p.values (point 2 5).values) left
+    (subst (λ (q : Row). AgreeEach (under free (shares coarse 0)) agree.left.values q.values) right
+    agree.values_agree))
 
 -- .. and are right where the points agree: #1 with #2, #3 with #4
 coarse_is_valid : IsValid twice free coarse
@@ -173,7 +215,10 @@ coarse_is_valid = valid_by twice coarse refl (
     (λ n s. (refl, ((refl, (refl, tt)), tt)), (λ n s. absurd (n refl), (λ n s. absurd (cc), (λ n s. absurd (cc), tt)))),
     (
       (λ n s. absurd (cc), (λ n s. absurd (cc), (λ n s. absurd (n refl), (λ n s. (refl, (refl, (refl, tt))), tt)))),
-      ((λ n s. absurd (cc), (λ n s. absurd (cc), (λ n s. (refl, (refl, (refl, tt))), (λ n s. absurd (n refl), tt)))), tt),
+      (
+        (λ n s. absurd (cc), (λ n s. absurd (cc), (λ n s. (refl, (refl, (refl, tt))), (λ n s. absurd (n refl), tt)))),
+        tt,
+      ),
     ),
   ),
 )
@@ -194,9 +239,18 @@ next_of_late zero l = (
   ),
 )
 next_of_late (suc zero) l = (
-  (λ s a. refl, (λ s a. absurd (points_differ (under free (shares late 1)) 1 2 0 5 refl a), (λ s a. absurd (cc), (λ s a. absurd (cc), tt)))),
   (
-    (λ s a. absurd (points_differ (under free (shares late 1)) 2 1 5 0 refl a), (λ s a. refl, (λ s a. absurd (cc), (λ s a. absurd (cc), tt)))),
+    λ s a. refl,
+    (
+      λ s a. absurd (points_differ (under free (shares late 1)) 1 2 0 5 refl a),
+      (λ s a. absurd (cc), (λ s a. absurd (cc), tt)),
+    ),
+  ),
+  (
+    (
+      λ s a. absurd (points_differ (under free (shares late 1)) 2 1 5 0 refl a),
+      (λ s a. refl, (λ s a. absurd (cc), (λ s a. absurd (cc), tt))),
+    ),
     (
       (λ s a. absurd (cc), (λ s a. absurd (cc), (λ s a. refl, (λ s a. refl, tt)))),
       ((λ s a. absurd (cc), (λ s a. absurd (cc), (λ s a. refl, (λ s a. refl, tt)))), tt),

@@ -22,7 +22,8 @@ unfolding EachPair among
 each_pair F [] f x z h = absurd (cc)
 each_pair F (p ∷ ps) f x z h = go (p.0 == x) (p.1 == z) refl refl (each_pair F ps f.1 x z) h
   where
-    go : (a b : Bool) → (p.0 == x) ≡ a → (p.1 == z) ≡ b → (among ps x z ≡ true → F x z) → ((a && b) || among ps x z) ≡ true → F x z
+    go : (a b : Bool) → (p.0 == x) ≡ a → (p.1 == z) ≡ b → (among ps x z ≡ true → F x z)
+        → ((a && b) || among ps x z) ≡ true → F x z
     go true true e g rest k = subst (λ y. F y z) (eqb-true p.0 x e) (subst (λ w. F p.0 w) (eqb-true p.1 z g) f.0)
     go true false e g rest k = rest k
     go false b e g rest k = rest k
@@ -30,7 +31,9 @@ each_pair F (p ∷ ps) f x z h = go (p.0 == x) (p.1 == z) refl refl (each_pair F
 Kept : List Row → (ℕ → Bool) → (ℕ → ℕ → Bool) → ℕ → ℕ → Type 0
 Kept rows pinned R x z = AreAlike rows pinned x z × AgreeUnder rows pinned R x z
 
-kept : (rows : List Row) (pinned : ℕ → Bool) (R : ℕ → ℕ → Bool) (x z : ℕ) (p q : Row) → row_at rows x ≡ Some p → row_at rows z ≡ Some q → kind_of p ≡ kind_of q → (pinned x || pinned z) ≡ false → AgreeEach (under pinned R) p.values q.values → Kept rows pinned R x z
+kept : (rows : List Row) (pinned : ℕ → Bool) (R : ℕ → ℕ → Bool) (x z : ℕ) (p q : Row) → row_at rows x ≡ Some p
+    → row_at rows z ≡ Some q → kind_of p ≡ kind_of q → (pinned x || pinned z) ≡ false → AgreeEach (under pinned R)
+    p.values q.values → Kept rows pinned R x z
 unfolding Kept
 kept rows pinned R x z p q n m k free a = (
   record { left = p; right = q; left_is = n; right_is = m; same_kind = k; same_if_pinned = λ h. absurd (cc) },
@@ -38,7 +41,8 @@ kept rows pinned R x z p q n m k free a = (
 )
 
 -- some pairs that keep are value-equal
-equal_by : (rows : List Row) (pinned : ℕ → Bool) (ps : List (ℕ × ℕ)) → EachPair (Kept rows pinned (among ps)) ps → (x z : ℕ) → among ps x z ≡ true → ValueEqual rows pinned x z
+equal_by : (rows : List Row) (pinned : ℕ → Bool) (ps : List (ℕ × ℕ)) → EachPair (Kept rows pinned (among ps)) ps
+    → (x z : ℕ) → among ps x z ≡ true → ValueEqual rows pinned x z
 unfolding Kept
 equal_by rows pinned ps f x z h = (among ps, h, each_pair (Kept rows pinned (among ps)) ps f)
 
@@ -56,13 +60,16 @@ placements_equal =
     ) 3 4 refl
 
 -- the values of instances that are value-equal agree
-pub agree_of : (rows : List Row) (pinned : ℕ → Bool) (x z : ℕ) (p q : Row) → row_at rows x ≡ Some p → row_at rows z ≡ Some q → ValueEqual rows pinned x z → (R : ℕ → ℕ → Bool) × AgreeEach (under pinned R) p.values q.values
+pub agree_of : (rows : List Row) (pinned : ℕ → Bool) (x z : ℕ) (p q : Row) → row_at rows x ≡ Some p
+    → row_at rows z ≡ Some q → ValueEqual rows pinned x z → (R : ℕ → ℕ → Bool) × AgreeEach (under pinned R) p.values
+    q.values
 agree_of rows pinned x z p q n m found =
     let agree = (found.2 x z found.1).1 in
     let left : agree.left ≡ p = same_row (row_at rows x) agree.left_is n in
     let right : agree.right ≡ q = same_row (row_at rows z) agree.right_is m in (
       found.0,
-      subst (λ (r : Row). AgreeEach (under pinned found.0) r.values q.values) left (subst (λ (r : Row). AgreeEach (under pinned found.0) agree.left.values r.values) right agree.values_agree),
+      subst (λ (r : Row). AgreeEach (under pinned found.0) r.values q.values) left
+          (subst (λ (r : Row). AgreeEach (under pinned found.0) agree.left.values r.values) right agree.values_agree),
     )
 
 -- a pinned instance is value-equal to itself alone
@@ -100,8 +107,13 @@ bundles_equal : ValueEqual bundles nodes 3 4
 unfolding among EachPair
 bundles_equal =
     let members : Values = more (reference 1) (more (reference 2) none) in
-    let reordered : IsReordering members (more (reference 2) (more (reference 1) none)) = swapped (reference 1) (reference 2) none in
-    equal_by bundles nodes ((3, 4) ∷ []) (kept bundles nodes (among ((3, 4) ∷ [])) 3 4 (bundle 3 1 2) (bundle 4 2 1) refl refl refl refl ((members, reordered, (refl, (refl, tt))), tt), tt) 3 4 refl
+    let reordered : IsReordering members (more (reference 2) (more (reference 1) none)) = swapped (reference 1)
+    (reference 2) none in
+    equal_by bundles nodes ((3, 4) ∷ []) (
+      kept bundles nodes (among ((3, 4) ∷ [])) 3 4 (bundle 3 1 2) (bundle 4 2 1)
+          refl refl refl refl ((members, reordered, (refl, (refl, tt))), tt),
+      tt,
+    ) 3 4 refl
 
 abbrev numbers : ℕ → ℕ → Values
 numbers m n = more (leaf (number (pos m))) (more (leaf (number (pos n))) none)
@@ -117,9 +129,11 @@ bags_agree : Agree (◌==◌) (bag (numbers 0 1)) (bag (numbers 1 0))
 bags_agree = (numbers 0 1, swapped (leaf (number (pos 0))) (leaf (number (pos 1))) none, (refl, (refl, tt)))
 
 -- a bag is no sequence, and an unset value no derived one
-kinds_of_values_differ : (Agree (◌==◌) (bag none) (sequence none) → ⊥) × (Agree (◌==◌) (leaf unset) (leaf derived) → ⊥)
-kinds_of_values_differ = (λ a. a, λ a. let e : unset ≡ derived = a in absurd (cc))
+variants_of_values_differ : (Agree (◌==◌) (bag none) (sequence none) → ⊥) × (Agree (◌==◌) (leaf unset) (leaf derived)
+    → ⊥)
+variants_of_values_differ = (λ a. a, λ a. let e : unset ≡ derived = a in absurd (cc))
 
 -- `LEN_M(1.)` and `ANGLE_M(1.)`
-type_names_differ : Agree (◌==◌) (typed (codes "LEN_M") (leaf (number (pos 1)))) (typed (codes "ANGLE_M") (leaf (number (pos 1)))) → ⊥
+type_names_differ : Agree (◌==◌) (typed (codes "LEN_M") (leaf (number (pos 1))))
+    (typed (codes "ANGLE_M") (leaf (number (pos 1)))) → ⊥
 type_names_differ a = let e : codes "LEN_M" ≡ codes "ANGLE_M" = a.0 in absurd (cc)

@@ -5,7 +5,8 @@ use Rattle.step_equal.specs.Rows.{Row, names, row_at, IsName, RowsAgree, renamed
 -- h maps the instances of P onto those of Q, keeps kinds, values and references (bags up to order), and maps
 -- nothing else to where it maps a pinned instance
 pub record IsImage (P Q : List Row) (h : ℕ → ℕ) (pinned : ℕ → Bool) : Type 0 where
-  pub lands : (x : ℕ) (p : Row) → row_at P x ≡ Some p → (q : Row) × (row_at Q (h x) ≡ Some q) × RowsAgree (renamed_row h p) q
+  pub lands : (x : ℕ) (p : Row) → row_at P x ≡ Some p → (q : Row) × (row_at Q (h x) ≡ Some q)
+      × RowsAgree (renamed_row h p) q
   pub onto : (y : ℕ) → IsName Q y → (x : ℕ) × IsName P x × (h x ≡ y)
   pub alone : (x z : ℕ) → IsName P x → IsName P z → pinned z ≡ true → h x ≡ h z → x ≡ z
 
@@ -20,4 +21,5 @@ head_of (y ∷ ys) E x = cond (E y x) y (head_of ys E x)
 
 -- the merged population: the first row of each class of E, with each reference replaced by the first of its class
 abbrev pub quotient : List Row → (ℕ → ℕ → Bool) → List Row
-quotient rows E = map (renamed_row (head_of (names rows) E)) (filter (λ r. head_of (names rows) E r.name == r.name) rows)
+quotient rows E = map (renamed_row (head_of (names rows) E)) (filter (λ r. head_of (names rows) E r.name == r.name)
+    rows)

@@ -45,13 +45,15 @@ QuotientsAreImages =
 -- Value equality on the quotient by value equality is the identity.
 abbrev pub QuotientsAreReduced : Type 0
 QuotientsAreReduced =
-    (P : List Row) (pinned : ℕ → Bool) (E : ℕ → ℕ → Bool) → IsPopulation P → BagsArePinned P pinned → IsValueEquality P pinned E
+    (P : List Row) (pinned : ℕ → Bool) (E : ℕ → ℕ → Bool) → IsPopulation P → BagsArePinned P pinned
+    → IsValueEquality P pinned E
     → (x z : ℕ) → ValueEqual (quotient P E) pinned x z ↔ (IsName (quotient P E) x × (x ≡ z))
 
 -- So a second quotient changes nothing.
 abbrev pub QuotientsStay : Type 0
 QuotientsStay =
-    (P : List Row) (pinned : ℕ → Bool) (E F : ℕ → ℕ → Bool) → IsPopulation P → BagsArePinned P pinned → IsValueEquality P pinned E
+    (P : List Row) (pinned : ℕ → Bool) (E F : ℕ → ℕ → Bool) → IsPopulation P → BagsArePinned P pinned
+    → IsValueEquality P pinned E
     → IsValueEquality (quotient P E) pinned F → quotient (quotient P E) F ≡ quotient P E
 
 -- The table that partition refinement makes is valid ..
@@ -60,11 +62,13 @@ StandardIsValid = (P : List Row) (pinned : ℕ → Bool) (t : Table) → IsStand
 
 -- .. is the only one ..
 abbrev pub StandardIsUnique : Type 0
-StandardIsUnique = (P : List Row) (pinned : ℕ → Bool) (s t : Table) → IsPopulation P → IsStandard P pinned s → IsStandard P pinned t → s ≡ t
+StandardIsUnique = (P : List Row) (pinned : ℕ → Bool) (s t : Table) → IsPopulation P → IsStandard P pinned s
+    → IsStandard P pinned t → s ≡ t
 
 -- .. has at most as many rounds as there are instances ..
 abbrev pub RoundsAreFew : Type 0
-RoundsAreFew = (P : List Row) (pinned : ℕ → Bool) (t : Table) → IsPopulation P → IsStandard P pinned t → t.rounds ≤ length P
+RoundsAreFew = (P : List Row) (pinned : ℕ → Bool) (t : Table) → IsPopulation P → IsStandard P pinned t
+    → t.rounds ≤ length P
 
 -- .. and exists.
 abbrev pub StandardExists : Type 0
@@ -72,7 +76,8 @@ StandardExists = (P : List Row) (pinned : ℕ → Bool) → IsPopulation P → (
 
 -- So there is a test of value equality.
 abbrev pub ValueEqualityExists : Type 0
-ValueEqualityExists = (P : List Row) (pinned : ℕ → Bool) → IsPopulation P → (E : ℕ → ℕ → Bool) × IsValueEquality P pinned E
+ValueEqualityExists = (P : List Row) (pinned : ℕ → Bool) → IsPopulation P → (E : ℕ → ℕ → Bool)
+    × IsValueEquality P pinned E
 
 -- A valid table, and an output that is the quotient by its last partition, prove that output an image, and a least
 -- one where bags refer to pinned instances alone, whoever made both.
@@ -86,4 +91,5 @@ CertificatesProve =
 -- The class of a name at a round is the nearest ancestor of its last class that had begun by then.
 abbrev pub ClassesAreAncestors : Type 0
 ClassesAreAncestors =
-    (t : Table) (x round a : ℕ) → (class_at t x round ≡ Some a) ↔ ((c : ℕ) × (last_class t.members x ≡ Some c) × IsAncestor t.classes round c a)
+    (t : Table) (x round a : ℕ) → (class_at t x round ≡ Some a) ↔ ((c : ℕ) × (last_class t.members x ≡ Some c)
+    × IsAncestor t.classes round c a)

@@ -49,4 +49,5 @@ renamed_row h r = record r { values = renamed_each h r.values }
 
 -- each reference at any depth in a bag names a pinned instance
 abbrev pub BagsArePinned : List Row → (ℕ → Bool) → Type 0
-BagsArePinned rows pinned = (x : ℕ) (p : Row) → row_at rows x ≡ Some p → EachBagReferenceOf (λ y. pinned y ≡ true) p.values
+BagsArePinned rows pinned = (x : ℕ) (p : Row) → row_at rows x ≡ Some p → EachBagReferenceOf (λ y. pinned y ≡ true)
+    p.values

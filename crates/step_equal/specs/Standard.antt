@@ -21,7 +21,8 @@ pub record IsWellFormed (t : Table) : Type 0 where
 -- round is the first after which nothing parts.
 pub record IsRefinement (rows : List Row) (pinned : ℕ → Bool) (E : ℕ → ℕ → ℕ → Bool) (last : ℕ) : Type 0 where
   pub first : (x z : ℕ) → (E 0 x z ≡ true) ↔ AreAlike rows pinned x z
-  pub next : (round x z : ℕ) → round < last → (E (round + 1) x z ≡ true) ↔ ((E round x z ≡ true) × AgreeUnder rows pinned (E round) x z)
+  pub next : (round x z : ℕ) → round < last → (E (round + 1) x z ≡ true)
+      ↔ ((E round x z ≡ true) × AgreeUnder rows pinned (E round) x z)
   pub stable : (x z : ℕ) → E last x z ≡ true → AgreeUnder rows pinned (E last) x z
   pub parts : (round : ℕ) → round < last → (x : ℕ) × (z : ℕ) × (E round x z ≡ true) × (E (round + 1) x z ≡ false)
 
@@ -42,7 +43,8 @@ pub record Begins (ys : List ℕ) (t : Table) (c round i : ℕ) : Type 0 where
 -- that is split, the part with its first instance keeps the number.
 pub record IsNumbered (ys : List ℕ) (t : Table) : Type 0 where
   pub used : (c : ℕ) → c < length t.classes → (round : ℕ) × (i : ℕ) × Begins ys t c round i
-  pub ordered : (c d round later i j : ℕ) → c < d → Begins ys t c round i → Begins ys t d later j → (round < later) ⊎ ((round ≡ later) × (i < j))
+  pub ordered : (c d round later i j : ℕ) → c < d → Begins ys t c round i → Begins ys t d later j → (round < later)
+      ⊎ ((round ≡ later) × (i < j))
   pub keeps_number : (round c i : ℕ) → IsFirst ys t round c i → class_at t (slice_index ys i) (round + 1) ≡ Some c
 
 pub record IsStandard (rows : List Row) (pinned : ℕ → Bool) (t : Table) : Type 0 where

@@ -13,4 +13,8 @@ abbrev pub member_of : ℕ × ℕ → ℕ × ℕ
 member_of m = m
 
 abbrev pub table_of : Table → tables.Table
-table_of t = record { rounds = t.rounds; classes = map origin_of t.classes.items; members = map member_of t.members.items }
+table_of t = record {
+  rounds = t.rounds;
+  classes = map origin_of t.classes.items;
+  members = map member_of t.members.items;
+}

@@ -21,13 +21,15 @@ began (split parent round) = round
 -- From class c up the chain of parents, whose numbers fall, to the nearest class that had begun by the round.
 pub data IsAncestor (classes : List Origin) (round : ℕ) : ℕ → ℕ → Type 0 where
   itself : (c : ℕ) (o : Origin) → slice_get classes c ≡ Some o → began o ≤ round → IsAncestor classes round c c
-  through : (c parent since a : ℕ) → slice_get classes c ≡ Some (split parent since) → round < since → parent < c → IsAncestor classes round parent a → IsAncestor classes round c a
+  through : (c parent since a : ℕ) → slice_get classes c ≡ Some (split parent since) → round < since → parent < c
+      → IsAncestor classes round parent a → IsAncestor classes round c a
 
 -- The same as a test: class c if it had begun, else what its parent leads to ..
 abbrev pub climbed : Option Origin → ℕ → ℕ → (ℕ → Option ℕ) → Option ℕ
 climbed None round c climb = None
 climbed (Some start) round c climb = Some c
-climbed (Some (split parent since)) round c climb = cond (nat_le since round) (Some c) (cond (nat_lt parent c) (climb parent) None)
+climbed (Some (split parent since)) round c climb = cond (nat_le since round) (Some c)
+    (cond (nat_lt parent c) (climb parent) None)
 
 -- .. in at most n steps
 abbrev pub ancestor : List Origin → ℕ → ℕ → ℕ → Option ℕ
@@ -64,7 +66,8 @@ HasMembers rows t = map (λ m. m.0) t.members ≡ names rows
 -- that round shares one at the next.
 pub record IsGrounded (rows : List Row) (pinned : ℕ → Bool) (E : ℕ → ℕ → ℕ → Bool) (last : ℕ) : Type 0 where
   pub first : (x z : ℕ) → AreAlike rows pinned x z → E 0 x z ≡ true
-  pub next : (round x z : ℕ) → round < last → E round x z ≡ true → AgreeUnder rows pinned (E round) x z → E (round + 1) x z ≡ true
+  pub next : (round x z : ℕ) → round < last → E round x z ≡ true → AgreeUnder rows pinned (E round) x z
+      → E (round + 1) x z ≡ true
 
 -- The last round is stable: two instances that share a class are alike, and agree under it.
 abbrev pub IsStable : List Row → (ℕ → Bool) → (ℕ → ℕ → Bool) → Type 0

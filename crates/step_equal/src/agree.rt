@@ -2,9 +2,7 @@
 
 ghost use Rattle.std.specs.Prelude.{◌≡◌, IfOk};
 ghost use Rattle.step_equal.specs.Maps.{led_by};
-ghost use Rattle.step_equal.specs.Renamings.{name_by, value_by, values_by};
-ghost use Rattle.step_equal.specs.Tests.{same_test, same_each_test};
-ghost use Rattle.step_equal.specs.Values.{bag};
+ghost use Rattle.step_equal.specs.ComputedRenamings.{name_by, same_by, same_each_by, same_bags_by};
 
 use crate::literals::{same_bits, same_number, same_text, same_word};
 use crate::normal::sorted_forms;
@@ -51,7 +49,7 @@ fn same_value<'m, 'a>(
     v: &PlainValue<'a>,
     w: &PlainValue<'a>,
 ) -> Result<bool, AllocError>
-    ensures { IfOk result (λ b. b ≡ same_test (value_by f.now v.now) (value_by g.now w.now)) }
+    ensures { IfOk result (λ b. b ≡ same_by f.now v.now g.now w.now) }
 {
     match (v, w) {
         (PlainValue::Unset, PlainValue::Unset) => Ok(true),
@@ -83,7 +81,7 @@ pub(crate) fn same_each<'m, 'a>(
     vs: &[PlainValue<'a>],
     ws: &[PlainValue<'a>],
 ) -> Result<bool, AllocError>
-    ensures { IfOk result (λ b. b ≡ same_each_test (values_by f.now vs.now) (values_by g.now ws.now)) }
+    ensures { IfOk result (λ b. b ≡ same_each_by f.now vs.now g.now ws.now) }
 {
     if vs.len() != ws.len() {
         return Ok(false);
@@ -104,7 +102,7 @@ fn same_bags<'m, 'a>(
     vs: &[PlainValue<'a>],
     ws: &[PlainValue<'a>],
 ) -> Result<bool, AllocError>
-    ensures { IfOk result (λ b. b ≡ same_test (bag (values_by f.now vs.now)) (bag (values_by g.now ws.now))) }
+    ensures { IfOk result (λ b. b ≡ same_bags_by f.now vs.now g.now ws.now) }
 {
     if vs.len() != ws.len() {
         return Ok(false);

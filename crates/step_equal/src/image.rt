@@ -1,17 +1,23 @@
 //! Whether a map is an image.
 
-ghost use Rattle.std.specs.Prelude.{◌≡◌, ◌↔◌, ◌==◌, ◌||◌, ℕ, nat_eq, is_some, map, IfOk, IsTrue, None, true};
-ghost use Rattle.std.specs.BTreeMap.{get, keys};
-ghost use Rattle.std.specs.BTreeSet.{contains};
+ghost use Rattle.std.specs.Prelude.{◌≡◌, ◌↔◌, ℕ, nat_eq, is_some, map, IfOk, IsTrue, true};
+ghost use Rattle.std.specs.BTreeMap.{keys};
 ghost use Rattle.std.specs.HashMap.{get as hash_get};
 ghost use Rattle.std.specs.HashSet.{contains as hash_contains};
 ghost use Rattle.std.specs.List.{list_all, list_any};
 ghost use Rattle.std.specs.Ordering.{nat_cmp, eq_by_cmp};
 ghost use Rattle.std.specs.Str.{bytes_eq};
-ghost use Rattle.step_equal.specs.Checks.{Lands, IsOnto, LeavesAlone, row_lands, source, is_source};
-ghost use Rattle.step_equal.specs.Maps.{led_by, is_key, IsMapImage};
+ghost use Rattle.step_equal.specs.ComputedImages.{
+  IsOnto,
+  LeavesAlone,
+  lands_by,
+  is_reached,
+  source_by,
+  is_source_by,
+};
+ghost use Rattle.step_equal.specs.Maps.{led_by, is_key, is_pinned, IsMapImage};
 ghost use Rattle.step_equal.specs.Rows.{row_at, IsName};
-ghost use Rattle.step_equal.specs.Tests.{each_test};
+ghost use Rattle.step_equal.specs.ComputedAgreement.{each_test};
 ghost use Rattle.step_equal.specs.Views.{word_of, row_of, rows_of};
 
 use crate::agree::{Map, Renaming, lead, same_each};
@@ -34,7 +40,7 @@ pub fn is_image<'a>(
     map: &Map,
     pinned: &BTreeSet<u64>,
 ) -> Result<bool, AllocError>
-    ensures { IfOk result (λ b. IsTrue b ↔ IsMapImage p.now q.now map.now (contains nat_cmp pinned.now)) }
+    ensures { IfOk result (λ b. IsTrue b ↔ IsMapImage p.now q.now map.now (is_pinned pinned.now)) }
 {
     if !has_domain(map, p) {
         return Ok(false);
@@ -86,7 +92,7 @@ fn rows_land<'a>(
     rows: &[PlainRow<'a>],
     q: &Plain<'a>,
 ) -> Result<bool, AllocError>
-    ensures { IfOk result (λ b. b ≡ list_all (λ p. row_lands (led_by map.now) p (row_at q.now (led_by map.now p.name))) (rows_of rows.now)) }
+    ensures { IfOk result (λ b. b ≡ list_all (lands_by map.now q.now) (rows_of rows.now)) }
 {
     for row in rows {
         if !row_lands(alloc, map, row, q)? {
@@ -103,7 +109,7 @@ fn row_lands<'a>(
     row: &PlainRow<'a>,
     q: &Plain<'a>,
 ) -> Result<bool, AllocError>
-    ensures { IfOk result (λ b. b ≡ row_lands (led_by map.now) (row_of row.now) (row_at q.now (led_by map.now row.now.name))) }
+    ensures { IfOk result (λ b. b ≡ lands_by map.now q.now (row_of row.now)) }
 {
     let Some(other) = q.find(lead(map, row.name)) else {
         return Ok(false);
@@ -142,7 +148,8 @@ fn is_onto<'a>(
     rows: &[PlainRow<'a>],
     others: &[PlainRow<'a>],
 ) -> Result<bool, AllocError>
-    ensures { IfOk result (λ b. IsTrue b ↔ IsOnto (rows_of rows.now) (rows_of others.now) (led_by map.now)) }
+    ensures { IfOk result
+        (λ b. IsTrue b ↔ IsOnto (rows_of rows.now) (rows_of others.now) (led_by map.now)) }
 {
     let reached = reached(alloc, map, rows)?;
     Ok(are_reached(&reached, others))
@@ -150,7 +157,8 @@ fn is_onto<'a>(
 
 /// The names to which the rows are led.
 fn reached<'a>(alloc: Global, map: &Map, rows: &[PlainRow<'a>]) -> Result<HashSet<u64>, AllocError>
-    ensures { IfOk result (λ s. (y : ℕ) → hash_contains nat_eq s y ≡ list_any (λ p. led_by map.now p.name == y) (rows_of rows.now)) }
+    ensures { IfOk result
+        (λ s. (y : ℕ) → hash_contains nat_eq s y ≡ is_reached map.now (rows_of rows.now) y) }
 {
     let mut reached = HashSet::new(alloc);
     for row in rows {
@@ -178,7 +186,8 @@ fn leaves_alone<'a>(
     rows: &[PlainRow<'a>],
     pinned: &BTreeSet<u64>,
 ) -> Result<bool, AllocError>
-    ensures { IfOk result (λ b. IsTrue b ↔ LeavesAlone (rows_of rows.now) (led_by map.now) (contains nat_cmp pinned.now)) }
+    ensures { IfOk result
+        (λ b. IsTrue b ↔ LeavesAlone (rows_of rows.now) (led_by map.now) (is_pinned pinned.now)) }
 {
     let sources = pinned_sources(alloc, map, rows, pinned)?;
     Ok(are_sources(&sources, map, rows))
@@ -191,7 +200,8 @@ fn pinned_sources<'a>(
     rows: &[PlainRow<'a>],
     pinned: &BTreeSet<u64>,
 ) -> Result<HashMap<u64, u64>, AllocError>
-    ensures { IfOk result (λ s. (y : ℕ) → hash_get nat_eq s y ≡ source (led_by map.now) (contains nat_cmp pinned.now) (rows_of rows.now) None y) }
+    ensures { IfOk result
+        (λ s. (y : ℕ) → hash_get nat_eq s y ≡ source_by map.now pinned.now (rows_of rows.now) y) }
 {
     let mut sources = HashMap::new(alloc);
     for row in rows {
@@ -204,7 +214,7 @@ fn pinned_sources<'a>(
 
 /// Whether each row that is led to where a pinned one is, is that one.
 fn are_sources<'a>(sources: &HashMap<u64, u64>, map: &Map, rows: &[PlainRow<'a>]) -> bool
-    ensures { result ≡ list_all (λ p. is_source (hash_get nat_eq sources.now (led_by map.now p.name)) p.name) (rows_of rows.now) }
+    ensures { result ≡ list_all (is_source_by sources.now map.now) (rows_of rows.now) }
 {
     for row in rows {
         if !is_source(sources, map, row) {
@@ -216,7 +226,7 @@ fn are_sources<'a>(sources: &HashMap<u64, u64>, map: &Map, rows: &[PlainRow<'a>]
 
 /// Whether a row is.
 fn is_source<'a>(sources: &HashMap<u64, u64>, map: &Map, row: &PlainRow<'a>) -> bool
-    ensures { result ≡ is_source (hash_get nat_eq sources.now (led_by map.now row.now.name)) row.now.name }
+    ensures { result ≡ is_source_by sources.now map.now (row_of row.now) }
 {
     match sources.get(&lead(map, row.name)) {
         None => true,

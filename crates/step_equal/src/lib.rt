@@ -9,8 +9,6 @@
 pub mod agree;
 pub mod fault;
 pub mod image;
-#[cfg(test)]
-mod image_tests;
 pub mod laws;
 mod literals;
 mod normal;

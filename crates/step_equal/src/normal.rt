@@ -3,15 +3,15 @@
 //! Two values agree, each reference with itself alone, exactly where their normal forms are equal.
 
 ghost use Rattle.std.specs.Prelude.{IfOk};
-ghost use Rattle.step_equal.specs.Normals.{IsNormal, AreNormal, AreSorted};
-ghost use Rattle.step_equal.specs.Renamings.{value_by, values_by};
+ghost use Rattle.step_equal.specs.ComputedForms.{IsNormal, AreNormal, AreSorted};
+ghost use Rattle.step_equal.specs.ComputedRenamings.{value_by, values_by};
 
 use crate::agree::Renaming;
 use crate::row::PlainValue;
 use std::alloc::{AllocError, Global};
 use step_literals::literal::{Bits, Decimal, Text, Word};
 
-/// A value in normal form. Where kinds differ, the order is that of the variants.
+/// A value in normal form. Where variants differ, the order is that in which they stand here.
 #[derive(PartialEq, Eq, PartialOrd, Ord, Drop)]
 pub(crate) enum Normal<'a> {
     Unset,

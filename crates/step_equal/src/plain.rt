@@ -4,10 +4,10 @@ ghost use Rattle.std.specs.Prelude.{◌≡◌, nat_eq, is_some, length, map, IfO
 ghost use Rattle.std.specs.List.{IsDistinct, AllZip};
 ghost use Rattle.std.specs.Option.{option_map};
 ghost use Rattle.indexmap.specs.IndexSet.{contains};
-ghost use Rattle.step_equal.specs.Closing.{references_pass, all_references_pass, rows_pass};
-ghost use Rattle.step_equal.specs.Coding.{coded_rows};
+ghost use Rattle.step_equal.specs.ComputedClosure.{references_pass, all_references_pass, rows_pass};
+ghost use Rattle.step_equal.specs.ComputedCodes.{coded_rows};
 ghost use Rattle.step_equal.specs.Faults.{IsFaultOf};
-ghost use Rattle.step_equal.specs.PlainViews.{IsPlaced};
+ghost use Rattle.step_equal.specs.ComputedPlaces.{IsPlaced};
 ghost use Rattle.step_equal.specs.Rows.{Row, IsPopulation, names, row_at};
 ghost use Rattle.step_equal.specs.Settled.{IsSettled};
 ghost use Rattle.step_equal.specs.Views.{value_of, values_of, row_of, rows_of};
@@ -42,7 +42,8 @@ impl<'a> Plain<'a> {
     /// Where a name stands twice the fault is `DuplicateRow`, else where a reference names no row
     /// `UnknownReference`; where memory runs out it is `Memory`. The number of rows has no limit of its own.
     pub fn from_rows(alloc: Global, rows: Vec<PlainRow<'a>>) -> Result<Plain<'a>, PlainFault>
-        ensures rows { IfOk result (λ p. AllZip IsSettled (rows_of rows.entry.items) p × IsPopulation p) }
+        ensures rows { IfOk result (λ p. AllZip IsSettled (rows_of rows.entry.items) p) }
+        ensures population { IfOk result (λ p. IsPopulation p) }
         ensures fault { IfErr result (λ e. IsFaultOf (rows_of rows.entry.items) e) }
     {
         let places = places_of(alloc, &rows)?;
@@ -87,7 +88,8 @@ impl<'a> Plain<'a> {
 
 /// The names of the rows, in order.
 fn places_of<'a>(alloc: Global, rows: &[PlainRow<'a>]) -> Result<IndexSet<u64>, PlainFault>
-    ensures places { IfOk result (λ s. (s.keys ≡ names (rows_of rows.now)) × IsDistinct nat_eq (names (rows_of rows.now))) }
+    ensures places { IfOk result (λ s. s.keys ≡ names (rows_of rows.now)) }
+    ensures distinct { IfOk result (λ _. IsDistinct nat_eq (names (rows_of rows.now))) }
     ensures fault { IfErr result (λ e. IsFaultOf (rows_of rows.now) e) }
 {
     let mut places = IndexSet::with_capacity(alloc, rows.len())?;

@@ -2,39 +2,41 @@
 use Rattle.std.proofs.Common.{◌≡◌, ℕ, ◌+◌, ◌≤◌, nat_lt, Bool, true, false, not, ◌&&◌, if◌then◌else◌, List, [], ◌∷◌, ◌++◌, length, Ok, Err, refl, ◌⊎◌, inl, inr, codes}
 use Rattle.step_lexis.specs.declared.token.Mark.{Mark}
 use Rattle.step_lexis.specs.declared.token.Mark.TheVariants.{Open, Close, Comma, Semicolon, Dollar, Asterisk}
-use Rattle.step_exchange.specs.declared.fault.Kind.{Kind}
-use Rattle.step_exchange.specs.declared.fault.Kind.TheVariants as kinds
+use Rattle.step_exchange.specs.declared.fault.FaultKind.{FaultKind}
+use Rattle.step_exchange.specs.declared.fault.FaultKind.TheVariants as kinds
 use Rattle.step_exchange.specs.declared.fault.LeftOut.TheVariants as left_out
-use Rattle.step_exchange.specs.Words.{begins, ends, keyword, user_defined, scope, name, number, element, string, binary, mark, Sight, token, flawed, over}
+use Rattle.step_exchange.specs.Words.{begins, ends, keyword, user_defined, scope, name, number, element, string, binary, mark, Lookahead, token, flawed, end_of_text}
 use Rattle.step_exchange.specs.Trees.{is_said}
 use Rattle.step_exchange.specs.Fits.{Rules, has_name, has_keyword}
 use Rattle.step_exchange.specs.Texts.{IsWord}
-use Rattle.step_exchange.specs.Predict.{Symbol, Just, Start, Say, Head, Records, Ended, Data, Behind, Rows, Body, Parts, Value, Items, More, Finish, Over, refused, Next, is_mark, next, next_start, next_say, next_records, next_ended, next_data, next_behind, next_body, next_close, next_more, next_finish, next_over, then_more, section_kind, record_symbols, row_symbols}
+use Rattle.step_exchange.specs.Predict.{Symbol, Just, Start, Say, Head, Records, Ended, Data, Behind, Rows, Body, Parts, Value, Items, More, Finish, EndOfText, refused, Next, is_mark, next, next_start, next_say, next_records, next_ended, next_data, next_behind, next_body, next_close, next_more, next_finish, next_end_of_text, then_more, section_kind, record_symbols, row_symbols}
 
 -- neither a fault nor the sign of a part that is left out
-abbrev pub IsOrdinary : Sight → Type 0
+abbrev pub IsOrdinary : Lookahead → Type 0
 IsOrdinary (flawed f) = ⊥
 IsOrdinary (token (user_defined text)) = ⊥
 IsOrdinary (token scope) = ⊥
 IsOrdinary _ = Unit {0}
 
 -- where a fault by no rule comes from
-abbrev pub Told : Symbol → Sight → Kind → Type 0
+abbrev pub Told : Symbol → Lookahead → FaultKind → Type 0
 Told y s (kinds.Token f) = s ≡ flawed f
 Told y s kinds.Expected = IsOrdinary s
 Told y s (kinds.LeftOut left_out.UserDefined) = (text : List ℕ) × (s ≡ token (user_defined text))
 Told y s (kinds.LeftOut left_out.Scope) = s ≡ token scope
 Told y s (kinds.LeftOut left_out.Anchor) = IsWord (codes "ANCHOR") s × ((y ≡ Data) ⊎ (y ≡ Finish))
 Told y s (kinds.LeftOut left_out.Reference) = IsWord (codes "REFERENCE") s × ((y ≡ Data) ⊎ (y ≡ Finish))
-Told y s (kinds.LeftOut left_out.Signature) = IsWord (codes "SIGNATURE") s × (((y ≡ Data) ⊎ (y ≡ Finish)) ⊎ (y ≡ Over))
-Told y s (kinds.LeftOut left_out.Sections) = (IsWord (codes "DATA") s × (y ≡ Finish)) ⊎ ((s ≡ token (mark Open)) × (y ≡ Behind))
+Told y s (kinds.LeftOut left_out.Signature) = IsWord (codes "SIGNATURE") s
+    × (((y ≡ Data) ⊎ (y ≡ Finish)) ⊎ (y ≡ EndOfText))
+Told y s (kinds.LeftOut left_out.Sections) = (IsWord (codes "DATA") s × (y ≡ Finish))
+    ⊎ ((s ≡ token (mark Open)) × (y ≡ Behind))
 Told y s _ = ⊥
 
-abbrev pub ToldBy : Symbol → Sight → Next → Type 0
+abbrev pub ToldBy : Symbol → Lookahead → Next → Type 0
 ToldBy y s (Ok zs) = Unit {0}
 ToldBy y s (Err k) = Told y s k
 
-told_refused : (y : Symbol) (s : Sight) → Told y s (refused s)
+told_refused : (y : Symbol) (s : Lookahead) → Told y s (refused s)
 told_refused y (flawed f) = refl
 told_refused y (token (user_defined text)) = (text, refl)
 told_refused y (token scope) = refl
@@ -53,56 +55,72 @@ abbrev pub Small : Rules → Symbol → Type 0
 Small rules Data = ⊥
 Small rules Behind = ⊥
 Small rules Finish = ⊥
-Small rules Over = ⊥
+Small rules EndOfText = ⊥
 Small rules y = Little rules y
 
 -- by which test, if any, the rules decide what is next
-pub data Form (y : Symbol) (s : Sight) : Type 0 where
+pub data Form (y : Symbol) (s : Lookahead) : Type 0 where
   fixed : (v : Next) → ((w : Rules) → next w y s ≡ v) → ToldBy y s v → Form y s
-  by_level : (n : ℕ) (zs : List Symbol) → ((w : Rules) → next w y s ≡ (if nat_lt n w.levels then Ok zs else Err kinds.TooDeep)) → ((w : Rules) → Little w y → n ≤ w.levels) → (s ≡ token (mark Semicolon) → ⊥) → Form y s
-  by_head : (b : Bool) (zs : List Symbol) → ((w : Rules) → next w y s ≡ (if w.headed && b then Err kinds.HeaderFault else Ok zs)) → (s ≡ token (mark Semicolon) → ⊥) → Form y s
-  by_part : (b : Bool) (zs : List Symbol) → ((w : Rules) → next w y s ≡ (if w.distinct && b then Err kinds.DuplicateName else Ok zs)) → (s ≡ token (mark Semicolon) → ⊥) → Form y s
-  by_name : (b : Bool) (n : ℕ) (zs : List Symbol) → ((w : Rules) → next w y s ≡ (if w.distinct && b then Err kinds.DuplicateName else (if nat_lt n w.instances then Ok zs else Err (kinds.LeftOut left_out.TooMany)))) → ((w : Rules) → Little w y → n ≤ w.instances) → (s ≡ token (mark Semicolon) → ⊥) → Form y s
+  by_level : (n : ℕ) (zs : List Symbol) → ((w : Rules)
+      → next w y s ≡ (if nat_lt n w.levels then Ok zs else Err kinds.TooDeep))
+      → ((w : Rules) → Little w y → n ≤ w.levels) → (s ≡ token (mark Semicolon) → ⊥) → Form y s
+  by_head : (b : Bool) (zs : List Symbol)
+      → ((w : Rules) → next w y s ≡ (if w.headed && b then Err kinds.HeaderFault else Ok zs))
+      → (s ≡ token (mark Semicolon) → ⊥) → Form y s
+  by_part : (b : Bool) (zs : List Symbol)
+      → ((w : Rules) → next w y s ≡ (if w.distinct && b then Err kinds.DuplicateName else Ok zs))
+      → (s ≡ token (mark Semicolon) → ⊥) → Form y s
+  by_name : (b : Bool) (n : ℕ) (zs : List Symbol)
+      → ((w : Rules) → next w y s ≡ (if w.distinct && b then Err kinds.DuplicateName else
+      (if nat_lt n w.instances then Ok zs else Err (kinds.LeftOut left_out.TooMany))))
+      → ((w : Rules) → Little w y → n ≤ w.instances) → (s ≡ token (mark Semicolon) → ⊥) → Form y s
 
-told_just : (m : Mark) (s : Sight) (b : Bool) → ToldBy (Just m) s (if b then Ok [] else Err (refused s))
+told_just : (m : Mark) (s : Lookahead) (b : Bool) → ToldBy (Just m) s (if b then Ok [] else Err (refused s))
 told_just m s true = tt
 told_just m s false = told_refused (Just m) s
 
-told_start : (s : Sight) → ToldBy Start s (next_start s)
+told_start : (s : Lookahead) → ToldBy Start s (next_start s)
 told_start (token begins) = tt
 told_start s = told_refused Start s
 
-told_if : (y : Symbol) (s : Sight) (b : Bool) (zs ys : List Symbol) → ToldBy y s (if b then Ok zs else Ok ys)
+told_if : (y : Symbol) (s : Lookahead) (b : Bool) (zs ys : List Symbol) → ToldBy y s (if b then Ok zs else Ok ys)
 told_if y s true zs ys = tt
 told_if y s false zs ys = tt
 
-told_expected : (y : Symbol) (text : List ℕ) (b : Bool) (zs : List Symbol) → ToldBy y (token (keyword text)) (if b then Ok zs else Err kinds.Expected)
+told_expected : (y : Symbol) (text : List ℕ) (b : Bool) (zs : List Symbol) → ToldBy y (token (keyword text))
+    (if b then Ok zs else Err kinds.Expected)
 told_expected y text true zs = tt
 told_expected y text false zs = tt
 
-told_say : (word : List ℕ) (s : Sight) → ToldBy (Say word) s (next_say word s)
+told_say : (word : List ℕ) (s : Lookahead) → ToldBy (Say word) s (next_say word s)
 told_say word (token (keyword text)) = told_expected (Say word) text (is_said word text) []
 told_say word s = told_refused (Say word) s
 
-told_records : (s : Sight) → ToldBy Records s (next_records s)
-told_records (token (keyword text)) = told_if Records (token (keyword text)) (is_said (codes "ENDSEC") text) (Ended ∷ []) (Just Open ∷ Items 1 ∷ Just Semicolon ∷ Records ∷ [])
+told_records : (s : Lookahead) → ToldBy Records s (next_records s)
+told_records (token (keyword text)) = told_if Records (token (keyword text)) (is_said (codes "ENDSEC") text)
+    (Ended ∷ []) (Just Open ∷ Items 1 ∷ Just Semicolon ∷ Records ∷ [])
 told_records s = told_refused Records s
 
-told_ended : (s : Sight) → ToldBy Ended s (next_ended s)
+told_ended : (s : Lookahead) → ToldBy Ended s (next_ended s)
 told_ended (token (mark Semicolon)) = tt
 told_ended (token (mark Open)) = tt
 told_ended s = told_refused Ended s
 
-told_section : (y : Symbol) (text : List ℕ) → (y ≡ Data) ⊎ (y ≡ Finish) → Told y (token (keyword text)) (section_kind text)
-told_section y text h = by (is_said (codes "ANCHOR") text) (is_said (codes "REFERENCE") text) (is_said (codes "SIGNATURE") text) refl refl refl
+told_section : (y : Symbol) (text : List ℕ) → (y ≡ Data) ⊎ (y ≡ Finish) → Told y (token (keyword text))
+    (section_kind text)
+told_section y text h = by (is_said (codes "ANCHOR") text) (is_said (codes "REFERENCE") text)
+    (is_said (codes "SIGNATURE") text) refl refl refl
   where
-    by : (a b c : Bool) → is_said (codes "ANCHOR") text ≡ a → is_said (codes "REFERENCE") text ≡ b → is_said (codes "SIGNATURE") text ≡ c → Told y (token (keyword text)) (if a then kinds.LeftOut left_out.Anchor else (if b then kinds.LeftOut left_out.Reference else (if c then kinds.LeftOut left_out.Signature else kinds.Expected)))
+    by : (a b c : Bool) → is_said (codes "ANCHOR") text ≡ a → is_said (codes "REFERENCE") text ≡ b
+        → is_said (codes "SIGNATURE") text ≡ c → Told y (token (keyword text)) (if a then kinds.LeftOut left_out.Anchor
+        else (if b then kinds.LeftOut left_out.Reference else (if c then kinds.LeftOut left_out.Signature else
+        kinds.Expected)))
     by true b c e f g = (e, h)
     by false true c e f g = (f, h)
     by false false true e f g = (g, inl h)
     by false false false e f g = tt
 
-told_data : (s : Sight) → ToldBy Data s (next_data s)
+told_data : (s : Lookahead) → ToldBy Data s (next_data s)
 told_data (token (keyword text)) = by (is_said (codes "DATA") text)
   where
     by : (b : Bool) → ToldBy Data (token (keyword text)) (if b then Ok [] else Err (section_kind text))
@@ -110,58 +128,63 @@ told_data (token (keyword text)) = by (is_said (codes "DATA") text)
     by false = told_section Data text (inl refl)
 told_data s = told_refused Data s
 
-told_behind : (s : Sight) → ToldBy Behind s (next_behind s)
+told_behind : (s : Lookahead) → ToldBy Behind s (next_behind s)
 told_behind (token (mark Semicolon)) = tt
 told_behind (token (mark Open)) = inr (refl, refl)
 told_behind s = told_refused Behind s
 
-told_body : (s : Sight) → ToldBy Body s (next_body s)
+told_body : (s : Lookahead) → ToldBy Body s (next_body s)
 told_body (token (keyword text)) = tt
 told_body (token (mark Open)) = tt
 told_body s = told_refused Body s
 
-told_more : (n : ℕ) (s : Sight) → ToldBy (More n) s (next_more n s)
+told_more : (n : ℕ) (s : Lookahead) → ToldBy (More n) s (next_more n s)
 told_more n (token (mark Comma)) = tt
 told_more n (token (mark Close)) = tt
 told_more n s = told_refused (More n) s
 
-told_finish : (s : Sight) → ToldBy Finish s (next_finish s)
+told_finish : (s : Lookahead) → ToldBy Finish s (next_finish s)
 told_finish (token ends) = tt
 told_finish (token (keyword text)) = by (is_said (codes "DATA") text) refl
   where
-    by : (b : Bool) → is_said (codes "DATA") text ≡ b → ToldBy Finish (token (keyword text)) (if b then Err (kinds.LeftOut left_out.Sections) else Err (section_kind text))
+    by : (b : Bool) → is_said (codes "DATA") text ≡ b → ToldBy Finish (token (keyword text))
+        (if b then Err (kinds.LeftOut left_out.Sections) else Err (section_kind text))
     by true e = inl (e, refl)
     by false e = told_section Finish text (inr refl)
 told_finish s = told_refused Finish s
 
-told_over : (s : Sight) → ToldBy Over s (next_over s)
-told_over over = tt
+told_over : (s : Lookahead) → ToldBy EndOfText s (next_end_of_text s)
+told_over end_of_text = tt
 told_over (token (keyword text)) = by (is_said (codes "SIGNATURE") text) refl
   where
-    by : (b : Bool) → is_said (codes "SIGNATURE") text ≡ b → ToldBy Over (token (keyword text)) (if b then Err (kinds.LeftOut left_out.Signature) else Err kinds.Expected)
+    by : (b : Bool) → is_said (codes "SIGNATURE") text ≡ b → ToldBy EndOfText (token (keyword text))
+        (if b then Err (kinds.LeftOut left_out.Signature) else Err kinds.Expected)
     by true e = (e, inr refl)
     by false e = tt
-told_over s = told_refused Over s
+told_over s = told_refused EndOfText s
 
-form_head : (word : List ℕ) (s : Sight) → Form (Head word) s
+form_head : (word : List ℕ) (s : Lookahead) → Form (Head word) s
 form_head word (token (keyword text)) = by_head (not (is_said word text)) record_symbols (λ w. refl) (λ e. cc)
 form_head word s = fixed (Err (refused s)) (λ w. refl) (told_refused (Head word) s)
 
-form_rows : (names : List ℕ) (s : Sight) → Form (Rows names) s
-form_rows names (token (name n text)) = by_name (has_name n names) (length names) (row_symbols ++ Rows (names ++ n ∷ []) ∷ []) (λ w. refl) (λ w h. h) (λ e. cc)
-form_rows names (token (keyword text)) = fixed (if is_said (codes "ENDSEC") text then Ok [] else Err kinds.Expected) (λ w. refl) (told_expected (Rows names) text (is_said (codes "ENDSEC") text) [])
+form_rows : (names : List ℕ) (s : Lookahead) → Form (Rows names) s
+form_rows names (token (name n text)) = by_name (has_name n names) (length names) (row_symbols ++ Rows (names ++ n ∷ [])
+    ∷ []) (λ w. refl) (λ w h. h) (λ e. cc)
+form_rows names (token (keyword text)) = fixed (if is_said (codes "ENDSEC") text then Ok [] else Err kinds.Expected)
+    (λ w. refl) (told_expected (Rows names) text (is_said (codes "ENDSEC") text) [])
 form_rows names s = fixed (Err (refused s)) (λ w. refl) (told_refused (Rows names) s)
 
 told_close : (before : List (List ℕ)) → ToldBy (Parts before) (token (mark Close)) (next_close before)
 told_close [] = tt
 told_close (w ∷ ws) = tt
 
-form_parts : (before : List (List ℕ)) (s : Sight) → Form (Parts before) s
-form_parts before (token (keyword text)) = by_part (has_keyword text before) (Just Open ∷ Items 2 ∷ Parts (before ++ text ∷ []) ∷ []) (λ w. refl) (λ e. cc)
+form_parts : (before : List (List ℕ)) (s : Lookahead) → Form (Parts before) s
+form_parts before (token (keyword text)) = by_part (has_keyword text before) (Just Open ∷ Items 2
+    ∷ Parts (before ++ text ∷ []) ∷ []) (λ w. refl) (λ e. cc)
 form_parts before (token (mark Close)) = fixed (next_close before) (λ w. refl) (told_close before)
 form_parts before s = fixed (Err (refused s)) (λ w. refl) (told_refused (Parts before) s)
 
-form_value : (n : ℕ) (s : Sight) → Form (Value n) s
+form_value : (n : ℕ) (s : Lookahead) → Form (Value n) s
 form_value n (token (mark Dollar)) = fixed (Ok []) (λ w. refl) tt
 form_value n (token (mark Asterisk)) = fixed (Ok []) (λ w. refl) tt
 form_value n (token (name m text)) = fixed (Ok []) (λ w. refl) tt
@@ -169,15 +192,17 @@ form_value n (token (number text)) = fixed (Ok []) (λ w. refl) tt
 form_value n (token (element text)) = fixed (Ok []) (λ w. refl) tt
 form_value n (token (string text)) = fixed (Ok []) (λ w. refl) tt
 form_value n (token (binary text)) = fixed (Ok []) (λ w. refl) tt
-form_value n (token (keyword text)) = by_level n (Just Open ∷ Value (n + 1) ∷ Just Close ∷ []) (λ w. refl) (λ w h. h) (λ e. cc)
+form_value n (token (keyword text)) = by_level n (Just Open ∷ Value (n + 1) ∷ Just Close ∷ []) (λ w. refl) (λ w h. h)
+    (λ e. cc)
 form_value n (token (mark Open)) = by_level n (Items (n + 1) ∷ []) (λ w. refl) (λ w h. h) (λ e. cc)
 form_value n s = fixed (Err (refused s)) (λ w. refl) (told_refused (Value n) s)
 
-then_if : (n : ℕ) (b : Bool) (zs : List Symbol) (k : Kind) → then_more n (if b then Ok zs else Err k) ≡ (if b then Ok (zs ++ More n ∷ []) else Err k)
+then_if : (n : ℕ) (b : Bool) (zs : List Symbol) (k : FaultKind)
+    → then_more n (if b then Ok zs else Err k) ≡ (if b then Ok (zs ++ More n ∷ []) else Err k)
 then_if n true zs k = refl
 then_if n false zs k = refl
 
-form_items : (n : ℕ) (s : Sight) → Form (Items n) s
+form_items : (n : ℕ) (s : Lookahead) → Form (Items n) s
 form_items n (token (mark Close)) = fixed (Ok []) (λ w. refl) tt
 form_items n (token (mark Dollar)) = fixed (Ok (More n ∷ [])) (λ w. refl) tt
 form_items n (token (mark Asterisk)) = fixed (Ok (More n ∷ [])) (λ w. refl) tt
@@ -186,12 +211,15 @@ form_items n (token (number text)) = fixed (Ok (More n ∷ [])) (λ w. refl) tt
 form_items n (token (element text)) = fixed (Ok (More n ∷ [])) (λ w. refl) tt
 form_items n (token (string text)) = fixed (Ok (More n ∷ [])) (λ w. refl) tt
 form_items n (token (binary text)) = fixed (Ok (More n ∷ [])) (λ w. refl) tt
-form_items n (token (keyword text)) = by_level n (Just Open ∷ Value (n + 1) ∷ Just Close ∷ More n ∷ []) (λ w. then_if n (nat_lt n w.levels) (Just Open ∷ Value (n + 1) ∷ Just Close ∷ []) kinds.TooDeep) (λ w h. h) (λ e. cc)
-form_items n (token (mark Open)) = by_level n (Items (n + 1) ∷ More n ∷ []) (λ w. then_if n (nat_lt n w.levels) (Items (n + 1) ∷ []) kinds.TooDeep) (λ w h. h) (λ e. cc)
+form_items n (token (keyword text)) = by_level n (Just Open ∷ Value (n + 1) ∷ Just Close ∷ More n ∷ [])
+    (λ w. then_if n (nat_lt n w.levels) (Just Open ∷ Value (n + 1) ∷ Just Close ∷ []) kinds.TooDeep) (λ w h. h)
+    (λ e. cc)
+form_items n (token (mark Open)) = by_level n (Items (n + 1) ∷ More n ∷ [])
+    (λ w. then_if n (nat_lt n w.levels) (Items (n + 1) ∷ []) kinds.TooDeep) (λ w h. h) (λ e. cc)
 form_items n s = fixed (Err (refused s)) (λ w. refl) (told_refused (Items n) s)
 
 -- the form of each symbol's row
-pub form : (y : Symbol) (s : Sight) → Form y s
+pub form : (y : Symbol) (s : Lookahead) → Form y s
 form (Just m) s = fixed (if is_mark m s then Ok [] else Err (refused s)) (λ w. refl) (told_just m s (is_mark m s))
 form Start s = fixed (next_start s) (λ w. refl) (told_start s)
 form (Say word) s = fixed (next_say word s) (λ w. refl) (told_say word s)
@@ -207,4 +235,4 @@ form (Value n) s = form_value n s
 form (Items n) s = form_items n s
 form (More n) s = fixed (next_more n s) (λ w. refl) (told_more n s)
 form Finish s = fixed (next_finish s) (λ w. refl) (told_finish s)
-form Over s = fixed (next_over s) (λ w. refl) (told_over s)
+form EndOfText s = fixed (next_end_of_text s) (λ w. refl) (told_over s)

@@ -7,10 +7,8 @@ pub mod Keywords
 pub mod RecordSteps
 pub mod RowSteps
 pub mod DataSteps
-pub mod Sending
-pub mod Printing
-pub mod FrontKept
-pub mod FrontAgain
+pub mod HeaderKept
+pub mod HeaderAgain
 pub mod Spelling
 pub mod Written
 pub mod PlainLemmas
@@ -26,12 +24,12 @@ pub mod OneFault
 pub mod Agreeing
 pub mod Forms
 pub mod Wider
-pub mod Fronts
+pub mod Prefixes
 pub mod Agreed
 pub mod Reached
 pub mod Reasons
 pub mod Holds
-pub mod DueKinds
+pub mod FaultKinds
 pub mod FirstFault
 pub mod HeadSteps
 pub mod Outcome

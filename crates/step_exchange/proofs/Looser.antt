@@ -1,7 +1,7 @@
 -- What fits some rules fits looser ones.
 use Rattle.std.proofs.Common.{◌≡◌, ℕ, ◌+◌, ◌≤◌, Bool, true, false, List, [], ◌∷◌, ◌++◌, refl, arith}
-use Rattle.step_exchange.specs.Trees.{Tree, leaf, typed, group, Trees, none, one, Part, Form, internal, external, Row, File}
-use Rattle.step_exchange.specs.Fits.{Rules, the_rules, FitsTree, FitsTrees, FitsPart, FitsParts, FitsForm, FitsRows, FitsRecords, FitsHeader, FitsFile, IsHeader, Where, has_keyword, has_name}
+use Rattle.step_exchange.specs.Trees.{Tree, leaf, typed, group, Trees, none, one, Record, Form, internal, external, Row, File}
+use Rattle.step_exchange.specs.Fits.{Rules, the_rules, FitsTree, FitsTrees, FitsRecord, FitsPartialRecords, FitsForm, FitsRows, FitsRecords, FitsHeader, FitsFile, IsHeader, Where, has_keyword, has_name}
 use Rattle.step_exchange.specs.Texts.{more_levels, more_instances, repeated, unheaded}
 
 -- these rules ask for less
@@ -28,12 +28,18 @@ module _ (a b : Rules) (l : IsLooser a b) where
     looser_trees none n h = tt
     looser_trees (one x xs) n h = (looser_tree x n h.0, looser_trees xs n h.1)
 
-  pub looser_part : (p : Part) (n : ℕ) → FitsPart a n p → FitsPart b n p
+  pub looser_part : (p : Record) (n : ℕ) → FitsRecord a n p → FitsRecord b n p
   looser_part p n h = (omega (arith, h.0, l.levels), looser_trees p.values (n + 1) h.1)
 
-  pub looser_parts : (ps : List Part) (before : List (List ℕ)) → FitsParts a before ps → FitsParts b before ps
+  pub looser_parts : (ps : List Record) (before : List (List ℕ)) → FitsPartialRecords a before ps
+      → FitsPartialRecords b before ps
   looser_parts [] before h = tt
-  looser_parts (p ∷ ps) before h = (where_looser (has_keyword p.keyword before ≡ false) a.distinct b.distinct l.distinct h.0, looser_part p 1 h.1, looser_parts ps (before ++ p.keyword ∷ []) h.2)
+  looser_parts (p ∷ ps) before h = (
+    where_looser (has_keyword p.keyword before ≡ false) a.distinct b.distinct l.distinct
+        h.0,
+    looser_part p 1 h.1,
+    looser_parts ps (before ++ p.keyword ∷ []) h.2,
+  )
 
   pub looser_form : (x : Form) → FitsForm a x → FitsForm b x
   looser_form (internal p) h = looser_part p 0 h
@@ -41,13 +47,18 @@ module _ (a b : Rules) (l : IsLooser a b) where
 
   pub looser_rows : (rs : List Row) (before : List ℕ) → FitsRows a before rs → FitsRows b before rs
   looser_rows [] before h = tt
-  looser_rows (r ∷ rs) before h = (where_looser (has_name r.name before ≡ false) a.distinct b.distinct l.distinct h.0, omega (arith, h.1, l.instances), looser_form r.form h.2, looser_rows rs (before ++ r.name ∷ []) h.3)
+  looser_rows (r ∷ rs) before h = (
+    where_looser (has_name r.name before ≡ false) a.distinct b.distinct l.distinct h.0,
+    omega (arith, h.1, l.instances),
+    looser_form r.form h.2,
+    looser_rows rs (before ++ r.name ∷ []) h.3,
+  )
 
-  pub looser_records : (ps : List Part) → FitsRecords a ps → FitsRecords b ps
+  pub looser_records : (ps : List Record) → FitsRecords a ps → FitsRecords b ps
   looser_records [] h = tt
   looser_records (p ∷ ps) h = (looser_part p 0 h.0, looser_records ps h.1)
 
-  pub looser_header : (ps : List Part) → FitsHeader a ps → FitsHeader b ps
+  pub looser_header : (ps : List Record) → FitsHeader a ps → FitsHeader b ps
   looser_header ps h = (looser_records ps h.0, h.1, where_looser (IsHeader ps) a.headed b.headed l.headed h.2)
 
   pub looser_file : (x : File) → FitsFile a x → FitsFile b x

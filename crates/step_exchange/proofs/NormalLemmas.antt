@@ -5,54 +5,63 @@ use Rattle.std.proofs.lemmas.List.{map-append, length-map}
 use Rattle.std.proofs.lemmas.Str.Ascii.{uppercase-uppercase}
 use Rattle.step_lexis.specs.declared.token.Mark.TheVariants.{Open, Close, Comma, Semicolon, Equals, Dollar, Asterisk}
 use Rattle.step_exchange.specs.Words.{Word, keyword, user_defined, name, number, element, string, binary, mark}
-use Rattle.step_exchange.specs.Trees.{Tree, leaf, typed, group, Trees, none, one, Part, Form, internal, external, Row, Item, this, named, is_said, items_of_tree, items_of_trees, items_of_more, items_of_part, items_of_parts, items_of_form, items_of_row, items_of_rows, items_of_data, items_of_end, section}
-use Rattle.step_exchange.specs.Fits.{Rules, IsLeaf, FitsTree, FitsTrees, FitsPart, FitsParts, FitsForm, FitsRows, Where, has_keyword}
+use Rattle.step_exchange.specs.Trees.{Tree, leaf, typed, group, Trees, none, one, Record, Form, internal, external, Row, Item, this, named, is_said, items_of_tree, items_of_trees, items_of_more, items_of_record, items_of_partial_records, items_of_form, items_of_row, items_of_rows, items_of_data, items_of_end, section}
+use Rattle.step_exchange.specs.Fits.{Rules, IsLeaf, FitsTree, FitsTrees, FitsRecord, FitsPartialRecords, FitsForm, FitsRows, Where, has_keyword}
 use Rattle.step_literals.specs.Words.{upper}
-use Rattle.step_exchange.specs.Normal.{plain_word, plain_name, plain_tree, plain_trees, plain_more, plain_part, plain_parts, plain_form, plain_rows, normal_word, normal_tree, normal_trees, normal_part, normal_form, normal_row, normal_rows, NormalStays}
+use Rattle.step_exchange.specs.Normal.{plain_word, plain_name, plain_tree, plain_trees, plain_more, plain_record, plain_partial_records, plain_form, plain_rows, normal_word, normal_tree, normal_trees, normal_part, normal_form, normal_row, normal_rows, NormalStays}
 use Rattle.step_exchange.proofs.Spelling.{lower_upper}
 use Rattle.step_exchange.proofs.Written.{normal_item}
 
 abbrev normals : List Item → List Item
 normals is = map normal_item is
 
-over : (xs ys us vs : List Item) → us ≡ normals xs → vs ≡ normals ys → us ++ vs ≡ normals (xs ++ ys)
-over xs ys us vs e q = (λ i. e i ++ q i) ∙ sym (map-append normal_item xs ys)
+both_normal : (xs ys us vs : List Item) → us ≡ normals xs → vs ≡ normals ys → us ++ vs ≡ normals (xs ++ ys)
+both_normal xs ys us vs e q = (λ i. e i ++ q i) ∙ sym (map-append normal_item xs ys)
 
 mutual
   tree_items : (x : Tree) → items_of_tree (normal_tree x) ≡ normals (items_of_tree x)
   tree_items (leaf w) = refl
-  tree_items (typed text x) = ap (λ l. this (keyword (upper text)) ∷ this (mark Open) ∷ l) (over (items_of_tree x) (this (mark Close) ∷ []) _ _ (tree_items x) refl)
-  tree_items (group xs) = ap (λ l. this (mark Open) ∷ l) (over (items_of_trees xs) (this (mark Close) ∷ []) _ _ (trees_items xs) refl)
+  tree_items (typed text x) = ap (λ l. this (keyword (upper text)) ∷ this (mark Open) ∷ l)
+      (both_normal (items_of_tree x) (this (mark Close) ∷ []) _ _ (tree_items x) refl)
+  tree_items (group xs) = ap (λ l. this (mark Open) ∷ l) (both_normal (items_of_trees xs) (this (mark Close) ∷ []) _ _
+      (trees_items xs) refl)
 
   trees_items : (xs : Trees) → items_of_trees (normal_trees xs) ≡ normals (items_of_trees xs)
   trees_items none = refl
-  trees_items (one x xs) = over (items_of_tree x) (items_of_more xs) _ _ (tree_items x) (more_items xs)
+  trees_items (one x xs) = both_normal (items_of_tree x) (items_of_more xs) _ _ (tree_items x) (more_items xs)
 
   more_items : (xs : Trees) → items_of_more (normal_trees xs) ≡ normals (items_of_more xs)
   more_items none = refl
-  more_items (one x xs) = ap (λ l. this (mark Comma) ∷ l) (over (items_of_tree x) (items_of_more xs) _ _ (tree_items x) (more_items xs))
+  more_items (one x xs) = ap (λ l. this (mark Comma) ∷ l) (both_normal (items_of_tree x) (items_of_more xs) _ _
+      (tree_items x) (more_items xs))
 
-part_items : (p : Part) → items_of_part (normal_part p) ≡ normals (items_of_part p)
-part_items p = ap (λ l. this (keyword (upper p.keyword)) ∷ this (mark Open) ∷ l) (over (items_of_trees p.values) (this (mark Close) ∷ []) _ _ (trees_items p.values) refl)
+part_items : (p : Record) → items_of_record (normal_part p) ≡ normals (items_of_record p)
+part_items p = ap (λ l. this (keyword (upper p.keyword)) ∷ this (mark Open) ∷ l)
+    (both_normal (items_of_trees p.values) (this (mark Close) ∷ []) _ _ (trees_items p.values) refl)
 
-parts_items : (ps : List Part) → items_of_parts (map normal_part ps) ≡ normals (items_of_parts ps)
+parts_items : (ps : List Record) → items_of_partial_records (map normal_part ps) ≡ normals (items_of_partial_records ps)
 parts_items [] = refl
-parts_items (p ∷ ps) = over (items_of_part p) (items_of_parts ps) _ _ (part_items p) (parts_items ps)
+parts_items (p ∷ ps) = both_normal (items_of_record p) (items_of_partial_records ps) _ _ (part_items p) (parts_items ps)
 
 form_items : (f : Form) → items_of_form (normal_form f) ≡ normals (items_of_form f)
 form_items (internal p) = part_items p
-form_items (external ps) = ap (λ l. this (mark Open) ∷ l) (over (items_of_parts ps) (this (mark Close) ∷ []) _ _ (parts_items ps) refl)
+form_items (external ps) = ap (λ l. this (mark Open) ∷ l) (both_normal (items_of_partial_records ps) (this (mark Close)
+    ∷ []) _ _ (parts_items ps) refl)
 
 row_items : (r : Row) → items_of_row (normal_row r) ≡ normals (items_of_row r)
-row_items r = ap (λ l. named r.name ∷ this (mark Equals) ∷ l) (over (items_of_form r.form) (this (mark Semicolon) ∷ []) _ _ (form_items r.form) refl)
+row_items r = ap (λ l. named r.name ∷ this (mark Equals) ∷ l) (both_normal (items_of_form r.form) (this (mark Semicolon)
+    ∷ []) _ _ (form_items r.form) refl)
 
 rows_items : (rs : List Row) → items_of_rows (normal_rows rs) ≡ normals (items_of_rows rs)
 rows_items [] = refl
-rows_items (r ∷ rs) = over (items_of_row r) (items_of_rows rs) _ _ (row_items r) (rows_items rs)
+rows_items (r ∷ rs) = both_normal (items_of_row r) (items_of_rows rs) _ _ (row_items r) (rows_items rs)
 
 -- the items of the normal rows are those of the rows with normal words
-pub data_items : (rs : List Row) → items_of_data (normal_rows rs) ++ items_of_end ≡ map normal_item (items_of_data rs ++ items_of_end)
-data_items rs = over (items_of_data rs) items_of_end _ _ (over (section (codes "DATA") ++ items_of_rows rs) (section (codes "ENDSEC")) _ _ (over (section (codes "DATA")) (items_of_rows rs) _ _ refl (rows_items rs)) refl) refl
+pub data_items : (rs : List Row) → items_of_data (normal_rows rs) ++ items_of_end ≡ map normal_item (items_of_data rs
+    ++ items_of_end)
+data_items rs = both_normal (items_of_data rs) items_of_end _ _
+    (both_normal (section (codes "DATA") ++ items_of_rows rs) (section (codes "ENDSEC")) _ _
+    (both_normal (section (codes "DATA")) (items_of_rows rs) _ _ refl (rows_items rs)) refl) refl
 
 leaf_normal : (w : Word) → IsLeaf w → IsLeaf (normal_word w)
 leaf_normal (mark Dollar) h = tt
@@ -75,7 +84,7 @@ module _ (rules : Rules) where
     trees_fit n none h = tt
     trees_fit n (one x xs) h = (tree_fits n x h.0, trees_fit n xs h.1)
 
-  part_fits : (n : ℕ) (p : Part) → FitsPart rules n p → FitsPart rules n (normal_part p)
+  part_fits : (n : ℕ) (p : Record) → FitsRecord rules n p → FitsRecord rules n (normal_part p)
   part_fits n p h = (h.0, trees_fit (n + 1) p.values h.1)
 
   said_upper : (v w : List ℕ) → is_said (upper v) (upper w) ≡ is_said v w
@@ -85,12 +94,14 @@ module _ (rules : Rules) where
   keyword_upper word [] = refl
   keyword_upper word (w ∷ ws) = (λ i. said_upper w word i || keyword_upper word ws i)
 
-  parts_fit : (before : List (List ℕ)) (ps : List Part) → FitsParts rules before ps → FitsParts rules (map upper before) (map normal_part ps)
+  parts_fit : (before : List (List ℕ)) (ps : List Record) → FitsPartialRecords rules before ps
+      → FitsPartialRecords rules (map upper before) (map normal_part ps)
   parts_fit before [] h = tt
   parts_fit before (p ∷ ps) h = (
     subst (λ b. Where rules.distinct (b ≡ false)) (sym (keyword_upper p.keyword before)) h.0,
     part_fits 1 p h.1,
-    subst (λ l. FitsParts rules l (map normal_part ps)) (map-append upper before (p.keyword ∷ [])) (parts_fit (before ++ p.keyword ∷ []) ps h.2),
+    subst (λ l. FitsPartialRecords rules l (map normal_part ps)) (map-append upper before (p.keyword ∷ []))
+        (parts_fit (before ++ p.keyword ∷ []) ps h.2),
   )
 
   form_fits : (f : Form) → FitsForm rules f → FitsForm rules (normal_form f)
@@ -126,10 +137,10 @@ mutual
   more_stays none = refl
   more_stays (one x xs) = λ i. codes "," ++ tree_stays x i ++ more_stays xs i
 
-part_stays : (p : Part) → plain_part (normal_part p) ≡ plain_part p
+part_stays : (p : Record) → plain_record (normal_part p) ≡ plain_record p
 part_stays p = λ i. upper_upper p.keyword i ++ codes "(" ++ trees_stay p.values i ++ codes ")"
 
-parts_stay : (ps : List Part) → plain_parts (map normal_part ps) ≡ plain_parts ps
+parts_stay : (ps : List Record) → plain_partial_records (map normal_part ps) ≡ plain_partial_records ps
 parts_stay [] = refl
 parts_stay (p ∷ ps) = λ i. part_stays p i ++ parts_stay ps i
 
@@ -143,4 +154,5 @@ rows_stay (r ∷ rs) = λ i. (plain_name r.name ++ codes "=" ++ form_stays r.for
 
 -- the normal text of the rows as it says them is the same text
 pub normal_stays : NormalStays
-normal_stays front rows = λ i. front ++ codes "\nDATA;\n" ++ rows_stay rows i ++ codes "ENDSEC;\nEND-ISO-10303-21;\n"
+normal_stays header_bytes rows = λ i. header_bytes ++ codes "\nDATA;\n" ++ rows_stay rows i
+    ++ codes "ENDSEC;\nEND-ISO-10303-21;\n"

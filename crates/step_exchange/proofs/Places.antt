@@ -3,8 +3,8 @@ use Rattle.std.proofs.Common.{◌≡◌, ℕ, ◌≤◌, Bool, true, false, cond
 use Rattle.std.specs.List.{starts_with}
 use Rattle.step_lexis.specs.Reading.{Reading, start, start_of}
 use Rattle.step_lexis.proofs.Determined.{same_place, places_rise}
-use Rattle.step_exchange.specs.Words.{Seen, Shows, shows_token, shows_fault, shows_end, ShowsAll, begins}
-use Rattle.step_exchange.specs.Trees.{Part, this, Begins, Meets, items_of_header}
+use Rattle.step_exchange.specs.Words.{LocatedToken, Shows, shows_token, shows_fault, shows_end, ShowsAll, begins}
+use Rattle.step_exchange.specs.Trees.{Record, this, Begins, Meets, items_of_header}
 use Rattle.step_exchange.specs.Predict.{TakesHeader}
 
 pub record Bounds (old new : Reading) : Type 0 where
@@ -12,19 +12,37 @@ pub record Bounds (old new : Reading) : Type 0 where
   pub rises : old.place ≤ new.place
   pub within : new.place ≤ length new.text
 
-shows_bounds : (old : Reading) (s : Seen) (new : Reading) → Shows old s new → old.place ≤ length old.text → Bounds old new
+shows_bounds : (old : Reading) (s : LocatedToken) (new : Reading) → Shows old s new → old.place ≤ length old.text
+    → Bounds old new
 shows_bounds old s new (shows_token t h e) w =
     let r = places_rise old new t w h in
     record {
       text = h.new_text;
       rises = omega (arith, r.0, r.1);
-      within = omega (arith, h.new_place, ap length h.new_text, h.front.within, length-drop t.place old.text, h.reaches.within);
+      within = omega (
+        arith,
+        h.new_place,
+        ap length h.new_text,
+        h.front.within,
+        length-drop t.place old.text,
+        h.reaches.within,
+      );
     }
-shows_bounds old s new (shows_fault f h e) w = let P : Reading → Type 0 = λ x. Bounds old x in subst P (sym h.same) (record { text = refl; rises = omega arith; within = w })
-shows_bounds old s new (shows_end h e) w = record { text = h.new_text; rises = omega (arith, w, h.new_place); within = omega (arith, h.new_place, ap length h.new_text) }
+shows_bounds old s new (shows_fault f h e) w = let P : Reading → Type 0 = λ x. Bounds old x in subst P (sym h.same)
+    (record { text = refl; rises = omega arith; within = w })
+shows_bounds old s new (shows_end h e) w = record {
+  text = h.new_text;
+  rises = omega (arith, w, h.new_place);
+  within = omega (arith, h.new_place, ap length h.new_text);
+}
 
-pub bounds : (old : Reading) (s : List Seen) (new : Reading) → ShowsAll old s new → old.place ≤ length old.text → Bounds old new
-bounds old [] new h w = let P : Reading → Type 0 = λ x. Bounds old x in subst P h (record { text = refl; rises = omega arith; within = w })
+pub bounds : (old : Reading) (s : List LocatedToken) (new : Reading) → ShowsAll old s new → old.place ≤ length old.text
+    → Bounds old new
+bounds old [] new h w = let P : Reading → Type 0 = λ x. Bounds old x in subst P h (record {
+  text = refl;
+  rises = omega arith;
+  within = w;
+})
 bounds old (t ∷ s) new h w =
     let a = shows_bounds old t h.0 h.1 w in
     let b = bounds h.0 s new h.2 a.within in
@@ -49,17 +67,30 @@ start_within (a ∷ b ∷ c ∷ r) = more (starts_with nat_eq (a ∷ b ∷ c ∷
     more true = omega arith
     more false = omega arith
 
-pub header_bounds : (text : List ℕ) (first : ℕ) (header : List Part) (mid : Reading) → TakesHeader (start text) first header mid → (first ≤ mid.place) × (mid.place ≤ length text)
-header_bounds text first header mid h = (by h.reads.0 h.reads.1 h.reads.2, omega (arith, all.within, ap length all.text))
+pub header_bounds : (text : List ℕ) (first : ℕ) (header : List Record) (mid : Reading) → TakesHeader (start text) first
+    header mid → (first ≤ mid.place) × (mid.place ≤ length text)
+header_bounds text first header mid h = (
+  by h.reads.0 h.reads.1 h.reads.2,
+  omega (arith, all.within, ap length all.text),
+)
   where
     all : Bounds (start text) mid
     all = bounds (start text) h.reads.0 mid h.reads.1 (start_within text)
 
-    at_first : (t : Seen) (n : Reading) → Shows (start text) t n → Meets t.sight (this begins) → first ≤ n.place
-    at_first t n (shows_token u g e) m = let r = places_rise (start text) n u (start_within text) g in omega (arith, r.1, same_place (start text) u.place first g.reaches h.first)
-    at_first t n (shows_fault f g e) m = absurd (let Q : Seen → Type 0 = λ x. Meets x.sight (this begins) in subst Q e m)
-    at_first t n (shows_end g e) m = absurd (let Q : Seen → Type 0 = λ x. Meets x.sight (this begins) in subst Q e m)
+    at_first : (t : LocatedToken) (n : Reading) → Shows (start text) t n → Meets t.lookahead (this begins)
+        → first ≤ n.place
+    at_first t n (shows_token u g e) m = let r = places_rise (start text) n u (start_within text) g in
+        omega (arith, r.1, same_place (start text) u.place first g.reaches h.first)
+    at_first t n (shows_fault f g e) m = absurd (let Q : LocatedToken → Type 0 = λ x. Meets x.lookahead (this begins) in
+        subst Q e m)
+    at_first t n (shows_end g e) m = absurd (let Q : LocatedToken → Type 0 = λ x. Meets x.lookahead (this begins) in
+        subst Q e m)
 
-    by : (s : List Seen) → ShowsAll (start text) s mid → Begins s (items_of_header header) [] → first ≤ mid.place
+    by : (s : List LocatedToken) → ShowsAll (start text) s mid → Begins s (items_of_header header) []
+        → first ≤ mid.place
     by [] k b = absurd b
-    by (t ∷ s) k b = omega (arith, at_first t k.0 k.1 b.0, (bounds k.0 s mid k.2 (shows_bounds (start text) t k.0 k.1 (start_within text)).within).rises)
+    by (t ∷ s) k b = omega (
+      arith,
+      at_first t k.0 k.1 b.0,
+      (bounds k.0 s mid k.2 (shows_bounds (start text) t k.0 k.1 (start_within text)).within).rises,
+    )

@@ -10,12 +10,12 @@ use Rattle.step_lexis.specs.declared.token.Sort.{Sort}
 use Rattle.step_lexis.specs.declared.token.Sort.TheVariants as sorts
 use Rattle.step_lexis.specs.Reading.{Reading, Takes, left}
 use Rattle.step_lexis.specs.declared.token.Token.{Token}
-use Rattle.step_exchange.specs.declared.fault.Kind.TheVariants as kinds
+use Rattle.step_exchange.specs.declared.fault.FaultKind.TheVariants as kinds
 use Rattle.step_exchange.specs.declared.fault.LeftOut.TheVariants as left_out
 use Rattle.step_exchange.specs.declared.fault.TextFault.{TextFault}
 use Rattle.step_exchange.specs.declared.fault.TextFault.TheVariants as faults
 use Rattle.step_exchange.specs.declared.tree.Form as code
-use Rattle.step_exchange.specs.Words.{Sight, token, mark, name, seen, word_of}
+use Rattle.step_exchange.specs.Words.{Lookahead, token, mark, name, located, word_of}
 use Rattle.step_exchange.specs.Trees.{Row, Form, this, named, says, Meets, items_of_row, items_of_rows, items_of_form}
 use Rattle.step_exchange.specs.Fits.{the_rules, FitsForm, FitsRows, has_name}
 use Rattle.step_exchange.specs.Texts.{Reads}
@@ -28,23 +28,29 @@ use Rattle.step_exchange.proofs.Turning.{turns_join, turns_token, turns_here, st
 use Rattle.step_exchange.proofs.Looking.{reads_word}
 
 -- the names in the map
-pub has_lookup : (k : ℕ) (es : List (ℕ × code.Form)) → has_name k (names_of (map row_of es)) ≡ is_some (lookup (nat_eq k) es)
+pub has_lookup : (k : ℕ) (es : List (ℕ × code.Form)) → has_name k (names_of (map row_of es)) ≡ is_some
+    (lookup (nat_eq k) es)
 has_lookup k [] = refl
 has_lookup k (e ∷ es) = by (nat_eq k e.0) (has_lookup k es)
   where
-    by : (b : Bool) → has_name k (names_of (map row_of es)) ≡ is_some (lookup (nat_eq k) es) → (b || has_name k (names_of (map row_of es))) ≡ is_some (cond b (Some e.1) (lookup (nat_eq k) es))
+    by : (b : Bool) → has_name k (names_of (map row_of es)) ≡ is_some (lookup (nat_eq k) es)
+        → (b || has_name k (names_of (map row_of es))) ≡ is_some (cond b (Some e.1) (lookup (nat_eq k) es))
     by true h = refl
     by false h = h
 
-pub insert_absent : (es : List (ℕ × code.Form)) (k : ℕ) (v : code.Form) → has_name k (names_of (map row_of es)) ≡ false → insert_entry nat_eq es k v ≡ es ++ (k, v) ∷ []
+pub insert_absent : (es : List (ℕ × code.Form)) (k : ℕ) (v : code.Form) → has_name k (names_of (map row_of es)) ≡ false
+    → insert_entry nat_eq es k v ≡ es ++ (k, v) ∷ []
 insert_absent [] k v h = refl
 insert_absent (e ∷ es) k v h = by (nat_eq k e.0) h (insert_absent es k v)
   where
-    by : (b : Bool) → (b || has_name k (names_of (map row_of es))) ≡ false → (has_name k (names_of (map row_of es)) ≡ false → insert_entry nat_eq es k v ≡ es ++ (k, v) ∷ []) → cond b ((e.0, v) ∷ es) (e ∷ insert_entry nat_eq es k v) ≡ e ∷ (es ++ (k, v) ∷ [])
+    by : (b : Bool) → (b || has_name k (names_of (map row_of es))) ≡ false
+        → (has_name k (names_of (map row_of es)) ≡ false → insert_entry nat_eq es k v ≡ es ++ (k, v) ∷ [])
+        → cond b ((e.0, v) ∷ es) (e ∷ insert_entry nat_eq es k v) ≡ e ∷ (es ++ (k, v) ∷ [])
     by true g go = absurd (false≢true (sym g))
     by false g go = ap (λ l. e ∷ l) (go g)
 
-pub rows_push : (es : List (ℕ × code.Form)) (k : ℕ) (v : code.Form) → map row_of (es ++ (k, v) ∷ []) ≡ map row_of es ++ row_of (k, v) ∷ []
+pub rows_push : (es : List (ℕ × code.Form)) (k : ℕ) (v : code.Form) → map row_of (es ++ (k, v) ∷ []) ≡ map row_of es
+    ++ row_of (k, v) ∷ []
 rows_push [] k v = refl
 rows_push (e ∷ es) k v = ap (λ l. row_of e ∷ l) (rows_push es k v)
 
@@ -52,10 +58,18 @@ pub names_len : (es : List (ℕ × code.Form)) → length (names_of (map row_of 
 names_len es = length-map (map row_of es) (λ (r : Row). r.name) ∙ length-map es row_of
 
 -- a name that may stand, or its fault
-pub name_refused : (names : List ℕ) (t : Token) (e : TextFault) → ((n : ℕ) → t.sort ≡ sorts.Name n → ⊥) → is_word (codes "ENDSEC") (seen t).sight ≡ false → e ≡ faults.Fault (refused (seen t).sight) t.place → IsNoName names (seen t) e
-name_refused names t e h c q = record { kind = refused (seen t).sight; refused = by t.sort t.text.now h c; fault_is = q }
+pub name_refused : (names : List ℕ) (t : Token) (e : TextFault) → ((n : ℕ) → t.sort ≡ sorts.Name n → ⊥)
+    → is_word (codes "ENDSEC") (located t).lookahead ≡ false → e ≡ faults.Fault (refused (located t).lookahead) t.place
+    → IsNoName names (located t) e
+name_refused names t e h c q = record {
+  kind = refused (located t).lookahead;
+  refused = by t.sort t.text.now h c;
+  fault_is = q;
+}
   where
-    by : (sort : Sort) (text : List ℕ) → ((n : ℕ) → sort ≡ sorts.Name n → ⊥) → is_word (codes "ENDSEC") (token (word_of sort text)) ≡ false → next the_rules (Rows names) (token (word_of sort text)) ≡ Err (refused (token (word_of sort text)))
+    by : (sort : Sort) (text : List ℕ) → ((n : ℕ) → sort ≡ sorts.Name n → ⊥) → is_word (codes "ENDSEC")
+        (token (word_of sort text)) ≡ false → next the_rules (Rows names) (token (word_of sort text)) ≡ Err
+        (refused (token (word_of sort text)))
     by (sorts.Name n) text h c = absurd (h n refl)
     by (sorts.Keyword w) text h c = rw c refl
     by (sorts.Mark Open) text h c = refl
@@ -75,85 +89,139 @@ name_refused names t e h c q = record { kind = refused (seen t).sight; refused =
     by (sorts.String s) text h c = refl
     by (sorts.Binary b) text h c = refl
 
-name_at : (t : Token) (n : ℕ) → t.sort ≡ sorts.Name n → (seen t).sight ≡ token (name n t.text.now)
+name_at : (t : Token) (n : ℕ) → t.sort ≡ sorts.Name n → (located t).lookahead ≡ token (name n t.text.now)
 name_at t n e = ap (λ s. token (word_of s t.text.now)) e
 
-twice_next : (names : List ℕ) (n : ℕ) (text : List ℕ) → has_name n names ≡ true → next the_rules (Rows names) (token (name n text)) ≡ Err kinds.DuplicateName
+twice_next : (names : List ℕ) (n : ℕ) (text : List ℕ) → has_name n names ≡ true → next the_rules (Rows names)
+    (token (name n text)) ≡ Err kinds.DuplicateName
 twice_next names n text h = rw h refl
 
-many_next : (names : List ℕ) (n : ℕ) (text : List ℕ) → has_name n names ≡ false → the_rules.instances ≤ length names → next the_rules (Rows names) (token (name n text)) ≡ Err (kinds.LeftOut left_out.TooMany)
-many_next names n text h m = let e : nat_lt (length names) the_rules.instances ≡ false = grind (arith, nat_tests) in rw (h, e) refl
+many_next : (names : List ℕ) (n : ℕ) (text : List ℕ) → has_name n names ≡ false → the_rules.instances ≤ length names
+    → next the_rules (Rows names) (token (name n text)) ≡ Err (kinds.LeftOut left_out.TooMany)
+many_next names n text h m = let e : nat_lt (length names) the_rules.instances ≡ false = grind (arith, nat_tests) in
+    rw (h, e) refl
 
-name_next : (names : List ℕ) (n : ℕ) (text : List ℕ) → has_name n names ≡ false → length names < the_rules.instances → next the_rules (Rows names) (token (name n text)) ≡ Ok (row_symbols ++ Rows (names ++ n ∷ []) ∷ [])
-name_next names n text h m = let e : nat_lt (length names) the_rules.instances ≡ true = grind (arith, nat_tests) in rw (h, e) refl
+name_next : (names : List ℕ) (n : ℕ) (text : List ℕ) → has_name n names ≡ false → length names < the_rules.instances
+    → next the_rules (Rows names) (token (name n text)) ≡ Ok (row_symbols ++ Rows (names ++ n ∷ []) ∷ [])
+name_next names n text h m = let e : nat_lt (length names) the_rules.instances ≡ true = grind (arith, nat_tests) in
+    rw (h, e) refl
 
-pub name_twice : (names : List ℕ) (t : Token) (n : ℕ) (e : TextFault) → t.sort ≡ sorts.Name n → has_name n names ≡ true → e ≡ faults.Fault kinds.DuplicateName t.place → IsNoName names (seen t) e
-name_twice names t n e is h q = record { kind = kinds.DuplicateName; refused = ap (next the_rules (Rows names)) (name_at t n is) ∙ twice_next names n t.text.now h; fault_is = q }
+pub name_twice : (names : List ℕ) (t : Token) (n : ℕ) (e : TextFault) → t.sort ≡ sorts.Name n → has_name n names ≡ true
+    → e ≡ faults.Fault kinds.DuplicateName t.place → IsNoName names (located t) e
+name_twice names t n e is h q = record {
+  kind = kinds.DuplicateName;
+  refused = ap (next the_rules (Rows names)) (name_at t n is)
+      ∙ twice_next names n t.text.now h;
+  fault_is = q;
+}
 
-pub name_too_many : (names : List ℕ) (t : Token) (n : ℕ) (e : TextFault) → t.sort ≡ sorts.Name n → has_name n names ≡ false → the_rules.instances ≤ length names → e ≡ faults.Fault (kinds.LeftOut left_out.TooMany) t.place → IsNoName names (seen t) e
-name_too_many names t n e is h m q = record { kind = kinds.LeftOut left_out.TooMany; refused = ap (next the_rules (Rows names)) (name_at t n is) ∙ many_next names n t.text.now h m; fault_is = q }
+pub name_too_many : (names : List ℕ) (t : Token) (n : ℕ) (e : TextFault) → t.sort ≡ sorts.Name n
+    → has_name n names ≡ false → the_rules.instances ≤ length names → e ≡ faults.Fault (kinds.LeftOut left_out.TooMany)
+    t.place → IsNoName names (located t) e
+name_too_many names t n e is h m q = record {
+  kind = kinds.LeftOut left_out.TooMany;
+  refused = ap (next the_rules (Rows names)) (name_at t n is)
+      ∙ many_next names n t.text.now h m;
+  fault_is = q;
+}
 
-pub name_fits : (names : List ℕ) (t : Token) (n : ℕ) → t.sort ≡ sorts.Name n → has_name n names ≡ false → length names < the_rules.instances → IsNextName names (seen t) n
+pub name_fits : (names : List ℕ) (t : Token) (n : ℕ) → t.sort ≡ sorts.Name n → has_name n names ≡ false
+    → length names < the_rules.instances → IsNextName names (located t) n
 name_fits names t n is h m = record { text = t.text.now; is = name_at t n is; alone = h; few = m }
 
 -- the loop
 pub rows_start : (r : Reading) → RowsSoFar r [] r
 rows_start r = record { fits = tt; reads = ([], refl, refl); turns = turns_here (Rows [] ∷ []) r }
 
-pub rows_err_token : (e : TextFault) (old : Reading) (rs : List Row) (here : Reading) → RowsSoFar old rs here → StopsIn e (Rows (names_of rs) ∷ []) [] here → StopsIn e (Rows [] ∷ []) [] old
+pub rows_err_token : (e : TextFault) (old : Reading) (rs : List Row) (here : Reading) → RowsSoFar old rs here
+    → StopsIn e (Rows (names_of rs) ∷ []) [] here → StopsIn e (Rows [] ∷ []) [] old
 rows_err_token e old rs here so g = stops_via e (Rows [] ∷ []) (Rows (names_of rs) ∷ []) [] [] old here so.turns g
 
-pub rows_err_name : (e : TextFault) (old : Reading) (rs : List Row) (here : Reading) (t : Token) (a : Reading) → RowsSoFar old rs here → Takes here t a → IsNoName (names_of rs) (seen t) e → StopsIn e (Rows [] ∷ []) [] old
+pub rows_err_name : (e : TextFault) (old : Reading) (rs : List Row) (here : Reading) (t : Token) (a : Reading)
+    → RowsSoFar old rs here → Takes here t a → IsNoName (names_of rs) (located t) e → StopsIn e (Rows [] ∷ []) [] old
 rows_err_name e old rs here t a so h g =
     let P : TextFault → Type 0 = λ x. StopsIn x (Rows (names_of rs) ∷ []) [] here in
-    rows_err_token e old rs here so (subst P (sym g.fault_is) (stops_token g.kind (Rows (names_of rs)) t here a h g.refused))
+    rows_err_token e old rs here so (subst P (sym g.fault_is) (stops_token g.kind (Rows (names_of rs)) t here a h
+    g.refused))
 
-pub rows_err_row : (e : TextFault) (old : Reading) (rs : List Row) (here : Reading) (t : Token) (n : ℕ) (a : Reading) → RowsSoFar old rs here → Takes here t a → IsNextName (names_of rs) (seen t) n → StopsIn e row_symbols [] a → StopsIn e (Rows [] ∷ []) [] old
+pub rows_err_row : (e : TextFault) (old : Reading) (rs : List Row) (here : Reading) (t : Token) (n : ℕ) (a : Reading)
+    → RowsSoFar old rs here → Takes here t a → IsNextName (names_of rs) (located t) n → StopsIn e row_symbols [] a
+    → StopsIn e (Rows [] ∷ []) [] old
 rows_err_row e old rs here t n a so h is g =
     stops_via e (Rows [] ∷ []) row_symbols (Rows (names_of rs ++ n ∷ []) ∷ []) [] old a
-    (turns_join (Rows [] ∷ []) (Rows (names_of rs) ∷ []) (row_symbols ++ Rows (names_of rs ++ n ∷ []) ∷ []) [] old here a so.turns
-    (turns_token (Rows (names_of rs)) (row_symbols ++ Rows (names_of rs ++ n ∷ []) ∷ []) [] t here a h (ap (next the_rules (Rows (names_of rs))) is.is ∙ name_next (names_of rs) n is.text is.alone is.few)))
+    (turns_join (Rows [] ∷ []) (Rows (names_of rs) ∷ []) (row_symbols ++ Rows (names_of rs ++ n ∷ []) ∷ []) [] old here
+    a so.turns
+    (turns_token (Rows (names_of rs)) (row_symbols ++ Rows (names_of rs ++ n ∷ []) ∷ []) [] t here a h
+    (ap (next the_rules (Rows (names_of rs))) is.is ∙ name_next (names_of rs) n is.text is.alone is.few)))
     g
 
-meets_named : (s : Sight) (n : ℕ) (text : List ℕ) → s ≡ token (name n text) → Meets s (named n)
-meets_named s n text e = let P : Sight → Type 0 = λ x. Meets x (named n) in subst P (sym e) refl
+meets_named : (s : Lookahead) (n : ℕ) (text : List ℕ) → s ≡ token (name n text) → Meets s (named n)
+meets_named s n text e = let P : Lookahead → Type 0 = λ x. Meets x (named n) in subst P (sym e) refl
 
-reads_row : (names : List ℕ) (t : Token) (n : ℕ) (f : Form) (here a b : Reading) → Takes here t a → IsNextName names (seen t) n → TakesRow a f b → Reads here (items_of_row (record { name = n; form = f })) b
-reads_row names t n f here a b h is g = reads_first (named n) (this (mark Equals) ∷ (items_of_form f ++ this (mark Semicolon) ∷ [])) t here a b h (meets_named (seen t).sight n is.text is.is) g.reads
+reads_row : (names : List ℕ) (t : Token) (n : ℕ) (f : Form) (here a b : Reading) → Takes here t a
+    → IsNextName names (located t) n → TakesRow a f b → Reads here (items_of_row (record { name = n; form = f })) b
+reads_row names t n f here a b h is g = reads_first (named n) (this (mark Equals)
+    ∷ (items_of_form f ++ this (mark Semicolon) ∷ [])) t here a b h (meets_named (located t).lookahead n is.text is.is)
+    g.reads
 
-fits_rows_push : (before : List ℕ) (rs : List Row) (r : Row) → FitsRows the_rules before rs → has_name r.name (before ++ names_of rs) ≡ false → length (before ++ names_of rs) < the_rules.instances → FitsForm the_rules r.form → FitsRows the_rules before (rs ++ r ∷ [])
-fits_rows_push before [] r h g m f = (subst (λ l. has_name r.name l ≡ false) (append-nil before) g, subst (λ l. length l < the_rules.instances) (append-nil before) m, f, tt)
+fits_rows_push : (before : List ℕ) (rs : List Row) (r : Row) → FitsRows the_rules before rs
+    → has_name r.name (before ++ names_of rs) ≡ false → length (before ++ names_of rs) < the_rules.instances
+    → FitsForm the_rules r.form → FitsRows the_rules before (rs ++ r ∷ [])
+fits_rows_push before [] r h g m f = (
+  subst (λ l. has_name r.name l ≡ false) (append-nil before) g,
+  subst (λ l. length l < the_rules.instances) (append-nil before) m,
+  f,
+  tt,
+)
 fits_rows_push before (q ∷ rs) r h g m f =
-    let e = sym (append_assoc before (q.name ∷ []) (names_of rs)) in
-    (h.0, h.1, h.2, fits_rows_push (before ++ q.name ∷ []) rs r h.3 (subst (λ l. has_name r.name l ≡ false) e g) (subst (λ l. length l < the_rules.instances) e m) f)
+    let e = sym (append_assoc before (q.name ∷ []) (names_of rs)) in (
+      h.0,
+      h.1,
+      h.2,
+      fits_rows_push (before ++ q.name ∷ []) rs r h.3 (subst (λ l. has_name r.name l ≡ false) e g)
+          (subst (λ l. length l < the_rules.instances) e m) f,
+    )
 
 items_rows_push : (rs : List Row) (r : Row) → items_of_rows (rs ++ r ∷ []) ≡ items_of_rows rs ++ items_of_row r
 items_rows_push [] r = append-nil (items_of_row r)
-items_rows_push (q ∷ rs) r = ap (λ l. items_of_row q ++ l) (items_rows_push rs r) ∙ sym (append_assoc (items_of_row q) (items_of_rows rs) (items_of_row r))
+items_rows_push (q ∷ rs) r = ap (λ l. items_of_row q ++ l) (items_rows_push rs r)
+    ∙ sym (append_assoc (items_of_row q) (items_of_rows rs) (items_of_row r))
 
 names_push : (rs : List Row) (r : Row) → names_of (rs ++ r ∷ []) ≡ names_of rs ++ r.name ∷ []
 names_push [] r = refl
 names_push (q ∷ rs) r = ap (λ l. q.name ∷ l) (names_push rs r)
 
-pub rows_next : (old : Reading) (rs : List Row) (here : Reading) (t : Token) (n : ℕ) (a : Reading) (f : Form) (b : Reading) → RowsSoFar old rs here → Takes here t a → IsNextName (names_of rs) (seen t) n → TakesRow a f b → RowsSoFar old (rs ++ (record { name = n; form = f }) ∷ []) b
+pub rows_next : (old : Reading) (rs : List Row) (here : Reading) (t : Token) (n : ℕ) (a : Reading) (f : Form)
+    (b : Reading) → RowsSoFar old rs here → Takes here t a → IsNextName (names_of rs) (located t) n → TakesRow a f b
+    → RowsSoFar old (rs ++ (record { name = n; form = f }) ∷ []) b
 rows_next old rs here t n a f b so h is g =
     let r : Row = record { name = n; form = f } in
     let one = reads_row (names_of rs) t n f here a b h is g in
     let step : Turns (Rows (names_of rs) ∷ []) (Rows (names_of rs ++ n ∷ []) ∷ []) [] here b = record {
       shown = one.0;
       shows = one.1;
-      turned = λ more q. pass_row the_rules r (names_of rs) more (one.0 ++ q) q is.alone is.few g.fits (begins_append one.0 (items_of_row r) [] q one.2);
+      turned = λ more q. pass_row the_rules r (names_of rs) more (one.0 ++ q) q is.alone is.few g.fits
+          (begins_append one.0 (items_of_row r) [] q one.2);
     } in
     record {
       fits = fits_rows_push [] rs r so.fits is.alone is.few g.fits;
-      reads = subst (λ l. Reads old l b) (sym (items_rows_push rs r)) (reads_join old (items_of_rows rs) here (items_of_row r) b so.reads one);
-      turns = subst (λ l. Turns (Rows [] ∷ []) (Rows l ∷ []) [] old b) (sym (names_push rs r)) (turns_join (Rows [] ∷ []) (Rows (names_of rs) ∷ []) (Rows (names_of rs ++ n ∷ []) ∷ []) [] old here b so.turns step);
+      reads = subst (λ l. Reads old l b) (sym (items_rows_push rs r))
+          (reads_join old (items_of_rows rs) here (items_of_row r) b so.reads one);
+      turns = subst (λ l. Turns (Rows [] ∷ []) (Rows l ∷ []) [] old b) (sym (names_push rs r))
+          (turns_join (Rows [] ∷ []) (Rows (names_of rs) ∷ []) (Rows (names_of rs ++ n ∷ []) ∷ []) [] old here b
+          so.turns step);
     }
 
-pub rows_done : (old : Reading) (rs : List Row) (here : Reading) (t : Token) (a : Reading) → RowsSoFar old rs here → Takes here t a → is_word (codes "ENDSEC") (seen t).sight ≡ true → TakesRows old rs a
-rows_done old rs here t a so h c = record { fits = so.fits; reads = reads_join old (items_of_rows rs) here (says (codes "ENDSEC") ∷ []) a so.reads (reads_word (codes "ENDSEC") t here a h c) }
+pub rows_done : (old : Reading) (rs : List Row) (here : Reading) (t : Token) (a : Reading) → RowsSoFar old rs here
+    → Takes here t a → is_word (codes "ENDSEC") (located t).lookahead ≡ true → TakesRows old rs a
+rows_done old rs here t a so h c = record {
+  fits = so.fits;
+  reads = reads_join old (items_of_rows rs) here (says (codes "ENDSEC") ∷ []) a so.reads
+      (reads_word (codes "ENDSEC") t here a h c);
+}
 
-pub rows_smaller : (here : Reading) (t : Token) (a : Reading) (f : Form) (b : Reading) → Takes here t a → TakesRow a f b → length (left b) < length (left here)
+pub rows_smaller : (here : Reading) (t : Token) (a : Reading) (f : Form) (b : Reading) → Takes here t a → TakesRow a f b
+    → length (left b) < length (left here)
 rows_smaller here t a f b h g = omega (arith, takes_less here a t h, left_less a g.reads.0 b g.reads.1)
 
 -- names beyond the greatest
@@ -172,5 +240,7 @@ at_most_push : (g n : ℕ) (names : List ℕ) → AtMost g names → n ≤ g →
 at_most_push g n [] h e = (e, tt)
 at_most_push g n (m ∷ ms) h e = (h.0, at_most_push g n ms h.1 e)
 
-pub at_most_next : (g k : ℕ) (rs : List Row) (r : Row) → AtMost g (names_of rs) → g ≤ k → r.name ≤ k → AtMost k (names_of (rs ++ r ∷ []))
-at_most_next g k rs r h e f = let P : List ℕ → Type 0 = AtMost k in subst P (sym (names_push rs r)) (at_most_push k r.name (names_of rs) (at_most_more g k (names_of rs) h e) f)
+pub at_most_next : (g k : ℕ) (rs : List Row) (r : Row) → AtMost g (names_of rs) → g ≤ k → r.name ≤ k
+    → AtMost k (names_of (rs ++ r ∷ []))
+at_most_next g k rs r h e f = let P : List ℕ → Type 0 = AtMost k in subst P (sym (names_push rs r))
+    (at_most_push k r.name (names_of rs) (at_most_more g k (names_of rs) h e) f)

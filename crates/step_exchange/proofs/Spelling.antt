@@ -8,16 +8,16 @@ use Rattle.std.proofs.lemmas.Str.Ascii.{lowercase-uppercase}
 use Rattle.step_lexis.specs.declared.token.Sort.{Sort}
 use Rattle.step_lexis.specs.declared.token.Sort.TheVariants as sorts
 use Rattle.step_literals.specs.Bytes.{is_letter, is_word_byte, Each}
-use Rattle.step_literals.specs.Tokens.{Kind, IsKeyword, Spells, Allows, IsNext}
+use Rattle.step_literals.specs.Tokens.{TokenKind, IsKeyword, Spells, Allows, IsNext}
 use Rattle.step_literals.specs.Tokens as kinds
 use Rattle.step_literals.specs.Literals.{IsDecimal, IsText}
 use Rattle.step_lexis.specs.Front.{kind_of, HasValue}
 use Rattle.step_lexis.specs.Reading.{Reading}
 use Rattle.step_lexis.proofs.Standing.{stands}
-use Rattle.step_exchange.specs.Words.{Word, begins, ends, keyword, user_defined, scope, name, number, element, string, binary, mark, word_of, token, over, Seen, Shows, shows_token, shows_fault, shows_end, ShowsAll}
+use Rattle.step_exchange.specs.Words.{Word, begins, ends, keyword, user_defined, scope, name, number, element, string, binary, mark, word_of, token, end_of_text, LocatedToken, Shows, shows_token, shows_fault, shows_end, ShowsAll}
 use Rattle.step_exchange.specs.Trees.{Item, this, says, named, finish, Meets, Begins, is_said}
 use Rattle.step_literals.specs.Words.{upper}
-use Rattle.step_exchange.proofs.FrontKept.{no_flaw}
+use Rattle.step_exchange.proofs.HeaderKept.{no_flaw}
 
 -- a word is spelt as a token is
 abbrev pub IsSpelt : Word → Type 0
@@ -54,7 +54,8 @@ behind_mark : (v w t : List ℕ) → 33 ∷ v ≡ t → t ≡ 33 ∷ w → w ≡
 behind_mark v w t h g = let e : 33 ∷ v ≡ 33 ∷ w = h ∙ g in cc
 
 -- what a token shows is spelt
-sort_spelt : (sort : Sort) (t after : List ℕ) → HasValue sort t → Allows (kind_of sort) t after → IsSpelt (word_of sort t)
+sort_spelt : (sort : Sort) (t after : List ℕ) → HasValue sort t → Allows (kind_of sort) t after
+    → IsSpelt (word_of sort t)
 sort_spelt sorts.Begin t after h a = tt
 sort_spelt sorts.End t after h a = tt
 sort_spelt (sorts.Keyword w) t after h a = subst IsKeyword (sym h) a
@@ -74,7 +75,8 @@ lower_letter b = grind (arith, nat_tests)
 lower_word : (b : ℕ) → is_word_byte (to_ascii_lowercase b) ≡ is_word_byte b
 lower_word b = grind (arith, nat_tests)
 
-each_cased : (v w : List ℕ) → map to_ascii_lowercase v ≡ map to_ascii_lowercase w → Each is_word_byte w → Each is_word_byte v
+each_cased : (v w : List ℕ) → map to_ascii_lowercase v ≡ map to_ascii_lowercase w → Each is_word_byte w
+    → Each is_word_byte v
 each_cased [] w e h = tt
 each_cased (x ∷ xs) [] e h = absurd (cc)
 each_cased (x ∷ xs) (y ∷ ys) e h =
@@ -98,7 +100,8 @@ lower_upper (x ∷ xs) = λ i. lowercase-uppercase x i ∷ lower_upper xs i
 pub upper_keyword : (w : List ℕ) → IsKeyword w → IsKeyword (upper w)
 upper_keyword w h = keyword_cased (upper w) w (lower_upper w) h
 
-pub said_cased : (word text : List ℕ) → is_said word text ≡ true → map to_ascii_lowercase word ≡ map to_ascii_lowercase text
+pub said_cased : (word text : List ℕ) → is_said word text ≡ true → map to_ascii_lowercase word ≡ map to_ascii_lowercase
+    text
 said_cased word text h = (bytes_eq-Decides (map to_ascii_lowercase word) (map to_ascii_lowercase text)).0 h
 
 says_spelt : (w : Word) (word : List ℕ) → IsSpelt w → Meets (token w) (says word) → IsKeyword word
@@ -115,19 +118,22 @@ token_spelt w (says word) s m = says_spelt w word s m
 token_spelt w (named n) s m = named_spelt w n s m
 token_spelt w finish s m = tt
 
-end_spelt : (i : Item) → Meets over i → IsSpelt (item_word i)
+end_spelt : (i : Item) → Meets end_of_text i → IsSpelt (item_word i)
 end_spelt finish m = tt
 end_spelt _ m = absurd m
 
-item_spelt : (x : Seen) (i : Item) (old next : Reading) → Shows old x next → Meets x.sight i → IsSpelt (item_word i)
+item_spelt : (x : LocatedToken) (i : Item) (old next : Reading) → Shows old x next → Meets x.lookahead i
+    → IsSpelt (item_word i)
 item_spelt x i old next (shows_token t h e) m =
     let st = stands old next t h in
-    token_spelt (word_of t.sort t.text.now) i (sort_spelt t.sort t.text.now _ st.value st.next.allowed) (subst (λ y. Meets y.sight i) e m)
-item_spelt x i old next (shows_fault f h e) m = absurd (no_flaw f.flaw i (subst (λ y. Meets y.sight i) e m))
-item_spelt x i old next (shows_end h e) m = end_spelt i (subst (λ y. Meets y.sight i) e m)
+    token_spelt (word_of t.sort t.text.now) i (sort_spelt t.sort t.text.now _ st.value st.next.allowed)
+    (subst (λ y. Meets y.lookahead i) e m)
+item_spelt x i old next (shows_fault f h e) m = absurd (no_flaw f.flaw i (subst (λ y. Meets y.lookahead i) e m))
+item_spelt x i old next (shows_end h e) m = end_spelt i (subst (λ y. Meets y.lookahead i) e m)
 
 -- what is read is spelt
-pub all_spelt : (items : List Item) (s : List Seen) (old new : Reading) → ShowsAll old s new → Begins s items [] → AllSpelt items
+pub all_spelt : (items : List Item) (s : List LocatedToken) (old new : Reading) → ShowsAll old s new → Begins s items []
+    → AllSpelt items
 all_spelt [] s old new h b = tt
 all_spelt (i ∷ is) [] old new h b = absurd b
 all_spelt (i ∷ is) (x ∷ s) old new h b = (item_spelt x i old h.0 h.1 b.0, all_spelt is s h.0 new h.2 b.1)

@@ -3,7 +3,7 @@
 use Rattle.std.specs.Prelude.{◌≡◌, ℕ, ◌+◌, ◌-◌, ◌<◌, ◌^◌, Bool, true, false, ◌||◌, ◌==◌, List, [], ◌∷◌, ◌++◌, length, codes}
 use Rattle.step_lexis.specs.declared.token.Mark.TheVariants.{Dollar, Asterisk}
 use Rattle.step_exchange.specs.Words.{Word, name, number, element, string, binary, mark}
-use Rattle.step_exchange.specs.Trees.{Tree, leaf, typed, group, Trees, none, one, Part, Form, internal, external, Row, File, is_said}
+use Rattle.step_exchange.specs.Trees.{Tree, leaf, typed, group, Trees, none, one, Record, Form, internal, external, Row, File, is_said}
 
 -- what is asked of a structure
 pub record Rules : Type 0 where
@@ -41,8 +41,8 @@ abbrev mutual
   FitsTrees rules n none = Unit {0}
   FitsTrees rules n (one x xs) = FitsTree rules n x × FitsTrees rules n xs
 
-abbrev pub FitsPart : Rules → ℕ → Part → Type 0
-FitsPart rules n p = (n < rules.levels) × FitsTrees rules (n + 1) p.values
+abbrev pub FitsRecord : Rules → ℕ → Record → Type 0
+FitsRecord rules n p = (n < rules.levels) × FitsTrees rules (n + 1) p.values
 
 -- a fact is asked for where a rule stands
 abbrev pub Where : Bool → Type 0 → Type 0
@@ -54,13 +54,14 @@ has_keyword word [] = false
 has_keyword word (w ∷ ws) = is_said w word || has_keyword word ws
 
 -- partial records whose keywords are none of these and stand once
-abbrev pub FitsParts : Rules → List (List ℕ) → List Part → Type 0
-FitsParts rules before [] = Unit {0}
-FitsParts rules before (p ∷ ps) = Where rules.distinct (has_keyword p.keyword before ≡ false) × FitsPart rules 1 p × FitsParts rules (before ++ p.keyword ∷ []) ps
+abbrev pub FitsPartialRecords : Rules → List (List ℕ) → List Record → Type 0
+FitsPartialRecords rules before [] = Unit {0}
+FitsPartialRecords rules before (p ∷ ps) = Where rules.distinct (has_keyword p.keyword before ≡ false)
+    × FitsRecord rules 1 p × FitsPartialRecords rules (before ++ p.keyword ∷ []) ps
 
 abbrev pub FitsForm : Rules → Form → Type 0
-FitsForm rules (internal p) = FitsPart rules 0 p
-FitsForm rules (external ps) = (0 < rules.levels) × (0 < length ps) × FitsParts rules [] ps
+FitsForm rules (internal p) = FitsRecord rules 0 p
+FitsForm rules (external ps) = (0 < rules.levels) × (0 < length ps) × FitsPartialRecords rules [] ps
 
 abbrev pub has_name : ℕ → List ℕ → Bool
 has_name n [] = false
@@ -69,20 +70,22 @@ has_name n (m ∷ ms) = n == m || has_name n ms
 -- instances whose names are none of these and stand once, and which are not too many with these
 abbrev pub FitsRows : Rules → List ℕ → List Row → Type 0
 FitsRows rules before [] = Unit {0}
-FitsRows rules before (r ∷ rs) = Where rules.distinct (has_name r.name before ≡ false) × (length before < rules.instances) × FitsForm rules r.form × FitsRows rules (before ++ r.name ∷ []) rs
+FitsRows rules before (r ∷ rs) = Where rules.distinct (has_name r.name before ≡ false)
+    × (length before < rules.instances) × FitsForm rules r.form × FitsRows rules (before ++ r.name ∷ []) rs
 
-abbrev pub FitsRecords : Rules → List Part → Type 0
+abbrev pub FitsRecords : Rules → List Record → Type 0
 FitsRecords rules [] = Unit {0}
-FitsRecords rules (p ∷ ps) = FitsPart rules 0 p × FitsRecords rules ps
+FitsRecords rules (p ∷ ps) = FitsRecord rules 0 p × FitsRecords rules ps
 
 -- the header has three records at least: under each of the rules, so that its end before that is a fault of the header
-abbrev pub HasThree : List Part → Type 0
+abbrev pub HasThree : List Record → Type 0
 HasThree (p ∷ q ∷ r ∷ more) = Unit {0}
 HasThree _ = ⊥
 
 -- .. and the first three are these
-abbrev pub IsHeader : List Part → Type 0
-IsHeader (p ∷ q ∷ r ∷ more) = (is_said (codes "FILE_DESCRIPTION") p.keyword ≡ true) × (is_said (codes "FILE_NAME") q.keyword ≡ true) × (is_said (codes "FILE_SCHEMA") r.keyword ≡ true)
+abbrev pub IsHeader : List Record → Type 0
+IsHeader (p ∷ q ∷ r ∷ more) = (is_said (codes "FILE_DESCRIPTION") p.keyword ≡ true)
+    × (is_said (codes "FILE_NAME") q.keyword ≡ true) × (is_said (codes "FILE_SCHEMA") r.keyword ≡ true)
 IsHeader _ = ⊥
 
 -- one parameter, a list of one string
@@ -90,7 +93,7 @@ abbrev pub NamesSchema : Trees → Type 0
 NamesSchema (one (group (one (leaf (string text)) none)) none) = Unit {0}
 NamesSchema _ = ⊥
 
-abbrev pub FitsHeader : Rules → List Part → Type 0
+abbrev pub FitsHeader : Rules → List Record → Type 0
 FitsHeader rules header = FitsRecords rules header × HasThree header × Where rules.headed (IsHeader header)
 
 -- all that is asked but for the parameters of FILE_SCHEMA
@@ -98,6 +101,6 @@ abbrev pub FitsFile : Rules → File → Type 0
 FitsFile rules x = FitsHeader rules x.header × FitsRows rules [] x.rows
 
 -- FILE_SCHEMA, the third record, names one schema
-abbrev pub HasSchema : List Part → Type 0
+abbrev pub HasSchema : List Record → Type 0
 HasSchema (p ∷ q ∷ r ∷ more) = NamesSchema r.values
 HasSchema _ = ⊥

@@ -4,6 +4,5 @@ pub mod Fits
 pub mod Texts
 pub mod Views
 pub mod Predict
-pub mod Prints
-pub mod Emits
 pub mod Normal
+pub mod Exchanges

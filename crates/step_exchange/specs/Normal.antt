@@ -3,7 +3,7 @@ use Rattle.std.specs.Prelude.{◌≡◌, ℕ, List, [], ◌∷◌, ◌++◌, map
 use Rattle.step_literals.specs.Words.{upper}
 use Rattle.step_lexis.specs.Front.{mark_byte}
 use Rattle.step_exchange.specs.Words.{Word, begins, ends, keyword, user_defined, scope, name, number, element, string, binary, mark}
-use Rattle.step_exchange.specs.Trees.{Tree, leaf, typed, group, Trees, none, one, Part, Form, internal, external, Row, File}
+use Rattle.step_exchange.specs.Trees.{Tree, leaf, typed, group, Trees, none, one, Record, Form, internal, external, Row, File}
 use Rattle.step_exchange.specs.Texts.{ReadsAs}
 
 -- an instance name or a reference
@@ -40,16 +40,16 @@ abbrev mutual
   plain_more none = []
   plain_more (one x xs) = codes "," ++ plain_tree x ++ plain_more xs
 
-abbrev pub plain_part : Part → List ℕ
-plain_part p = upper p.keyword ++ codes "(" ++ plain_trees p.values ++ codes ")"
+abbrev pub plain_record : Record → List ℕ
+plain_record p = upper p.keyword ++ codes "(" ++ plain_trees p.values ++ codes ")"
 
-abbrev pub plain_parts : List Part → List ℕ
-plain_parts [] = []
-plain_parts (p ∷ ps) = plain_part p ++ plain_parts ps
+abbrev pub plain_partial_records : List Record → List ℕ
+plain_partial_records [] = []
+plain_partial_records (p ∷ ps) = plain_record p ++ plain_partial_records ps
 
 abbrev pub plain_form : Form → List ℕ
-plain_form (internal p) = plain_part p
-plain_form (external ps) = codes "(" ++ plain_parts ps ++ codes ")"
+plain_form (internal p) = plain_record p
+plain_form (external ps) = codes "(" ++ plain_partial_records ps ++ codes ")"
 
 -- the line of an instance
 abbrev pub plain_row : Row → List ℕ
@@ -59,9 +59,10 @@ abbrev pub plain_rows : List Row → List ℕ
 plain_rows [] = []
 plain_rows (r ∷ rs) = plain_row r ++ plain_rows rs
 
--- the normal text: the front as it stands, then a line for each instance in the data section
+-- the normal text: the header bytes as they stand, then a line for each instance in the data section
 abbrev pub plain_text : List ℕ → List Row → List ℕ
-plain_text front rows = front ++ codes "\nDATA;\n" ++ plain_rows rows ++ codes "ENDSEC;\nEND-ISO-10303-21;\n"
+plain_text header_bytes rows = header_bytes ++ codes "\nDATA;\n" ++ plain_rows rows
+    ++ codes "ENDSEC;\nEND-ISO-10303-21;\n"
 
 -- the token as the normal text spells it
 abbrev pub normal_word : Word → Word
@@ -81,7 +82,7 @@ abbrev mutual
   normal_trees none = none
   normal_trees (one x xs) = one (normal_tree x) (normal_trees xs)
 
-abbrev pub normal_part : Part → Part
+abbrev pub normal_part : Record → Record
 normal_part p = record { keyword = upper p.keyword; values = normal_trees p.values }
 
 abbrev pub normal_form : Form → Form
@@ -99,11 +100,13 @@ normal_rows rows = map normal_row rows
 abbrev pub normal_file : File → File
 normal_file x = record { header = x.header; rows = normal_rows x.rows }
 
--- The normal text of what a text reads as reads as the same: the same front, and the instances with only
--- the case of words and the spelling of names changed.
+-- The normal text of what a text reads as reads as the same: the same header bytes, and the instances with
+-- only the case of words and the spelling of names changed.
 abbrev pub NormalReadsAgain : Type 0
-NormalReadsAgain = (text front : List ℕ) (x : File) → ReadsAs text front x → ReadsAs (plain_text front x.rows) front (normal_file x)
+NormalReadsAgain = (text header_bytes : List ℕ) (x : File) → ReadsAs text header_bytes x
+    → ReadsAs (plain_text header_bytes x.rows) header_bytes (normal_file x)
 
 -- .. and its own normal text is the same text
 abbrev pub NormalStays : Type 0
-NormalStays = (front : List ℕ) (rows : List Row) → plain_text front (normal_rows rows) ≡ plain_text front rows
+NormalStays = (header_bytes : List ℕ) (rows : List Row) → plain_text header_bytes (normal_rows rows) ≡ plain_text
+    header_bytes rows

@@ -3,23 +3,23 @@
 use Rattle.std.specs.Prelude.{◌≡◌, ℕ, ◌+◌, ◌-◌, true, false, List, [], ◌∷◌, ◌++◌, take, drop, codes, ◌⊎◌}
 use Rattle.step_lexis.specs.declared.token.Mark.TheVariants.{Open, Semicolon}
 use Rattle.step_lexis.specs.Reading.{Reading, Reaches, start}
-use Rattle.step_exchange.specs.declared.fault.Kind.{Kind}
-use Rattle.step_exchange.specs.declared.fault.Kind.TheVariants as kinds
+use Rattle.step_exchange.specs.declared.fault.FaultKind.{FaultKind}
+use Rattle.step_exchange.specs.declared.fault.FaultKind.TheVariants as kinds
 use Rattle.step_exchange.specs.declared.fault.LeftOut.{LeftOut}
 use Rattle.step_exchange.specs.declared.fault.TextFault.{TextFault}
 use Rattle.step_exchange.specs.declared.fault.TextFault.TheVariants as faults
 use Rattle.step_exchange.specs.declared.fault.LeftOut.TheVariants.{UserDefined, Scope, Anchor, Reference, Signature, Sections, TooMany}
-use Rattle.step_exchange.specs.Words.{keyword, user_defined, scope, mark, Sight, token, flawed, Seen, Shows, ShowsAll}
-use Rattle.step_exchange.specs.Trees.{Part, File, Item, this, says, Begins, is_said, items_of_part, items_of_records, items_of_start, items_of_header, items_of_data, items_of_end, items_of_file}
+use Rattle.step_exchange.specs.Words.{keyword, user_defined, scope, mark, Lookahead, token, flawed, LocatedToken, Shows, ShowsAll}
+use Rattle.step_exchange.specs.Trees.{Record, File, Item, this, says, Begins, is_said, items_of_record, items_of_records, items_of_start, items_of_header, items_of_data, items_of_end, items_of_file}
 use Rattle.step_exchange.specs.Fits.{Rules, the_rules, FitsFile, FitsHeader, FitsRecords, IsHeader, HasSchema, NamesSchema, Where}
 
 -- from one place of a text to another stands what the items ask for
 abbrev pub Reads : Reading → List Item → Reading → Type 0
-Reads old items new = (s : List Seen) × ShowsAll old s new × Begins s items []
+Reads old items new = (s : List LocatedToken) × ShowsAll old s new × Begins s items []
 
--- The text reads as this structure, and its front, from the first token through the semicolon of the
--- header's end, is these bytes.
-pub record ReadsAs (text front : List ℕ) (x : File) : Type 0 where
+-- The text reads as this structure, and its header bytes, from the first token through the semicolon of the
+-- header's end, are these.
+pub record ReadsAs (text header_bytes : List ℕ) (x : File) : Type 0 where
   pub fits : FitsFile the_rules x
   pub schema : HasSchema x.header
   pub headed : Reading
@@ -28,58 +28,64 @@ pub record ReadsAs (text front : List ℕ) (x : File) : Type 0 where
   pub rows : Reads headed (items_of_data x.rows ++ items_of_end) end
   pub first : ℕ
   pub begins : Reaches (start text) first
-  pub front_is : front ≡ take (headed.place - first) (drop first text)
+  pub header_bytes_are : header_bytes ≡ take (headed.place - first) (drop first text)
 
--- some text reads as this structure, and its front is these bytes
+-- some text reads as this structure, and its header bytes are these
 abbrev pub IsRead : List ℕ → File → Type 0
-IsRead front x = (text : List ℕ) × ReadsAs text front x
+IsRead header_bytes x = (text : List ℕ) × ReadsAs text header_bytes x
 
 -- the header up to its third record, whose semicolon is still to come
-abbrev pub items_of_opening : Part → Part → Part → List Item
-items_of_opening p q r = items_of_start ++ items_of_records (p ∷ q ∷ []) ++ items_of_part r
+abbrev pub items_of_opening : Record → Record → Record → List Item
+items_of_opening p q r = items_of_start ++ items_of_records (p ∷ q ∷ []) ++ items_of_record r
 
 -- once the semicolon of the three records stands among the tokens, the third one names one schema
-abbrev pub HoldsSchema : Rules → List Seen → Type 0
-HoldsSchema rules s = (p q r : Part) (rest : List Seen) → FitsRecords rules (p ∷ q ∷ r ∷ []) → IsHeader (p ∷ q ∷ r ∷ []) → Begins s (items_of_opening p q r ++ this (mark Semicolon) ∷ []) rest → NamesSchema r.values
+abbrev pub HoldsSchema : Rules → List LocatedToken → Type 0
+HoldsSchema rules s = (p q r : Record) (rest : List LocatedToken) → FitsRecords rules (p ∷ q ∷ r ∷ [])
+    → IsHeader (p ∷ q ∷ r ∷ []) → Begins s (items_of_opening p q r ++ this (mark Semicolon) ∷ []) rest
+    → NamesSchema r.values
 
--- the tokens so far are the front of some structure's
-pub record IsFront (rules : Rules) (s : List Seen) : Type 0 where
-  pub rest : List Seen
+-- the tokens so far are a viable prefix: some structure's tokens begin with them
+pub record IsViablePrefix (rules : Rules) (s : List LocatedToken) : Type 0 where
+  pub rest : List LocatedToken
   pub file : File
   pub fits : FitsFile rules file
   pub tokens : Begins (s ++ rest) (items_of_file file) []
   pub schema : Where rules.headed (HoldsSchema rules s)
 
 -- the tokens so far are a header, or a header and a data section, or a whole structure
-abbrev pub EndsHeader : List Seen → Type 0
-EndsHeader s = (header : List Part) × FitsHeader the_rules header × Begins s (items_of_header header) []
+abbrev pub EndsHeader : List LocatedToken → Type 0
+EndsHeader s = (header : List Record) × FitsHeader the_rules header × Begins s (items_of_header header) []
 
-abbrev pub EndsData : List Seen → Type 0
-EndsData s = (file : File) × FitsFile the_rules file × Begins s (items_of_header file.header ++ items_of_data file.rows) []
+abbrev pub EndsData : List LocatedToken → Type 0
+EndsData s = (file : File) × FitsFile the_rules file × Begins s (items_of_header file.header ++ items_of_data file.rows)
+    []
 
-abbrev pub EndsFile : List Seen → Type 0
-EndsFile s = (rest : Seen) × (file : File) × FitsFile the_rules file × Begins (s ++ rest ∷ []) (items_of_file file) []
+abbrev pub EndsFile : List LocatedToken → Type 0
+EndsFile s = (rest : LocatedToken) × (file : File) × FitsFile the_rules file × Begins (s ++ rest ∷ [])
+    (items_of_file file) []
 
 -- the word for a data section came, and nothing behind it
-abbrev pub BeginsData : List Seen → Type 0
-BeginsData s = (header : List Part) × FitsHeader the_rules header × Begins s (items_of_header header ++ says (codes "DATA") ∷ []) []
+abbrev pub BeginsData : List LocatedToken → Type 0
+BeginsData s = (header : List Record) × FitsHeader the_rules header
+    × Begins s (items_of_header header ++ says (codes "DATA") ∷ []) []
 
-abbrev pub IsWord : List ℕ → Sight → Type 0
+abbrev pub IsWord : List ℕ → Lookahead → Type 0
 IsWord word (token (keyword text)) = is_said word text ≡ true
 IsWord word _ = ⊥
 
 -- another section could begin, or the file end
-abbrev pub IsBetween : List Seen → Type 0
+abbrev pub IsBetween : List LocatedToken → Type 0
 IsBetween s = EndsHeader s ⊎ EndsData s
 
 -- a part of the standard that isn't read begins with this token
-abbrev pub IsLeftOut : List Seen → Sight → LeftOut → Type 0
+abbrev pub IsLeftOut : List LocatedToken → Lookahead → LeftOut → Type 0
 IsLeftOut before (token (user_defined text)) UserDefined = Unit {0}
 IsLeftOut before (token scope) Scope = Unit {0}
 IsLeftOut before at Anchor = IsWord (codes "ANCHOR") at × IsBetween before
 IsLeftOut before at Reference = IsWord (codes "REFERENCE") at × IsBetween before
 IsLeftOut before at Signature = IsWord (codes "SIGNATURE") at × (IsBetween before ⊎ EndsFile before)
-IsLeftOut before at Sections = (IsWord (codes "DATA") at × EndsData before) ⊎ ((at ≡ token (mark Open)) × BeginsData before)
+IsLeftOut before at Sections = (IsWord (codes "DATA") at × EndsData before)
+    ⊎ ((at ≡ token (mark Open)) × BeginsData before)
 IsLeftOut before at _ = ⊥
 
 abbrev pub more_levels : Rules
@@ -97,38 +103,43 @@ unheaded = record the_rules { headed = false }
 
 -- A token that can't stand behind those before it has this kind of fault: one that a rule rules out would
 -- stand without the rule.
-abbrev pub IsDue : List Seen → Seen → Kind → Type 0
-IsDue before at (kinds.Token flaw) = at.sight ≡ flawed flaw
-IsDue before at kinds.DuplicateName = IsFront repeated (before ++ at ∷ []) × (IsFront more_instances (before ++ at ∷ []) → ⊥)
-IsDue before at (kinds.LeftOut TooMany) = IsFront more_instances (before ++ at ∷ [])
-IsDue before at (kinds.LeftOut part) = IsLeftOut before at.sight part
-IsDue before at kinds.TooDeep = IsFront more_levels (before ++ at ∷ [])
-IsDue before at kinds.HeaderFault = IsFront unheaded (before ++ at ∷ [])
-IsDue before at kinds.Expected = Unit {0}
+abbrev pub FaultApplies : List LocatedToken → LocatedToken → FaultKind → Type 0
+FaultApplies before at (kinds.Token flaw) = at.lookahead ≡ flawed flaw
+FaultApplies before at kinds.DuplicateName = IsViablePrefix repeated (before ++ at ∷ [])
+    × (IsViablePrefix more_instances (before ++ at ∷ []) → ⊥)
+FaultApplies before at (kinds.LeftOut TooMany) = IsViablePrefix more_instances (before ++ at ∷ [])
+FaultApplies before at (kinds.LeftOut part) = IsLeftOut before at.lookahead part
+FaultApplies before at kinds.TooDeep = IsViablePrefix more_levels (before ++ at ∷ [])
+FaultApplies before at kinds.HeaderFault = IsViablePrefix unheaded (before ++ at ∷ [])
+FaultApplies before at kinds.Expected = Unit {0}
 
 -- .. and another token is expected only where no other kind of fault is due
-abbrev pub IsKind : List Seen → Seen → Kind → Type 0
-IsKind before at kinds.Expected = (kind : Kind) → (kind ≡ kinds.Expected → ⊥) → IsDue before at kind → ⊥
-IsKind before at kind = IsDue before at kind
+abbrev pub IsKind : List LocatedToken → LocatedToken → FaultKind → Type 0
+IsKind before at kinds.Expected = (kind : FaultKind) → (kind ≡ kinds.Expected → ⊥) → FaultApplies before at kind → ⊥
+IsKind before at kind = FaultApplies before at kind
 
 -- the place of a token, but for the parameters of FILE_SCHEMA: that of its keyword
-pub data IsPlace (before : List Seen) (at : Seen) (kind : Kind) (place : ℕ) : Type 0 where
-  own_place : (kind ≡ kinds.HeaderFault → at.sight ≡ token (mark Semicolon) → ⊥) → place ≡ at.place → IsPlace before at kind place
-  place_of_schema : (kind ≡ kinds.HeaderFault) → at.sight ≡ token (mark Semicolon) → (earlier inner : List Seen) (key : Seen) (p q : Part)
-      → before ≡ earlier ++ key ∷ inner → FitsRecords the_rules (p ∷ q ∷ []) → Begins earlier (items_of_start ++ items_of_records (p ∷ q ∷ [])) [] → place ≡ key.place → IsPlace before at kind place
+pub data IsPlace (before : List LocatedToken) (at : LocatedToken) (kind : FaultKind) (place : ℕ) : Type 0 where
+  own_place : (kind ≡ kinds.HeaderFault → at.lookahead ≡ token (mark Semicolon) → ⊥) → place ≡ at.place
+      → IsPlace before at kind place
+  place_of_schema : (kind ≡ kinds.HeaderFault) → at.lookahead ≡ token (mark Semicolon)
+      → (earlier inner : List LocatedToken) (key : LocatedToken) (p q : Record)
+      → before ≡ earlier ++ key ∷ inner → FitsRecords the_rules (p ∷ q ∷ [])
+      → Begins earlier (items_of_start ++ items_of_records (p ∷ q ∷ [])) [] → place ≡ key.place
+      → IsPlace before at kind place
 
--- The fault that shows first: what stands there is the first with which the tokens so far are no front.
-pub record IsFirstFault (text : List ℕ) (kind : Kind) (place : ℕ) : Type 0 where
-  pub before : List Seen
-  pub at : Seen
+-- The fault that shows first: what stands there is the first with which the tokens so far are no viable prefix.
+pub record IsFirstFault (text : List ℕ) (kind : FaultKind) (place : ℕ) : Type 0 where
+  pub before : List LocatedToken
+  pub at : LocatedToken
   pub here : Reading
   pub next : Reading
   pub read : ShowsAll (start text) before here
   pub shown : Shows here at next
-  pub viable : IsFront the_rules before
+  pub viable : IsViablePrefix the_rules before
   -- they aren't a whole structure's
   pub unended : (x : File) → FitsFile the_rules x → Begins before (items_of_file x) [] → ⊥
-  pub refused : IsFront the_rules (before ++ at ∷ []) → ⊥
+  pub refused : IsViablePrefix the_rules (before ++ at ∷ []) → ⊥
   pub kind_is : IsKind before at kind
   pub place_is : IsPlace before at kind place
 
@@ -143,16 +154,20 @@ IsMemory (faults.Fault kind place) = ⊥
 
 -- A text reads as one structure at most.
 abbrev pub ReadsOnce : Type 0
-ReadsOnce = (text front other : List ℕ) (x y : File) → ReadsAs text front x → ReadsAs text other y → (front ≡ other) × (x ≡ y)
+ReadsOnce = (text header_bytes other : List ℕ) (x y : File) → ReadsAs text header_bytes x → ReadsAs text other y
+    → (header_bytes ≡ other) × (x ≡ y)
 
 -- A text that reads as a structure has no fault.
 abbrev pub ReadsWithoutFault : Type 0
-ReadsWithoutFault = (text front : List ℕ) (x : File) (kind : Kind) (place : ℕ) → ReadsAs text front x → IsFirstFault text kind place → ⊥
+ReadsWithoutFault = (text header_bytes : List ℕ) (x : File) (kind : FaultKind) (place : ℕ) → ReadsAs text header_bytes x
+    → IsFirstFault text kind place → ⊥
 
 -- A text has one first fault at most: one kind, at one place.
 abbrev pub FaultsOnce : Type 0
-FaultsOnce = (text : List ℕ) (kind other : Kind) (place elsewhere : ℕ) → IsFirstFault text kind place → IsFirstFault text other elsewhere → (kind ≡ other) × (place ≡ elsewhere)
+FaultsOnce = (text : List ℕ) (kind other : FaultKind) (place elsewhere : ℕ) → IsFirstFault text kind place
+    → IsFirstFault text other elsewhere → (kind ≡ other) × (place ≡ elsewhere)
 
 -- A text reads as a structure, or has a first fault.
 abbrev pub ReadsOrFails : Type 0
-ReadsOrFails = (text : List ℕ) → ((front : List ℕ) × (x : File) × ReadsAs text front x) ⊎ ((kind : Kind) × (place : ℕ) × IsFirstFault text kind place)
+ReadsOrFails = (text : List ℕ) → ((header_bytes : List ℕ) × (x : File) × ReadsAs text header_bytes x)
+    ⊎ ((kind : FaultKind) × (place : ℕ) × IsFirstFault text kind place)

@@ -2,7 +2,7 @@
 use Rattle.std.specs.Prelude.{◌≡◌, ℕ, Bool, true, List, [], ◌∷◌, ◌++◌, codes}
 use Rattle.std.specs.Str.{str_eq_ignore_ascii_case}
 use Rattle.step_lexis.specs.declared.token.Mark.TheVariants.{Open, Close, Comma, Semicolon, Equals}
-use Rattle.step_exchange.specs.Words.{Word, keyword, name, mark, begins, ends, Sight, token, over, Seen}
+use Rattle.step_exchange.specs.Words.{Word, keyword, name, mark, begins, ends, Lookahead, token, end_of_text, LocatedToken}
 
 -- a parameter: one token, a typed parameter, or a list
 mutual
@@ -16,13 +16,13 @@ mutual
     one : Tree → Trees → Trees
 
 -- a record of the header, an internally mapped instance, or a partial record of an external one
-pub record Part : Type 0 where
+pub record Record : Type 0 where
   pub keyword : List ℕ
   pub values : Trees
 
 pub data Form : Type 0 where
-  internal : Part → Form
-  external : List Part → Form
+  internal : Record → Form
+  external : List Record → Form
 
 -- an instance
 pub record Row : Type 0 where
@@ -31,7 +31,7 @@ pub record Row : Type 0 where
 
 -- an exchange structure: the records of the header, and the instances
 pub record File : Type 0 where
-  pub header : List Part
+  pub header : List Record
   pub rows : List Row
 
 -- what a tree asks for at a place of a text
@@ -49,18 +49,18 @@ pub data Item : Type 0 where
 abbrev pub is_said : List ℕ → List ℕ → Bool
 is_said word text = str_eq_ignore_ascii_case word text
 
-abbrev pub Meets : Sight → Item → Type 0
+abbrev pub Meets : Lookahead → Item → Type 0
 Meets (token w) (this v) = w ≡ v
 Meets (token (keyword text)) (says word) = is_said word text ≡ true
 Meets (token (name n text)) (named m) = n ≡ m
-Meets over finish = Unit {0}
+Meets end_of_text finish = Unit {0}
 Meets _ _ = ⊥
 
 -- s begins with what the items ask for, and rest is behind it
-abbrev pub Begins : List Seen → List Item → List Seen → Type 0
+abbrev pub Begins : List LocatedToken → List Item → List LocatedToken → Type 0
 Begins s [] rest = s ≡ rest
 Begins [] (i ∷ items) rest = ⊥
-Begins (t ∷ s) (i ∷ items) rest = Meets t.sight i × Begins s items rest
+Begins (t ∷ s) (i ∷ items) rest = Meets t.lookahead i × Begins s items rest
 
 abbrev mutual
   pub items_of_tree : Tree → List Item
@@ -82,16 +82,16 @@ abbrev mutual
 abbrev pub items_of_list : Trees → List Item
 items_of_list xs = items_of_trees xs ++ this (mark Close) ∷ []
 
-abbrev pub items_of_part : Part → List Item
-items_of_part p = this (keyword p.keyword) ∷ this (mark Open) ∷ items_of_list p.values
+abbrev pub items_of_record : Record → List Item
+items_of_record p = this (keyword p.keyword) ∷ this (mark Open) ∷ items_of_list p.values
 
-abbrev pub items_of_parts : List Part → List Item
-items_of_parts [] = []
-items_of_parts (p ∷ ps) = items_of_part p ++ items_of_parts ps
+abbrev pub items_of_partial_records : List Record → List Item
+items_of_partial_records [] = []
+items_of_partial_records (p ∷ ps) = items_of_record p ++ items_of_partial_records ps
 
 abbrev pub items_of_form : Form → List Item
-items_of_form (internal p) = items_of_part p
-items_of_form (external ps) = this (mark Open) ∷ (items_of_parts ps ++ this (mark Close) ∷ [])
+items_of_form (internal p) = items_of_record p
+items_of_form (external ps) = this (mark Open) ∷ (items_of_partial_records ps ++ this (mark Close) ∷ [])
 
 abbrev pub items_of_row : Row → List Item
 items_of_row r = named r.name ∷ this (mark Equals) ∷ (items_of_form r.form ++ this (mark Semicolon) ∷ [])
@@ -101,9 +101,9 @@ items_of_rows [] = []
 items_of_rows (r ∷ rs) = items_of_row r ++ items_of_rows rs
 
 -- each record of the header with a semicolon behind it
-abbrev pub items_of_records : List Part → List Item
+abbrev pub items_of_records : List Record → List Item
 items_of_records [] = []
-items_of_records (p ∷ ps) = items_of_part p ++ this (mark Semicolon) ∷ items_of_records ps
+items_of_records (p ∷ ps) = items_of_record p ++ this (mark Semicolon) ∷ items_of_records ps
 
 -- the keyword of a section or of its end
 abbrev pub section : List ℕ → List Item
@@ -114,7 +114,7 @@ abbrev pub items_of_start : List Item
 items_of_start = this begins ∷ this (mark Semicolon) ∷ section (codes "HEADER")
 
 -- the header, with what begins the file
-abbrev pub items_of_header : List Part → List Item
+abbrev pub items_of_header : List Record → List Item
 items_of_header ps = items_of_start ++ items_of_records ps ++ section (codes "ENDSEC")
 
 -- the data section

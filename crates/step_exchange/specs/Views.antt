@@ -5,7 +5,7 @@ use Rattle.step_exchange.specs.declared.tree.Param.{Param}
 use Rattle.step_exchange.specs.declared.tree.Param.TheOpen.{Param-F}
 use Rattle.step_exchange.specs.declared.tree.Param.TheOpen as layer
 use Rattle.step_exchange.specs.declared.tree.Param.TheFolds.{fold-Param}
-use Rattle.step_exchange.specs.declared.tree.Part.{Part}
+use Rattle.step_exchange.specs.declared.tree.Record.{Record}
 use Rattle.step_exchange.specs.declared.tree.Form.{Form}
 use Rattle.step_exchange.specs.declared.tree.Form.TheVariants as forms
 use Rattle.step_exchange.specs.Words.{name, number, element, string, binary, mark}
@@ -35,16 +35,16 @@ tree_of = fold-Param Tree tree_step
 abbrev pub trees_of : List Param → Trees
 trees_of ps = all_of (map tree_of ps)
 
-abbrev pub part_of : Part → trees.Part
-part_of p = record { keyword = p.keyword.text.now; values = trees_of p.params.items }
+abbrev pub record_of : Record → trees.Record
+record_of p = record { keyword = p.keyword.text.now; values = trees_of p.params.items }
 
 abbrev pub form_of : Form → trees.Form
-form_of (forms.Internal p) = trees.internal (part_of p)
-form_of (forms.External ps) = trees.external (map part_of ps.items)
+form_of (forms.Internal p) = trees.internal (record_of p)
+form_of (forms.External ps) = trees.external (map record_of ps.items)
 
 abbrev pub row_of : (ℕ × Form) → trees.Row
 row_of e = record { name = e.0; form = form_of e.1 }
 
 -- the structure that a header's records and the instances are
-abbrev pub file_of : List Part → List (ℕ × Form) → trees.File
-file_of header rows = record { header = map part_of header; rows = map row_of rows }
+abbrev pub file_of : List Record → List (ℕ × Form) → trees.File
+file_of header rows = record { header = map record_of header; rows = map row_of rows }

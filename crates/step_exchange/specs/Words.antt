@@ -38,32 +38,32 @@ word_of (sorts.Binary b) text = binary b.text.now
 word_of (sorts.Mark m) text = mark m
 
 -- what may stand at a place of a text: a token, something that is none, or the end
-pub data Sight : Type 0 where
-  token : Word → Sight
-  flawed : Flaw → Sight
-  over : Sight
+pub data Lookahead : Type 0 where
+  token : Word → Lookahead
+  flawed : Flaw → Lookahead
+  end_of_text : Lookahead
 
 -- what stands in a text, and how many bytes come before it, or before its fault
-pub record Seen : Type 0 where
-  pub sight : Sight
+pub record LocatedToken : Type 0 where
+  pub lookahead : Lookahead
   pub place : ℕ
 
-abbrev pub seen : Token → Seen
-seen t = record { sight = token (word_of t.sort t.text.now); place = t.place }
+abbrev pub located : Token → LocatedToken
+located t = record { lookahead = token (word_of t.sort t.text.now); place = t.place }
 
-abbrev pub seen_fault : TextFault → Seen
-seen_fault f = record { sight = flawed f.flaw; place = f.place }
+abbrev pub located_fault : TextFault → LocatedToken
+located_fault f = record { lookahead = flawed f.flaw; place = f.place }
 
-abbrev pub seen_end : Reading → Seen
-seen_end r = record { sight = over; place = length r.text }
+abbrev pub located_end : Reading → LocatedToken
+located_end r = record { lookahead = end_of_text; place = length r.text }
 
 -- this is what a lexer shows next, and how far the text is read then
-pub data Shows (old : Reading) (s : Seen) (new : Reading) : Type 0 where
-  shows_token : (t : Token) → Takes old t new → s ≡ seen t → Shows old s new
-  shows_fault : (f : TextFault) → IsFaulty old f new → s ≡ seen_fault f → Shows old s new
-  shows_end : IsAtEnd old new → s ≡ seen_end old → Shows old s new
+pub data Shows (old : Reading) (s : LocatedToken) (new : Reading) : Type 0 where
+  shows_token : (t : Token) → Takes old t new → s ≡ located t → Shows old s new
+  shows_fault : (f : TextFault) → IsFaulty old f new → s ≡ located_fault f → Shows old s new
+  shows_end : IsAtEnd old new → s ≡ located_end old → Shows old s new
 
 -- these are what a lexer shows in turn
-abbrev pub ShowsAll : Reading → List Seen → Reading → Type 0
+abbrev pub ShowsAll : Reading → List LocatedToken → Reading → Type 0
 ShowsAll old [] new = old ≡ new
 ShowsAll old (s ∷ rest) new = (next : Reading) × Shows old s next × ShowsAll next rest new

@@ -38,14 +38,15 @@ pub enum LeftOut {
 
 /// What is wrong.
 #[derive(Clone, Copy, Debug, PartialEq, Eq, Error)]
-pub enum Kind {
+pub enum FaultKind {
     /// No token within the limits stands here (E1 to E5).
     #[error("{0}")]
     Token(Flaw),
     /// Another token was expected.
     #[error("E6 Expected")]
     Expected,
-    /// A name of an instance that another one has, or a keyword that stands twice in an external record.
+    /// A name of an instance that another one has, or a keyword that stands twice in an external
+    /// record.
     #[error("E7 DuplicateName")]
     DuplicateName,
     /// Something that is left out.
@@ -54,7 +55,8 @@ pub enum Kind {
     /// More than 64 parentheses open at once.
     #[error("E9 TooDeep")]
     TooDeep,
-    /// One of the first three records of the header is missing, or FILE_SCHEMA doesn't name one schema.
+    /// One of the first three records of the header is missing, or FILE_SCHEMA doesn't name one
+    /// schema.
     #[error("E10 HeaderFault")]
     HeaderFault,
 }
@@ -67,7 +69,7 @@ pub enum TextFault {
     Memory,
     /// The fault that shows first.
     #[error("{kind} at byte {place}")]
-    Fault { kind: Kind, place: u64 },
+    Fault { kind: FaultKind, place: u64 },
 }
 
 impl From<AllocError> for TextFault {

@@ -4,14 +4,32 @@ ghost use Rattle.std.specs.Prelude.{[], ◌∷◌, MatchResult, MatchOption, IsT
 ghost use Rattle.step_exchange.specs.Trees.{section};
 ghost use Rattle.step_exchange.specs.Fits.{NamesSchema};
 ghost use Rattle.step_exchange.specs.Texts.{Reads};
-ghost use Rattle.step_exchange.specs.Views.{part_of, trees_of};
-ghost use Rattle.step_exchange.specs.Predict.{Head, Just, StopsIn, Starts, TakesHead, TakesRecord, TakesSchema, StopsAtSchema, TakesKeyed, TakesEnd, TakesOneMore, HeaderSoFar, TakesHeader, StopsInHeader, Records, start_symbols, after_keyword};
+ghost use Rattle.step_exchange.specs.Views.{record_of, trees_of};
+ghost use Rattle.step_exchange.specs.Predict.{
+  Head,
+  Just,
+  StopsIn,
+  Starts,
+  TakesHead,
+  TakesRecord,
+  TakesSchema,
+  StopsAtSchema,
+  TakesKeyed,
+  TakesEnd,
+  TakesOneMore,
+  HeaderSoFar,
+  TakesHeader,
+  StopsInHeader,
+  Records,
+  start_symbols,
+  after_keyword,
+};
 ghost use Rattle.step_lexis.specs.declared.token.Mark.TheVariants.{Semicolon};
 
-use crate::fault::{Kind, TextFault};
+use crate::fault::{FaultKind, TextFault};
 use crate::params::{items, record_params};
 use crate::tokens::{expect, expect_word, fault_at, is_mark, is_said, refuse, take};
-use crate::tree::{Param, Part};
+use crate::tree::{Param, Record};
 use std::alloc::Global;
 use step_lexis::lexer::Lexer;
 use step_lexis::token::{Mark, Sort};
@@ -19,7 +37,9 @@ use step_literals::literal::Word;
 
 /// Reads up to the first record, and answers the place of the first token.
 fn start(lexer: &mut Lexer<'_>) -> Result<u64, TextFault>
-    ensures { MatchResult result (λ place. Starts lexer.old place lexer.new) (λ e. StopsIn e start_symbols [] lexer.old) }
+    ensures { MatchResult result
+        (λ place. Starts lexer.old place lexer.new)
+        (λ e. StopsIn e start_symbols [] lexer.old) }
 {
     let first = take(lexer)?;
     let Sort::Begin = first.sort else {
@@ -32,23 +52,31 @@ fn start(lexer: &mut Lexer<'_>) -> Result<u64, TextFault>
 }
 
 /// The record with this keyword, without its semicolon, and the place of the keyword.
-fn head<'a>(alloc: Global, lexer: &mut Lexer<'a>, word: &[u8]) -> Result<(Part<'a>, u64), TextFault>
-    ensures { MatchResult result (λ r. TakesHead word.now lexer.old (part_of r.0) r.1 lexer.new) (λ e. StopsIn e (Head word.now ∷ []) [] lexer.old) }
+fn head<'a>(
+    alloc: Global,
+    lexer: &mut Lexer<'a>,
+    word: &[u8],
+) -> Result<(Record<'a>, u64), TextFault>
+    ensures { MatchResult result
+        (λ r. TakesHead word.now lexer.old (record_of r.0) r.1 lexer.new)
+        (λ e. StopsIn e (Head word.now ∷ []) [] lexer.old) }
 {
     let key = take(lexer)?;
     let Sort::Keyword(keyword) = key.sort else {
         return Err(refuse(key));
     };
     if !is_said(keyword, word) {
-        return Err(fault_at(Kind::HeaderFault, key));
+        return Err(fault_at(FaultKind::HeaderFault, key));
     }
     let params = record_params(alloc, lexer, 0)?;
-    Ok((Part { keyword, params }, key.place))
+    Ok((Record { keyword, params }, key.place))
 }
 
 /// The record with this keyword.
-fn record<'a>(alloc: Global, lexer: &mut Lexer<'a>, word: &[u8]) -> Result<Part<'a>, TextFault>
-    ensures { MatchResult result (λ p. TakesRecord word.now lexer.old (part_of p) lexer.new) (λ e. StopsIn e (Head word.now ∷ Just Semicolon ∷ []) [] lexer.old) }
+fn record<'a>(alloc: Global, lexer: &mut Lexer<'a>, word: &[u8]) -> Result<Record<'a>, TextFault>
+    ensures { MatchResult result
+        (λ p. TakesRecord word.now lexer.old (record_of p) lexer.new)
+        (λ e. StopsIn e (Head word.now ∷ Just Semicolon ∷ []) [] lexer.old) }
 {
     let (part, _) = head(alloc, lexer, word)?;
     expect(lexer, Mark::Semicolon)?;
@@ -72,8 +100,10 @@ fn names_schema(params: &[Param<'_>]) -> bool
 }
 
 /// FILE_SCHEMA, which names one schema.
-fn schema<'a>(alloc: Global, lexer: &mut Lexer<'a>) -> Result<Part<'a>, TextFault>
-    ensures { MatchResult result (λ p. TakesSchema lexer.old (part_of p) lexer.new) (λ e. StopsAtSchema e lexer.old) }
+fn schema<'a>(alloc: Global, lexer: &mut Lexer<'a>) -> Result<Record<'a>, TextFault>
+    ensures { MatchResult result
+        (λ p. TakesSchema lexer.old (record_of p) lexer.new)
+        (λ e. StopsAtSchema e lexer.old) }
 {
     let (part, place) = head(alloc, lexer, b"FILE_SCHEMA")?;
     let end = take(lexer)?;
@@ -82,22 +112,25 @@ fn schema<'a>(alloc: Global, lexer: &mut Lexer<'a>) -> Result<Part<'a>, TextFaul
     }
     if !names_schema(&part.params) {
         return Err(TextFault::Fault {
-            kind: Kind::HeaderFault,
+            kind: FaultKind::HeaderFault,
             place,
         });
     }
     Ok(part)
 }
 
-/// What stands behind the keyword of one more record of the header: its parameters, or none where the
-/// keyword and a semicolon end the header. ENDSEC before a parenthesis is a keyword like another.
+/// What stands behind the keyword of one more record of the header: its parameters, or none where
+/// the keyword and a semicolon end the header. ENDSEC before a parenthesis is a keyword like
+/// another.
 fn record_or_end<'a>(
     alloc: Global,
     lexer: &mut Lexer<'a>,
     keyword: Word<'a>,
 ) -> Result<Option<Vec<Param<'a>>>, TextFault>
     ensures { MatchResult result
-        (λ o. MatchOption o (TakesEnd keyword.entry.text.now lexer.old lexer.new) (λ v. TakesKeyed keyword.entry.text.now lexer.old (trees_of v.items) lexer.new))
+        (λ o. MatchOption o
+        (TakesEnd keyword.entry.text.now lexer.old lexer.new)
+        (λ v. TakesKeyed keyword.entry.text.now lexer.old (trees_of v.items) lexer.new))
         (λ e. StopsIn e (after_keyword keyword.entry.text.now) [] lexer.old) }
 {
     if !is_said(keyword, b"ENDSEC") {
@@ -116,9 +149,11 @@ fn record_or_end<'a>(
 }
 
 /// One more record of the header, or none at its end.
-fn next_record<'a>(alloc: Global, lexer: &mut Lexer<'a>) -> Result<Option<Part<'a>>, TextFault>
+fn next_record<'a>(alloc: Global, lexer: &mut Lexer<'a>) -> Result<Option<Record<'a>>, TextFault>
     ensures { MatchResult result
-        (λ o. MatchOption o (Reads lexer.old (section (codes "ENDSEC")) lexer.new) (λ p. TakesOneMore lexer.old (part_of p) lexer.new))
+        (λ o. MatchOption o
+        (Reads lexer.old (section (codes "ENDSEC")) lexer.new)
+        (λ p. TakesOneMore lexer.old (record_of p) lexer.new))
         (λ e. StopsIn e (Records ∷ []) [] lexer.old) }
 {
     let key = take(lexer)?;
@@ -129,12 +164,14 @@ fn next_record<'a>(alloc: Global, lexer: &mut Lexer<'a>) -> Result<Option<Part<'
         return Ok(None);
     };
     expect(lexer, Mark::Semicolon)?;
-    Ok(Some(Part { keyword, params }))
+    Ok(Some(Record { keyword, params }))
 }
 
 /// The first three records of the header, and the place of the first token.
-fn opening<'a>(alloc: Global, lexer: &mut Lexer<'a>) -> Result<(u64, Vec<Part<'a>>), TextFault>
-    ensures { MatchResult result (λ h. HeaderSoFar lexer.old h.0 (map part_of h.1.items) lexer.new) (λ e. StopsInHeader e lexer.old) }
+fn opening<'a>(alloc: Global, lexer: &mut Lexer<'a>) -> Result<(u64, Vec<Record<'a>>), TextFault>
+    ensures { MatchResult result
+        (λ h. HeaderSoFar lexer.old h.0 (map record_of h.1.items) lexer.new)
+        (λ e. StopsInHeader e lexer.old) }
 {
     let place = start(lexer)?;
     let description = record(alloc, lexer, b"FILE_DESCRIPTION")?;
@@ -148,8 +185,10 @@ fn opening<'a>(alloc: Global, lexer: &mut Lexer<'a>) -> Result<(u64, Vec<Part<'a
 }
 
 /// The records of the header, and the place of the first token.
-pub fn header<'a>(alloc: Global, lexer: &mut Lexer<'a>) -> Result<(u64, Vec<Part<'a>>), TextFault>
-    ensures { MatchResult result (λ h. TakesHeader lexer.old h.0 (map part_of h.1.items) lexer.new) (λ e. StopsInHeader e lexer.old) }
+pub fn header<'a>(alloc: Global, lexer: &mut Lexer<'a>) -> Result<(u64, Vec<Record<'a>>), TextFault>
+    ensures { MatchResult result
+        (λ h. TakesHeader lexer.old h.0 (map record_of h.1.items) lexer.new)
+        (λ e. StopsInHeader e lexer.old) }
 {
     let (place, mut records) = opening(alloc, lexer)?;
     loop {

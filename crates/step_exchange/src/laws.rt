@@ -23,8 +23,8 @@ pub fn a_text_reads_or_has_a_fault()
     ensures { ReadsOrFails }
 {}
 
-/// The normal text of what a text reads as reads as the same: the same front, and the instances with
-/// only the case of words and the spelling of names changed.
+/// The normal text of what a text reads as reads as the same: the same header bytes, and the
+/// instances with only the case of words and the spelling of names changed.
 pub fn normal_text_reads_again()
     ensures { NormalReadsAgain }
 {}

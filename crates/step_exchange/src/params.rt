@@ -1,12 +1,22 @@
 //! Parameters, read from tokens (ISO 10303-21, 11).
 
 ghost use Rattle.std.specs.Prelude.{◌≡◌, ◌≤◌, ◌<◌, [], ◌∷◌, MatchResult};
-ghost use Rattle.step_exchange.specs.Words.{seen};
+ghost use Rattle.step_exchange.specs.Words.{located};
 ghost use Rattle.step_exchange.specs.Trees;
 ghost use Rattle.step_exchange.specs.Views.{tree_of, trees_of};
-ghost use Rattle.step_exchange.specs.Predict.{Value, Items, StopsIn, TakesTree, TakesInner, TakesList, TakesParams, inner_symbols, params_symbols};
+ghost use Rattle.step_exchange.specs.Predict.{
+  Value,
+  Items,
+  StopsIn,
+  TakesTree,
+  TakesInner,
+  TakesList,
+  TakesParams,
+  inner_symbols,
+  params_symbols,
+};
 
-use crate::fault::{Kind, TextFault};
+use crate::fault::{FaultKind, TextFault};
 use crate::tokens::{expect, fault_at, is_mark, refuse, take};
 use crate::tree::Param;
 use std::alloc::Global;
@@ -28,7 +38,9 @@ fn typed<'a>(keyword: Word<'a>, inner: Box<Param<'a>>) -> Param<'a>
 #[cycle(params)]
 fn inner<'a>(alloc: Global, lexer: &mut Lexer<'a>, depth: u32) -> Result<Param<'a>, TextFault>
     requires { depth < 64 }
-    ensures { MatchResult result (λ p. TakesInner depth lexer.old (tree_of p) lexer.new) (λ e. StopsIn e (inner_symbols depth) [] lexer.old) }
+    ensures { MatchResult result
+        (λ p. TakesInner depth lexer.old (tree_of p) lexer.new)
+        (λ e. StopsIn e (inner_symbols depth) [] lexer.old) }
 {
     expect(lexer, Mark::Open)?;
     let first = take(lexer)?;
@@ -46,7 +58,9 @@ fn value<'a>(
     depth: u32,
 ) -> Result<Param<'a>, TextFault>
     requires { depth ≤ 64 }
-    ensures { MatchResult result (λ p. TakesTree depth (seen first.entry) lexer.old (tree_of p) lexer.new) (λ e. StopsIn e (Value depth ∷ []) (seen first.entry ∷ []) lexer.old) }
+    ensures { MatchResult result
+        (λ p. TakesTree depth (located first.entry) lexer.old (tree_of p) lexer.new)
+        (λ e. StopsIn e (Value depth ∷ []) (located first.entry ∷ []) lexer.old) }
 {
     match first.sort {
         Sort::Mark(Mark::Dollar) => Ok(Param::Unset),
@@ -59,7 +73,7 @@ fn value<'a>(
         Sort::Element(word) => Ok(Param::Element(word)),
         Sort::Keyword(keyword) => {
             if depth >= LEVELS {
-                return Err(fault_at(Kind::TooDeep, first));
+                return Err(fault_at(FaultKind::TooDeep, first));
             }
             let inner = inner(alloc, lexer, depth)?;
             let boxed = Box::new(alloc, inner)?;
@@ -67,7 +81,7 @@ fn value<'a>(
         }
         Sort::Mark(Mark::Open) => {
             if depth >= LEVELS {
-                return Err(fault_at(Kind::TooDeep, first));
+                return Err(fault_at(FaultKind::TooDeep, first));
             }
             let values = items(alloc, lexer, depth + 1)?;
             Ok(Param::List(values))
@@ -84,7 +98,9 @@ pub fn items<'a>(
     depth: u32,
 ) -> Result<Vec<Param<'a>>, TextFault>
     requires { depth ≤ 64 }
-    ensures { MatchResult result (λ v. TakesList depth lexer.old (trees_of v.items) lexer.new) (λ e. StopsIn e (Items depth ∷ []) [] lexer.old) }
+    ensures { MatchResult result
+        (λ v. TakesList depth lexer.old (trees_of v.items) lexer.new)
+        (λ e. StopsIn e (Items depth ∷ []) [] lexer.old) }
 {
     let mut values = Vec::new(alloc);
     let first = take(lexer)?;
@@ -114,7 +130,9 @@ pub fn record_params<'a>(
     depth: u32,
 ) -> Result<Vec<Param<'a>>, TextFault>
     requires { depth < 64 }
-    ensures { MatchResult result (λ v. TakesParams depth lexer.old (trees_of v.items) lexer.new) (λ e. StopsIn e (params_symbols depth) [] lexer.old) }
+    ensures { MatchResult result
+        (λ v. TakesParams depth lexer.old (trees_of v.items) lexer.new)
+        (λ e. StopsIn e (params_symbols depth) [] lexer.old) }
 {
     expect(lexer, Mark::Open)?;
     items(alloc, lexer, depth + 1)

@@ -2,18 +2,34 @@
 
 ghost use Rattle.std.specs.Prelude.{◌≡◌, false, [], ◌∷◌, ◌++◌, MatchResult, OnOk, map, codes};
 ghost use Rattle.step_lexis.specs.declared.token.Mark.TheVariants.{Close};
-ghost use Rattle.step_exchange.specs.Words.{seen};
+ghost use Rattle.step_exchange.specs.Words.{located};
 ghost use Rattle.step_exchange.specs.Fits;
 ghost use Rattle.step_exchange.specs.Predict;
-ghost use Rattle.std.specs.List.{list_any};
-ghost use Rattle.step_exchange.specs.Trees;
-ghost use Rattle.step_exchange.specs.Views.{part_of, form_of, row_of};
-ghost use Rattle.step_exchange.specs.Predict.{Body, Parts, Rows, StopsIn, TakesPartial, TakesParts, TakesForm, TakesRow, TakesRows, IsNextName, IsNoName, AtMost, keywords_of, further_keywords, names_of, row_symbols};
+ghost use Rattle.step_exchange.specs.Views.{record_of, form_of, row_of};
+ghost use Rattle.step_exchange.specs.Predict.{
+  Body,
+  Parts,
+  Rows,
+  StopsIn,
+  TakesPartial,
+  TakesPartialRecords,
+  TakesForm,
+  TakesRow,
+  TakesRows,
+  IsNextName,
+  IsNoName,
+  AtMost,
+  any_has_keyword,
+  keywords_of,
+  further_keywords,
+  names_of,
+  row_symbols,
+};
 
-use crate::fault::{Kind, LeftOut, TextFault};
+use crate::fault::{FaultKind, LeftOut, TextFault};
 use crate::params::record_params;
 use crate::tokens::{expect, fault_at, is_mark, is_said, is_word, refuse, take};
-use crate::tree::{Form, Part};
+use crate::tree::{Form, Record};
 use indexmap::{IndexMap, IndexSet};
 use std::alloc::{AllocFailed, Global};
 use step_lexis::lexer::Lexer;
@@ -28,8 +44,8 @@ const INSTANCES: usize = 0xFFFF_FFFF;
 const LOOKED_THROUGH: usize = 8;
 
 /// Whether one of these partial records has this keyword, whatever the case of its letters.
-fn is_among(parts: &[Part<'_>], keyword: Word<'_>) -> bool
-    ensures { result ≡ list_any (λ p. Trees.is_said p.keyword.text.now keyword.entry.text.now) parts.now }
+fn is_among(parts: &[Record<'_>], keyword: Word<'_>) -> bool
+    ensures { result ≡ any_has_keyword keyword.entry.text.now parts.now }
 {
     parts
         .iter()
@@ -37,9 +53,9 @@ fn is_among(parts: &[Part<'_>], keyword: Word<'_>) -> bool
 }
 
 /// The same, where the keywords behind those that are looked through are in a set.
-fn has_keyword(parts: &[Part<'_>], further: &IndexSet<Word<'_>>, keyword: Word<'_>) -> bool
+fn has_keyword(parts: &[Record<'_>], further: &IndexSet<Word<'_>>, keyword: Word<'_>) -> bool
     requires { further.now.keys ≡ further_keywords parts.now }
-    ensures { result ≡ list_any (λ p. Trees.is_said p.keyword.text.now keyword.entry.text.now) parts.now }
+    ensures { result ≡ any_has_keyword keyword.entry.text.now parts.now }
 {
     if parts.len() <= LOOKED_THROUGH {
         return is_among(parts, keyword);
@@ -50,11 +66,11 @@ fn has_keyword(parts: &[Part<'_>], further: &IndexSet<Word<'_>>, keyword: Word<'
 /// Keeps the keyword of one more partial record behind these, which none of them has.
 fn keep_keyword<'a>(
     further: &mut IndexSet<Word<'a>>,
-    parts: &[Part<'a>],
-    part: &Part<'a>,
+    parts: &[Record<'a>],
+    part: &Record<'a>,
 ) -> Result<(), AllocFailed<Word<'a>>>
     requires kept { further.old.keys ≡ further_keywords parts.now }
-    requires alone { list_any (λ p. Trees.is_said p.keyword.text.now part.now.keyword.text.now) parts.now ≡ false }
+    requires alone { any_has_keyword part.now.keyword.text.now parts.now ≡ false }
     ensures { OnOk result (further.new.keys ≡ further_keywords (parts.now ++ part.now ∷ [])) }
 {
     if parts.len() < LOOKED_THROUGH {
@@ -69,30 +85,34 @@ fn partial<'a>(
     alloc: Global,
     lexer: &mut Lexer<'a>,
     first: Token<'a>,
-    parts: &[Part<'a>],
+    parts: &[Record<'a>],
     further: &IndexSet<Word<'a>>,
-) -> Result<Part<'a>, TextFault>
-    requires open { Predict.is_mark Close (seen first).sight ≡ false }
+) -> Result<Record<'a>, TextFault>
+    requires open { Predict.is_mark Close (located first).lookahead ≡ false }
     requires kept { further.now.keys ≡ further_keywords parts.now }
     ensures { MatchResult result
-        (λ p. TakesPartial (keywords_of (map part_of parts.now)) (seen first.entry) lexer.old (part_of p) lexer.new)
-        (λ e. StopsIn e (Parts (keywords_of (map part_of parts.now)) ∷ []) (seen first.entry ∷ []) lexer.old) }
+        (λ p. TakesPartial (keywords_of (map record_of parts.now)) (located first.entry)
+        lexer.old (record_of p) lexer.new)
+        (λ e. StopsIn e (Parts (keywords_of (map record_of parts.now)) ∷ [])
+        (located first.entry ∷ []) lexer.old) }
 {
     let Sort::Keyword(keyword) = first.sort else {
         return Err(refuse(first));
     };
     if has_keyword(parts, further, keyword) {
-        return Err(fault_at(Kind::DuplicateName, first));
+        return Err(fault_at(FaultKind::DuplicateName, first));
     }
     let params = record_params(alloc, lexer, 1)?;
-    Ok(Part { keyword, params })
+    Ok(Record { keyword, params })
 }
 
 /// The partial records of an external one behind its parenthesis, and the closing one.
-fn partials<'a>(alloc: Global, lexer: &mut Lexer<'a>) -> Result<Vec<Part<'a>>, TextFault>
-    ensures { MatchResult result (λ ps. TakesParts lexer.old (map part_of ps.items) lexer.new) (λ e. StopsIn e (Parts [] ∷ []) [] lexer.old) }
+fn partials<'a>(alloc: Global, lexer: &mut Lexer<'a>) -> Result<Vec<Record<'a>>, TextFault>
+    ensures { MatchResult result
+        (λ ps. TakesPartialRecords lexer.old (map record_of ps.items) lexer.new)
+        (λ e. StopsIn e (Parts [] ∷ []) [] lexer.old) }
 {
-    let mut parts: Vec<Part<'a>> = Vec::new(alloc);
+    let mut parts: Vec<Record<'a>> = Vec::new(alloc);
     let mut further: IndexSet<Word<'a>> = IndexSet::new(alloc);
     loop {
         let token = take(lexer)?;
@@ -110,7 +130,9 @@ fn partials<'a>(alloc: Global, lexer: &mut Lexer<'a>) -> Result<Vec<Part<'a>>, T
 
 /// What stands for an instance behind its `=`.
 fn form<'a>(alloc: Global, lexer: &mut Lexer<'a>) -> Result<Form<'a>, TextFault>
-    ensures { MatchResult result (λ f. TakesForm lexer.old (form_of f) lexer.new) (λ e. StopsIn e (Body ∷ []) [] lexer.old) }
+    ensures { MatchResult result
+        (λ f. TakesForm lexer.old (form_of f) lexer.new)
+        (λ e. StopsIn e (Body ∷ []) [] lexer.old) }
 {
     let first = take(lexer)?;
     if is_mark(first, Mark::Open) {
@@ -121,12 +143,14 @@ fn form<'a>(alloc: Global, lexer: &mut Lexer<'a>) -> Result<Form<'a>, TextFault>
         return Err(refuse(first));
     };
     let params = record_params(alloc, lexer, 0)?;
-    Ok(Form::Internal(Part { keyword, params }))
+    Ok(Form::Internal(Record { keyword, params }))
 }
 
 /// What stands for an instance behind its name.
 fn row<'a>(alloc: Global, lexer: &mut Lexer<'a>) -> Result<Form<'a>, TextFault>
-    ensures { MatchResult result (λ f. TakesRow lexer.old (form_of f) lexer.new) (λ e. StopsIn e row_symbols [] lexer.old) }
+    ensures { MatchResult result
+        (λ f. TakesRow lexer.old (form_of f) lexer.new)
+        (λ e. StopsIn e row_symbols [] lexer.old) }
 {
     expect(lexer, Mark::Equals)?;
     let form = form(alloc, lexer)?;
@@ -134,8 +158,8 @@ fn row<'a>(alloc: Global, lexer: &mut Lexer<'a>) -> Result<Form<'a>, TextFault>
     Ok(form)
 }
 
-/// Whether one of the instances has this name, where none has a name beyond the greatest. Names rise in
-/// most files, and then none is looked up.
+/// Whether one of the instances has this name, where none has a name beyond the greatest. Names
+/// rise in most files, and then none is looked up.
 fn has_name(records: &IndexMap<u64, Form<'_>>, greatest: u64, name: u64) -> bool
     requires { AtMost greatest (names_of (map row_of records.now.entries)) }
     ensures { result ≡ Fits.has_name name (names_of (map row_of records.now.entries)) }
@@ -153,19 +177,19 @@ fn next_name(
     token: Token<'_>,
 ) -> Result<u64, TextFault>
     requires bound { AtMost greatest (names_of (map row_of records.now.entries)) }
-    requires more { Predict.is_word (codes "ENDSEC") (seen token).sight ≡ false }
+    requires more { Predict.is_word (codes "ENDSEC") (located token).lookahead ≡ false }
     ensures { MatchResult result
-        (λ n. IsNextName (names_of (map row_of records.now.entries)) (seen token.entry) n)
-        (λ e. IsNoName (names_of (map row_of records.now.entries)) (seen token.entry) e) }
+        (λ n. IsNextName (names_of (map row_of records.now.entries)) (located token.entry) n)
+        (λ e. IsNoName (names_of (map row_of records.now.entries)) (located token.entry) e) }
 {
     let Sort::Name(name) = token.sort else {
         return Err(refuse(token));
     };
     if has_name(records, greatest, name) {
-        return Err(fault_at(Kind::DuplicateName, token));
+        return Err(fault_at(FaultKind::DuplicateName, token));
     }
     if records.len() >= INSTANCES {
-        return Err(fault_at(Kind::LeftOut(LeftOut::TooMany), token));
+        return Err(fault_at(FaultKind::LeftOut(LeftOut::TooMany), token));
     }
     Ok(name)
 }
@@ -176,7 +200,9 @@ pub fn rows<'a>(
     lexer: &mut Lexer<'a>,
     expected: usize,
 ) -> Result<IndexMap<u64, Form<'a>>, TextFault>
-    ensures { MatchResult result (λ m. TakesRows lexer.old (map row_of m.entries) lexer.new) (λ e. StopsIn e (Rows [] ∷ []) [] lexer.old) }
+    ensures { MatchResult result
+        (λ m. TakesRows lexer.old (map row_of m.entries) lexer.new)
+        (λ e. StopsIn e (Rows [] ∷ []) [] lexer.old) }
 {
     let mut records: IndexMap<u64, Form<'a>> = IndexMap::with_capacity(alloc, expected)?;
     let mut greatest = 0;

@@ -3,37 +3,39 @@
 ghost use Rattle.std.specs.Prelude.{◌≡◌, ◌+◌, [], ◌∷◌, MatchResult};
 ghost use Rattle.step_lexis.specs.Reading.{Takes};
 ghost use Rattle.step_exchange.specs.declared.fault.TextFault.TheVariants.{Fault};
-ghost use Rattle.step_exchange.specs.Words.{mark, seen};
+ghost use Rattle.step_exchange.specs.Words.{mark, located};
 ghost use Rattle.step_exchange.specs.Trees;
 ghost use Rattle.step_exchange.specs.Trees.{this, says};
 ghost use Rattle.step_exchange.specs.Texts.{Reads};
 ghost use Rattle.step_exchange.specs.Predict;
-ghost use Rattle.step_exchange.specs.Predict.{Symbol, Just, Say, Over, StopsIn, refused};
+ghost use Rattle.step_exchange.specs.Predict.{Symbol, Just, Say, EndOfText, StopsIn, refused};
 
-use crate::fault::{Kind, LeftOut, TextFault};
+use crate::fault::{FaultKind, LeftOut, TextFault};
 use step_lexis::lexer::Lexer;
 use step_lexis::token::{Mark, Sort, Token};
 use step_literals::literal::Word;
 
 /// The next token, where the text doesn't end.
 pub fn take<'a>(lexer: &mut Lexer<'a>) -> Result<Token<'a>, TextFault>
-    ensures { MatchResult result (λ t. Takes lexer.old t lexer.new) (λ e. (y : Symbol) → (y ≡ Over → ⊥) → StopsIn e (y ∷ []) [] lexer.old) }
+    ensures { MatchResult result
+        (λ t. Takes lexer.old t lexer.new)
+        (λ e. (y : Symbol) → (y ≡ EndOfText → ⊥) → StopsIn e (y ∷ []) [] lexer.old) }
 {
     match lexer.next_token() {
         Ok(Some(token)) => Ok(token),
         Ok(None) => Err(TextFault::Fault {
-            kind: Kind::Expected,
+            kind: FaultKind::Expected,
             place: lexer.place(),
         }),
         Err(fault) => Err(TextFault::Fault {
-            kind: Kind::Token(fault.flaw),
+            kind: FaultKind::Token(fault.flaw),
             place: fault.place,
         }),
     }
 }
 
 /// A fault at a token.
-pub fn fault_at(kind: Kind, at: Token<'_>) -> TextFault
+pub fn fault_at(kind: FaultKind, at: Token<'_>) -> TextFault
     ensures { result ≡ Fault kind at.entry.place }
 {
     TextFault::Fault {
@@ -44,12 +46,12 @@ pub fn fault_at(kind: Kind, at: Token<'_>) -> TextFault
 
 /// The fault at a token that can't stand where it stands.
 pub fn refuse(token: Token<'_>) -> TextFault
-    ensures { result ≡ Fault (refused (seen token.entry).sight) token.entry.place }
+    ensures { result ≡ Fault (refused (located token.entry).lookahead) token.entry.place }
 {
     match token.sort {
-        Sort::UserDefined(_) => fault_at(Kind::LeftOut(LeftOut::UserDefined), token),
-        Sort::Scope => fault_at(Kind::LeftOut(LeftOut::Scope), token),
-        _ => fault_at(Kind::Expected, token),
+        Sort::UserDefined(_) => fault_at(FaultKind::LeftOut(LeftOut::UserDefined), token),
+        Sort::Scope => fault_at(FaultKind::LeftOut(LeftOut::Scope), token),
+        _ => fault_at(FaultKind::Expected, token),
     }
 }
 
@@ -76,7 +78,7 @@ fn mark_code(mark: Mark) -> u8
 
 /// Whether a token is this mark.
 pub fn is_mark(token: Token<'_>, wanted: Mark) -> bool
-    ensures { result ≡ Predict.is_mark wanted (seen token.entry).sight }
+    ensures { result ≡ Predict.is_mark wanted (located token.entry).lookahead }
 {
     match token.sort {
         Sort::Mark(found) => mark_code(wanted) == mark_code(found),
@@ -86,7 +88,7 @@ pub fn is_mark(token: Token<'_>, wanted: Mark) -> bool
 
 /// Whether a token is this keyword.
 pub fn is_word(token: Token<'_>, word: &[u8]) -> bool
-    ensures { result ≡ Predict.is_word word.now (seen token.entry).sight }
+    ensures { result ≡ Predict.is_word word.now (located token.entry).lookahead }
 {
     match token.sort {
         Sort::Keyword(keyword) => is_said(keyword, word),
@@ -96,7 +98,9 @@ pub fn is_word(token: Token<'_>, word: &[u8]) -> bool
 
 /// Reads this mark.
 pub fn expect(lexer: &mut Lexer<'_>, wanted: Mark) -> Result<(), TextFault>
-    ensures { MatchResult result (λ _. Reads lexer.old (this (mark wanted) ∷ []) lexer.new) (λ e. StopsIn e (Just wanted ∷ []) [] lexer.old) }
+    ensures { MatchResult result
+        (λ _. Reads lexer.old (this (mark wanted) ∷ []) lexer.new)
+        (λ e. StopsIn e (Just wanted ∷ []) [] lexer.old) }
 {
     let token = take(lexer)?;
     if !is_mark(token, wanted) {
@@ -107,7 +111,9 @@ pub fn expect(lexer: &mut Lexer<'_>, wanted: Mark) -> Result<(), TextFault>
 
 /// Reads this keyword.
 pub fn expect_word(lexer: &mut Lexer<'_>, word: &[u8]) -> Result<(), TextFault>
-    ensures { MatchResult result (λ _. Reads lexer.old (says word.now ∷ []) lexer.new) (λ e. StopsIn e (Say word.now ∷ []) [] lexer.old) }
+    ensures { MatchResult result
+        (λ _. Reads lexer.old (says word.now ∷ []) lexer.new)
+        (λ e. StopsIn e (Say word.now ∷ []) [] lexer.old) }
 {
     let token = take(lexer)?;
     if !is_word(token, word) {

@@ -23,7 +23,7 @@ pub enum Param<'a> {
 
 /// A keyword and its parameters: a record of the header, or an instance's record or partial record.
 #[derive(Drop)]
-pub struct Part<'a> {
+pub struct Record<'a> {
     pub keyword: Word<'a>,
     pub params: Vec<Param<'a>>,
 }
@@ -32,7 +32,7 @@ pub struct Part<'a> {
 #[derive(Drop)]
 pub enum Form<'a> {
     /// Internally: one record.
-    Internal(Part<'a>),
+    Internal(Record<'a>),
     /// Externally: partial records, in the order in which they stand.
-    External(Vec<Part<'a>>),
+    External(Vec<Record<'a>>),
 }

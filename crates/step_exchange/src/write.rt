@@ -3,17 +3,28 @@
 ghost use Rattle.std.specs.Prelude.{◌≡◌, ◌++◌, false, map, codes, is_err};
 ghost use Rattle.std.specs.Char.{is_ascii_lowercase};
 ghost use Rattle.std.specs.List.{list_any};
-ghost use Rattle.step_exchange.specs.Prints.{Prints};
-ghost use Rattle.step_exchange.specs.Emits.{Emits};
-ghost use Rattle.step_exchange.specs.Views.{tree_of, trees_of, part_of, form_of, row_of, file_of};
+ghost use Rattle.devices.specs.Prints.{Prints};
+ghost use Rattle.devices.specs.Emits.{Emits};
+ghost use Rattle.step_exchange.specs.Views.{tree_of, trees_of, record_of, form_of, row_of};
 ghost use Rattle.step_literals.specs.Words.{upper};
-ghost use Rattle.step_exchange.specs.Normal.{plain_name, plain_tree, plain_trees, plain_part, plain_parts, plain_form, plain_row, plain_rows, plain_text, normal_file};
+ghost use Rattle.step_exchange.specs.Normal.{
+  plain_name,
+  plain_tree,
+  plain_trees,
+  plain_record,
+  plain_partial_records,
+  plain_form,
+  plain_row,
+  plain_rows,
+  normal_file,
+};
+ghost use Rattle.step_exchange.specs.Exchanges.{structure, normal_text};
 ghost use Rattle.step_exchange.specs.Texts.{ReadsAs};
 
-use crate::device::{Sink, WriteFault};
-use crate::exchange::Exchange;
-use crate::printer::Printer;
-use crate::tree::{Form, Param, Part};
+use crate::structure::Exchange;
+use crate::tree::{Form, Param, Record};
+use devices::device::{Sink, WriteFault};
+use devices::printer::Printer;
 use indexmap::IndexMap;
 
 // Whether a byte of the word is a letter in lower case.
@@ -45,7 +56,8 @@ fn print_upper<S: Sink>(printer: &mut Printer, out: &mut S, word: &[u8])
 
 // An element of an enumeration.
 fn print_element<S: Sink>(printer: &mut Printer, out: &mut S, word: &[u8])
-    ensures { Prints S.held S.has_failed out.old out.new printer.old printer.new (codes "." ++ upper word.now ++ codes ".") }
+    ensures { Prints S.held S.has_failed out.old out.new printer.old printer.new
+        (codes "." ++ upper word.now ++ codes ".") }
 {
     printer.print_byte(out, b'.');
     print_upper(printer, out, word);
@@ -64,7 +76,8 @@ fn print_name<S: Sink>(printer: &mut Printer, out: &mut S, name: u64)
 // A parameter; a literal as it is spelt.
 #[cycle(params)]
 fn print_param<S: Sink>(printer: &mut Printer, out: &mut S, param: &Param<'_>)
-    ensures { Prints S.held S.has_failed out.old out.new printer.old printer.new (plain_tree (tree_of param.now)) }
+    ensures { Prints S.held S.has_failed out.old out.new printer.old printer.new
+        (plain_tree (tree_of param.now)) }
 {
     match param {
         Param::Unset => printer.print_byte(out, b'$'),
@@ -91,7 +104,8 @@ fn print_param<S: Sink>(printer: &mut Printer, out: &mut S, param: &Param<'_>)
 // Parameters, with commas between.
 #[cycle(params)]
 fn print_params<S: Sink>(printer: &mut Printer, out: &mut S, params: &[Param<'_>])
-    ensures { Prints S.held S.has_failed out.old out.new printer.old printer.new (plain_trees (trees_of params.now)) }
+    ensures { Prints S.held S.has_failed out.old out.new printer.old printer.new
+        (plain_trees (trees_of params.now)) }
 {
     let Some((first, further)) = params.split_first() else {
         return;
@@ -104,8 +118,9 @@ fn print_params<S: Sink>(printer: &mut Printer, out: &mut S, params: &[Param<'_>
 }
 
 // A keyword and its parameters.
-fn print_part<S: Sink>(printer: &mut Printer, out: &mut S, part: &Part<'_>)
-    ensures { Prints S.held S.has_failed out.old out.new printer.old printer.new (plain_part (part_of part.now)) }
+fn print_record<S: Sink>(printer: &mut Printer, out: &mut S, part: &Record<'_>)
+    ensures { Prints S.held S.has_failed out.old out.new printer.old printer.new
+        (plain_record (record_of part.now)) }
 {
     print_upper(printer, out, part.keyword.spelling());
     printer.print_byte(out, b'(');
@@ -114,23 +129,25 @@ fn print_part<S: Sink>(printer: &mut Printer, out: &mut S, part: &Part<'_>)
 }
 
 // Partial records, with nothing between.
-fn print_parts<S: Sink>(printer: &mut Printer, out: &mut S, parts: &[Part<'_>])
-    ensures { Prints S.held S.has_failed out.old out.new printer.old printer.new (plain_parts (map part_of parts.now)) }
+fn print_partial_records<S: Sink>(printer: &mut Printer, out: &mut S, parts: &[Record<'_>])
+    ensures { Prints S.held S.has_failed out.old out.new printer.old printer.new
+        (plain_partial_records (map record_of parts.now)) }
 {
     for part in parts {
-        print_part(printer, out, part);
+        print_record(printer, out, part);
     }
 }
 
 // What stands for an instance behind its `=`.
 fn print_form<S: Sink>(printer: &mut Printer, out: &mut S, form: &Form<'_>)
-    ensures { Prints S.held S.has_failed out.old out.new printer.old printer.new (plain_form (form_of form.now)) }
+    ensures { Prints S.held S.has_failed out.old out.new printer.old printer.new
+        (plain_form (form_of form.now)) }
 {
     match form {
-        Form::Internal(part) => print_part(printer, out, part),
+        Form::Internal(part) => print_record(printer, out, part),
         Form::External(parts) => {
             printer.print_byte(out, b'(');
-            print_parts(printer, out, parts);
+            print_partial_records(printer, out, parts);
             printer.print_byte(out, b')');
         }
     }
@@ -138,7 +155,8 @@ fn print_form<S: Sink>(printer: &mut Printer, out: &mut S, form: &Form<'_>)
 
 // The line of an instance.
 fn print_row<S: Sink>(printer: &mut Printer, out: &mut S, name: u64, form: &Form<'_>)
-    ensures { Prints S.held S.has_failed out.old out.new printer.old printer.new (plain_row (row_of (name, form.now))) }
+    ensures { Prints S.held S.has_failed out.old out.new printer.old printer.new
+        (plain_row (row_of (name, form.now))) }
 {
     print_name(printer, out, name);
     printer.print_byte(out, b'=');
@@ -148,25 +166,27 @@ fn print_row<S: Sink>(printer: &mut Printer, out: &mut S, name: u64, form: &Form
 
 // A line for each instance, in order.
 fn print_rows<S: Sink>(printer: &mut Printer, out: &mut S, records: &IndexMap<u64, Form<'_>>)
-    ensures { Prints S.held S.has_failed out.old out.new printer.old printer.new (plain_rows (map row_of records.now.entries)) }
+    ensures { Prints S.held S.has_failed out.old out.new printer.old printer.new
+        (plain_rows (map row_of records.now.entries)) }
 {
     for (name, form) in records.iter() {
         print_row(printer, out, *name, form);
     }
 }
 
-/// Writes the normal text of an exchange structure: its front as it stands, and then a line for each
-/// instance, in the order of the file.
+/// Writes the normal text of an exchange structure: its header bytes as they stand, and then a line
+/// for each instance, in the order of the file.
 ///
 /// That text reads as the same header and instances, but for the case of words and the spelling of
 /// names. Where the sink fails, a front of it went out, and the fault has its length.
 pub fn write_plain<S: Sink>(exchange: &Exchange<'_>, out: &mut S) -> Result<(), WriteFault>
-    ensures emits { Emits (S.held out.old) (S.held out.new) (plain_text exchange.now.front.now (map row_of exchange.now.records.entries)) result }
+    ensures emits { Emits (S.held out.old) (S.held out.new) (normal_text exchange.now) result }
     ensures failed { S.has_failed out.old ≡ false → S.has_failed out.new ≡ is_err result }
-    ensures again { ∥ ReadsAs (plain_text exchange.now.front.now (map row_of exchange.now.records.entries)) exchange.now.front.now (normal_file (file_of exchange.now.header.items exchange.now.records.entries)) ∥₁ }
+    ensures again { ∥ ReadsAs (normal_text exchange.now)
+        exchange.now.header_bytes.now (normal_file (structure exchange.now)) ∥₁ }
 {
     let mut printer = Printer::new();
-    printer.print(out, exchange.front);
+    printer.print(out, exchange.header_bytes);
     printer.print(out, b"\nDATA;\n");
     print_rows(&mut printer, out, &exchange.records);
     printer.print(out, b"ENDSEC;\nEND-ISO-10303-21;\n");

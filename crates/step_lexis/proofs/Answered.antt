@@ -1,46 +1,28 @@
 -- A lexer has an answer.
-use Rattle.std.proofs.Common.{◌≡◌, ◌+◌, ◌≤◌, ◌<◌, length, take, drop, refl, sym, ap, arith, length-drop, length-take, subst, Some, None, Ok, Err, Result, Option, ◌⊎◌, inl, inr}
-use Rattle.std.proofs.lemmas.Bool.{cases_lt}
-use Rattle.step_literals.specs.declared.fault.TextFault.{TextFault}
-use Rattle.step_lexis.specs.declared.token.Token.{Token}
+use Rattle.std.proofs.Common.{◌≡◌, ℕ, ◌+◌, List, length, take, sym, ap, refl, arith, length-take, subst, inl, inr}
 use Rattle.step_lexis.specs.Front.{IsFront}
-use Rattle.step_lexis.specs.Reading.{Reading, Reaches, Answers, EachReadingHasAnAnswer, left}
-use Rattle.step_lexis.proofs.ReadingLemmas.{reaches}
+use Rattle.step_lexis.specs.Reading.{lexis}
+use Rattle.step_lexis.specs.Laws.{EachReadingHasAnAnswer}
 use Rattle.step_lexis.proofs.Standing.{token_at}
-use Rattle.step_lexis.proofs.LayoutFound.{LayoutAt, layout_found}
+use Rattle.step_lexis.proofs.LayoutFound.{layout_found}
 use Rattle.step_lexis.proofs.FrontFound.{FrontAt, front_found}
+use Rattle.lexing.proofs.Answered as lexing
 
-abbrev HasAnswer : Reading → Type 0
-HasAnswer old = (r : Result (Option Token) TextFault) × (new : Reading) × Answers old r new
-
-module _ (old : Reading) (within : old.place ≤ length old.text) (gap : LayoutAt (left old)) where
-  reached : Reaches old (old.place + gap.0)
-  reached = reaches old old.text (left old) old.place gap.0 refl refl within refl gap.1 gap.2
-
-  at_end : length old.text ≤ old.place + gap.0 → HasAnswer old
-  at_end over =
-      let same : old.place + gap.0 ≡ length old.text = omega (arith, over, reached.within) in
-      (Ok None, record { text = old.text; place = length old.text }, record { reaches = subst (Reaches old) same reached; new_text = refl; new_place = refl })
-
-  at_front : old.place + gap.0 < length old.text → FrontAt (drop (old.place + gap.0) old.text) → HasAnswer old
-  at_front more (inl f) =
-      let l = drop (old.place + gap.0) old.text in
-      let t = take f.1 l in
-      let len : length t ≡ f.1 = omega (arith, length-take f.1 l, f.2.within) in (
-        Ok (Some (token_at (old.place + gap.0) f.0 t)),
-        record { text = old.text; place = old.place + gap.0 + length t },
-        record { reaches = reached; front = subst (IsFront l f.0) (sym len) f.2; text = ap (λ n. take n l) (sym len); new_text = refl; new_place = refl },
-      )
-  at_front more (inr f) = (
-    Err (record { flaw = f.0; place = old.place + gap.0 + f.1 }),
-    old,
-    record { place = old.place + gap.0; index = f.1; reaches = reached; more = more; flawed = f.2; fault_place = refl; same = refl },
-  )
-
-  answer : (old.place + gap.0 < length old.text) ⊎ (length old.text ≤ old.place + gap.0) → HasAnswer old
-  answer (inl more) = at_front more (front_found (drop (old.place + gap.0) old.text) (omega (arith, more, length-drop (old.place + gap.0) old.text)))
-  answer (inr over) = at_end over
+found : (l : List ℕ) (place : ℕ) → FrontAt l → lexing.FrontAt lexis l place
+found l place (inl f) =
+    let t = take f.1 l in
+    let len : length t ≡ f.1 = omega (arith, length-take f.1 l, f.2.within) in
+    inl (record {
+      token = token_at place f.0 t;
+      front = subst (IsFront l f.0) (sym len) f.2;
+      text = ap (λ n. take n l) (sym len);
+      at = refl;
+    })
+found l place (inr f) = inr (record { flaw = f.0; place = place + f.1 }, (f.1, f.2, refl))
 
 -- each reading has an answer
 pub answered : EachReadingHasAnAnswer
-answered old within = let gap = layout_found (left old) in answer old within gap (cases_lt (old.place + gap.0) (length old.text))
+answered = lexing.answered lexis (record {
+  layout_found = layout_found;
+  front_found = λ l place some. found l place (front_found l some);
+})

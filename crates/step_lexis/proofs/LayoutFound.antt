@@ -14,9 +14,11 @@ use Rattle.step_literals.proofs.Choices.{Decided, says_or_not, first_below}
 closes_or_not : (l : List ℕ) (k : ℕ) → Decided (OccursAt l star_slash k)
 closes_or_not l k = by (cases_lt (length l) (k + 2)) (cases_eq (get_or l k 0) 42) (cases_eq (get_or l (k + 1) 0) 47)
   where
-    by : (length l < k + 2) ⊎ (k + 2 ≤ length l) → Decided (get_or l k 0 ≡ 42) → Decided (get_or l (k + 1) 0 ≡ 47) → Decided (OccursAt l star_slash k)
+    by : (length l < k + 2) ⊎ (k + 2 ≤ length l) → Decided (get_or l k 0 ≡ 42) → Decided (get_or l (k + 1) 0 ≡ 47)
+        → Decided (OccursAt l star_slash k)
     by (inl short) a b = inr (λ h. omega (arith, short, h.fits))
-    by (inr fits) (inr a) b = inr (λ h. a (ap (λ n. get_or l n 0) {x = k} {y = k + 0} (omega arith) ∙ h.reads 0 (omega arith)))
+    by (inr fits) (inr a) b = inr (λ h. a (ap (λ n. get_or l n 0) {x = k} {y = k + 0} (omega arith)
+        ∙ h.reads 0 (omega arith)))
     by (inr fits) (inl a) (inr b) = inr (λ h. b (h.reads 1 (omega arith)))
     by (inr fits) (inl a) (inl b) = inl (record { fits = fits; reads = reads })
       where
@@ -43,20 +45,26 @@ opens_or_not l = by (cases_lt (length l) 2) (cases_eq (get_or l 0 0) 47) (cases_
     by (inr fits) (inl a) (inl b) = inl (fits, a, b)
 
 -- behind bytes that begin no space and no directive
-module _ (l rest : List ℕ) (high : 32 < get_or l 0 0) (n : Says (codes "\\N\\") (take 3 l) → ⊥) (f : Says (codes "\\F\\") (take 3 l) → ⊥) where
-  closed_or_not : l ≡ 47 ∷ 42 ∷ rest → ((k : ℕ) × NoneBefore (OccursAt rest star_slash) 0 (length rest + 1) k × OccursAt rest star_slash k) ⊎ Nowhere (OccursAt rest star_slash) 0 (length rest + 1) → BlankAt l ⊎ NoBlank l
+module _ (l rest : List ℕ) (high : 32 < get_or l 0 0) (n : Says (codes "\\N\\") (take 3 l) → ⊥)
+    (f : Says (codes "\\F\\") (take 3 l) → ⊥) where
+  closed_or_not : l ≡ 47 ∷ 42 ∷ rest → ((k : ℕ) × NoneBefore (OccursAt rest star_slash) 0 (length rest + 1) k
+      × OccursAt rest star_slash k) ⊎ Nowhere (OccursAt rest star_slash) 0 (length rest + 1) → BlankAt l ⊎ NoBlank l
   closed_or_not opened (inl k) = inl (let e = comment_at l rest k.0 opened (k.1, k.2) in (k.0 + 4, e.0, e.1, e.2))
-  closed_or_not opened (inr none) = inr (no_blank l high n f (λ r more k e found. not_closed l rest r more k opened none e found))
+  closed_or_not opened (inr none) = inr (no_blank l high n f (λ r more k e found. not_closed l rest r more k opened none
+      e found))
 
   comment_or_none : rest ≡ drop 2 l → Decided (Opens l) → BlankAt l ⊎ NoBlank l
-  comment_or_none e (inl c) = closed_or_not (opens l rest c.0 c.1 c.2 e) (first_below (OccursAt rest star_slash) (closes_or_not rest) (length rest + 1))
+  comment_or_none e (inl c) = closed_or_not (opens l rest c.0 c.1 c.2 e)
+      (first_below (OccursAt rest star_slash) (closes_or_not rest) (length rest + 1))
   comment_or_none e (inr c) = inr (no_blank l high n f (λ r more k e found. not_opened l r more k c e found))
 
 blank_or_none : (l : List ℕ) → BlankAt l ⊎ NoBlank l
 blank_or_none [] = inr no_blank_at_end
-blank_or_none (b ∷ bs) = by (cases_lt 32 b) (says_or_not (codes "\\N\\") (take 3 (b ∷ bs))) (says_or_not (codes "\\F\\") (take 3 (b ∷ bs)))
+blank_or_none (b ∷ bs) = by (cases_lt 32 b) (says_or_not (codes "\\N\\") (take 3 (b ∷ bs)))
+    (says_or_not (codes "\\F\\") (take 3 (b ∷ bs)))
   where
-    by : (32 < b) ⊎ (b ≤ 32) → Decided (Says (codes "\\N\\") (take 3 (b ∷ bs))) → Decided (Says (codes "\\F\\") (take 3 (b ∷ bs))) → BlankAt (b ∷ bs) ⊎ NoBlank (b ∷ bs)
+    by : (32 < b) ⊎ (b ≤ 32) → Decided (Says (codes "\\N\\") (take 3 (b ∷ bs)))
+        → Decided (Says (codes "\\F\\") (take 3 (b ∷ bs))) → BlankAt (b ∷ bs) ⊎ NoBlank (b ∷ bs)
     by (inr low) n f = inl (1, omega arith, omega arith, (space, (b, low, refl)))
     by (inl high) (inl n) f = inl (3, omega arith, said_len 3 (codes "\\N\\") (b ∷ bs) refl n, (new_line, n))
     by (inl high) (inr n) (inl f) = inl (3, omega arith, said_len 3 (codes "\\F\\") (b ∷ bs) refl f, (form_feed, f))
@@ -72,7 +80,8 @@ behind_blank l b m =
     let s = m.2 in
     let whole : l ≡ take b.0 l ++ drop b.0 l = sym (take-append-drop b.0 l) in
     let after = drop m.0 (drop b.0 l) in
-    let split : l ≡ (take b.0 l ++ s.gap) ++ after = whole ∙ ap (λ x. take b.0 l ++ x) s.split ∙ sym (append_assoc (take b.0 l) s.gap after) in
+    let split : l ≡ (take b.0 l ++ s.gap) ++ after = whole ∙ ap (λ x. take b.0 l ++ x) s.split
+    ∙ sym (append_assoc (take b.0 l) s.gap after) in
     let cut = front_back l (take b.0 l ++ s.gap) after (length (take b.0 l ++ s.gap)) split refl in (
       length (take b.0 l ++ s.gap),
       cut.0,
@@ -86,11 +95,21 @@ behind_blank l b m =
 
 layout_step : (l : List ℕ) → BlankAt l ⊎ NoBlank l → ((b : BlankAt l) → LayoutAt (drop b.0 l)) → LayoutAt l
 layout_step l (inl b) behind = behind_blank l b (behind b)
-layout_step l (inr none) behind = (0, omega arith, record { gap = []; layout = ([], tt, refl); split = refl; whole = none })
+layout_step l (inr none) behind = (
+  0,
+  omega arith,
+  record {
+    gap = [];
+    layout = ([], tt, refl);
+    split = refl;
+    whole = none;
+  },
+)
 
 layout_within : (n : ℕ) (l : List ℕ) → length l ≤ n → LayoutAt l
 layout_within zero l h = layout_step l (blank_or_none l) (λ b. absurd (omega (arith, b.1, b.2, h)))
-layout_within (suc n) l h = layout_step l (blank_or_none l) (λ b. layout_within n (drop b.0 l) (omega (arith, h, b.1, b.2, length-drop b.0 l)))
+layout_within (suc n) l h = layout_step l (blank_or_none l)
+    (λ b. layout_within n (drop b.0 l) (omega (arith, h, b.1, b.2, length-drop b.0 l)))
 
 -- each text has its layout
 pub layout_found : (l : List ℕ) → LayoutAt l

@@ -28,14 +28,16 @@ module _ (old new : Reading) (token : Token) (h : Takes old token new) where
   behind = (λ i. drop (h.new_place i) (h.new_text i)) ∙ sym (drop-drop (length token.text.now) token.place old.text)
 
   pub whole : drop token.place old.text ≡ token.text.now ++ left new
-  whole = sym (take-append-drop (length token.text.now) (drop token.place old.text)) ∙ (λ i. sym h.text i ++ sym behind i)
+  whole = sym (take-append-drop (length token.text.now) (drop token.place old.text))
+      ∙ (λ i. sym h.text i ++ sym behind i)
 
   pub stands : Stands (left old) token.sort token.text.now (left new)
   stands = record {
     gap = h.reaches.layout.gap;
     layout = h.reaches.layout.layout;
     split = h.reaches.layout.split ∙ ap (λ l. h.reaches.layout.gap ++ l) whole;
-    next = subst (λ (p : List ℕ × List ℕ). IsNext (kind_of token.sort) p.0 p.1) (λ i. (sym h.text i, sym behind i)) h.front.next;
+    next = subst (λ (p : List ℕ × List ℕ). IsNext (kind_of token.sort) p.0 p.1) (λ i. (sym h.text i, sym behind i))
+        h.front.next;
     value = subst (HasValue token.sort) (sym h.text) h.front.value;
   }
 
@@ -59,26 +61,44 @@ module _ (old new : Reading) (token : Token) (h : Takes old token new) where
 abbrev pub token_at : ℕ → Sort → List ℕ → Token
 token_at place sort t = record { sort = sort; text = record { ref_ptr = (0, 0); now = t }; place = place }
 
-module _ (text before t after : List ℕ) (place : ℕ) (sort : Sort) (within : place ≤ length text) (here : drop place text ≡ before) (h : Stands before sort t after) where
+module _ (text before t after : List ℕ) (place : ℕ) (sort : Sort) (within : place ≤ length text)
+    (here : drop place text ≡ before) (h : Stands before sort t after) where
   there : drop (place + length h.gap) text ≡ t ++ after
-  there = sym (drop-drop (length h.gap) place text) ∙ (front_back (drop place text) h.gap (t ++ after) (length h.gap) (here ∙ h.split) refl).2
+  there = sym (drop-drop (length h.gap) place text) ∙ (front_back (drop place text) h.gap (t ++ after) (length h.gap)
+      (here ∙ h.split) refl).2
 
   fits : place + (length h.gap + length t) ≤ length text
-  fits = omega (arith, within, ap length (here ∙ h.split), length-drop place text, length-append h.gap (t ++ after), length-append t after)
+  fits = omega (
+    arith,
+    within,
+    ap length (here ∙ h.split),
+    length-drop place text,
+    length-append h.gap (t ++ after),
+    length-append t after,
+  )
 
   pub takes : (new : ℕ) → new ≡ place + (length h.gap + length t)
-      → Takes (record { text = text; place = place }) (token_at (place + length h.gap) sort t) (record { text = text; place = new }) × (new ≤ length text) × (drop new text ≡ after)
+      → Takes (record { text = text; place = place }) (token_at (place + length h.gap) sort t) (record {
+        text = text;
+        place = new;
+      }) × (new ≤ length text) × (drop new text ≡ after)
   takes new at =
       let cut = front_back (drop (place + length h.gap) text) t after (length t) there refl in
       let sum : new ≡ place + length h.gap + length t = omega (arith, at) in (
         record {
           reaches = record {
             within = omega (arith, fits);
-            layout = record { gap = h.gap; layout = h.layout; split = here ∙ h.split ∙ ap (λ l. h.gap ++ l) (sym there); whole = subst NoBlank (sym there) (no_blank_at_token (kind_of sort) t after h.next.allowed) };
+            layout = record {
+              gap = h.gap;
+              layout = h.layout;
+              split = here ∙ h.split ∙ ap (λ l. h.gap ++ l) (sym there);
+              whole = subst NoBlank (sym there) (no_blank_at_token (kind_of sort) t after h.next.allowed);
+            };
           };
           front = record {
             within = cut.0;
-            next = subst (λ (p : List ℕ × List ℕ). IsNext (kind_of sort) p.0 p.1) (λ i. (sym cut.1 i, sym cut.2 i)) h.next;
+            next = subst (λ (p : List ℕ × List ℕ). IsNext (kind_of sort) p.0 p.1) (λ i. (sym cut.1 i, sym cut.2 i))
+                h.next;
             value = subst (HasValue sort) (sym cut.1) h.value;
           };
           text = sym cut.1;

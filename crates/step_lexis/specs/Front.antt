@@ -1,6 +1,6 @@
 -- Which token stands at the front of what is left of a text, its value, and what is wrong where none
 -- stands within the limits.
-use Rattle.std.specs.Prelude.{◌≡◌, ℕ, ◌-◌, ◌<◌, ◌≤◌, ◌^◌, List, [], ◌∷◌, ◌++◌, length, take, drop, ◌⊎◌}
+use Rattle.std.specs.Prelude.{◌≡◌, ℕ, ◌-◌, ◌<◌, ◌≤◌, ◌^◌, List, [], ◌∷◌, ◌++◌, length, take, drop, ◌⊎◌, Bool, ◌||◌, Result, MatchResult}
 use Rattle.std.specs.Str.Parse.{digits_value}
 use Rattle.step_lexis.specs.declared.token.Mark.{Mark}
 use Rattle.step_lexis.specs.declared.token.Mark.TheVariants.{Open, Close, Comma, Semicolon, Equals, Dollar, Asterisk}
@@ -8,11 +8,13 @@ use Rattle.step_lexis.specs.declared.token.Sort.{Sort}
 use Rattle.step_lexis.specs.declared.token.Sort.TheVariants as sorts
 use Rattle.step_literals.specs.declared.fault.Flaw.{Flaw}
 use Rattle.step_literals.specs.declared.fault.Flaw.TheVariants.{BadToken, UnendedString, BadEscape, NumberTooLong, NameTooLarge}
-use Rattle.step_literals.specs.Tokens.{Kind, begins, ends, keyword, user_defined, scope, name, integer, real, element, string, binary, mark, IsNext, NoneAt}
+use Rattle.step_literals.specs.Tokens.{TokenKind, begins, ends, keyword, user_defined, scope, name, integer, real, element, string, binary, mark, IsNext, NoneAt}
+use Rattle.step_literals.specs.Bytes.{is_digit}
+use Rattle.step_literals.specs.Tokens.{is_sign}
 use Rattle.step_literals.specs.Numbers.{IsShortNumber}
 use Rattle.step_literals.specs.Strings.{content_of, IsReadable, IsBrokenAt}
 
-abbrev pub kind_of : Sort → Kind
+abbrev pub kind_of : Sort → TokenKind
 kind_of sorts.Begin = begins
 kind_of sorts.End = ends
 kind_of (sorts.Keyword w) = keyword
@@ -86,3 +88,12 @@ IsFlawed left UnendedString index = NoneAt left × (take 1 left ≡ 39 ∷ []) �
 IsFlawed left BadEscape index = HasBadEscape left index
 IsFlawed left NumberTooLong index = IsLongNumber left × (index ≡ 0)
 IsFlawed left NameTooLarge index = IsLargeName left × (index ≡ 0)
+
+-- the token at the front of what is left and how many bytes it has, or what is wrong there and at which byte
+abbrev pub FrontOrFlaw : List ℕ → Result (Sort × ℕ) (Flaw × ℕ) → Type 0
+FrontOrFlaw left result = MatchResult result (λ front. IsFront left front.0 front.1)
+    (λ flaw. IsFlawed left flaw.0 flaw.1)
+
+-- a number can begin with this byte
+abbrev pub begins_number : ℕ → Bool
+begins_number b = is_digit b || is_sign b

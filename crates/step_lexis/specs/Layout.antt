@@ -1,5 +1,5 @@
 -- Layout: what may stand between tokens (ISO 10303-21, 5.4 and 5.6).
-use Rattle.std.specs.Prelude.{◌≡◌, ℕ, ◌+◌, ◌≤◌, List, [], ◌∷◌, ◌++◌, length, codes, Some}
+use Rattle.std.specs.Prelude.{◌≡◌, ℕ, ◌+◌, ◌<◌, ◌≤◌, List, [], ◌∷◌, ◌++◌, length, take, codes, Some}
 use Rattle.std.specs.List.{AllByRecursion}
 use Rattle.memchr.specs.Find.{FindsNeedle}
 use Rattle.step_literals.specs.Tokens.{Says}
@@ -20,10 +20,15 @@ abbrev pub SpellsBlank : Blank → List ℕ → Type 0
 SpellsBlank space t = (b : ℕ) × (b ≤ 32) × (t ≡ b ∷ [])
 SpellsBlank new_line t = Says (codes "\\N\\") t
 SpellsBlank form_feed t = Says (codes "\\F\\") t
-SpellsBlank comment t = (rest : List ℕ) × (k : ℕ) × (t ≡ 47 ∷ 42 ∷ rest) × FindsNeedle rest (codes "*/") 0 (Some k) × (k + 2 ≡ length rest)
+SpellsBlank comment t = (rest : List ℕ) × (k : ℕ) × (t ≡ 47 ∷ 42 ∷ rest) × FindsNeedle rest (codes "*/") 0 (Some k)
+    × (k + 2 ≡ length rest)
 
 abbrev pub IsBlank : List ℕ → Type 0
 IsBlank t = (kind : Blank) × SpellsBlank kind t
+
+-- a blank of n bytes stands at the front
+abbrev pub HasBlank : List ℕ → ℕ → Type 0
+HasBlank l n = (0 < n) × (n ≤ length l) × IsBlank (take n l)
 
 -- no blank stands at the front
 abbrev pub NoBlank : List ℕ → Type 0

@@ -1,3 +1,4 @@
 pub mod Front
 pub mod Layout
 pub mod Reading
+pub mod Laws

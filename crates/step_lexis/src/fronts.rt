@@ -1,9 +1,25 @@
 //! The token at the front of what is left of a text, by its first byte.
-ghost use Rattle.std.specs.Prelude.{◌≡◌, ◌||◌, ◌≤◌, ◌<◌, ◌∷◌, [], length, take, drop, MatchResult, slice_index, true, false, IfSome, IfNone};
+ghost use Rattle.std.specs.Prelude.{
+  ◌≡◌,
+  ◌||◌,
+  ◌≤◌,
+  ◌<◌,
+  ◌∷◌,
+  [],
+  length,
+  take,
+  drop,
+  MatchResult,
+  slice_index,
+  true,
+  false,
+  IfSome,
+  IfNone,
+};
 ghost use Rattle.step_literals.specs.Bytes.{is_digit, is_letter};
 ghost use Rattle.step_literals.specs.Tokens.{is_mark, is_sign};
 ghost use Rattle.step_literals.specs.Numbers.{StartsNumber};
-ghost use Rattle.step_lexis.specs.Front.{IsFront, IsFlawed, mark_byte};
+ghost use Rattle.step_lexis.specs.Front.{FrontOrFlaw, IsFront, IsFlawed, begins_number, mark_byte};
 
 use crate::token::{Mark, Sort};
 use crate::words::{scope_at, user_defined_at, word_at};
@@ -18,7 +34,7 @@ use step_literals::strings::{content_of, string_len};
 /// The number at the front of the bytes.
 fn number_at(bytes: &[u8]) -> Result<(Sort<'_>, usize), (Flaw, usize)>
     requires { StartsNumber bytes.now }
-    ensures { MatchResult result (λ front. IsFront bytes.now front.0 front.1) (λ fault. IsFlawed bytes.now fault.0 fault.1) }
+    ensures { FrontOrFlaw bytes.now result }
 {
     let Some((len, is_real)) = number_len(bytes) else {
         return Err((Flaw::BadToken, 0));
@@ -41,7 +57,7 @@ fn number_at(bytes: &[u8]) -> Result<(Sort<'_>, usize), (Flaw, usize)>
 /// The string at the front of the bytes.
 fn string_at(bytes: &[u8]) -> Result<(Sort<'_>, usize), (Flaw, usize)>
     requires { take 1 bytes.now ≡ 39 ∷ [] }
-    ensures { MatchResult result (λ front. IsFront bytes.now front.0 front.1) (λ fault. IsFlawed bytes.now fault.0 fault.1) }
+    ensures { FrontOrFlaw bytes.now result }
 {
     let Some(len) = string_len(bytes) else {
         return Err((Flaw::UnendedString, 0));
@@ -56,7 +72,7 @@ fn string_at(bytes: &[u8]) -> Result<(Sort<'_>, usize), (Flaw, usize)>
 /// The binary at the front of the bytes.
 fn binary_at(bytes: &[u8]) -> Result<(Sort<'_>, usize), (Flaw, usize)>
     requires { take 1 bytes.now ≡ 34 ∷ [] }
-    ensures { MatchResult result (λ front. IsFront bytes.now front.0 front.1) (λ fault. IsFlawed bytes.now fault.0 fault.1) }
+    ensures { FrontOrFlaw bytes.now result }
 {
     let Some(len) = binary_len(bytes) else {
         return Err((Flaw::BadToken, 0));
@@ -68,7 +84,7 @@ fn binary_at(bytes: &[u8]) -> Result<(Sort<'_>, usize), (Flaw, usize)>
 /// The element at the front of the bytes.
 fn element_at(bytes: &[u8]) -> Result<(Sort<'_>, usize), (Flaw, usize)>
     requires { take 1 bytes.now ≡ 46 ∷ [] }
-    ensures { MatchResult result (λ front. IsFront bytes.now front.0 front.1) (λ fault. IsFlawed bytes.now fault.0 fault.1) }
+    ensures { FrontOrFlaw bytes.now result }
 {
     let (_, rest) = bytes.split_at(1);
     if rest.is_empty() || !is_letter(rest[0]) {
@@ -84,7 +100,7 @@ fn element_at(bytes: &[u8]) -> Result<(Sort<'_>, usize), (Flaw, usize)>
 /// The name at the front of the bytes.
 fn name_at(bytes: &[u8]) -> Result<(Sort<'_>, usize), (Flaw, usize)>
     requires { take 1 bytes.now ≡ 35 ∷ [] }
-    ensures { MatchResult result (λ front. IsFront bytes.now front.0 front.1) (λ fault. IsFlawed bytes.now fault.0 fault.1) }
+    ensures { FrontOrFlaw bytes.now result }
 {
     let (_, rest) = bytes.split_at(1);
     let len = digits_len(rest);
@@ -120,8 +136,8 @@ fn other_at(bytes: &[u8]) -> Result<(Sort<'_>, usize), (Flaw, usize)>
     requires some { 0 < length bytes.now }
     requires no_mark { is_mark (slice_index bytes.now 0) ≡ false }
     requires no_letter { is_letter (slice_index bytes.now 0) ≡ false }
-    requires no_number { (is_digit (slice_index bytes.now 0) || is_sign (slice_index bytes.now 0)) ≡ false }
-    ensures { MatchResult result (λ front. IsFront bytes.now front.0 front.1) (λ fault. IsFlawed bytes.now fault.0 fault.1) }
+    requires no_number { begins_number (slice_index bytes.now 0) ≡ false }
+    ensures { FrontOrFlaw bytes.now result }
 {
     match bytes[0] {
         b'#' => name_at(bytes),
@@ -137,7 +153,7 @@ fn other_at(bytes: &[u8]) -> Result<(Sort<'_>, usize), (Flaw, usize)>
 /// The token at the front of the bytes and its length, or what is wrong there and at which byte.
 pub fn front_at(bytes: &[u8]) -> Result<(Sort<'_>, usize), (Flaw, usize)>
     requires { 0 < length bytes.now }
-    ensures { MatchResult result (λ front. IsFront bytes.now front.0 front.1) (λ fault. IsFlawed bytes.now fault.0 fault.1) }
+    ensures { FrontOrFlaw bytes.now result }
 {
     let first = bytes[0];
     if let Some(mark) = mark_of(first) {

@@ -1,13 +1,13 @@
 // Layout between tokens.
 ghost use Rattle.std.specs.Prelude.{◌≡◌, ◌≤◌, ◌<◌, ◌++◌, ℕ, List, length, take, drop, MatchOption};
-ghost use Rattle.step_lexis.specs.Layout.{IsBlank, NoBlank, SkipsLayout};
+ghost use Rattle.step_lexis.specs.Layout.{HasBlank, NoBlank, SkipsLayout};
 
 use crate::words::says;
 use memchr::memmem;
 
 /// How long the blank or comment is that the bytes begin with, if there is one.
 fn blank_len(bytes: &[u8]) -> Option<usize>
-    ensures { MatchOption result (NoBlank bytes.now) (λ n. (0 < n) × (n ≤ length bytes.now) × IsBlank (take n bytes.now)) }
+    ensures { MatchOption result (NoBlank bytes.now) (HasBlank bytes.now) }
 {
     if bytes.is_empty() {
         return None;

@@ -1,8 +1,21 @@
 //! Tokens that begin with a letter, and those that the profile leaves out.
-ghost use Rattle.std.specs.Prelude.{◌≡◌, ◌≤◌, ◌∷◌, ◌↔◌, [], length, take, drop, IsTrue, slice_index, true, MatchResult};
+ghost use Rattle.std.specs.Prelude.{
+  ◌≡◌,
+  ◌≤◌,
+  ◌∷◌,
+  ◌↔◌,
+  [],
+  length,
+  take,
+  drop,
+  IsTrue,
+  slice_index,
+  true,
+  MatchResult,
+};
 ghost use Rattle.step_literals.specs.Bytes.{is_letter};
 ghost use Rattle.step_literals.specs.Tokens.{Says};
-ghost use Rattle.step_lexis.specs.Front.{IsFront, IsFlawed};
+ghost use Rattle.step_lexis.specs.Front.{FrontOrFlaw, IsFront, IsFlawed};
 
 use crate::token::Sort;
 use step_literals::bytes::{is_letter, word_len};
@@ -39,7 +52,7 @@ pub fn word_at(bytes: &[u8]) -> (Sort<'_>, usize)
 /// The user-defined keyword at the front of the bytes.
 pub fn user_defined_at(bytes: &[u8]) -> Result<(Sort<'_>, usize), (Flaw, usize)>
     requires { take 1 bytes.now ≡ 33 ∷ [] }
-    ensures { MatchResult result (λ front. IsFront bytes.now front.0 front.1) (λ fault. IsFlawed bytes.now fault.0 fault.1) }
+    ensures { FrontOrFlaw bytes.now result }
 {
     let (_, rest) = bytes.split_at(1);
     if rest.is_empty() || !is_letter(rest[0]) {
@@ -53,7 +66,7 @@ pub fn user_defined_at(bytes: &[u8]) -> Result<(Sort<'_>, usize), (Flaw, usize)>
 /// The mark of a scope at the front of the bytes.
 pub fn scope_at(bytes: &[u8]) -> Result<(Sort<'_>, usize), (Flaw, usize)>
     requires { take 1 bytes.now ≡ 38 ∷ [] }
-    ensures { MatchResult result (λ front. IsFront bytes.now front.0 front.1) (λ fault. IsFlawed bytes.now fault.0 fault.1) }
+    ensures { FrontOrFlaw bytes.now result }
 {
     if says(bytes, b"&SCOPE") {
         Ok((Sort::Scope, 6))

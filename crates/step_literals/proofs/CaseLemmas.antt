@@ -23,4 +23,8 @@ lower_of_upper [] = refl
 lower_of_upper (b ∷ bs) = λ i. lower_of_upper_byte b i ∷ lower_of_upper bs i
 
 pub same_without_case : (s t : List ℕ) → (map to_ascii_lowercase s ≡ map to_ascii_lowercase t) ↔ (upper s ≡ upper t)
-same_without_case s t = (λ e. sym (upper_of_lower s) ∙ ap upper e ∙ upper_of_lower t, λ e. sym (lower_of_upper s) ∙ ap lower e ∙ lower_of_upper t)
+same_without_case s t = (
+  λ e. sym (upper_of_lower s) ∙ ap upper e ∙ upper_of_lower t,
+  λ e. sym (lower_of_upper s)
+      ∙ ap lower e ∙ lower_of_upper t,
+)

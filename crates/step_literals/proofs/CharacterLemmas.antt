@@ -25,11 +25,13 @@ prefix_through p (x ∷ xs) ys h = rw h.0 (omega (arith, prefix_through p xs ys 
 
 take_through : (k : ℕ) (xs ys : List ℕ) → take (length xs + k) (xs ++ ys) ≡ xs ++ take k ys
 take_through k [] ys = ap (λ n. take n ys) {x = 0 + k} {y = k} (omega arith)
-take_through k (x ∷ xs) ys = ap (λ n. take n (x ∷ (xs ++ ys))) {x = length (x ∷ xs) + k} {y = suc (length xs + k)} (omega arith) ∙ ap (λ l. x ∷ l) (take_through k xs ys)
+take_through k (x ∷ xs) ys = ap (λ n. take n (x ∷ (xs ++ ys))) {x = length (x ∷ xs) + k} {y = suc (length xs + k)}
+    (omega arith) ∙ ap (λ l. x ∷ l) (take_through k xs ys)
 
 drop_through : (k : ℕ) (xs ys : List ℕ) → drop (length xs + k) (xs ++ ys) ≡ drop k ys
 drop_through k [] ys = ap (λ n. drop n ys) {x = 0 + k} {y = k} (omega arith)
-drop_through k (x ∷ xs) ys = ap (λ n. drop n (x ∷ (xs ++ ys))) {x = length (x ∷ xs) + k} {y = suc (length xs + k)} (omega arith) ∙ drop_through k xs ys
+drop_through k (x ∷ xs) ys = ap (λ n. drop n (x ∷ (xs ++ ys))) {x = length (x ∷ xs) + k} {y = suc (length xs + k)}
+    (omega arith) ∙ drop_through k xs ys
 
 ends_on : (t : Bool) (k n : ℕ) → suc k ≤ cond t (1 + n) 0 → (k ≤ n → n ≡ k) → cond t (1 + n) 0 ≡ suc k
 ends_on true k n le f = omega (arith, le, f)
@@ -46,11 +48,14 @@ run_ends p zero (b ∷ bs) h stop = rw stop refl
 run_ends p (suc k) [] h stop = absurd (omega (arith, h))
 run_ends p (suc k) (b ∷ bs) h stop = ends_on (p b) k (prefix_len p bs) h (λ le. run_ends p k bs le stop)
 
-pub run_goes_on : (p : ℕ → Bool) (k : ℕ) (bs rest : List ℕ) (b : ℕ) → k ≤ prefix_len p bs → drop k bs ≡ b ∷ rest → p b ≡ true → k + 1 ≤ prefix_len p bs
+pub run_goes_on : (p : ℕ → Bool) (k : ℕ) (bs rest : List ℕ) (b : ℕ) → k ≤ prefix_len p bs → drop k bs ≡ b ∷ rest
+    → p b ≡ true → k + 1 ≤ prefix_len p bs
 run_goes_on p zero [] rest b h e pass = absurd (cc)
-run_goes_on p zero (x ∷ xs) rest b h e pass = let same : x ≡ b = cc in let q : p x ≡ true = ap p same ∙ pass in rw q (omega arith)
+run_goes_on p zero (x ∷ xs) rest b h e pass = let same : x ≡ b = cc in let q : p x ≡ true = ap p same ∙ pass in
+    rw q (omega arith)
 run_goes_on p (suc k) [] rest b h e pass = absurd (cc)
-run_goes_on p (suc k) (x ∷ xs) rest b h e pass = goes_on (p x) k (prefix_len p xs) h (λ le. run_goes_on p k xs rest b le e pass)
+run_goes_on p (suc k) (x ∷ xs) rest b h e pass = goes_on (p x) k (prefix_len p xs) h
+    (λ le. run_goes_on p k xs rest b le e pass)
 
 -- UTF-8
 
@@ -58,11 +63,19 @@ high_byte : (n : ℕ) → 128 ≤ n → is_high n ≡ true
 high_byte n h = grind (arith, nat_tests)
 
 encode_tests : (c : ℕ) (s t u : Bool) → nat_lt c 128 ≡ s → 128 ≤ c
-    → Each is_high (cond s (c ∷ []) (cond t ((192 + c / 64) ∷ (128 + c % 64) ∷ []) (cond u ((224 + c / 4096) ∷ (128 + c / 64 % 64) ∷ (128 + c % 64) ∷ []) ((240 + c / 262144) ∷ (128 + c / 4096 % 64) ∷ (128 + c / 64 % 64) ∷ (128 + c % 64) ∷ []))))
+    → Each is_high (cond s (c ∷ []) (cond t ((192 + c / 64) ∷ (128 + c % 64) ∷ [])
+    (cond u ((224 + c / 4096) ∷ (128 + c / 64 % 64) ∷ (128 + c % 64) ∷ []) ((240 + c / 262144)
+    ∷ (128 + c / 4096 % 64) ∷ (128 + c / 64 % 64) ∷ (128 + c % 64) ∷ []))))
 encode_tests c true t u e h = absurd (grind (arith, nat_tests))
 encode_tests c false true u e h = (high_byte _ (omega arith), (high_byte _ (omega arith), tt))
-encode_tests c false false true e h = (high_byte _ (omega arith), (high_byte _ (omega arith), (high_byte _ (omega arith), tt)))
-encode_tests c false false false e h = (high_byte _ (omega arith), (high_byte _ (omega arith), (high_byte _ (omega arith), (high_byte _ (omega arith), tt))))
+encode_tests c false false true e h = (
+  high_byte _ (omega arith),
+  (high_byte _ (omega arith), (high_byte _ (omega arith), tt)),
+)
+encode_tests c false false false e h = (
+  high_byte _ (omega arith),
+  (high_byte _ (omega arith), (high_byte _ (omega arith), (high_byte _ (omega arith), tt))),
+)
 
 -- a character from 128 up has no byte below
 encode_high : (c : ℕ) → 128 ≤ c → Each is_high (encode c)
@@ -73,25 +86,32 @@ encode_high c h = encode_tests c (nat_lt c 128) (nat_lt c 2048) (nat_lt c 65536)
 pub high_run_behind : {bs rest : List ℕ} {c : ℕ} → BeginsHigh bs c rest → high_run bs ≡ encode c ++ high_run rest
 high_run_behind {bs} {rest} {c} h =
     let n = prefix_through is_high (encode c) rest (encode_high c h.1) in
-    ap high_run h.0.split ∙ ap (λ k. take k (encode c ++ rest)) n ∙ take_through (prefix_len is_high rest) (encode c) rest
+    ap high_run h.0.split ∙ ap (λ k. take k (encode c ++ rest)) n ∙ take_through (prefix_len is_high rest) (encode c)
+    rest
 
 -- what follows the run is the same
-pub behind_high_run : {bs rest : List ℕ} {c : ℕ} → BeginsHigh bs c rest → drop (prefix_len is_high bs) bs ≡ drop (prefix_len is_high rest) rest
+pub behind_high_run : {bs rest : List ℕ} {c : ℕ} → BeginsHigh bs c rest → drop (prefix_len is_high bs) bs ≡ drop
+    (prefix_len is_high rest) rest
 behind_high_run {bs} {rest} {c} h =
     let n = prefix_through is_high (encode c) rest (encode_high c h.1) in
-    ap (λ l. drop (prefix_len is_high l) l) h.0.split ∙ ap (λ k. drop k (encode c ++ rest)) n ∙ drop_through (prefix_len is_high rest) (encode c) rest
+    ap (λ l. drop (prefix_len is_high l) l) h.0.split ∙ ap (λ k. drop k (encode c ++ rest)) n
+    ∙ drop_through (prefix_len is_high rest) (encode c) rest
 
-same_answer : (a b : List ℕ) (s t : Bool) → is_utf8 a ≡ s → is_utf8 b ≡ t → (IsUtf8 a → IsUtf8 b) → (IsUtf8 b → IsUtf8 a) → s ≡ t
+same_answer : (a b : List ℕ) (s t : Bool) → is_utf8 a ≡ s → is_utf8 b ≡ t → (IsUtf8 a → IsUtf8 b)
+    → (IsUtf8 b → IsUtf8 a) → s ≡ t
 same_answer a b true true ha hb f g = refl
 same_answer a b false false ha hb f g = refl
-same_answer a b true false ha hb f g = absurd (false≢true (sym hb ∙ is_utf8-from_IsUtf8 b (f (IsUtf8-from_is_utf8 a ha))))
-same_answer a b false true ha hb f g = absurd (false≢true (sym ha ∙ is_utf8-from_IsUtf8 a (g (IsUtf8-from_is_utf8 b hb))))
+same_answer a b true false ha hb f g = absurd
+    (false≢true (sym hb ∙ is_utf8-from_IsUtf8 b (f (IsUtf8-from_is_utf8 a ha))))
+same_answer a b false true ha hb f g = absurd
+    (false≢true (sym ha ∙ is_utf8-from_IsUtf8 a (g (IsUtf8-from_is_utf8 b hb))))
 
 -- a run is UTF-8 if what follows its first character is
 pub utf8_behind : {bs rest : List ℕ} {c : ℕ} → BeginsHigh bs c rest → is_utf8 (high_run bs) ≡ is_utf8 (high_run rest)
 utf8_behind {bs} {rest} {c} h =
     let run = high_run_behind h in
-    ap is_utf8 run ∙ same_answer (encode c ++ high_run rest) (high_run rest) (is_utf8 (encode c ++ high_run rest)) (is_utf8 (high_run rest)) refl refl
+    ap is_utf8 run ∙ same_answer (encode c ++ high_run rest) (high_run rest) (is_utf8 (encode c ++ high_run rest))
+    (is_utf8 (high_run rest)) refl refl
     (λ u. IsUtf8-past_char (encode c ++ high_run rest) (high_run rest) c u refl)
     (λ u. IsUtf8-append (encode c) (high_run rest) (IsUtf8-encode c h.0.scalar_is) u)
 
@@ -107,7 +127,8 @@ pub utf8_at_end : (bs : List ℕ) → Stops is_high bs → is_utf8 (high_run bs)
 utf8_at_end bs h = ap is_utf8 (no_run bs h) ∙ utf8_nil
 
 pub run_first : (b : ℕ) (bs : List ℕ) → is_high b ≡ true → high_run (b ∷ bs) ≡ b ∷ high_run bs
-run_first b bs h = rw h (ap (λ n. take n (b ∷ bs)) {x = 1 + prefix_len is_high bs} {y = suc (prefix_len is_high bs)} (omega arith))
+run_first b bs h = rw h (ap (λ n. take n (b ∷ bs)) {x = 1 + prefix_len is_high bs} {y = suc (prefix_len is_high bs)}
+    (omega arith))
 
 -- where no character begins, the run isn't UTF-8
 no_character : (b : ℕ) (bs : List ℕ) → is_high b ≡ true → BeginsNoHigh (b ∷ bs) → IsUtf8 (b ∷ high_run bs) → ⊥
@@ -116,22 +137,31 @@ no_character b bs high none (c ∷ cs, e) =
     let whole : b ∷ high_run bs ≡ encode c ++ encodes cs = sym e.1 in
     let run : high_run (b ∷ bs) ≡ encode c ++ encodes cs = run_first b bs high ∙ whole in
     let n = prefix_len is_high (b ∷ bs) in
-    let cut : b ∷ bs ≡ encode c ++ (encodes cs ++ drop n (b ∷ bs)) = sym (take-append-drop n (b ∷ bs)) ∙ ap (λ l. l ++ drop n (b ∷ bs)) run ∙ append_assoc (encode c) (encodes cs) (drop n (b ∷ bs)) in
+    let cut : b ∷ bs ≡ encode c ++ (encodes cs ++ drop n (b ∷ bs)) = sym (take-append-drop n (b ∷ bs))
+    ∙ ap (λ l. l ++ drop n (b ∷ bs)) run ∙ append_assoc (encode c) (encodes cs) (drop n (b ∷ bs)) in
     let large : 128 ≤ b = grind (arith, nat_tests) in
-    none c (encodes cs ++ drop n (b ∷ bs)) (record { scalar_is = (both (scalar c) (scalars cs) e.0).0; split = cut }, above c (byte_from_char (b ∷ bs) (encodes cs ++ drop n (b ∷ bs)) c cut) large)
+    none c (encodes cs ++ drop n (b ∷ bs)) (
+      record {
+        scalar_is = (both (scalar c) (scalars cs) e.0).0;
+        split = cut;
+      },
+      above c (byte_from_char (b ∷ bs) (encodes cs ++ drop n (b ∷ bs)) c cut) large,
+    )
   where
     above : (c : ℕ) → (c < 128 → b ≡ c) → 128 ≤ b → 128 ≤ c
     above c f le = grind (arith, f, le)
 
 -- at the end of a run a byte that begins no character is refused
-pub utf8_refused : (bs rest : List ℕ) (b : ℕ) → bs ≡ b ∷ rest → is_high b ≡ true → BeginsNoHigh bs → is_utf8 (high_run bs) ≡ false
+pub utf8_refused : (bs rest : List ℕ) (b : ℕ) → bs ≡ b ∷ rest → is_high b ≡ true → BeginsNoHigh bs
+    → is_utf8 (high_run bs) ≡ false
 utf8_refused bs rest b e high none = refused (is_utf8 (high_run bs)) refl
   where
     refused : (t : Bool) → is_utf8 (high_run bs) ≡ t → t ≡ false
     refused false h = refl
     refused true h =
         let run : high_run bs ≡ b ∷ high_run rest = ap high_run e ∙ run_first b rest high in
-        absurd (no_character b rest high (subst BeginsNoHigh e none) (subst IsUtf8 run (IsUtf8-from_is_utf8 (high_run bs) h)))
+        absurd (no_character b rest high (subst BeginsNoHigh e none)
+        (subst IsUtf8 run (IsUtf8-from_is_utf8 (high_run bs) h)))
 
 -- the first character of a text, and of bytes that begin with it
 
@@ -142,19 +172,22 @@ NoLonger n bytes = (m : ℕ) → n < m → m ≤ length bytes → IsUtf8 (take m
 pub first_none : (bytes text : List ℕ) → NoLonger (length text) bytes → length text ≡ 0 → BeginsNone bytes
 first_none bytes text longest empty = λ c rest h.
     let cut = front_back bytes (encode c) rest (length (encode c)) h.split refl in
-    longest (length (encode c)) (omega (arith, empty, length-encode c, len_utf8_bounds c)) cut.0 (subst IsUtf8 (sym cut.1) (IsUtf8-encode c h.scalar_is))
+    longest (length (encode c)) (omega (arith, empty, length-encode c, len_utf8_bounds c)) cut.0
+    (subst IsUtf8 (sym cut.1) (IsUtf8-encode c h.scalar_is))
 
 scalar_first : (cs es : List ℕ) (c : ℕ) → scalars cs ≡ true → cs ≡ c ∷ es → IsScalar c
 scalar_first cs es c h e = (both (scalar c) (scalars es) (sym (ap scalars e) ∙ h)).0
 
-pub first_some : (bytes text rest : List ℕ) (c : ℕ) → text ≡ take (length text) bytes → IsUtf8 text → text ≡ encode c ++ rest → (more : List ℕ) × BeginsCharacter bytes c more
+pub first_some : (bytes text rest : List ℕ) (c : ℕ) → text ≡ take (length text) bytes → IsUtf8 text → text ≡ encode c
+    ++ rest → (more : List ℕ) × BeginsCharacter bytes c more
 first_some bytes text rest c front u e =
     let n = length text in
     let first = cons_from_encodes u.0 rest c (u.1.1 ∙ e) in (
       rest ++ drop n bytes,
       record {
         scalar_is = scalar_first u.0 first.0 c u.1.0 first.1;
-        split = sym (take-append-drop n bytes) ∙ ap (λ l. l ++ drop n bytes) (sym front ∙ e) ∙ append_assoc (encode c) rest (drop n bytes);
+        split = sym (take-append-drop n bytes) ∙ ap (λ l. l ++ drop n bytes) (sym front ∙ e) ∙ append_assoc (encode c)
+            rest (drop n bytes);
       },
     )
 
@@ -163,18 +196,26 @@ pub window_none : {bs front : List ℕ} → front ≡ take 4 bs → BeginsNone f
 window_none {bs} {front} e none = λ c rest h.
     let k = 4 - length (encode c) in
     let len : 4 ≡ length (encode c) + k = omega (arith, length-encode c, len_utf8_bounds c) in
-    let cut : front ≡ encode c ++ take k rest = e ∙ ap (λ l. take 4 l) h.0.split ∙ ap (λ n. take n (encode c ++ rest)) len ∙ take_through k (encode c) rest in
+    let cut : front ≡ encode c ++ take k rest = e ∙ ap (λ l. take 4 l) h.0.split ∙ ap (λ n. take n (encode c ++ rest))
+    len ∙ take_through k (encode c) rest in
     none c (take k rest) (record { scalar_is = h.0.scalar_is; split = cut })
 
-pub window_some : {bs front rest : List ℕ} {c : ℕ} → front ≡ take 4 bs → BeginsCharacter front c rest → BeginsCharacter bs c (drop (length (encode c)) bs)
+pub window_some : {bs front rest : List ℕ} {c : ℕ} → front ≡ take 4 bs → BeginsCharacter front c rest
+    → BeginsCharacter bs c (drop (length (encode c)) bs)
 window_some {bs} {front} {rest} {c} e h =
-    let whole : bs ≡ encode c ++ (rest ++ drop 4 bs) = sym (take-append-drop 4 bs) ∙ ap (λ l. l ++ drop 4 bs) (sym e ∙ h.split) ∙ append_assoc (encode c) rest (drop 4 bs) in
+    let whole : bs ≡ encode c ++ (rest ++ drop 4 bs) = sym (take-append-drop 4 bs) ∙ ap (λ l. l ++ drop 4 bs)
+    (sym e ∙ h.split) ∙ append_assoc (encode c) rest (drop 4 bs) in
     let cut = front_back bs (encode c) (rest ++ drop 4 bs) (length (encode c)) whole refl in
     record { scalar_is = h.scalar_is; split = whole ∙ ap (λ l. encode c ++ l) (sym cut.2) }
 
 -- the character that the bytes begin with is the only one
 pub none_high : {bs rest : List ℕ} {c : ℕ} → BeginsCharacter bs c rest → c < 128 → BeginsNoHigh bs
-none_high {bs} {rest} {c} h low = λ d more g. omega (arith, (encode_same c d rest more (sym h.split ∙ g.0.split)).0, g.1, low)
+none_high {bs} {rest} {c} h low = λ d more g. omega (
+  arith,
+  (encode_same c d rest more (sym h.split ∙ g.0.split)).0,
+  g.1,
+  low,
+)
 
 -- numbers in hexadecimal digits
 
@@ -189,10 +230,13 @@ at_drop k b bs rest e = (
 )
 
 pub is_hex_digit : (b : ℕ) → digit_value b < 16 → is_hex b ≡ true
-is_hex_digit b h = hex_tests b (nat_lt b 48) (nat_lt b 58) (nat_lt b 65) (nat_lt b 91) (nat_lt b 97) (nat_lt b 123) refl refl refl refl refl refl h
+is_hex_digit b h = hex_tests b (nat_lt b 48) (nat_lt b 58) (nat_lt b 65) (nat_lt b 91) (nat_lt b 97) (nat_lt b 123) refl
+    refl refl refl refl refl h
   where
-    hex_tests : (b : ℕ) (s t u v w x : Bool) → nat_lt b 48 ≡ s → nat_lt b 58 ≡ t → nat_lt b 65 ≡ u → nat_lt b 91 ≡ v → nat_lt b 97 ≡ w → nat_lt b 123 ≡ x
-        → cond s 36 (cond t (b - 48) (cond u 36 (cond v (b - 55) (cond w 36 (cond x (b - 87) 36))))) < 16 → is_hex b ≡ true
+    hex_tests : (b : ℕ) (s t u v w x : Bool) → nat_lt b 48 ≡ s → nat_lt b 58 ≡ t → nat_lt b 65 ≡ u → nat_lt b 91 ≡ v
+        → nat_lt b 97 ≡ w → nat_lt b 123 ≡ x
+        → cond s 36 (cond t (b - 48) (cond u 36 (cond v (b - 55) (cond w 36 (cond x (b - 87) 36))))) < 16
+        → is_hex b ≡ true
     hex_tests b s t u v w x es et eu ev ew ex lt = grind (arith, nat_tests)
 
 pub no_hex_digit : (b : ℕ) → (digit_value b < 16 → ⊥) → is_hex b ≡ false
@@ -209,22 +253,30 @@ all_digits (b ∷ bs) h = (hex_small b h.0, all_digits bs h.1)
 pub number_small : (k : ℕ) (bs : List ℕ) → k ≤ prefix_len is_hex bs → k < 8 → digits_value 16 (take k bs) < 268435456
 number_small k bs h less =
     let few : length (take k bs) ≤ 7 = omega (arith, length-take k bs) in
-    omega (arith, digits_value-lt 16 (take k bs) (all_digits (take k bs) (each_first k bs h)), pow-le-pow_right {n = 16} (omega arith) few)
+    omega (
+      arith,
+      digits_value-lt 16 (take k bs) (all_digits (take k bs) (each_first k bs h)),
+      pow-le-pow_right {n = 16}
+          (omega arith) few,
+    )
 
 -- what so many digits are, where there are as many, and where they end before
-pub digits_full : (w : ℕ) (bs : List ℕ) → w ≤ prefix_len is_hex bs → (take w (hex_run bs) ≡ take w bs) × (length (take w (hex_run bs)) ≡ w)
+pub digits_full : (w : ℕ) (bs : List ℕ) → w ≤ prefix_len is_hex bs → (take w (hex_run bs) ≡ take w bs)
+    × (length (take w (hex_run bs)) ≡ w)
 digits_full w bs h =
     let e = take-take w (prefix_len is_hex bs) bs h in
     (e, ap length e ∙ taken w bs (omega (arith, h, prefix_len-le-length is_hex bs)))
 
-pub digits_end : (w k : ℕ) (bs : List ℕ) → k < w → k ≤ prefix_len is_hex bs → Stops is_hex (drop k bs) → (take w (hex_run bs) ≡ take k bs) × (length (take w (hex_run bs)) ≡ k)
+pub digits_end : (w k : ℕ) (bs : List ℕ) → k < w → k ≤ prefix_len is_hex bs → Stops is_hex (drop k bs)
+    → (take w (hex_run bs) ≡ take k bs) × (length (take w (hex_run bs)) ≡ k)
 digits_end w k bs less le stop =
     let n = run_ends is_hex k bs le stop in
     let e = ap (λ m. take w (take m bs)) n ∙ take_all w (take k bs) (omega (arith, length-take k bs)) in
     (e, ap length e ∙ taken k bs (omega (arith, le, prefix_len-le-length is_hex bs)))
 
 -- one digit more
-pub digit_more : (k b : ℕ) (bs rest : List ℕ) → k ≤ prefix_len is_hex bs → drop k bs ≡ b ∷ rest → digits_value 16 (take (k + 1) bs) ≡ digits_value 16 (take k bs) * 16 + digit_value b
+pub digit_more : (k b : ℕ) (bs rest : List ℕ) → k ≤ prefix_len is_hex bs → drop k bs ≡ b ∷ rest
+    → digits_value 16 (take (k + 1) bs) ≡ digits_value 16 (take k bs) * 16 + digit_value b
 digit_more k b bs rest le e =
     let here = at_drop k b bs rest e in
     digits_value_more 16 bs k here.0 ∙ ap (λ x. digits_value 16 (take k bs) * 16 + digit_value x) here.1
@@ -234,14 +286,22 @@ pub drop_more : (k : ℕ) (bs : List ℕ) {b : ℕ} {rest : List ℕ} → drop k
 drop_more k bs {b} {rest} e = ap (λ l. drop 1 l) (sym e) ∙ drop-drop 1 k bs
 
 -- one byte more in a window
-pub window_more : (k b : ℕ) (window bs rest : List ℕ) → k < length window → take k window ≡ take k bs → drop k bs ≡ b ∷ rest → take (k + 1) (set window k b) ≡ take (k + 1) bs
+pub window_more : (k b : ℕ) (window bs rest : List ℕ) → k < length window → take k window ≡ take k bs → drop k bs ≡ b
+    ∷ rest → take (k + 1) (set window k b) ≡ take (k + 1) bs
 window_more k b window bs rest lt same e =
     let here = at_drop k b bs rest e in
-    take_more_set window k b lt ∙ ap (λ l. l ++ b ∷ []) same ∙ sym (take_more bs k 0 here.0 ∙ ap (λ x. take k bs ++ x ∷ []) here.1)
+    take_more_set window k b lt ∙ ap (λ l. l ++ b ∷ []) same
+    ∙ sym (take_more bs k 0 here.0 ∙ ap (λ x. take k bs ++ x ∷ []) here.1)
 
 -- less is left behind a character
 pub shorter_behind : {bs rest : List ℕ} {c : ℕ} → BeginsCharacter bs c rest → length rest < length bs
-shorter_behind {bs} {rest} {c} h = omega (arith, ap length h.split, length-append (encode c) rest, length-encode c, len_utf8_bounds c)
+shorter_behind {bs} {rest} {c} h = omega (
+  arith,
+  ap length h.split,
+  length-append (encode c) rest,
+  length-encode c,
+  len_utf8_bounds c,
+)
 
 pub utf8_nothing : {bs : List ℕ} → bs ≡ [] → is_utf8 (high_run bs) ≡ true
 utf8_nothing {bs} e = ap (λ l. is_utf8 (high_run l)) e ∙ utf8_at_end [] tt
@@ -251,5 +311,6 @@ pub utf8_decided : {bs rest : List ℕ} {b : ℕ} → bs ≡ b ∷ rest → Begi
 utf8_decided {bs} {rest} {b} e none = decided (nat_lt b 128) refl
   where
     decided : (t : Bool) → nat_lt b 128 ≡ t → is_utf8 (high_run bs) ≡ t
-    decided true h = let low : is_high b ≡ false = grind (arith, nat_tests) in ap (λ l. is_utf8 (high_run l)) e ∙ utf8_at_end (b ∷ rest) low
+    decided true h = let low : is_high b ≡ false = grind (arith, nat_tests) in ap (λ l. is_utf8 (high_run l)) e
+        ∙ utf8_at_end (b ∷ rest) low
     decided false h = utf8_refused bs rest b e (grind (arith, nat_tests)) none

@@ -22,11 +22,13 @@ pub says_or_not : (word t : List ℕ) → Decided (Says word t)
 says_or_not word t = same_list (map to_ascii_lowercase t) (map to_ascii_lowercase word)
 
 -- the first place below a bound, if there is one
-pub first_below : (P : ℕ → Type 0) → ((k : ℕ) → Decided (P k)) → (n : ℕ) → ((k : ℕ) × NoneBefore P 0 n k × P k) ⊎ Nowhere P 0 n
+pub first_below : (P : ℕ → Type 0) → ((k : ℕ) → Decided (P k)) → (n : ℕ) → ((k : ℕ) × NoneBefore P 0 n k × P k)
+    ⊎ Nowhere P 0 n
 first_below P decide zero = inr (λ k low high. omega (arith, high))
 first_below P decide (suc n) = by (first_below P decide n) (decide n)
   where
-    by : ((k : ℕ) × NoneBefore P 0 n k × P k) ⊎ Nowhere P 0 n → Decided (P n) → ((k : ℕ) × NoneBefore P 0 (suc n) k × P k) ⊎ Nowhere P 0 (suc n)
+    by : ((k : ℕ) × NoneBefore P 0 n k × P k) ⊎ Nowhere P 0 n → Decided (P n)
+        → ((k : ℕ) × NoneBefore P 0 (suc n) k × P k) ⊎ Nowhere P 0 (suc n)
     by (inl f) d = inl (f.0, record { low = f.1.low; high = omega (arith, f.1.high); before = f.1.before }, f.2)
     by (inr none) (inl here) = inl (n, record { low = omega arith; high = omega arith; before = none }, here)
     by (inr none) (inr not_here) = inr (λ k low high p. at k low high p (cases_eq k n))

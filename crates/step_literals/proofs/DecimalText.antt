@@ -64,7 +64,8 @@ point p h = record {
   stops = refl;
   cut = (let e : min (length (46 ∷ p)) 1 ≡ 1 = omega arith in rw e refl);
   kept = filter_each is_digit p h;
-  behind = λ xs g. (let e : 1 + prefix_len no_dot (xs ++ 46 ∷ p) ≡ 1 + length xs = omega (arith, prefix_passed no_dot xs (46 ∷ p) g) in ap (λ n. drop n (xs ++ 46 ∷ p)) e ∙ drop_one_more xs p 46);
+  behind = λ xs g. (let e : 1 + prefix_len no_dot (xs ++ 46 ∷ p) ≡ 1 + length xs = omega
+      (arith, prefix_passed no_dot xs (46 ∷ p) g) in ap (λ n. drop n (xs ++ 46 ∷ p)) e ∙ drop_one_more xs p 46);
 }
 
 digit_no_dot : (b : ℕ) → is_digit b ≡ true → no_dot b ≡ true
@@ -119,7 +120,8 @@ module _ (s w tail p : List ℕ) (hs : IsSign s) (hw : IsDigits w) (ht : IsTail 
   whole_is = (λ i. take (len_is i) (unsigned_is i)) ∙ take-append_seam w tail
 
   part_is : part_of ((s ++ w) ++ tail) ≡ p
-  part_is = ap (λ r. drop (min (length r) 1) r) ((λ i. drop (len_is i) (unsigned_is i)) ∙ drop-append_seam w tail) ∙ ht.cut
+  part_is = ap (λ r. drop (min (length r) 1) r) ((λ i. drop (len_is i) (unsigned_is i)) ∙ drop-append_seam w tail)
+      ∙ ht.cut
 
   pub digits_are : filter is_digit ((s ++ w) ++ tail) ≡ w ++ p
   digits_are =
@@ -135,23 +137,27 @@ module _ (s w tail p : List ℕ) (hs : IsSign s) (hw : IsDigits w) (ht : IsTail 
     part = ap length (part_is ∙ sym behind_is);
   }
 
-pub before_exponent : (front exponent : List ℕ) → Each no_e front → IsExponent exponent → mantissa_text (front ++ exponent) ≡ front
+pub before_exponent : (front exponent : List ℕ) → Each no_e front → IsExponent exponent
+    → mantissa_text (front ++ exponent) ≡ front
 before_exponent front [] h x =
     let n : prefix_len no_e (front ++ []) ≡ length front = prefix_passed no_e front [] h ∙ omega arith in
     ap (λ k. take k (front ++ [])) n ∙ take-append_seam front []
 before_exponent front (e ∷ bs) h x =
-    let n : prefix_len no_e (front ++ e ∷ bs) ≡ length front = prefix_passed no_e front (e ∷ bs) h ∙ (rw (e_is e x.0) (omega arith)) in
+    let n : prefix_len no_e (front ++ e ∷ bs) ≡ length front = prefix_passed no_e front (e ∷ bs) h
+    ∙ (rw (e_is e x.0) (omega arith)) in
     ap (λ k. take k (front ++ e ∷ bs)) n ∙ take-append_seam front (e ∷ bs)
 
 cut_number : (t : List ℕ) → IsNumber t → IsCut (mantissa_text t)
 cut_number t (inl h) =
     let front = h.0 ++ h.1 in
     let each : Each no_e front = each_append no_e h.0 h.1 (signs_no_e h.0 h.2) (digits_no_e h.1 h.3.1) in
-    let same : mantissa_text t ≡ front ++ [] = ap mantissa_text (h.4 ∙ sym (append-nil front)) ∙ before_exponent front [] each tt ∙ sym (append-nil front) in
+    let same : mantissa_text t ≡ front ++ [] = ap mantissa_text (h.4 ∙ sym (append-nil front))
+    ∙ before_exponent front [] each tt ∙ sym (append-nil front) in
     subst IsCut (sym same) (cut_is h.0 h.1 [] [] h.2 h.3 no_point)
 cut_number t (inr h) =
     let front = h.0 ++ h.1 ++ 46 ∷ h.2 in
-    let each : Each no_e front = each_append no_e (h.0 ++ h.1) (46 ∷ h.2) (each_append no_e h.0 h.1 (signs_no_e h.0 h.4) (digits_no_e h.1 h.5.1)) (refl, digits_no_e h.2 h.6) in
+    let each : Each no_e front = each_append no_e (h.0 ++ h.1) (46 ∷ h.2) (each_append no_e h.0 h.1 (signs_no_e h.0 h.4)
+    (digits_no_e h.1 h.5.1)) (refl, digits_no_e h.2 h.6) in
     let same : mantissa_text t ≡ front = ap mantissa_text h.8 ∙ before_exponent front h.3 each h.7 in
     subst IsCut (sym same) (cut_is h.0 h.1 (46 ∷ h.2) h.2 h.4 h.5 (point h.2 h.6))
 
@@ -159,13 +165,15 @@ cut_prop : (m : List ℕ) → IsProp (IsCut m)
 cut_prop m = hlevel (is_set ℕ_set, ℕ_set)
 
 -- the digits that the code cuts out of a decimal
-pub parts_cut : (t m u w r p : List ℕ) (n k d j : ℕ) → ∥ IsDecimal t ∥₁ → n ≡ prefix_len no_e t → m ≡ take n t → k ≡ sign_len m → u ≡ drop k m → d ≡ prefix_len is_digit u → w ≡ take d u → r ≡ drop d u
+pub parts_cut : (t m u w r p : List ℕ) (n k d j : ℕ) → ∥ IsDecimal t ∥₁ → n ≡ prefix_len no_e t → m ≡ take n t
+    → k ≡ sign_len m → u ≡ drop k m → d ≡ prefix_len is_digit u → w ≡ take d u → r ≡ drop d u
     → j ≡ min (length r) 1 → p ≡ drop j r → (w ++ p ≡ mantissa_digits t) × (length p ≡ length (part_digits t))
 parts_cut t m u w r p n k d j h hn hm hk hu hd hw hr hj hp =
     let cut : IsCut (mantissa_text t) = ∥∥₁_elim h (cut_prop (mantissa_text t)) (λ x. cut_number t x.number) in
     let em : m ≡ mantissa_text t = hm ∙ ap (λ i. take i t) hn in
     let eu : u ≡ unsigned (mantissa_text t) = hu ∙ ap (λ i. drop i m) hk ∙ ap unsigned em in
-    let ew : w ≡ whole_of (mantissa_text t) = hw ∙ ap (λ i. take i u) hd ∙ ap (λ l. take (prefix_len is_digit l) l) eu in
+    let ew : w ≡ whole_of (mantissa_text t) = hw ∙ ap (λ i. take i u) hd ∙ ap (λ l. take (prefix_len is_digit l) l) eu
+    in
     let er : r ≡ rest_of (mantissa_text t) = hr ∙ ap (λ i. drop i u) hd ∙ ap (λ l. drop (prefix_len is_digit l) l) eu in
     let ep : p ≡ part_of (mantissa_text t) = hp ∙ ap (λ i. drop i r) hj ∙ ap (λ l. drop (min (length l) 1) l) er in
     ((λ i. ew i ++ ep i) ∙ cut.digits, ap length ep ∙ cut.part)
@@ -174,16 +182,27 @@ pub part_short : (t : List ℕ) → ∥ IsDecimal t ∥₁ → length (part_digi
 part_short t h = omega (arith, text_short t h, length-drop {A = ℕ}, length-take {A = ℕ})
 
 -- the number that an exponent writes is read
-pub exponent_read : (t ds : List ℕ) (r : Option ℕ) (x : ℕ) → ∥ IsDecimal t ∥₁ → ds ≡ exponent_digits t → SomeIff r (digits_value 10 ds < 2 ^ 64) (digits_value 10 ds) → x ≡ unwrap_or r 0
+pub exponent_read : (t ds : List ℕ) (r : Option ℕ) (x : ℕ) → ∥ IsDecimal t ∥₁ → ds ≡ exponent_digits t
+    → SomeIff r (digits_value 10 ds < 2 ^ 64) (digits_value 10 ds) → x ≡ unwrap_or r 0
     → (x ≡ digits_value 10 (exponent_digits t)) × (x ≤ 999999)
-exponent_read t ds (Some v) x h e s u = (u ∙ s.1 ∙ ap (digits_value 10) e, omega (arith, u, s.1, ap (digits_value 10) e, exponent_small t h))
+exponent_read t ds (Some v) x h e s u = (
+  u ∙ s.1 ∙ ap (digits_value 10) e,
+  omega (
+    arith,
+    u,
+    s.1,
+    ap (digits_value 10) e,
+    exponent_small t h,
+  ),
+)
 exponent_read t ds None x h e s u = absurd (s (omega (arith, ap (digits_value 10) e, exponent_small t h)))
 
 pub finest_is : finest ≡ 1000400
 unfolding finest
 finest_is = refl
 
-units_of_exponent : (b : Bool) (x p f : ℕ) → f ≡ 1000400 → p ≤ 400 → x ≤ 999999 → signed b x -ℤ pos p +ℤ pos f ≡ pos (cond b (1000400 - p - x) (1000400 - p + x))
+units_of_exponent : (b : Bool) (x p f : ℕ) → f ≡ 1000400 → p ≤ 400 → x ≤ 999999 → signed b x -ℤ pos p +ℤ pos f ≡ pos
+    (cond b (1000400 - p - x) (1000400 - p + x))
 units_of_exponent true x p f hf hp hx = omega (arith, ints, hf, hp, hx)
 units_of_exponent false x p f hf hp hx = omega (arith, ints, hf, hp, hx)
 
@@ -192,10 +211,15 @@ abs_of z k e = e ∙ ap (λ y. pos (unsigned_abs y)) (sym e)
 
 -- the power of ten of a number within the limits is no negative number of units
 pub shift_of_exponent : (t : List ℕ) → ∥ IsDecimal t ∥₁ → exponent t +ℤ pos finest ≡ pos (shift_of t)
-shift_of_exponent t h = abs_of (exponent t +ℤ pos finest) _ (units_of_exponent (is_negative (exponent_text t)) (digits_value 10 (exponent_digits t)) (length (part_digits t)) finest finest_is (part_short t h) (exponent_small t h))
+shift_of_exponent t h = abs_of (exponent t +ℤ pos finest) _ (units_of_exponent (is_negative (exponent_text t))
+    (digits_value 10 (exponent_digits t)) (length (part_digits t)) finest finest_is (part_short t h)
+    (exponent_small t h))
 
 -- .. and how many it is
-pub shift_is : (t : List ℕ) (x p : ℕ) (b : Bool) → ∥ IsDecimal t ∥₁ → x ≡ digits_value 10 (exponent_digits t) → p ≡ length (part_digits t) → b ≡ is_negative (exponent_text t)
+pub shift_is : (t : List ℕ) (x p : ℕ) (b : Bool) → ∥ IsDecimal t ∥₁ → x ≡ digits_value 10 (exponent_digits t)
+    → p ≡ length (part_digits t) → b ≡ is_negative (exponent_text t)
     → cond b (1000400 - p - x) (1000400 - p + x) ≡ shift_of t
 shift_is t x p b h hx hp hb =
-    sym (ap unsigned_abs (units_of_exponent b x p finest finest_is (omega (arith, hp, part_short t h)) (omega (arith, hx, exponent_small t h)))) ∙ (λ i. unsigned_abs (signed (hb i) (hx i) -ℤ pos (hp i) +ℤ pos finest))
+    sym (ap unsigned_abs (units_of_exponent b x p finest finest_is (omega (arith, hp, part_short t h))
+    (omega (arith, hx, exponent_small t h))))
+    ∙ (λ i. unsigned_abs (signed (hb i) (hx i) -ℤ pos (hp i) +ℤ pos finest))

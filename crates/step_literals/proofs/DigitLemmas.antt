@@ -17,7 +17,8 @@ digit_is : (b : ℕ) → is_digit b ≡ true → (48 ≤ b) × (digit_value b �
 digit_is b h = (grind (arith, nat_tests), grind (arith, nat_tests))
 
 -- one more digit is read
-module _ (ds : List ℕ) (i n total : ℕ) (digits : Each is_digit ds) (lt : i < length ds) (so_far : digits_value_after 10 n (drop i ds) ≡ total) where
+module _ (ds : List ℕ) (i n total : ℕ) (digits : Each is_digit ds) (lt : i < length ds)
+    (so_far : digits_value_after 10 n (drop i ds) ≡ total) where
   pub digit_at : 48 ≤ get_or ds i 0
   digit_at = (digit_is (get_or ds i 0) (each_at is_digit ds i digits lt)).0
 
@@ -25,10 +26,12 @@ module _ (ds : List ℕ) (i n total : ℕ) (digits : Each is_digit ds) (lt : i <
   value_more =
       let head : drop i ds ≡ get_or ds i 0 ∷ drop (suc i) ds = drop-cons ds i 0 lt in
       let digit = (digit_is (get_or ds i 0) (each_at is_digit ds i digits lt)).1 in
-      (λ k. digits_value_after 10 (n * 10 + sym digit k) (drop (add-one i k) ds)) ∙ sym (ap (digits_value_after 10 n) head) ∙ so_far
+      (λ k. digits_value_after 10 (n * 10 + sym digit k) (drop (add-one i k) ds))
+      ∙ sym (ap (digits_value_after 10 n) head) ∙ so_far
 
   pub value_bound : n * 10 + (get_or ds i 0 - 48) ≤ total
   value_bound = omega (arith, value_grows (n * 10 + (get_or ds i 0 - 48)) (drop (i + 1) ds), value_more)
 
-pub value_whole : (ds : List ℕ) (i n total : ℕ) → length ds ≤ i → digits_value_after 10 n (drop i ds) ≡ total → n ≡ total
+pub value_whole : (ds : List ℕ) (i n total : ℕ) → length ds ≤ i → digits_value_after 10 n (drop i ds) ≡ total
+    → n ≡ total
 value_whole ds i n total h e = sym (ap (digits_value_after 10 n) (drop_of_length-le ds h)) ∙ e

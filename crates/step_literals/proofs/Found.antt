@@ -27,7 +27,9 @@ not_byte a b h = grind (arith, nat_tests)
 
 pub before_found : (a : ℕ) (rest : List ℕ) (at : ℕ) → Found a rest at → Each (is_not a) (take at rest)
 before_found a rest at h =
-    each_from (is_not a) (take at rest) (λ k lt. let below : k < at = omega (arith, lt, length-take at rest, h.0.high) in rw (get_or-take at rest k 0 below) (not_byte a (get_or rest k 0) (h.0.before k (omega arith) (omega (arith, below, h.0.high)))))
+    each_from (is_not a) (take at rest) (λ k lt. let below : k < at = omega (arith, lt, length-take at rest, h.0.high)
+    in rw (get_or-take at rest k 0 below)
+    (not_byte a (get_or rest k 0) (h.0.before k (omega arith) (omega (arith, below, h.0.high)))))
 
 pub drop_found : (a : ℕ) (rest : List ℕ) (at : ℕ) → Found a rest at → drop at rest ≡ a ∷ drop (at + 1) rest
 drop_found a rest at h =

@@ -29,4 +29,10 @@ keyword_whole l h all = subst IsKeyword (take_all (prefix_len is_word_byte l) l 
 pub keyword_len : (l : List ℕ) → IsKeyword l → prefix_len is_word_byte l ≡ length l
 keyword_len l h =
     let n = prefix_len is_word_byte l in
-    omega (arith, prefix_len-le-length is_word_byte l, length-take n l, run_fits is_word_byte l (take n l) [] (drop n l) (keyword_each l h) (run_at_prefix is_word_byte l).stops (append-nil l ∙ sym (take-append-drop n l)))
+    omega (
+      arith,
+      prefix_len-le-length is_word_byte l,
+      length-take n l,
+      run_fits is_word_byte l (take n l) [] (drop n l)
+          (keyword_each l h) (run_at_prefix is_word_byte l).stops (append-nil l ∙ sym (take-append-drop n l)),
+    )

@@ -39,12 +39,25 @@ module _ (l : List ℕ) where
   exponent_of : (is_e (get_or l 0 0) ≡ true) ⊎ (is_e (get_or l 0 0) ≡ false) → Decided (exponent_run ≡ 0) → ExponentAt l
   unfolding exponent_run
   exponent_of (inr h) d = (0, omega arith, exponent_no_e l (λ some. h))
-  exponent_of (inl h) (inl zero) = (0, omega arith, exponent_no_digits l (drop 1 l) (drop (sign_len (drop 1 l)) (drop 1 l)) (sign_len (drop 1 l)) exponent_run refl refl refl refl zero)
+  exponent_of (inl h) (inl zero) = (
+    0,
+    omega arith,
+    exponent_no_digits l (drop 1 l)
+        (drop (sign_len (drop 1 l)) (drop 1 l)) (sign_len (drop 1 l)) exponent_run refl refl refl refl zero,
+  )
   exponent_of (inl h) (inr pos) =
       let r = drop 1 l in
       let u = drop (sign_len r) r in (
         1 + sign_len r + exponent_run,
-        omega (arith, e_there l h, length-drop 1 l, sign_within r, length-drop (sign_len r) r, prefix_len-le-length is_digit u),
+        omega (
+          arith,
+          e_there l h,
+          length-drop 1 l,
+          sign_within r,
+          length-drop (sign_len r) r,
+          prefix_len-le-length
+              is_digit u,
+        ),
         exponent_at l r u (sign_len r) exponent_run (e_there l h) h refl refl refl refl (omega (arith, pos)),
       )
 
@@ -67,7 +80,13 @@ module _ (l : List ℕ) (start : StartsNumber l) where
 
   fits : sign_len l + whole + length behind ≡ length l
   unfolding unsigned whole behind
-  fits = omega (arith, sign_within l, length-drop (sign_len l) l, prefix_len-le-length is_digit (drop (sign_len l) l), length-drop whole (drop (sign_len l) l))
+  fits = omega (
+    arith,
+    sign_within l,
+    length-drop (sign_len l) l,
+    prefix_len-le-length is_digit (drop (sign_len l) l),
+    length-drop whole (drop (sign_len l) l),
+  )
 
   real_found : (whole ≡ 0 → ⊥) → (get_or behind 0 0 == 46) ≡ true → NumberAt l
   unfolding unsigned whole behind
@@ -80,15 +99,22 @@ module _ (l : List ℕ) (start : StartsNumber l) where
       let some : 0 < length behind = some_there behind 46 point (omega arith) in (
         sign_len l + whole + 1 + part + x.0,
         omega (arith, fits, some, length-drop 1 behind, prefix_len-le-length is_digit tail, length-drop part tail, x.1),
-        inr (real_at l unsigned behind tail after (sign_len l) whole part x.0 refl refl refl pos refl some point refl refl refl x.2),
+        inr (real_at l unsigned behind tail after (sign_len l) whole part x.0 refl refl refl pos refl some point refl
+            refl refl x.2),
       )
 
-  number_of : Decided (whole ≡ 0) → ((get_or behind 0 0 == 46) ≡ true) ⊎ ((get_or behind 0 0 == 46) ≡ false) → NumberAt l ⊎ NoneAt l
+  number_of : Decided (whole ≡ 0) → ((get_or behind 0 0 == 46) ≡ true) ⊎ ((get_or behind 0 0 == 46) ≡ false)
+      → NumberAt l ⊎ NoneAt l
   unfolding unsigned whole behind
   number_of (inl zero) d = inr (number_none l unsigned (sign_len l) whole start refl refl refl zero)
   number_of (inr pos) (inl dot) = inl (real_found pos dot)
   number_of (inr pos) (inr no_dot) =
-      inl (sign_len l + whole, omega (arith, fits), inl (integer_at l unsigned behind (sign_len l) whole refl refl refl pos refl (stops_at behind (λ b. b == 46) (λ some. no_dot))))
+      inl (
+        sign_len l + whole,
+        omega (arith, fits),
+        inl (integer_at l unsigned behind (sign_len l) whole refl refl refl
+            pos refl (stops_at behind (λ b. b == 46) (λ some. no_dot))),
+      )
 
   pub number_or_none : NumberAt l ⊎ NoneAt l
   number_or_none = number_of (cases_eq whole 0) (cases_Bool (get_or behind 0 0 == 46))
@@ -97,7 +123,8 @@ module _ (l : List ℕ) (start : StartsNumber l) where
 pub short_or_not : (t : List ℕ) → Decided (IsShortNumber t)
 short_or_not t = by (cases_lt 400 (length t)) (cases_lt 999999 (digits_value 10 (exponent_digits t)))
   where
-    by : (400 < length t) ⊎ (length t ≤ 400) → (999999 < digits_value 10 (exponent_digits t)) ⊎ (digits_value 10 (exponent_digits t) ≤ 999999) → Decided (IsShortNumber t)
+    by : (400 < length t) ⊎ (length t ≤ 400) → (999999 < digits_value 10 (exponent_digits t))
+        ⊎ (digits_value 10 (exponent_digits t) ≤ 999999) → Decided (IsShortNumber t)
     by (inl long) x = inr (λ s. omega (arith, long, s.short))
     by (inr short) (inl large) = inr (λ s. omega (arith, large, s.exponent))
     by (inr short) (inr small) = inl (record { short = short; exponent = small })

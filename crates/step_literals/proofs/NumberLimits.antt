@@ -42,7 +42,8 @@ prefix_passed p (x ∷ xs) ys h = rw h.0 (omega (arith, prefix_passed p xs ys h.
 -- a front with no `E`, and nothing behind it
 pub no_exponent_text : (front : List ℕ) → Each no_e front → exponent_text front ≡ []
 no_exponent_text front h =
-    let n : prefix_len no_e front ≡ length front = ap (prefix_len no_e) (sym (append-nil front)) ∙ prefix_passed no_e front [] h ∙ omega arith in
+    let n : prefix_len no_e front ≡ length front = ap (prefix_len no_e) (sym (append-nil front))
+    ∙ prefix_passed no_e front [] h ∙ omega arith in
     drop_of_length-le front (omega (arith, n))
 
 pub no_exponent : (front : List ℕ) → Each no_e front → exponent_digits front ≡ []
@@ -54,37 +55,46 @@ drop_one_more xs ys y =
     let n : 1 + length xs ≡ length (xs ++ y ∷ []) = omega (arith, length-append xs (y ∷ [])) in
     (λ i. drop (n i) (e i)) ∙ drop-append_seam (xs ++ y ∷ []) ys
 
-pub exponent_behind_e : (front bs : List ℕ) (e : ℕ) → Each no_e front → is_e e ≡ true → exponent_text (front ++ e ∷ bs) ≡ bs
+pub exponent_behind_e : (front bs : List ℕ) (e : ℕ) → Each no_e front → is_e e ≡ true
+    → exponent_text (front ++ e ∷ bs) ≡ bs
 exponent_behind_e front bs e h he =
-    let n : prefix_len no_e (front ++ e ∷ bs) ≡ length front = prefix_passed no_e front (e ∷ bs) h ∙ (rw (e_is e he) (omega arith)) in
+    let n : prefix_len no_e (front ++ e ∷ bs) ≡ length front = prefix_passed no_e front (e ∷ bs) h
+    ∙ (rw (e_is e he) (omega arith)) in
     ap (λ k. drop (1 + k) (front ++ e ∷ bs)) n ∙ drop_one_more front bs e
 
 -- a front with no `E`, and an exponent
-pub exponent_written : (front sign ds : List ℕ) (e : ℕ) → Each no_e front → is_e e ≡ true → IsSign sign → IsDigits ds → exponent_digits (front ++ e ∷ (sign ++ ds)) ≡ ds
+pub exponent_written : (front sign ds : List ℕ) (e : ℕ) → Each no_e front → is_e e ≡ true → IsSign sign → IsDigits ds
+    → exponent_digits (front ++ e ∷ (sign ++ ds)) ≡ ds
 exponent_written front sign ds e h he hs hd =
-    let tail : exponent_text (front ++ e ∷ (sign ++ ds)) ≡ sign ++ (ds ++ []) = exponent_behind_e front (sign ++ ds) e h he ∙ ap (λ l. sign ++ l) (sym (append-nil ds)) in
+    let tail : exponent_text (front ++ e ∷ (sign ++ ds)) ≡ sign ++ (ds ++ []) = exponent_behind_e front (sign ++ ds) e h
+    he ∙ ap (λ l. sign ++ l) (sym (append-nil ds)) in
     ap (λ l. drop (sign_len l) l) tail ∙ sym (sign_taken sign ds [] hs hd).1 ∙ append-nil ds
 
-exponent_behind : (front exponent : List ℕ) → Each no_e front → IsExponent exponent → Each is_digit (exponent_digits (front ++ exponent))
+exponent_behind : (front exponent : List ℕ) → Each no_e front → IsExponent exponent
+    → Each is_digit (exponent_digits (front ++ exponent))
 exponent_behind front [] h x =
     let e : exponent_digits (front ++ []) ≡ [] = ap exponent_digits (append-nil front) ∙ no_exponent front h in
     subst (Each is_digit) (sym e) tt
 exponent_behind front (e ∷ bs) h x =
-    let same : exponent_digits (front ++ e ∷ bs) ≡ x.2 = ap (λ l. exponent_digits (front ++ e ∷ l)) x.5 ∙ exponent_written front x.1 x.2 e h x.0 x.3 x.4 in
+    let same : exponent_digits (front ++ e ∷ bs) ≡ x.2 = ap (λ l. exponent_digits (front ++ e ∷ l)) x.5
+    ∙ exponent_written front x.1 x.2 e h x.0 x.3 x.4 in
     subst (Each is_digit) (sym same) x.4.1
 
 -- what stands behind the `E` of a number and its sign are digits
 pub exponent_each : (t : List ℕ) → IsNumber t → Each is_digit (exponent_digits t)
 exponent_each t (inl h) =
-    let e : exponent_digits t ≡ [] = ap exponent_digits h.4 ∙ no_exponent (h.0 ++ h.1) (each_append no_e h.0 h.1 (signs_no_e h.0 h.2) (digits_no_e h.1 h.3.1)) in
+    let e : exponent_digits t ≡ [] = ap exponent_digits h.4 ∙ no_exponent (h.0 ++ h.1)
+    (each_append no_e h.0 h.1 (signs_no_e h.0 h.2) (digits_no_e h.1 h.3.1)) in
     subst (Each is_digit) (sym e) tt
 exponent_each t (inr h) =
     let front = h.0 ++ h.1 ++ 46 ∷ h.2 in
-    let each : Each no_e front = each_append no_e (h.0 ++ h.1) (46 ∷ h.2) (each_append no_e h.0 h.1 (signs_no_e h.0 h.4) (digits_no_e h.1 h.5.1)) (refl, digits_no_e h.2 h.6) in
+    let each : Each no_e front = each_append no_e (h.0 ++ h.1) (46 ∷ h.2) (each_append no_e h.0 h.1 (signs_no_e h.0 h.4)
+    (digits_no_e h.1 h.5.1)) (refl, digits_no_e h.2 h.6) in
     subst (λ l. Each is_digit (exponent_digits l)) (sym h.8) (exponent_behind front h.3 each h.7)
 
 -- .. as the code cuts them
-pub exponent_cut : (t x ds : List ℕ) (n : ℕ) → x ≡ exponent_text t → n ≡ sign_len x → ds ≡ drop n x → ds ≡ exponent_digits t
+pub exponent_cut : (t x ds : List ℕ) (n : ℕ) → x ≡ exponent_text t → n ≡ sign_len x → ds ≡ drop n x
+    → ds ≡ exponent_digits t
 exponent_cut t x ds n hx hn hd = hd ∙ ap (λ k. drop k x) hn ∙ ap (λ l. drop (sign_len l) l) hx
 
 -- the number that the code finds

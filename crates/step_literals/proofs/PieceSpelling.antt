@@ -14,7 +14,8 @@ use Rattle.step_literals.proofs.CleanLemmas.{begins_split}
 abbrev Says : List ℕ → Option Piece → Type 0
 Says bs o = MatchOption o (BeginsDirective bs) (λ p. BeginsPiece bs p)
 
-by_test : (bs : List ℕ) (t : Bool) (o r : Option Piece) → (t ≡ true → Says bs o) → (t ≡ false → Says bs r) → Says bs (cond t o r)
+by_test : (bs : List ℕ) (t : Bool) (o r : Option Piece) → (t ≡ true → Says bs o) → (t ≡ false → Says bs r)
+    → Says bs (cond t o r)
 by_test bs true o r f g = f refl
 by_test bs false o r f g = g refl
 
@@ -26,7 +27,8 @@ not_true : (a : Bool) → not a ≡ false → a ≡ true
 not_true true h = refl
 not_true false h = absurd (cc)
 
-quoted : (c : ℕ) (q b : Bool) (l : List ℕ) → (c == 39) ≡ q → b ≡ begins_with (39 ∷ []) l → (q && not b) ≡ false → (rest : List ℕ) × (c ∷ l ≡ cond q (39 ∷ 39 ∷ []) (c ∷ []) ++ rest)
+quoted : (c : ℕ) (q b : Bool) (l : List ℕ) → (c == 39) ≡ q → b ≡ begins_with (39 ∷ []) l → (q && not b) ≡ false
+    → (rest : List ℕ) × (c ∷ l ≡ cond q (39 ∷ 39 ∷ []) (c ∷ []) ++ rest)
 quoted c true b l hc hb h =
     let yes : begins_with (39 ∷ []) l ≡ true = sym hb ∙ not_true b h in
     let same : c ≡ 39 = grind (arith, nat_tests) in
@@ -36,14 +38,25 @@ quoted c false b l hc hb h = (l, refl)
 shift_says : (bs l : List ℕ) → bs ≡ codes "\\S\\" ++ l → Says bs (shift_at l)
 shift_says bs [] e = record { text = codes "\\S\\"; rest = []; split = e; directive = inl refl }
 shift_says bs (c ∷ l) e =
-    by_test bs (nat_lt c 32 || nat_lt 126 c) None _ (λ h. record { text = codes "\\S\\"; rest = c ∷ l; split = e; directive = inl refl })
-    (λ range. by_test bs (c == 39 && not (begins_with (39 ∷ []) l)) None (Some (shift c)) (λ h. record { text = codes "\\S\\"; rest = c ∷ l; split = e; directive = inl refl })
+    by_test bs (nat_lt c 32 || nat_lt 126 c) None _ (λ h. record {
+      text = codes "\\S\\";
+      rest = c ∷ l;
+      split = e;
+      directive = inl refl;
+    })
+    (λ range. by_test bs (c == 39 && not (begins_with (39 ∷ []) l)) None (Some (shift c)) (λ h. record {
+      text = codes "\\S\\";
+      rest = c ∷ l;
+      split = e;
+      directive = inl refl;
+    })
     (λ h.
     let q = quoted c (c == 39) (begins_with (39 ∷ []) l) l refl refl h in
     record {
       text = codes "\\S\\" ++ cond (c == 39) (39 ∷ 39 ∷ []) (c ∷ []);
       rest = q.0;
-      split = e ∙ ap (λ x. codes "\\S\\" ++ x) q.1 ∙ sym (append_assoc (codes "\\S\\") (cond (c == 39) (39 ∷ 39 ∷ []) (c ∷ [])) q.0);
+      split = e ∙ ap (λ x. codes "\\S\\" ++ x) q.1
+          ∙ sym (append_assoc (codes "\\S\\") (cond (c == 39) (39 ∷ 39 ∷ []) (c ∷ [])) q.0);
       spells = (low c range, high c range, refl);
       len = five (c == 39);
     }))
@@ -60,13 +73,16 @@ shift_says bs (c ∷ l) e =
 
 page_says : (bs : List ℕ) → names_page bs ≡ true → BeginsPiece bs (page (slice_index bs 2))
 page_says bs h =
-    let a = both (begins_with (codes "\\P") bs && nat_le 65 (slice_index bs 2) && nat_le (slice_index bs 2) 73) (slice_index bs 3 == 92) h in
+    let a = both (begins_with (codes "\\P") bs && nat_le 65 (slice_index bs 2) && nat_le (slice_index bs 2) 73)
+    (slice_index bs 3 == 92) h in
     let b = both (begins_with (codes "\\P") bs && nat_le 65 (slice_index bs 2)) (nat_le (slice_index bs 2) 73) a.0 in
     let c = both (begins_with (codes "\\P") bs) (nat_le 65 (slice_index bs 2)) b.0 in
     let e = begins_split (codes "\\P") bs c.0 in
-    page_of (drop 2 bs) e (subst (λ l. nat_le 65 (slice_index l 2) ≡ true) e c.1) (subst (λ l. nat_le (slice_index l 2) 73 ≡ true) e b.1) (subst (λ l. (slice_index l 3 == 92) ≡ true) e a.1)
+    page_of (drop 2 bs) e (subst (λ l. nat_le 65 (slice_index l 2) ≡ true) e c.1)
+    (subst (λ l. nat_le (slice_index l 2) 73 ≡ true) e b.1) (subst (λ l. (slice_index l 3 == 92) ≡ true) e a.1)
   where
-    page_of : (l : List ℕ) → bs ≡ codes "\\P" ++ l → nat_le 65 (get_or l 0 0) ≡ true → nat_le (get_or l 0 0) 73 ≡ true → (get_or l 1 0 == 92) ≡ true → BeginsPiece bs (page (slice_index bs 2))
+    page_of : (l : List ℕ) → bs ≡ codes "\\P" ++ l → nat_le 65 (get_or l 0 0) ≡ true → nat_le (get_or l 0 0) 73 ≡ true
+        → (get_or l 1 0 == 92) ≡ true → BeginsPiece bs (page (slice_index bs 2))
     page_of [] e low high last = absurd (grind (arith, nat_tests))
     page_of (p ∷ []) e low high last = absurd (grind (arith, nat_tests))
     page_of (p ∷ q ∷ l) e low high last =
@@ -76,7 +92,11 @@ page_says bs h =
           text = codes "\\P" ++ slice_index bs 2 ∷ 92 ∷ [];
           rest = l;
           split = e ∙ (λ i. codes "\\P" ++ sym letter i ∷ slash i ∷ l);
-          spells = ((let k : 65 ≤ p = grind (arith, nat_tests) in omega (arith, k, letter)), (let k : p ≤ 73 = grind (arith, nat_tests) in omega (arith, k, letter)), refl);
+          spells = (
+            (let k : 65 ≤ p = grind (arith, nat_tests) in omega (arith, k, letter)),
+            (let k : p ≤ 73 = grind (arith, nat_tests) in omega (arith, k, letter)),
+            refl,
+          );
           len = refl;
         }
 
@@ -92,7 +112,8 @@ take_of_take (suc n) (suc m) [] h = refl
 take_of_take (suc n) (suc m) (x ∷ l) h = ap (λ r. x ∷ r) (take_of_take n m l (omega (arith, h)))
 
 pub each_first : (n : ℕ) (l : List ℕ) → n ≤ prefix_len is_hex l → Each is_hex (take n l)
-each_first n l h = subst (Each is_hex) (take_of_take n (prefix_len is_hex l) l h) (each_take n (take (prefix_len is_hex l) l) (run_at_prefix is_hex l).passes)
+each_first n l h = subst (Each is_hex) (take_of_take n (prefix_len is_hex l) l h)
+    (each_take n (take (prefix_len is_hex l) l) (run_at_prefix is_hex l).passes)
 
 code_says : (bs l : List ℕ) → bs ≡ codes "\\X\\" ++ l → Says bs (code_at l)
 code_says bs l e =
@@ -103,15 +124,18 @@ code_says bs l e =
     record {
       text = codes "\\X\\" ++ take 2 l;
       rest = drop 2 l;
-      split = e ∙ ap (λ x. codes "\\X\\" ++ x) (sym (take-append-drop 2 l)) ∙ sym (append_assoc (codes "\\X\\") (take 2 l) (drop 2 l));
+      split = e ∙ ap (λ x. codes "\\X\\" ++ x) (sym (take-append-drop 2 l))
+          ∙ sym (append_assoc (codes "\\X\\") (take 2 l) (drop 2 l));
       spells = (each_first 2 l two, ds, refl);
       len = omega (arith, ds, length-append (codes "\\X\\") (take 2 l));
     })
     (λ h. record { text = codes "\\X\\"; rest = l; split = e; directive = inr (inl refl) })
 
-groups_says : (bs l opening : List ℕ) (w : ℕ) → bs ≡ opening ++ l → length opening ≡ 4 → ((w ≡ 4) × (opening ≡ codes "\\X2\\")) ⊎ ((w ≡ 8) × (opening ≡ codes "\\X4\\")) → Says bs (groups_at w l)
+groups_says : (bs l opening : List ℕ) (w : ℕ) → bs ≡ opening ++ l → length opening ≡ 4
+    → ((w ≡ 4) × (opening ≡ codes "\\X2\\")) ⊎ ((w ≡ 8) × (opening ≡ codes "\\X4\\")) → Says bs (groups_at w l)
 groups_says bs l opening w e four width =
-    by_test bs ((prefix_len is_hex l % w == 0) && begins_with (codes "\\X0\\") (drop (prefix_len is_hex l) l)) (Some (groups w (take (prefix_len is_hex l) l))) None
+    by_test bs ((prefix_len is_hex l % w == 0) && begins_with (codes "\\X0\\") (drop (prefix_len is_hex l) l))
+    (Some (groups w (take (prefix_len is_hex l) l))) None
     (λ h.
     let n = prefix_len is_hex l in
     let ds = take n l in
@@ -124,7 +148,9 @@ groups_says bs l opening w e four width =
       text = opening ++ ds ++ codes "\\X0\\";
       rest = back;
       split =
-          e ∙ ap (λ x. opening ++ x) (sym (take-append-drop n l) ∙ ap (λ x. ds ++ x) end) ∙ sym (append_assoc opening ds (codes "\\X0\\" ++ back)) ∙ sym (append_assoc (opening ++ ds) (codes "\\X0\\") back);
+          e ∙ ap (λ x. opening ++ x) (sym (take-append-drop n l) ∙ ap (λ x. ds ++ x) end)
+          ∙ sym (append_assoc opening ds (codes "\\X0\\" ++ back))
+          ∙ sym (append_assoc (opening ++ ds) (codes "\\X0\\") back);
       spells = ((run_at_prefix is_hex l).passes, ap (λ k. k % w) len ∙ modulo, spelled width ds);
       len = omega (arith, four, length-append (opening ++ ds) (codes "\\X0\\"), length-append opening ds);
     })
@@ -134,31 +160,66 @@ groups_says bs l opening w e four width =
     zero_is k h = grind (arith, nat_tests)
 
     spelled : ((w ≡ 4) × (opening ≡ codes "\\X2\\")) ⊎ ((w ≡ 8) × (opening ≡ codes "\\X4\\")) → (ds : List ℕ)
-        → ((w ≡ 4) × (opening ++ ds ++ codes "\\X0\\" ≡ codes "\\X2\\" ++ ds ++ codes "\\X0\\")) ⊎ ((w ≡ 8) × (opening ++ ds ++ codes "\\X0\\" ≡ codes "\\X4\\" ++ ds ++ codes "\\X0\\"))
+        → ((w ≡ 4) × (opening ++ ds ++ codes "\\X0\\" ≡ codes "\\X2\\" ++ ds ++ codes "\\X0\\"))
+        ⊎ ((w ≡ 8) × (opening ++ ds ++ codes "\\X0\\" ≡ codes "\\X4\\" ++ ds ++ codes "\\X0\\"))
     spelled (inl h) ds = inl (h.0, ap (λ x. x ++ ds ++ codes "\\X0\\") h.1)
     spelled (inr h) ds = inr (h.0, ap (λ x. x ++ ds ++ codes "\\X0\\") h.1)
 
-    opens : ((w ≡ 4) × (opening ≡ codes "\\X2\\")) ⊎ ((w ≡ 8) × (opening ≡ codes "\\X4\\")) → (opening ≡ codes "\\S\\") ⊎ (opening ≡ codes "\\X\\") ⊎ (opening ≡ codes "\\X2\\") ⊎ (opening ≡ codes "\\X4\\")
+    opens : ((w ≡ 4) × (opening ≡ codes "\\X2\\")) ⊎ ((w ≡ 8) × (opening ≡ codes "\\X4\\")) → (opening ≡ codes "\\S\\")
+        ⊎ (opening ≡ codes "\\X\\") ⊎ (opening ≡ codes "\\X2\\") ⊎ (opening ≡ codes "\\X4\\")
     opens (inl h) = inr (inr (inl h.1))
     opens (inr h) = inr (inr (inr h.1))
 
-other_says : (b : ℕ) (bs : List ℕ) → Says (b ∷ bs) (cond (is_high b) (Some (run (take (prefix_len is_high (b ∷ bs)) (b ∷ bs)))) (Some (byte b)))
+other_says : (b : ℕ) (bs : List ℕ) → Says (b ∷ bs)
+    (cond (is_high b) (Some (run (take (prefix_len is_high (b ∷ bs)) (b ∷ bs)))) (Some (byte b)))
 other_says b bs =
     let all = b ∷ bs in let n = prefix_len is_high all in
     by_test all (is_high b) (Some (run (take n all))) (Some (byte b))
-    (λ h. record { text = take n all; rest = drop n all; split = sym (take-append-drop n all); spells = ((run_at_prefix is_high all).passes, refl); len = refl })
-    (λ h. record { text = b ∷ []; rest = bs; split = refl; spells = ((let k : b < 128 = grind (arith, nat_tests) in k), refl); len = refl })
+    (λ h. record {
+      text = take n all;
+      rest = drop n all;
+      split = sym (take-append-drop n all);
+      spells = ((run_at_prefix is_high all).passes, refl);
+      len = refl;
+    })
+    (λ h. record {
+      text = b ∷ [];
+      rest = bs;
+      split = refl;
+      spells = ((let k : b < 128 = grind (arith, nat_tests) in k), refl);
+      len = refl;
+    })
 
 piece_says : (b : ℕ) (bs : List ℕ) → Says (b ∷ bs) (piece_at (b ∷ bs))
 piece_says b bs =
     let all = b ∷ bs in
-    by_test all (begins_with (codes "''") all) (Some apostrophe) _ (λ h. record { text = codes "''"; rest = drop 2 all; split = begins_split (codes "''") all h; spells = refl; len = refl }) (λ _.
-    by_test all (begins_with (codes "\\\\") all) (Some backslash) _ (λ h. record { text = codes "\\\\"; rest = drop 2 all; split = begins_split (codes "\\\\") all h; spells = refl; len = refl }) (λ _.
-    by_test all (begins_with (codes "\\S\\") all) (shift_at (drop 3 all)) _ (λ h. shift_says all (drop 3 all) (begins_split (codes "\\S\\") all h)) (λ _.
+    by_test all (begins_with (codes "''") all) (Some apostrophe) _ (λ h. record {
+      text = codes "''";
+      rest = drop 2 all;
+      split = begins_split (codes "''") all h;
+      spells = refl;
+      len = refl;
+    })
+    (λ _.
+    by_test all (begins_with (codes "\\\\") all) (Some backslash) _ (λ h. record {
+      text = codes "\\\\";
+      rest = drop 2 all;
+      split = begins_split (codes "\\\\") all h;
+      spells = refl;
+      len = refl;
+    })
+    (λ _.
+    by_test all (begins_with (codes "\\S\\") all) (shift_at (drop 3 all)) _
+    (λ h. shift_says all (drop 3 all) (begins_split (codes "\\S\\") all h)) (λ _.
     by_test all (names_page all) (Some (page (slice_index all 2))) _ (λ h. page_says all h) (λ _.
-    by_test all (begins_with (codes "\\X\\") all) (code_at (drop 3 all)) _ (λ h. code_says all (drop 3 all) (begins_split (codes "\\X\\") all h)) (λ _.
-    by_test all (begins_with (codes "\\X2\\") all) (groups_at 4 (drop 4 all)) _ (λ h. groups_says all (drop 4 all) (codes "\\X2\\") 4 (begins_split (codes "\\X2\\") all h) refl (inl (refl, refl))) (λ _.
-    by_test all (begins_with (codes "\\X4\\") all) (groups_at 8 (drop 4 all)) _ (λ h. groups_says all (drop 4 all) (codes "\\X4\\") 8 (begins_split (codes "\\X4\\") all h) refl (inr (refl, refl))) (λ _.
+    by_test all (begins_with (codes "\\X\\") all) (code_at (drop 3 all)) _
+    (λ h. code_says all (drop 3 all) (begins_split (codes "\\X\\") all h)) (λ _.
+    by_test all (begins_with (codes "\\X2\\") all) (groups_at 4 (drop 4 all)) _
+    (λ h. groups_says all (drop 4 all) (codes "\\X2\\") 4 (begins_split (codes "\\X2\\") all h) refl
+    (inl (refl, refl))) (λ _.
+    by_test all (begins_with (codes "\\X4\\") all) (groups_at 8 (drop 4 all)) _
+    (λ h. groups_says all (drop 4 all) (codes "\\X4\\") 8 (begins_split (codes "\\X4\\") all h) refl
+    (inr (refl, refl))) (λ _.
     other_says b bs)))))))
 
 found : (bs : List ℕ) (p : Piece) (o : Option Piece) → o ≡ Some p → Says bs o → BeginsPiece bs p

@@ -11,7 +11,8 @@ pub record IsRun (p : ℕ → Bool) (front back : List ℕ) : Type 0 where
   pub stops : Stops p back
 
 -- two splits of a list after a run are one
-pub cut_unique : (p : ℕ → Bool) (xs ys r s : List ℕ) → Each p xs → Each p ys → Stops p r → Stops p s → xs ++ r ≡ ys ++ s → (xs ≡ ys) × (r ≡ s)
+pub cut_unique : (p : ℕ → Bool) (xs ys r s : List ℕ) → Each p xs → Each p ys → Stops p r → Stops p s → xs ++ r ≡ ys ++ s
+    → (xs ≡ ys) × (r ≡ s)
 cut_unique p [] [] r s hx hy hr hs e = (refl, e)
 cut_unique p [] (y ∷ ys) [] s hx hy hr hs e = absurd (cc)
 cut_unique p [] (y ∷ ys) (b ∷ r) s hx hy hr hs e = let h : b ≡ y = cc in absurd (false≢true (sym hr ∙ ap p h ∙ hy.0))
@@ -28,7 +29,8 @@ run_fits p (x ∷ xs) [] r (b ∷ s) hx hs e = let h : b ≡ x = cc in absurd (f
 run_fits p (x ∷ xs) (y ∷ ys) r s hx hs e =
     let t : xs ++ r ≡ ys ++ s = cc in omega (arith, run_fits p xs ys r s hx.1 hs t)
 
-run_cons : (p : ℕ → Bool) (x : ℕ) (xs : List ℕ) (b : Bool) → p x ≡ b → IsRun p (take (prefix_len p xs) xs) (drop (prefix_len p xs) xs)
+run_cons : (p : ℕ → Bool) (x : ℕ) (xs : List ℕ) (b : Bool) → p x ≡ b → IsRun p (take (prefix_len p xs) xs)
+    (drop (prefix_len p xs) xs)
     → IsRun p (take (cond b (1 + prefix_len p xs) 0) (x ∷ xs)) (drop (cond b (1 + prefix_len p xs) 0) (x ∷ xs))
 run_cons p x xs true e h = rw one-add (record { passes = (e, h.passes); stops = h.stops })
 run_cons p x xs false e h = record { passes = tt; stops = e }
@@ -43,7 +45,8 @@ stops_at [] p h = tt
 stops_at (x ∷ xs) p h = h (omega arith)
 
 -- a list with a front of n elements
-pub front_back : (l t after : List ℕ) (n : ℕ) → l ≡ t ++ after → n ≡ length t → (n ≤ length l) × (take n l ≡ t) × (drop n l ≡ after)
+pub front_back : (l t after : List ℕ) (n : ℕ) → l ≡ t ++ after → n ≡ length t → (n ≤ length l) × (take n l ≡ t)
+    × (drop n l ≡ after)
 front_back l t after n e len = (
   omega (arith, ap length e, length-append t after, len),
   (λ i. take (len i) (e i)) ∙ take-append_seam t after,
@@ -55,21 +58,27 @@ each_at p [] k h lt = absurd (omega arith)
 each_at p (x ∷ xs) zero h lt = h.0
 each_at p (x ∷ xs) (suc k) h lt = each_at p xs k h.1 (omega arith)
 
-prefix_one : (p : ℕ → Bool) (xs ys : List ℕ) (t : Bool) → (prefix_len p xs < length xs → prefix_len p (xs ++ ys) ≡ prefix_len p xs) → cond t (1 + prefix_len p xs) 0 < suc (length xs)
+prefix_one : (p : ℕ → Bool) (xs ys : List ℕ) (t : Bool)
+    → (prefix_len p xs < length xs → prefix_len p (xs ++ ys) ≡ prefix_len p xs) → cond t (1 + prefix_len p xs) 0 < suc
+    (length xs)
     → cond t (1 + prefix_len p (xs ++ ys)) 0 ≡ cond t (1 + prefix_len p xs) 0
 prefix_one p xs ys true ih h = ap (λ n. 1 + n) (ih (omega (arith, h)))
 prefix_one p xs ys false ih h = refl
 
-pub prefix_front : (p : ℕ → Bool) (xs ys : List ℕ) → prefix_len p xs < length xs → prefix_len p (xs ++ ys) ≡ prefix_len p xs
+pub prefix_front : (p : ℕ → Bool) (xs ys : List ℕ) → prefix_len p xs < length xs → prefix_len p (xs ++ ys) ≡ prefix_len
+    p xs
 prefix_front p [] ys h = absurd (omega (arith, h))
 prefix_front p (x ∷ xs) ys h = prefix_one p xs ys (p x) (λ lt. prefix_front p xs ys lt) h
 
-prefix_two : (p : ℕ → Bool) (xs ys : List ℕ) (t : Bool) → (length xs ≤ prefix_len p xs → prefix_len p (xs ++ ys) ≡ prefix_len p xs + prefix_len p ys) → suc (length xs) ≤ cond t (1 + prefix_len p xs) 0
+prefix_two : (p : ℕ → Bool) (xs ys : List ℕ) (t : Bool)
+    → (length xs ≤ prefix_len p xs → prefix_len p (xs ++ ys) ≡ prefix_len p xs + prefix_len p ys)
+    → suc (length xs) ≤ cond t (1 + prefix_len p xs) 0
     → cond t (1 + prefix_len p (xs ++ ys)) 0 ≡ cond t (1 + prefix_len p xs) 0 + prefix_len p ys
 prefix_two p xs ys true ih h = omega (arith, ih (omega (arith, h)))
 prefix_two p xs ys false ih h = absurd (omega (arith, h))
 
-pub prefix_all : (p : ℕ → Bool) (xs ys : List ℕ) → length xs ≤ prefix_len p xs → prefix_len p (xs ++ ys) ≡ prefix_len p xs + prefix_len p ys
+pub prefix_all : (p : ℕ → Bool) (xs ys : List ℕ) → length xs ≤ prefix_len p xs → prefix_len p (xs ++ ys) ≡ prefix_len p
+    xs + prefix_len p ys
 prefix_all p [] ys h = omega arith
 prefix_all p (x ∷ xs) ys h = prefix_two p xs ys (p x) (λ lt. prefix_all p xs ys lt) h
 

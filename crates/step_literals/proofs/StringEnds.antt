@@ -18,11 +18,13 @@ behind_byte : (b : ℕ) (bs : List ℕ) → (b == 39) ≡ false → Ended bs ⊎
 behind_byte b bs h (inl e) = inl (b ∷ e.0, e.1, rw h (ap (λ l. b ∷ l) e.2), e.3)
 behind_byte b bs h (inr e) = inr (b ∷ e.0, e.1, rw h (ap (λ l. b ∷ l) e.2), e.3)
 
-behind_pair : (b c : ℕ) (bs : List ℕ) → b ≡ 39 → c ≡ 39 → Ended bs ⊎ Unended bs → Ended (b ∷ c ∷ bs) ⊎ Unended (b ∷ c ∷ bs)
+behind_pair : (b c : ℕ) (bs : List ℕ) → b ≡ 39 → c ≡ 39 → Ended bs ⊎ Unended bs → Ended (b ∷ c ∷ bs)
+    ⊎ Unended (b ∷ c ∷ bs)
 behind_pair b c bs h g (inl e) = inl (39 ∷ e.0, e.1, (λ i. h i ∷ g i ∷ e.2 i), e.3)
 behind_pair b c bs h g (inr e) = inr (39 ∷ e.0, e.1, (λ i. h i ∷ g i ∷ e.2 i), e.3)
 
-at_apostrophe : (b : ℕ) (bs : List ℕ) → b ≡ 39 → ((l : List ℕ) → length l ≤ length bs → Ended l ⊎ Unended l) → Ended (b ∷ bs) ⊎ Unended (b ∷ bs)
+at_apostrophe : (b : ℕ) (bs : List ℕ) → b ≡ 39 → ((l : List ℕ) → length l ≤ length bs → Ended l ⊎ Unended l)
+    → Ended (b ∷ bs) ⊎ Unended (b ∷ bs)
 at_apostrophe b [] h more = inl ([], [], (λ i. h i ∷ []), tt)
 at_apostrophe b (c ∷ cs) h more = by (cases_Bool (c == 39))
   where
@@ -30,7 +32,8 @@ at_apostrophe b (c ∷ cs) h more = by (cases_Bool (c == 39))
     by (inl q) = behind_pair b c cs h (eqb-true c 39 q) (more cs (omega arith))
     by (inr q) = inl ([], c ∷ cs, (λ i. h i ∷ c ∷ cs), q)
 
-at_byte : (b : ℕ) (bs : List ℕ) → ((b == 39) ≡ true) ⊎ ((b == 39) ≡ false) → ((l : List ℕ) → length l ≤ length bs → Ended l ⊎ Unended l) → Ended (b ∷ bs) ⊎ Unended (b ∷ bs)
+at_byte : (b : ℕ) (bs : List ℕ) → ((b == 39) ≡ true) ⊎ ((b == 39) ≡ false)
+    → ((l : List ℕ) → length l ≤ length bs → Ended l ⊎ Unended l) → Ended (b ∷ bs) ⊎ Unended (b ∷ bs)
 at_byte b bs (inl q) more = at_apostrophe b bs (eqb-true b 39 q) more
 at_byte b bs (inr q) more = behind_byte b bs q (more bs (omega arith))
 

@@ -77,17 +77,26 @@ small_letters : AreRead (clean (codes "\\x\\\\s\\")) (byte 92 ∷ byte 120 ∷ b
 small_letters = (refl, (refl, (refl, (refl, (refl, refl)))))
 
 -- `C:\temp`: a backslash that begins no directive is itself
-path : AreRead (clean (codes "C:\\temp")) (byte 67 ∷ byte 58 ∷ byte 92 ∷ byte 116 ∷ byte 101 ∷ byte 109 ∷ byte 112 ∷ []) []
+path : AreRead (clean (codes "C:\\temp")) (byte 67 ∷ byte 58 ∷ byte 92 ∷ byte 116 ∷ byte 101 ∷ byte 109 ∷ byte 112 ∷ [])
+    []
 path = (refl, (refl, (refl, (refl, (refl, (refl, (refl, refl)))))))
 
 -- bytes beyond ASCII are taken in one run
-high_run : AreRead (clean (97 ∷ 195 ∷ 169 ∷ 226 ∷ 130 ∷ 172 ∷ 98 ∷ [])) (byte 97 ∷ run (195 ∷ 169 ∷ 226 ∷ 130 ∷ 172 ∷ []) ∷ byte 98 ∷ []) []
+high_run : AreRead (clean (97 ∷ 195 ∷ 169 ∷ 226 ∷ 130 ∷ 172 ∷ 98 ∷ []))
+    (byte 97 ∷ run (195 ∷ 169 ∷ 226 ∷ 130 ∷ 172 ∷ []) ∷ byte 98 ∷ []) []
 high_run = (refl, (refl, (refl, refl)))
 
 -- a line break anywhere changes nothing: `\X` and `2\00` and `E9\X0\` on three lines
-broken_lines : AreRead (clean (92 ∷ 88 ∷ 10 ∷ 50 ∷ 92 ∷ 48 ∷ 48 ∷ 13 ∷ 10 ∷ codes "E9\\X0\\")) (groups 4 (codes "00E9") ∷ []) []
+broken_lines : AreRead (clean (92 ∷ 88 ∷ 10 ∷ 50 ∷ 92 ∷ 48 ∷ 48 ∷ 13 ∷ 10 ∷ codes "E9\\X0\\")) (groups 4 (codes "00E9")
+    ∷ []) []
 broken_lines = (refl, refl)
 
 -- the first directive that is not completed is the second: `a\X\E9\X\E`
 first_broken : IsBrokenAt (codes "a\\X\\E9\\X\\E") 6
-first_broken = record { within = lit< tt; backslash_there = refl; pieces = byte 97 ∷ code (codes "E9") ∷ []; read = (refl, (refl, refl)); broken = refl }
+first_broken = record {
+  within = lit< tt;
+  backslash_there = refl;
+  pieces = byte 97 ∷ code (codes "E9") ∷ [];
+  read = (refl, (refl, refl));
+  broken = refl;
+}

@@ -51,7 +51,8 @@ unfolding digit_bits
 one_first = refl
 
 -- `"092A"`: twelve bits
-twelve_bits : bits_of (codes "\"092A\"") ≡ true ∷ false ∷ false ∷ true ∷ false ∷ false ∷ true ∷ false ∷ true ∷ false ∷ true ∷ false ∷ []
+twelve_bits : bits_of (codes "\"092A\"") ≡ true ∷ false ∷ false ∷ true ∷ false ∷ false ∷ true ∷ false ∷ true ∷ false
+    ∷ true ∷ false ∷ []
 unfolding digit_bits
 twelve_bits = refl
 

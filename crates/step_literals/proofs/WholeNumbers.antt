@@ -29,11 +29,13 @@ starts t (inl h) = begins_number h.0 h.1 [] t h.2 h.3 (ap (λ l. h.0 ++ l) (appe
 starts t (inr h) = begins_number h.0 h.1 (46 ∷ (h.2 ++ h.3)) t h.4 h.5 ((simp append_assoc) ∙ sym h.8)
 
 -- bytes that don't begin as a number does are none
-pub no_start : (t : List ℕ) → (0 < length t → (is_digit (get_or t 0 0) || is_sign (get_or t 0 0)) ≡ false) → IsNumber t → ⊥
+pub no_start : (t : List ℕ) → (0 < length t → (is_digit (get_or t 0 0) || is_sign (get_or t 0 0)) ≡ false) → IsNumber t
+    → ⊥
 no_start [] h n = starts [] n
 no_start (b ∷ bs) h n = false≢true (sym (h (omega arith)) ∙ starts (b ∷ bs) n)
 
-spelled_next : (t l after : List ℕ) (b : Bool) → IsNext (cond b real integer) l after → l ++ after ≡ t → IsNumber t → length t ≤ length l
+spelled_next : (t l after : List ℕ) (b : Bool) → IsNext (cond b real integer) l after → l ++ after ≡ t → IsNumber t
+    → length t ≤ length l
 spelled_next t l after b h e (inl n) = h.longest integer t [] (append-nil t ∙ sym e) n
 spelled_next t l after b h e (inr n) = h.longest real t [] (append-nil t ∙ sym e) n
 
@@ -42,10 +44,18 @@ none_number t none (inl n) = none integer t [] (sym (append-nil t)) n
 none_number t none (inr n) = none real t [] (sym (append-nil t)) n
 
 -- a number at the front is all of the bytes where it is as long
-pub whole_number : (t : List ℕ) (n : ℕ) (b : Bool) → n ≤ length t → IsNext (cond b real integer) (take n t) (drop n t) → n ≡ length t → IsNumber t
+pub whole_number : (t : List ℕ) (n : ℕ) (b : Bool) → n ≤ length t → IsNext (cond b real integer) (take n t) (drop n t)
+    → n ≡ length t → IsNumber t
 whole_number t n b within h e =
-    let same : take n t ≡ t = (λ i. take (e i) t) ∙ (let c = front_back t t [] (length t) (sym (append-nil t)) refl in c.1) in
+    let same : take n t ≡ t = (λ i. take (e i) t) ∙ (let c = front_back t t [] (length t) (sym (append-nil t)) refl in
+    c.1) in
     subst IsNumber same (number_is b (take n t) (drop n t) h)
 
-pub number_whole : (t : List ℕ) (n : ℕ) (b : Bool) → n ≤ length t → IsNext (cond b real integer) (take n t) (drop n t) → IsNumber t → n ≡ length t
-number_whole t n b within h num = omega (arith, spelled_next t (take n t) (drop n t) b h (take-append-drop n t) num, length-take n t, within)
+pub number_whole : (t : List ℕ) (n : ℕ) (b : Bool) → n ≤ length t → IsNext (cond b real integer) (take n t) (drop n t)
+    → IsNumber t → n ≡ length t
+number_whole t n b within h num = omega (
+  arith,
+  spelled_next t (take n t) (drop n t) b h (take-append-drop n t) num,
+  length-take n t,
+  within,
+)

@@ -1,7 +1,8 @@
 -- The value of a binary: its bits (ISO 10303-21, 6.4.6).
-use Rattle.std.specs.Prelude.{ℕ, ◌-◌, ◌/◌, ◌%◌, ◌^◌, ◌==◌, Bool, List, [], ◌∷◌, length, drop, map, slice_index, slice_range}
+use Rattle.std.specs.Prelude.{ℕ, ◌-◌, ◌/◌, ◌%◌, ◌^◌, ◌==◌, Bool, List, [], ◌∷◌, ◌++◌, length, drop, map, slice_index, slice_range}
 use Rattle.std.specs.List.{flat_map}
 use Rattle.std.specs.Char.{digit_value}
+use Rattle.std.specs.Hash as fed
 
 -- the bit of a hexadecimal digit at a place from 0 to 3, the greatest at 0
 abbrev pub digit_bit : ℕ → ℕ → Bool
@@ -22,3 +23,7 @@ hex_digits t = slice_range t 2 (length t - 1)
 -- the bits of a binary, as it is spelt
 abbrev pub bits_of : List ℕ → List Bool
 bits_of t = drop (unused_bits t) (flat_map digit_bits (hex_digits t))
+
+-- what a hasher is fed: each bit as a byte, and then a byte that is none
+abbrev pub fed_bits : List Bool → fed.HashWrites
+fed_bits bits = flat_map fed.bool bits ++ fed.u8 255

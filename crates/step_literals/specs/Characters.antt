@@ -1,7 +1,8 @@
 -- What stands at the front of a clean string: a run, a character in UTF-8.
-use Rattle.std.specs.Prelude.{◌≡◌, ◌≤◌, ℕ, List, ◌++◌, take}
+use Rattle.std.specs.Prelude.{◌≡◌, ◌≤◌, ◌<◌, ℕ, List, ◌++◌, length, take, drop}
 use Rattle.std.specs.Char.{IsScalar, encode_utf8}
 use Rattle.std.specs.List.{prefix_len}
+use Rattle.std.specs.Str.{IsUtf8}
 use Rattle.step_literals.specs.Bytes.{is_hex}
 use Rattle.step_literals.specs.Strings.{is_high}
 
@@ -13,10 +14,24 @@ high_run bs = take (prefix_len is_high bs) bs
 abbrev pub hex_run : List ℕ → List ℕ
 hex_run bs = take (prefix_len is_hex bs) bs
 
+-- those of a number at the front, of so many at most, and what follows them
+abbrev pub number_digits : ℕ → List ℕ → List ℕ
+number_digits width bs = take width (hex_run bs)
+
+abbrev pub behind_number : ℕ → List ℕ → List ℕ
+behind_number width bs = drop (length (number_digits width bs)) bs
+
+-- no front of the bytes that is longer than this one is UTF-8
+abbrev pub IsLongestUtf8 : List ℕ → List ℕ → Type 0
+IsLongestUtf8 bs front = (m : ℕ) → length front < m → m ≤ length bs → IsUtf8 (take m bs) → ⊥
+
 -- the bytes begin with this character in UTF-8
 pub record BeginsCharacter (bs : List ℕ) (c : ℕ) (rest : List ℕ) : Type 0 where
   pub scalar_is : IsScalar c
   pub split : bs ≡ encode_utf8 c ++ rest
+
+abbrev pub IsFirstCharacter : List ℕ → ℕ → Type 0
+IsFirstCharacter bs c = (rest : List ℕ) × BeginsCharacter bs c rest
 
 abbrev pub BeginsNone : List ℕ → Type 0
 BeginsNone bs = (c : ℕ) (rest : List ℕ) → BeginsCharacter bs c rest → ⊥

@@ -28,13 +28,18 @@ is_negative (b ∷ bs) = b == 45
 abbrev pub signed : Bool → ℕ → ℤ
 signed negative n = if negative then neg_ℤ (pos n) else pos n
 
+-- the whole number that digits write behind a sign
+abbrev pub signed_value : List ℕ → List ℕ → ℤ
+signed_value sign ds = signed (is_negative sign) (digits_value 10 ds)
+
 -- m: the whole number that the digits before the exponent write, with its sign
 abbrev pub mantissa : List ℕ → ℤ
 mantissa t = signed (is_negative t) (digits_value 10 (mantissa_digits t))
 
 -- e: the written exponent, 0 where none is written, less the number of digits behind the point
 abbrev pub exponent : List ℕ → ℤ
-exponent t = signed (is_negative (exponent_text t)) (digits_value 10 (exponent_digits t)) -ℤ pos (length (part_digits t))
+exponent t = signed (is_negative (exponent_text t)) (digits_value 10 (exponent_digits t)) -ℤ pos
+    (length (part_digits t))
 
 -- 10 ^ e, for an e that isn't negative
 abbrev pub ten_to : ℤ → ℤ

@@ -1,12 +1,21 @@
 -- How the content of a string is passed over, a piece at a time.
-use Rattle.std.specs.Prelude.{◌≡◌, ℕ, ◌+◌, List, ◌++◌, drop, Option, Some}
-use Rattle.step_literals.specs.Strings.{Piece, clean, piece_len}
+use Rattle.std.specs.Prelude.{◌≡◌, ℕ, ◌+◌, ◌-◌, true, List, ◌++◌, length, drop, slice_index, Option, Some}
+use Rattle.step_literals.specs.Strings.{Piece, clean, begins_with, names_page, piece_len}
 
 -- after is what is left of before once the first n of its bytes from 32 up are passed
 pub record Skips (n : ℕ) (before after : List ℕ) : Type 0 where
   pub passed : List ℕ
   pub split : before ≡ passed ++ after
   pub left : clean after ≡ drop n (clean before)
+
+-- this text stands at the front, and after is what follows it
+abbrev pub Strips : List ℕ → List ℕ → List ℕ → Type 0
+Strips text before after = (begins_with text (clean before) ≡ true) × Skips (length text) before after
+
+-- `\PA\` to `\PI\` stands at the front and names this page, 1 for A, and after is what follows it
+abbrev pub StripsPage : List ℕ → ℕ → List ℕ → Type 0
+StripsPage before page after = (names_page (clean before) ≡ true) × (page ≡ slice_index (clean before) 2 - 64)
+    × Skips 4 before after
 
 -- a row of the table has a piece there, of which `begun` bytes come before, and after is what follows it
 pub record Completes (row : Option Piece) (begun : ℕ) (before after : List ℕ) : Type 0 where

@@ -15,7 +15,8 @@ shift_item p c = if p == 1 then Code (c + 128) else Page p (c + 128)
 abbrev pub group_items_within : ℕ → ℕ → List ℕ → List Item
 group_items_within n w [] = []
 group_items_within zero w (d ∷ ds) = []
-group_items_within (suc n) w (d ∷ ds) = Code (digits_value 16 (take w (d ∷ ds))) ∷ group_items_within n w (drop w (d ∷ ds))
+group_items_within (suc n) w (d ∷ ds) = Code (digits_value 16 (take w (d ∷ ds)))
+    ∷ group_items_within n w (drop w (d ∷ ds))
 
 abbrev pub group_items : ℕ → List ℕ → List Item
 group_items w ds = group_items_within (length ds) w ds
@@ -59,4 +60,5 @@ text_items t = string_items t.text.now
 
 -- a string that can be read says what its pieces say, under page A at first
 abbrev pub StringsSayTheirPieces : Type 0
-StringsSayTheirPieces = (t : List ℕ) (ps : List Piece) → AreRead (clean (content_of t)) ps [] → string_items t ≡ items_of 1 ps
+StringsSayTheirPieces = (t : List ℕ) (ps : List Piece) → AreRead (clean (content_of t)) ps []
+    → string_items t ≡ items_of 1 ps

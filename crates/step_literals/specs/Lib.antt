@@ -13,11 +13,13 @@ pub mod Faults
 pub mod Words
 pub mod Bits
 pub mod BitsLeft
-pub mod BitLists
 pub mod Values
 pub mod Decimals
 pub mod DigitStrings
 pub mod Digits
-pub mod Magnitudes
-pub mod NormalForms
 pub mod DecimalKeys
+pub mod ItemKeyLemmas
+pub mod BitListLemmas
+pub mod MagnitudeLemmas
+pub mod NormalFormLemmas
+pub mod DecimalKeyLemmas

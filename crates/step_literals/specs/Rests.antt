@@ -44,6 +44,13 @@ left_items i page bs = inner_items i bs ++ clean_items page (behind i bs)
 abbrev pub rest_items : Rest → List Item
 rest_items r = left_items r.inside r.page (clean r.bytes.now)
 
+-- the bytes that are left, and the characters of what is left before a piece
+abbrev pub bytes_left : Rest → List ℕ
+bytes_left r = clean r.bytes.now
+
+abbrev pub page_items : Rest → List Item
+page_items r = clean_items r.page (bytes_left r)
+
 abbrev pub items_left : Items → List Item
 items_left s = rest_items s.rest
 

@@ -56,7 +56,8 @@ groups_at w bs =
 
 -- `\PA\` to `\PI\`
 abbrev pub names_page : List ℕ → Bool
-names_page bs = begins_with (codes "\\P") bs && nat_le 65 (slice_index bs 2) && nat_le (slice_index bs 2) 73 && slice_index bs 3 == 92
+names_page bs = begins_with (codes "\\P") bs && nat_le 65 (slice_index bs 2) && nat_le (slice_index bs 2) 73 &&
+    slice_index bs 3 == 92
 
 -- The table: what stands at the front of a clean string that isn't empty. None where one of the
 -- directives is begun and not completed. Any other backslash stands for itself.
@@ -92,7 +93,9 @@ SpellsPiece backslash t = t ≡ codes "\\\\"
 SpellsPiece (shift c) t = (32 ≤ c) × (c ≤ 126) × (t ≡ codes "\\S\\" ++ (if c == 39 then 39 ∷ 39 ∷ [] else c ∷ []))
 SpellsPiece (page p) t = (65 ≤ p) × (p ≤ 73) × (t ≡ codes "\\P" ++ p ∷ 92 ∷ [])
 SpellsPiece (code ds) t = Each is_hex ds × (length ds ≡ 2) × (t ≡ codes "\\X\\" ++ ds)
-SpellsPiece (groups w ds) t = Each is_hex ds × (length ds % w ≡ 0) × (((w ≡ 4) × (t ≡ codes "\\X2\\" ++ ds ++ codes "\\X0\\")) ⊎ ((w ≡ 8) × (t ≡ codes "\\X4\\" ++ ds ++ codes "\\X0\\")))
+SpellsPiece (groups w ds) t = Each is_hex ds × (length ds % w ≡ 0)
+    × (((w ≡ 4) × (t ≡ codes "\\X2\\" ++ ds ++ codes "\\X0\\"))
+    ⊎ ((w ≡ 8) × (t ≡ codes "\\X4\\" ++ ds ++ codes "\\X0\\")))
 SpellsPiece (run bs) t = Each is_high bs × (t ≡ bs)
 SpellsPiece (byte b) t = (b < 128) × (t ≡ b ∷ [])
 

@@ -1,6 +1,6 @@
 -- The table of tokens of the exchange structure (ISO 10303-21, 5.2 and 6), and which token stands at
 -- the front of a text.
-use Rattle.std.specs.Prelude.{◌≡◌, ℕ, ◌<◌, ◌≤◌, Bool, true, ◌==◌, ◌||◌, List, [], ◌∷◌, ◌++◌, length, map, codes, if◌then◌else◌}
+use Rattle.std.specs.Prelude.{◌≡◌, ℕ, ◌<◌, ◌≤◌, Bool, true, ◌==◌, ◌||◌, List, [], ◌∷◌, ◌++◌, length, take, drop, map, codes, if◌then◌else◌}
 use Rattle.std.specs.Char.{to_ascii_lowercase}
 use Rattle.step_literals.specs.Bytes.{is_digit, is_letter, is_word_byte, is_hex, Each, Stops}
 
@@ -49,22 +49,22 @@ abbrev pub is_mark : ℕ → Bool
 is_mark b = b == 40 || b == 41 || b == 44 || b == 59 || b == 61 || b == 36 || b == 42
 
 -- the rows of the table
-pub data Kind : Type 0 where
-  begins : Kind
-  ends : Kind
-  keyword : Kind
-  user_defined : Kind
-  scope : Kind
-  name : Kind
-  integer : Kind
-  real : Kind
-  element : Kind
-  string : Kind
-  binary : Kind
-  mark : Kind
+pub data TokenKind : Type 0 where
+  begins : TokenKind
+  ends : TokenKind
+  keyword : TokenKind
+  user_defined : TokenKind
+  scope : TokenKind
+  name : TokenKind
+  integer : TokenKind
+  real : TokenKind
+  element : TokenKind
+  string : TokenKind
+  binary : TokenKind
+  mark : TokenKind
 
 -- the table: how a token of each kind is spelled
-abbrev pub Spells : Kind → List ℕ → Type 0
+abbrev pub Spells : TokenKind → List ℕ → Type 0
 Spells begins t = Says (codes "ISO-10303-21") t
 Spells ends t = Says (codes "END-ISO-10303-21") t
 Spells keyword t = IsKeyword t
@@ -72,25 +72,32 @@ Spells user_defined t = (word : List ℕ) × IsKeyword word × (t ≡ 33 ∷ wor
 Spells scope t = Says (codes "&SCOPE") t
 Spells name t = (ds : List ℕ) × IsDigits ds × (t ≡ 35 ∷ ds)
 Spells integer t = (sign ds : List ℕ) × IsSign sign × IsDigits ds × (t ≡ sign ++ ds)
-Spells real t = (sign whole part exponent : List ℕ) × IsSign sign × IsDigits whole × Each is_digit part × IsExponent exponent
+Spells real t = (sign whole part exponent : List ℕ) × IsSign sign × IsDigits whole × Each is_digit part
+    × IsExponent exponent
     × (t ≡ sign ++ whole ++ 46 ∷ part ++ exponent)
 Spells element t = (word : List ℕ) × IsKeyword word × (t ≡ 46 ∷ word ++ 46 ∷ [])
 Spells string t = (content : List ℕ) × (t ≡ 39 ∷ doubled content ++ 39 ∷ [])
 -- a digit from 0 to 3 tells how many bits of the first hex digit are left out: none where there is none
-Spells binary t = (unused : ℕ) × (digits : List ℕ) × (48 ≤ unused) × (unused ≤ 51) × Each is_hex digits × (digits ≡ [] → unused ≡ 48)
+Spells binary t = (unused : ℕ) × (digits : List ℕ) × (48 ≤ unused) × (unused ≤ 51) × Each is_hex digits
+    × (digits ≡ [] → unused ≡ 48)
     × (t ≡ 34 ∷ unused ∷ digits ++ 34 ∷ [])
 Spells mark t = (b : ℕ) × (is_mark b ≡ true) × (t ≡ b ∷ [])
 
 -- the table allows the token before what follows it: a string ends only where no apostrophe follows
-abbrev pub Allows : Kind → List ℕ → List ℕ → Type 0
+abbrev pub Allows : TokenKind → List ℕ → List ℕ → Type 0
 Allows string t after = Spells string t × Stops (λ b. b == 39) after
 Allows kind t after = Spells kind t
 
 -- t is the longest token that the table allows at the front of a text, and after is what follows it
-pub record IsNext (kind : Kind) (t after : List ℕ) : Type 0 where
+pub record IsNext (kind : TokenKind) (t after : List ℕ) : Type 0 where
   pub allowed : Allows kind t after
-  pub longest : (k : Kind) (other rest : List ℕ) → other ++ rest ≡ t ++ after → Allows k other rest → length other ≤ length t
+  pub longest : (k : TokenKind) (other rest : List ℕ) → other ++ rest ≡ t ++ after → Allows k other rest
+      → length other ≤ length t
+
+-- the longest token at the front of a text is of this kind, and has so many bytes
+abbrev pub IsNextLength : TokenKind → List ℕ → ℕ → Type 0
+IsNextLength kind left n = (n ≤ length left) × IsNext kind (take n left) (drop n left)
 
 -- the table allows no token at the front of the text
 abbrev pub NoneAt : List ℕ → Type 0
-NoneAt left = (k : Kind) (other rest : List ℕ) → left ≡ other ++ rest → Allows k other rest → ⊥
+NoneAt left = (k : TokenKind) (other rest : List ℕ) → left ≡ other ++ rest → Allows k other rest → ⊥

@@ -1,13 +1,13 @@
 //! Where a binary ends.
-ghost use Rattle.std.specs.Prelude.{◌≡◌, ◌≤◌, ◌∷◌, [], length, take, drop, MatchOption};
-ghost use Rattle.step_literals.specs.Tokens.{binary, IsNext, NoneAt};
+ghost use Rattle.std.specs.Prelude.{◌≡◌, ◌∷◌, [], take, MatchOption};
+ghost use Rattle.step_literals.specs.Tokens.{binary, IsNextLength, NoneAt};
 
 use crate::bytes::hex_len;
 
 /// How long the binary is that begins with a quote at the front of the bytes, if one stands there.
 pub fn binary_len(bytes: &[u8]) -> Option<usize>
     requires { take 1 bytes.now ≡ 34 ∷ [] }
-    ensures { MatchOption result (NoneAt bytes.now) (λ n. (n ≤ length bytes.now) × IsNext binary (take n bytes.now) (drop n bytes.now)) }
+    ensures { MatchOption result (NoneAt bytes.now) (λ n. IsNextLength binary bytes.now n) }
 {
     let (_, rest) = bytes.split_at(1);
     if rest.is_empty() {

@@ -1,9 +1,18 @@
 // UTF-8 in the content of a string, where control bytes may stand between its bytes.
-ghost use Rattle.std.specs.Prelude.{◌≡◌, ◌≤◌, ◌<◌, ℕ, List, take, drop, length, MatchOption};
-ghost use Rattle.std.specs.Str.{IsUtf8, is_utf8};
+ghost use Rattle.std.specs.Prelude.{◌≡◌, ◌≤◌, take, length, MatchOption};
+ghost use Rattle.std.specs.Str.{is_utf8};
 ghost use Rattle.std.specs.Str.Parse.{digits_value};
 ghost use Rattle.step_literals.specs.Strings.{clean};
-ghost use Rattle.step_literals.specs.Characters.{high_run, hex_run, BeginsCharacter, BeginsNone, BeginsHigh, BeginsNoHigh};
+ghost use Rattle.step_literals.specs.Characters.{
+  high_run,
+  number_digits,
+  behind_number,
+  IsLongestUtf8,
+  IsFirstCharacter,
+  BeginsNone,
+  BeginsHigh,
+  BeginsNoHigh,
+};
 
 use crate::clean::{skip, take_clean};
 use std::str;
@@ -11,7 +20,7 @@ use std::str;
 /// The longest front of the bytes that is UTF-8.
 fn utf8_front(bytes: &[u8]) -> &str
     ensures front { result.now ≡ take (length result.now) bytes.now }
-    ensures longest { (m : ℕ) → length result.now < m → m ≤ length bytes.now → IsUtf8 (take m bytes.now) → ⊥ }
+    ensures longest { IsLongestUtf8 bytes.now result.now }
 {
     match str::from_utf8(bytes) {
         Ok(text) => text,
@@ -27,7 +36,7 @@ fn utf8_front(bytes: &[u8]) -> &str
 
 /// The character that the bytes begin with in UTF-8.
 fn first_character(bytes: &[u8]) -> Option<char>
-    ensures { MatchOption result (BeginsNone bytes.now) (λ c. (rest : List ℕ) × BeginsCharacter bytes.now c rest) }
+    ensures { MatchOption result (BeginsNone bytes.now) (λ c. IsFirstCharacter bytes.now c) }
 {
     utf8_front(bytes).chars().next()
 }
@@ -51,7 +60,8 @@ fn window_of(bytes: &[u8]) -> ([u8; 4], usize)
 
 /// The character from 128 up that stands at the front in UTF-8, and what follows it.
 pub fn character_at(bytes: &[u8]) -> Option<(u32, &[u8])>
-    ensures { MatchOption result (BeginsNoHigh (clean bytes.now)) (λ found. BeginsHigh (clean bytes.now) found.0 (clean found.1.now)) }
+    ensures { MatchOption result (BeginsNoHigh (clean bytes.now))
+        (λ found. BeginsHigh (clean bytes.now) found.0 (clean found.1.now)) }
 {
     let (window, len) = window_of(bytes);
     let character = first_character(&window[..len])?;
@@ -75,11 +85,12 @@ pub fn is_utf8_run(bytes: &[u8]) -> bool
     }
 }
 
-/// The number that the hexadecimal digits at the front write, of so many at most, and what follows them.
+/// The number that the hexadecimal digits at the front write, of so many at most, and what
+/// follows them.
 pub fn number_at(bytes: &[u8], width: usize) -> (u32, &[u8])
     requires { width ≤ 8 }
-    ensures value { result.0 ≡ digits_value 16 (take width (hex_run (clean bytes.now))) }
-    ensures left { clean result.1.now ≡ drop (length (take width (hex_run (clean bytes.now)))) (clean bytes.now) }
+    ensures value { result.0 ≡ digits_value 16 (number_digits width (clean bytes.now)) }
+    ensures left { clean result.1.now ≡ behind_number width (clean bytes.now) }
 {
     let mut value = 0;
     let mut rest = bytes;

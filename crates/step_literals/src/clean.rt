@@ -1,15 +1,16 @@
 // The bytes of a string from 32 up: what stands below is passed over wherever it stands.
-ghost use Rattle.std.specs.Prelude.{◌≡◌, ◌∷◌, [], true, false, length, MatchOption, IfSome};
+ghost use Rattle.std.specs.Prelude.{◌≡◌, ◌∷◌, [], false, MatchOption, IfSome};
 ghost use Rattle.std.specs.List.{prefix_len};
 ghost use Rattle.step_literals.specs.Bytes.{is_hex};
 ghost use Rattle.step_literals.specs.Strings.{clean, begins_with};
-ghost use Rattle.step_literals.specs.Directives.{Skips};
+ghost use Rattle.step_literals.specs.Directives.{Skips, Strips};
 
 use crate::bytes::is_hex;
 
 /// The first byte from 32 up, and what follows it.
 pub fn take_clean(bytes: &[u8]) -> Option<(u8, &[u8])>
-    ensures first { MatchOption result (clean bytes.now ≡ []) (λ taken. clean bytes.now ≡ taken.0 ∷ clean taken.1.now) }
+    ensures first { MatchOption result (clean bytes.now ≡ [])
+        (λ taken. clean bytes.now ≡ taken.0 ∷ clean taken.1.now) }
     ensures rest { IfSome result (λ taken. Skips 1 bytes.now taken.1.now) }
 {
     let mut rest = bytes;
@@ -24,7 +25,8 @@ pub fn take_clean(bytes: &[u8]) -> Option<(u8, &[u8])>
 
 /// What follows this text at the front.
 pub fn strip<'a>(bytes: &'a [u8], text: &[u8]) -> Option<&'a [u8]>
-    ensures { MatchOption result (begins_with text.now (clean bytes.now) ≡ false) (λ rest. (begins_with text.now (clean bytes.now) ≡ true) × Skips (length text.now) bytes.now rest.now) }
+    ensures { MatchOption result (begins_with text.now (clean bytes.now) ≡ false)
+        (λ rest. Strips text.now bytes.now rest.now) }
 {
     let mut rest = bytes;
     for byte in text {

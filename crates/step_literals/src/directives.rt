@@ -1,7 +1,16 @@
 // The directives of a string (ISO 10303-21, 6.4.3).
-ghost use Rattle.std.specs.Prelude.{◌≡◌, ◌<◌, ◌∷◌, [], None, true, false, take, slice_index, ◌-◌, MatchOption};
-ghost use Rattle.step_literals.specs.Strings.{clean, piece_at, shift_at, names_page, code_at, groups_at, IsReadable, IsBrokenAt};
-ghost use Rattle.step_literals.specs.Directives.{Skips, Completes};
+ghost use Rattle.std.specs.Prelude.{◌≡◌, ◌<◌, ◌∷◌, [], None, false, take, MatchOption};
+ghost use Rattle.step_literals.specs.Strings.{
+  clean,
+  piece_at,
+  shift_at,
+  names_page,
+  code_at,
+  groups_at,
+  IsReadable,
+  IsBrokenAt,
+};
+ghost use Rattle.step_literals.specs.Directives.{StripsPage, Completes};
 
 use crate::clean::{hex_count, skip, strip, take_clean};
 use memchr::memchr;
@@ -27,7 +36,8 @@ pub fn broken_directive(content: &[u8]) -> Option<usize>
 /// What follows the piece that begins with a backslash at the front.
 fn after_directive(bytes: &[u8]) -> Option<&[u8]>
     requires { take 1 bytes.now ≡ 92 ∷ [] }
-    ensures { MatchOption result (piece_at (clean bytes.now) ≡ None) (λ after. Completes (piece_at (clean bytes.now)) 0 bytes.now after.now) }
+    ensures { MatchOption result (piece_at (clean bytes.now) ≡ None)
+        (λ after. Completes (piece_at (clean bytes.now)) 0 bytes.now after.now) }
 {
     if let Some(after) = strip(bytes, b"\\\\") {
         return Some(after);
@@ -52,7 +62,8 @@ fn after_directive(bytes: &[u8]) -> Option<&[u8]>
 
 /// What follows the byte behind `\S\`.
 pub fn after_shift(bytes: &[u8]) -> Option<&[u8]>
-    ensures { MatchOption result (shift_at (clean bytes.now) ≡ None) (λ after. Completes (shift_at (clean bytes.now)) 3 bytes.now after.now) }
+    ensures { MatchOption result (shift_at (clean bytes.now) ≡ None)
+        (λ after. Completes (shift_at (clean bytes.now)) 3 bytes.now after.now) }
 {
     let (byte, after) = take_clean(bytes)?;
     match byte {
@@ -64,7 +75,8 @@ pub fn after_shift(bytes: &[u8]) -> Option<&[u8]>
 
 /// The page that `\PA\` to `\PI\` names, 1 for A, and what follows.
 pub fn page_at(bytes: &[u8]) -> Option<(u8, &[u8])>
-    ensures { MatchOption result (names_page (clean bytes.now) ≡ false) (λ found. (names_page (clean bytes.now) ≡ true) × (found.0 ≡ slice_index (clean bytes.now) 2 - 64) × Skips 4 bytes.now found.1.now) }
+    ensures { MatchOption result (names_page (clean bytes.now) ≡ false)
+        (λ found. StripsPage bytes.now found.0 found.1.now) }
 {
     let rest = strip(bytes, b"\\P")?;
     let (letter, rest) = take_clean(rest)?;
@@ -77,7 +89,8 @@ pub fn page_at(bytes: &[u8]) -> Option<(u8, &[u8])>
 
 /// What follows the two digits behind `\X\`.
 pub fn after_code(bytes: &[u8]) -> Option<&[u8]>
-    ensures { MatchOption result (code_at (clean bytes.now) ≡ None) (λ after. Completes (code_at (clean bytes.now)) 3 bytes.now after.now) }
+    ensures { MatchOption result (code_at (clean bytes.now) ≡ None)
+        (λ after. Completes (code_at (clean bytes.now)) 3 bytes.now after.now) }
 {
     if hex_count(bytes) < 2 {
         return None;
@@ -88,7 +101,8 @@ pub fn after_code(bytes: &[u8]) -> Option<&[u8]>
 /// What follows the digits behind `\X2\` or `\X4\`, in groups of this width, and `\X0\`.
 pub fn after_groups(bytes: &[u8], width: usize) -> Option<&[u8]>
     requires { 0 < width }
-    ensures { MatchOption result (groups_at width (clean bytes.now) ≡ None) (λ after. Completes (groups_at width (clean bytes.now)) 4 bytes.now after.now) }
+    ensures { MatchOption result (groups_at width (clean bytes.now) ≡ None)
+        (λ after. Completes (groups_at width (clean bytes.now)) 4 bytes.now after.now) }
 {
     let len = hex_count(bytes);
     if len % width != 0 {

@@ -5,8 +5,8 @@ use thiserror::Error;
 /// What is wrong.
 #[derive(Clone, Copy, Debug, PartialEq, Eq, Error)]
 pub enum Flaw {
-    /// No token stands here: a byte that begins none, a name or sign without digits, an element without
-    /// its dot, a comment or a binary that is not ended.
+    /// No token stands here: a byte that begins none, a name or sign without digits, an element
+    /// without its dot, a comment or a binary that is not ended.
     #[error("E1 BadToken")]
     BadToken,
     /// A string that isn't ended.
@@ -23,7 +23,8 @@ pub enum Flaw {
     NameTooLarge,
 }
 
-/// A flaw, and how many bytes come before it: before the token, or before the backslash of a directive.
+/// A flaw, and how many bytes come before it: before the token, or before the backslash of a
+/// directive.
 #[derive(Clone, Copy, Debug, PartialEq, Eq, Error)]
 #[error("{flaw} at byte {place}")]
 pub struct TextFault {

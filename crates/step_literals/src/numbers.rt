@@ -1,11 +1,38 @@
 //! Numbers: where they end, and their limits.
-ghost use Rattle.std.specs.Prelude.{◌≡◌, ◌≤◌, ◌<◌, ◌^◌, ◌||◌, ◌↔◌, IsTrue, length, take, drop, not, MatchOption, if◌then◌else◌};
+ghost use Rattle.std.specs.Prelude.{
+  ◌≡◌,
+  ◌≤◌,
+  ◌<◌,
+  ◌^◌,
+  ◌||◌,
+  ◌↔◌,
+  IsTrue,
+  length,
+  take,
+  drop,
+  not,
+  MatchOption,
+  if◌then◌else◌,
+};
 ghost use Rattle.std.specs.List.{prefix_len};
 ghost use Rattle.std.specs.Option.{SomeIff};
 ghost use Rattle.std.specs.Str.Parse.{digits_value};
 ghost use Rattle.step_literals.specs.Bytes.{is_digit, Each};
-ghost use Rattle.step_literals.specs.Tokens.{is_e, is_sign, sign_len, integer, real, IsNext, NoneAt};
-ghost use Rattle.step_literals.specs.Numbers.{exponent_text, IsShortNumber, IsLongestExponent, StartsNumber};
+ghost use Rattle.step_literals.specs.Tokens.{
+  is_e,
+  is_sign,
+  sign_len,
+  integer,
+  real,
+  IsNextLength,
+  NoneAt,
+};
+ghost use Rattle.step_literals.specs.Numbers.{
+  exponent_text,
+  IsShortNumber,
+  IsLongestExponent,
+  StartsNumber,
+};
 ghost use Rattle.step_literals.specs.Literals.{IsNumber};
 ghost use Rattle.step_literals.specs.Decimals.{is_negative};
 
@@ -56,8 +83,8 @@ pub fn starts_number(byte: u8) -> bool
 /// How long the number is that the bytes begin with, and whether it is real.
 pub fn number_len(bytes: &[u8]) -> Option<(usize, bool)>
     requires { StartsNumber bytes.now }
-    ensures { MatchOption result (NoneAt bytes.now) (λ found. (found.0 ≤ length bytes.now)
-        × IsNext (if found.1 then real else integer) (take found.0 bytes.now) (drop found.0 bytes.now)) }
+    ensures { MatchOption result (NoneAt bytes.now)
+        (λ found. IsNextLength (if found.1 then real else integer) bytes.now found.0) }
 {
     let sign = sign_len(bytes);
     let (_, unsigned) = bytes.split_at(sign);

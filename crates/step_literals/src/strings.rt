@@ -1,6 +1,6 @@
 // Where a string ends.
-ghost use Rattle.std.specs.Prelude.{◌≡◌, ◌≤◌, ◌∷◌, [], length, take, drop, MatchOption};
-ghost use Rattle.step_literals.specs.Tokens.{string, IsNext, NoneAt};
+ghost use Rattle.std.specs.Prelude.{◌≡◌, ◌≤◌, ◌∷◌, [], length, take, MatchOption};
+ghost use Rattle.step_literals.specs.Tokens.{string, IsNextLength, NoneAt};
 ghost use Rattle.step_literals.specs.Strings.{content_of};
 
 use memchr::memchr;
@@ -19,7 +19,7 @@ pub fn content_of(text: &[u8]) -> &[u8]
 /// (ISO 10303-21, 6.4.3): at the first later apostrophe that no other follows.
 pub fn string_len(bytes: &[u8]) -> Option<usize>
     requires { take 1 bytes.now ≡ 39 ∷ [] }
-    ensures { MatchOption result (NoneAt bytes.now) (λ n. (n ≤ length bytes.now) × IsNext string (take n bytes.now) (drop n bytes.now)) }
+    ensures { MatchOption result (NoneAt bytes.now) (λ n. IsNextLength string bytes.now n) }
 {
     let (_, mut rest) = bytes.split_at(1);
     let mut len = 1;

@@ -3,8 +3,8 @@ use Rattle.std.proofs.Common.{◌≡◌, ◌≤◌, ◌^◌, ℕ, List, Option, 
 use Rattle.std.specs.Prelude.{IsErrAnd}
 use Rattle.std.proofs.KnownBytes.{Consumes-whole}
 use Rattle.std.specs.Io.KnownBytes.{Consumes, IsAtEnd}
-use Rattle.step_exchange.specs.declared.device.WriteFault.{WriteFault}
-use Rattle.step_exchange.specs.Emits.{EmitsFront}
+use Rattle.devices.specs.declared.device.WriteFault.{WriteFault}
+use Rattle.devices.specs.Emits.{EmitsFront}
 use Rattle.step_exchange.specs.Normal.{plain_text}
 use Rattle.step_exchange.specs.Texts.{ReadsAs}
 use Rattle.step_exchange.specs.Trees.{File}
@@ -13,15 +13,23 @@ use Rattle.stepmin.specs.Faults.{write_fault}
 use Rattle.stepmin.specs.Plain.{HasPlain, Plain}
 
 -- they read as a structure
-pub gave_plain : (coming left : Option (List ℕ)) (bytes front : List ℕ) (file : File) → Consumes coming left bytes → IsAtEnd left → length bytes ≤ 2 ^ 40
-    → ReadsAs bytes front file → IfSome coming (HasPlain (plain_text front file.rows))
-gave_plain coming left bytes front file gave end within reads =
-    Consumes-whole coming left bytes (HasPlain (plain_text front file.rows)) gave end (record { within = within; front = front; file = file; reads = reads; text_is = refl })
+pub gave_plain : (coming left : Option (List ℕ)) (bytes header_bytes : List ℕ) (file : File)
+    → Consumes coming left bytes → IsAtEnd left → length bytes ≤ 2 ^ 40
+    → ReadsAs bytes header_bytes file → IfSome coming (HasPlain (plain_text header_bytes file.rows))
+gave_plain coming left bytes header_bytes file gave end within reads =
+    Consumes-whole coming left bytes (HasPlain (plain_text header_bytes file.rows)) gave end (record {
+      within = within;
+      header_bytes = header_bytes;
+      file = file;
+      reads = reads;
+      text_is = refl;
+    })
 
 -- a front of the text went out
-pub cut_short : (coming old new : Option (List ℕ)) (text : List ℕ) (fault : WriteFault) (result : Result Unit Fault) → IsErrAnd result (λ e. e ≡ write_fault fault)
+pub cut_short : (coming old new : Option (List ℕ)) (text : List ℕ) (fault : WriteFault) (result : Result Unit Fault)
+    → IsErrAnd result (λ e. e ≡ write_fault fault)
     → IfSome coming (HasPlain text) → EmitsFront old new text fault.written → Plain coming old new result
-cut_short coming old new text fault (Ok done) e whole front = absurd e
-cut_short coming old new text fault (Err f) e whole front =
+cut_short coming old new text fault (Ok done) e whole emits = absurd e
+cut_short coming old new text fault (Err f) e whole emits =
     let P : Fault → Type 0 = λ x. Plain coming old new (Err x) in
-    subst P (sym e) (text, whole, front)
+    subst P (sym e) (text, whole, emits)

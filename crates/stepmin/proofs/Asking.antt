@@ -62,17 +62,19 @@ none_second (k ∷ ks) b e = absurd (some_kind k ks e)
 -- ---- the words behind a subcommand
 
 abbrev stopped : List Text → Walk
-stopped front = record (walk_from nothing_held) { stopped = Some (codes "plain", front) }
+stopped earlier = record (walk_from nothing_held) { stopped = Some (codes "plain", earlier) }
 
-walk_stopped : (s : Shape) (ns : Names) (front rest : List Text) → walk_fault s ns (stopped front) rest ≡ []
+walk_stopped : (s : Shape) (ns : Names) (earlier rest : List Text) → walk_fault s ns (stopped earlier) rest ≡ []
 unfolding walk_fault walked
-walk_stopped s ns front [] = refl
-walk_stopped s ns front (w ∷ ws) = walk_stopped s ns (front ++ w ∷ []) ws
+walk_stopped s ns earlier [] = refl
+walk_stopped s ns earlier (w ∷ ws) = walk_stopped s ns (earlier ++ w ∷ []) ws
 
-fold_stopped : (c : List Rule) (ns : Names) (front rest : List Text) → fold (walked c ns) (stopped front) rest ≡ stopped (front ++ rest)
+fold_stopped : (c : List Rule) (ns : Names) (earlier rest : List Text) → fold (walked c ns) (stopped earlier)
+    rest ≡ stopped (earlier ++ rest)
 unfolding walked
-fold_stopped c ns front [] = ap stopped (sym (append-nil front))
-fold_stopped c ns front (w ∷ ws) = fold_stopped c ns (front ++ w ∷ []) ws ∙ ap stopped (append_assoc front (w ∷ []) ws)
+fold_stopped c ns earlier [] = ap stopped (sym (append-nil earlier))
+fold_stopped c ns earlier (w ∷ ws) = fold_stopped c ns (earlier ++ w ∷ []) ws
+    ∙ ap stopped (append_assoc earlier (w ∷ []) ws)
 
 walk_plain : (operands : List Text) → walk top.rules names nothing_held (codes "plain" ∷ operands) ≡ stopped operands
 unfolding clap_on_literals
@@ -90,10 +92,12 @@ after w faults =
     (or_else (defaults_fault (settled top.rules w.held).rows top.rules)
     (check_fault top (finished top.rules w.held) (is_some (entered a w.stopped))))))
 
-fault_after : (program : Text) (words : List Text) → fault_of stepmin_app (program ∷ words) ≡ after (walk top.rules names nothing_held words) (walk_fault top names (walk_from nothing_held) words)
+fault_after : (program : Text) (words : List Text) → fault_of stepmin_app (program ∷ words) ≡ after
+    (walk top.rules names nothing_held words) (walk_fault top names (walk_from nothing_held) words)
 fault_after program words = refl
 
-walk_plain_fault : (operands : List Text) → walk_fault top names (walk_from nothing_held) (codes "plain" ∷ operands) ≡ []
+walk_plain_fault : (operands : List Text) → walk_fault top names (walk_from nothing_held)
+    (codes "plain" ∷ operands) ≡ []
 unfolding clap_on_literals
 walk_plain_fault operands = walk_stopped top names [] operands
 
@@ -105,15 +109,18 @@ after_plain : (operands : List Text) → after (stopped operands) [] ≡ or_else
 unfolding clap_on_literals
 after_plain operands = refl
 
-plain_below : (program : Text) (operands : List Text) → fault_of stepmin_app (program ∷ codes "plain" ∷ operands) ≡ below operands
+plain_below : (program : Text) (operands : List Text) → fault_of stepmin_app (program ∷ codes "plain"
+    ∷ operands) ≡ below operands
 plain_below program operands =
-    fault_after program (codes "plain" ∷ operands) ∙ ap₂ after (walk_plain operands) (walk_plain_fault operands) ∙ after_plain operands ∙ only_first (below operands)
+    fault_after program (codes "plain" ∷ operands) ∙ ap₂ after (walk_plain operands) (walk_plain_fault operands)
+    ∙ after_plain operands ∙ only_first (below operands)
 
 -- ---- the words that are read
 
 -- how a word begins
 abbrev Begins : Text → Type 0
-Begins word = IsOperand word ⊎ ((word ≡ dashes) ⊎ (((z : ℕ) × (zs : List ℕ) × (word ≡ 45 ∷ 45 ∷ z ∷ zs)) ⊎ ((y : ℕ) × (ys : List ℕ) × ((y == 45) ≡ false) × (word ≡ 45 ∷ y ∷ ys))))
+Begins word = IsOperand word ⊎ ((word ≡ dashes) ⊎ (((z : ℕ) × (zs : List ℕ) × (word ≡ 45 ∷ 45 ∷ z ∷ zs))
+    ⊎ ((y : ℕ) × (ys : List ℕ) × ((y == 45) ≡ false) × (word ≡ 45 ∷ y ∷ ys))))
 
 begins_hyphen : (y : ℕ) (ys : List ℕ) → Begins (45 ∷ y ∷ ys)
 begins_hyphen y ys = elim (eqb_tells y 45) [
@@ -133,7 +140,8 @@ begins (x ∷ y ∷ ys) = elim (eqb_tells x 45) [
   | inr e ↦ inl e.1
 ]
 
-no_option : (word : Text) → IsOperand word → (long_of word ≡ None) × (short_of word ≡ None) × (bytes_eq word dashes ≡ false)
+no_option : (word : Text) → IsOperand word → (long_of word ≡ None) × (short_of word ≡ None)
+    × (bytes_eq word dashes ≡ false)
 no_option [] is = (refl, refl, refl)
 no_option (x ∷ []) is = elim (eqb_tells x 45) [
   | inl e ↦ rw e.0 (refl, refl, refl)
@@ -167,29 +175,35 @@ sub_help = record { long = top_help.long; short = top_help.short }
 helps : (c : List Rule) (again : Bool) (h : Held) → react_fault c again help [] h ≡ [] → ⊥
 helps c again h e = some_kind _ _ (none_second (settle_fault c again h) (use_fault again help [] (settled c h).rows) e)
 
-long_refused : (c : List Rule) (again : Bool) (name : Text) (v : Option Text) (h : Held) → HelpOnly c → long_fault c again (arg_by_long c name) v h ≡ [] → ⊥
-long_refused c again name v h only e = go (bytes_eq (codes "help") name) v (subst (λ a. long_fault c again a v h ≡ []) (only.long name) e)
+long_refused : (c : List Rule) (again : Bool) (name : Text) (v : Option Text) (h : Held) → HelpOnly c
+    → long_fault c again (arg_by_long c name) v h ≡ [] → ⊥
+long_refused c again name v h only e = go (bytes_eq (codes "help") name) v (subst (λ a. long_fault c again a v h ≡ [])
+    (only.long name) e)
   where
     go : (b : Bool) (v : Option Text) → long_fault c again (if b then Some help else None) v h ≡ [] → ⊥
     go false v e = some_kind _ _ e
     go true (Some x) e = some_kind _ _ e
     go true None e = helps c again h e
 
-short_refused : (c : List Rule) (again : Bool) (x : ℕ) (rest : Text) (h : Held) (next : Held → Kinds) → HelpOnly c → short_fault c again (arg_by_short c x) rest h next ≡ [] → ⊥
-short_refused c again x rest h next only e = go (104 == x) (subst (λ a. short_fault c again a rest h next ≡ []) (only.short x) e)
+short_refused : (c : List Rule) (again : Bool) (x : ℕ) (rest : Text) (h : Held) (next : Held → Kinds) → HelpOnly c
+    → short_fault c again (arg_by_short c x) rest h next ≡ [] → ⊥
+short_refused c again x rest h next only e = go (104 == x) (subst (λ a. short_fault c again a rest h next ≡ [])
+    (only.short x) e)
   where
     go : (b : Bool) → short_fault c again (if b then Some help else None) rest h next ≡ [] → ⊥
     go false e = some_kind _ _ e
     go true e = helps c again h (none_first (react_fault c again help [] h) (next (reacted c help [] h)) e)
 
 -- one hyphen begins no option only where no character follows it
-flags_refused : (c : List Rule) (again : Bool) (k : ℕ) (flags : Text) (h : Held) → HelpOnly c → flags_fault c again (suc k) flags 0 h ≡ [] → slice_get (chars flags) 0 ≡ None
+flags_refused : (c : List Rule) (again : Bool) (k : ℕ) (flags : Text) (h : Held) → HelpOnly c
+    → flags_fault c again (suc k) flags 0 h ≡ [] → slice_get (chars flags) 0 ≡ None
 unfolding flags_fault
 flags_refused c again k flags h only e = go (slice_get (chars flags) 0) e
   where
     go : (o : Option ℕ) → bundle_step_fault c again o flags 0 h (flags_fault c again k) ≡ [] → o ≡ None
     go None e = refl
-    go (Some x) e = absurd (short_refused c again x (drop (length (encode_utf8 x)) flags) h (flags_fault c again k (drop (length (encode_utf8 x)) flags) 0) only e)
+    go (Some x) e = absurd (short_refused c again x (drop (length (encode_utf8 x)) flags) h
+        (flags_fault c again k (drop (length (encode_utf8 x)) flags) 0) only e)
 
 -- ---- a word that is no option
 
@@ -224,31 +238,37 @@ unfolding chars
 cut_text y ys text e =
     let all : encodes (45 ∷ chars (y ∷ ys)) ≡ 45 ∷ y ∷ ys = encodes-chars (45 ∷ y ∷ ys) text in
     let one : encodes (45 ∷ []) ≡ 45 ∷ [] = encodes-IsAscii (45 ∷ []) (search (rules, arith)) in
-    let short : 45 ∷ [] ≡ 45 ∷ y ∷ ys = sym one ∙ subst (λ cs. encodes (45 ∷ cs) ≡ 45 ∷ y ∷ ys) (no_chars (chars (y ∷ ys)) e) all in
+    let short : 45 ∷ [] ≡ 45 ∷ y ∷ ys = sym one ∙ subst (λ cs. encodes (45 ∷ cs) ≡ 45 ∷ y ∷ ys)
+    (no_chars (chars (y ∷ ys)) e) all in
     let lengths : 1 ≡ suc (suc (length ys)) = ap length short in
     absurd (omega (arith, lengths))
 
-is_value : (s : Shape) (ns : Names) (rows : List Row) (pending : Option (Text × List Text)) (p : ℕ) (w : Text) → HelpOnly s.rules → IsUtf8 w → subcommand_met ns idle w ≡ None
+is_value : (s : Shape) (ns : Names) (rows : List Row) (pending : Option (Text × List Text)) (p : ℕ) (w : Text)
+    → HelpOnly s.rules → IsUtf8 w → subcommand_met ns idle w ≡ None
     → turn_fault s ns (at (waits rows pending) p) w ≡ [] → (w ≡ dashes) ⊎ IsValue s ns (waits rows pending) p w
 is_value s ns rows pending p w only text none e = elim (begins w) [
   | inl is ↦ inr (operand is)
   | inr (inl is) ↦ inl is
   | inr (inr (inl is)) ↦ absurd (long is.0 is.1 is.2)
-  | inr (inr (inr is)) ↦ absurd (short is.0 is.1 (subst IsUtf8 is.3 text) (subst (λ v. LooksShort v (is.0 ∷ is.1)) (sym is.3) (looks_short is.0 is.1 is.2)))
+  | inr (inr (inr is)) ↦ absurd (short is.0 is.1 (subst IsUtf8 is.3 text) (subst (λ v. LooksShort v (is.0 ∷ is.1))
+      (sym is.3) (looks_short is.0 is.1 is.2)))
 ]
   where
     word_fits : word_fault s ns false idle w (waits rows pending) ≡ []
     word_fits = let met = word_met s.rules ns false idle p w (waits rows pending) in
         none_first (word_fault s ns false idle w (waits rows pending)) (step_fault s p met.0 met.1) e
 
-    value_fits : word_met s.rules ns false idle p w (waits rows pending) ≡ (waits rows pending, value) → step_fault s p (waits rows pending) value ≡ []
+    value_fits : word_met s.rules ns false idle p w (waits rows pending) ≡ (waits rows pending, value)
+        → step_fault s p (waits rows pending) value ≡ []
     value_fits m = let met = word_met s.rules ns false idle p w (waits rows pending) in
-        subst (λ (m : Held × Step). step_fault s p m.0 m.1 ≡ []) m (none_second (word_fault s ns false idle w (waits rows pending)) (step_fault s p met.0 met.1) e)
+        subst (λ (m : Held × Step). step_fault s p m.0 m.1 ≡ []) m
+        (none_second (word_fault s ns false idle w (waits rows pending)) (step_fault s p met.0 met.1) e)
 
     operand : IsOperand w → IsValue s ns (waits rows pending) p w
     operand is =
         let n = no_option w is in
-        let m : word_met s.rules ns false idle p w (waits rows pending) ≡ (waits rows pending, value) = rw (none, n.2, n.0, n.1) refl in
+        let m : word_met s.rules ns false idle p w (waits rows pending) ≡ (waits rows pending, value) =
+        rw (none, n.2, n.0, n.1) refl in
         record { met = m; fits = value_fits m; operand = is }
 
     long : (z : ℕ) (zs : List ℕ) → w ≡ 45 ∷ 45 ∷ z ∷ zs → ⊥
@@ -262,15 +282,21 @@ is_value s ns rows pending p w only text none e = elim (begins w) [
     short y ys text looks =
         let l = looks.long in
         let sh = looks.short in
-        let f : bundle_fault s.rules s.args_override_self (y ∷ ys) (waits rows pending) ≡ [] = rw (none, looks.dash, l, sh) at word_fits in
+        let f : bundle_fault s.rules s.args_override_self (y ∷ ys) (waits rows pending) ≡ [] =
+        rw (none, looks.dash, l, sh) at word_fits in
         cut_text y ys text (flags_refused s.rules s.args_override_self (length ys) (y ∷ ys) (waits rows pending) only f)
 
 -- ---- the words that ask for something
 
-first_turn : (s : Shape) (ns : Names) (before : Walk) (w : Text) (rest : List Text) → walk_fault s ns before (w ∷ rest) ≡ []
+first_turn : (s : Shape) (ns : Names) (before : Walk) (w : Text) (rest : List Text)
+    → walk_fault s ns before (w ∷ rest) ≡ []
     → (turn_fault s ns before w ≡ []) × (walk_fault s ns (walked s.rules ns before w) rest ≡ [])
 unfolding walk_fault
-first_turn s ns before w rest e = (none_first (turn_fault s ns before w) _ e, none_second (turn_fault s ns before w) _ e)
+first_turn s ns before w rest e = (
+  none_first (turn_fault s ns before w) _ e,
+  none_second (turn_fault s ns before w) _
+      e,
+)
 
 not_dashes : (program : Text) (rest : List Text) → fault_of stepmin_app (program ∷ dashes ∷ rest) ≡ [] → ⊥
 unfolding clap_on_literals
@@ -285,11 +311,14 @@ none_at_all : fault_of stepmin_app [] ≡ [] → ⊥
 unfolding clap_on_literals
 none_at_all e = some_kind _ _ e
 
-is_plain : (program w : Text) (rest : List Text) → IsUtf8 w → fault_of stepmin_app (program ∷ w ∷ rest) ≡ [] → codes "plain" ≡ w
+is_plain : (program w : Text) (rest : List Text) → IsUtf8 w → fault_of stepmin_app (program ∷ w ∷ rest) ≡ []
+    → codes "plain" ≡ w
 is_plain program w rest text e = go (bytes_eq (codes "plain") w) (bytes_eq (codes "help") w) refl refl
   where
     turn : turn_fault top names (walk_from nothing_held) w ≡ []
-    turn = (first_turn top names (walk_from nothing_held) w rest (none_first (walk_fault top names (walk_from nothing_held) (w ∷ rest)) _ (sym (fault_after program (w ∷ rest)) ∙ e))).0
+    turn = (first_turn top names (walk_from nothing_held) w rest
+        (none_first (walk_fault top names (walk_from nothing_held) (w ∷ rest)) _ (sym (fault_after program (w ∷ rest))
+        ∙ e))).0
 
     other : subcommand_met names idle w ≡ None → ⊥
     other none = elim (is_value top names [] None 1 w top_help text none turn) [
@@ -306,7 +335,8 @@ is_plain program w rest text e = go (bytes_eq (codes "plain") w) (bytes_eq (code
 abbrev held : Text → Walk
 held path = at (waits [] (Some (codes "FILE", path ∷ []))) 2
 
-file_held : (path : Text) → IsValue sub [] nothing_held 1 path → walked sub.rules [] (walk_from nothing_held) path ≡ held path
+file_held : (path : Text) → IsValue sub [] nothing_held 1 path → walked sub.rules [] (walk_from nothing_held)
+    path ≡ held path
 unfolding walked
 file_held path is = ap (λ (m : Held × Step). after_step sub.rules path (walk_from nothing_held) m.0 m.1) is.met
 
@@ -335,7 +365,8 @@ behind_dashes [] e = absurd (not_dashes_alone e)
 behind_dashes (path ∷ []) e = (path, inr (inr refl))
 behind_dashes (path ∷ w ∷ rest) e = absurd (not_two path w rest e)
 
-behind_file : (path : Text) (rest : List Text) → IsOperand path → AreTexts rest → walk_fault sub [] (held path) rest ≡ [] → (found : Text) × AreOperand (path ∷ rest) found
+behind_file : (path : Text) (rest : List Text) → IsOperand path → AreTexts rest → walk_fault sub [] (held path)
+    rest ≡ [] → (found : Text) × AreOperand (path ∷ rest) found
 behind_file path [] is texts e = (path, inl (refl, is))
 behind_file path (w ∷ rest) is texts e =
     let turn = first_turn sub [] (held path) w rest e in
@@ -346,7 +377,8 @@ behind_file path (w ∷ rest) is texts e =
   where
     last : (more : List Text) → rest ≡ more → w ≡ dashes → (found : Text) × AreOperand (path ∷ w ∷ rest) found
     last [] none dash = (path, inr (inl (ap₂ (λ v vs. path ∷ v ∷ vs) dash none, is)))
-    last (x ∷ xs) more dash = absurd (not_after path x xs (subst (λ vs. walk_fault sub [] (held path) vs ≡ []) (ap₂ (λ v vs. v ∷ vs) dash more) e))
+    last (x ∷ xs) more dash = absurd (not_after path x xs (subst (λ vs. walk_fault sub [] (held path) vs ≡ [])
+        (ap₂ (λ v vs. v ∷ vs) dash more) e))
 
 operands : (words : List Text) → AreTexts words → below words ≡ [] → (path : Text) × AreOperand words path
 operands [] texts e = absurd (not_nothing e)
@@ -354,17 +386,21 @@ operands (w ∷ rest) texts e =
     let walk = none_first (walk_fault sub [] (walk_from nothing_held) (w ∷ rest)) _ e in
     let turn = first_turn sub [] (walk_from nothing_held) w rest walk in
     elim (is_value sub [] [] None 1 w sub_help texts.0 refl turn.0) [
-      | inl dash ↦ subst (λ v. (path : Text) × AreOperand (v ∷ rest) path) (sym dash) (behind_dashes rest (subst (λ v. below (v ∷ rest) ≡ []) dash e))
-      | inr file ↦ behind_file w rest file.operand texts.1 (subst (λ before. walk_fault sub [] before rest ≡ []) (file_held w file) turn.1)
+      | inl dash ↦ subst (λ v. (path : Text) × AreOperand (v ∷ rest) path) (sym dash)
+          (behind_dashes rest (subst (λ v. below (v ∷ rest) ≡ []) dash e))
+      | inr file ↦ behind_file w rest file.operand texts.1 (subst (λ before. walk_fault sub [] before rest ≡ [])
+          (file_held w file) turn.1)
     ]
 
 -- where clap finds no fault, the words ask for a file
-pub asked : (words : List Text) → AreTexts words → fault_of stepmin_app words ≡ [] → (path : Text) × AsksPlain words path
+pub asked : (words : List Text) → AreTexts words → fault_of stepmin_app words ≡ [] → (path : Text)
+    × AsksPlain words path
 asked [] texts e = absurd (none_at_all e)
 asked (program ∷ []) texts e = absurd (not_none program e)
 asked (program ∷ w ∷ rest) texts e =
     let plain = is_plain program w rest texts.1.0 e in
-    let below_fits = sym (plain_below program rest) ∙ subst (λ v. fault_of stepmin_app (program ∷ v ∷ rest) ≡ []) (sym plain) e in
+    let below_fits = sym (plain_below program rest) ∙ subst (λ v. fault_of stepmin_app (program ∷ v ∷ rest) ≡ [])
+    (sym plain) e in
     let found = operands rest texts.1.1 below_fits in
     (found.0, (program, rest, ap (λ v. program ∷ v ∷ rest) (sym plain), found.1))
 
@@ -384,7 +420,8 @@ fits_operand words path (inr (inl is)) =
     rw (is.0, n.2, n.0, n.1) (refl {a = []})
 fits_operand words path (inr (inr is)) = rw is (refl {a = []})
 
-file_of_operand : (words : List Text) (path : Text) → AreOperand words path → entered_file words ≡ Some (codes "plain", Some path)
+file_of_operand : (words : List Text) (path : Text) → AreOperand words path → entered_file words ≡ Some
+    (codes "plain", Some path)
 unfolding clap_on_literals
 file_of_operand words path (inl is) =
     let n = no_option path is.1 in
@@ -395,12 +432,16 @@ file_of_operand words path (inr (inl is)) =
 file_of_operand words path (inr (inr is)) = rw is (refl {a = Some (codes "plain", Some path)})
 
 pub asked_fits : (words : List Text) (path : Text) → AsksPlain words path → fault_of stepmin_app words ≡ []
-asked_fits words path asks = subst (λ ws. fault_of stepmin_app ws ≡ []) (sym asks.2) (plain_below asks.0 asks.1 ∙ fits_operand asks.1 path asks.3)
+asked_fits words path asks = subst (λ ws. fault_of stepmin_app ws ≡ []) (sym asks.2) (plain_below asks.0 asks.1
+    ∙ fits_operand asks.1 path asks.3)
 
-pub asked_file : (words : List Text) (path : Text) → AsksPlain words path → file_in (subcommand_of stepmin_app words) ≡ Some (codes "plain", Some path)
+pub asked_file : (words : List Text) (path : Text) → AsksPlain words path
+    → file_in (subcommand_of stepmin_app words) ≡ Some (codes "plain", Some path)
 asked_file words path asks =
-    let stop : (walk top.rules names nothing_held (codes "plain" ∷ asks.1)).stopped ≡ Some (codes "plain", asks.1) = ap (λ (w : Walk). w.stopped) (walk_plain asks.1) in
-    ap (λ ws. file_in (subcommand_of stepmin_app ws)) asks.2 ∙ ap (λ s. file_in (entered (built stepmin_app) s)) stop ∙ file_of_operand asks.1 path asks.3
+    let stop : (walk top.rules names nothing_held (codes "plain" ∷ asks.1)).stopped ≡ Some (codes "plain", asks.1) =
+    ap (λ (w : Walk). w.stopped) (walk_plain asks.1) in
+    ap (λ ws. file_in (subcommand_of stepmin_app ws)) asks.2 ∙ ap (λ s. file_in (entered (built stepmin_app) s)) stop
+    ∙ file_of_operand asks.1 path asks.3
 
 -- the words ask for one file at most
 pub asked_once : (words : List Text) (p q : Text) → AsksPlain words p → AsksPlain words q → p ≡ q
@@ -409,10 +450,12 @@ asked_once words p q a b =
     ap path_in (sym (asked_file words p a) ∙ asked_file words q b)
 
 -- the words ask for a file, or for none
-pub asks_or_not : (words : List Text) → AreTexts words → ((path : Text) × AsksPlain words path) ⊎ ((path : Text) → AsksPlain words path → ⊥)
+pub asks_or_not : (words : List Text) → AreTexts words → ((path : Text) × AsksPlain words path)
+    ⊎ ((path : Text) → AsksPlain words path → ⊥)
 asks_or_not words texts = go (fault_of stepmin_app words) refl
   where
-    go : (kinds : Kinds) → fault_of stepmin_app words ≡ kinds → ((path : Text) × AsksPlain words path) ⊎ ((path : Text) → AsksPlain words path → ⊥)
+    go : (kinds : Kinds) → fault_of stepmin_app words ≡ kinds → ((path : Text) × AsksPlain words path)
+        ⊎ ((path : Text) → AsksPlain words path → ⊥)
     go [] none = inl (asked words texts none)
     go (k ∷ ks) some = inr (λ path asks. some_kind k ks (sym some ∙ asked_fits words path asks))
 
@@ -423,21 +466,32 @@ are_texts (w ∷ ws) = (IsUtf8-string_bytes w, are_texts ws)
 -- ---- what clap answers
 
 -- a parse that succeeds is of words that ask for a file, and finds it
-pub parsed : (app : App) (words : List Text) (m : ArgMatches) → app ≡ stepmin_app → AreTexts words → (is_simple_and_free app ≡ true → fault_of app words ≡ [])
-    → HasMatchesOf app words m → (path : Text) × AsksPlain words path × (file_in (subcommand_rows_of m) ≡ Some (codes "plain", Some path))
+pub parsed : (app : App) (words : List Text) (m : ArgMatches) → app ≡ stepmin_app → AreTexts words
+    → (is_simple_and_free app ≡ true → fault_of app words ≡ [])
+    → HasMatchesOf app words m → (path : Text) × AsksPlain words path
+    × (file_in (subcommand_rows_of m) ≡ Some (codes "plain", Some path))
 parsed app words m is texts fits matches =
-    let found = asked words texts (ap (λ a. fault_of a words) (sym is) ∙ fits (ap is_simple_and_free is ∙ simple_and_free)) in
-    let simple : is_simple app ≡ true = ap is_simple is ∙ simple_stepmin in
-    (found.0, found.1, ap file_in ((matches simple).1 ∙ ap (λ a. subcommand_of a words) is) ∙ asked_file words found.0 found.1)
+    let found = asked words texts (ap (λ a. fault_of a words) (sym is)
+    ∙ fits (ap is_simple_and_free is ∙ simple_and_free)) in
+    let simple : is_simple app ≡ true = ap is_simple is ∙ simple_stepmin in (
+      found.0,
+      found.1,
+      ap file_in ((matches simple).1 ∙ ap (λ a. subcommand_of a words) is) ∙ asked_file words found.0
+          found.1,
+    )
 
 -- a parse that fails does so for want of memory, or by a kind that is due
-fails : (app : App) (words : List Text) (e : Error) → app ≡ stepmin_app → (is_simple_and_free app ≡ true → HasKind (fault_of app words) e) → HasKind (fault_of stepmin_app words) e
-fails app words e is due = subst (λ a. HasKind (fault_of a words) e) is (due (ap is_simple_and_free is ∙ simple_and_free))
+fails : (app : App) (words : List Text) (e : Error) → app ≡ stepmin_app
+    → (is_simple_and_free app ≡ true → HasKind (fault_of app words) e) → HasKind (fault_of stepmin_app words) e
+fails app words e is due = subst (λ a. HasKind (fault_of a words) e) is
+    (due (ap is_simple_and_free is ∙ simple_and_free))
 
 -- words that ask for a file fail for want of memory alone
-pub failed : (app : App) (words : List Text) (path : Text) (e : Error) → app ≡ stepmin_app → (is_simple_and_free app ≡ true → HasKind (fault_of app words) e)
+pub failed : (app : App) (words : List Text) (path : Text) (e : Error) → app ≡ stepmin_app
+    → (is_simple_and_free app ≡ true → HasKind (fault_of app words) e)
     → AsksPlain words path → kind_of e ≡ kind.OutOfMemory
-failed app words path e is due asks = memory (subst (λ ks. HasKind ks e) (asked_fits words path asks) (fails app words e is due))
+failed app words path e is due asks = memory (subst (λ ks. HasKind ks e) (asked_fits words path asks)
+    (fails app words e is due))
   where
     memory : HasKind [] e → kind_of e ≡ kind.OutOfMemory
     memory (inl m) = m
@@ -449,7 +503,8 @@ help_is_no_memory e =
     true≢false (ap is_help e)
 
 -- the refusal is the one that the words call for
-pub refused_calls : (app : App) (words : List Text) (e : Error) (refusal : Refusal) → app ≡ stepmin_app → (is_simple_and_free app ≡ true → HasKind (fault_of app words) e)
+pub refused_calls : (app : App) (words : List Text) (e : Error) (refusal : Refusal) → app ≡ stepmin_app
+    → (is_simple_and_free app ≡ true → HasKind (fault_of app words) e)
     → CallsFor (kind_of e) refusal → CallFor words refusal
 refused_calls app words e refusal is due = calls refusal (fails app words e is due)
   where
@@ -461,7 +516,8 @@ refused_calls app words e refusal is due = calls refusal (fails app words e is d
     calls Memory among other = tt
 
 -- the matches of the subcommand have its FILE
-pub file_among : (o : Option (Text × List Row)) (path : Text) (rows : List Row) → file_in o ≡ Some (codes "plain", Some path) → option_map (λ p. p.1) o ≡ Some rows
+pub file_among : (o : Option (Text × List Row)) (path : Text) (rows : List Row)
+    → file_in o ≡ Some (codes "plain", Some path) → option_map (λ p. p.1) o ≡ Some rows
     → first_of (codes "FILE") rows ≡ Some path
 file_among None path rows found is = absurd (true≢false (sym (ap is_some is)))
 file_among (Some p) path rows found is =
@@ -469,7 +525,8 @@ file_among (Some p) path rows found is =
     let of : Option (List Row) → Option Text = λ o. option_and_then (first_of (codes "FILE")) o in
     sym (ap of is) ∙ ap file found
 
-pub name_among : {Z : Type 0} (o : Option (Box SubCommand Z)) (path : Text) → file_in (subcommand_rows o) ≡ Some (codes "plain", Some path)
+pub name_among : {Z : Type 0} (o : Option (Box SubCommand Z)) (path : Text) → file_in (subcommand_rows o) ≡ Some
+    (codes "plain", Some path)
     → option_map (λ b. (out-SubCommand (box_value b)).name.now) o ≡ Some (codes "plain")
 name_among None path found = absurd (true≢false (sym (ap is_some found)))
 name_among (Some b) path found = ap (option_map (λ q. q.0)) found

@@ -1,5 +1,5 @@
 -- The command line as clap reads it.
-use Rattle.std.specs.Prelude.{true, codes, Option, List, option_map, Some}
+use Rattle.std.specs.Prelude.{◌≡◌, true, codes, Option, List, option_map, Some}
 use Rattle.clap.specs.Walk.{Row, Rule, Text, first_of}
 use Rattle.clap.specs.Simple.{App, new_app, new_rule, on_top, with_rule, with_subcommand}
 use Rattle.clap.specs.declared.builder.action.ArgAction.TheVariants.{Set}
@@ -14,8 +14,13 @@ plain_app = with_rule (new_app (codes "plain")) file_rule
 
 -- the program, which wants a command
 abbrev pub stepmin_app : App
-stepmin_app = with_subcommand (on_top (λ s. record s { subcommand_required = true }) (new_app (codes "stepmin"))) plain_app.top
+stepmin_app = with_subcommand (on_top (λ s. record s { subcommand_required = true }) (new_app (codes "stepmin")))
+    plain_app.top
 
 -- the name of the command that was met, and what its FILE is
 abbrev pub file_in : Option (Text × List Row) → Option (Text × Option Text)
 file_in = option_map (λ p. (p.0, first_of (codes "FILE") p.1))
+
+-- The command that was met is `plain`, and its FILE is this.
+abbrev pub HasFile : Option (Text × List Row) → Text → Type 0
+HasFile met path = file_in met ≡ Some (codes "plain", Some path)

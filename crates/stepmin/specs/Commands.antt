@@ -1,5 +1,9 @@
 -- The words of the command line.
-use Rattle.std.specs.Prelude.{◌≡◌, ◌⊎◌, ℕ, List, [], ◌∷◌, codes}
+use Rattle.std.specs.Prelude.{◌≡◌, ◌⊎◌, ℕ, List, [], ◌∷◌, String, codes, map, string_bytes}
+
+-- the bytes of each word
+abbrev pub texts : {Z : Type 0} → List (String Z) → List (List ℕ)
+texts words = map string_bytes words
 
 -- it is no option: it begins with no hyphen (45), or is that alone
 abbrev pub IsOperand : List ℕ → Type 0
@@ -18,4 +22,9 @@ AreOperand words operand = ((words ≡ operand ∷ []) × IsOperand operand)
 
 -- The words, the program's own name first, ask for the normal text of the file of this path.
 abbrev pub AsksPlain : List (List ℕ) → List ℕ → Type 0
-AsksPlain words path = (program : List ℕ) × (operands : List (List ℕ)) × (words ≡ program ∷ codes "plain" ∷ operands) × AreOperand operands path
+AsksPlain words path = (program : List ℕ) × (operands : List (List ℕ)) × (words ≡ program ∷ codes "plain" ∷ operands)
+    × AreOperand operands path
+
+-- They ask for the normal text of no file.
+abbrev pub AsksNoPlain : List (List ℕ) → Type 0
+AsksNoPlain words = (path : List ℕ) → AsksPlain words path → ⊥

@@ -1,10 +1,10 @@
 -- What `plain` answers, and what goes out.
 use Rattle.std.specs.Prelude.{◌≡◌, ◌≤◌, ◌<◌, ◌^◌, ◌⊎◌, ℕ, List, length, Option, IfSome, Bool, true, false, Result, Ok, Err}
 use Rattle.std.specs.Io.KnownBytes.{Appends, Keeps}
-use Rattle.step_exchange.specs.declared.fault.Kind.{Kind}
-use Rattle.step_exchange.specs.declared.fault.Kind.TheVariants.{LeftOut}
+use Rattle.step_exchange.specs.declared.fault.FaultKind.{FaultKind}
+use Rattle.step_exchange.specs.declared.fault.FaultKind.TheVariants.{LeftOut}
 use Rattle.step_exchange.specs.declared.fault.LeftOut.TheVariants.{TooLarge}
-use Rattle.step_exchange.specs.Emits.{EmitsFront}
+use Rattle.devices.specs.Emits.{EmitsFront}
 use Rattle.step_exchange.specs.Normal.{plain_text}
 use Rattle.step_exchange.specs.Texts.{ReadsAs, IsFirstFault}
 use Rattle.step_exchange.specs.Trees as trees
@@ -14,14 +14,15 @@ use Rattle.stepmin.specs.declared.plain.Fault.TheVariants.{Text, File, Output, M
 -- The bytes are at most 2^40 and read as some structure, and this is its normal text.
 pub record HasPlain (text bytes : List ℕ) : Type 0 where
   pub within : length bytes ≤ 2 ^ 40
-  pub front : List ℕ
+  pub header_bytes : List ℕ
   pub file : trees.File
-  pub reads : ReadsAs bytes front file
-  pub text_is : text ≡ plain_text front file.rows
+  pub reads : ReadsAs bytes header_bytes file
+  pub text_is : text ≡ plain_text header_bytes file.rows
 
 -- The bytes are more than 2^40, or this is the fault in them that shows first.
-abbrev pub HasFault : Kind → ℕ → List ℕ → Type 0
-HasFault kind place bytes = (2 ^ 40 < length bytes × (kind ≡ LeftOut TooLarge) × (place ≡ 2 ^ 40)) ⊎ (length bytes ≤ 2 ^ 40 × IsFirstFault bytes kind place)
+abbrev pub HasFault : FaultKind → ℕ → List ℕ → Type 0
+HasFault kind place bytes = (2 ^ 40 < length bytes × (kind ≡ LeftOut TooLarge) × (place ≡ 2 ^ 40))
+    ⊎ (length bytes ≤ 2 ^ 40 × IsFirstFault bytes kind place)
 
 -- The answer to the bytes that were to come, where they are told (a slice tells them, a file doesn't), and to
 -- what the output held and holds, where that is told:
@@ -30,7 +31,8 @@ abbrev pub Plain : Option (List ℕ) → Option (List ℕ) → Option (List ℕ)
 Plain coming old new (Ok _) = (text : List ℕ) × IfSome coming (HasPlain text) × Appends old new text
 Plain coming old new (Err (Text kind place)) = IfSome coming (HasFault kind place) × Keeps old new
 Plain coming old new (Err File) = Keeps old new
-Plain coming old new (Err (Output written)) = (text : List ℕ) × IfSome coming (HasPlain text) × EmitsFront old new text written
+Plain coming old new (Err (Output written)) = (text : List ℕ) × IfSome coming (HasPlain text) × EmitsFront old new text
+    written
 Plain coming old new (Err Memory) = Keeps old new
 
 abbrev pub is_file_fault : Result Unit Fault → Bool

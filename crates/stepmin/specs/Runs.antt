@@ -2,7 +2,7 @@
 use Rattle.std.specs.Prelude.{◌≡◌, ◌++◌, ◌⊎◌, ℕ, List, Option, Bool, false, Result, string_bytes}
 use Rattle.std.specs.Bool.{if◌then◌else◌}
 use Rattle.std.specs.Io.KnownBytes.{Appends, Keeps}
-use Rattle.stepmin.specs.Commands.{AsksPlain}
+use Rattle.stepmin.specs.Commands.{AsksNoPlain, AsksPlain}
 use Rattle.stepmin.specs.Plain.{Plain}
 use Rattle.stepmin.specs.Requests.{AsksHelp, AsksWrongly}
 use Rattle.stepmin.specs.Statuses.{outcome_status}
@@ -12,10 +12,14 @@ use Rattle.stepmin.specs.declared.usage.Request.TheVariants as requests
 use Rattle.stepmin.specs.declared.usage.Refusal.{Refusal}
 use Rattle.stepmin.specs.declared.usage.Refusal.TheVariants.{Help, Usage, Memory}
 
+-- A front of the text went out.
+abbrev pub AppendsFront : Option (List ℕ) → Option (List ℕ) → List ℕ → Type 0
+AppendsFront old new text = (sent : List ℕ) × (left : List ℕ) × (text ≡ sent ++ left) × Appends old new sent
+
 -- The text went out, and this is the status; or a front of it did, and the status is a device's.
 abbrev pub Prints : Option (List ℕ) → Option (List ℕ) → List ℕ → ℕ → ℕ → Type 0
 Prints old new text wanted status = ((status ≡ wanted) × Appends old new text)
-    ⊎ ((status ≡ 4) × ((sent : List ℕ) × (left : List ℕ) × (text ≡ sent ++ left) × Appends old new sent))
+    ⊎ ((status ≡ 4) × AppendsFront old new text)
 
 -- The status is the outcome's, or a device's where the line of a fault can't be printed: where the error
 -- output, which had not failed `before`, has `after`.
@@ -37,7 +41,8 @@ pub record RunsPlain (contents old new : Option (List ℕ)) (before after : Bool
 
 -- What is asked for was done.
 abbrev pub Does : Request → (List ℕ → Option (List ℕ)) → Option (List ℕ) → Option (List ℕ) → Bool → Bool → ℕ → Type 0
-Does (requests.Plain path) contents old new before after status = RunsPlain (contents path.now) old new before after status
+Does (requests.Plain path) contents old new before after status = RunsPlain (contents path.now) old new before after
+    status
 
 -- A help text went out, for which the words call, or a front of it; or nothing did.
 abbrev pub RunsNothing : List (List ℕ) → Option (List ℕ) → Option (List ℕ) → ℕ → Type 0
@@ -47,6 +52,8 @@ RunsNothing words old new status = ((status ≡ 0) × AsksHelp words × ((text :
     ⊎ ((status ≡ 5) × Keeps old new)
 
 -- The words ask for the normal text of a file, and that was run; or they ask for no file's.
-abbrev pub Runs : List (List ℕ) → (List ℕ → Option (List ℕ)) → Option (List ℕ) → Option (List ℕ) → Bool → Bool → ℕ → Type 0
-Runs words contents old new before after status = ((path : List ℕ) × AsksPlain words path × RunsPlain (contents path) old new before after status)
-    ⊎ (((path : List ℕ) → AsksPlain words path → ⊥) × RunsNothing words old new status)
+abbrev pub Runs : List (List ℕ) → (List ℕ → Option (List ℕ)) → Option (List ℕ) → Option (List ℕ) → Bool → Bool → ℕ
+    → Type 0
+Runs words contents old new before after status = ((path : List ℕ) × AsksPlain words path × RunsPlain (contents path)
+    old new before after status)
+    ⊎ (AsksNoPlain words × RunsNothing words old new status)

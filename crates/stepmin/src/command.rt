@@ -1,20 +1,28 @@
 //! The command line, over any store of files and any outputs.
 
-ghost use Rattle.std.specs.Prelude.{◌≡◌, ◌++◌, ◌⊎◌, ℕ, List, Bool, true, false, OnOk, is_err, map, string_bytes, MatchResult};
+ghost use Rattle.std.specs.Prelude.{◌≡◌, ◌⊎◌, ℕ, List, Err, true, false, OnOk, is_err, MatchResult};
 ghost use Rattle.std.specs.Bool.{if◌then◌else◌};
 ghost use Rattle.std.specs.Io.KnownBytes.{Appends, Keeps};
-ghost use Rattle.stepmin.specs.Commands.{AsksPlain};
-ghost use Rattle.stepmin.specs.Runs.{Does, IsStatusFor, Prints, Refuses, Runs, RunsPlain};
+ghost use Rattle.stepmin.specs.Commands.{AsksNoPlain, AsksPlain, texts};
+ghost use Rattle.stepmin.specs.Runs.{
+  AppendsFront,
+  Does,
+  IsStatusFor,
+  Prints,
+  Refuses,
+  Runs,
+  RunsPlain,
+};
 ghost use Rattle.stepmin.specs.declared.usage.Refusal.TheVariants.{Memory};
-ghost use Rattle.stepmin.specs.Statuses.{IsStatus, fault_status, outcome_status};
+ghost use Rattle.stepmin.specs.Statuses.{IsStatus, fault_status};
 
 use crate::plain::{Fault, plain};
 use crate::store::Store;
 use crate::usage::{Refusal, Request, read_words};
 use arrayvec::ArrayString;
+use devices::device::{Failed, Sink};
 use std::alloc::Global;
 use std::fmt::Write;
-use step_exchange::device::{Failed, Sink};
 
 /// The status where all is done.
 pub const DONE: u8 = 0;
@@ -50,7 +58,7 @@ pub fn status_of(fault: &Fault) -> u8
 fn send<S: Sink>(out: &mut S, text: &str) -> Result<(), Failed>
     ensures sent { MatchResult result
         (λ _. Appends (S.held out.old) (S.held out.new) text.now)
-        (λ _. (sent : List ℕ) × (left : List ℕ) × (text.now ≡ sent ++ left) × Appends (S.held out.old) (S.held out.new) sent) }
+        (λ _. AppendsFront (S.held out.old) (S.held out.new) text.now) }
     ensures failed { S.has_failed out.old ≡ false → S.has_failed out.new ≡ is_err result }
 {
     let mut rest = text.as_bytes();
@@ -62,10 +70,12 @@ fn send<S: Sink>(out: &mut S, text: &str) -> Result<(), Failed>
     Ok(())
 }
 
-// Prints the text, and answers the status: this one, or the device's where the text can't be printed.
+// Prints the text, and answers the status: this one, or the device's where the text can't be
+// printed.
 fn print<S: Sink>(out: &mut S, text: &str, status: u8) -> u8
     ensures prints { Prints (S.held out.old) (S.held out.new) text.now status result }
-    ensures failed { S.has_failed out.old ≡ false → result ≡ (if S.has_failed out.new then 4 else status) }
+    ensures failed { S.has_failed out.old ≡ false
+        → result ≡ (if S.has_failed out.new then 4 else status) }
 {
     match send(out, text) {
         Ok(()) => status,
@@ -73,8 +83,8 @@ fn print<S: Sink>(out: &mut S, text: &str, status: u8) -> u8
     }
 }
 
-// Prints the line of a fault, and answers the status for what a command came to, or the device's where
-// the line can't be printed.
+// Prints the line of a fault, and answers the status for what a command came to, or the device's
+// where the line can't be printed.
 fn finish<E: Sink>(outcome: Result<(), Fault>, err: &mut E) -> u8
     ensures status { IsStatusFor outcome (E.has_failed err.old) (E.has_failed err.new) result }
     ensures silent { OnOk outcome ((result ≡ 0) × (err.new ≡ err.old)) }
@@ -90,11 +100,14 @@ fn finish<E: Sink>(outcome: Result<(), Fault>, err: &mut E) -> u8
     }
 }
 
-/// Prints why nothing is done, and answers the status: a help text on `out`, and everything else on `err`.
+/// Prints why nothing is done, and answers the status: a help text on `out`, and everything else
+/// on `err`.
 pub fn refuse<O: Sink, E: Sink>(refusal: Refusal, out: &mut O, err: &mut E) -> u8
     ensures status { IsStatus result }
-    ensures refuses { Refuses refusal (O.held out.old) (O.held out.new) (E.held err.old) (E.held err.new) result }
-    ensures memory { refusal ≡ Memory → IsStatusFor (Err Fault.Memory) (E.has_failed err.old) (E.has_failed err.new) result }
+    ensures refuses { Refuses refusal
+        (O.held out.old) (O.held out.new) (E.held err.old) (E.held err.new) result }
+    ensures memory { refusal ≡ Memory
+        → IsStatusFor (Err Fault.Memory) (E.has_failed err.old) (E.has_failed err.new) result }
     // Nothing goes out but for a help text, and where a device fails.
     ensures unwritten { (result ≡ 0) ⊎ (result ≡ 4) ⊎ Keeps (O.held out.old) (O.held out.new) }
     // Where an output fails, the status says so.
@@ -116,7 +129,8 @@ fn run<'p, S: Store<'p>, O: Sink, E: Sink>(
     out: &mut O,
     err: &mut E,
 ) -> u8
-    ensures does { Does request.entry (S.contents store.old) (O.held out.old) (O.held out.new) (E.has_failed err.old) (E.has_failed err.new) result }
+    ensures does { Does request.entry (S.contents store.old)
+        (O.held out.old) (O.held out.new) (E.has_failed err.old) (E.has_failed err.new) result }
     ensures out_failed { O.has_failed out.old ≡ false → O.has_failed out.new ≡ true → result ≡ 4 }
 {
     match request {
@@ -127,9 +141,9 @@ fn run<'p, S: Store<'p>, O: Sink, E: Sink>(
     }
 }
 
-/// Runs the command line of these words, the program's own name first, and answers the exit status: 0
-/// where all is done, 2 where the text of a file can't be read, 3 where the words are wrong, 4 where a
-/// device fails, and 5 where memory runs out.
+/// Runs the command line of these words, the program's own name first, and answers the exit status:
+/// 0 where all is done, 2 where the text of a file can't be read, 3 where the words are wrong, 4
+/// where a device fails, and 5 where memory runs out.
 ///
 /// A fault is a line on `err`. Where that can't be printed, or a help text can't, nothing more is.
 pub fn run_command<'p, S: Store<'p>, O: Sink, E: Sink>(
@@ -139,11 +153,14 @@ pub fn run_command<'p, S: Store<'p>, O: Sink, E: Sink>(
     out: &mut O,
     err: &mut E,
 ) -> u8
-    ensures runs { Runs (map string_bytes words.now) (S.contents store.old) (O.held out.old) (O.held out.new) (E.has_failed err.old) (E.has_failed err.new) result }
+    ensures runs { Runs (texts words.now) (S.contents store.old)
+        (O.held out.old) (O.held out.new) (E.has_failed err.old) (E.has_failed err.new) result }
     // Where the words ask for the normal text of a file, that is done with what the file holds.
-    ensures plain { (path : List ℕ) → AsksPlain (map string_bytes words.now) path → RunsPlain (S.contents store.old path) (O.held out.old) (O.held out.new) (E.has_failed err.old) (E.has_failed err.new) result }
+    ensures plain { (path : List ℕ) → AsksPlain (texts words.now) path
+        → RunsPlain (S.contents store.old path)
+        (O.held out.old) (O.held out.new) (E.has_failed err.old) (E.has_failed err.new) result }
     // No file is opened where they ask for none.
-    ensures unopened { ((path : List ℕ) → AsksPlain (map string_bytes words.now) path → ⊥) → store.new ≡ store.old }
+    ensures unopened { AsksNoPlain (texts words.now) → store.new ≡ store.old }
     ensures status { IsStatus result }
     // Nothing goes out but where all is done, and where a device fails.
     ensures unwritten { (result ≡ 0) ⊎ (result ≡ 4) ⊎ Keeps (O.held out.old) (O.held out.new) }

@@ -1,10 +1,10 @@
 //! The file system as a store.
 
 use crate::store::Store;
+use devices::counted::Counted;
 use std::io::{Read, Write};
 use std::rt::Files;
 use std::{fs, io};
-use step_exchange::counted::Counted;
 
 #[cfg(test)]
 mod tests;

@@ -1,4 +1,4 @@
-//! `stepmin` reads STEP files (ISO 10303-21). `stepmin plain FILE` writes the normal text of a file.
+//! `stepmin` reads STEP files (ISO 10303-21). `stepmin plain FILE` writes a file's normal text.
 #![tactic(auto)]
 
 mod command;
@@ -13,10 +13,10 @@ mod usage;
 use crate::command::{refuse, run_command};
 use crate::files::Folder;
 use crate::usage::unread_words;
+use devices::counted::Counted;
 use std::env::Env;
 use std::io;
 use std::process::ExitCode;
-use step_exchange::counted::Counted;
 
 // The words of the command line. An error is `OutOfMemory` where memory runs out.
 fn words<R: Env + AllocGlobal>(rt: &R) -> io::Result<Vec<String>> {

@@ -5,10 +5,10 @@ ghost use Rattle.stepmin.specs.Plain.{Plain, is_file_fault, is_output_fault};
 ghost use Rattle.stepmin.specs.Faults.{read_fault, text_fault, write_fault};
 
 use crate::read::{ReadFault, read_whole};
+use devices::device::{Sink, Source, WriteFault};
 use std::alloc::Global;
-use step_exchange::device::{Sink, Source, WriteFault};
 use step_exchange::exchange::read_exchange;
-use step_exchange::fault::{Kind, LeftOut, TextFault};
+use step_exchange::fault::{FaultKind, LeftOut, TextFault};
 use step_exchange::write::write_plain;
 use thiserror::Error;
 
@@ -18,10 +18,10 @@ pub const LIMIT: u64 = 1 << 40;
 /// Why a command ends before it is done. Each prints as the line that says so.
 #[derive(Clone, Copy, Debug, PartialEq, Eq, Error)]
 pub enum Fault {
-    /// The file's text is no exchange structure: the fault that shows first, and the number of bytes
-    /// before it.
+    /// The file's text is no exchange structure: the fault that shows first, and the number of
+    /// bytes before it.
     #[error("file: {kind} at byte {place}")]
-    Text { kind: Kind, place: u64 },
+    Text { kind: FaultKind, place: u64 },
     /// The file can't be opened or read.
     #[error("device: file")]
     File,
@@ -40,7 +40,7 @@ impl From<ReadFault> for Fault {
         match fault {
             ReadFault::Device => Fault::File,
             ReadFault::TooLarge => Fault::Text {
-                kind: Kind::LeftOut(LeftOut::TooLarge),
+                kind: FaultKind::LeftOut(LeftOut::TooLarge),
                 place: LIMIT,
             },
             ReadFault::Memory => Fault::Memory,
@@ -73,14 +73,16 @@ impl From<WriteFault> for Fault {
 /// byte is written.
 ///
 /// `Text` comes where they are no exchange structure, and for `TooLarge` where they are more than
-/// 2^40; `File` where the source fails, `Output` where the output does, and `Memory` where memory runs
-/// out.
+/// 2^40; `File` where the source fails, `Output` where the output does, and `Memory` where memory
+/// runs out.
 pub fn plain<S: Source, O: Sink>(alloc: Global, source: &mut S, out: &mut O) -> Result<(), Fault>
     // What went out is the normal text, or nothing, or a front of it.
     ensures plain { Plain (S.to_come source.old) (O.held out.old) (O.held out.new) result }
     // The fault is the file's exactly where the source failed, and the output's where that did.
-    ensures file_fault { S.has_failed source.old ≡ false → S.has_failed source.new ≡ is_file_fault result }
-    ensures output_fault { O.has_failed out.old ≡ false → O.has_failed out.new ≡ is_output_fault result }
+    ensures file_fault { S.has_failed source.old ≡ false
+        → S.has_failed source.new ≡ is_file_fault result }
+    ensures output_fault { O.has_failed out.old ≡ false
+        → O.has_failed out.new ≡ is_output_fault result }
 {
     let bytes = read_whole(alloc, source, LIMIT)?;
     let exchange = read_exchange(alloc, &bytes)?;

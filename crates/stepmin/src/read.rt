@@ -1,12 +1,12 @@
 //! A source read to its end.
 
-ghost use Rattle.std.specs.Prelude.{◌≡◌, ◌≤◌, ◌<◌, ◌+◌, ◌++◌, ℕ, List, Bool, false, length, IfOk, OnErr, IfSome, IsErrOf, MatchResult, vec_len};
-ghost use Rattle.std.specs.Io.KnownBytes.{Consumes, IsAtEnd, Keeps};
-ghost use Rattle.stepmin.specs.Reads.{device_failed};
+ghost use Rattle.std.specs.Prelude.{◌≡◌, ◌≤◌, ◌<◌, false, length, IfOk, IsErrOf, MatchResult};
+ghost use Rattle.std.specs.Io.KnownBytes.{IsAtEnd, Keeps};
+ghost use Rattle.stepmin.specs.Reads.{IsBeyond, ReadsBehind, ReadsWhole, device_failed};
 ghost use Rattle.stepmin.specs.declared.read.ReadFault.TheVariants.{TooLarge};
 
+use devices::device::Source;
 use std::alloc::Global;
-use step_exchange::device::Source;
 use thiserror::Error;
 
 #[cfg(test)]
@@ -37,11 +37,13 @@ fn read_more<S: Source>(
     requires some { 0 < room }
     requires most { room ≤ 65536 }
     ensures read { MatchResult result
-        (λ count. (got : List ℕ) × (bytes.new.items ≡ bytes.old.items ++ got) × (length got ≡ count) × Consumes (S.to_come source.old) (S.to_come source.new) got)
+        (λ count. ReadsBehind (S.to_come source.old) (S.to_come source.new)
+        bytes.old.items bytes.new.items count)
         (λ _. Keeps (S.to_come source.old) (S.to_come source.new)) }
     ensures within { IfOk result (λ count. count ≤ room) }
     ensures end { IfOk result (λ count. count ≡ 0 → IsAtEnd (S.to_come source.new)) }
-    ensures failed { S.has_failed source.old ≡ false → S.has_failed source.new ≡ device_failed result }
+    ensures failed { S.has_failed source.old ≡ false
+        → S.has_failed source.new ≡ device_failed result }
     ensures fault { IsErrOf result TooLarge → ⊥ }
 {
     let start = bytes.len();
@@ -64,10 +66,12 @@ pub fn read_whole<S: Source>(
     source: &mut S,
     limit: u64,
 ) -> Result<Vec<u8>, ReadFault>
-    ensures all { IfOk result (λ bytes. Consumes (S.to_come source.old) (S.to_come source.new) bytes.items × IsAtEnd (S.to_come source.new)) }
+    ensures all { IfOk result (λ bytes.
+        ReadsWhole (S.to_come source.old) (S.to_come source.new) bytes.items) }
     ensures within { IfOk result (λ bytes. length bytes.items ≤ limit) }
-    ensures too_large { IsErrOf result TooLarge → IfSome (S.to_come source.old) (λ coming. limit < length coming) }
-    ensures failed { S.has_failed source.old ≡ false → S.has_failed source.new ≡ device_failed result }
+    ensures too_large { IsErrOf result TooLarge → IsBeyond limit (S.to_come source.old) }
+    ensures failed { S.has_failed source.old ≡ false
+        → S.has_failed source.new ≡ device_failed result }
 {
     let mut bytes = Vec::new(alloc);
     while bytes.len() as u64 <= limit {

@@ -2,10 +2,10 @@
 
 ghost use Rattle.std.specs.Prelude.{◌≡◌, ℕ, List, Option, None, false};
 
-use step_exchange::device::{Sink, Source};
+use devices::device::{Sink, Source};
 
-/// A place where files lie under their paths. What it gives is owned, so that several files are open
-/// at once.
+/// A place where files lie under their paths. What it gives is owned, so that several files are
+/// open at once.
 pub trait Store<'p> {
     // what the file of this path holds, where the store tells it
     ghost contents: { Self → List ℕ → Option (List ℕ) } = { λ _ _. None };

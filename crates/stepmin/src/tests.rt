@@ -8,22 +8,41 @@ use crate::command::run_command;
 use crate::plain::Fault;
 use crate::read::ReadFault;
 use crate::store::Store;
+use devices::counted::Counted;
 use std::alloc::{AllocError, Global};
 use std::io;
 use std::io::{Read, Write};
 use std::test::Fail;
-use step_exchange::counted::Counted;
 
-const HEADER: &str = "ISO-10303-21;\n\
+const FILE: &str = "ISO-10303-21;\n\
     HEADER;\n\
     FILE_DESCRIPTION((''),'2;1');\n\
     FILE_NAME('','',(''),(''),'','','');\n\
     FILE_SCHEMA(('GEO'));\n\
-    ENDSEC;\n";
+    ENDSEC;\n\
+    DATA;\n\
+    ENDSEC;\n\
+    END-ISO-10303-21;\n";
 
-const DATA: &str = "DATA;\n";
+// Lists in lists, as deep as they may be.
+const DEEP: &str = "DATA;\n#1=A\
+    ((((((((((((((((((((((((((((((((\
+    ((((((((((((((((((((((((((((((((\
+    ))))))))))))))))))))))))))))))))\
+    ))))))))))))))))))))))))))))))));\n";
 
-const END: &str = "ENDSEC;\nEND-ISO-10303-21;\n";
+const TOO_DEEP: &str = "DATA;\n#1=A(\
+    ((((((((((((((((((((((((((((((((\
+    ((((((((((((((((((((((((((((((((\
+    ))))))))))))))))))))))))))))))))\
+    )))))))))))))))))))))))))))))))));\n";
+
+const TYPED_TOO_DEEP: &str = "DATA;\n#1=A\
+    ((((((((((((((((((((((((((((((((\
+    ((((((((((((((((((((((((((((((((\
+    B(1)\
+    ))))))))))))))))))))))))))))))))\
+    ))))))))))))))))))))))))))))))));\n";
 
 // What comes of a file: none where it isn't there, and a failure where it should end.
 #[derive(Drop)]
@@ -119,10 +138,10 @@ struct Ending {
 }
 
 // A command line over the file, where the outputs have this room.
-fn run_in(
+fn run(
     alloc: Global,
     words: &[&str],
-    file: &[u8],
+    file: &str,
     breaks: bool,
     out_room: usize,
     err_room: usize,
@@ -133,7 +152,7 @@ fn run_in(
     }
     let mut store = Shelf {
         alloc,
-        bytes: file,
+        bytes: file.as_bytes(),
         breaks,
     };
     let mut out = Counted::new(Paper::new(alloc, out_room));
@@ -146,208 +165,391 @@ fn run_in(
     })
 }
 
-fn run(alloc: Global, words: &[&str], file: &[u8]) -> Result<Ending, AllocError> {
-    run_in(alloc, words, file, false, usize::MAX, usize::MAX)
-}
-
-fn plain(alloc: Global, file: &str) -> Result<Ending, AllocError> {
-    run(alloc, &["stepmin", "plain", "F"], file.as_bytes())
-}
-
-// A file of these instances.
-fn file_of(alloc: Global, rows: &str) -> Result<String, AllocError> {
-    format!(in alloc; "{HEADER}{DATA}{rows}{END}")
-}
-
-fn nested(alloc: Global, levels: usize) -> Result<String, AllocError> {
-    let mut rows = String::from_str(alloc, "#1=A")?;
-    for _ in 0..levels {
-        rows.push('(')?;
-    }
-    for _ in 0..levels {
-        rows.push(')')?;
-    }
-    rows.push_str(";\n")?;
-    file_of(alloc, rows.as_str())
-}
-
+// The file with `new` for `old` gives the file with this text for `old`, or is refused with this line.
 #[test]
-fn a_normal_text_stays(rt: HostRuntime) -> Result<(), Fail> {
+fn a_text_is_written_or_refused(rt: HostRuntime) -> Result<(), Fail> {
     let alloc = rt.alloc();
-    let file = file_of(alloc, "#01 = point ( ( 0., /* c */ 1. ) ) ;\n")?;
-    let want = file_of(alloc, "#1=POINT((0.,1.));\n")?;
-    let first = plain(alloc, file.as_str())?;
-    assert_eq!(rt; first.status, 0);
-    assert_eq!(rt; first.out.as_slice(), want.as_bytes());
-    assert!(rt; first.err.is_empty());
-    let second = run(alloc, &["stepmin", "plain", "F"], &first.out)?;
-    assert_eq!(rt; second.status, 0);
-    assert_eq!(rt; second.out, first.out);
-    Ok(())
-}
-
-#[test]
-fn what_is_spelt_stays(rt: HostRuntime) -> Result<(), Fail> {
-    let alloc = rt.alloc();
-    for rows in [
-        "",
-        "#1=A('ab\nc');\n",
-        "#1=A('C:\\temp');\n",
-        "#1=(SHAPE('')SOLID(LEN_M(1.E2),\"0F\",.T.,#1,$,*));\n",
-    ] {
-        let file = file_of(alloc, rows)?;
-        let run = plain(alloc, file.as_str())?;
-        assert_eq!(rt; run.status, 0, "{rows}");
-        assert_eq!(rt; run.out.as_slice(), file.as_bytes(), "{rows}");
-    }
-    let deep = nested(alloc, 64)?;
-    let run = plain(alloc, deep.as_str())?;
-    assert_eq!(rt; run.status, 0);
-    assert_eq!(rt; run.out.as_slice(), deep.as_bytes());
-    Ok(())
-}
-
-// The file is refused with this line, and nothing goes out.
-fn refused(alloc: Global, file: &str, line: &str) -> Result<bool, AllocError> {
-    let run = plain(alloc, file)?;
-    let want = format!(in alloc; "{line}\n")?;
-    Ok(run.status == 2 && run.out.is_empty() && run.err.as_slice() == want.as_bytes())
-}
-
-#[test]
-fn faulty_rows_are_refused(rt: HostRuntime) -> Result<(), Fail> {
-    let alloc = rt.alloc();
-    for (rows, line) in [
-        ("#1=SHAPE('abc\n", "file: E2 UnendedString at byte 134"),
-        ("#1=SHAPE('\\X2\\00E');\n", "file: E3 BadEscape at byte 135"),
-        ("#1=&SCOPE\n", "file: E8 LeftOut Scope at byte 128"),
-        ("#1=!A();\n", "file: E8 LeftOut UserDefined at byte 128"),
-        ("ENDSEC;\nDATA;\n", "file: E8 LeftOut Sections at byte 133"),
+    for (old, new, want) in [
+        // Layout, case and the spelling of names go, and that is all.
+        ("DATA;\n", "DATA;\n", Ok("DATA;\n")),
         (
-            "#1=POINT((0.));\n#1=POINT((0.));\n",
-            "file: E7 DuplicateName at byte 141",
-        ),
-        ("#1=(A()A());\n", "file: E7 DuplicateName at byte 132"),
-        ("#1=(A()a());\n", "file: E7 DuplicateName at byte 132"),
-        ("#01=A();\n#1=A();\n", "file: E7 DuplicateName at byte 134"),
-        ("#1=();\n", "file: E6 Expected at byte 129"),
-        ("#1=A(?);\n", "file: E1 BadToken at byte 130"),
-        ("#1=A(/* c );\n", "file: E1 BadToken at byte 130"),
-        ("#1=A(1.E1000000);\n", "file: E4 NumberTooLong at byte 130"),
-        (
-            "#18446744073709551616=POINT((0.));\n",
-            "file: E5 NameTooLarge at byte 125",
-        ),
-    ] {
-        let file = file_of(alloc, rows)?;
-        assert!(rt; refused(alloc, file.as_str(), line)?, "{line}");
-    }
-    let deep = nested(alloc, 65)?;
-    assert!(rt; refused(alloc, deep.as_str(), "file: E9 TooDeep at byte 193")?);
-    let typed = nested(alloc, 64)?.replace(alloc, "()", "(B(1))")?;
-    assert!(rt; refused(alloc, typed.as_str(), "file: E9 TooDeep at byte 193")?);
-    Ok(())
-}
-
-#[test]
-fn a_keyword_stands_once_among_many(rt: HostRuntime) -> Result<(), Fail> {
-    let alloc = rt.alloc();
-    let twelve = "#1=(A()B()C()D()E()F()G()H()I()J()K()L());\n";
-    let file = file_of(alloc, twelve)?;
-    let run = plain(alloc, file.as_str())?;
-    assert_eq!(rt; run.status, 0);
-    assert_eq!(rt; run.out.as_slice(), file.as_bytes());
-    let line = "file: E7 DuplicateName at byte 162";
-    for keyword in ["k()", "h()"] {
-        let faulty = file.replace(alloc, "L()", keyword)?;
-        assert!(rt; refused(alloc, faulty.as_str(), line)?, "{keyword}");
-    }
-    Ok(())
-}
-
-#[test]
-fn faulty_sections_are_refused(rt: HostRuntime) -> Result<(), Fail> {
-    let alloc = rt.alloc();
-    let cut = format!(in alloc; "{HEADER}{DATA}ENDSEC;\n")?;
-    assert!(rt; refused(alloc, cut.as_str(), "file: E6 Expected at byte 133")?);
-    let named = format!(in alloc; "{HEADER}DATA('a',('GEO'));\n{END}")?;
-    assert!(rt;
-        refused(
-            alloc,
-            named.as_str(),
-            "file: E8 LeftOut Sections at byte 123"
-        )?
-    );
-    let anchor = format!(in alloc; "{HEADER}ANCHOR;\n{END}")?;
-    assert!(rt;
-        refused(
-            alloc,
-            anchor.as_str(),
-            "file: E8 LeftOut Anchor at byte 119"
-        )?
-    );
-    let file = file_of(alloc, "")?;
-    let schemas = file.replace(alloc, "('GEO')", "('GEO','GEA')")?;
-    assert!(rt; refused(alloc, schemas.as_str(), "file: E10 HeaderFault at byte 89")?);
-    Ok(())
-}
-
-#[test]
-fn faulty_headers_are_refused(rt: HostRuntime) -> Result<(), Fail> {
-    let alloc = rt.alloc();
-    let file = file_of(alloc, "")?;
-    for (old, new, line) in [
-        (
-            "FILE_SCHEMA(('GEO'));\n",
-            "",
-            "file: E10 HeaderFault at byte 89",
+            "DATA;\n",
+            "DATA;\n#01 = point ( ( 0., /* c */ 1. ) ) ;\n",
+            Ok("DATA;\n#1=POINT((0.,1.));\n"),
         ),
         (
-            "FILE_NAME",
-            "FILE_NAMES",
-            "file: E10 HeaderFault at byte 52",
+            "DATA;\n",
+            "DATA;\n#1=POINT((0.,1.));\n",
+            Ok("DATA;\n#1=POINT((0.,1.));\n"),
         ),
-        ("('GEO')", "'GEO'", "file: E10 HeaderFault at byte 89"),
-        ("('GEO')", "()", "file: E10 HeaderFault at byte 89"),
-        ("'GEO'", "'GEO',?", "file: E1 BadToken at byte 108"),
+        (
+            "DATA;\n",
+            "DATA;\n#1=A('ab\nc');\n",
+            Ok("DATA;\n#1=A('ab\nc');\n"),
+        ),
+        (
+            "DATA;\n",
+            "DATA;\n#1=A('C:\\temp');\n",
+            Ok("DATA;\n#1=A('C:\\temp');\n"),
+        ),
+        (
+            "DATA;\n",
+            "DATA;\n#1=(SHAPE('')SOLID(LEN_M(1.E2),\"0F\",.T.,#1,$,*));\n",
+            Ok("DATA;\n#1=(SHAPE('')SOLID(LEN_M(1.E2),\"0F\",.T.,#1,$,*));\n"),
+        ),
+        (
+            "DATA;\n",
+            "DATA;\n#1=(A()B()C()D()E()F()G()H()I()J()K()L());\n",
+            Ok("DATA;\n#1=(A()B()C()D()E()F()G()H()I()J()K()L());\n"),
+        ),
+        ("DATA;\n", DEEP, Ok(DEEP)),
+        (
+            "'GEO'));\n",
+            "'GEO'));\nENDSEC();\n",
+            Ok("'GEO'));\nENDSEC();\n"),
+        ),
+        (
+            "ISO-10303-21;\nHEADER",
+            "\u{feff} ISO-10303-21;\nHEADER",
+            Ok("ISO-10303-21;\nHEADER"),
+        ),
+        (
+            "END-ISO-10303-21;\n",
+            "END-ISO-10303-21;\n /* the end */",
+            Ok("END-ISO-10303-21;\n"),
+        ),
+        // Instances.
+        (
+            "DATA;\n",
+            "DATA;\n#1=SHAPE('abc\n",
+            Err("file: E2 UnendedString at byte 134"),
+        ),
+        (
+            "DATA;\n",
+            "DATA;\n#1=SHAPE('\\X2\\00E');\n",
+            Err("file: E3 BadEscape at byte 135"),
+        ),
+        (
+            "DATA;\n",
+            "DATA;\n#1=&SCOPE\n",
+            Err("file: E8 LeftOut Scope at byte 128"),
+        ),
+        (
+            "DATA;\n",
+            "DATA;\n#1=!A();\n",
+            Err("file: E8 LeftOut UserDefined at byte 128"),
+        ),
+        (
+            "DATA;\n",
+            "DATA;\n#1=POINT((0.));\n#1=POINT((0.));\n",
+            Err("file: E7 DuplicateName at byte 141"),
+        ),
+        (
+            "DATA;\n",
+            "DATA;\n#1=(A()A());\n",
+            Err("file: E7 DuplicateName at byte 132"),
+        ),
+        (
+            "DATA;\n",
+            "DATA;\n#1=(A()a());\n",
+            Err("file: E7 DuplicateName at byte 132"),
+        ),
+        (
+            "DATA;\n",
+            "DATA;\n#1=(A()B()C()D()E()F()G()H()I()J()K()k());\n",
+            Err("file: E7 DuplicateName at byte 162"),
+        ),
+        (
+            "DATA;\n",
+            "DATA;\n#1=(A()B()C()D()E()F()G()H()I()J()K()h());\n",
+            Err("file: E7 DuplicateName at byte 162"),
+        ),
+        (
+            "DATA;\n",
+            "DATA;\n#01=A();\n#1=A();\n",
+            Err("file: E7 DuplicateName at byte 134"),
+        ),
+        (
+            "DATA;\n",
+            "DATA;\n#1=();\n",
+            Err("file: E6 Expected at byte 129"),
+        ),
+        (
+            "DATA;\n",
+            "DATA;\n#1=A(?);\n",
+            Err("file: E1 BadToken at byte 130"),
+        ),
+        (
+            "DATA;\n",
+            "DATA;\n#1=A(/* c );\n",
+            Err("file: E1 BadToken at byte 130"),
+        ),
+        (
+            "DATA;\n",
+            "DATA;\n#1=A(1.E1000000);\n",
+            Err("file: E4 NumberTooLong at byte 130"),
+        ),
+        (
+            "DATA;\n",
+            "DATA;\n#18446744073709551616=POINT((0.));\n",
+            Err("file: E5 NameTooLarge at byte 125"),
+        ),
+        ("DATA;\n", TOO_DEEP, Err("file: E9 TooDeep at byte 193")),
+        (
+            "DATA;\n",
+            TYPED_TOO_DEEP,
+            Err("file: E9 TooDeep at byte 193"),
+        ),
+        // Sections.
+        (
+            "DATA;\n",
+            "DATA;\nENDSEC;\nDATA;\n",
+            Err("file: E8 LeftOut Sections at byte 133"),
+        ),
+        (
+            "DATA;",
+            "DATA('a',('GEO'));",
+            Err("file: E8 LeftOut Sections at byte 123"),
+        ),
+        (
+            "DATA;",
+            "ANCHOR;",
+            Err("file: E8 LeftOut Anchor at byte 119"),
+        ),
         (
             "DATA;",
             "REFERENCE;",
-            "file: E8 LeftOut Reference at byte 119",
+            Err("file: E8 LeftOut Reference at byte 119"),
         ),
         (
             "DATA;",
             "signature;",
-            "file: E8 LeftOut Signature at byte 119",
+            Err("file: E8 LeftOut Signature at byte 119"),
         ),
-        ("DATA;", "DATE;", "file: E6 Expected at byte 119"),
+        ("DATA;", "DATE;", Err("file: E6 Expected at byte 119")),
+        (
+            "END-ISO-10303-21;\n",
+            "",
+            Err("file: E6 Expected at byte 133"),
+        ),
+        // The header.
+        (
+            "FILE_SCHEMA(('GEO'));\n",
+            "",
+            Err("file: E10 HeaderFault at byte 89"),
+        ),
+        (
+            "FILE_NAME",
+            "FILE_NAMES",
+            Err("file: E10 HeaderFault at byte 52"),
+        ),
+        ("('GEO')", "'GEO'", Err("file: E10 HeaderFault at byte 89")),
+        ("('GEO')", "()", Err("file: E10 HeaderFault at byte 89")),
+        (
+            "('GEO')",
+            "('GEO','GEA')",
+            Err("file: E10 HeaderFault at byte 89"),
+        ),
+        ("'GEO'", "'GEO',?", Err("file: E1 BadToken at byte 108")),
+        // What stands behind the end, and nothing at all.
+        (
+            "END-ISO-10303-21;\n",
+            "END-ISO-10303-21;\nx",
+            Err("file: E6 Expected at byte 151"),
+        ),
+        (
+            "END-ISO-10303-21;\n",
+            "END-ISO-10303-21;\nSIGNATURE;",
+            Err("file: E8 LeftOut Signature at byte 151"),
+        ),
+        (
+            "END-ISO-10303-21;\n",
+            "END-ISO-10303-21;\n\0'",
+            Err("file: E2 UnendedString at byte 152"),
+        ),
+        (FILE, "", Err("file: E6 Expected at byte 0")),
     ] {
-        let faulty = file.replace(alloc, old, new)?;
-        assert!(rt; refused(alloc, faulty.as_str(), line)?, "{line}");
+        let file = FILE.replace(alloc, old, new)?;
+        let words = ["stepmin", "plain", "F"];
+        let run = run(alloc, &words, file.as_str(), false, usize::MAX, usize::MAX)?;
+        let (status, out, err) = match want {
+            Ok(text) => (0, FILE.replace(alloc, old, text)?, String::new(alloc)),
+            Err(line) => (2, String::new(alloc), format!(in alloc; "{line}\n")?),
+        };
+        assert_eq!(rt; (run.status, run.out.as_slice()), (status, out.as_bytes()));
+        assert_eq!(rt; run.err.as_slice(), err.as_bytes());
     }
-    let record = file.replace(alloc, "'GEO'));\n", "'GEO'));\nENDSEC();\n")?;
-    let run = plain(alloc, record.as_str())?;
-    assert_eq!(rt; run.status, 0);
-    assert_eq!(rt; run.out.as_slice(), record.as_bytes());
     Ok(())
 }
 
+// So many bytes of the file go out, and the rest of the row is the room of the outputs, the status and
+// what stands on the error output.
 #[test]
-fn what_stands_around_a_file_is_seen(rt: HostRuntime) -> Result<(), Fail> {
+fn a_device_that_fails_is_told(rt: HostRuntime) -> Result<(), Fail> {
     let alloc = rt.alloc();
-    let file = file_of(alloc, "")?;
-    let marked = format!(in alloc; "\u{feff} {file} /* the end */")?;
-    let run = plain(alloc, marked.as_str())?;
-    assert_eq!(rt; run.status, 0);
-    assert_eq!(rt; run.out.as_slice(), file.as_bytes());
-    assert!(rt; refused(alloc, "", "file: E6 Expected at byte 0")?);
-    for (more, line) in [
-        ("x", "file: E6 Expected at byte 151"),
-        ("SIGNATURE;", "file: E8 LeftOut Signature at byte 151"),
-        ("\0'", "file: E2 UnendedString at byte 152"),
+    let all = usize::MAX;
+    let words = ["stepmin", "plain", "F"].as_slice();
+    let lost = "device: file\n";
+    let sent = FILE.len();
+    for (words, file, breaks, out_room, err_room, status, sent, line) in [
+        (words, FILE, false, all, 0, 0, sent, ""),
+        (
+            ["other", "plain", "--", "F"].as_slice(),
+            FILE,
+            false,
+            all,
+            all,
+            0,
+            sent,
+            "",
+        ),
+        (
+            &["stepmin", "plain", "F", "--"],
+            FILE,
+            false,
+            all,
+            all,
+            0,
+            sent,
+            "",
+        ),
+        (
+            &["stepmin", "plain", "G"],
+            FILE,
+            false,
+            all,
+            all,
+            4,
+            0,
+            lost,
+        ),
+        (&["stepmin", "plain", ""], FILE, false, all, all, 4, 0, lost),
+        (
+            &["stepmin", "plain", "-"],
+            FILE,
+            false,
+            all,
+            all,
+            4,
+            0,
+            lost,
+        ),
+        (
+            &["stepmin", "plain", "help"],
+            FILE,
+            false,
+            all,
+            all,
+            4,
+            0,
+            lost,
+        ),
+        (
+            &["stepmin", "plain", "--", "--help"],
+            FILE,
+            false,
+            all,
+            all,
+            4,
+            0,
+            lost,
+        ),
+        (words, FILE, true, all, all, 4, 0, lost),
+        (words, "", false, all, 4, 4, 0, "file"),
+        (words, FILE, false, sent, 0, 0, sent, ""),
+        (
+            words,
+            FILE,
+            false,
+            0,
+            all,
+            4,
+            0,
+            "device: output after 0 bytes\n",
+        ),
+        (
+            words,
+            FILE,
+            false,
+            1,
+            all,
+            4,
+            1,
+            "device: output after 1 bytes\n",
+        ),
+        (
+            words,
+            FILE,
+            false,
+            119,
+            all,
+            4,
+            119,
+            "device: output after 119 bytes\n",
+        ),
+        (
+            words,
+            FILE,
+            false,
+            150,
+            all,
+            4,
+            150,
+            "device: output after 150 bytes\n",
+        ),
     ] {
-        let faulty = format!(in alloc; "{file}{more}")?;
-        assert!(rt; refused(alloc, faulty.as_str(), line)?, "{line}");
+        let run = run(alloc, words, file, breaks, out_room, err_room)?;
+        assert_eq!(rt;
+            (run.status, run.out.len()),
+            (status, sent),
+            "{words:?} {out_room}"
+        );
+        assert!(rt;
+            FILE.as_bytes().starts_with(run.out.as_slice()),
+            "{words:?} {out_room}"
+        );
+        assert_eq!(rt; run.err.as_slice(), line.as_bytes(), "{words:?} {out_room}");
+    }
+    Ok(())
+}
+
+// What a run says where this is its status, and how much goes to the other output.
+fn said_by(status: u8, run: &Ending) -> (&[u8], usize) {
+    if status == 0 {
+        (run.out.as_slice(), run.err.len())
+    } else {
+        (run.err.as_slice(), run.out.len())
+    }
+}
+
+// Wrong words are said on the error output, and a call for help on the output, and where there is room
+// for three bytes alone the status is a device's.
+#[test]
+fn words_that_ask_for_no_file_are_answered(rt: HostRuntime) -> Result<(), Fail> {
+    let alloc = rt.alloc();
+    for (words, status, begins) in [
+        (["stepmin"].as_slice(), 3, "error: "),
+        (&["stepmin", "check", "GEO"], 3, "error: "),
+        (&["stepmin", "shrink", "GEO", "F", "X", "X"], 3, "error: "),
+        (&["stepmin", "plain"], 3, "error: "),
+        (&["stepmin", "plain", "F", "F"], 3, "error: "),
+        (&["stepmin", "plain", "--strict", "F"], 3, "error: "),
+        (&["stepmin", "plain", "-F"], 3, "error: "),
+        (&["stepmin", "--", "plain", "F"], 3, "error: "),
+        (&["stepmin", "--help"], 0, "Reads STEP files"),
+        (&["stepmin", "help"], 0, "Reads STEP files"),
+        (&["stepmin", "plain", "--help"], 0, "Writes the normal text"),
+    ] {
+        let whole = run(alloc, words, "", false, usize::MAX, usize::MAX)?;
+        let cut = run(alloc, words, "", false, 3, 3)?;
+        let (said, unsaid) = said_by(status, &whole);
+        assert_eq!(rt;
+            (whole.status, cut.status, unsaid, said_by(status, &cut).1),
+            (status, 4, 0, 0),
+            "{words:?}"
+        );
+        assert!(rt; said.starts_with(begins.as_bytes()), "{words:?}");
+        assert_eq!(rt; cut.out.len() + cut.err.len(), 3, "{words:?}");
     }
     Ok(())
 }
@@ -359,111 +561,5 @@ fn a_file_that_is_too_large_is_refused(rt: HostRuntime) -> Result<(), Fail> {
         line.as_str(),
         "file: E8 LeftOut TooLarge at byte 1099511627776"
     );
-    Ok(())
-}
-
-#[test]
-fn words_name_a_file(rt: HostRuntime) -> Result<(), Fail> {
-    let alloc = rt.alloc();
-    let file = file_of(alloc, "")?;
-    for words in [
-        ["stepmin", "plain", "F"].as_slice(),
-        &["other", "plain", "--", "F"],
-        &["stepmin", "plain", "F", "--"],
-    ] {
-        let run = run(alloc, words, file.as_bytes())?;
-        assert_eq!(rt; run.status, 0, "{words:?}");
-        assert_eq!(rt; run.out.as_slice(), file.as_bytes(), "{words:?}");
-    }
-    for words in [
-        ["stepmin", "plain", ""].as_slice(),
-        &["stepmin", "plain", "-"],
-        &["stepmin", "plain", "help"],
-        &["stepmin", "plain", "--", "--help"],
-    ] {
-        let run = run(alloc, words, file.as_bytes())?;
-        assert_eq!(rt; run.status, 4, "{words:?}");
-        assert_eq!(rt; run.err.as_slice(), b"device: file\n".as_slice());
-    }
-    Ok(())
-}
-
-#[test]
-fn wrong_words_are_refused(rt: HostRuntime) -> Result<(), Fail> {
-    let alloc = rt.alloc();
-    for words in [
-        ["stepmin"].as_slice(),
-        &["stepmin", "check", "GEO"],
-        &["stepmin", "shrink", "GEO", "F", "X", "X"],
-        &["stepmin", "plain"],
-        &["stepmin", "plain", "F", "F"],
-        &["stepmin", "plain", "--strict", "F"],
-        &["stepmin", "plain", "-F"],
-        &["stepmin", "--", "plain", "F"],
-    ] {
-        let run = run(alloc, words, b"")?;
-        assert_eq!(rt; run.status, 3, "{words:?}");
-        assert!(rt; run.out.is_empty(), "{words:?}");
-        assert!(rt; run.err.starts_with(b"error: "), "{words:?}");
-        let blocked = run_in(alloc, words, b"", false, 0, 3)?;
-        assert_eq!(rt; blocked.status, 4, "{words:?}");
-        assert_eq!(rt; blocked.err.len(), 3, "{words:?}");
-    }
-    Ok(())
-}
-
-#[test]
-fn help_is_printed(rt: HostRuntime) -> Result<(), Fail> {
-    let alloc = rt.alloc();
-    for words in [
-        ["stepmin", "--help"].as_slice(),
-        &["stepmin", "help"],
-        &["stepmin", "plain", "--help"],
-    ] {
-        let run = run(alloc, words, b"")?;
-        assert_eq!(rt; run.status, 0, "{words:?}");
-        assert!(rt; !run.out.is_empty(), "{words:?}");
-        assert!(rt; run.err.is_empty(), "{words:?}");
-        let blocked = run_in(alloc, words, b"", false, 3, usize::MAX)?;
-        assert_eq!(rt; blocked.status, 4, "{words:?}");
-        assert_eq!(rt; blocked.out.len(), 3, "{words:?}");
-        assert!(rt; blocked.err.is_empty(), "{words:?}");
-    }
-    Ok(())
-}
-
-#[test]
-fn a_file_that_fails_is_a_device(rt: HostRuntime) -> Result<(), Fail> {
-    let alloc = rt.alloc();
-    let file = file_of(alloc, "")?;
-    let missing = run(alloc, &["stepmin", "plain", "G"], file.as_bytes())?;
-    let words = ["stepmin", "plain", "F"];
-    let broken = run_in(alloc, &words, file.as_bytes(), true, usize::MAX, usize::MAX)?;
-    for run in [missing, broken] {
-        assert_eq!(rt; run.status, 4);
-        assert!(rt; run.out.is_empty());
-        assert_eq!(rt; run.err.as_slice(), b"device: file\n".as_slice());
-    }
-    let blocked = run_in(alloc, &words, b"", false, usize::MAX, 4)?;
-    assert_eq!(rt; blocked.status, 4);
-    assert_eq!(rt; blocked.err.as_slice(), b"file".as_slice());
-    Ok(())
-}
-
-#[test]
-fn an_output_that_fails_is_a_device(rt: HostRuntime) -> Result<(), Fail> {
-    let alloc = rt.alloc();
-    let file = file_of(alloc, "#1=A();\n")?;
-    let words = ["stepmin", "plain", "F"];
-    for room in [0, 1, 119, 158] {
-        let run = run_in(alloc, &words, file.as_bytes(), false, room, usize::MAX)?;
-        let line = format!(in alloc; "device: output after {room} bytes\n")?;
-        assert_eq!(rt; run.status, 4, "room {room}");
-        assert_eq!(rt; run.out.len(), room);
-        assert!(rt; file.as_bytes().starts_with(&run.out), "room {room}");
-        assert_eq!(rt; run.err.as_slice(), line.as_bytes(), "room {room}");
-    }
-    let run = run_in(alloc, &words, file.as_bytes(), false, 159, 0)?;
-    assert_eq!(rt; run.status, 0);
     Ok(())
 }

@@ -1,12 +1,12 @@
 //! The words of a command line.
 
-ghost use Rattle.std.specs.Prelude.{◌≡◌, ℕ, List, IfOk, IfErr, codes, map, option_map, string_bytes};
+ghost use Rattle.std.specs.Prelude.{◌≡◌, ℕ, List, Some, IfOk, IfErr, codes, option_map};
 ghost use Rattle.std.specs.IoError.{error_kind};
 ghost use Rattle.clap.specs.Simple.{app_of, subcommand_rows_of};
 ghost use Rattle.clap.specs.Values.{kind_of};
 ghost use Rattle.std.specs.declared.io.ErrorKind.TheVariants.{OutOfMemory};
-ghost use Rattle.stepmin.specs.Clap.{file_in, stepmin_app};
-ghost use Rattle.stepmin.specs.Commands.{AsksPlain};
+ghost use Rattle.stepmin.specs.Clap.{HasFile, stepmin_app};
+ghost use Rattle.stepmin.specs.Commands.{AsksPlain, texts};
 ghost use Rattle.stepmin.specs.Requests.{AskFor, CallFor, CallsFor, SaysUsage};
 ghost use Rattle.stepmin.specs.declared.usage.Refusal.TheVariants.{Memory};
 
@@ -60,7 +60,8 @@ fn stepmin<'a>(alloc: Global) -> Result<Command<'a>, AllocError>
 
 // The FILE of `plain`.
 fn path_in<'p>(matches: &ArgMatches<'p>) -> Option<&'p str>
-    ensures { (path : List ℕ) → file_in (subcommand_rows_of matches.now) ≡ Some (codes "plain", Some path) → option_map (λ text. text.now) result ≡ Some path }
+    ensures { (path : List ℕ) → HasFile (subcommand_rows_of matches.now) path
+        → option_map (λ text. text.now) result ≡ Some path }
 {
     matches.subcommand_matches("plain")?.get_str("FILE")
 }
@@ -91,8 +92,8 @@ fn usage(alloc: Global, text: &str) -> Refusal
     }
 }
 
-/// Why nothing is done where the system can't give the words: `Memory` where memory ran out, and else
-/// `Usage`, as for a word that is no text.
+/// Why nothing is done where the system can't give the words: `Memory` where memory ran out, and
+/// else `Usage`, as for a word that is no text.
 pub fn unread_words(alloc: Global, error: &io::Error) -> Refusal
     ensures memory { error_kind error.now ≡ OutOfMemory → result ≡ Memory }
     ensures usage { SaysUsage (codes "error: an argument is not text\n") result }
@@ -103,13 +104,14 @@ pub fn unread_words(alloc: Global, error: &io::Error) -> Refusal
     usage(alloc, "error: an argument is not text\n")
 }
 
-/// What the words ask for, the program's own name first. `Help` comes for `--help` and `help`, `Usage`
-/// where the words are no command, and `Memory` where memory runs out.
+/// What the words ask for, the program's own name first. `Help` comes for `--help` and `help`,
+/// `Usage` where the words are no command, and `Memory` where memory runs out.
 pub fn read_words<'p>(alloc: Global, words: &'p [String]) -> Result<Request<'p>, Refusal>
-    ensures asked { IfOk result (AskFor (map string_bytes words.now)) }
-    ensures refused { IfErr result (CallFor (map string_bytes words.now)) }
+    ensures asked { IfOk result (AskFor (texts words.now)) }
+    ensures refused { IfErr result (CallFor (texts words.now)) }
     // Words that ask for something are refused for want of memory alone.
-    ensures granted { (path : List ℕ) → AsksPlain (map string_bytes words.now) path → IfErr result (λ refusal. refusal ≡ Memory) }
+    ensures granted { (path : List ℕ) → AsksPlain (texts words.now) path
+        → IfErr result (λ refusal. refusal ≡ Memory) }
 {
     let matches = match stepmin(alloc)?.try_get_matches_from(words) {
         Ok(matches) => matches,

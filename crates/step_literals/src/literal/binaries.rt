@@ -132,7 +132,7 @@ impl<'a> Eq for Bits<'a> {
 }
 
 impl<'a> PartialOrd for Bits<'a> {
-    ghost use Rattle.step_literals.specs.BitLists.{on_bits_po};
+    ghost use Rattle.step_literals.specs.BitListLemmas.{on_bits_po};
     ghost use Rattle.step_literals.specs.Values.{bits_value};
 
     ghost partial_cmp = { as_partial_cmp (on bits_value (slice_cmp bool_cmp)) };
@@ -145,7 +145,7 @@ impl<'a> PartialOrd for Bits<'a> {
 }
 
 impl<'a> Ord for Bits<'a> {
-    ghost use Rattle.step_literals.specs.BitLists.{bits_ties};
+    ghost use Rattle.step_literals.specs.BitListLemmas.{bits_ties};
     ghost use Rattle.step_literals.specs.Values.{bits_value};
 
     ghost cmp = { on bits_value (slice_cmp bool_cmp) };
@@ -162,7 +162,8 @@ impl<'a> Ord for Bits<'a> {
 }
 
 impl<'a> Hash for Bits<'a> {
-    ghost use Rattle.step_literals.specs.BitLists.{fed_bits, same_fed};
+    ghost use Rattle.step_literals.specs.BitListLemmas.{same_fed};
+    ghost use Rattle.step_literals.specs.Bits.{fed_bits};
     ghost use Rattle.step_literals.specs.Values.{bits_value};
 
     ghost hash_input = { λ b. fed_bits (bits_value b) };
@@ -174,48 +175,5 @@ impl<'a> Hash for Bits<'a> {
             bit.hash(state);
         }
         state.write_u8(END);
-    }
-}
-
-#[cfg(test)]
-mod tests {
-    use super::*;
-    use std::hash::DefaultHasher;
-    use std::test::Fail;
-
-    fn hash_of(bits: Bits<'_>) -> u64 {
-        let mut state = DefaultHasher::new();
-        bits.hash(&mut state);
-        state.finish()
-    }
-
-    #[test]
-    fn tells_its_bits(rt: HostRuntime) -> Result<(), Fail> {
-        let bits = Bits::read(b"\"1A3\"")?;
-        let expected = [false, true, false, false, false, true, true];
-        assert_eq!(rt; bits.len(), 7);
-        for (index, bit) in expected.iter().enumerate() {
-            assert_eq!(rt; bits.bit(index), Some(*bit));
-        }
-        assert_eq!(rt; bits.bit(7), None);
-        assert_eq!(rt; bits.bit(usize::MAX), None);
-        let none = Bits::read(b"\"0\"")?;
-        assert_eq!(rt; none.len(), 0);
-        assert_eq!(rt; none.bit(0), None);
-        Ok(())
-    }
-
-    #[test]
-    fn compares_bits(rt: HostRuntime) -> Result<(), Fail> {
-        let ones = Bits::read(b"\"23\"")?;
-        let same = Bits::read(b"\"27\"")?;
-        assert!(rt; ones == same);
-        assert_eq!(rt; hash_of(ones), hash_of(same));
-        assert!(rt; Bits::read(b"\"0a\"")? == Bits::read(b"\"0A\"")?);
-        assert!(rt; Bits::read(b"\"03\"")? != ones);
-        assert!(rt; Bits::read(b"\"03\"")? < ones);
-        assert!(rt; Bits::read(b"\"3F\"")? < ones);
-        assert!(rt; Bits::read(b"\"0\"")? < Bits::read(b"\"30\"")?);
-        Ok(())
     }
 }

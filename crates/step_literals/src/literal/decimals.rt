@@ -1,13 +1,46 @@
 //! Numbers, compared by what they are worth.
 
-ghost use Rattle.std.specs.Prelude.{◌≡◌, ◌+◌, ◌≤◌, ◌<◌, ◌||◌, ◌%◌, ◌^◌, ◌++◌, ◌==◌, ℕ, ℤ, length, not, FitsSigned, IsTrue, MatchOption};
+ghost use Rattle.std.specs.Prelude.{
+  ◌≡◌,
+  ◌+◌,
+  ◌≤◌,
+  ◌<◌,
+  ◌||◌,
+  ◌%◌,
+  ◌^◌,
+  ◌++◌,
+  ◌==◌,
+  ℕ,
+  ℤ,
+  length,
+  not,
+  FitsSigned,
+  IsTrue,
+  MatchOption,
+};
 ghost use Rattle.std.specs.Int.{w64};
 ghost use Rattle.std.specs.List.{prefix_len};
 ghost use Rattle.std.specs.Ordering.{int_cmp, int_eq, nat_cmp, on, as_partial_cmp};
 ghost use Rattle.std.specs.Cmp.Rules.{comparing};
 ghost use Rattle.std.proofs.Common.{rules};
-ghost use Rattle.step_literals.specs.Decimals.{mantissa_digits, part_digits, signed, units, IsWorth};
-ghost use Rattle.step_literals.specs.DigitStrings.{is_significant, has_digit, digit, front_value, end_of, top, significant_digits, shift_of, is_below_zero};
+ghost use Rattle.step_literals.specs.Decimals.{
+  mantissa_digits,
+  part_digits,
+  signed,
+  units,
+  IsWorth,
+};
+ghost use Rattle.step_literals.specs.DigitStrings.{
+  is_significant,
+  has_digit,
+  digit,
+  front_value,
+  end_of,
+  top,
+  significant_digits,
+  shift_of,
+  is_below_zero,
+};
 
 use super::Decimal;
 use crate::bytes::digits_len;
@@ -189,7 +222,9 @@ impl<'a> Decimal<'a> {
     /// The whole number that it is worth, however it is spelt; none where it isn't whole, or not
     /// within the range of `i64`.
     pub fn whole(&self) -> Option<i64>
-        ensures { MatchOption result ((n : ℤ) → FitsSigned w64 n → IsWorth self.now.text.now n → ⊥) (λ n. IsWorth self.now.text.now n) }
+        ensures { MatchOption result
+            ((n : ℤ) → FitsSigned w64 n → IsWorth self.now.text.now n → ⊥)
+            (λ n. IsWorth self.now.text.now n) }
     {
         let digits = self.digits();
         let len = digits.top().saturating_sub(FINEST as usize);
@@ -260,7 +295,8 @@ impl<'a> Ord for Decimal<'a> {
 }
 
 impl<'a> Hash for Decimal<'a> {
-    ghost use Rattle.step_literals.specs.DecimalKeys.{key_writes, key_respects_eq};
+    ghost use Rattle.step_literals.specs.DecimalKeys.{key_writes};
+    ghost use Rattle.step_literals.specs.DecimalKeyLemmas.{key_respects_eq};
 
     ghost hash_input = { key_writes };
 
@@ -271,95 +307,5 @@ impl<'a> Hash for Decimal<'a> {
         state.write_u8(u8::from(digits.below_zero));
         state.write_u64(digits.front_value(digits.end()));
         state.write_u64(digits.top() as u64);
-    }
-}
-
-#[cfg(test)]
-mod tests {
-    use super::*;
-    use crate::fault::{Flaw, TextFault};
-    use std::hash::DefaultHasher;
-    use std::test::Fail;
-
-    fn order(left: &[u8], right: &[u8]) -> Result<Ordering, TextFault> {
-        Ok(Decimal::read(left)?.cmp(&Decimal::read(right)?))
-    }
-
-    fn hash(text: &[u8]) -> Result<u64, TextFault> {
-        let mut state = DefaultHasher::new();
-        Decimal::read(text)?.hash(&mut state);
-        Ok(state.finish())
-    }
-
-    #[test]
-    fn equal_however_spelt(rt: HostRuntime) -> Result<(), Fail> {
-        let one = Decimal::read(b"1.")?;
-        assert!(rt; one == Decimal::read(b"1.0E0")?);
-        assert!(rt; one == Decimal::read(b"10.E-1")?);
-        assert!(rt; one == Decimal::read(b"+1")?);
-        assert!(rt; one == Decimal::read(b"00.001E+003")?);
-        assert!(rt; one != Decimal::read(b"-1.")?);
-        assert!(rt; Decimal::read(b"-0.")? == Decimal::read(b"0.E999999")?);
-        Ok(())
-    }
-
-    #[test]
-    fn ordered_by_value(rt: HostRuntime) -> Result<(), Fail> {
-        assert_eq!(rt; order(b"9.E999998", b"1.E999999")?, Ordering::Less);
-        assert_eq!(rt; order(b"1.E-999999", b"0.")?, Ordering::Greater);
-        assert_eq!(rt; order(b"-1.E-999999", b"0.")?, Ordering::Less);
-        assert_eq!(rt; order(b"-0.", b"0.")?, Ordering::Equal);
-        assert_eq!(rt; order(b"-2.5", b"-2.45")?, Ordering::Less);
-        assert_eq!(rt; order(b"-10", b"9")?, Ordering::Less);
-        assert_eq!(rt; order(b"0.3", b"0.25")?, Ordering::Greater);
-        Ok(())
-    }
-
-    #[test]
-    fn whole_numbers(rt: HostRuntime) -> Result<(), Fail> {
-        assert_eq!(rt; Decimal::read(b"10.E-1")?.whole(), Some(1));
-        assert_eq!(rt; Decimal::read(b"-7.00")?.whole(), Some(-7));
-        assert_eq!(rt; Decimal::read(b"0.E999999")?.whole(), Some(0));
-        assert_eq!(rt;
-            Decimal::read(b"1.E18")?.whole(),
-            Some(1_000_000_000_000_000_000)
-        );
-        assert_eq!(rt;
-            Decimal::read(b"-9223372036854775808.")?.whole(),
-            Some(i64::MIN)
-        );
-        assert_eq!(rt;
-            Decimal::read(b"9223372036854775807")?.whole(),
-            Some(i64::MAX)
-        );
-        assert_eq!(rt; Decimal::read(b"9223372036854775808")?.whole(), None);
-        assert_eq!(rt; Decimal::read(b"1.5")?.whole(), None);
-        assert_eq!(rt; Decimal::read(b"1.E30")?.whole(), None);
-        assert_eq!(rt; Decimal::read(b"1.E999999")?.whole(), None);
-        assert_eq!(rt; Decimal::read(b"1.E-999999")?.whole(), None);
-        Ok(())
-    }
-
-    #[test]
-    fn equal_hashes(rt: HostRuntime) -> Result<(), Fail> {
-        assert_eq!(rt; hash(b"10.E-1")?, hash(b"+1")?);
-        assert_eq!(rt; hash(b"-0.0E5")?, hash(b"0")?);
-        assert_eq!(rt; hash(b"-25.0")?, hash(b"-2.5E1")?);
-        assert_ne!(rt; hash(b"1.")?, hash(b"10.")?);
-        assert_ne!(rt; hash(b"1.")?, hash(b"-1.")?);
-        Ok(())
-    }
-
-    #[test]
-    fn limits(rt: HostRuntime) -> Result<(), Fail> {
-        let too_long = TextFault {
-            flaw: Flaw::NumberTooLong,
-            place: 0,
-        };
-        assert_eq!(rt; Decimal::read(b"1.E1000000").err(), Some(too_long));
-        let digits = [b'7'; 401];
-        assert_eq!(rt; Decimal::read(&digits).err(), Some(too_long));
-        assert_eq!(rt; Decimal::read(&digits[1..])?.whole(), None);
-        Ok(())
     }
 }

@@ -1,5 +1,17 @@
 // What is left of the content of a string, read a character at a time.
-ghost use Rattle.std.specs.Prelude.{◌≡◌, ◌≤◌, ◌<◌, ◌∷◌, [], true, length, take, Some, MatchOption, MatchBool};
+ghost use Rattle.std.specs.Prelude.{
+  ◌≡◌,
+  ◌≤◌,
+  ◌<◌,
+  ◌∷◌,
+  [],
+  true,
+  length,
+  take,
+  Some,
+  MatchOption,
+  MatchBool,
+};
 ghost use Rattle.std.specs.List.{prefix_len};
 ghost use Rattle.step_literals.specs.Bytes.{Stops, is_hex};
 ghost use Rattle.step_literals.specs.Strings.{clean, is_high, shift_at, code_at, groups_at};
@@ -40,7 +52,17 @@ pub struct Rest<'a> {
 type Step<'a> = (Option<Item>, Rest<'a>);
 
 impl<'a> Rest<'a> {
-    ghost use Rattle.step_literals.specs.Rests.{rest_items, clean_items, IsOver, Goes, GoesOn, Steps, RowSteps};
+    ghost use Rattle.step_literals.specs.Rests.{
+      rest_items,
+      bytes_left,
+      page_items,
+      clean_items,
+      IsOver,
+      Goes,
+      GoesOn,
+      Steps,
+      RowSteps,
+    };
 
     /// What is left before a piece.
     pub fn new(bytes: &'a [u8], page: u8) -> Rest<'a>
@@ -57,7 +79,7 @@ impl<'a> Rest<'a> {
 
     /// The next character, or a piece of none, and what is left.
     pub fn step(self) -> Option<Step<'a>>
-        ensures { Steps (rest_items self.entry) (clean self.entry.bytes.now) result }
+        ensures { Steps (rest_items self.entry) (bytes_left self.entry) result }
     {
         match self.inner() {
             Some((item, rest)) => Some((Some(item), rest)),
@@ -67,7 +89,8 @@ impl<'a> Rest<'a> {
 
     /// The next character of what it is inside of, and what is left.
     fn inner(self) -> Option<(Item, Rest<'a>)>
-        ensures { MatchOption result (IsOver self.entry.inside (clean self.entry.bytes.now)) (λ step. Goes (rest_items self.entry) (clean self.entry.bytes.now) (Some step.0) step.1) }
+        ensures { MatchOption result (IsOver self.entry.inside (bytes_left self.entry))
+            (λ step. Goes (rest_items self.entry) (bytes_left self.entry) (Some step.0) step.1) }
     {
         let (item, bytes) = self.character()?;
         let Rest { page, inside, .. } = self;
@@ -83,7 +106,9 @@ impl<'a> Rest<'a> {
 
     /// The next character of what it is inside of, and the bytes behind it.
     fn character(self) -> Option<(Item, &'a [u8])>
-        ensures { MatchOption result (IsOver self.entry.inside (clean self.entry.bytes.now)) (λ next. GoesOn self.entry.inside self.entry.page (clean self.entry.bytes.now) next.0 (clean next.1.now)) }
+        ensures { MatchOption result (IsOver self.entry.inside (bytes_left self.entry))
+            (λ next. GoesOn self.entry.inside self.entry.page
+            (bytes_left self.entry) next.0 (clean next.1.now)) }
     {
         match self.inside {
             Inside::Nothing => None,
@@ -112,7 +137,7 @@ impl<'a> Rest<'a> {
     fn outer(self) -> Rest<'a>
         requires { IsOver self.inside (clean self.bytes.now) }
         ensures left { clean_items result.page (clean result.bytes.now) ≡ rest_items self.entry }
-        ensures shorter { length (clean result.bytes.now) ≤ length (clean self.entry.bytes.now) }
+        ensures shorter { length (clean result.bytes.now) ≤ length (bytes_left self.entry) }
     {
         match self.inside {
             Inside::Groups(_) => Rest::new(skip(self.bytes, 4), self.page),
@@ -122,7 +147,7 @@ impl<'a> Rest<'a> {
 
     /// The first character of the piece at the front, or a piece of none.
     fn piece(self) -> Option<Step<'a>>
-        ensures { Steps (clean_items self.entry.page (clean self.entry.bytes.now)) (clean self.entry.bytes.now) result }
+        ensures { Steps (page_items self.entry) (bytes_left self.entry) result }
     {
         let (first, after) = take_clean(self.bytes)?;
         match first {
@@ -142,7 +167,7 @@ impl<'a> Rest<'a> {
     /// The first character of a run of bytes from 128 up.
     fn run(self) -> Option<Step<'a>>
         requires { Stops is_high (clean self.bytes.now) → ⊥ }
-        ensures { Steps (clean_items self.entry.page (clean self.entry.bytes.now)) (clean self.entry.bytes.now) result }
+        ensures { Steps (page_items self.entry) (bytes_left self.entry) result }
     {
         let inside = inside_run(self.bytes);
         let Rest { bytes, page, .. } = self;
@@ -158,7 +183,7 @@ impl<'a> Rest<'a> {
     /// The character of the directive at the front, or its first, or none.
     fn directive(self) -> Option<Step<'a>>
         requires { take 1 (clean self.bytes.now) ≡ 92 ∷ [] }
-        ensures { Steps (clean_items self.entry.page (clean self.entry.bytes.now)) (clean self.entry.bytes.now) result }
+        ensures { Steps (page_items self.entry) (bytes_left self.entry) result }
     {
         let bytes = self.bytes;
         if let Some(after) = strip(bytes, b"\\\\") {
@@ -226,7 +251,8 @@ impl<'a> Rest<'a> {
 
 /// Whether a hexadecimal digit stands at the front.
 fn begins_hex(bytes: &[u8]) -> bool
-    ensures { MatchBool result (0 < prefix_len is_hex (clean bytes.now)) (Stops is_hex (clean bytes.now)) }
+    ensures { MatchBool result (0 < prefix_len is_hex (clean bytes.now))
+        (Stops is_hex (clean bytes.now)) }
 {
     match take_clean(bytes) {
         Some((byte, _)) => is_hex(byte),

@@ -67,34 +67,3 @@ impl<'a> Hash for Word<'a> {
         state.write_u8(END);
     }
 }
-
-#[cfg(test)]
-mod tests {
-    use super::*;
-    use std::hash::DefaultHasher;
-    use std::test::Fail;
-
-    fn hash_of(word: Word<'_>) -> u64 {
-        let mut state = DefaultHasher::new();
-        word.hash(&mut state);
-        state.finish()
-    }
-
-    #[test]
-    fn words_have_no_case(rt: HostRuntime) -> Result<(), Fail> {
-        let point = Word::read(b"CARTESIAN_POINT")?;
-        assert!(rt; Word::read(b"cartesian_point")? == point);
-        assert!(rt; Word::read(b"CARTESIAN_POINTS")? != point);
-        assert_eq!(rt; hash_of(Word::read(b"Cartesian_Point")?), hash_of(point));
-        Ok(())
-    }
-
-    #[test]
-    fn words_stand_in_the_order_of_their_upper_case(rt: HostRuntime) -> Result<(), Fail> {
-        assert!(rt; Word::read(b"A1")? < Word::read(b"A_B")?);
-        assert!(rt; Word::read(b"ab")? < Word::read(b"A_")?);
-        assert!(rt; Word::read(b"Ab")? < Word::read(b"aB1")?);
-        assert!(rt; Word::read(b"b")? > Word::read(b"AA")?);
-        Ok(())
-    }
-}

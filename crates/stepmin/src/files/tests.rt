@@ -1,6 +1,6 @@
 use super::*;
+use devices::device::{Failed, Sink, Source};
 use std::test::*;
-use step_exchange::device::{Failed, Sink, Source};
 
 #[test]
 fn a_path_that_leads_nowhere_fails_at_its_use(rt: HostRuntime) {

@@ -1,8 +1,8 @@
 use super::*;
+use devices::counted::Counted;
 use std::io;
 use std::io::Read;
 use std::test::*;
-use step_exchange::counted::Counted;
 
 // Gives `left` bytes, at most 1000 a call, and then fails or ends.
 #[derive(Drop)]

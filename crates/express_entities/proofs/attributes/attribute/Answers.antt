@@ -1,8 +1,8 @@
 use Rattle.std.proofs.Common.{[], ap, sym, ◌∙◌, refl}
-use Rattle.express_expressions.specs.Words.{name, word_of}
-use Rattle.express_expressions.specs.Views.{capitals}
-use Rattle.express_expressions.specs.declared.keyword.Keyword.TheVariants as keywords
-use Rattle.express_runs.specs.Items.{seen_of}
+use Rattle.express_trees.specs.Words.{name, word_of}
+use Rattle.express_trees.specs.Views.{capitals}
+use Rattle.express_trees.specs.declared.keyword.Keyword.TheVariants as keywords
+use Rattle.express_runs.specs.Items.{located_of}
 use Rattle.express_schemas.specs.Texts.{token}
 use Rattle.express_schemas.specs.Predict.{AnAttribute}
 use Rattle.express_schemas.proofs.Looking.{keyword_met, stops_refused}
@@ -12,12 +12,18 @@ use Rattle.express_entities.proofs.attributes.attribute.Goals as goal
 
 pub returns-then-is_keyword : goal.returns-then-is_keyword
 returns-then-is_keyword c =
-    own_attribute c.redeclared.result (seen_of c.in_ok-item.item) c.args.lexer.now c.take.new.lexer c.redeclared.new.lexer c.in_ok-item.ensures (keyword_met keywords.Own (seen_of c.in_ok-item.item).sight (sym c.is_keyword.ensures ∙ c.if-is_keyword.true)) c.redeclared.ensures
+    own_attribute c.redeclared.result (located_of c.in_ok-item.item) c.args.reader.now c.take.new.self
+    c.redeclared.new.reader c.in_ok-item.ensures
+    (keyword_met keywords.SelfWord (located_of c.in_ok-item.item).lookahead (sym c.is_keyword.ensures
+    ∙ c.if-is_keyword.true)) c.redeclared.ensures
 
 pub returns-in-Name : goal.returns-in-Name
 returns-in-Name c =
-    passes_token AnAttribute [] (name (capitals c.in-Name.name)) (seen_of c.in_ok-item.item) c.args.lexer.now c.take.new.lexer c.in_ok-item.ensures (ap (λ l. token (word_of l)) c.in-Name.is) refl
+    passes_token AnAttribute [] (name (capitals c.in-Name.name)) (located_of c.in_ok-item.item) c.args.reader.now
+    c.take.new.self c.in_ok-item.ensures (ap (λ l. token (word_of l)) c.in-Name.is) refl
 
 pub returns-in_default : goal.returns-in_default
 returns-in_default c =
-    stops_refused c.refuse.result AnAttribute (seen_of c.in_ok-item.item) c.args.lexer.now c.take.new.lexer c.in_ok-item.ensures (attribute_refused c.in_ok-item.item.lexeme c.in_default.not-Name (sym c.is_keyword.ensures ∙ c.if-is_keyword.false)) c.refuse.ensures
+    stops_refused c.refuse.result AnAttribute (located_of c.in_ok-item.item) c.args.reader.now c.take.new.self
+    c.in_ok-item.ensures (attribute_refused c.in_ok-item.item.lexeme c.in_default.not-Name (sym c.is_keyword.ensures
+    ∙ c.if-is_keyword.false)) c.refuse.ensures

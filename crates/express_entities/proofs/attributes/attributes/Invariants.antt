@@ -1,13 +1,14 @@
 use Rattle.std.proofs.Common.{length, map}
 use Rattle.express_lexis.specs.Reading.{left}
-use Rattle.express_runs.specs.Items.{seen_of}
+use Rattle.express_runs.specs.Items.{located_of}
 use Rattle.express_schemas.specs.Views.{attribute_of}
 use Rattle.express_schemas.specs.Predict.{Symbol}
 use Rattle.express_entities.specs.Lists.{IsListed, ListsOn}
 use Rattle.express_entities.proofs.attributes.attributes.Given as goal
 
 abbrev pub invariant-loop-list : goal.invariant-loop-list
-invariant-loop-list l = (y : Symbol) → IsListed y → ListsOn y (attribute_of l.first) (seen_of l.next) l.fn.lexer (map attribute_of l.list.items) (seen_of l.item) l.lexer
+invariant-loop-list l = (y : Symbol) → IsListed y → ListsOn y (attribute_of l.first) (located_of l.next) l.fn.reader
+    (map attribute_of l.list.items) (located_of l.item) l.reader
 
 abbrev pub decreases-loop-list : goal.decreases-loop-list
-decreases-loop-list l = length (left l.lexer)
+decreases-loop-list l = length (left l.reader)

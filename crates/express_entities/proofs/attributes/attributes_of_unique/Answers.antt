@@ -1,6 +1,6 @@
 use Rattle.std.proofs.Common.{map, sym, ◌∙◌, refl}
 use Rattle.std.proofs.lemmas.Result.{err_from_is_err_and}
-use Rattle.express_runs.specs.Items.{seen_of}
+use Rattle.express_runs.specs.Items.{located_of}
 use Rattle.express_schemas.specs.Views.{attribute_of}
 use Rattle.express_schemas.specs.Predict.{Uniques}
 use Rattle.express_entities.proofs.AttributeSteps.{unique_refused, unique_on}
@@ -13,8 +13,14 @@ returns-in_err-attributes c =
 
 pub returns-then-not-is_mark : goal.returns-then-not-is_mark
 returns-then-not-is_mark c =
-    unique_refused c.refuse.result (attribute_of c.args.first) (seen_of c.args.next) c.args.lexer.now (map attribute_of c.in_ok-attributes.attributes.items) (seen_of c.in_ok-attributes.end) c.attributes.new.lexer (c.in_ok-attributes.ensures Uniques refl).0 (c.in_ok-attributes.ensures Uniques refl).1 (sym c.is_mark.ensures ∙ c.if-not-is_mark.true) c.refuse.ensures
+    unique_refused c.refuse.result (attribute_of c.args.first) (located_of c.args.next) c.args.reader.now
+    (map attribute_of c.in_ok-attributes.attributes.items) (located_of c.in_ok-attributes.end)
+    c.attributes.new.reader (c.in_ok-attributes.ensures Uniques refl).0 (c.in_ok-attributes.ensures Uniques refl).1
+    (sym c.is_mark.ensures ∙ c.if-not-is_mark.true) c.refuse.ensures
 
 pub returns : goal.returns
 returns c =
-    unique_on (attribute_of c.args.first) (seen_of c.args.next) c.args.lexer.now (map attribute_of c.in_ok-attributes.attributes.items) (seen_of c.in_ok-attributes.end) c.attributes.new.lexer (c.in_ok-attributes.ensures Uniques refl).0 (sym c.is_mark.ensures ∙ c.if-not-is_mark.false)
+    unique_on (attribute_of c.args.first) (located_of c.args.next) c.args.reader.now
+    (map attribute_of c.in_ok-attributes.attributes.items) (located_of c.in_ok-attributes.end)
+    c.attributes.new.reader (c.in_ok-attributes.ensures Uniques refl).0 (sym c.is_mark.ensures
+    ∙ c.if-not-is_mark.false)

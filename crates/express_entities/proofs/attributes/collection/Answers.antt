@@ -1,9 +1,9 @@
 use Rattle.std.proofs.Common.{[], ap, sym, ◌∙◌, refl}
 use Rattle.std.proofs.lemmas.Result.{err_from_is_err_and}
-use Rattle.express_expressions.specs.declared.keyword.Keyword.TheVariants as keywords
-use Rattle.express_expressions.specs.Words.{name, word_of}
-use Rattle.express_expressions.specs.Views.{capitals}
-use Rattle.express_runs.specs.Items.{seen_of}
+use Rattle.express_trees.specs.declared.keyword.Keyword.TheVariants as keywords
+use Rattle.express_trees.specs.Words.{name, word_of}
+use Rattle.express_trees.specs.Views.{capitals}
+use Rattle.express_runs.specs.Items.{located_of}
 use Rattle.express_schemas.specs.Views.{if_some, bounds_of}
 use Rattle.express_schemas.specs.Written.{words_of_some_bounds}
 use Rattle.express_schemas.specs.Texts.{token}
@@ -16,35 +16,64 @@ use Rattle.express_entities.proofs.attributes.collection.Goals as goal
 pub returns-in_err-bounds : goal.returns-in_err-bounds
 returns-in_err-bounds c =
     let p = err_from_is_err_and c.from_residual-in_err-bounds.result c.from_residual-in_err-bounds.ensures.1 in
-    rw (p.1, p.2) (grouped_stops _ keywords.Set (seen_of c.in_ok-item.item) c.args.lexer.now c.take.new.lexer refl c.in_ok-item.ensures (keyword_met keywords.Set (seen_of c.in_ok-item.item).sight (sym c.is_keyword.ensures ∙ c.if-is_keyword.true)) c.in_err-bounds.ensures)
+    rw (p.1, p.2) (grouped_stops _ keywords.Set (located_of c.in_ok-item.item) c.args.reader.now c.take.new.self refl
+    c.in_ok-item.ensures (keyword_met keywords.Set (located_of c.in_ok-item.item).lookahead
+    (sym c.is_keyword.ensures ∙ c.if-is_keyword.true)) c.in_err-bounds.ensures)
 
 pub returns-in_err-entity : goal.returns-in_err-entity
 returns-in_err-entity c =
     let p = err_from_is_err_and c.from_residual-in_err-entity.result c.from_residual-in_err-entity.ensures.1 in
-    rw (p.1, p.2) (grouped_stops_behind _ keywords.Set (seen_of c.in_ok-item.item) c.args.lexer.now c.take.new.lexer _ c.some_bounds.new.lexer refl c.in_ok-item.ensures (keyword_met keywords.Set (seen_of c.in_ok-item.item).sight (sym c.is_keyword.ensures ∙ c.if-is_keyword.true)) c.in_ok-bounds.ensures.1 c.in_err-entity.ensures)
+    rw (p.1, p.2) (grouped_stops_behind _ keywords.Set (located_of c.in_ok-item.item) c.args.reader.now c.take.new.self
+    _ c.some_bounds.new.reader refl c.in_ok-item.ensures
+    (keyword_met keywords.Set (located_of c.in_ok-item.item).lookahead (sym c.is_keyword.ensures
+    ∙ c.if-is_keyword.true)) c.in_ok-bounds.ensures.1 c.in_err-entity.ensures)
 
 pub returns-then-is_keyword : goal.returns-then-is_keyword
-returns-then-is_keyword c =
-    (c.in_ok-bounds.ensures.0, grouped_passes keywords.Set (seen_of c.in_ok-item.item) c.args.lexer.now c.take.new.lexer (words_of_some_bounds (if_some bounds_of c.in_ok-bounds.bounds)) c.some_bounds.new.lexer (capitals c.in_ok-entity.entity) c.expect_name.new.lexer refl c.in_ok-item.ensures (keyword_met keywords.Set (seen_of c.in_ok-item.item).sight (sym c.is_keyword.ensures ∙ c.if-is_keyword.true)) c.in_ok-bounds.ensures.1 c.in_ok-entity.ensures)
+returns-then-is_keyword c = (
+  c.in_ok-bounds.ensures.0,
+  grouped_passes keywords.Set (located_of c.in_ok-item.item) c.args.reader.now
+      c.take.new.self (words_of_some_bounds (if_some bounds_of c.in_ok-bounds.bounds)) c.some_bounds.new.reader
+      (capitals c.in_ok-entity.entity) c.expect_name.new.self refl c.in_ok-item.ensures
+      (keyword_met keywords.Set (located_of c.in_ok-item.item).lookahead (sym c.is_keyword.ensures
+      ∙ c.if-is_keyword.true)) c.in_ok-bounds.ensures.1 c.in_ok-entity.ensures,
+)
 
 pub returns-in_err-bounds-2 : goal.returns-in_err-bounds-2
 returns-in_err-bounds-2 c =
     let p = err_from_is_err_and c.from_residual-in_err-bounds-2.result c.from_residual-in_err-bounds-2.ensures.1 in
-    rw (p.1, p.2) (grouped_stops _ keywords.Bag (seen_of c.in_ok-item.item) c.args.lexer.now c.take.new.lexer refl c.in_ok-item.ensures (keyword_met keywords.Bag (seen_of c.in_ok-item.item).sight (sym c.is_keyword-2.ensures ∙ c.if-is_keyword-2.true)) c.in_err-bounds-2.ensures)
+    rw (p.1, p.2) (grouped_stops _ keywords.Bag (located_of c.in_ok-item.item) c.args.reader.now c.take.new.self refl
+    c.in_ok-item.ensures (keyword_met keywords.Bag (located_of c.in_ok-item.item).lookahead
+    (sym c.is_keyword-2.ensures ∙ c.if-is_keyword-2.true)) c.in_err-bounds-2.ensures)
 
 pub returns-in_err-entity-2 : goal.returns-in_err-entity-2
 returns-in_err-entity-2 c =
     let p = err_from_is_err_and c.from_residual-in_err-entity-2.result c.from_residual-in_err-entity-2.ensures.1 in
-    rw (p.1, p.2) (grouped_stops_behind _ keywords.Bag (seen_of c.in_ok-item.item) c.args.lexer.now c.take.new.lexer _ c.some_bounds-then-is_keyword-2.new.lexer refl c.in_ok-item.ensures (keyword_met keywords.Bag (seen_of c.in_ok-item.item).sight (sym c.is_keyword-2.ensures ∙ c.if-is_keyword-2.true)) c.in_ok-bounds-2.ensures.1 c.in_err-entity-2.ensures)
+    rw (p.1, p.2) (grouped_stops_behind _ keywords.Bag (located_of c.in_ok-item.item) c.args.reader.now c.take.new.self
+    _ c.some_bounds-then-is_keyword-2.new.reader refl c.in_ok-item.ensures
+    (keyword_met keywords.Bag (located_of c.in_ok-item.item).lookahead (sym c.is_keyword-2.ensures
+    ∙ c.if-is_keyword-2.true)) c.in_ok-bounds-2.ensures.1 c.in_err-entity-2.ensures)
 
 pub returns-then-is_keyword-2 : goal.returns-then-is_keyword-2
-returns-then-is_keyword-2 c =
-    (c.in_ok-bounds-2.ensures.0, grouped_passes keywords.Bag (seen_of c.in_ok-item.item) c.args.lexer.now c.take.new.lexer (words_of_some_bounds (if_some bounds_of c.in_ok-bounds-2.bounds)) c.some_bounds-then-is_keyword-2.new.lexer (capitals c.in_ok-entity-2.entity) c.expect_name-then-is_keyword-2.new.lexer refl c.in_ok-item.ensures (keyword_met keywords.Bag (seen_of c.in_ok-item.item).sight (sym c.is_keyword-2.ensures ∙ c.if-is_keyword-2.true)) c.in_ok-bounds-2.ensures.1 c.in_ok-entity-2.ensures)
+returns-then-is_keyword-2 c = (
+  c.in_ok-bounds-2.ensures.0,
+  grouped_passes keywords.Bag (located_of c.in_ok-item.item) c.args.reader.now
+      c.take.new.self (words_of_some_bounds (if_some bounds_of c.in_ok-bounds-2.bounds))
+      c.some_bounds-then-is_keyword-2.new.reader (capitals c.in_ok-entity-2.entity)
+      c.expect_name-then-is_keyword-2.new.self refl c.in_ok-item.ensures
+      (keyword_met keywords.Bag (located_of c.in_ok-item.item).lookahead (sym c.is_keyword-2.ensures
+      ∙ c.if-is_keyword-2.true)) c.in_ok-bounds-2.ensures.1 c.in_ok-entity-2.ensures,
+)
 
 pub returns-in-Name : goal.returns-in-Name
-returns-in-Name c =
-    (tt, passes_token Inverted [] (name (capitals c.in-Name.entity)) (seen_of c.in_ok-item.item) c.args.lexer.now c.take.new.lexer c.in_ok-item.ensures (ap (λ l. token (word_of l)) c.in-Name.is) refl)
+returns-in-Name c = (
+  tt,
+  passes_token Inverted [] (name (capitals c.in-Name.entity)) (located_of c.in_ok-item.item) c.args.reader.now
+      c.take.new.self c.in_ok-item.ensures (ap (λ l. token (word_of l)) c.in-Name.is) refl,
+)
 
 pub returns-in_default : goal.returns-in_default
 returns-in_default c =
-    stops_refused c.refuse.result Inverted (seen_of c.in_ok-item.item) c.args.lexer.now c.take.new.lexer c.in_ok-item.ensures (collection_refused c.in_ok-item.item.lexeme c.in_default.not-Name (sym c.is_keyword.ensures ∙ c.if-is_keyword.false) (sym c.is_keyword-2.ensures ∙ c.if-is_keyword-2.false)) c.refuse.ensures
+    stops_refused c.refuse.result Inverted (located_of c.in_ok-item.item) c.args.reader.now c.take.new.self
+    c.in_ok-item.ensures (collection_refused c.in_ok-item.item.lexeme c.in_default.not-Name
+    (sym c.is_keyword.ensures ∙ c.if-is_keyword.false) (sym c.is_keyword-2.ensures ∙ c.if-is_keyword-2.false))
+    c.refuse.ensures

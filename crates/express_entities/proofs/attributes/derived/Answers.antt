@@ -1,24 +1,33 @@
 use Rattle.std.proofs.Common.{[], ◌∷◌, ◌++◌, false}
 use Rattle.std.proofs.lemmas.Result.{err_from_is_err_and}
 use Rattle.express_lexis.specs.declared.marks.Mark.TheVariants as marks
-use Rattle.express_expressions.specs.Words.{mark}
-use Rattle.express_schemas.specs.Views.{attribute_of, kind_of, body_of}
-use Rattle.express_schemas.specs.Written.{words_of_attribute, words_of_kind, words_of_body}
-use Rattle.express_schemas.specs.Predict.{KindThen, assignment, Running, in_rule}
+use Rattle.express_trees.specs.Words.{mark}
+use Rattle.express_schemas.specs.Views.{attribute_of, data_type_of, body_of}
+use Rattle.express_schemas.specs.Written.{words_of_attribute, words_of_data_type, words_of_body}
+use Rattle.express_schemas.specs.Predict.{DataTypeThen, assignment, Running, in_rule}
 use Rattle.express_schemas.proofs.Taking.{passes_then, stops_next}
 use Rattle.express_entities.proofs.AttributeSteps.{derived_words}
 use Rattle.express_entities.proofs.attributes.derived.Goals as goal
 
-pub returns-in_err-kind : goal.returns-in_err-kind
-returns-in_err-kind c =
-    let p = err_from_is_err_and c.from_residual-in_err-kind.result c.from_residual-in_err-kind.ensures.1 in
-    rw (p.1, p.2) (stops_next _ (KindThen 0 assignment ∷ []) (Running in_rule 0 [] false ∷ []) c.in_ok-expect.ensures c.in_err-kind.ensures)
+pub returns-in_err-data_type : goal.returns-in_err-data_type
+returns-in_err-data_type c =
+    let p = err_from_is_err_and c.from_residual-in_err-data_type.result c.from_residual-in_err-data_type.ensures.1 in
+    rw (p.1, p.2) (stops_next _ (DataTypeThen 0 assignment ∷ []) (Running in_rule 0 [] false ∷ [])
+    c.in_ok-expect.ensures c.in_err-data_type.ensures)
 
 pub returns-in_err-body : goal.returns-in_err-body
 returns-in_err-body c =
     let p = err_from_is_err_and c.from_residual-in_err-body.result c.from_residual-in_err-body.ensures.1 in
-    rw (p.1, p.2) (stops_next _ (Running in_rule 0 [] false ∷ []) [] (passes_then c.in_ok-expect.ensures c.in_ok-kind.ensures.1) c.in_err-body.ensures)
+    rw (p.1, p.2) (stops_next _ (Running in_rule 0 [] false ∷ []) []
+    (passes_then c.in_ok-expect.ensures c.in_ok-data_type.ensures.1) c.in_err-body.ensures)
 
 pub returns : goal.returns
-returns c =
-    ((c.in_ok-kind.ensures.0, c.in_ok-body.ensures.0), _, derived_words (words_of_attribute (attribute_of c.args.attribute)) (words_of_kind (kind_of c.in_ok-kind.kind)) (words_of_body (body_of c.in_ok-body.body) ++ mark marks.Semicolon ∷ []), passes_then (passes_then c.in_ok-expect.ensures c.in_ok-kind.ensures.1) c.in_ok-body.ensures.1)
+returns c = (
+  (c.in_ok-data_type.ensures.0, c.in_ok-body.ensures.0),
+  _,
+  derived_words (words_of_attribute (attribute_of c.args.attribute))
+      (words_of_data_type (data_type_of c.in_ok-data_type.data_type)) (words_of_body (body_of c.in_ok-body.body)
+      ++ mark marks.Semicolon ∷ []),
+  passes_then (passes_then c.in_ok-expect.ensures c.in_ok-data_type.ensures.1)
+      c.in_ok-body.ensures.1,
+)

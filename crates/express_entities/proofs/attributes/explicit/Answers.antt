@@ -1,11 +1,11 @@
 use Rattle.std.proofs.Common.{[], ◌∷◌, ◌++◌, map, sym, ◌∙◌, refl}
 use Rattle.std.proofs.lemmas.Result.{err_from_is_err_and}
 use Rattle.express_lexis.specs.declared.marks.Mark.TheVariants as marks
-use Rattle.express_expressions.specs.declared.keyword.Keyword.TheVariants as keywords
-use Rattle.express_expressions.specs.Words.{mark}
-use Rattle.express_schemas.specs.Written.{said, words_of_kind}
-use Rattle.express_runs.specs.Items.{seen_of}
-use Rattle.express_schemas.specs.Views.{attribute_of, kind_of}
+use Rattle.express_trees.specs.declared.keyword.Keyword.TheVariants as keywords
+use Rattle.express_trees.specs.Words.{mark}
+use Rattle.express_schemas.specs.Written.{said, words_of_data_type}
+use Rattle.express_runs.specs.Items.{located_of}
+use Rattle.express_schemas.specs.Views.{attribute_of, data_type_of}
 use Rattle.express_schemas.specs.Predict.{Explicits}
 use Rattle.express_schemas.proofs.Taking.{stops_first}
 use Rattle.express_entities.proofs.AttributeSteps.{explicit_refused, explicit_stop, explicit_passes, explicit_words}
@@ -14,17 +14,38 @@ use Rattle.express_entities.proofs.attributes.explicit.Goals as goal
 pub returns-in_err-attributes : goal.returns-in_err-attributes
 returns-in_err-attributes c =
     let p = err_from_is_err_and c.from_residual-in_err-attributes.result c.from_residual-in_err-attributes.ensures.1 in
-    rw (p.1, p.2) (stops_first _ (Explicits ∷ []) (seen_of c.in_ok-next.next) c.in_ok-next.ensures (c.in_err-attributes.ensures Explicits refl))
+    rw (p.1, p.2) (stops_first _ (Explicits ∷ []) (located_of c.in_ok-next.next) c.in_ok-next.ensures
+    (c.in_err-attributes.ensures Explicits refl))
 
 pub returns-then-not-is_mark : goal.returns-then-not-is_mark
 returns-then-not-is_mark c =
-    explicit_refused c.refuse.result (attribute_of c.args.first) (seen_of c.in_ok-next.next) c.args.lexer.now c.take.new.lexer (map attribute_of c.in_ok-attributes.attributes.items) (seen_of c.in_ok-attributes.end) c.attributes.new.lexer c.in_ok-next.ensures (c.in_ok-attributes.ensures Explicits refl).0 (c.in_ok-attributes.ensures Explicits refl).1 (sym c.is_mark.ensures ∙ c.if-not-is_mark.true) c.refuse.ensures
+    explicit_refused c.refuse.result (attribute_of c.args.first) (located_of c.in_ok-next.next) c.args.reader.now
+    c.take.new.self (map attribute_of c.in_ok-attributes.attributes.items) (located_of c.in_ok-attributes.end)
+    c.attributes.new.reader c.in_ok-next.ensures (c.in_ok-attributes.ensures Explicits refl).0
+    (c.in_ok-attributes.ensures Explicits refl).1 (sym c.is_mark.ensures ∙ c.if-not-is_mark.true) c.refuse.ensures
 
 pub returns-in_err-is_optional : goal.returns-in_err-is_optional
 returns-in_err-is_optional c =
-    let p = err_from_is_err_and c.from_residual-in_err-is_optional.result c.from_residual-in_err-is_optional.ensures.1 in
-    rw (p.1, p.2) (explicit_stop _ (attribute_of c.args.first) (seen_of c.in_ok-next.next) c.args.lexer.now c.take.new.lexer (map attribute_of c.in_ok-attributes.attributes.items) (seen_of c.in_ok-attributes.end) c.attributes.new.lexer c.in_ok-next.ensures (c.in_ok-attributes.ensures Explicits refl).0 (sym c.is_mark.ensures ∙ c.if-not-is_mark.false) c.in_err-is_optional.ensures)
+    let p = err_from_is_err_and c.from_residual-in_err-is_optional.result c.from_residual-in_err-is_optional.ensures.1
+    in
+    rw (p.1, p.2) (explicit_stop _ (attribute_of c.args.first) (located_of c.in_ok-next.next) c.args.reader.now
+    c.take.new.self (map attribute_of c.in_ok-attributes.attributes.items) (located_of c.in_ok-attributes.end)
+    c.attributes.new.reader c.in_ok-next.ensures (c.in_ok-attributes.ensures Explicits refl).0
+    (sym c.is_mark.ensures ∙ c.if-not-is_mark.false) c.in_err-is_optional.ensures)
 
 pub returns : goal.returns
-returns c =
-    (((c.in_ok-attributes.ensures Explicits refl).0.filled, c.in_ok-is_optional.ensures.0), _, explicit_words (attribute_of c.args.first) (map attribute_of c.in_ok-attributes.attributes.items) (c.in_ok-attributes.ensures Explicits refl).0.further (said keywords.Optional c.in_ok-is_optional.is_optional ++ words_of_kind (kind_of c.in_ok-is_optional.kind) ++ mark marks.Semicolon ∷ []) (c.in_ok-attributes.ensures Explicits refl).0.words, explicit_passes (attribute_of c.args.first) (seen_of c.in_ok-next.next) c.args.lexer.now c.take.new.lexer (map attribute_of c.in_ok-attributes.attributes.items) (seen_of c.in_ok-attributes.end) c.attributes.new.lexer (said keywords.Optional c.in_ok-is_optional.is_optional ++ words_of_kind (kind_of c.in_ok-is_optional.kind) ++ mark marks.Semicolon ∷ []) c.optional_kind.new.lexer c.in_ok-next.ensures (c.in_ok-attributes.ensures Explicits refl).0 (sym c.is_mark.ensures ∙ c.if-not-is_mark.false) c.in_ok-is_optional.ensures.1)
+returns c = (
+  ((c.in_ok-attributes.ensures Explicits refl).0.filled, c.in_ok-is_optional.ensures.0),
+  _,
+  explicit_words (attribute_of c.args.first) (map attribute_of c.in_ok-attributes.attributes.items)
+      (c.in_ok-attributes.ensures Explicits refl).0.further (said keywords.Optional c.in_ok-is_optional.is_optional
+      ++ words_of_data_type (data_type_of c.in_ok-is_optional.data_type) ++ mark marks.Semicolon ∷ [])
+      (c.in_ok-attributes.ensures Explicits refl).0.words,
+  explicit_passes (attribute_of c.args.first)
+      (located_of c.in_ok-next.next) c.args.reader.now c.take.new.self
+      (map attribute_of c.in_ok-attributes.attributes.items) (located_of c.in_ok-attributes.end)
+      c.attributes.new.reader (said keywords.Optional c.in_ok-is_optional.is_optional
+      ++ words_of_data_type (data_type_of c.in_ok-is_optional.data_type) ++ mark marks.Semicolon ∷ [])
+      c.optional_data_type.new.reader c.in_ok-next.ensures (c.in_ok-attributes.ensures Explicits refl).0
+      (sym c.is_mark.ensures ∙ c.if-not-is_mark.false) c.in_ok-is_optional.ensures.1,
+)

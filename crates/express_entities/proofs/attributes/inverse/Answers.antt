@@ -1,7 +1,7 @@
 use Rattle.std.proofs.Common.{[], ◌∷◌}
 use Rattle.std.proofs.lemmas.Result.{err_from_is_err_and}
-use Rattle.express_expressions.specs.declared.keyword.Keyword.TheVariants as keywords
-use Rattle.express_expressions.specs.Views.{capitals}
+use Rattle.express_trees.specs.declared.keyword.Keyword.TheVariants as keywords
+use Rattle.express_trees.specs.Views.{capitals}
 use Rattle.express_schemas.specs.Views.{if_some, attribute_of, collection_of}
 use Rattle.express_schemas.specs.Written.{words_of_attribute, words_of_collection, words_of_holder}
 use Rattle.express_schemas.specs.Predict.{Inverted, Say, Id, Holder}
@@ -12,23 +12,40 @@ use Rattle.express_entities.proofs.attributes.inverse.Goals as goal
 pub returns-in_err-collection : goal.returns-in_err-collection
 returns-in_err-collection c =
     let p = err_from_is_err_and c.from_residual-in_err-collection.result c.from_residual-in_err-collection.ensures.1 in
-    rw (p.1, p.2) (stops_next _ (Inverted ∷ []) (Say keywords.For ∷ Id ∷ Holder ∷ []) c.in_ok-expect.ensures c.in_err-collection.ensures)
+    rw (p.1, p.2) (stops_next _ (Inverted ∷ []) (Say keywords.For ∷ Id ∷ Holder ∷ []) c.in_ok-expect.ensures
+    c.in_err-collection.ensures)
 
 pub returns-in_err-expect_keyword : goal.returns-in_err-expect_keyword
 returns-in_err-expect_keyword c =
-    let p = err_from_is_err_and c.from_residual-in_err-expect_keyword.result c.from_residual-in_err-expect_keyword.ensures.1 in
-    rw (p.1, p.2) (stops_next _ (Say keywords.For ∷ []) (Id ∷ Holder ∷ []) (passes_then c.in_ok-expect.ensures c.in_ok-collection.ensures.1) c.in_err-expect_keyword.ensures)
+    let p = err_from_is_err_and c.from_residual-in_err-expect_keyword.result
+    c.from_residual-in_err-expect_keyword.ensures.1 in
+    rw (p.1, p.2) (stops_next _ (Say keywords.For ∷ []) (Id ∷ Holder ∷ [])
+    (passes_then c.in_ok-expect.ensures c.in_ok-collection.ensures.1) c.in_err-expect_keyword.ensures)
 
 pub returns-in_err-first : goal.returns-in_err-first
 returns-in_err-first c =
     let p = err_from_is_err_and c.from_residual-in_err-first.result c.from_residual-in_err-first.ensures.1 in
-    rw (p.1, p.2) (stops_next _ (Id ∷ []) (Holder ∷ []) (passes_then (passes_then c.in_ok-expect.ensures c.in_ok-collection.ensures.1) c.in_ok-expect_keyword.ensures) c.in_err-first.ensures)
+    rw (p.1, p.2) (stops_next _ (Id ∷ []) (Holder ∷ [])
+    (passes_then (passes_then c.in_ok-expect.ensures c.in_ok-collection.ensures.1) c.in_ok-expect_keyword.ensures)
+    c.in_err-first.ensures)
 
 pub returns-in_err-holder : goal.returns-in_err-holder
 returns-in_err-holder c =
     let p = err_from_is_err_and c.from_residual-in_err-holder.result c.from_residual-in_err-holder.ensures.1 in
-    rw (p.1, p.2) (stops_next _ (Holder ∷ []) [] (passes_then (passes_then (passes_then c.in_ok-expect.ensures c.in_ok-collection.ensures.1) c.in_ok-expect_keyword.ensures) c.in_ok-first.ensures) c.in_err-holder.ensures)
+    rw (p.1, p.2) (stops_next _ (Holder ∷ []) []
+    (passes_then (passes_then (passes_then c.in_ok-expect.ensures c.in_ok-collection.ensures.1)
+    c.in_ok-expect_keyword.ensures) c.in_ok-first.ensures) c.in_err-holder.ensures)
 
 pub returns : goal.returns
-returns c =
-    (c.in_ok-collection.ensures.0, _, inverse_words (words_of_attribute (attribute_of c.args.attribute)) (words_of_collection (collection_of c.in_ok-collection.collection)) (words_of_holder (if_some capitals c.in_ok-holder.holder)) (capitals c.in_ok-collection.entity) (capitals c.in_ok-holder.inverted) c.in_ok-holder.ensures.0 (capitals c.in_ok-first.first) c.in_ok-holder.ensures.1, passes_then (passes_then (passes_then (passes_then c.in_ok-expect.ensures c.in_ok-collection.ensures.1) c.in_ok-expect_keyword.ensures) c.in_ok-first.ensures) c.in_ok-holder.ensures.2)
+returns c = (
+  c.in_ok-collection.ensures.0,
+  _,
+  inverse_words (words_of_attribute (attribute_of c.args.attribute))
+      (words_of_collection (collection_of c.in_ok-collection.collection))
+      (words_of_holder (if_some capitals c.in_ok-holder.holder)) (capitals c.in_ok-collection.entity)
+      (capitals c.in_ok-holder.inverted) c.in_ok-holder.ensures.0 (capitals c.in_ok-first.first)
+      c.in_ok-holder.ensures.1,
+  passes_then
+      (passes_then (passes_then (passes_then c.in_ok-expect.ensures c.in_ok-collection.ensures.1)
+      c.in_ok-expect_keyword.ensures) c.in_ok-first.ensures) c.in_ok-holder.ensures.2,
+)

@@ -13,13 +13,19 @@ returns-in_err-entity c =
 pub returns-in_err-expect-2 : goal.returns-in_err-expect-2
 returns-in_err-expect-2 c =
     let p = err_from_is_err_and c.from_residual-in_err-expect-2.result c.from_residual-in_err-expect-2.ensures.1 in
-    rw (p.1, p.2) (stops_next _ (Just marks.Dot ∷ []) (Id ∷ []) (passes_then c.in_ok-expect.ensures c.in_ok-entity.ensures) c.in_err-expect-2.ensures)
+    rw (p.1, p.2) (stops_next _ (Just marks.Dot ∷ []) (Id ∷ [])
+    (passes_then c.in_ok-expect.ensures c.in_ok-entity.ensures) c.in_err-expect-2.ensures)
 
 pub returns-in_err-name : goal.returns-in_err-name
 returns-in_err-name c =
     let p = err_from_is_err_and c.from_residual-in_err-name.result c.from_residual-in_err-name.ensures.1 in
-    rw (p.1, p.2) (stops_next _ (Id ∷ []) [] (passes_then (passes_then c.in_ok-expect.ensures c.in_ok-entity.ensures) c.in_ok-expect-2.ensures) c.in_err-name.ensures)
+    rw (p.1, p.2) (stops_next _ (Id ∷ []) [] (passes_then (passes_then c.in_ok-expect.ensures c.in_ok-entity.ensures)
+    c.in_ok-expect-2.ensures) c.in_err-name.ensures)
 
 pub returns : goal.returns
-returns c =
-    (_, refl, passes_then (passes_then (passes_then c.in_ok-expect.ensures c.in_ok-entity.ensures) c.in_ok-expect-2.ensures) c.in_ok-name.ensures)
+returns c = (
+  _,
+  refl,
+  passes_then (passes_then (passes_then c.in_ok-expect.ensures c.in_ok-entity.ensures)
+      c.in_ok-expect-2.ensures) c.in_ok-name.ensures,
+)

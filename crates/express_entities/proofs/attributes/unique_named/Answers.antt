@@ -1,7 +1,7 @@
 use Rattle.std.proofs.Common.{map, sym, ◌∙◌}
 use Rattle.std.proofs.lemmas.Result.{err_from_is_err_and}
-use Rattle.express_expressions.specs.Views.{capitals}
-use Rattle.express_runs.specs.Items.{seen_of}
+use Rattle.express_trees.specs.Views.{capitals}
+use Rattle.express_runs.specs.Items.{located_of}
 use Rattle.express_schemas.specs.Views.{attribute_of}
 use Rattle.express_entities.proofs.AttributeSteps.{labelled_passes, labelled_stops, labelled_stops_behind, named_passes, named_stops}
 use Rattle.express_entities.proofs.attributes.unique_named.Goals as goal
@@ -9,23 +9,38 @@ use Rattle.express_entities.proofs.attributes.unique_named.Goals as goal
 pub returns-in_err-attribute : goal.returns-in_err-attribute
 returns-in_err-attribute c =
     let p = err_from_is_err_and c.from_residual-in_err-attribute.result c.from_residual-in_err-attribute.ensures.1 in
-    rw (p.1, p.2) (labelled_stops _ (seen_of c.in_ok-next.next) c.args.lexer.now c.take.new.lexer c.in_ok-next.ensures (sym c.is_mark.ensures ∙ c.if-is_mark.true) c.in_err-attribute.ensures)
+    rw (p.1, p.2) (labelled_stops _ (located_of c.in_ok-next.next) c.args.reader.now c.take.new.self
+    c.in_ok-next.ensures (sym c.is_mark.ensures ∙ c.if-is_mark.true) c.in_err-attribute.ensures)
 
 pub returns-in_err-attributes : goal.returns-in_err-attributes
 returns-in_err-attributes c =
     let p = err_from_is_err_and c.from_residual-in_err-attributes.result c.from_residual-in_err-attributes.ensures.1 in
-    rw (p.1, p.2) (labelled_stops_behind _ (attribute_of c.in_ok-attribute.attribute) (seen_of c.in_ok-next.next) c.args.lexer.now c.take.new.lexer c.attribute.new.lexer c.in_ok-next.ensures (sym c.is_mark.ensures ∙ c.if-is_mark.true) c.in_ok-attribute.ensures c.in_err-attributes.ensures)
+    rw (p.1, p.2) (labelled_stops_behind _ (attribute_of c.in_ok-attribute.attribute) (located_of c.in_ok-next.next)
+    c.args.reader.now c.take.new.self c.attribute.new.reader c.in_ok-next.ensures (sym c.is_mark.ensures
+    ∙ c.if-is_mark.true) c.in_ok-attribute.ensures c.in_err-attributes.ensures)
 
 pub returns-then-is_mark : goal.returns-then-is_mark
 returns-then-is_mark c =
-    let l = labelled_passes (capitals c.args.first) (attribute_of c.in_ok-attribute.attribute) (seen_of c.in_ok-next.next) c.args.lexer.now c.take.new.lexer (map attribute_of c.in_ok-attributes.attributes.items) c.in_ok-attributes.ensures.1 c.attribute.new.lexer c.unique_attributes.new.lexer c.in_ok-next.ensures (sym c.is_mark.ensures ∙ c.if-is_mark.true) c.in_ok-attribute.ensures c.in_ok-attributes.ensures.2 c.in_ok-attributes.ensures.3 in
+    let l = labelled_passes (capitals c.args.first) (attribute_of c.in_ok-attribute.attribute)
+    (located_of c.in_ok-next.next) c.args.reader.now c.take.new.self
+    (map attribute_of c.in_ok-attributes.attributes.items) c.in_ok-attributes.ensures.1 c.attribute.new.reader
+    c.unique_attributes.new.reader c.in_ok-next.ensures (sym c.is_mark.ensures ∙ c.if-is_mark.true)
+    c.in_ok-attribute.ensures c.in_ok-attributes.ensures.2 c.in_ok-attributes.ensures.3 in
     (c.in_ok-attributes.ensures.0, l.0, l.1, l.2)
 
 pub returns-in_err-attributes-2 : goal.returns-in_err-attributes-2
 returns-in_err-attributes-2 c =
-    let p = err_from_is_err_and c.from_residual-in_err-attributes-2.result c.from_residual-in_err-attributes-2.ensures.1 in
-    rw (p.1, p.2) (named_stops _ (seen_of c.in_ok-next.next) c.args.lexer.now c.take.new.lexer c.in_ok-next.ensures (sym c.is_mark.ensures ∙ c.if-is_mark.false) c.in_err-attributes-2.ensures)
+    let p = err_from_is_err_and c.from_residual-in_err-attributes-2.result c.from_residual-in_err-attributes-2.ensures.1
+    in
+    rw (p.1, p.2) (named_stops _ (located_of c.in_ok-next.next) c.args.reader.now c.take.new.self c.in_ok-next.ensures
+    (sym c.is_mark.ensures ∙ c.if-is_mark.false) c.in_err-attributes-2.ensures)
 
 pub returns : goal.returns
-returns c =
-    (c.in_ok-attributes-2.ensures.filled, c.in_ok-attributes-2.ensures.further, c.in_ok-attributes-2.ensures.words, named_passes (capitals c.args.first) (seen_of c.in_ok-next.next) c.args.lexer.now c.take.new.lexer (map attribute_of c.in_ok-attributes-2.attributes.items) c.attributes_of_unique.new.lexer c.in_ok-next.ensures (sym c.is_mark.ensures ∙ c.if-is_mark.false) c.in_ok-attributes-2.ensures)
+returns c = (
+  c.in_ok-attributes-2.ensures.filled,
+  c.in_ok-attributes-2.ensures.further,
+  c.in_ok-attributes-2.ensures.words,
+  named_passes (capitals c.args.first) (located_of c.in_ok-next.next) c.args.reader.now c.take.new.self
+      (map attribute_of c.in_ok-attributes-2.attributes.items) c.attributes_of_unique.new.reader c.in_ok-next.ensures
+      (sym c.is_mark.ensures ∙ c.if-is_mark.false) c.in_ok-attributes-2.ensures,
+)

@@ -1,6 +1,6 @@
 use Rattle.std.proofs.Common.{length, map}
 use Rattle.express_lexis.specs.Reading.{left}
-use Rattle.express_expressions.specs.Grammar.{depth_limit}
+use Rattle.express_trees.specs.Grammar.{depth_limit}
 use Rattle.express_schemas.specs.Views.{explicit_of}
 use Rattle.express_schemas.specs.Written.{words_of_explicit}
 use Rattle.express_schemas.specs.Profile.{FitsExplicit}
@@ -9,7 +9,8 @@ use Rattle.express_entities.specs.EntityParts.{Stand}
 use Rattle.express_entities.proofs.clauses.explicit_clause.Given as goal
 
 abbrev pub invariant-loop-list : goal.invariant-loop-list
-invariant-loop-list l = Stand explicits (FitsExplicit depth_limit) words_of_explicit (map explicit_of l.list.items) l.fn.lexer l.lexer
+invariant-loop-list l = Stand explicits (FitsExplicit depth_limit) words_of_explicit (map explicit_of l.list.items)
+    l.fn.reader l.reader
 
 abbrev pub decreases-loop-list : goal.decreases-loop-list
-decreases-loop-list l = length (left l.lexer)
+decreases-loop-list l = length (left l.reader)

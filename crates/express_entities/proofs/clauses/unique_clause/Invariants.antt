@@ -8,7 +8,7 @@ use Rattle.express_entities.specs.EntityParts.{Stand}
 use Rattle.express_entities.proofs.clauses.unique_clause.Given as goal
 
 abbrev pub invariant-loop-list : goal.invariant-loop-list
-invariant-loop-list l = Stand uniques FitsUnique words_of_unique (map unique_of l.list.items) l.fn.lexer l.lexer
+invariant-loop-list l = Stand uniques FitsUnique words_of_unique (map unique_of l.list.items) l.fn.reader l.reader
 
 abbrev pub decreases-loop-list : goal.decreases-loop-list
-decreases-loop-list l = length (left l.lexer)
+decreases-loop-list l = length (left l.reader)

@@ -1,5 +1,5 @@
 use Rattle.std.proofs.lemmas.Result.{err_from_is_err_and}
-use Rattle.express_expressions.specs.Views.{capitals}
+use Rattle.express_trees.specs.Views.{capitals}
 use Rattle.express_entities.proofs.EntitySteps.{entity_err_head, entity_err_clauses, entity_done}
 use Rattle.express_entities.proofs.entities.entity.Goals as goal
 
@@ -15,4 +15,6 @@ returns-in_err-clauses c =
 
 pub returns : goal.returns
 returns c =
-    entity_done (capitals c.in_ok-name.name) c.in_ok-head.head c.in_ok-clauses.clauses c.args.lexer.now c.expect_name.new.lexer c.read_head.new.lexer c.read_clauses.new.lexer c.in_ok-name.ensures c.in_ok-head.ensures c.in_ok-clauses.ensures
+    entity_done (capitals c.in_ok-name.name) c.in_ok-head.head c.in_ok-clauses.clauses c.args.reader.now
+    c.expect_name.new.self c.read_head.new.reader c.read_clauses.new.reader c.in_ok-name.ensures
+    c.in_ok-head.ensures c.in_ok-clauses.ensures

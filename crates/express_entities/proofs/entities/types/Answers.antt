@@ -1,62 +1,86 @@
 use Rattle.std.proofs.Common.{◌≡◌, [], ◌∷◌, sym, ◌∙◌, refl}
 use Rattle.std.proofs.lemmas.Result.{err_from_is_err_and}
 use Rattle.express_lexis.specs.declared.marks.Mark.TheVariants as marks
-use Rattle.express_expressions.specs.Words.{mark}
-use Rattle.express_runs.specs.Items.{seen_of}
+use Rattle.express_trees.specs.Words.{mark}
+use Rattle.express_runs.specs.Items.{located_of}
 use Rattle.express_schemas.specs.Views.{if_some, names_of, supertype_of}
 use Rattle.express_schemas.specs.Written.{words_of_subtype}
-use Rattle.express_schemas.specs.Predict.{Sub, SuperOf, Over}
+use Rattle.express_schemas.specs.Predict.{Sub, SuperOf, EndOfText}
 use Rattle.express_entities.proofs.EntitySteps.{super_err_unsaid, super_err_second, super_err_bare, super_bare, super_err_open, super_err_expression, super_err_behind, super_err_sub, super_done}
 use Rattle.express_entities.proofs.entities.types.Goals as goal
 
 pub returns-in_err-subtype_of : goal.returns-in_err-subtype_of
 returns-in_err-subtype_of c =
     let p = err_from_is_err_and c.from_residual.result c.from_residual.ensures.1 in
-    rw (p.1, p.2) (super_err_unsaid _ (seen_of c.args.first) c.args.lexer.now (sym c.is_keyword.ensures ∙ c.if-not-is_keyword.true) c.in_err-subtype_of.ensures)
+    rw (p.1, p.2) (super_err_unsaid _ (located_of c.args.first) c.args.reader.now (sym c.is_keyword.ensures
+    ∙ c.if-not-is_keyword.true) c.in_err-subtype_of.ensures)
 
 pub returns-in_err-second : goal.returns-in_err-second
 returns-in_err-second c =
     let p = err_from_is_err_and c.from_residual-in_err-second.result c.from_residual-in_err-second.ensures.1 in
-    rw (p.1, p.2) (super_err_second _ (seen_of c.args.first) c.args.lexer.now (sym c.is_keyword.ensures ∙ c.if-not-is_keyword.false) (c.in_err-second.ensures SuperOf (λ (e : SuperOf ≡ Over). cc)))
+    rw (p.1, p.2) (super_err_second _ (located_of c.args.first) c.args.reader.now (sym c.is_keyword.ensures
+    ∙ c.if-not-is_keyword.false) (c.in_err-second.ensures SuperOf (λ (e : SuperOf ≡ EndOfText). cc)))
 
 pub returns-in_err-subtype_of-2 : goal.returns-in_err-subtype_of-2
 returns-in_err-subtype_of-2 c =
-    let p = err_from_is_err_and c.from_residual-in_err-subtype_of-2.result c.from_residual-in_err-subtype_of-2.ensures.1 in
-    rw (p.1, p.2) (super_err_bare _ (seen_of c.args.first) (seen_of c.in_ok-second.second) c.args.lexer.now (sym c.is_keyword.ensures ∙ c.if-not-is_keyword.false) c.in_ok-second.ensures (sym c.is_keyword-2.ensures ∙ c.if-not-is_keyword-2.true) c.in_err-subtype_of-2.ensures)
+    let p = err_from_is_err_and c.from_residual-in_err-subtype_of-2.result c.from_residual-in_err-subtype_of-2.ensures.1
+    in
+    rw (p.1, p.2) (super_err_bare _ (located_of c.args.first) (located_of c.in_ok-second.second) c.args.reader.now
+    (sym c.is_keyword.ensures ∙ c.if-not-is_keyword.false) c.in_ok-second.ensures (sym c.is_keyword-2.ensures
+    ∙ c.if-not-is_keyword-2.true) c.in_err-subtype_of-2.ensures)
 
 pub returns-then-not-is_keyword-2 : goal.returns-then-not-is_keyword-2
 returns-then-not-is_keyword-2 c = (
   refl,
   record { supertype = tt; subtype_of = c.in_ok-subtype_of-2.ensures.0 },
-  super_bare (seen_of c.args.first) (seen_of c.in_ok-second.second) c.args.lexer.now (sym c.is_keyword.ensures ∙ c.if-not-is_keyword.false) c.in_ok-second.ensures (sym c.is_keyword-2.ensures ∙ c.if-not-is_keyword-2.true) c.in_ok-subtype_of-2.ensures.1,
+  super_bare (located_of c.args.first) (located_of c.in_ok-second.second) c.args.reader.now (sym c.is_keyword.ensures
+      ∙ c.if-not-is_keyword.false) c.in_ok-second.ensures (sym c.is_keyword-2.ensures ∙ c.if-not-is_keyword-2.true)
+      c.in_ok-subtype_of-2.ensures.1,
 )
 
 pub returns-in_err-expect : goal.returns-in_err-expect
 returns-in_err-expect c =
     let p = err_from_is_err_and c.from_residual-in_err-expect.result c.from_residual-in_err-expect.ensures.1 in
-    rw (p.1, p.2) (super_err_open _ (seen_of c.args.first) (seen_of c.in_ok-second.second) c.args.lexer.now (sym c.is_keyword.ensures ∙ c.if-not-is_keyword.false) c.in_ok-second.ensures (sym c.is_keyword-2.ensures ∙ c.if-not-is_keyword-2.false) c.in_err-expect.ensures)
+    rw (p.1, p.2) (super_err_open _ (located_of c.args.first) (located_of c.in_ok-second.second) c.args.reader.now
+    (sym c.is_keyword.ensures ∙ c.if-not-is_keyword.false) c.in_ok-second.ensures (sym c.is_keyword-2.ensures
+    ∙ c.if-not-is_keyword-2.false) c.in_err-expect.ensures)
 
 pub returns-in_err-supertype : goal.returns-in_err-supertype
 returns-in_err-supertype c =
     let p = err_from_is_err_and c.from_residual-in_err-supertype.result c.from_residual-in_err-supertype.ensures.1 in
-    rw (p.1, p.2) (super_err_expression _ (seen_of c.args.first) (seen_of c.in_ok-second.second) c.args.lexer.now (sym c.is_keyword.ensures ∙ c.if-not-is_keyword.false) c.in_ok-second.ensures (sym c.is_keyword-2.ensures ∙ c.if-not-is_keyword-2.false) c.in_ok-expect.ensures c.in_err-supertype.ensures)
+    rw (p.1, p.2) (super_err_expression _ (located_of c.args.first) (located_of c.in_ok-second.second) c.args.reader.now
+    (sym c.is_keyword.ensures ∙ c.if-not-is_keyword.false) c.in_ok-second.ensures (sym c.is_keyword-2.ensures
+    ∙ c.if-not-is_keyword-2.false) c.in_ok-expect.ensures c.in_err-supertype.ensures)
 
 pub returns-in_err-behind : goal.returns-in_err-behind
 returns-in_err-behind c =
     let p = err_from_is_err_and c.from_residual-in_err-behind.result c.from_residual-in_err-behind.ensures.1 in
-    rw (p.1, p.2) (super_err_behind _ (supertype_of c.in_ok-supertype.supertype) (seen_of c.args.first) (seen_of c.in_ok-second.second) c.args.lexer.now (sym c.is_keyword.ensures ∙ c.if-not-is_keyword.false) c.in_ok-second.ensures (sym c.is_keyword-2.ensures ∙ c.if-not-is_keyword-2.false) c.in_ok-expect.ensures
-    (c.in_ok-supertype.ensures.1, c.in_ok-supertype.ensures.2, c.in_ok-supertype.ensures.3) (c.in_err-behind.ensures Sub (λ (e : Sub ≡ Over). cc)))
+    rw (p.1, p.2) (super_err_behind _ (supertype_of c.in_ok-supertype.supertype) (located_of c.args.first)
+    (located_of c.in_ok-second.second) c.args.reader.now (sym c.is_keyword.ensures ∙ c.if-not-is_keyword.false)
+    c.in_ok-second.ensures (sym c.is_keyword-2.ensures ∙ c.if-not-is_keyword-2.false) c.in_ok-expect.ensures
+    (c.in_ok-supertype.ensures.1, c.in_ok-supertype.ensures.2, c.in_ok-supertype.ensures.3)
+    (c.in_err-behind.ensures Sub (λ (e : Sub ≡ EndOfText). cc)))
 
 pub returns-in_err-subtype_of-3 : goal.returns-in_err-subtype_of-3
 returns-in_err-subtype_of-3 c =
-    let p = err_from_is_err_and c.from_residual-in_err-subtype_of-3.result c.from_residual-in_err-subtype_of-3.ensures.1 in
-    rw (p.1, p.2) (super_err_sub _ (supertype_of c.in_ok-supertype.supertype) (seen_of c.args.first) (seen_of c.in_ok-second.second) (seen_of c.in_ok-behind.behind) c.args.lexer.now (sym c.is_keyword.ensures ∙ c.if-not-is_keyword.false) c.in_ok-second.ensures (sym c.is_keyword-2.ensures ∙ c.if-not-is_keyword-2.false) c.in_ok-expect.ensures
-    (c.in_ok-supertype.ensures.1, c.in_ok-supertype.ensures.2, c.in_ok-supertype.ensures.3) c.in_ok-behind.ensures c.in_err-subtype_of-3.ensures)
+    let p = err_from_is_err_and c.from_residual-in_err-subtype_of-3.result c.from_residual-in_err-subtype_of-3.ensures.1
+    in
+    rw (p.1, p.2) (super_err_sub _ (supertype_of c.in_ok-supertype.supertype) (located_of c.args.first)
+    (located_of c.in_ok-second.second) (located_of c.in_ok-behind.behind) c.args.reader.now
+    (sym c.is_keyword.ensures ∙ c.if-not-is_keyword.false) c.in_ok-second.ensures (sym c.is_keyword-2.ensures
+    ∙ c.if-not-is_keyword-2.false) c.in_ok-expect.ensures
+    (c.in_ok-supertype.ensures.1, c.in_ok-supertype.ensures.2, c.in_ok-supertype.ensures.3) c.in_ok-behind.ensures
+    c.in_err-subtype_of-3.ensures)
 
 pub returns : goal.returns
 returns c = (
   refl,
   record { supertype = c.in_ok-supertype.ensures.0; subtype_of = c.in_ok-subtype_of-3.ensures.0 },
-  super_done (words_of_subtype (if_some (λ names. names_of names.items) c.in_ok-subtype_of-3.subtype_of)) (mark marks.Semicolon ∷ []) (supertype_of c.in_ok-supertype.supertype) (seen_of c.args.first) (seen_of c.in_ok-second.second) (seen_of c.in_ok-behind.behind) c.args.lexer.now (sym c.is_keyword.ensures ∙ c.if-not-is_keyword.false) c.in_ok-second.ensures (sym c.is_keyword-2.ensures ∙ c.if-not-is_keyword-2.false) c.in_ok-expect.ensures
-      (c.in_ok-supertype.ensures.1, c.in_ok-supertype.ensures.2, c.in_ok-supertype.ensures.3) c.in_ok-behind.ensures c.in_ok-subtype_of-3.ensures.1,
+  super_done (words_of_subtype (if_some (λ names. names_of names.items) c.in_ok-subtype_of-3.subtype_of))
+      (mark marks.Semicolon ∷ []) (supertype_of c.in_ok-supertype.supertype) (located_of c.args.first)
+      (located_of c.in_ok-second.second) (located_of c.in_ok-behind.behind) c.args.reader.now (sym c.is_keyword.ensures
+      ∙ c.if-not-is_keyword.false) c.in_ok-second.ensures (sym c.is_keyword-2.ensures ∙ c.if-not-is_keyword-2.false)
+      c.in_ok-expect.ensures
+      (c.in_ok-supertype.ensures.1, c.in_ok-supertype.ensures.2, c.in_ok-supertype.ensures.3) c.in_ok-behind.ensures
+      c.in_ok-subtype_of-3.ensures.1,
 )

@@ -1,5 +1,5 @@
 use Rattle.std.proofs.Common.{◌+◌, ◌*◌, ◌-◌, length}
-use Rattle.express_expressions.specs.Views.{trees_of, alternatives_of, qualifiers_of}
+use Rattle.express_trees.specs.Views.{trees_of, alternatives_of, qualifiers_of}
 use Rattle.express_expressions.specs.Pieces.{words_from}
 use Rattle.express_expressions.proofs.Chains.{OthersSoFar, MoreSoFar, SelectsSoFar, ElementsSoFar}
 use Rattle.express_expressions.proofs.read.+reader.Given as goal
@@ -56,25 +56,29 @@ abbrev pub decreases-inside : goal.decreases-inside
 decreases-inside l = 16 * (64 - l.depth) + 14
 
 abbrev pub invariant-conjuncts-loop-more : goal.invariant-conjuncts-loop-more
-invariant-conjuncts-loop-more l = OthersSoFar l.depth (words_from l.at l.lexemes) (trees_of l.others.items) (words_from l.left l.lexemes)
+invariant-conjuncts-loop-more l = OthersSoFar l.depth (words_from l.at l.lexemes) (trees_of l.others.items)
+    (words_from l.left l.lexemes)
 
 abbrev pub decreases-conjuncts-loop-more : goal.decreases-conjuncts-loop-more
 decreases-conjuncts-loop-more l = length (words_from l.left l.lexemes)
 
 abbrev pub invariant-alternatives-loop-junction : goal.invariant-alternatives-loop-junction
-invariant-alternatives-loop-junction l = MoreSoFar l.depth (words_from l.at l.lexemes) (alternatives_of l.others.items) (words_from l.left l.lexemes)
+invariant-alternatives-loop-junction l = MoreSoFar l.depth (words_from l.at l.lexemes) (alternatives_of l.others.items)
+    (words_from l.left l.lexemes)
 
 abbrev pub decreases-alternatives-loop-junction : goal.decreases-alternatives-loop-junction
 decreases-alternatives-loop-junction l = length (words_from l.left l.lexemes)
 
 abbrev pub invariant-qualifiers-loop-alloc : goal.invariant-qualifiers-loop-alloc
-invariant-qualifiers-loop-alloc l = SelectsSoFar l.depth (words_from l.at l.lexemes) (qualifiers_of l.qualifiers.items) (words_from l.left l.lexemes)
+invariant-qualifiers-loop-alloc l = SelectsSoFar l.depth (words_from l.at l.lexemes) (qualifiers_of l.qualifiers.items)
+    (words_from l.left l.lexemes)
 
 abbrev pub decreases-qualifiers-loop-alloc : goal.decreases-qualifiers-loop-alloc
 decreases-qualifiers-loop-alloc l = length (words_from l.left l.lexemes)
 
 abbrev pub invariant-elements-loop-values : goal.invariant-elements-loop-values
-invariant-elements-loop-values l = ElementsSoFar l.depth (words_from l.at l.lexemes) (trees_of l.values.items) (words_from l.left l.lexemes)
+invariant-elements-loop-values l = ElementsSoFar l.depth (words_from l.at l.lexemes) (trees_of l.values.items)
+    (words_from l.left l.lexemes)
 
 abbrev pub decreases-elements-loop-values : goal.decreases-elements-loop-values
 decreases-elements-loop-values l = length (words_from l.left l.lexemes)

@@ -1,12 +1,22 @@
-use Rattle.express_expressions.specs.Words.{words_of}
-use Rattle.express_expressions.specs.Views.{tree_of}
-use Rattle.express_expressions.specs.Pieces.{words_from}
+use Rattle.std.proofs.Common.{◌≡◌, rules}
+use Rattle.express_trees.specs.Grammar.{expression}
+use Rattle.express_trees.specs.Reads.{StandsNone}
+use Rattle.express_expressions.specs.declared.not_read.NotRead.TheVariants as failures
+use Rattle.express_trees.specs.Words.{words_of}
+use Rattle.express_trees.specs.Views.{tree_of}
+use Rattle.express_expressions.specs.Pieces.{words_from, Unless}
 use Rattle.express_expressions.proofs.Levels.{whole_none, whole_more, some_left}
 use Rattle.express_expressions.proofs.read.read_expression.Goals as goal
 
-pub returns-in_default : goal.returns-in_default
-returns-in_default c = whole_none c.args.depth (words_of c.args.lexemes.now) (rw c.in_default.is at c.in_ok-whole.ensures)
+pub returns-in-Err-NoExpression : goal.returns-in-Err-NoExpression
+returns-in-Err-NoExpression c =
+    let e : c.in-Err-NoExpression.field-0 ≡ failures.NoExpression = search rules in
+    let h : Unless c.in-Err-NoExpression.field-0 (StandsNone c.args.depth expression (words_of c.args.lexemes.now)) =
+    rw c.in-Err-NoExpression.is at c.expression.ensures in
+    whole_none c.args.depth (words_of c.args.lexemes.now) (rw e at h)
 
-pub returns : goal.returns
-returns c =
-    whole_more c.args.depth (words_of c.args.lexemes.now) (tree_of c.in-Some.whole) (words_from c.in-Some.rest c.args.lexemes.now) (rw c.in-Some.is at c.in_ok-whole.ensures) (some_left c.args.lexemes.now c.in-Some.rest c.if-rest-lexemes.false)
+pub returns-in-Ok : goal.returns-in-Ok
+returns-in-Ok c =
+    whole_more c.args.depth (words_of c.args.lexemes.now) (tree_of c.in-Ok.whole.value)
+    (words_from c.in-Ok.rest c.args.lexemes.now) (rw c.in-Ok.is at c.expression.ensures)
+    (some_left c.args.lexemes.now c.in-Ok.rest c.if-rest-lexemes.false)

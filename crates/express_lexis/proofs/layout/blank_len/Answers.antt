@@ -5,4 +5,6 @@ use Rattle.express_lexis.proofs.layout.blank_len.Goals as goal
 
 pub returns-in-Some : goal.returns-in-Some
 returns-in-Some c =
-    tail_at c.args.bytes.now c.in-Some.line.now c.line_len.result (stripped (codes "--") c.args.bytes.now c.in-Some.line.now c.in-Some.ensures.cases.0 c.in-Some.ensures.cases.1) c.line_len.ensures.len
+    tail_at c.args.bytes.now c.in-Some.line.now c.line_len.result
+    (stripped (codes "--") c.args.bytes.now c.in-Some.line.now c.in-Some.ensures.cases.0 c.in-Some.ensures.cases.1)
+    c.line_len.ensures.len

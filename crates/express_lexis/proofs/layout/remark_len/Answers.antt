@@ -14,8 +14,10 @@ loop-open-preserved-in-Some c =
     let n = c.loop-open.open in
     let after = c.in-Some.after.now in
     let i = c.loop-open.invariant in
-    let split = stripped (codes "(*") c.loop-open.rest.now after c.in-Some.ensures.cases.0 c.in-Some.ensures.cases.1 in
-    (counts_open bytes n c.loop-open-test.true after (subst (Counts bytes n) split i.0), omega (arith, ap length split, i.1))
+    let split = stripped (codes "(*") c.loop-open.rest.now after c.in-Some.ensures.cases.0 c.in-Some.ensures.cases.1 in (
+      counts_open bytes n c.loop-open-test.true after (subst (Counts bytes n) split i.0),
+      omega (arith, ap length split, i.1),
+    )
 
 pub loop-open-preserved-in-Some-strip_prefix : goal.loop-open-preserved-in-Some-strip_prefix
 loop-open-preserved-in-Some-strip_prefix c =
@@ -23,14 +25,18 @@ loop-open-preserved-in-Some-strip_prefix c =
     let n = c.loop-open.open in
     let after = c.in-Some-strip_prefix.after.now in
     let i = c.loop-open.invariant in
-    let split = stripped (codes "*)") c.loop-open.rest.now after c.in-Some-strip_prefix.ensures.cases.0 c.in-Some-strip_prefix.ensures.cases.1 in
-    (counts_close bytes n c.loop-open-test.true after (subst (Counts bytes n) split i.0), omega (arith, ap length split, i.1))
+    let split = stripped (codes "*)") c.loop-open.rest.now after c.in-Some-strip_prefix.ensures.cases.0
+    c.in-Some-strip_prefix.ensures.cases.1 in (
+      counts_close bytes n c.loop-open-test.true after (subst (Counts bytes n) split i.0),
+      omega (arith, ap length split, i.1),
+    )
 
 pub returns-in_err-after : goal.returns-in_err-after
 returns-in_err-after c =
     let bytes = c.args.bytes.now in
     let n = c.loop-open.open in
-    let counts : Counts bytes n [] = subst (Counts bytes n) (empty_of c.loop-open.rest.now c.in_err-after.ensures.cases) c.loop-open.invariant.0 in
+    let counts : Counts bytes n [] = subst (Counts bytes n) (empty_of c.loop-open.rest.now c.in_err-after.ensures.cases)
+    c.loop-open.invariant.0 in
     rw c.from_residual.ensures (not_closed bytes n c.loop-open-test.true counts)
 
 pub loop-open-preserved : goal.loop-open-preserved
@@ -40,8 +46,11 @@ loop-open-preserved c =
     let after = c.in_ok-after.after.now in
     let i = c.loop-open.invariant in
     let split = c.in_ok-after.ensures.cases.0 in
-    let plain = no_turn c.loop-open.rest.now c.in_default.ensures.cases c.in_default-strip_prefix.ensures.cases in
-    (counts_byte bytes n c.loop-open-test.true after _ (ap turns (sym split) ∙ plain) (subst (Counts bytes n) split i.0), omega (arith, ap length split, i.1))
+    let plain = no_turn c.loop-open.rest.now c.in_default.ensures.cases c.in_default-strip_prefix.ensures.cases in (
+      counts_byte bytes n c.loop-open-test.true after _ (ap turns (sym split) ∙ plain)
+          (subst (Counts bytes n) split i.0),
+      omega (arith, ap length split, i.1),
+    )
 
 pub returns : goal.returns
 returns c =

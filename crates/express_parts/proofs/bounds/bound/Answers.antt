@@ -1,11 +1,22 @@
-use Rattle.std.proofs.Common.{ap, ◌∙◌}
-use Rattle.express_expressions.specs.Words.{words_of}
+use Rattle.std.proofs.Common.{ap, ◌∙◌, subst, List}
+use Rattle.express_trees.specs.Words.{Word, words_of}
+use Rattle.express_schemas.specs.Profile.{IsBoundText}
 use Rattle.express_schemas.specs.Views.{run_of, bound_of}
 use Rattle.express_runs.specs.OpenRuns.{part_of, may_of}
-use Rattle.express_parts.proofs.BoundSteps.{bound_known}
+use Rattle.express_parts.proofs.BoundSteps.{bound_known, bound_other}
 use Rattle.express_parts.proofs.bounds.bound.Goals as goal
 
 pub returns-in-Some : goal.returns-in-Some
 returns-in-Some c =
-    bound_known (part_of c.args.part) c.args.around c.next_run.new.buffer.lexemes.items (run_of c.in_ok-tokens.tokens) (bound_of c.in-Some.bound) c.args.lexer.now c.next_run.new.lexer c.in_ok-tokens.ensures
-    (c.in-Some.ensures.0 ∙ ap words_of c.deref.ensures.value) (c.in-Some.ensures.1 (may_of (part_of c.args.part)) c.args.around)
+    rw (← c.reader.view_is) (bound_known (part_of c.args.part) c.args.around c.next_run.new.buffer.lexemes.items
+    (run_of c.in_ok-tokens.tokens) (bound_of c.in-Some.bound) c.reader.inside.lexer c.next_run.new.lexer
+    c.in_ok-tokens.ensures
+    (c.in-Some.ensures.0 ∙ ap words_of c.deref.ensures.value) (c.in-Some.ensures.1 (may_of (part_of c.args.part))
+    c.args.around))
+
+pub returns : goal.returns
+returns c =
+    let P : List Word → Type 0 = λ l. IsBoundText l → ⊥ in
+    rw (← c.reader.view_is) (bound_other (part_of c.args.part) c.args.around c.next_run.new.buffer.lexemes.items
+    (run_of c.in_ok-tokens.tokens) c.reader.inside.lexer c.next_run.new.lexer c.in_ok-tokens.ensures
+    (subst P (ap words_of c.deref.ensures.value) c.in_default.ensures))

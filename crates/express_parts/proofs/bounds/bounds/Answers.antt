@@ -6,14 +6,22 @@ use Rattle.express_parts.proofs.bounds.bounds.Goals as goal
 pub returns-in_err-upper : goal.returns-in_err-upper
 returns-in_err-upper c =
     let p = err_from_is_err_and c.from_residual-in_err-upper.result c.from_residual-in_err-upper.ensures.1 in
-    rw (p.1, p.2) (bounds_err_upper _ c.args.around (bound_of c.in_ok-lower.lower) c.args.lexer.now c.bound.new.lexer c.in_ok-lower.ensures c.in_err-upper.ensures)
+    rw (p.1, p.2) (bounds_err_upper _ c.args.around (bound_of c.in_ok-lower.lower) c.args.reader.now c.bound.new.reader
+    c.in_ok-lower.ensures c.in_err-upper.ensures)
 
 pub returns-in_err-expect_keyword : goal.returns-in_err-expect_keyword
 returns-in_err-expect_keyword c =
-    let p = err_from_is_err_and c.from_residual-in_err-expect_keyword.result c.from_residual-in_err-expect_keyword.ensures.1 in
-    rw (p.1, p.2) (bounds_err_of _ c.args.around (bound_of c.in_ok-lower.lower) (bound_of c.in_ok-upper.upper) c.args.lexer.now c.bound.new.lexer c.bound-2.new.lexer c.in_ok-lower.ensures c.in_ok-upper.ensures c.in_err-expect_keyword.ensures)
+    let p = err_from_is_err_and c.from_residual-in_err-expect_keyword.result
+    c.from_residual-in_err-expect_keyword.ensures.1 in
+    rw (p.1, p.2) (bounds_err_of _ c.args.around (bound_of c.in_ok-lower.lower) (bound_of c.in_ok-upper.upper)
+    c.args.reader.now c.bound.new.reader c.bound-2.new.reader c.in_ok-lower.ensures c.in_ok-upper.ensures
+    c.in_err-expect_keyword.ensures)
 
 pub returns : goal.returns
 returns c =
-    bounds_done c.args.around (record { lower = bound_of c.in_ok-lower.lower; upper = bound_of c.in_ok-upper.upper }) c.args.lexer.now c.bound.new.lexer c.bound-2.new.lexer c.expect_keyword.new.lexer c.requires.around
+    bounds_done c.args.around (record {
+      lower = bound_of c.in_ok-lower.lower;
+      upper = bound_of c.in_ok-upper.upper;
+    }) c.args.reader.now
+    c.bound.new.reader c.bound-2.new.reader c.expect_keyword.new.self c.requires.around
     c.in_ok-lower.ensures c.in_ok-upper.ensures c.in_ok-expect_keyword.ensures

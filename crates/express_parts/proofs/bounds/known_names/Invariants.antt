@@ -1,5 +1,5 @@
 use Rattle.std.proofs.Common.{length}
-use Rattle.express_expressions.specs.Words.{words_of}
+use Rattle.express_trees.specs.Words.{words_of}
 use Rattle.express_schemas.specs.Views.{names_of}
 use Rattle.express_parts.proofs.BoundSteps.{NamesSoFar}
 use Rattle.express_parts.proofs.bounds.known_names.Given as goal

@@ -1,4 +1,4 @@
-use Rattle.express_runs.specs.Items.{seen_of}
+use Rattle.express_runs.specs.Items.{located_of}
 use Rattle.express_schemas.specs.Views.{run_of}
 use Rattle.express_runs.specs.OpenRuns.{part_of}
 use Rattle.express_parts.proofs.BoundSteps.{run_of_gather}
@@ -6,4 +6,6 @@ use Rattle.express_parts.proofs.bounds.next_run.Goals as goal
 
 pub returns : goal.returns
 returns c =
-    run_of_gather run_of (part_of c.args.part) c.args.around c.clear.new.self c.gather.new.buffer (seen_of c.in_ok-first.first) c.args.lexer.now c.take.new.lexer c.gather.new.lexer c.gather.result c.clear.ensures.empty c.in_ok-first.ensures c.gather.ensures
+    run_of_gather run_of (part_of c.args.part) c.args.around c.clear.new.self c.gather.new.buffer
+    (located_of c.in_ok-first.first) c.args.lexer.now c.next_item.new.lexer c.gather.new.lexer c.gather.result
+    c.clear.ensures.empty c.in_ok-first.ensures c.gather.ensures

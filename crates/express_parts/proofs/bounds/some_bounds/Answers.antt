@@ -1,30 +1,40 @@
 use Rattle.std.proofs.Common.{rules, sym, ◌∙◌, ◌≤◌, ◌<◌}
 use Rattle.std.proofs.lemmas.Result.{err_from_is_err_and}
-use Rattle.express_expressions.specs.Grammar.{depth_limit}
-use Rattle.express_runs.specs.Items.{seen_of}
+use Rattle.express_trees.specs.Grammar.{depth_limit}
+use Rattle.express_runs.specs.Items.{located_of}
 use Rattle.express_schemas.specs.Views.{bounds_of}
 use Rattle.express_parts.proofs.BoundSteps.{no_bounds, some_bounds_err, some_bounds_deep, some_bounds_stop, some_bounds_done}
 use Rattle.express_parts.proofs.bounds.some_bounds.Goals as goal
 
 pub returns-then-is_keyword : goal.returns-then-is_keyword
-returns-then-is_keyword c = (tt, no_bounds c.args.around (seen_of c.in_ok-item.item) c.args.lexer.now c.take.new.lexer c.in_ok-item.ensures (sym c.is_keyword.ensures ∙ c.if-is_keyword.true))
+returns-then-is_keyword c = (
+  tt,
+  no_bounds c.args.around (located_of c.in_ok-item.item) c.args.reader.now
+      c.take.new.self c.in_ok-item.ensures (sym c.is_keyword.ensures ∙ c.if-is_keyword.true),
+)
 
 pub returns-then-not-is_mark : goal.returns-then-not-is_mark
 returns-then-not-is_mark c =
-    some_bounds_err c.refuse.result c.args.around (seen_of c.in_ok-item.item) c.args.lexer.now c.take.new.lexer c.in_ok-item.ensures (sym c.is_keyword.ensures ∙ c.if-is_keyword.false) (sym c.is_mark.ensures ∙ c.if-not-is_mark.true) c.refuse.ensures
+    some_bounds_err c.refuse.result c.args.around (located_of c.in_ok-item.item) c.args.reader.now c.take.new.self
+    c.in_ok-item.ensures (sym c.is_keyword.ensures ∙ c.if-is_keyword.false) (sym c.is_mark.ensures
+    ∙ c.if-not-is_mark.true) c.refuse.ensures
 
 pub returns-then-around-ge-LEVELS : goal.returns-then-around-ge-LEVELS
 returns-then-around-ge-LEVELS c =
     let deep : depth_limit ≤ c.args.around = search rules in
-    some_bounds_deep c.fault_at.result c.args.around (seen_of c.in_ok-item.item) c.args.lexer.now c.take.new.lexer c.in_ok-item.ensures (sym c.is_mark.ensures ∙ c.if-not-is_mark.false) deep c.fault_at.ensures
+    some_bounds_deep c.fault_at.result c.args.around (located_of c.in_ok-item.item) c.args.reader.now c.take.new.self
+    c.in_ok-item.ensures (sym c.is_mark.ensures ∙ c.if-not-is_mark.false) deep c.fault_at.ensures
 
 pub returns-in_err-bounds : goal.returns-in_err-bounds
 returns-in_err-bounds c =
     let p = err_from_is_err_and c.from_residual-in_err-bounds.result c.from_residual-in_err-bounds.ensures.1 in
     let shallow : c.args.around < depth_limit = search rules in
-    rw (p.1, p.2) (some_bounds_stop _ c.args.around (seen_of c.in_ok-item.item) c.args.lexer.now c.take.new.lexer c.in_ok-item.ensures (sym c.is_mark.ensures ∙ c.if-not-is_mark.false) shallow c.in_err-bounds.ensures)
+    rw (p.1, p.2) (some_bounds_stop _ c.args.around (located_of c.in_ok-item.item) c.args.reader.now c.take.new.self
+    c.in_ok-item.ensures (sym c.is_mark.ensures ∙ c.if-not-is_mark.false) shallow c.in_err-bounds.ensures)
 
 pub returns : goal.returns
 returns c =
     let shallow : c.args.around < depth_limit = search rules in
-    some_bounds_done c.args.around (bounds_of c.in_ok-bounds.bounds) (seen_of c.in_ok-item.item) c.args.lexer.now c.take.new.lexer c.bounds.new.lexer c.in_ok-item.ensures (sym c.is_mark.ensures ∙ c.if-not-is_mark.false) shallow c.in_ok-bounds.ensures
+    some_bounds_done c.args.around (bounds_of c.in_ok-bounds.bounds) (located_of c.in_ok-item.item) c.args.reader.now
+    c.take.new.self c.bounds.new.reader c.in_ok-item.ensures (sym c.is_mark.ensures ∙ c.if-not-is_mark.false)
+    shallow c.in_ok-bounds.ensures

@@ -1,5 +1,5 @@
 use Rattle.std.proofs.Common.{ap, ◌∙◌, subst, List}
-use Rattle.express_expressions.specs.Words.{Word, words_of}
+use Rattle.express_trees.specs.Words.{Word, words_of}
 use Rattle.express_schemas.specs.Written.{words_of_expression}
 use Rattle.express_schemas.specs.Profile.{IsSupertypeText}
 use Rattle.express_schemas.specs.Views.{run_of, supertype_of}
@@ -9,11 +9,14 @@ use Rattle.express_parts.proofs.bounds.supertype.Goals as goal
 pub returns-in-Some : goal.returns-in-Some
 returns-in-Some c =
     let k = subst (IsKnown (words_of c.deref.result.now)) c.in-Some.is c.in_ok-known.ensures in
-    supertype_known c.next_run.new.buffer.lexemes.items (run_of c.in_ok-tokens.tokens) (supertype_of c.in-Some.supertype) c.args.lexer.now c.next_run.new.lexer c.in_ok-tokens.ensures k.0
-    (k.1 ∙ ap (λ ls. words_of_expression (words_of ls)) c.deref.ensures.value)
+    rw (← c.reader.view_is) (supertype_known c.next_run.new.buffer.lexemes.items (run_of c.in_ok-tokens.tokens)
+    (supertype_of c.in-Some.supertype) c.reader.inside.lexer c.next_run.new.lexer c.in_ok-tokens.ensures k.0
+    (k.1 ∙ ap (λ ls. words_of_expression (words_of ls)) c.deref.ensures.value))
 
-pub returns-in-None : goal.returns-in-None
-returns-in-None c =
-    let k = subst (IsKnown (words_of c.deref.result.now)) c.in-None.is c.in_ok-known.ensures in
+pub returns : goal.returns
+returns c =
+    let k = subst (IsKnown (words_of c.deref.result.now)) c.in_default.is c.in_ok-known.ensures in
     let P : List Word → Type 0 = λ l. IsSupertypeText l → ⊥ in
-    supertype_other c.next_run.new.buffer.lexemes.items (run_of c.in_ok-tokens.tokens) c.args.lexer.now c.next_run.new.lexer c.in_ok-tokens.ensures (subst P (ap words_of c.deref.ensures.value) k)
+    rw (← c.reader.view_is) (supertype_other c.next_run.new.buffer.lexemes.items (run_of c.in_ok-tokens.tokens)
+    c.reader.inside.lexer c.next_run.new.lexer c.in_ok-tokens.ensures (subst P (ap words_of c.deref.ensures.value)
+    k))

@@ -1,13 +1,17 @@
 use Rattle.std.proofs.Common.{ap, sym, ◌∙◌}
-use Rattle.express_expressions.specs.Words.{words_of}
+use Rattle.express_trees.specs.Words.{words_of}
 use Rattle.express_schemas.specs.Views.{run_of}
 use Rattle.express_parts.proofs.BoundSteps.{width_known, width_other}
 use Rattle.express_parts.proofs.bounds.width.Goals as goal
 
 pub returns-in-Some : goal.returns-in-Some
 returns-in-Some c =
-    width_known c.args.around c.next_run.new.buffer.lexemes.items (run_of c.in_ok-tokens.tokens) c.in-Some.width.text.now c.args.lexer.now c.next_run.new.lexer c.requires.around c.in_ok-tokens.ensures (sym (ap words_of c.deref.ensures.value) ∙ c.in-Some.ensures)
+    rw (← c.reader.view_is) (width_known c.args.around c.next_run.new.buffer.lexemes.items
+    (run_of c.in_ok-tokens.tokens) c.in-Some.width.text.now c.reader.inside.lexer c.next_run.new.lexer
+    c.requires.around c.in_ok-tokens.ensures (sym (ap words_of c.deref.ensures.value) ∙ c.in-Some.ensures))
 
-pub returns-in-None : goal.returns-in-None
-returns-in-None c =
-    width_other c.args.around c.next_run.new.buffer.lexemes.items (run_of c.in_ok-tokens.tokens) c.args.lexer.now c.next_run.new.lexer c.requires.around c.in_ok-tokens.ensures (λ t e. c.in-None.ensures t (ap words_of c.deref.ensures.value ∙ e))
+pub returns : goal.returns
+returns c =
+    rw (← c.reader.view_is) (width_other c.args.around c.next_run.new.buffer.lexemes.items
+    (run_of c.in_ok-tokens.tokens) c.reader.inside.lexer c.next_run.new.lexer c.requires.around
+    c.in_ok-tokens.ensures (λ t e. c.in_default.ensures t (ap words_of c.deref.ensures.value ∙ e)))

@@ -1,7 +1,9 @@
-use Rattle.express_runs.specs.Items.{seen_of}
+use Rattle.express_runs.specs.Items.{located_of}
 use Rattle.express_parts.proofs.RuleSteps.{body_done}
 use Rattle.express_parts.proofs.rules.body.Goals as goal
 
 pub returns : goal.returns
 returns c =
-    body_done c.gathered_body.result c.clear.new.self (seen_of c.in_ok-first.first) c.args.lexer.now c.take.new.lexer c.gathered_body.new.lexer c.clear.ensures.empty.0 c.clear.ensures.empty.1 c.in_ok-first.ensures c.gathered_body.ensures
+    body_done c.gathered_body.result c.clear.new.self (located_of c.in_ok-first.first) c.args.reader.now
+    c.reader.inside.lexer c.gathered_body.new.lexer c.clear.ensures.empty.0 c.clear.ensures.empty.1
+    (rw c.reader.view_is c.in_ok-first.ensures) c.gathered_body.ensures

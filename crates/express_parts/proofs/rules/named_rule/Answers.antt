@@ -1,8 +1,8 @@
 use Rattle.std.proofs.Common.{sym, ◌∙◌, ◌≡◌}
 use Rattle.std.proofs.lemmas.Result.{err_from_is_err_and}
-use Rattle.express_expressions.specs.Words.{word_of}
-use Rattle.express_runs.specs.Items.{seen_of}
-use Rattle.express_schemas.specs.Predict.{Labelled, Over, in_rule}
+use Rattle.express_trees.specs.Words.{word_of}
+use Rattle.express_runs.specs.Items.{located_of}
+use Rattle.express_schemas.specs.Predict.{Labelled, EndOfText, in_rule}
 use Rattle.express_schemas.specs.Views.{body_of}
 use Rattle.express_parts.proofs.RuleSteps.{behind_name, behind_label, labelled_read, second_read, second_stops}
 use Rattle.express_parts.proofs.rules.named_rule.Goals as goal
@@ -10,25 +10,41 @@ use Rattle.express_parts.proofs.rules.named_rule.Goals as goal
 pub returns-in_err-next : goal.returns-in_err-next
 returns-in_err-next c = λ end.
     let p = err_from_is_err_and c.from_residual.result c.from_residual.ensures.1 in
-    rw (p.1, p.2) (behind_name _ end c.args.word c.args.place c.args.lexer.now (c.in_err-next.ensures (Labelled end) (λ (e : Labelled end ≡ Over). cc)))
+    rw (p.1, p.2) (behind_name _ end c.args.word c.args.place c.args.reader.now
+    (c.in_err-next.ensures (Labelled end) (λ (e : Labelled end ≡ EndOfText). cc)))
 
 pub returns-in_err-body : goal.returns-in_err-body
 returns-in_err-body c = λ end.
     let p = err_from_is_err_and c.from_residual-in_err-body.result c.from_residual-in_err-body.ensures.1 in
-    rw (p.1, p.2) (behind_label _ end c.args.word c.args.place (seen_of c.in_ok-next.next) c.args.lexer.now c.take.new.lexer c.in_ok-next.ensures (sym c.is_mark.ensures ∙ c.if-is_mark.true) c.in_err-body.ensures)
+    rw (p.1, p.2) (behind_label _ end c.args.word c.args.place (located_of c.in_ok-next.next) c.args.reader.now
+    c.take.new.self c.in_ok-next.ensures (sym c.is_mark.ensures ∙ c.if-is_mark.true) c.in_err-body.ensures)
 
 pub returns-then-is_mark : goal.returns-then-is_mark
 returns-then-is_mark c = λ end.
-    labelled_read end c.args.word c.args.place (seen_of c.in_ok-next.next) (body_of c.in_ok-body.body) c.args.lexer.now c.take.new.lexer c.body.new.lexer c.in_ok-next.ensures (sym c.is_mark.ensures ∙ c.if-is_mark.true) c.in_ok-body.ensures
+    labelled_read end c.args.word c.args.place (located_of c.in_ok-next.next) (body_of c.in_ok-body.body)
+    c.args.reader.now c.take.new.self c.body.new.reader c.in_ok-next.ensures (sym c.is_mark.ensures
+    ∙ c.if-is_mark.true) c.in_ok-body.ensures
 
 pub gathered_body-requires : goal.gathered_body-requires
-gathered_body-requires c = record { begun = (c.args.lexer.now, c.in_ok-begin.ensures.2 in_rule 0 c.requires.shown.0 c.args.lexer.now c.requires.shown.1 c.place-to.ensures, c.in_ok-next.ensures) }
+gathered_body-requires c = record {
+  begun = (
+    c.args.reader.now,
+    c.in_ok-begin.ensures.2 in_rule 0 c.requires.shown.0 c.args.reader.now
+        c.requires.shown.1 c.place-to.ensures,
+    rw c.reader.view_is c.in_ok-next.ensures,
+  );
+}
 
 pub returns-in_err-body-2 : goal.returns-in_err-body-2
 returns-in_err-body-2 c = λ end.
     let p = err_from_is_err_and c.from_residual-in_err-body-2.result c.from_residual-in_err-body-2.ensures.1 in
-    rw (p.1, p.2) (second_stops end c.args.word c.args.place (word_of c.in_ok-next.next.lexeme) c.in_ok-next.next.place c.begin.new.self c.args.lexer.now c.take.new.lexer _ c.in_ok-begin.ensures.0 c.in_ok-begin.ensures.1 (sym c.is_mark.ensures ∙ c.if-is_mark.false) c.in_ok-next.ensures c.in_err-body-2.ensures)
+    rw (p.1, p.2) (second_stops end c.args.word c.args.place (word_of c.in_ok-next.next.lexeme) c.in_ok-next.next.place
+    c.begin.new.self c.args.reader.now c.reader.inside.lexer _ c.in_ok-begin.ensures.0 c.in_ok-begin.ensures.1
+    (sym c.is_mark.ensures ∙ c.if-is_mark.false) (rw c.reader.view_is c.in_ok-next.ensures) c.in_err-body-2.ensures)
 
 pub returns : goal.returns
 returns c = λ end.
-    second_read end c.args.word c.args.place (word_of c.in_ok-next.next.lexeme) c.in_ok-next.next.place c.begin.new.self c.args.lexer.now c.take.new.lexer (body_of c.in_ok-body-2.body) c.gathered_body.new.lexer c.in_ok-begin.ensures.0 c.in_ok-begin.ensures.1 (sym c.is_mark.ensures ∙ c.if-is_mark.false) c.in_ok-next.ensures c.in_ok-body-2.ensures
+    second_read end c.args.word c.args.place (word_of c.in_ok-next.next.lexeme) c.in_ok-next.next.place c.begin.new.self
+    c.args.reader.now c.reader.inside.lexer (body_of c.in_ok-body-2.body) c.gathered_body.new.lexer
+    c.in_ok-begin.ensures.0 c.in_ok-begin.ensures.1 (sym c.is_mark.ensures ∙ c.if-is_mark.false)
+    (rw c.reader.view_is c.in_ok-next.ensures) c.in_ok-body-2.ensures

@@ -5,7 +5,7 @@ use Rattle.express_parts.proofs.RuleSteps.{RulesSoFar}
 use Rattle.express_parts.proofs.rules.rules.Given as goal
 
 abbrev pub invariant-loop-rules : goal.invariant-loop-rules
-invariant-loop-rules l = RulesSoFar l.end (rules_of l.rules.items) l.fn.lexer l.lexer
+invariant-loop-rules l = RulesSoFar l.end (rules_of l.rules.items) l.fn.reader l.reader
 
 abbrev pub decreases-loop-rules : goal.decreases-loop-rules
-decreases-loop-rules l = length (left l.lexer)
+decreases-loop-rules l = length (left l.reader)

@@ -5,7 +5,7 @@ use Rattle.express_runs.proofs.NameSteps.{NamesSoFar}
 use Rattle.express_runs.proofs.names.names.Given as goal
 
 abbrev pub invariant-loop-names : goal.invariant-loop-names
-invariant-loop-names l = NamesSoFar (names_of l.names.items) l.fn.lexer l.lexer
+invariant-loop-names l = NamesSoFar (names_of l.names.items) l.fn.reader l.reader
 
 abbrev pub decreases-loop-names : goal.decreases-loop-names
-decreases-loop-names l = length (left l.lexer)
+decreases-loop-names l = length (left l.reader)

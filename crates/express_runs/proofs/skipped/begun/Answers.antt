@@ -1,10 +1,12 @@
 use Rattle.std.proofs.Common.{arith}
-use Rattle.express_expressions.specs.Words.{word_of}
+use Rattle.express_trees.specs.Words.{word_of}
 use Rattle.express_runs.proofs.SkippedSteps.{begun_first, begun_more}
 use Rattle.express_runs.proofs.skipped.begun.Goals as goal
 
 pub returns-then-from-to : goal.returns-then-from-to
-returns-then-from-to c = λ ws old new h e k. begun_first c.args.from c.args.to ws (word_of c.args.item.lexeme) c.args.item.place old new (omega arith) h k
+returns-then-from-to c = λ ws old new h e k. begun_first c.args.from c.args.to ws (word_of c.args.item.lexeme)
+    c.args.item.place old new (omega arith) h k
 
 pub returns : goal.returns
-returns c = λ ws old new h e k. begun_more c.args.from c.args.to ws (word_of c.args.item.lexeme) c.args.item.place old new h e k
+returns c = λ ws old new h e k. begun_more c.args.from c.args.to ws (word_of c.args.item.lexeme) c.args.item.place old
+    new h e k

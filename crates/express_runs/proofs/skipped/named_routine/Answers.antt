@@ -11,8 +11,14 @@ returns-in_err-tokens c =
 
 pub returns-in_err-skipped_end : goal.returns-in_err-skipped_end
 returns-in_err-skipped_end c =
-    let p = err_from_is_err_and c.from_residual-in_err-skipped_end.result c.from_residual-in_err-skipped_end.ensures.1 in
-    rw (p.1, p.2) (stops_second _ (SkippedEnd ∷ []) [] (passes_both c.in_ok-name.ensures c.in_ok-tokens.ensures.1) c.in_err-skipped_end.ensures)
+    let p = err_from_is_err_and c.from_residual-in_err-skipped_end.result c.from_residual-in_err-skipped_end.ensures.1
+    in
+    rw (p.1, p.2) (stops_second _ (SkippedEnd ∷ []) [] (passes_both c.in_ok-name.ensures c.in_ok-tokens.ensures.1)
+    c.in_err-skipped_end.ensures)
 
 pub returns : goal.returns
-returns c = (c.in_ok-tokens.ensures.0, passes_both c.in_ok-name.ensures (passes_both c.in_ok-tokens.ensures.1 c.in_ok-skipped_end.ensures))
+returns c = (
+  c.in_ok-tokens.ensures.0,
+  passes_both c.in_ok-name.ensures
+      (passes_both c.in_ok-tokens.ensures.1 c.in_ok-skipped_end.ensures),
+)

@@ -7,7 +7,8 @@ use Rattle.express_runs.proofs.skipped.named_tokens.Goals as goal
 pub returns-in_err-tokens : goal.returns-in_err-tokens
 returns-in_err-tokens c =
     let p = err_from_is_err_and c.from_residual-in_err-tokens.result c.from_residual-in_err-tokens.ensures.1 in
-    rw (p.1, p.2) (stops_second _ (Until c.args.end.now ∷ SkippedEnd ∷ []) [] c.in_ok-name.ensures c.in_err-tokens.ensures)
+    rw (p.1, p.2) (stops_second _ (Until c.args.end.now ∷ SkippedEnd ∷ []) [] c.in_ok-name.ensures
+    c.in_err-tokens.ensures)
 
 pub returns : goal.returns
 returns c = (c.in_ok-tokens.ensures.0, passes_both c.in_ok-name.ensures c.in_ok-tokens.ensures.1)

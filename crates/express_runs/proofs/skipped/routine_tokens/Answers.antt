@@ -1,56 +1,75 @@
 use Rattle.std.proofs.Common.{[], ◌∷◌, ◌≡◌, Ok, refl, sym, ap, ◌∙◌, arith}
 use Rattle.std.proofs.lemmas.Result.{err_from_is_err_and}
-use Rattle.express_expressions.specs.Words.{word_of}
-use Rattle.express_runs.specs.Items.{seen_of}
+use Rattle.express_trees.specs.Words.{word_of}
+use Rattle.express_runs.specs.Items.{located_of}
 use Rattle.express_schemas.specs.Runs.{words_of_routine}
 use Rattle.express_schemas.specs.Views.{routine_of}
 use Rattle.express_runs.specs.Skips.{still_open}
-use Rattle.express_schemas.specs.Predict.{Routine, Over}
+use Rattle.express_schemas.specs.Predict.{Routine, EndOfText}
 use Rattle.express_schemas.proofs.Looking.{shown_less}
 use Rattle.express_schemas.proofs.Taking.{stops_behind}
 use Rattle.express_runs.proofs.SkippedSteps.{routine_start, routine_few, routine_next, routine_done, routine_is_done}
 use Rattle.express_runs.proofs.skipped.routine_tokens.Goals as goal
 
 pub loop-item-init : goal.loop-item-init
-loop-item-init c = routine_start c.args.lexer.now c.place-from.result c.place-from.ensures
+loop-item-init c = routine_start c.args.reader.now c.place-from.result c.place-from.ensures
 
 pub returns-in_err-item : goal.returns-in_err-item
 returns-in_err-item c =
     let p = err_from_is_err_and c.from_residual.result c.from_residual.ensures.1 in
     let y = Routine c.loop-item.others in
-    rw (p.1, p.2) (stops_behind _ (y ∷ []) [] c.loop-item.invariant.passes (c.in_err-item.ensures y (λ (e : y ≡ Over). cc)))
+    rw (p.1, p.2) (stops_behind _ (y ∷ []) [] c.loop-item.invariant.passes
+    (c.in_err-item.ensures y (λ (e : y ≡ EndOfText). cc)))
 
 pub left_open-requires : goal.left_open-requires
 left_open-requires c =
-    let few = routine_few c.args.lexer.now c.loop-item.lexer c.take.new.lexer c.loop-item.from c.loop-item.to c.loop-item.others c.in_ok-item.item.place (word_of c.in_ok-item.item.lexeme) c.loop-item.invariant c.in_ok-item.ensures in
+    let few = routine_few c.args.reader.now c.loop-item.reader c.take.new.self c.loop-item.from c.loop-item.to
+    c.loop-item.others c.in_ok-item.item.place (word_of c.in_ok-item.item.lexeme) c.loop-item.invariant
+    c.in_ok-item.ensures in
     omega (arith, few, c.place-to.ensures, c.place-to.type_inv)
 
 pub between-passage-requires : goal.between-passage-requires
 between-passage-requires c =
     let w = word_of c.in_ok-item.item.lexeme in
     let ended = c.left_open.ensures ∙ ap (λ o. Ok (still_open o)) c.in_default.is in
-    let d = routine_done c.args.lexer.now c.loop-item.lexer c.take.new.lexer c.loop-item.from c.loop-item.to c.begun-from.result c.loop-item.others c.in_ok-item.item.place w c.loop-item.invariant (c.in_ok-item.ensures, c.begun-from.ensures) ended c.place-to.result c.place-to.ensures c.text.result.now c.text.ensures in
+    let d = routine_done c.args.reader.now c.loop-item.reader c.take.new.self c.loop-item.from c.loop-item.to
+    c.begun-from.result c.loop-item.others c.in_ok-item.item.place w c.loop-item.invariant (
+      c.in_ok-item.ensures,
+      c.begun-from.ensures,
+    ) ended c.place-to.result c.place-to.ensures c.text.result.now c.text.ensures in
     (words_of_routine d.routine, d.stand)
 
 pub of-requires : goal.of-requires
 of-requires c =
     let w = word_of c.in_ok-item.item.lexeme in
     let ended = c.left_open.ensures ∙ ap (λ o. Ok (still_open o)) c.in_default.is in
-    let d = routine_done c.args.lexer.now c.loop-item.lexer c.take.new.lexer c.loop-item.from c.loop-item.to c.begun-from.result c.loop-item.others c.in_ok-item.item.place w c.loop-item.invariant (c.in_ok-item.ensures, c.begun-from.ensures) ended c.place-to.result c.place-to.ensures c.text.result.now c.text.ensures in
+    let d = routine_done c.args.reader.now c.loop-item.reader c.take.new.self c.loop-item.from c.loop-item.to
+    c.begun-from.result c.loop-item.others c.in_ok-item.item.place w c.loop-item.invariant (
+      c.in_ok-item.ensures,
+      c.begun-from.ensures,
+    ) ended c.place-to.result c.place-to.ensures c.text.result.now c.text.ensures in
     (d.routine, d.fits, sym (c.between-passage.ensures (words_of_routine d.routine) d.stand))
 
 pub returns-in_default : goal.returns-in_default
 returns-in_default c =
     let w = word_of c.in_ok-item.item.lexeme in
     let ended = c.left_open.ensures ∙ ap (λ o. Ok (still_open o)) c.in_default.is in
-    let d = routine_done c.args.lexer.now c.loop-item.lexer c.take.new.lexer c.loop-item.from c.loop-item.to c.begun-from.result c.loop-item.others c.in_ok-item.item.place w c.loop-item.invariant (c.in_ok-item.ensures, c.begun-from.ensures) ended c.place-to.result c.place-to.ensures c.text.result.now c.text.ensures in
+    let d = routine_done c.args.reader.now c.loop-item.reader c.take.new.self c.loop-item.from c.loop-item.to
+    c.begun-from.result c.loop-item.others c.in_ok-item.item.place w c.loop-item.invariant (
+      c.in_ok-item.ensures,
+      c.begun-from.ensures,
+    ) ended c.place-to.result c.place-to.ensures c.text.result.now c.text.ensures in
     let is = c.of.ensures d.routine d.fits (sym (c.between-passage.ensures (words_of_routine d.routine) d.stand)) in
-    routine_is_done c.args.lexer.now c.take.new.lexer c.text.result.now c.begun-from.result c.place-to.result d (routine_of c.of.result) is
+    routine_is_done c.args.reader.now c.take.new.self c.text.result.now c.begun-from.result c.place-to.result d
+    (routine_of c.of.result) is
 
 pub loop-item-smaller : goal.loop-item-smaller
-loop-item-smaller c = shown_less (word_of c.in_ok-item.item.lexeme) (seen_of c.in_ok-item.item) c.loop-item.lexer c.take.new.lexer c.in_ok-item.ensures refl
+loop-item-smaller c = shown_less (word_of c.in_ok-item.item.lexeme) (located_of c.in_ok-item.item) c.loop-item.reader
+    c.take.new.self c.in_ok-item.ensures refl
 
 pub loop-item-preserved : goal.loop-item-preserved
 loop-item-preserved c =
     let goes_on = c.left_open.ensures ∙ ap (λ o. Ok (still_open o)) c.in-Some.is in
-    routine_next c.args.lexer.now c.loop-item.lexer c.take.new.lexer c.loop-item.from c.loop-item.to c.begun-from.result c.loop-item.others c.in-Some.left c.in_ok-item.item.place (word_of c.in_ok-item.item.lexeme) c.loop-item.invariant (c.in_ok-item.ensures, c.begun-from.ensures) goes_on c.place-to.result c.place-to.ensures
+    routine_next c.args.reader.now c.loop-item.reader c.take.new.self c.loop-item.from c.loop-item.to
+    c.begun-from.result c.loop-item.others c.in-Some.left c.in_ok-item.item.place (word_of c.in_ok-item.item.lexeme)
+    c.loop-item.invariant (c.in_ok-item.ensures, c.begun-from.ensures) goes_on c.place-to.result c.place-to.ensures

@@ -4,7 +4,7 @@ use Rattle.express_runs.proofs.SkippedSteps.{RoutineSoFar}
 use Rattle.express_runs.proofs.skipped.routine_tokens.Given as goal
 
 abbrev pub invariant-loop-item : goal.invariant-loop-item
-invariant-loop-item l = RoutineSoFar l.fn.lexer l.lexer l.from l.to l.others
+invariant-loop-item l = RoutineSoFar l.fn.reader l.reader l.from l.to l.others
 
 abbrev pub decreases-loop-item : goal.decreases-loop-item
-decreases-loop-item l = length (left l.lexer)
+decreases-loop-item l = length (left l.reader)

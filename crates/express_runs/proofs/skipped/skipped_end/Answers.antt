@@ -1,7 +1,7 @@
 use Rattle.std.proofs.Common.{[], refl, sym, ◌∙◌}
 use Rattle.express_lexis.specs.declared.marks.Mark.TheVariants as marks
-use Rattle.express_expressions.specs.Words.{mark, word_of}
-use Rattle.express_runs.specs.Items.{seen_of}
+use Rattle.express_trees.specs.Words.{mark, word_of}
+use Rattle.express_runs.specs.Items.{located_of}
 use Rattle.express_schemas.specs.Predict.{SkippedEnd}
 use Rattle.express_schemas.proofs.Taking.{passes_token}
 use Rattle.express_schemas.proofs.Looking.{mark_met}
@@ -10,10 +10,13 @@ use Rattle.express_runs.proofs.skipped.skipped_end.Goals as goal
 
 pub returns-then-not-is_mark : goal.returns-then-not-is_mark
 returns-then-not-is_mark c =
-    stops_expected c.fault_at.result SkippedEnd (seen_of c.in_ok-item.item) c.args.lexer.now c.take.new.lexer c.in_ok-item.ensures
+    stops_expected c.fault_at.result SkippedEnd (located_of c.in_ok-item.item) c.args.reader.now c.take.new.self
+    c.in_ok-item.ensures
     (end_expected (word_of c.in_ok-item.item.lexeme) (sym c.is_mark.ensures ∙ c.if-not-is_mark.true)) c.fault_at.ensures
 
 pub returns : goal.returns
 returns c =
-    passes_token SkippedEnd [] (mark marks.Semicolon) (seen_of c.in_ok-item.item) c.args.lexer.now c.take.new.lexer c.in_ok-item.ensures
-    (mark_met marks.Semicolon (seen_of c.in_ok-item.item).sight (sym c.is_mark.ensures ∙ c.if-not-is_mark.false)) refl
+    passes_token SkippedEnd [] (mark marks.Semicolon) (located_of c.in_ok-item.item) c.args.reader.now c.take.new.self
+    c.in_ok-item.ensures
+    (mark_met marks.Semicolon (located_of c.in_ok-item.item).lookahead (sym c.is_mark.ensures ∙ c.if-not-is_mark.false))
+    refl

@@ -1,7 +1,7 @@
 use Rattle.std.proofs.Common.{[], ap, refl}
-use Rattle.express_expressions.specs.Words.{name, word_of}
-use Rattle.express_expressions.specs.Views.{capitals}
-use Rattle.express_runs.specs.Items.{seen_of}
+use Rattle.express_trees.specs.Words.{name, word_of}
+use Rattle.express_trees.specs.Views.{capitals}
+use Rattle.express_runs.specs.Items.{located_of}
 use Rattle.express_schemas.specs.Texts.{token}
 use Rattle.express_schemas.specs.Predict.{SkippedName}
 use Rattle.express_schemas.proofs.Taking.{passes_token}
@@ -10,10 +10,12 @@ use Rattle.express_runs.proofs.skipped.skipped_name.Goals as goal
 
 pub returns-in-Name : goal.returns-in-Name
 returns-in-Name c =
-    passes_token SkippedName [] (name (capitals c.in-Name.word)) (seen_of c.in_ok-item.item) c.args.lexer.now c.take.new.lexer c.in_ok-item.ensures
+    passes_token SkippedName [] (name (capitals c.in-Name.word)) (located_of c.in_ok-item.item) c.args.reader.now
+    c.take.new.self c.in_ok-item.ensures
     (ap (λ l. token (word_of l)) c.in-Name.is) refl
 
 pub returns-in_default : goal.returns-in_default
 returns-in_default c =
-    stops_expected c.fault_at.result SkippedName (seen_of c.in_ok-item.item) c.args.lexer.now c.take.new.lexer c.in_ok-item.ensures
+    stops_expected c.fault_at.result SkippedName (located_of c.in_ok-item.item) c.args.reader.now c.take.new.self
+    c.in_ok-item.ensures
     (name_expected c.in_ok-item.item.lexeme c.in_default.not-Name) c.fault_at.ensures

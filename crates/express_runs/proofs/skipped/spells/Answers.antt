@@ -6,4 +6,5 @@ use Rattle.express_runs.proofs.skipped.spells.Goals as goal
 
 pub returns : goal.returns
 returns c =
-    spelled c.spelling.result.now c.args.wanted.now c.eq_ignore_ascii_case.result c.requires c.eq_ignore_ascii_case.ensures.test ∙ ap (λ r. bytes_eq (upper r.now) c.args.wanted.now) c.spelling.ensures
+    spelled c.spelling.result.now c.args.wanted.now c.eq_ignore_ascii_case.result c.requires
+    c.eq_ignore_ascii_case.ensures.test ∙ ap (λ r. bytes_eq (upper r.now) c.args.wanted.now) c.spelling.ensures

@@ -1,7 +1,7 @@
 use Rattle.std.proofs.Common.{[], ◌∷◌, ◌++◌, append_assoc}
 use Rattle.std.proofs.lemmas.Result.{err_from_is_err_and}
 use Rattle.express_lexis.specs.declared.marks.Mark.TheVariants as marks
-use Rattle.express_expressions.specs.Words.{name, mark}
+use Rattle.express_trees.specs.Words.{name, mark}
 use Rattle.express_schemas.specs.Predict.{SkippedEnd}
 use Rattle.express_schemas.specs.Views.{words_of_passage}
 use Rattle.express_schemas.proofs.Taking.{passes_as}
@@ -10,11 +10,16 @@ use Rattle.express_runs.proofs.skipped.tokens_ended.Goals as goal
 
 pub returns-in_err-skipped_end : goal.returns-in_err-skipped_end
 returns-in_err-skipped_end c =
-    let p = err_from_is_err_and c.from_residual-in_err-skipped_end.result c.from_residual-in_err-skipped_end.ensures.1 in
+    let p = err_from_is_err_and c.from_residual-in_err-skipped_end.result c.from_residual-in_err-skipped_end.ensures.1
+    in
     rw (p.1, p.2) (stops_second _ (SkippedEnd ∷ []) [] c.in_ok-tokens.ensures.1 c.in_err-skipped_end.ensures)
 
 pub returns : goal.returns
 returns c =
     let ws = words_of_passage c.in_ok-tokens.tokens in
-    let end = name c.args.end.now in
-    (c.in_ok-tokens.ensures.0, passes_as (ws ++ end ∷ mark marks.Semicolon ∷ []) (append_assoc ws (end ∷ []) (mark marks.Semicolon ∷ [])) (passes_both c.in_ok-tokens.ensures.1 c.in_ok-skipped_end.ensures))
+    let end = name c.args.end.now in (
+      c.in_ok-tokens.ensures.0,
+      passes_as (ws ++ end ∷ mark marks.Semicolon ∷ [])
+          (append_assoc ws (end ∷ []) (mark marks.Semicolon ∷ []))
+          (passes_both c.in_ok-tokens.ensures.1 c.in_ok-skipped_end.ensures),
+    )

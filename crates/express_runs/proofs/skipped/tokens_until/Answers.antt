@@ -1,38 +1,51 @@
 use Rattle.std.proofs.Common.{[], ◌∷◌, ◌≡◌, refl, sym, ◌∙◌}
 use Rattle.std.proofs.lemmas.Result.{err_from_is_err_and}
-use Rattle.express_expressions.specs.Words.{word_of}
-use Rattle.express_runs.specs.Items.{seen_of}
+use Rattle.express_trees.specs.Words.{word_of}
+use Rattle.express_runs.specs.Items.{located_of}
 use Rattle.express_schemas.specs.Views.{words_of_passage}
-use Rattle.express_schemas.specs.Predict.{Until, Over}
+use Rattle.express_schemas.specs.Predict.{Until, EndOfText}
 use Rattle.express_schemas.proofs.Looking.{shown_less}
 use Rattle.express_schemas.proofs.Taking.{stops_behind}
 use Rattle.express_runs.proofs.SkippedSteps.{until_start, until_next, until_text, until_done}
 use Rattle.express_runs.proofs.skipped.tokens_until.Goals as goal
 
 pub loop-item-init : goal.loop-item-init
-loop-item-init c = until_start c.args.end.now c.args.lexer.now c.place-from.result c.place-from.ensures
+loop-item-init c = until_start c.args.end.now c.args.reader.now c.place-from.result c.place-from.ensures
 
 pub returns-in_err-item : goal.returns-in_err-item
 returns-in_err-item c =
     let p = err_from_is_err_and c.from_residual.result c.from_residual.ensures.1 in
     let y = Until c.args.end.now in
-    rw (p.1, p.2) (stops_behind _ (y ∷ []) [] c.loop-item.invariant.passes (c.in_err-item.ensures y (λ (e : y ≡ Over). cc)))
+    rw (p.1, p.2) (stops_behind _ (y ∷ []) [] c.loop-item.invariant.passes
+    (c.in_err-item.ensures y (λ (e : y ≡ EndOfText). cc)))
 
 pub between-requires : goal.between-requires
 between-requires c =
-    let w = word_of c.in_ok-item.item.lexeme in
-    (c.loop-item.invariant.words, until_text c.args.end.now c.args.lexer.now c.loop-item.lexer c.take.new.lexer c.loop-item.from c.loop-item.to (seen_of c.in_ok-item.item) w c.loop-item.invariant c.in_ok-item.ensures refl c.text.result.now c.text.ensures)
+    let w = word_of c.in_ok-item.item.lexeme in (
+      c.loop-item.invariant.words,
+      until_text c.args.end.now c.args.reader.now c.loop-item.reader c.take.new.self
+          c.loop-item.from c.loop-item.to (located_of c.in_ok-item.item) w c.loop-item.invariant c.in_ok-item.ensures
+          refl
+          c.text.result.now c.text.ensures,
+    )
 
 pub returns-then-is_named : goal.returns-then-is_named
 returns-then-is_named c =
     let w = word_of c.in_ok-item.item.lexeme in
-    let s = seen_of c.in_ok-item.item in
-    let stand = until_text c.args.end.now c.args.lexer.now c.loop-item.lexer c.take.new.lexer c.loop-item.from c.loop-item.to s w c.loop-item.invariant c.in_ok-item.ensures refl c.text.result.now c.text.ensures in
-    until_done c.args.end.now c.args.lexer.now c.loop-item.lexer c.take.new.lexer c.loop-item.from c.loop-item.to s w (words_of_passage c.between.result) c.loop-item.invariant (c.between.ensures c.loop-item.invariant.words stand) c.in_ok-item.ensures refl (sym c.is_named.ensures ∙ c.if-is_named.true)
+    let s = located_of c.in_ok-item.item in
+    let stand = until_text c.args.end.now c.args.reader.now c.loop-item.reader c.take.new.self c.loop-item.from
+    c.loop-item.to s w c.loop-item.invariant c.in_ok-item.ensures refl c.text.result.now c.text.ensures in
+    until_done c.args.end.now c.args.reader.now c.loop-item.reader c.take.new.self c.loop-item.from c.loop-item.to s w
+    (words_of_passage c.between.result) c.loop-item.invariant (c.between.ensures c.loop-item.invariant.words stand)
+    c.in_ok-item.ensures refl (sym c.is_named.ensures ∙ c.if-is_named.true)
 
 pub loop-item-smaller : goal.loop-item-smaller
-loop-item-smaller c = shown_less (word_of c.in_ok-item.item.lexeme) (seen_of c.in_ok-item.item) c.loop-item.lexer c.take.new.lexer c.in_ok-item.ensures refl
+loop-item-smaller c = shown_less (word_of c.in_ok-item.item.lexeme) (located_of c.in_ok-item.item) c.loop-item.reader
+    c.take.new.self c.in_ok-item.ensures refl
 
 pub loop-item-preserved : goal.loop-item-preserved
 loop-item-preserved c =
-    until_next c.args.end.now c.args.lexer.now c.loop-item.lexer c.take.new.lexer c.loop-item.from c.loop-item.to c.begun-from.result c.in_ok-item.item.place (word_of c.in_ok-item.item.lexeme) c.loop-item.invariant (c.in_ok-item.ensures, c.begun-from.ensures) (sym c.is_named.ensures ∙ c.if-is_named.false) c.place-to.result c.place-to.ensures
+    until_next c.args.end.now c.args.reader.now c.loop-item.reader c.take.new.self c.loop-item.from c.loop-item.to
+    c.begun-from.result c.in_ok-item.item.place (word_of c.in_ok-item.item.lexeme) c.loop-item.invariant
+    (c.in_ok-item.ensures, c.begun-from.ensures) (sym c.is_named.ensures ∙ c.if-is_named.false) c.place-to.result
+    c.place-to.ensures

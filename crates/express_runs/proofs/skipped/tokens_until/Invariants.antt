@@ -4,7 +4,7 @@ use Rattle.express_runs.proofs.SkippedSteps.{UntilSoFar}
 use Rattle.express_runs.proofs.skipped.tokens_until.Given as goal
 
 abbrev pub invariant-loop-item : goal.invariant-loop-item
-invariant-loop-item l = UntilSoFar l.end l.fn.lexer l.lexer l.from l.to
+invariant-loop-item l = UntilSoFar l.end l.fn.reader l.reader l.from l.to
 
 abbrev pub decreases-loop-item : goal.decreases-loop-item
-decreases-loop-item l = length (left l.lexer)
+decreases-loop-item l = length (left l.reader)

@@ -1,36 +1,48 @@
 use Rattle.std.proofs.Common.{◌≡◌, map, sym, ◌∙◌}
 use Rattle.std.proofs.lemmas.Result.{err_from_is_err_and}
-use Rattle.express_runs.specs.Items.{seen_of}
+use Rattle.express_runs.specs.Items.{located_of}
 use Rattle.express_schemas.specs.Views.{declaration_of}
-use Rattle.express_schemas.specs.Predict.{Declarations, Over}
+use Rattle.express_schemas.specs.Predict.{Declarations, EndOfText}
 use Rattle.express_text.proofs.SchemaSteps.{declarations_stop, declarations_stop_end, declarations_stop_taken, declarations_done, declarations_next, declaration_less}
 use Rattle.express_text.proofs.schema.all_declarations.Goals as goal
 
 pub returns-in_err-first : goal.returns-in_err-first
 returns-in_err-first c =
     let p = err_from_is_err_and c.from_residual.result c.from_residual.ensures.1 in
-    rw (p.1, p.2) (declarations_stop _ c.args.lexer.now c.loop-declarations.lexer (map declaration_of c.loop-declarations.declarations.items) c.loop-declarations.invariant (c.in_err-first.ensures Declarations (λ (e : Declarations ≡ Over). cc)))
+    rw (p.1, p.2) (declarations_stop _ c.args.reader.now c.loop-declarations.reader
+    (map declaration_of c.loop-declarations.declarations.items) c.loop-declarations.invariant
+    (c.in_err-first.ensures Declarations (λ (e : Declarations ≡ EndOfText). cc)))
 
 pub returns-in_err-expect : goal.returns-in_err-expect
 returns-in_err-expect c =
     let p = err_from_is_err_and c.from_residual-in_err-expect.result c.from_residual-in_err-expect.ensures.1 in
-    rw (p.1, p.2) (declarations_stop_end _ c.args.lexer.now c.loop-declarations.lexer c.take.new.lexer (map declaration_of c.loop-declarations.declarations.items) (seen_of c.in_ok-first.first) c.loop-declarations.invariant c.in_ok-first.ensures
+    rw (p.1, p.2) (declarations_stop_end _ c.args.reader.now c.loop-declarations.reader c.take.new.self
+    (map declaration_of c.loop-declarations.declarations.items) (located_of c.in_ok-first.first)
+    c.loop-declarations.invariant c.in_ok-first.ensures
     (sym c.is_keyword.ensures ∙ c.if-is_keyword.true) c.in_err-expect.ensures)
 
 pub returns-then-is_keyword : goal.returns-then-is_keyword
 returns-then-is_keyword c =
-    rw c.shrink_to_fit.ensures.items (declarations_done c.args.lexer.now c.loop-declarations.lexer c.take.new.lexer c.expect.new.lexer (map declaration_of c.loop-declarations.declarations.items) (seen_of c.in_ok-first.first) c.loop-declarations.invariant c.in_ok-first.ensures (sym c.is_keyword.ensures ∙ c.if-is_keyword.true) c.in_ok-expect.ensures)
+    rw c.shrink_to_fit.ensures.items (declarations_done c.args.reader.now c.loop-declarations.reader c.take.new.self
+    c.expect.new.self (map declaration_of c.loop-declarations.declarations.items) (located_of c.in_ok-first.first)
+    c.loop-declarations.invariant c.in_ok-first.ensures (sym c.is_keyword.ensures ∙ c.if-is_keyword.true)
+    c.in_ok-expect.ensures)
 
 pub returns-in_err-next : goal.returns-in_err-next
 returns-in_err-next c =
     let p = err_from_is_err_and c.from_residual-in_err-next.result c.from_residual-in_err-next.ensures.1 in
-    rw (p.1, p.2) (declarations_stop_taken _ c.args.lexer.now c.loop-declarations.lexer c.take.new.lexer (map declaration_of c.loop-declarations.declarations.items) (seen_of c.in_ok-first.first) c.loop-declarations.invariant c.in_ok-first.ensures c.in_err-next.ensures)
+    rw (p.1, p.2) (declarations_stop_taken _ c.args.reader.now c.loop-declarations.reader c.take.new.self
+    (map declaration_of c.loop-declarations.declarations.items) (located_of c.in_ok-first.first)
+    c.loop-declarations.invariant c.in_ok-first.ensures c.in_err-next.ensures)
 
 pub loop-declarations-smaller : goal.loop-declarations-smaller
 loop-declarations-smaller c =
-    declaration_less c.loop-declarations.lexer c.take.new.lexer c.declaration.new.lexer c.in_ok-first.first.lexeme c.in_ok-first.first.place c.in_ok-first.ensures c.in_ok-next.ensures.1
+    declaration_less c.loop-declarations.reader c.take.new.self c.declaration.new.reader c.in_ok-first.first.lexeme
+    c.in_ok-first.first.place c.in_ok-first.ensures c.in_ok-next.ensures.1
 
 pub loop-declarations-preserved : goal.loop-declarations-preserved
 loop-declarations-preserved c =
-    declarations_next c.args.lexer.now c.loop-declarations.lexer c.take.new.lexer c.declaration.new.lexer c.loop-declarations.declarations.items c.push.new.self.items c.in_ok-next.next (seen_of c.in_ok-first.first)
-    c.loop-declarations.invariant c.in_ok-first.ensures c.in_ok-push.ensures.items c.in_ok-next.ensures.0 c.in_ok-next.ensures.1
+    declarations_next c.args.reader.now c.loop-declarations.reader c.take.new.self c.declaration.new.reader
+    c.loop-declarations.declarations.items c.push.new.self.items c.in_ok-next.next (located_of c.in_ok-first.first)
+    c.loop-declarations.invariant c.in_ok-first.ensures c.in_ok-push.ensures.items c.in_ok-next.ensures.0
+    c.in_ok-next.ensures.1

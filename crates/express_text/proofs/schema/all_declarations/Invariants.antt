@@ -5,7 +5,7 @@ use Rattle.express_text.proofs.SchemaSteps.{DeclarationsSoFar}
 use Rattle.express_text.proofs.schema.all_declarations.Given as goal
 
 abbrev pub invariant-loop-declarations : goal.invariant-loop-declarations
-invariant-loop-declarations l = DeclarationsSoFar l.fn.lexer l.lexer (map declaration_of l.declarations.items)
+invariant-loop-declarations l = DeclarationsSoFar l.fn.reader l.reader (map declaration_of l.declarations.items)
 
 abbrev pub decreases-loop-declarations : goal.decreases-loop-declarations
-decreases-loop-declarations l = length (left l.lexer)
+decreases-loop-declarations l = length (left l.reader)

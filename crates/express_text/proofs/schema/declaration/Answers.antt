@@ -1,7 +1,7 @@
 use Rattle.std.proofs.Common.{[], ◌∷◌, refl, sym, ◌∙◌}
 use Rattle.express_lexis.specs.declared.marks.Mark.TheVariants as marks
-use Rattle.express_expressions.specs.declared.keyword.Keyword.TheVariants as keywords
-use Rattle.express_runs.specs.Items.{seen_of}
+use Rattle.express_trees.specs.declared.keyword.Keyword.TheVariants as keywords
+use Rattle.express_runs.specs.Items.{located_of}
 use Rattle.express_schemas.specs.Views.{type_of, entity_of}
 use Rattle.express_schemas.specs.Written.{words_of_type, words_of_entity}
 use Rattle.express_schemas.specs.Predict.{Id, Just, Underlying, TypeEnd, Head, Body, explicits}
@@ -11,11 +11,15 @@ use Rattle.express_text.proofs.schema.declaration.Goals as goal
 pub returns-then-is_keyword : goal.returns-then-is_keyword
 returns-then-is_keyword c = (
   c.in_ok-declared.ensures.0,
-  declared keywords.Type (Id ∷ Just marks.Equal ∷ Underlying ∷ TypeEnd ∷ []) (words_of_type (type_of c.in_ok-declared.declared)) (seen_of c.args.first) (sym c.is_keyword.ensures ∙ c.if-is_keyword.true) refl c.in_ok-declared.ensures.2 c.in_ok-declared.ensures.3,
+  declared keywords.Type (Id ∷ Just marks.Equal ∷ Underlying ∷ TypeEnd ∷ [])
+      (words_of_type (type_of c.in_ok-declared.declared)) (located_of c.args.first) (sym c.is_keyword.ensures
+      ∙ c.if-is_keyword.true) refl c.in_ok-declared.ensures.2 c.in_ok-declared.ensures.3,
 )
 
 pub returns-then-is_keyword-2 : goal.returns-then-is_keyword-2
 returns-then-is_keyword-2 c = (
   c.in_ok-declared-2.ensures.0,
-  declared keywords.Entity (Id ∷ Head ∷ Body explicits ∷ []) (words_of_entity (entity_of c.in_ok-declared-2.declared)) (seen_of c.args.first) (sym c.is_keyword-2.ensures ∙ c.if-is_keyword-2.true) refl c.in_ok-declared-2.ensures.2 c.in_ok-declared-2.ensures.3,
+  declared keywords.Entity (Id ∷ Head ∷ Body explicits ∷ []) (words_of_entity (entity_of c.in_ok-declared-2.declared))
+      (located_of c.args.first) (sym c.is_keyword-2.ensures ∙ c.if-is_keyword-2.true) refl c.in_ok-declared-2.ensures.2
+      c.in_ok-declared-2.ensures.3,
 )

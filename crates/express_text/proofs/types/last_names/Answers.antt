@@ -6,7 +6,12 @@ use Rattle.express_text.proofs.types.last_names.Goals as goal
 pub returns-in_err-expect : goal.returns-in_err-expect
 returns-in_err-expect c =
     let p = err_from_is_err_and c.from_residual-in_err-expect.result c.from_residual-in_err-expect.ensures.1 in
-    rw (p.1, p.2) (last_names_open _ (names_of c.in_ok-names.names.items) c.args.lexer.now c.names.new.lexer c.in_ok-names.ensures.1 c.in_err-expect.ensures)
+    rw (p.1, p.2) (last_names_open _ (names_of c.in_ok-names.names.items) c.args.reader.now c.names.new.reader
+    c.in_ok-names.ensures.1 c.in_err-expect.ensures)
 
 pub returns : goal.returns
-returns c = (c.in_ok-names.ensures.0, last_names_done (names_of c.in_ok-names.names.items) c.args.lexer.now c.names.new.lexer c.expect.new.lexer c.in_ok-names.ensures.1 c.in_ok-expect.ensures)
+returns c = (
+  c.in_ok-names.ensures.0,
+  last_names_done (names_of c.in_ok-names.names.items) c.args.reader.now
+      c.names.new.reader c.expect.new.self c.in_ok-names.ensures.1 c.in_ok-expect.ensures,
+)

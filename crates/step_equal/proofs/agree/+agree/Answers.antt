@@ -1,5 +1,5 @@
 use Rattle.std.proofs.Common.{sym, ◌∙◌}
-use Rattle.step_equal.specs.Renamings.{values_by}
+use Rattle.step_equal.specs.ComputedRenamings.{values_by}
 use Rattle.step_equal.proofs.Walks.{lists_of_two_sizes, size_by}
 use Rattle.step_equal.proofs.agree.+agree.Goals as goal
 

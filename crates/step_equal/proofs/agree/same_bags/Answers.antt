@@ -1,5 +1,5 @@
 use Rattle.std.proofs.Common.{sym, ◌∙◌}
-use Rattle.step_equal.specs.Renamings.{values_by}
+use Rattle.step_equal.specs.ComputedRenamings.{values_by}
 use Rattle.step_equal.proofs.NormalForms.{sorted_same}
 use Rattle.step_equal.proofs.Walks.{bags_of_two_sizes}
 use Rattle.step_equal.proofs.agree.same_bags.Goals as goal
@@ -9,4 +9,5 @@ returns-then-vs-ws c = sym (bags_of_two_sizes c.args.f.now c.args.g.now c.args.v
 
 pub returns : goal.returns
 returns c =
-    c.eq.ensures ∙ sorted_same (values_by c.args.f.now c.args.vs.now) (values_by c.args.g.now c.args.ws.now) _ _ c.in_ok-ours.ensures c.in_ok-theirs.ensures
+    c.eq.ensures ∙ sorted_same (values_by c.args.f.now c.args.vs.now) (values_by c.args.g.now c.args.ws.now) _ _
+    c.in_ok-ours.ensures c.in_ok-theirs.ensures

@@ -7,7 +7,8 @@ use Rattle.step_equal.proofs.image.is_image.Goals as goal
 
 pub returns-then-not-branch : goal.returns-then-not-branch
 returns-then-not-branch c =
-    let lands = lands_where (led_by c.args.map.now) c.args.p.now c.args.q.now c.rows.ensures.population.distinct _ (rw c.rows.ensures.rows at c.in_ok-rows_land.ensures) in
+    let lands = lands_where (led_by c.args.map.now) c.args.p.now c.args.q.now c.rows.ensures.population.distinct _
+    (rw c.rows.ensures.rows at c.in_ok-rows_land.ensures) in
     (λ e. absurd (cc), λ image. sym c.if-not-branch.true ∙ lands.1 image.image.lands)
 
 pub returns-then-not-branch-2 : goal.returns-then-not-branch-2
@@ -17,7 +18,9 @@ returns-then-not-branch-2 c =
 
 pub returns : goal.returns
 returns c =
-    let lands = lands_where (led_by c.args.map.now) c.args.p.now c.args.q.now c.rows.ensures.population.distinct _ (rw c.rows.ensures.rows at c.in_ok-rows_land.ensures) in
+    let lands = lands_where (led_by c.args.map.now) c.args.p.now c.args.q.now c.rows.ensures.population.distinct _
+    (rw c.rows.ensures.rows at c.in_ok-rows_land.ensures) in
     let onto = rw (c.rows-2.ensures.rows, c.rows-3.ensures.rows) at c.in_ok-is_onto.ensures in
-    image_where c.args.p.now c.args.q.now c.args.map.now (contains nat_cmp c.args.pinned.now) c.leaves_alone.result (c.has_domain.ensures.0 c.if-not-has_domain.false) (lands.0 c.if-not-branch.false)
+    image_where c.args.p.now c.args.q.now c.args.map.now (contains nat_cmp c.args.pinned.now) c.leaves_alone.result
+    (c.has_domain.ensures.0 c.if-not-has_domain.false) (lands.0 c.if-not-branch.false)
     (onto.0 c.if-not-branch-2.false) (rw c.rows-4.ensures.rows at c.leaves_alone.ensures)

@@ -7,4 +7,5 @@ use Rattle.step_equal.proofs.image.is_onto.Goals as goal
 
 pub returns : goal.returns
 returns c =
-    onto_where (led_by c.args.map.now) (rows_of c.args.rows.now) (rows_of c.args.others.now) (contains nat_eq c.in_ok-reached.reached) c.in_ok-reached.ensures c.are_reached.result c.are_reached.ensures
+    onto_where (led_by c.args.map.now) (rows_of c.args.rows.now) (rows_of c.args.others.now)
+    (contains nat_eq c.in_ok-reached.reached) c.in_ok-reached.ensures c.are_reached.result c.are_reached.ensures

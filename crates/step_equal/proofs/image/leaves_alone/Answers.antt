@@ -9,4 +9,5 @@ use Rattle.step_equal.proofs.image.leaves_alone.Goals as goal
 
 pub returns : goal.returns
 returns c =
-    alone_where (led_by c.args.map.now) (contains nat_cmp c.args.pinned.now) (rows_of c.args.rows.now) (get nat_eq c.in_ok-sources.sources) c.in_ok-sources.ensures c.are_sources.result c.are_sources.ensures
+    alone_where (led_by c.args.map.now) (contains nat_cmp c.args.pinned.now) (rows_of c.args.rows.now)
+    (get nat_eq c.in_ok-sources.sources) c.in_ok-sources.ensures c.are_sources.result c.are_sources.ensures

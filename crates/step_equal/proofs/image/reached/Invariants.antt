@@ -9,4 +9,5 @@ use Rattle.step_equal.proofs.image.reached.Given as goal
 -- what is left decides
 abbrev pub invariant-loop-row : goal.invariant-loop-row
 invariant-loop-row l =
-    (y : ℕ) → (contains nat_eq l.reached y || list_any (λ p. led_by l.map p.name == y) (rows_of (drop l.row-index l.rows))) ≡ list_any (λ p. led_by l.map p.name == y) (rows_of l.rows)
+    (y : ℕ) → (contains nat_eq l.reached y || list_any (λ p. led_by l.map p.name == y)
+    (rows_of (drop l.row-index l.rows))) ≡ list_any (λ p. led_by l.map p.name == y) (rows_of l.rows)

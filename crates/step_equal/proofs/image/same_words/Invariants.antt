@@ -1,6 +1,6 @@
 use Rattle.std.proofs.Common.{◌≡◌, length, map, drop}
 use Rattle.std.specs.Str.{bytes_eq}
-use Rattle.step_equal.specs.Tests.{each_test}
+use Rattle.step_equal.specs.ComputedAgreement.{each_test}
 use Rattle.step_equal.specs.Views.{word_of}
 use Rattle.step_equal.proofs.image.same_words.Given as goal
 
@@ -8,5 +8,6 @@ use Rattle.step_equal.proofs.image.same_words.Given as goal
 abbrev pub invariant-loop-i : goal.invariant-loop-i
 invariant-loop-i l = record {
   alike : length l.a ≡ length l.b;
-  rest : each_test bytes_eq (map word_of (drop l.i l.a)) (map word_of (drop l.i l.b)) ≡ each_test bytes_eq (map word_of l.a) (map word_of l.b);
+  rest : each_test bytes_eq (map word_of (drop l.i l.a)) (map word_of (drop l.i l.b)) ≡ each_test bytes_eq
+      (map word_of l.a) (map word_of l.b);
 }

@@ -1,4 +1,4 @@
-use Rattle.step_equal.proofs.Standard.{standard_is_valid}
+use Rattle.step_equal.proofs.Rounds.{standard_is_valid}
 use Rattle.step_equal.proofs.laws.the_standard_table_is_valid.Goals as goal
 
 pub returns : goal.returns

@@ -1,4 +1,4 @@
-use Rattle.step_equal.proofs.Forming.{Collects}
+use Rattle.step_equal.proofs.Walks.{Collects}
 use Rattle.step_equal.proofs.normal.+normal.Given as goal
 
 abbrev pub invariant-normal_forms-loop-value : goal.invariant-normal_forms-loop-value

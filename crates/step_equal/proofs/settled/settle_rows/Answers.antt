@@ -6,7 +6,10 @@ pub loop-i-preserved : goal.loop-i-preserved
 loop-i-preserved c =
     let l = c.loop-i.invariant in
     record {
-      same_len = settled_len c.args.rows.now c.loop-i.rows c.loop-i.i c.index-rows-i.result c.settle.new.row l.same_len l.rest (omega (arith, l.same_len)) c.index-rows-i.is;
-      done = settled_done c.args.rows.now c.loop-i.rows c.loop-i.i c.index-rows-i.result c.settle.new.row l.same_len l.rest (omega (arith, l.same_len)) c.index-rows-i.is l.done c.in_ok-settle.ensures;
-      rest = settled_left c.args.rows.now c.loop-i.rows c.loop-i.i c.index-rows-i.result c.settle.new.row l.same_len l.rest (omega (arith, l.same_len)) c.index-rows-i.is;
+      same_len = settled_len c.args.rows.now c.loop-i.rows c.loop-i.i c.index-rows-i.result c.settle.new.row l.same_len
+          l.rest (omega (arith, l.same_len)) c.index-rows-i.is;
+      done = settled_done c.args.rows.now c.loop-i.rows c.loop-i.i c.index-rows-i.result c.settle.new.row l.same_len
+          l.rest (omega (arith, l.same_len)) c.index-rows-i.is l.done c.in_ok-settle.ensures;
+      rest = settled_left c.args.rows.now c.loop-i.rows c.loop-i.i c.index-rows-i.result c.settle.new.row l.same_len
+          l.rest (omega (arith, l.same_len)) c.index-rows-i.is;
     }

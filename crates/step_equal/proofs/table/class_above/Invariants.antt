@@ -4,7 +4,8 @@ use Rattle.step_equal.specs.TableViews.{origin_of}
 use Rattle.step_equal.proofs.table.class_above.Given as goal
 
 abbrev pub invariant-loop-origin : goal.invariant-loop-origin
-invariant-loop-origin l = ancestor (map origin_of l.classes) l.round (suc l.class) l.class ≡ ancestor (map origin_of l.classes) l.round (suc l.first) l.first
+invariant-loop-origin l = ancestor (map origin_of l.classes) l.round (suc l.class) l.class ≡ ancestor
+    (map origin_of l.classes) l.round (suc l.first) l.first
 
 abbrev pub decreases-loop-origin : goal.decreases-loop-origin
 decreases-loop-origin l = l.class

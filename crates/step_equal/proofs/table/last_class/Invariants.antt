@@ -5,4 +5,5 @@ use Rattle.step_equal.proofs.table.last_class.Given as goal
 
 -- what is left decides
 abbrev pub invariant-loop-member : goal.invariant-loop-member
-invariant-loop-member l = last_class (map member_of (drop l.member-index l.members)) l.name ≡ last_class (map member_of l.members) l.name
+invariant-loop-member l = last_class (map member_of (drop l.member-index l.members)) l.name ≡ last_class
+    (map member_of l.members) l.name

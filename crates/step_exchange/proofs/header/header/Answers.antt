@@ -1,6 +1,6 @@
 use Rattle.std.proofs.Common.{ap, ◌∙◌, ◌≡◌, map, [], ◌∷◌, ◌++◌, codes}
 use Rattle.std.proofs.lemmas.Result.{err_from_is_err_and}
-use Rattle.step_exchange.specs.Views.{part_of}
+use Rattle.step_exchange.specs.Views.{record_of}
 use Rattle.step_exchange.specs.Trees.{section}
 use Rattle.step_exchange.specs.Texts.{Reads}
 use Rattle.step_exchange.specs.Predict.{TakesOneMore}
@@ -11,20 +11,30 @@ use Rattle.step_exchange.proofs.header.header.Goals as goal
 pub returns-in_err-part : goal.returns-in_err-part
 returns-in_err-part c =
     let p = err_from_is_err_and c.from_residual-in_err-part.result c.from_residual-in_err-part.ensures.1 in
-    rw (p.1, p.2) (header_err _ c.args.lexer.now c.in_ok-place.place (map part_of c.loop-records.records.items) c.loop-records.lexer c.loop-records.invariant c.in_err-part.ensures)
+    rw (p.1, p.2) (header_err _ c.args.lexer.now c.in_ok-place.place (map record_of c.loop-records.records.items)
+    c.loop-records.lexer c.loop-records.invariant c.in_err-part.ensures)
 
 pub returns-in_default : goal.returns-in_default
 returns-in_default c =
-    header_done c.args.lexer.now c.in_ok-place.place (map part_of c.loop-records.records.items) c.loop-records.lexer c.next_record.new.lexer c.loop-records.invariant
-    (at_none c.in_ok-part.field-0 (Reads c.loop-records.lexer (section (codes "ENDSEC")) c.next_record.new.lexer) (λ p. TakesOneMore c.loop-records.lexer (part_of p) c.next_record.new.lexer) c.in_ok-part.ensures c.in_default.is)
+    header_done c.args.lexer.now c.in_ok-place.place (map record_of c.loop-records.records.items) c.loop-records.lexer
+    c.next_record.new.lexer c.loop-records.invariant
+    (at_none c.in_ok-part.field-0 (Reads c.loop-records.lexer (section (codes "ENDSEC")) c.next_record.new.lexer)
+    (λ p. TakesOneMore c.loop-records.lexer (record_of p) c.next_record.new.lexer) c.in_ok-part.ensures
+    c.in_default.is)
 
 pub loop-records-smaller : goal.loop-records-smaller
 loop-records-smaller c =
-    header_smaller c.loop-records.lexer (part_of c.in-Some.part) c.next_record.new.lexer
-    (at_some c.in_ok-part.field-0 c.in-Some.part (Reads c.loop-records.lexer (section (codes "ENDSEC")) c.next_record.new.lexer) (λ p. TakesOneMore c.loop-records.lexer (part_of p) c.next_record.new.lexer) c.in_ok-part.ensures c.in-Some.is)
+    header_smaller c.loop-records.lexer (record_of c.in-Some.part) c.next_record.new.lexer
+    (at_some c.in_ok-part.field-0 c.in-Some.part (Reads c.loop-records.lexer (section (codes "ENDSEC"))
+    c.next_record.new.lexer) (λ p. TakesOneMore c.loop-records.lexer (record_of p) c.next_record.new.lexer)
+    c.in_ok-part.ensures c.in-Some.is)
 
 pub loop-records-preserved : goal.loop-records-preserved
 loop-records-preserved c =
-    let e : map part_of c.push.new.self.items ≡ map part_of c.loop-records.records.items ++ part_of c.in-Some.part ∷ [] = ap (map part_of) c.in_ok-push.ensures.items ∙ map_push c.loop-records.records.items c.in-Some.part in
-    rw e (header_next c.args.lexer.now c.in_ok-place.place (map part_of c.loop-records.records.items) c.loop-records.lexer (part_of c.in-Some.part) c.next_record.new.lexer c.loop-records.invariant
-    (at_some c.in_ok-part.field-0 c.in-Some.part (Reads c.loop-records.lexer (section (codes "ENDSEC")) c.next_record.new.lexer) (λ p. TakesOneMore c.loop-records.lexer (part_of p) c.next_record.new.lexer) c.in_ok-part.ensures c.in-Some.is))
+    let e : map record_of c.push.new.self.items ≡ map record_of c.loop-records.records.items ++ record_of c.in-Some.part
+    ∷ [] = ap (map record_of) c.in_ok-push.ensures.items ∙ map_push c.loop-records.records.items c.in-Some.part in
+    rw e (header_next c.args.lexer.now c.in_ok-place.place (map record_of c.loop-records.records.items)
+    c.loop-records.lexer (record_of c.in-Some.part) c.next_record.new.lexer c.loop-records.invariant
+    (at_some c.in_ok-part.field-0 c.in-Some.part (Reads c.loop-records.lexer (section (codes "ENDSEC"))
+    c.next_record.new.lexer) (λ p. TakesOneMore c.loop-records.lexer (record_of p) c.next_record.new.lexer)
+    c.in_ok-part.ensures c.in-Some.is))

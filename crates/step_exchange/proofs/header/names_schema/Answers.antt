@@ -34,7 +34,8 @@ not_list p other h = by (out-Param p) refl
 not_text : (p : Param) → ((t : _) → p ≡ Text t → ⊥) → NamesSchema (one (group (one (tree_of p) none)) none) → ⊥
 not_text p other h = by (out-Param p) refl
   where
-    at : (l : Param-F Param) → out-Param p ≡ l → NamesSchema (one (group (one (tree_step (map-Param Param Tree tree_of l)) none)) none)
+    at : (l : Param-F Param) → out-Param p ≡ l
+        → NamesSchema (one (group (one (tree_step (map-Param Param Tree tree_of l)) none)) none)
     at l e = let P : Tree → Type 0 = λ x. NamesSchema (one (group (one x none)) none) in subst P (tree_at p l e) h
 
     by : (l : Param-F Param) → out-Param p ≡ l → ⊥
@@ -70,43 +71,54 @@ the_one [] p g k e = absurd (omega (arith, g))
 the_one (q ∷ []) p g k e = ap (λ x. x ∷ []) (sym e)
 the_one (q ∷ r ∷ ps) p g k e = absurd (omega (arith, k))
 
-trees_is : (ps : List Param) (p : Param) (v : Vec Param Global) (names : List Param) → 1 ≤ length ps → length ps < 2 → p ≡ get_or ps 0 p → p ≡ Listed v → names ≡ v.items → trees_of ps ≡ one (group (trees_of names)) none
+trees_is : (ps : List Param) (p : Param) (v : Vec Param Global) (names : List Param) → 1 ≤ length ps → length ps < 2
+    → p ≡ get_or ps 0 p → p ≡ Listed v → names ≡ v.items → trees_of ps ≡ one (group (trees_of names)) none
 trees_is ps p v names g k e is same =
-    ap trees_of (the_one ps p g k e) ∙ ap (λ x. one (tree_of x) none) is ∙ ap (λ x. one x none) (tree_list v) ∙ ap (λ l. one (group (trees_of l)) none) (sym same)
+    ap trees_of (the_one ps p g k e) ∙ ap (λ x. one (tree_of x) none) is ∙ ap (λ x. one x none) (tree_list v)
+    ∙ ap (λ l. one (group (trees_of l)) none) (sym same)
 
 never : (A : Type 0) → (A → ⊥) → IsTrue false ↔ A
 never A f = (λ (h : IsTrue false). absurd (false≢true h), λ a. absurd (f a))
 
 pub returns-in_default-2 : goal.returns-in_default-2
-returns-in_default-2 c = never (NamesSchema (trees_of c.args.params.now)) (not_one c.args.params.now c.in_default.len_at_least)
+returns-in_default-2 c = never (NamesSchema (trees_of c.args.params.now))
+    (not_one c.args.params.now c.in_default.len_at_least)
 
 pub returns-in_default-only : goal.returns-in_default-only
 returns-in_default-only c =
     let ps = c.args.params.now in
-    let e : trees_of ps ≡ one (tree_of c.only-item.result) none = ap trees_of (the_one ps c.only-item.result c.in-len1.len_at_least c.in-len1.len_below c.only-item.is) in
-    never (NamesSchema (trees_of ps)) (λ h. not_list c.only-item.result c.in_default-only.not-List (subst NamesSchema e h))
+    let e : trees_of ps ≡ one (tree_of c.only-item.result) none =
+    ap trees_of (the_one ps c.only-item.result c.in-len1.len_at_least c.in-len1.len_below c.only-item.is) in
+    never (NamesSchema (trees_of ps)) (λ h. not_list c.only-item.result c.in_default-only.not-List
+    (subst NamesSchema e h))
 
 pub returns-in_default-as_slice : goal.returns-in_default-as_slice
 returns-in_default-as_slice c =
     let ps = c.args.params.now in
     let ns = c.as_slice.result.now in
-    let e = trees_is ps c.only-item.result c.in-List.names ns c.in-len1.len_at_least c.in-len1.len_below c.only-item.is c.in-List.is c.as_slice.ensures.value in
+    let e = trees_is ps c.only-item.result c.in-List.names ns c.in-len1.len_at_least c.in-len1.len_below c.only-item.is
+    c.in-List.is c.as_slice.ensures.value in
     never (NamesSchema (trees_of ps)) (λ h. names_few ns c.in_default-as_slice.len_below (subst NamesSchema e h))
 
 pub returns-in_default-as_slice-2 : goal.returns-in_default-as_slice-2
 returns-in_default-as_slice-2 c =
     let ps = c.args.params.now in
     let ns = c.as_slice.result.now in
-    let e = trees_is ps c.only-item.result c.in-List.names ns c.in-len1.len_at_least c.in-len1.len_below c.only-item.is c.in-List.is c.as_slice.ensures.value in
+    let e = trees_is ps c.only-item.result c.in-List.names ns c.in-len1.len_at_least c.in-len1.len_below c.only-item.is
+    c.in-List.is c.as_slice.ensures.value in
     never (NamesSchema (trees_of ps)) (λ h. names_many ns c.in_default-as_slice.len_at_least (subst NamesSchema e h))
 
 pub returns-in-Text : goal.returns-in-Text
 returns-in-Text c =
     let ps = c.args.params.now in
     let ns = c.as_slice.result.now in
-    let e = trees_is ps c.only-item.result c.in-List.names ns c.in-len1.len_at_least c.in-len1.len_below c.only-item.is c.in-List.is c.as_slice.ensures.value in
-    let g : trees_of ns ≡ one (tree_of c.name-item.result) none = ap trees_of (the_one ns c.name-item.result c.in-len1-as_slice.len_at_least c.in-len1-as_slice.len_below c.name-item.is) in
-    let t : trees_of ns ≡ one (leaf (string c.in-Text.field-0.text.now)) none = g ∙ ap (λ x. one (tree_of x) none) c.in-Text.is ∙ ap (λ x. one x none) (tree_text c.in-Text.field-0) in
+    let e = trees_is ps c.only-item.result c.in-List.names ns c.in-len1.len_at_least c.in-len1.len_below c.only-item.is
+    c.in-List.is c.as_slice.ensures.value in
+    let g : trees_of ns ≡ one (tree_of c.name-item.result) none =
+    ap trees_of (the_one ns c.name-item.result c.in-len1-as_slice.len_at_least c.in-len1-as_slice.len_below
+    c.name-item.is) in
+    let t : trees_of ns ≡ one (leaf (string c.in-Text.field-0.text.now)) none = g ∙ ap (λ x. one (tree_of x) none)
+    c.in-Text.is ∙ ap (λ x. one x none) (tree_text c.in-Text.field-0) in
     let all = e ∙ ap (λ x. one (group x) none) t in
     (λ _. subst NamesSchema (sym all) tt, λ _. refl)
 
@@ -114,7 +126,11 @@ pub returns-in_default-matches : goal.returns-in_default-matches
 returns-in_default-matches c =
     let ps = c.args.params.now in
     let ns = c.as_slice.result.now in
-    let e = trees_is ps c.only-item.result c.in-List.names ns c.in-len1.len_at_least c.in-len1.len_below c.only-item.is c.in-List.is c.as_slice.ensures.value in
-    let g : trees_of ns ≡ one (tree_of c.name-item.result) none = ap trees_of (the_one ns c.name-item.result c.in-len1-as_slice.len_at_least c.in-len1-as_slice.len_below c.name-item.is) in
+    let e = trees_is ps c.only-item.result c.in-List.names ns c.in-len1.len_at_least c.in-len1.len_below c.only-item.is
+    c.in-List.is c.as_slice.ensures.value in
+    let g : trees_of ns ≡ one (tree_of c.name-item.result) none =
+    ap trees_of (the_one ns c.name-item.result c.in-len1-as_slice.len_at_least c.in-len1-as_slice.len_below
+    c.name-item.is) in
     let all = e ∙ ap (λ x. one (group x) none) g in
-    never (NamesSchema (trees_of ps)) (λ h. not_text c.name-item.result c.in_default-matches.not-Text (subst NamesSchema all h))
+    never (NamesSchema (trees_of ps)) (λ h. not_text c.name-item.result c.in_default-matches.not-Text
+    (subst NamesSchema all h))

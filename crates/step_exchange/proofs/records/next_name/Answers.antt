@@ -5,17 +5,21 @@ use Rattle.step_exchange.proofs.RowSteps.{names_len, name_refused, name_twice, n
 use Rattle.step_exchange.proofs.records.next_name.Goals as goal
 
 pub returns-in_default : goal.returns-in_default
-returns-in_default c = name_refused (names_of (map row_of c.args.records.now.entries)) c.args.token c.refuse.result c.in_default.not-Name c.requires.more c.refuse.ensures
+returns-in_default c = name_refused (names_of (map row_of c.args.records.now.entries)) c.args.token c.refuse.result
+    c.in_default.not-Name c.requires.more c.refuse.ensures
 
 pub returns-then-has_name : goal.returns-then-has_name
 returns-then-has_name c =
-    name_twice (names_of (map row_of c.args.records.now.entries)) c.args.token c.in-Name.name c.fault_at.result c.in-Name.is
+    name_twice (names_of (map row_of c.args.records.now.entries)) c.args.token c.in-Name.name c.fault_at.result
+    c.in-Name.is
     (sym c.has_name.ensures ∙ c.if-has_name.true) c.fault_at.ensures
 
 pub returns-then-len-ge-INSTANCES : goal.returns-then-len-ge-INSTANCES
 returns-then-len-ge-INSTANCES c =
-    name_too_many (names_of (map row_of c.args.records.now.entries)) c.args.token c.in-Name.name c.fault_at-then-len-ge-INSTANCES.result c.in-Name.is
-    (sym c.has_name.ensures ∙ c.if-has_name.false) (omega (arith, names_len c.args.records.now.entries)) c.fault_at-then-len-ge-INSTANCES.ensures
+    name_too_many (names_of (map row_of c.args.records.now.entries)) c.args.token c.in-Name.name
+    c.fault_at-then-len-ge-INSTANCES.result c.in-Name.is
+    (sym c.has_name.ensures ∙ c.if-has_name.false) (omega (arith, names_len c.args.records.now.entries))
+    c.fault_at-then-len-ge-INSTANCES.ensures
 
 pub returns : goal.returns
 returns c =

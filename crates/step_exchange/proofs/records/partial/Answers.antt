@@ -1,29 +1,38 @@
 use Rattle.std.proofs.Common.{sym, ap, ◌∙◌, map}
 use Rattle.std.proofs.lemmas.Result.{err_from_is_err_and}
 use Rattle.step_exchange.specs.Words.{token, word_of}
-use Rattle.step_exchange.specs.Views.{part_of}
+use Rattle.step_exchange.specs.Views.{record_of}
 use Rattle.step_exchange.specs.Predict.{keywords_of}
 use Rattle.step_exchange.proofs.RecordSteps.{has_keyword_any, partial_refused, partial_twice, partial_err, parts_refused}
 use Rattle.step_exchange.proofs.records.partial.Goals as goal
 
 pub returns-in_default : goal.returns-in_default
 returns-in_default c =
-    partial_refused c.refuse.result (keywords_of (map part_of c.args.parts.now)) c.args.first c.args.lexer.now (parts_refused (keywords_of (map part_of c.args.parts.now)) c.args.first.sort c.args.first.text.now c.in_default.not-Keyword c.requires.open) c.refuse.ensures
+    partial_refused c.refuse.result (keywords_of (map record_of c.args.parts.now)) c.args.first c.args.lexer.now
+    (parts_refused (keywords_of (map record_of c.args.parts.now)) c.args.first.sort c.args.first.text.now
+    c.in_default.not-Keyword c.requires.open) c.refuse.ensures
 
 pub returns-then-has_keyword : goal.returns-then-has_keyword
 returns-then-has_keyword c =
-    partial_twice c.fault_at.result (keywords_of (map part_of c.args.parts.now)) c.args.first c.in-Keyword.keyword.text.now c.args.lexer.now (ap (λ s. token (word_of s c.args.first.text.now)) c.in-Keyword.is)
-    (sym (has_keyword_any c.in-Keyword.keyword.text.now c.args.parts.now) ∙ sym c.has_keyword.ensures ∙ c.if-has_keyword.true) c.fault_at.ensures
+    partial_twice c.fault_at.result (keywords_of (map record_of c.args.parts.now)) c.args.first
+    c.in-Keyword.keyword.text.now c.args.lexer.now (ap (λ s. token (word_of s c.args.first.text.now))
+    c.in-Keyword.is)
+    (sym (has_keyword_any c.in-Keyword.keyword.text.now c.args.parts.now) ∙ sym c.has_keyword.ensures
+    ∙ c.if-has_keyword.true) c.fault_at.ensures
 
 pub returns-in_err-params : goal.returns-in_err-params
 returns-in_err-params c =
     let p = err_from_is_err_and c.from_residual.result c.from_residual.ensures.1 in
-    rw (p.1, p.2) (partial_err _ (keywords_of (map part_of c.args.parts.now)) c.args.first c.in-Keyword.keyword.text.now c.args.lexer.now (ap (λ s. token (word_of s c.args.first.text.now)) c.in-Keyword.is)
-    (sym (has_keyword_any c.in-Keyword.keyword.text.now c.args.parts.now) ∙ sym c.has_keyword.ensures ∙ c.if-has_keyword.false) c.in_err-params.ensures)
+    rw (p.1, p.2) (partial_err _ (keywords_of (map record_of c.args.parts.now)) c.args.first
+    c.in-Keyword.keyword.text.now c.args.lexer.now (ap (λ s. token (word_of s c.args.first.text.now))
+    c.in-Keyword.is)
+    (sym (has_keyword_any c.in-Keyword.keyword.text.now c.args.parts.now) ∙ sym c.has_keyword.ensures
+    ∙ c.if-has_keyword.false) c.in_err-params.ensures)
 
 pub returns : goal.returns
 returns c = record {
-  alone = sym (has_keyword_any c.in-Keyword.keyword.text.now c.args.parts.now) ∙ sym c.has_keyword.ensures ∙ c.if-has_keyword.false;
+  alone = sym (has_keyword_any c.in-Keyword.keyword.text.now c.args.parts.now) ∙ sym c.has_keyword.ensures
+      ∙ c.if-has_keyword.false;
   first_is = ap (λ s. token (word_of s c.args.first.text.now)) c.in-Keyword.is;
   params = c.in_ok-params.ensures;
 }

@@ -1,52 +1,77 @@
 use Rattle.std.proofs.Common.{rules, sym, ap, ◌∙◌, ◌≡◌, map, ◌++◌, ◌∷◌, [], subst, List}
 use Rattle.std.specs.List.{list_any}
-use Rattle.step_exchange.specs.declared.tree.Part.{Part}
-use Rattle.step_exchange.specs.Words.{seen}
+use Rattle.step_exchange.specs.declared.tree.Record.{Record}
+use Rattle.step_exchange.specs.Words.{located}
 use Rattle.std.proofs.lemmas.Result.{err_from_is_err_and}
-use Rattle.step_exchange.specs.Views.{part_of}
-use Rattle.step_exchange.specs.Predict.{Parts, Over, keywords_of, further_keywords, StopsIn, TakesPartial}
+use Rattle.step_exchange.specs.Views.{record_of}
+use Rattle.step_exchange.specs.Predict.{Parts, EndOfText, keywords_of, further_keywords, StopsIn, TakesPartial}
 use Rattle.step_exchange.proofs.RecordSteps.{has_keyword_any, parts_start, parts_err_token, parts_err_part, parts_empty, parts_next, parts_done, parts_smaller, map_push, is_none, is_some}
 use Rattle.step_exchange.proofs.Keywords.{says}
 use Rattle.step_exchange.proofs.records.partials.Goals as goal
 
 pub loop-further-init : goal.loop-further-init
-loop-further-init c = let e : map part_of c.new-parts.result.items ≡ [] = ap (map part_of) c.new-parts.ensures.items in
-    record { read = (rw e (parts_start c.args.lexer.now)); kept = c.new-further.ensures.empty ∙ sym (ap further_keywords c.new-parts.ensures.items) }
+loop-further-init c = let e : map record_of c.new-parts.result.items ≡ [] = ap (map record_of) c.new-parts.ensures.items
+    in
+    record {
+      read = (rw e (parts_start c.args.lexer.now));
+      kept = c.new-further.ensures.empty ∙ sym (ap further_keywords c.new-parts.ensures.items);
+    }
 
 pub returns-in_err-token : goal.returns-in_err-token
 returns-in_err-token c =
     let p = err_from_is_err_and c.from_residual.result c.from_residual.ensures.1 in
-    let ks = keywords_of (map part_of c.loop-further.parts.items) in
-    rw (p.1, p.2) (parts_err_token _ c.args.lexer.now (map part_of c.loop-further.parts.items) c.loop-further.lexer c.loop-further.invariant.read (c.in_err-token.ensures (Parts ks) (λ (e : Parts ks ≡ Over). cc)))
+    let ks = keywords_of (map record_of c.loop-further.parts.items) in
+    rw (p.1, p.2) (parts_err_token _ c.args.lexer.now (map record_of c.loop-further.parts.items) c.loop-further.lexer
+    c.loop-further.invariant.read (c.in_err-token.ensures (Parts ks) (λ (e : Parts ks ≡ EndOfText). cc)))
 
 pub returns-then-is_empty : goal.returns-then-is_empty
 returns-then-is_empty c =
-    parts_empty c.refuse.result c.args.lexer.now (map part_of c.loop-further.parts.items) c.loop-further.lexer c.in_ok-token.token c.take.new.lexer c.loop-further.invariant.read c.in_ok-token.ensures (sym c.is_mark.ensures ∙ c.if-is_mark.true) (is_none c.loop-further.parts.items c.loop-further.parts.len c.is_empty.result c.is_empty.ensures (search rules) c.if-is_empty.true) c.refuse.ensures
+    parts_empty c.refuse.result c.args.lexer.now (map record_of c.loop-further.parts.items) c.loop-further.lexer
+    c.in_ok-token.token c.take.new.lexer c.loop-further.invariant.read c.in_ok-token.ensures (sym c.is_mark.ensures
+    ∙ c.if-is_mark.true) (is_none c.loop-further.parts.items c.loop-further.parts.len c.is_empty.result
+    c.is_empty.ensures (search rules) c.if-is_empty.true) c.refuse.ensures
 
 pub returns-then-is_mark : goal.returns-then-is_mark
 returns-then-is_mark c =
-    parts_done c.args.lexer.now (map part_of c.loop-further.parts.items) c.loop-further.lexer c.in_ok-token.token c.take.new.lexer c.loop-further.invariant.read c.in_ok-token.ensures (sym c.is_mark.ensures ∙ c.if-is_mark.true) (is_some c.loop-further.parts.items c.loop-further.parts.len c.is_empty.result c.is_empty.ensures (search rules) c.if-is_empty.false)
+    parts_done c.args.lexer.now (map record_of c.loop-further.parts.items) c.loop-further.lexer c.in_ok-token.token
+    c.take.new.lexer c.loop-further.invariant.read c.in_ok-token.ensures (sym c.is_mark.ensures ∙ c.if-is_mark.true)
+    (is_some c.loop-further.parts.items c.loop-further.parts.len c.is_empty.result c.is_empty.ensures (search rules)
+    c.if-is_empty.false)
 
 pub returns-in_err-part : goal.returns-in_err-part
 returns-in_err-part c =
     let p = err_from_is_err_and c.from_residual-in_err-part.result c.from_residual-in_err-part.ensures.1 in
-    let P : List Part → Type 0 = λ l. StopsIn c.in_err-part.field-0.0 (Parts (keywords_of (map part_of l)) ∷ []) (seen c.in_ok-token.token ∷ []) c.take.new.lexer in
-    rw (p.1, p.2) (parts_err_part _ c.args.lexer.now (map part_of c.loop-further.parts.items) c.loop-further.lexer c.in_ok-token.token c.take.new.lexer c.loop-further.invariant.read c.in_ok-token.ensures (subst P c.deref.ensures.value c.in_err-part.ensures))
+    let P : List Record → Type 0 = λ l. StopsIn c.in_err-part.field-0.0 (Parts (keywords_of (map record_of l)) ∷ [])
+    (located c.in_ok-token.token ∷ []) c.take.new.lexer in
+    rw (p.1, p.2) (parts_err_part _ c.args.lexer.now (map record_of c.loop-further.parts.items) c.loop-further.lexer
+    c.in_ok-token.token c.take.new.lexer c.loop-further.invariant.read c.in_ok-token.ensures
+    (subst P c.deref.ensures.value c.in_err-part.ensures))
 
 pub keep_keyword-requires-clause-alone : goal.keep_keyword-requires-clause-alone
 keep_keyword-requires-clause-alone c =
-    ap (list_any (says c.in_ok-part.part.keyword)) (c.deref-in-loop-further.ensures.value ∙ sym c.deref.ensures.value) ∙ has_keyword_any c.in_ok-part.part.keyword.text.now c.deref.result.now ∙ c.in_ok-part.ensures.alone
+    ap (list_any (says c.in_ok-part.part.keyword)) (c.deref-in-loop-further.ensures.value ∙ sym c.deref.ensures.value)
+    ∙ has_keyword_any c.in_ok-part.part.keyword.text.now c.deref.result.now ∙ c.in_ok-part.ensures.alone
 
 pub loop-further-smaller : goal.loop-further-smaller
-loop-further-smaller c = parts_smaller c.loop-further.lexer c.in_ok-token.token c.take.new.lexer (keywords_of (map part_of c.loop-further.parts.items)) (part_of c.in_ok-part.part) c.partial.new.lexer c.in_ok-token.ensures
-    (let P : List Part → Type 0 = λ l. TakesPartial (keywords_of (map part_of l)) (seen c.in_ok-token.token) c.take.new.lexer (part_of c.in_ok-part.part) c.partial.new.lexer in subst P c.deref.ensures.value c.in_ok-part.ensures)
+loop-further-smaller c = parts_smaller c.loop-further.lexer c.in_ok-token.token c.take.new.lexer
+    (keywords_of (map record_of c.loop-further.parts.items)) (record_of c.in_ok-part.part) c.partial.new.lexer
+    c.in_ok-token.ensures
+    (let P : List Record → Type 0 = λ l. TakesPartial (keywords_of (map record_of l)) (located c.in_ok-token.token)
+    c.take.new.lexer (record_of c.in_ok-part.part) c.partial.new.lexer in subst P c.deref.ensures.value
+    c.in_ok-part.ensures)
 
 pub loop-further-preserved : goal.loop-further-preserved
 loop-further-preserved c =
     let ps = c.loop-further.parts.items in
-    let e : map part_of c.push.new.self.items ≡ map part_of ps ++ part_of c.in_ok-part.part ∷ [] = ap (map part_of) c.in_ok-push.ensures.items ∙ map_push ps c.in_ok-part.part in
+    let e : map record_of c.push.new.self.items ≡ map record_of ps ++ record_of c.in_ok-part.part ∷ [] =
+    ap (map record_of) c.in_ok-push.ensures.items ∙ map_push ps c.in_ok-part.part in
     record {
-      read = (rw e (parts_next c.args.lexer.now (map part_of ps) c.loop-further.lexer c.in_ok-token.token c.take.new.lexer (part_of c.in_ok-part.part) c.partial.new.lexer c.loop-further.invariant.read c.in_ok-token.ensures
-          (let P : List Part → Type 0 = λ l. TakesPartial (keywords_of (map part_of l)) (seen c.in_ok-token.token) c.take.new.lexer (part_of c.in_ok-part.part) c.partial.new.lexer in subst P c.deref.ensures.value c.in_ok-part.ensures)));
-      kept = c.in_ok-keep_keyword.ensures ∙ ap further_keywords (ap (λ (l : List Part). l ++ c.in_ok-part.part ∷ []) c.deref-in-loop-further.ensures.value ∙ sym c.in_ok-push.ensures.items);
+      read = (rw e (parts_next c.args.lexer.now (map record_of ps) c.loop-further.lexer c.in_ok-token.token
+          c.take.new.lexer (record_of c.in_ok-part.part) c.partial.new.lexer c.loop-further.invariant.read
+          c.in_ok-token.ensures
+          (let P : List Record → Type 0 = λ l. TakesPartial (keywords_of (map record_of l))
+          (located c.in_ok-token.token) c.take.new.lexer (record_of c.in_ok-part.part) c.partial.new.lexer in
+          subst P c.deref.ensures.value c.in_ok-part.ensures)));
+      kept = c.in_ok-keep_keyword.ensures ∙ ap further_keywords (ap (λ (l : List Record). l ++ c.in_ok-part.part ∷ [])
+          c.deref-in-loop-further.ensures.value ∙ sym c.in_ok-push.ensures.items);
     }

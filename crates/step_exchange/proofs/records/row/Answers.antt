@@ -11,7 +11,9 @@ returns-in_err-form c =
 pub returns-in_err-expect-2 : goal.returns-in_err-expect-2
 returns-in_err-expect-2 c =
     let p = err_from_is_err_and c.from_residual-in_err-expect-2.result c.from_residual-in_err-expect-2.ensures.1 in
-    rw (p.1, p.2) (row_err_end _ (form_of c.in_ok-form.form) c.args.lexer.now c.expect.new.lexer c.form.new.lexer c.in_ok-expect.ensures c.in_ok-form.ensures c.in_err-expect-2.ensures)
+    rw (p.1, p.2) (row_err_end _ (form_of c.in_ok-form.form) c.args.lexer.now c.expect.new.lexer c.form.new.lexer
+    c.in_ok-expect.ensures c.in_ok-form.ensures c.in_err-expect-2.ensures)
 
 pub returns : goal.returns
-returns c = row_done (form_of c.in_ok-form.form) c.args.lexer.now c.expect.new.lexer c.form.new.lexer c.expect-2.new.lexer c.in_ok-expect.ensures c.in_ok-form.ensures c.in_ok-expect-2.ensures
+returns c = row_done (form_of c.in_ok-form.form) c.args.lexer.now c.expect.new.lexer c.form.new.lexer
+    c.expect-2.new.lexer c.in_ok-expect.ensures c.in_ok-form.ensures c.in_ok-expect-2.ensures

@@ -1,13 +1,16 @@
 use Rattle.std.proofs.Common.{sym, ◌∙◌}
 use Rattle.step_exchange.specs.Predict.{Just}
-use Rattle.step_exchange.specs.Words.{seen}
+use Rattle.step_exchange.specs.Words.{located}
 use Rattle.step_exchange.proofs.Looking.{mark_refused, reads_mark, stops_refused}
 use Rattle.step_exchange.proofs.tokens.expect.Goals as goal
 
 pub returns-then-not-is_mark : goal.returns-then-not-is_mark
 returns-then-not-is_mark c =
-    stops_refused c.refuse.result (Just c.args.wanted) c.in_ok-token.token c.args.lexer.now c.take.new.lexer c.in_ok-token.ensures
-    (mark_refused c.args.wanted (seen c.in_ok-token.token).sight (sym c.is_mark.ensures ∙ c.if-not-is_mark.true)) c.refuse.ensures
+    stops_refused c.refuse.result (Just c.args.wanted) c.in_ok-token.token c.args.lexer.now c.take.new.lexer
+    c.in_ok-token.ensures
+    (mark_refused c.args.wanted (located c.in_ok-token.token).lookahead (sym c.is_mark.ensures ∙ c.if-not-is_mark.true))
+    c.refuse.ensures
 
 pub returns : goal.returns
-returns c = reads_mark c.args.wanted c.in_ok-token.token c.args.lexer.now c.take.new.lexer c.in_ok-token.ensures (sym c.is_mark.ensures ∙ c.if-not-is_mark.false)
+returns c = reads_mark c.args.wanted c.in_ok-token.token c.args.lexer.now c.take.new.lexer c.in_ok-token.ensures
+    (sym c.is_mark.ensures ∙ c.if-not-is_mark.false)

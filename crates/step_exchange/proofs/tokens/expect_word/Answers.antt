@@ -1,13 +1,16 @@
 use Rattle.std.proofs.Common.{sym, ◌∙◌}
 use Rattle.step_exchange.specs.Predict.{Say}
-use Rattle.step_exchange.specs.Words.{seen}
+use Rattle.step_exchange.specs.Words.{located}
 use Rattle.step_exchange.proofs.Looking.{word_refused, reads_word, stops_refused}
 use Rattle.step_exchange.proofs.tokens.expect_word.Goals as goal
 
 pub returns-then-not-is_word : goal.returns-then-not-is_word
 returns-then-not-is_word c =
-    stops_refused c.refuse.result (Say c.args.word.now) c.in_ok-token.token c.args.lexer.now c.take.new.lexer c.in_ok-token.ensures
-    (word_refused c.args.word.now (seen c.in_ok-token.token).sight (sym c.is_word.ensures ∙ c.if-not-is_word.true)) c.refuse.ensures
+    stops_refused c.refuse.result (Say c.args.word.now) c.in_ok-token.token c.args.lexer.now c.take.new.lexer
+    c.in_ok-token.ensures
+    (word_refused c.args.word.now (located c.in_ok-token.token).lookahead (sym c.is_word.ensures
+    ∙ c.if-not-is_word.true)) c.refuse.ensures
 
 pub returns : goal.returns
-returns c = reads_word c.args.word.now c.in_ok-token.token c.args.lexer.now c.take.new.lexer c.in_ok-token.ensures (sym c.is_word.ensures ∙ c.if-not-is_word.false)
+returns c = reads_word c.args.word.now c.in_ok-token.token c.args.lexer.now c.take.new.lexer c.in_ok-token.ensures
+    (sym c.is_word.ensures ∙ c.if-not-is_word.false)

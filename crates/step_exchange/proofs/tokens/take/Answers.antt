@@ -9,7 +9,9 @@ at_none old None new e h = h
 at_none old (Some t) new e h = absurd (cc)
 
 pub returns-in-Ok-None : goal.returns-in-Ok-None
-returns-in-Ok-None c = stops_end c.place.result c.args.lexer.now c.next_token.new.self (at_none c.args.lexer.now c.in-Ok-None.field-0 c.next_token.new.self c.in-Ok-None.field-0-is c.in-Ok-None.ensures) c.place.ensures
+returns-in-Ok-None c = stops_end c.place.result c.args.lexer.now c.next_token.new.self
+    (at_none c.args.lexer.now c.in-Ok-None.field-0 c.next_token.new.self c.in-Ok-None.field-0-is c.in-Ok-None.ensures)
+    c.place.ensures
 
 pub returns-in-Err : goal.returns-in-Err
 returns-in-Err c = λ y _. stops_flaw c.in-Err.fault c.args.lexer.now c.next_token.new.self c.in-Err.ensures y

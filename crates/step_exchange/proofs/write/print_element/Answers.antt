@@ -1,4 +1,4 @@
-use Rattle.step_exchange.proofs.Printing.{then_print}
+use Rattle.devices.proofs.Printing.{then_print}
 use Rattle.step_exchange.proofs.write.print_element.Goals as goal
 
 pub returns : goal.returns

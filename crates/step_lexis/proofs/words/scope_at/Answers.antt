@@ -7,4 +7,5 @@ pub returns-then-says : goal.returns-then-says
 returns-then-says c = scope_front c.args.bytes.now (c.says.ensures.0 c.if-says.true)
 
 pub returns-else-says : goal.returns-else-says
-returns-else-says c = scope_none_at c.args.bytes.now c.requires (λ h. false≢true (sym c.if-says.false ∙ c.says.ensures.1 h))
+returns-else-says c = scope_none_at c.args.bytes.now c.requires
+    (λ h. false≢true (sym c.if-says.false ∙ c.says.ensures.1 h))

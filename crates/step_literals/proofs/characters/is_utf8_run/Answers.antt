@@ -9,7 +9,8 @@ pub loop-after-smaller : goal.loop-after-smaller
 loop-after-smaller c = shorter_behind c.in-Some.ensures.0
 
 pub returns-in-Some-take_clean : goal.returns-in-Some-take_clean
-returns-in-Some-take_clean c = sym (c.loop-after.invariant ∙ utf8_decided c.in-Some-take_clean.ensures.first c.in_default.ensures)
+returns-in-Some-take_clean c = sym (c.loop-after.invariant ∙ utf8_decided c.in-Some-take_clean.ensures.first
+    c.in_default.ensures)
 
 pub returns-in-None : goal.returns-in-None
 returns-in-None c = sym (c.loop-after.invariant ∙ utf8_nothing c.in-None.ensures.first)

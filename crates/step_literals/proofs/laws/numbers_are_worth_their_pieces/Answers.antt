@@ -8,4 +8,5 @@ pub returns-clause-reals : goal.returns-clause-reals
 returns-clause-reals c = λ sign whole part hs hw hp. plain_worth sign whole hs hw part hp
 
 pub returns-clause-exponents : goal.returns-clause-exponents
-returns-clause-exponents c = λ sign whole part e minus ds hs hw hp he hm hd. real_worth sign whole hs hw part hp _ _ (writes_some e minus ds he hm hd)
+returns-clause-exponents c = λ sign whole part e minus ds hs hw hp he hm hd. real_worth sign whole hs hw part hp _ _
+    (writes_some e minus ds he hm hd)

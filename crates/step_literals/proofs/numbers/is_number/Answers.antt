@@ -6,7 +6,8 @@ use Rattle.step_literals.proofs.numbers.is_number.Goals as goal
 pub returns-in-Some : goal.returns-in-Some
 returns-in-Some c =
     let t = c.args.bytes.now in let e = c.in-Some.ensures in (
-      (λ h. let same : c.in-Some.len ≡ length t = grind (arith, nat_tests) in whole_number t c.in-Some.len c.in-Some.field-0-1 e.0 e.1 same),
+      (λ h. let same : c.in-Some.len ≡ length t = grind (arith, nat_tests) in whole_number t c.in-Some.len
+          c.in-Some.field-0-1 e.0 e.1 same),
       (λ n. eq-eqb c.in-Some.len (length t) (number_whole t c.in-Some.len c.in-Some.field-0-1 e.0 e.1 n)),
     )
 

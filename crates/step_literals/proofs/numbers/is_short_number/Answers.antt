@@ -5,4 +5,5 @@ use Rattle.step_literals.proofs.numbers.is_short_number.Goals as goal
 
 pub number_of-requires : goal.number_of-requires
 number_of-requires c =
-    subst (Each is_digit) (sym (exponent_cut c.args.number.now _ _ _ c.exponent_text-exponent.ensures c.sign_len.ensures.value c.split_at.ensures.back)) (exponent_each c.args.number.now c.requires)
+    subst (Each is_digit) (sym (exponent_cut c.args.number.now _ _ _ c.exponent_text-exponent.ensures
+    c.sign_len.ensures.value c.split_at.ensures.back)) (exponent_each c.args.number.now c.requires)

@@ -3,4 +3,5 @@ use Rattle.std.specs.Str.Parse.{digits_value, digits_value_after}
 use Rattle.step_literals.proofs.numbers.number_of.Given as goal
 
 abbrev pub invariant-loop-digit : goal.invariant-loop-digit
-invariant-loop-digit l = (l.value < 2 ^ 64) × (digits_value_after 10 l.value (drop l.digit-index l.digits) ≡ digits_value 10 l.digits)
+invariant-loop-digit l = (l.value < 2 ^ 64)
+    × (digits_value_after 10 l.value (drop l.digit-index l.digits) ≡ digits_value 10 l.digits)

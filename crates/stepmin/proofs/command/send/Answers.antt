@@ -7,7 +7,8 @@ loop-rest-preserved g c =
     let before = c.loop-rest.invariant.sent in
     let rest = c.loop-rest.rest.now in
     let now = take c.in_ok-count.count rest in
-    let cut : rest ≡ now ++ c.split_at.result.1.now = sym (take-append-drop c.in_ok-count.count rest) ∙ ap (λ l. now ++ l) (sym c.split_at.ensures.back) in
+    let cut : rest ≡ now ++ c.split_at.result.1.now = sym (take-append-drop c.in_ok-count.count rest)
+    ∙ ap (λ l. now ++ l) (sym c.split_at.ensures.back) in
     record {
       sent = (
         before.0 ++ now,

@@ -10,4 +10,5 @@ pub returns : goal.returns
 returns c = λ path found.
     let inner = c.in_ok-subcommand_matches.field-0.now in
     c.get_str.ensures ∙ first_value-rows (found_of inner) (codes "FILE")
-    ∙ file_among (subcommand_rows_of c.args.matches.now) path (rows_of (found_of inner)) found c.in_ok-subcommand_matches.ensures.rows
+    ∙ file_among (subcommand_rows_of c.args.matches.now) path (rows_of (found_of inner)) found
+    c.in_ok-subcommand_matches.ensures.rows

@@ -13,8 +13,12 @@ returns c =
     ∙ ap₂ with_rule (ap app_of_fields c.about.ensures ∙ c.new-2.ensures.app) file_is in
     let needs : App → App = on_top (λ s. record s { subcommand_required = true }) in
     let top_is : app_of c.subcommand_required.result ≡ needs (new_app (codes "stepmin")) =
-    ap app_of_fields c.subcommand_required.ensures ∙ ap needs (ap app_of_fields c.about-2.ensures ∙ c.new-3.ensures.app) in
+    ap app_of_fields c.subcommand_required.ensures ∙ ap needs (ap app_of_fields c.about-2.ensures ∙ c.new-3.ensures.app)
+    in
     let file_local : c.help-file.result.global ≡ false = search rules in
-    let about_local : (out-Command c.about.result).has_globals ≡ false = ap (λ f. f.has_globals) c.about.ensures ∙ c.new-2.ensures.local in
-    let local : (out-Command c.in_ok-plain.plain).has_globals ≡ false = c.in_ok-plain.ensures.globals ∙ ap₂ ◌||◌ about_local file_local in
-    IfOk-weaker c.subcommand.result _ _ (λ r h. h.shape local ∙ ap₂ with_subcommand top_is (ap (λ (a : App). a.top) plain_is)) c.subcommand.ensures
+    let about_local : (out-Command c.about.result).has_globals ≡ false = ap (λ f. f.has_globals) c.about.ensures
+    ∙ c.new-2.ensures.local in
+    let local : (out-Command c.in_ok-plain.plain).has_globals ≡ false = c.in_ok-plain.ensures.globals
+    ∙ ap₂ ◌||◌ about_local file_local in
+    IfOk-weaker c.subcommand.result _ _ (λ r h. h.shape local ∙ ap₂ with_subcommand top_is
+    (ap (λ (a : App). a.top) plain_is)) c.subcommand.ensures

@@ -1,4 +1,4 @@
-use Rattle.express_schemas.specs.Passages.{stands_within}
+use Rattle.express_schemas.specs.PassageLemmas.{stands_within}
 use Rattle.express_schemas.proofs.StandLemmas.{passage_words}
 use Rattle.express_schemas.proofs.passage.Passage.between.Goals as goal
 
@@ -8,4 +8,11 @@ invariant_of-result c =
     record { order = h.0; within = h.1; words = (c.requires.0, ∣ c.requires.1 ∣₁) }
 
 pub returns : goal.returns
-returns c = λ ws h. passage_words record { text = c.args.text; from = c.args.from; to = c.args.to; order = c.result-1.given.0; within = c.result-1.given.1.0; words = c.result-1.given.1.1.0 } ws h
+returns c = λ ws h. passage_words record {
+  text = c.args.text;
+  from = c.args.from;
+  to = c.args.to;
+  order = c.result-1.given.0;
+  within = c.result-1.given.1.0;
+  words = c.result-1.given.1.1.0;
+} ws h

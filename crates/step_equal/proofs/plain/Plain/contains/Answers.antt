@@ -8,5 +8,6 @@ use Rattle.step_equal.proofs.plain.Plain.contains.Goals as goal
 
 pub returns : goal.returns
 returns c =
-    c.contains.ensures ∙ ap (list_any (nat_eq c.args.name)) c.self.invariant.in_order ∙ name_stands (rows_of c.self.inside.rows.items) c.args.name
+    c.contains.ensures ∙ ap (list_any (nat_eq c.args.name)) c.self.invariant.in_order
+    ∙ name_stands (rows_of c.self.inside.rows.items) c.args.name
     ∙ ap (λ rows. is_some (row_at rows c.args.name)) c.self.view_is

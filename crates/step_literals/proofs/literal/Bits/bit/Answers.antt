@@ -15,5 +15,6 @@ pub returns : goal.returns
 returns c =
     let p = c.parts-unused.ensures in
     let h = c.in_ok-digit.ensures.lookup in
-    ap Some c.digit_bit.ensures ∙ bit_there c.parts-unused.result.0 c.args.index c.in_ok-digit.digit.now c.parts-unused.result.1.now (omega (arith, h.3)) h.1
+    ap Some c.digit_bit.ensures ∙ bit_there c.parts-unused.result.0 c.args.index c.in_ok-digit.digit.now
+    c.parts-unused.result.1.now (omega (arith, h.3)) h.1
     ∙ (λ i. slice_get (drop (p.unused i) (flat_map digit_bits (p.digits i))) c.args.index)

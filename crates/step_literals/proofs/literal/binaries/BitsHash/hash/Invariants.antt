@@ -7,4 +7,5 @@ use Rattle.step_literals.proofs.literal.binaries.BitsHash.hash.Given as goal
 
 abbrev pub invariant-loop-bit : goal.invariant-loop-bit
 invariant-loop-bit g l =
-    (l.state ≡ fold g.H.Hasher.write l.initial.state (flat_map fed.bool l.yielded)) × (l.yielded ++ bits_left l.bit-iterator ≡ bits_value l.self)
+    (l.state ≡ fold g.H.Hasher.write l.initial.state (flat_map fed.bool l.yielded))
+    × (l.yielded ++ bits_left l.bit-iterator ≡ bits_value l.self)

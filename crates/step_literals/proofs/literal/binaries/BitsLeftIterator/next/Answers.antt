@@ -9,21 +9,26 @@ pub returns-then-self-eq3-clause-steps : goal.returns-then-self-eq3-clause-steps
 returns-then-self-eq3-clause-steps c =
     let b = c.args.self.now in
     let rest = c.in_ok-digit.rest.now in
-    last_bit b.passed c.in_ok-digit.digit.now rest b.digits.now c.if-self-eq3.true c.in_ok-digit.ensures.cases.0 ∙ ap (λ x. x ∷ flat_map digit_bits rest) (sym c.digit_bit-bit.ensures)
+    last_bit b.passed c.in_ok-digit.digit.now rest b.digits.now c.if-self-eq3.true c.in_ok-digit.ensures.cases.0
+    ∙ ap (λ x. x ∷ flat_map digit_bits rest) (sym c.digit_bit-bit.ensures)
 
 pub returns-then-self-eq3-clause-goes : goal.returns-then-self-eq3-clause-goes
 returns-then-self-eq3-clause-goes c =
     let b = c.args.self.now in
-    let e = last_bit b.passed c.in_ok-digit.digit.now c.in_ok-digit.rest.now b.digits.now c.if-self-eq3.true c.in_ok-digit.ensures.cases.0 in
+    let e = last_bit b.passed c.in_ok-digit.digit.now c.in_ok-digit.rest.now b.digits.now c.if-self-eq3.true
+    c.in_ok-digit.ensures.cases.0 in
     search rules
 
 pub returns-else-self-eq3-clause-steps : goal.returns-else-self-eq3-clause-steps
 returns-else-self-eq3-clause-steps c =
     let b = c.args.self.now in
-    other_bit b.passed c.in_ok-digit.digit.now c.in_ok-digit.rest.now b.digits.now b.within c.if-self-eq3.false c.in_ok-digit.ensures.cases.0 ∙ ap (λ x. x ∷ drop (b.passed + 1) (flat_map digit_bits b.digits.now)) (sym c.digit_bit-bit.ensures)
+    other_bit b.passed c.in_ok-digit.digit.now c.in_ok-digit.rest.now b.digits.now b.within c.if-self-eq3.false
+    c.in_ok-digit.ensures.cases.0 ∙ ap (λ x. x ∷ drop (b.passed + 1) (flat_map digit_bits b.digits.now))
+    (sym c.digit_bit-bit.ensures)
 
 pub returns-else-self-eq3-clause-goes : goal.returns-else-self-eq3-clause-goes
 returns-else-self-eq3-clause-goes c =
     let b = c.args.self.now in
-    let e = other_bit b.passed c.in_ok-digit.digit.now c.in_ok-digit.rest.now b.digits.now b.within c.if-self-eq3.false c.in_ok-digit.ensures.cases.0 in
+    let e = other_bit b.passed c.in_ok-digit.digit.now c.in_ok-digit.rest.now b.digits.now b.within c.if-self-eq3.false
+    c.in_ok-digit.ensures.cases.0 in
     search rules

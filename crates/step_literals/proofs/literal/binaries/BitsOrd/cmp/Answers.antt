@@ -10,4 +10,5 @@ pub returns : goal.returns
 returns c =
     let mine = YieldsList-from_first (λ x. x) bits_left (bits_value c.args.self.now) c.bits.ensures in
     cmp_from_yields_List (λ x y. y ≡ x) c.bits-2.result bool_cmp c.cmp.result c.cmp.ensures.ran mine
-    (λ it e. YieldsList-from_first (λ x. x) bits_left (bits_value c.args.other.now) (ap bits_left e ∙ c.bits-2.ensures)) (λ x y. refl)
+    (λ it e. YieldsList-from_first (λ x. x) bits_left (bits_value c.args.other.now) (ap bits_left e ∙ c.bits-2.ensures))
+    (λ x y. refl)

@@ -6,4 +6,5 @@ pub returns : goal.returns
 returns c =
     let bs = clean c.args.bytes.now in
     let done = c.in_ok-after.ensures in
-    shows_single done c.new.ensures.bytes c.new.ensures.left (code_says bs done.piece c.number_at-code.result.0 c.args.page done.stands c.number_at-code.ensures.value)
+    shows_single done c.new.ensures.bytes c.new.ensures.left (code_says bs done.piece c.number_at-code.result.0
+    c.args.page done.stands c.number_at-code.ensures.value)

@@ -6,7 +6,8 @@ use Rattle.step_literals.specs.Rests.{items_left}
 use Rattle.step_literals.proofs.literal.texts.TextOrd.cmp.Given as goal
 
 abbrev pub invariant-loop-item : goal.invariant-loop-item
-invariant-loop-item l = slice_cmp nat_cmp (items_key (items_left l.mine)) (items_key (items_left l.theirs)) ≡ slice_cmp nat_cmp (text_key l.self) (text_key l.other)
+invariant-loop-item l = slice_cmp nat_cmp (items_key (items_left l.mine)) (items_key (items_left l.theirs)) ≡ slice_cmp
+    nat_cmp (text_key l.self) (text_key l.other)
 
 abbrev pub decreases-loop-item : goal.decreases-loop-item
 decreases-loop-item l = length (items_left l.mine)

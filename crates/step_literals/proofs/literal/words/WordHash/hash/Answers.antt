@@ -9,4 +9,5 @@ pub returns : goal.returns
 returns g c =
     let text = c.args.self.now.text.now in
     let whole = rw (take_all c.loop-byte.byte-index text c.loop-byte-test.false) at c.loop-byte.invariant in
-    fed_then g.H.Hasher.write c.args.state.now c.loop-byte.state c.write_u8-2.new.self (flat_map fed.u8 (upper text)) (fed.u8 255) whole c.write_u8-2.ensures
+    fed_then g.H.Hasher.write c.args.state.now c.loop-byte.state c.write_u8-2.new.self (flat_map fed.u8 (upper text))
+    (fed.u8 255) whole c.write_u8-2.ensures

@@ -5,4 +5,5 @@ use Rattle.step_literals.specs.Words.{upper}
 use Rattle.step_literals.proofs.literal.words.WordHash.hash.Given as goal
 
 abbrev pub invariant-loop-byte : goal.invariant-loop-byte
-invariant-loop-byte g l = l.state ≡ fold g.H.Hasher.write l.initial.state (flat_map fed.u8 (upper (take l.byte-index l.byte-items)))
+invariant-loop-byte g l = l.state ≡ fold g.H.Hasher.write l.initial.state
+    (flat_map fed.u8 (upper (take l.byte-index l.byte-items)))

@@ -11,4 +11,5 @@ returns c =
     let t = c.args.other.now in
     let case = same_without_case s.text.now t.text.now in
     let test = c.eq_ignore_ascii_case.ensures.test in
-    same_from_decides c.eq_ignore_ascii_case.result (pointwise nat_eq (word_value s) (word_value t)) (λ e. case.0 (test.0 e), λ e. test.1 (case.1 e)) (bytes_decides (word_value s) (word_value t))
+    same_from_decides c.eq_ignore_ascii_case.result (pointwise nat_eq (word_value s) (word_value t))
+    (λ e. case.0 (test.0 e), λ e. test.1 (case.1 e)) (bytes_decides (word_value s) (word_value t))

@@ -1,0 +1,168 @@
+use Rattle.std.proofs.lemmas.Result.{err_from_is_err_and}
+use Rattle.std.proofs.Common.{rules, ◌<◌, ◌+◌, [], ◌∷◌, ◌++◌, sym, ap, ◌∙◌}
+use Rattle.express_trees.specs.declared.keyword.Keyword.TheVariants as keywords
+use Rattle.express_trees.specs.Words.{keyword}
+use Rattle.express_trees.specs.Grammar.{depth_limit}
+use Rattle.express_runs.specs.Items.{located_of}
+use Rattle.express_schemas.specs.Texts.{token}
+use Rattle.express_schemas.specs.Views.{data_type_of, bounds_of, if_some}
+use Rattle.express_schemas.specs.Written.{said, words_of_some_bounds}
+use Rattle.express_parts.specs.Endings.{ending_of}
+use Rattle.express_schemas.specs.Predict.{BoundsOrOf, UniqueOr, DataTypeThen}
+use Rattle.express_parts.proofs.DataTypeSteps.{data_type_behind_or, data_type_stopped, last_aggregate, array_symbols, next_array, next_list, next_bag, next_set, bag_done, set_done, array_bounds, array_stopped, array_done, bounded_stopped, collection_done, list_done, begins_or, unique_said, unique_unsaid_stopped, optional_stopped, optional_said, optional_unsaid_stopped, optional_unsaid}
+use Rattle.express_parts.proofs.data_types.+data_types.Goals as goal
+
+pub aggregate-returns-in_err-bounds-in-Bag : goal.aggregate-returns-in_err-bounds-in-Bag
+aggregate-returns-in_err-bounds-in-Bag t c =
+    let h : c.args.depth < depth_limit = search rules in
+    let p = err_from_is_err_and c.from_residual.result c.from_residual.ensures.1 in
+    rw (p.1, p.2) (data_type_stopped _ (keyword keywords.Bag) (BoundsOrOf c.args.depth ∷ DataTypeThen (c.args.depth + 1)
+    (ending_of c.args.end) ∷ []) c.args.depth (ending_of c.args.end) (located_of c.args.first) c.args.reader.now
+    (c.requires.first ∙ ap (λ k. token (keyword k)) c.in-Bag.is) (next_bag c.args.depth (ending_of c.args.end) h)
+    c.in_err-bounds-in-Bag.ensures)
+
+pub aggregate-returns-in_err-bounds-in_default : goal.aggregate-returns-in_err-bounds-in_default
+aggregate-returns-in_err-bounds-in_default t c =
+    let h : c.args.depth < depth_limit = search rules in
+    let p = err_from_is_err_and c.from_residual-in_err-bounds-in_default.result
+    c.from_residual-in_err-bounds-in_default.ensures.1 in
+    rw (p.1, p.2) (data_type_stopped _ (keyword keywords.Set) (BoundsOrOf c.args.depth ∷ DataTypeThen (c.args.depth + 1)
+    (ending_of c.args.end) ∷ []) c.args.depth (ending_of c.args.end) (located_of c.args.first) c.args.reader.now
+    (c.requires.first ∙ ap (λ k. token (keyword k)) (last_aggregate c.args.found c.requires.found
+    c.in_default.not-Array c.in_default.not-List c.in_default.not-Bag))
+    (next_set c.args.depth (ending_of c.args.end) h) c.in_err-bounds-in_default.ensures)
+
+pub aggregate-returns-in-Array : goal.aggregate-returns-in-Array
+aggregate-returns-in-Array t c =
+    let h : c.args.depth < depth_limit = search rules in
+    data_type_behind_or data_type_of (keyword keywords.Array) (array_symbols c.args.depth (ending_of c.args.end))
+    c.args.depth (ending_of c.args.end) (located_of c.args.first) c.array.result c.args.reader.now
+    c.array.new.reader (c.requires.first ∙ ap (λ k. token (keyword k)) c.in-Array.is)
+    (next_array c.args.depth (ending_of c.args.end) h) c.array.ensures
+
+pub aggregate-returns-in-List : goal.aggregate-returns-in-List
+aggregate-returns-in-List t c =
+    let h : c.args.depth < depth_limit = search rules in
+    data_type_behind_or data_type_of (keyword keywords.List) (BoundsOrOf c.args.depth ∷ UniqueOr (c.args.depth + 1)
+    (ending_of c.args.end) ∷ []) c.args.depth (ending_of c.args.end) (located_of c.args.first) c.list.result
+    c.args.reader.now c.list.new.reader (c.requires.first ∙ ap (λ k. token (keyword k)) c.in-List.is)
+    (next_list c.args.depth (ending_of c.args.end) h) c.list.ensures
+
+pub aggregate-returns-in_ok-bounds-in-Bag : goal.aggregate-returns-in_ok-bounds-in-Bag
+aggregate-returns-in_ok-bounds-in-Bag t c =
+    let h : c.args.depth < depth_limit = search rules in
+    let x = c.in_ok-bounds-in-Bag.ensures in
+    rw c.bag.ensures (bag_done c.args.depth (ending_of c.args.end) (if_some bounds_of c.in_ok-bounds-in-Bag.bounds)
+    (data_type_of c.in_ok-bounds-in-Bag.element.value) (located_of c.args.first) c.args.reader.now
+    c.collection.new.reader (c.requires.first ∙ ap (λ k. token (keyword k)) c.in-Bag.is) h x.0 x.1)
+
+pub aggregate-returns-in_ok-bounds-in_default : goal.aggregate-returns-in_ok-bounds-in_default
+aggregate-returns-in_ok-bounds-in_default t c =
+    let h : c.args.depth < depth_limit = search rules in
+    let x = c.in_ok-bounds-in_default.ensures in
+    rw c.set.ensures (set_done c.args.depth (ending_of c.args.end) (if_some bounds_of c.in_ok-bounds-in_default.bounds)
+    (data_type_of c.in_ok-bounds-in_default.element.value) (located_of c.args.first) c.args.reader.now
+    c.collection-in_default.new.reader (c.requires.first ∙ ap (λ k. token (keyword k))
+    (last_aggregate c.args.found c.requires.found c.in_default.not-Array c.in_default.not-List
+    c.in_default.not-Bag)) h x.0 x.1)
+
+pub array-returns-in_err-bounds : goal.array-returns-in_err-bounds
+array-returns-in_err-bounds t c =
+    let p = err_from_is_err_and c.from_residual-in_err-bounds.result c.from_residual-in_err-bounds.ensures.1 in
+    rw (p.1, p.2) (array_bounds _ c.args.depth (ending_of c.args.end) c.args.reader.now c.expect.new.self
+    c.in_ok-expect.ensures c.in_err-bounds.ensures)
+
+pub array-returns-in_err-is_optional : goal.array-returns-in_err-is_optional
+array-returns-in_err-is_optional t c =
+    let x = c.in_ok-bounds.ensures in
+    let p = err_from_is_err_and c.from_residual-in_err-is_optional.result c.from_residual-in_err-is_optional.ensures.1
+    in
+    rw (p.1, p.2) (array_stopped _ c.args.depth (ending_of c.args.end) x.1 c.args.reader.now c.expect.new.self
+    c.bounds.new.reader c.in_ok-expect.ensures x.3 c.in_err-is_optional.ensures)
+
+pub array-returns : goal.array-returns
+array-returns t c =
+    let x = c.in_ok-bounds.ensures in
+    rw c.array.ensures (array_done c.args.depth (ending_of c.args.end) (bounds_of c.in_ok-bounds.bounds)
+    c.in_ok-is_optional.is_optional c.in_ok-is_optional.is_unique (data_type_of c.in_ok-is_optional.element.value)
+    x.1 c.args.reader.now c.expect.new.self c.bounds.new.reader c.optional_element.new.reader c.requires.depth
+    c.in_ok-expect.ensures x.0 x.2 x.3 c.in_ok-is_optional.ensures)
+
+pub collection-returns-in_err-element : goal.collection-returns-in_err-element
+collection-returns-in_err-element t c =
+    let p = err_from_is_err_and c.from_residual-in_err-element.result c.from_residual-in_err-element.ensures.1 in
+    rw (p.1, p.2) (bounded_stopped _ c.args.depth (DataTypeThen (c.args.depth + 1) (ending_of c.args.end))
+    (words_of_some_bounds (if_some bounds_of c.in_ok-bounds.bounds) ++ keyword keywords.Of ∷ []) c.args.reader.now
+    c.some_bounds.new.reader c.in_ok-bounds.ensures.1 c.in_err-element.ensures)
+
+pub collection-returns : goal.collection-returns
+collection-returns t c =
+    rw c.in_ok-boxed.ensures.ok (collection_done c.args.depth (ending_of c.args.end)
+    (if_some bounds_of c.in_ok-bounds.bounds) (data_type_of c.in_ok-element.element) c.args.reader.now
+    c.some_bounds.new.reader c.data_type.new.reader c.in_ok-bounds.ensures.0 c.in_ok-bounds.ensures.1
+    c.in_ok-element.ensures)
+
+pub element-returns : goal.element-returns
+element-returns t c =
+    begins_or (λ x. data_type_of x.1.value) (λ x. said keywords.Unique x.0)
+    (UniqueOr c.args.depth (ending_of c.args.end) ∷ []) c.args.depth (ending_of c.args.end)
+    (located_of c.in_ok-first.first) c.element_from.result c.args.reader.now c.take.new.self
+    c.element_from.new.reader c.in_ok-first.ensures c.element_from.ensures
+
+pub data_type-returns : goal.data_type-returns
+data_type-returns t c =
+    begins_or data_type_of (λ _. []) (DataTypeThen c.args.depth (ending_of c.args.end) ∷ []) c.args.depth
+    (ending_of c.args.end) (located_of c.in_ok-first.first) c.data_type_from.result c.args.reader.now
+    c.take.new.self c.data_type_from.new.reader c.in_ok-first.ensures c.data_type_from.ensures
+
+pub element_from-returns-then-is_keyword : goal.element_from-returns-then-is_keyword
+element_from-returns-then-is_keyword t c =
+    rw c.in_ok-placed.ensures.ok (unique_said c.args.depth (ending_of c.args.end) (located_of c.args.first)
+    (data_type_of c.in_ok-unique.unique) c.args.reader.now c.data_type.new.reader (sym c.is_keyword.ensures
+    ∙ c.if-is_keyword.true) c.in_ok-unique.ensures)
+
+pub element_from-returns-in_err-other : goal.element_from-returns-in_err-other
+element_from-returns-in_err-other t c =
+    let p = err_from_is_err_and c.from_residual-in_err-other.result c.from_residual-in_err-other.ensures.1 in
+    rw (p.1, p.2) (unique_unsaid_stopped _ c.args.depth (ending_of c.args.end) (located_of c.args.first)
+    c.args.reader.now (sym c.is_keyword.ensures ∙ c.if-is_keyword.false) c.in_err-other.ensures)
+
+pub list-returns-in_err-is_unique : goal.list-returns-in_err-is_unique
+list-returns-in_err-is_unique t c =
+    let p = err_from_is_err_and c.from_residual-in_err-is_unique.result c.from_residual-in_err-is_unique.ensures.1 in
+    rw (p.1, p.2) (bounded_stopped _ c.args.depth (UniqueOr (c.args.depth + 1) (ending_of c.args.end))
+    (words_of_some_bounds (if_some bounds_of c.in_ok-bounds.bounds) ++ keyword keywords.Of ∷ []) c.args.reader.now
+    c.some_bounds.new.reader c.in_ok-bounds.ensures.1 c.in_err-is_unique.ensures)
+
+pub list-returns : goal.list-returns
+list-returns t c =
+    rw c.list.ensures (list_done c.args.depth (ending_of c.args.end) (if_some bounds_of c.in_ok-bounds.bounds)
+    c.in_ok-is_unique.is_unique (data_type_of c.in_ok-is_unique.element.value) c.args.reader.now
+    c.some_bounds.new.reader c.element.new.reader c.requires.depth c.in_ok-bounds.ensures.0 c.in_ok-bounds.ensures.1
+    c.in_ok-is_unique.ensures)
+
+pub optional_element-returns-in_err-is_unique : goal.optional_element-returns-in_err-is_unique
+optional_element-returns-in_err-is_unique t c =
+    let p = err_from_is_err_and c.from_residual-in_err-is_unique.result c.from_residual-in_err-is_unique.ensures.1 in
+    rw (p.1, p.2) (optional_stopped _ c.args.depth (ending_of c.args.end) (located_of c.in_ok-first.first)
+    c.args.reader.now c.take.new.self c.in_ok-first.ensures (sym c.is_keyword.ensures ∙ c.if-is_keyword.true)
+    c.in_err-is_unique.ensures)
+
+pub optional_element-returns-then-is_keyword : goal.optional_element-returns-then-is_keyword
+optional_element-returns-then-is_keyword t c =
+    optional_said c.args.depth (ending_of c.args.end) (located_of c.in_ok-first.first) c.in_ok-is_unique.is_unique
+    (data_type_of c.in_ok-is_unique.optional.value) c.args.reader.now c.take.new.self c.element.new.reader
+    c.in_ok-first.ensures (sym c.is_keyword.ensures ∙ c.if-is_keyword.true) c.in_ok-is_unique.ensures
+
+pub optional_element-returns-in_err-unique : goal.optional_element-returns-in_err-unique
+optional_element-returns-in_err-unique t c =
+    let p = err_from_is_err_and c.from_residual-in_err-unique.result c.from_residual-in_err-unique.ensures.1 in
+    rw (p.1, p.2) (optional_unsaid_stopped _ c.args.depth (ending_of c.args.end) (located_of c.in_ok-first.first)
+    c.args.reader.now c.take.new.self c.in_ok-first.ensures (sym c.is_keyword.ensures ∙ c.if-is_keyword.false)
+    c.in_err-unique.ensures)
+
+pub optional_element-returns : goal.optional_element-returns
+optional_element-returns t c =
+    optional_unsaid c.args.depth (ending_of c.args.end) (located_of c.in_ok-first.first) c.in_ok-unique.unique
+    (data_type_of c.in_ok-unique.other.value) c.args.reader.now c.take.new.self c.element_from.new.reader
+    c.in_ok-first.ensures (sym c.is_keyword.ensures ∙ c.if-is_keyword.false) c.in_ok-unique.ensures

@@ -1,0 +1,12 @@
+use Rattle.std.proofs.Common.{◌∷◌, [], subst, MatchResult}
+use Rattle.express_lexis.specs.declared.marks.Mark.{Mark}
+use Rattle.express_trees.specs.Words.{mark}
+use Rattle.express_schemas.specs.Predict.{Just}
+use Rattle.express_schemas.specs.Steps.{Passes, StopsIn}
+use Rattle.express_parts.proofs.data_types.expect_end.Goals as goal
+
+pub returns : goal.returns
+returns c =
+    let P : Mark → Type 0 = λ m. MatchResult c.expect.result (λ _. Passes (Just m ∷ []) [] [] (mark m ∷ [])
+    c.args.reader.now c.expect.new.self) (λ e. StopsIn e (Just m ∷ []) [] c.args.reader.now) in
+    subst P c.mark.ensures c.expect.ensures

@@ -1,0 +1,36 @@
+-- Kinds as they are read, and the mark behind them.
+use Rattle.std.specs.Prelude.{◌≡◌, ℕ, Bool, true, false, List, [], ◌∷◌, ◌++◌}
+use Rattle.express_lexis.specs.Reading.{Reading}
+use Rattle.express_trees.specs.declared.keyword.Keyword.{Keyword}
+use Rattle.express_trees.specs.declared.keyword.Keyword.TheVariants as keywords
+use Rattle.express_trees.specs.Words.{Word, mark}
+use Rattle.express_trees.specs.Grammar.{depth_limit}
+use Rattle.express_schemas.specs.Texts.{Lookahead, LocatedToken}
+use Rattle.express_schemas.specs.Schemas.{DataType}
+use Rattle.express_schemas.specs.Written.{words_of_data_type}
+use Rattle.express_schemas.specs.Profile.{FitsDataType}
+use Rattle.express_schemas.specs.Predict.{Symbol, Ending, ending_mark, next, next_mark_or}
+use Rattle.express_schemas.specs.Steps.{Passes}
+
+-- a data type with so many aggregate types around it, behind these words, and the mark behind it, take these symbols
+abbrev pub PassesDataType : List Symbol → List LocatedToken → List Word → ℕ → Ending → DataType → Reading → Reading
+    → Type 0
+PassesDataType ys before said n end k old new = FitsDataType depth_limit n k
+    × Passes ys [] before (said ++ (words_of_data_type k ++ mark (ending_mark end) ∷ [])) old new
+
+-- what stands behind the first word of a data type, and the mark behind it, take these symbols
+abbrev pub PassesBehind : Word → List Symbol → ℕ → Ending → DataType → Reading → Reading → Type 0
+PassesBehind w ys n end k old new = FitsDataType depth_limit n k × (ws : List Word)
+    × (words_of_data_type k ++ mark (ending_mark end) ∷ [] ≡ w ∷ ws) × Passes ys [] [] ws old new
+
+-- this symbol takes a width and leaves these to come, or takes the mark behind the data type
+abbrev pub TakesWidth : Symbol → List Symbol → ℕ → Ending → Type 0
+TakesWidth y us n end = (s : Lookahead) → next depth_limit y s ≡ next_mark_or depth_limit n end us s
+
+-- the word begins an aggregate type
+abbrev pub is_aggregate : Keyword → Bool
+is_aggregate keywords.Array = true
+is_aggregate keywords.List = true
+is_aggregate keywords.Bag = true
+is_aggregate keywords.Set = true
+is_aggregate _ = false

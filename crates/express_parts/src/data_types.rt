@@ -1,0 +1,436 @@
+//! The data types of values (ISO 10303-11, 8.1 and 8.2).
+
+ghost use Rattle.std.specs.Prelude.{
+  ◌≡◌,
+  [],
+  ◌∷◌,
+  ◌++◌,
+  ◌≤◌,
+  ◌<◌,
+  ◌+◌,
+  List,
+  true,
+  false,
+  MatchResult,
+  MatchOption,
+};
+ghost use Rattle.express_lexis.specs.declared.marks.Mark.TheVariants as marks;
+ghost use Rattle.express_trees.specs.declared.keyword.Keyword.TheVariants as keywords;
+ghost use Rattle.express_trees.specs.Words.{mark, keyword};
+ghost use Rattle.express_trees.specs.Grammar.{depth_limit};
+ghost use Rattle.express_runs.specs.Items.{located_of};
+ghost use Rattle.express_schemas.specs.Texts.{token};
+ghost use Rattle.express_schemas.specs.Views.{data_type_of, width_of, fixed_of, bounds_of, if_some};
+ghost use Rattle.express_schemas.specs.Written.{
+  said,
+  words_of_data_type,
+  words_of_width,
+  words_of_fixed,
+  words_of_some_bounds,
+};
+ghost use Rattle.express_schemas.specs.Profile.{FitsDataType, FitsWidth, FitsBounds, Maybe};
+ghost use Rattle.express_schemas.specs.Predict;
+ghost use Rattle.express_schemas.specs.Predict.{
+  Symbol,
+  Just,
+  DataTypeThen,
+  WidthOr,
+  FixedWidthOr,
+  FixedOr,
+  BoundsOrOf,
+  UniqueOr,
+  OptionalOr,
+  bounds_symbols,
+  ending_mark,
+};
+ghost use Rattle.express_parts.specs.DataTypeParts;
+ghost use Rattle.express_parts.specs.DataTypeParts.{PassesDataType, PassesBehind, TakesWidth};
+ghost use Rattle.express_parts.specs.Endings.{ending_of};
+ghost use Rattle.express_schemas.specs.Steps.{Passes, Parses, ParsesWhere, ParsesFrom, StopsIn};
+
+use crate::bounds::{bounds, some_bounds, width};
+use crate::build;
+use express_lexis::marks::Mark;
+use express_runs::reader::Reader;
+use express_runs::tokens::{Item, fault_at, is_keyword, is_mark, refuse};
+use express_schemas::fault::{self, SchemaFault};
+use express_schemas::tree::{Bounds, DataType, FixedWidth, Width};
+use express_trees::keyword::Keyword;
+use express_trees::lexeme::Lexeme;
+use express_trees::tree::LEVELS;
+
+/// The mark that stands behind a data type.
+#[derive(Clone, Copy, Debug, PartialEq, Eq)]
+pub enum Ending {
+    Semicolon,
+    /// The `:=` of a derived attribute.
+    Assignment,
+}
+
+impl Ending {
+    fn mark(self) -> Mark
+        ensures { result ≡ ending_mark (ending_of self) }
+    {
+        match self {
+            Ending::Semicolon => Mark::Semicolon,
+            Ending::Assignment => Mark::Assign,
+        }
+    }
+}
+
+/// Whether an aggregate type begins with this word.
+fn is_aggregate(found: Keyword) -> bool
+    ensures { result ≡ DataTypeParts.is_aggregate found }
+{
+    match found {
+        Keyword::Array => true,
+        Keyword::List => true,
+        Keyword::Bag => true,
+        Keyword::Set => true,
+        _ => false,
+    }
+}
+
+/// Whether a token is the mark behind a data type.
+fn is_end(item: Item<'_>, end: Ending) -> bool
+    ensures { result ≡ Predict.is_mark (ending_mark (ending_of end))
+        (located_of item.entry).lookahead }
+{
+    is_mark(item, end.mark())
+}
+
+/// Reads the mark behind a data type.
+fn expect_end(reader: &mut Reader<'_>, end: Ending) -> Result<(), SchemaFault>
+    ensures { Parses result (Just (ending_mark (ending_of end)) ∷ [])
+        (λ _. mark (ending_mark (ending_of end)) ∷ []) reader.old reader.new }
+{
+    reader.expect(end.mark())
+}
+
+/// A data type, where the mark behind it stands.
+fn ended<'a>(
+    reader: &mut Reader<'_>,
+    data_type: DataType<'a>,
+    end: Ending,
+) -> Result<DataType<'a>, SchemaFault>
+    ensures { ParsesWhere result (Just (ending_mark (ending_of end)) ∷ [])
+        (λ k. mark (ending_mark (ending_of end)) ∷ [])
+        (λ k. (k ≡ data_type.entry)) reader.old reader.new }
+{
+    expect_end(reader, end)?;
+    Ok(data_type)
+}
+
+/// Reads the mark behind a data type, or a width.
+fn width_or_end<'a>(
+    reader: &mut Reader<'a>,
+    depth: u32,
+    end: Ending,
+) -> Result<Option<Width<'a>>, SchemaFault>
+    requires depth { depth ≤ 64 }
+    ensures { MatchResult result
+        (λ o. (y : Symbol) (us : List Symbol) → TakesWidth y us depth (ending_of end)
+        → MatchOption o (Passes (y ∷ []) [] [] (mark (ending_mark (ending_of end)) ∷ []) reader.old
+        reader.new) (λ w. FitsWidth depth_limit depth (width_of w)
+        × Passes (y ∷ []) us [] (words_of_width (width_of w)) reader.old reader.new))
+        (λ e. (y : Symbol) (us : List Symbol) → TakesWidth y us depth (ending_of end)
+        → StopsIn e (y ∷ []) [] reader.old) }
+{
+    let first = reader.take()?;
+    if is_mark(first, Mark::Open) {
+        if depth >= LEVELS {
+            return Err(fault_at(fault::FaultKind::TooDeep, first));
+        }
+        let width = width(reader, depth)?;
+        return Ok(Some(width));
+    }
+    if !is_end(first, end) {
+        return Err(refuse(first));
+    }
+    Ok(None)
+}
+
+/// Reads FIXED, if it stands behind a width, and the mark behind the data type.
+fn fixed(reader: &mut Reader<'_>, end: Ending) -> Result<bool, SchemaFault>
+    ensures { Parses result (FixedOr (ending_of end) ∷ [])
+        (λ f. said keywords.Fixed f
+        ++ mark (ending_mark (ending_of end)) ∷ []) reader.old reader.new }
+{
+    let first = reader.take()?;
+    if is_keyword(first, Keyword::Fixed) {
+        expect_end(reader, end)?;
+        return Ok(true);
+    }
+    if !is_end(first, end) {
+        return Err(refuse(first));
+    }
+    Ok(false)
+}
+
+/// Reads what stands behind REAL.
+fn real<'a>(reader: &mut Reader<'a>, depth: u32, end: Ending) -> Result<DataType<'a>, SchemaFault>
+    requires depth { depth ≤ 64 }
+    ensures { MatchResult result
+        (λ k. PassesBehind (keyword keywords.Real) (WidthOr depth (ending_of end) ∷ []) depth
+        (ending_of end) (data_type_of k) reader.old reader.new)
+        (λ e. StopsIn e (WidthOr depth (ending_of end) ∷ []) [] reader.old) }
+{
+    let Some(width) = width_or_end(reader, depth, end)? else {
+        return Ok(build::real(None));
+    };
+    expect_end(reader, end)?;
+    Ok(build::real(Some(width)))
+}
+
+/// Reads what stands behind STRING or BINARY.
+fn fixed_width<'a>(
+    reader: &mut Reader<'a>,
+    depth: u32,
+    end: Ending,
+) -> Result<Option<FixedWidth<'a>>, SchemaFault>
+    requires depth { depth ≤ 64 }
+    ensures { ParsesWhere result (FixedWidthOr depth (ending_of end) ∷ [])
+        (λ f. words_of_fixed (if_some fixed_of f) ++ mark (ending_mark (ending_of end)) ∷ [])
+        (λ f. Maybe (λ p. FitsWidth depth_limit depth p.0) (if_some fixed_of f)) reader.old
+        reader.new }
+{
+    let Some(width) = width_or_end(reader, depth, end)? else {
+        return Ok(None);
+    };
+    let is_fixed = fixed(reader, end)?;
+    Ok(Some(FixedWidth { width, is_fixed }))
+}
+
+/// Reads a data type of which the first token is taken, a word that begins no aggregate type.
+fn simple<'a>(
+    reader: &mut Reader<'a>,
+    first: Item<'a>,
+    found: Keyword,
+    depth: u32,
+    end: Ending,
+) -> Result<DataType<'a>, SchemaFault>
+    requires depth { depth ≤ 64 }
+    requires first { (located_of first).lookahead ≡ token (keyword found) }
+    requires found { DataTypeParts.is_aggregate found ≡ false }
+    ensures { MatchResult result
+        (λ k. PassesDataType (DataTypeThen depth (ending_of end) ∷ []) (located_of first.entry ∷ [])
+        [] depth (ending_of end) (data_type_of k) reader.old reader.new)
+        (λ e. StopsIn e (DataTypeThen depth (ending_of end) ∷ []) (located_of first.entry ∷ [])
+        reader.old) }
+{
+    match found {
+        Keyword::Integer => ended(reader, DataType::Integer, end),
+        Keyword::Number => ended(reader, DataType::Number, end),
+        Keyword::Boolean => ended(reader, DataType::Boolean, end),
+        Keyword::Logical => ended(reader, DataType::Logical, end),
+        Keyword::Real => real(reader, depth, end),
+        Keyword::String => {
+            let width = fixed_width(reader, depth, end)?;
+            Ok(DataType::String(width))
+        }
+        Keyword::Binary => {
+            let width = fixed_width(reader, depth, end)?;
+            Ok(DataType::Binary(width))
+        }
+        _ => Err(refuse(first)),
+    }
+}
+
+/// Reads the data type of an aggregate's elements, of which the first token is taken, perhaps behind UNIQUE.
+#[cycle(data_types)]
+fn element_from<'a>(
+    reader: &mut Reader<'a>,
+    first: Item<'a>,
+    depth: u32,
+    end: Ending,
+) -> Result<(bool, Box<DataType<'a>>), SchemaFault>
+    requires depth { depth ≤ 64 }
+    ensures { MatchResult result
+        (λ x. PassesDataType (UniqueOr depth (ending_of end) ∷ []) (located_of first.entry ∷ [])
+        (said keywords.Unique x.0) depth (ending_of end) (data_type_of x.1.value) reader.old
+        reader.new)
+        (λ e. StopsIn e (UniqueOr depth (ending_of end) ∷ []) (located_of first.entry ∷ [])
+        reader.old) }
+{
+    if is_keyword(first, Keyword::Unique) {
+        let unique = data_type(reader, depth, end)?;
+        let placed = Box::new(reader.alloc(), unique)?;
+        return Ok((true, placed));
+    }
+    let other = data_type_from(reader, first, depth, end)?;
+    let boxed = Box::new(reader.alloc(), other)?;
+    Ok((false, boxed))
+}
+
+/// Reads the data type of an aggregate's elements, perhaps behind UNIQUE.
+#[cycle(data_types)]
+fn element<'a>(
+    reader: &mut Reader<'a>,
+    depth: u32,
+    end: Ending,
+) -> Result<(bool, Box<DataType<'a>>), SchemaFault>
+    requires depth { depth ≤ 64 }
+    ensures { MatchResult result
+        (λ x. PassesDataType (UniqueOr depth (ending_of end) ∷ []) [] (said keywords.Unique x.0)
+        depth (ending_of end) (data_type_of x.1.value) reader.old reader.new)
+        (λ e. StopsIn e (UniqueOr depth (ending_of end) ∷ []) [] reader.old) }
+{
+    let first = reader.take()?;
+    element_from(reader, first, depth, end)
+}
+
+/// Reads the data type of an array's elements, perhaps behind UNIQUE, and whether OPTIONAL stands before it.
+#[cycle(data_types)]
+fn optional_element<'a>(
+    reader: &mut Reader<'a>,
+    depth: u32,
+    end: Ending,
+) -> Result<(bool, bool, Box<DataType<'a>>), SchemaFault>
+    requires depth { depth ≤ 64 }
+    ensures { MatchResult result
+        (λ x. PassesDataType (OptionalOr depth (ending_of end) ∷ []) [] (said keywords.Optional x.0
+        ++ said keywords.Unique x.1) depth (ending_of end) (data_type_of x.2.value) reader.old
+        reader.new)
+        (λ e. StopsIn e (OptionalOr depth (ending_of end) ∷ []) [] reader.old) }
+{
+    let first = reader.take()?;
+    if is_keyword(first, Keyword::Optional) {
+        let (is_unique, optional) = element(reader, depth, end)?;
+        return Ok((true, is_unique, optional));
+    }
+    let (unique, other) = element_from(reader, first, depth, end)?;
+    Ok((false, unique, other))
+}
+
+/// Reads an array behind ARRAY.
+#[cycle(data_types)]
+fn array<'a>(reader: &mut Reader<'a>, depth: u32, end: Ending) -> Result<DataType<'a>, SchemaFault>
+    requires depth { depth < 64 }
+    ensures { MatchResult result
+        (λ k. PassesBehind (keyword keywords.Array) (Just marks.OpenBracket ∷ (bounds_symbols depth
+        ++ OptionalOr (depth + 1) (ending_of end) ∷ [])) depth (ending_of end) (data_type_of k)
+        reader.old reader.new)
+        (λ e. StopsIn e (Just marks.OpenBracket ∷ (bounds_symbols depth
+        ++ OptionalOr (depth + 1) (ending_of end) ∷ [])) [] reader.old) }
+{
+    reader.expect(Mark::OpenBracket)?;
+    let bounds = bounds(reader, depth)?;
+    let (is_optional, is_unique, element) = optional_element(reader, depth + 1, end)?;
+    Ok(build::array(bounds, is_optional, is_unique, element))
+}
+
+/// Reads a list behind LIST.
+#[cycle(data_types)]
+fn list<'a>(reader: &mut Reader<'a>, depth: u32, end: Ending) -> Result<DataType<'a>, SchemaFault>
+    requires depth { depth < 64 }
+    ensures { MatchResult result
+        (λ k. PassesBehind (keyword keywords.List)
+        (BoundsOrOf depth ∷ UniqueOr (depth + 1) (ending_of end) ∷ []) depth (ending_of end)
+        (data_type_of k) reader.old reader.new)
+        (λ e. StopsIn e (BoundsOrOf depth ∷ UniqueOr (depth + 1) (ending_of end) ∷ []) []
+        reader.old) }
+{
+    let bounds = some_bounds(reader, depth)?;
+    let (is_unique, element) = element(reader, depth + 1, end)?;
+    Ok(build::list(bounds, is_unique, element))
+}
+
+/// Reads what stands behind BAG or SET.
+#[cycle(data_types)]
+fn collection<'a>(
+    reader: &mut Reader<'a>,
+    depth: u32,
+    end: Ending,
+) -> Result<(Option<Bounds<'a>>, Box<DataType<'a>>), SchemaFault>
+    requires depth { depth < 64 }
+    ensures { MatchResult result
+        (λ x. Maybe (FitsBounds depth_limit depth) (if_some bounds_of x.0)
+        × PassesDataType (BoundsOrOf depth ∷ DataTypeThen (depth + 1) (ending_of end) ∷ []) []
+        (words_of_some_bounds (if_some bounds_of x.0)
+        ++ keyword keywords.Of ∷ []) (depth + 1) (ending_of end) (data_type_of x.1.value) reader.old
+        reader.new)
+        (λ e. StopsIn e (BoundsOrOf depth ∷ DataTypeThen (depth + 1) (ending_of end) ∷ []) []
+        reader.old) }
+{
+    let bounds = some_bounds(reader, depth)?;
+    let element = data_type(reader, depth + 1, end)?;
+    let boxed = Box::new(reader.alloc(), element)?;
+    Ok((bounds, boxed))
+}
+
+/// Reads an aggregate type of which the first token is taken.
+#[cycle(data_types)]
+fn aggregate<'a>(
+    reader: &mut Reader<'a>,
+    first: Item<'a>,
+    found: Keyword,
+    depth: u32,
+    end: Ending,
+) -> Result<DataType<'a>, SchemaFault>
+    requires depth { depth ≤ 64 }
+    requires first { (located_of first).lookahead ≡ token (keyword found) }
+    requires found { DataTypeParts.is_aggregate found ≡ true }
+    ensures { MatchResult result
+        (λ k. PassesDataType (DataTypeThen depth (ending_of end) ∷ []) (located_of first.entry ∷ [])
+        [] depth (ending_of end) (data_type_of k) reader.old reader.new)
+        (λ e. StopsIn e (DataTypeThen depth (ending_of end) ∷ []) (located_of first.entry ∷ [])
+        reader.old) }
+{
+    if depth >= LEVELS {
+        return Err(fault_at(fault::FaultKind::TooDeep, first));
+    }
+    match found {
+        Keyword::Array => array(reader, depth, end),
+        Keyword::List => list(reader, depth, end),
+        Keyword::Bag => {
+            let (bounds, element) = collection(reader, depth, end)?;
+            Ok(build::bag(bounds, element))
+        }
+        _ => {
+            let (bounds, element) = collection(reader, depth, end)?;
+            Ok(build::set(bounds, element))
+        }
+    }
+}
+
+/// Reads a data type of which the first token is taken, and the mark behind it, with so many aggregate types
+/// around it.
+#[cycle(data_types)]
+pub fn data_type_from<'a>(
+    reader: &mut Reader<'a>,
+    first: Item<'a>,
+    depth: u32,
+    end: Ending,
+) -> Result<DataType<'a>, SchemaFault>
+    requires depth { depth ≤ 64 }
+    ensures { ParsesFrom (located_of first.entry) result (DataTypeThen depth (ending_of end) ∷ [])
+        (λ k. words_of_data_type (data_type_of k) ++ mark (ending_mark (ending_of end)) ∷ [])
+        (λ k. FitsDataType depth_limit depth (data_type_of k)) reader.old reader.new }
+{
+    match first.lexeme {
+        Lexeme::Name(word) => ended(reader, DataType::Named(word), end),
+        Lexeme::Keyword(found) => {
+            if is_aggregate(found) {
+                return aggregate(reader, first, found, depth, end);
+            }
+            simple(reader, first, found, depth, end)
+        }
+        _ => Err(refuse(first)),
+    }
+}
+
+/// Reads a data type, and the mark behind it, with so many aggregate types around it.
+#[cycle(data_types)]
+pub fn data_type<'a>(
+    reader: &mut Reader<'a>,
+    depth: u32,
+    end: Ending,
+) -> Result<DataType<'a>, SchemaFault>
+    requires depth { depth ≤ 64 }
+    ensures { ParsesWhere result (DataTypeThen depth (ending_of end) ∷ [])
+        (λ k. words_of_data_type (data_type_of k) ++ mark (ending_mark (ending_of end)) ∷ [])
+        (λ k. FitsDataType depth_limit depth (data_type_of k)) reader.old reader.new }
+{
+    let first = reader.take()?;
+    data_type_from(reader, first, depth, end)
+}

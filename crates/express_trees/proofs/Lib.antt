@@ -1,0 +1,12 @@
+pub mod Capitals
+pub mod KeywordLemmas
+pub mod Parser
+pub mod Parsed
+pub mod Standing
+pub mod Stopping
+pub mod Unique
+pub mod Nothing
+pub mod Building
+pub mod Inversion
+pub mod Ranks
+pub mod Examples

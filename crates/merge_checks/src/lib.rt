@@ -1,0 +1,9 @@
+//! Tests of `step_equal`: populations, images and tables of classes, by its public items alone.
+#![tactic(auto)]
+
+#[cfg(test)]
+mod images;
+#[cfg(test)]
+mod populations;
+#[cfg(test)]
+mod tables;

@@ -1,0 +1,9 @@
+//! Tests of the crates that read EXPRESS schemas.
+#![tactic(auto)]
+
+#[cfg(test)]
+mod expressions;
+#[cfg(test)]
+mod schemas;
+#[cfg(test)]
+mod tokens;

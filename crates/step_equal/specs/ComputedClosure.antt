@@ -1,0 +1,22 @@
+-- What the code computes; no promise stands here. Whether the references of rows pass a test.
+use Rattle.std.specs.Prelude.{ℕ, ◌&&◌, Bool, true, List}
+use Rattle.std.specs.List.{list_all}
+use Rattle.step_equal.specs.Values.{Value, leaf, reference, typed, sequence, bag, Values, none, more}
+use Rattle.step_equal.specs.Rows.{Row}
+
+-- whether each reference at any depth passes
+abbrev mutual
+  pub references_pass : (ℕ → Bool) → Value → Bool
+  references_pass p (leaf a) = true
+  references_pass p (reference y) = p y
+  references_pass p (typed n v) = references_pass p v
+  references_pass p (sequence vs) = all_references_pass p vs
+  references_pass p (bag vs) = all_references_pass p vs
+
+  pub all_references_pass : (ℕ → Bool) → Values → Bool
+  all_references_pass p none = true
+  all_references_pass p (more v vs) = references_pass p v && all_references_pass p vs
+
+-- whether each reference of each row does
+abbrev pub rows_pass : (ℕ → Bool) → List Row → Bool
+rows_pass p rows = list_all (λ r. all_references_pass p r.values) rows

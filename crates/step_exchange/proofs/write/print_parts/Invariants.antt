@@ -1,8 +1,0 @@
-use Rattle.std.proofs.Common.{take, map}
-use Rattle.step_exchange.specs.Prints.{Prints}
-use Rattle.step_exchange.specs.Views.{part_of}
-use Rattle.step_exchange.specs.Normal.{plain_parts}
-use Rattle.step_exchange.proofs.write.print_parts.Given as goal
-
-abbrev pub invariant-loop-part : goal.invariant-loop-part
-invariant-loop-part g l = Prints g.S.Sink.held g.S.Sink.has_failed l.fn.out l.out l.fn.printer l.printer (plain_parts (map part_of (take l.part-index l.parts)))

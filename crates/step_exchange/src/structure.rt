@@ -1,0 +1,19 @@
+//! An exchange structure (ISO 10303-21, 5 to 11).
+
+ghost use Rattle.step_exchange.specs.Texts.{IsRead};
+ghost use Rattle.step_exchange.specs.Views.{file_of};
+
+use crate::tree::{Form, Record};
+use indexmap::IndexMap;
+
+/// An exchange structure that some text reads as. The fields are for reading.
+#[derive(Drop)]
+pub struct Exchange<'a> {
+    /// The bytes from the first token through the semicolon behind the header's ENDSEC.
+    pub header_bytes: &'a [u8],
+    /// The records of the header.
+    pub header: Vec<Record<'a>>,
+    /// The instances by their names, in the order of the file.
+    pub records: IndexMap<u64, Form<'a>>,
+    pub ghost read: { ∥ IsRead header_bytes.now (file_of header.items records.entries) ∥₁ },
+}

@@ -1,0 +1,64 @@
+-- Lemmas for the laws of the traits; no promise stands here.
+-- Numbers worth the same feed a hasher the same.
+use Rattle.std.proofs.Common.{◌≡◌, ℕ, ◌%◌, ◌^◌, ◌<◌, Bool, true, false, cond, List, [], ◌∷◌, ◌++◌, refl, sym, ap, ◌∙◌, arith, IsTrue, inl, inr}
+use Rattle.std.specs.Prelude.{◌⊎◌, ◌&&◌}
+use Rattle.std.specs.Hash as fed
+use Rattle.std.specs.Ordering.{on, int_eq}
+use Rattle.std.specs.Cmp.{signed_Decides}
+use Rattle.std.proofs.lemmas.Bool.{cases_order}
+use Rattle.step_literals.specs.declared.literal.Decimal.{Decimal}
+use Rattle.step_literals.specs.Decimals.{is_negative, units}
+use Rattle.step_literals.specs.DigitStrings.{is_significant, has_digit, magnitude, top, core_value, significant_digits, shift_of, is_below_zero}
+use Rattle.step_literals.specs.DecimalKeys.{units_of, key, key_writes}
+use Rattle.step_literals.specs.MagnitudeLemmas.{magnitude_none, less_by_top}
+use Rattle.step_literals.specs.NormalFormLemmas.{signed_same, units_by_digits, digits_significant, normal_unique, magnitude_end, end_last, end_some, magnitude_some}
+
+and_false : (b : Bool) → (b && false) ≡ false
+and_false true = refl
+and_false false = refl
+
+module _ (xs ys : List ℕ) (a b : ℕ) (hx : is_significant xs ≡ true) (hy : is_significant ys ≡ true)
+    (e : magnitude xs a ≡ magnitude ys b) where
+  same_top_of : (top xs a ≡ top ys b) ⊎ ((top xs a < top ys b) ⊎ (top ys b < top xs a)) → top xs a ≡ top ys b
+  same_top_of (inl h) = h
+  same_top_of (inr (inl h)) = absurd (omega (arith, e, less_by_top xs ys a b hx hy h))
+  same_top_of (inr (inr h)) = absurd (omega (arith, e, less_by_top ys xs b a hy hx h))
+
+  same_top : top xs a ≡ top ys b
+  same_top = same_top_of (cases_order (top xs a) (top ys b))
+
+  core_of_some : 0 < magnitude xs a → core_value xs ≡ core_value ys
+  core_of_some h =
+      let n = normal_unique _ _ _ _ (end_last xs a hx (end_some xs a hx h))
+      (end_last ys b hy (end_some ys b hy (omega (arith, e, h)))) (sym (magnitude_end xs a hx) ∙ e
+      ∙ magnitude_end ys b hy) in
+      ap (λ v. v % 2 ^ 64) n.0
+
+same_core : (xs ys : List ℕ) (a b : ℕ) → is_significant xs ≡ true → is_significant ys ≡ true
+    → magnitude xs a ≡ magnitude ys b → core_value xs ≡ core_value ys
+same_core [] [] a b hx hy e = refl
+same_core [] (y ∷ ys) a b hx hy e = absurd (omega (arith, e, magnitude_none a, magnitude_some y ys b hy))
+same_core (x ∷ xs) ys a b hx hy e = core_of_some (x ∷ xs) ys a b hx hy e (magnitude_some x xs a hx)
+
+same_sign : (xs ys : List ℕ) (a b : ℕ) (p q : Bool) → is_significant xs ≡ true → is_significant ys ≡ true
+    → magnitude xs a ≡ magnitude ys b
+    → (0 < magnitude xs a → (p && has_digit xs) ≡ (q && has_digit ys)) → (p && has_digit xs) ≡ (q && has_digit ys)
+same_sign [] [] a b p q hx hy e h = and_false p ∙ sym (and_false q)
+same_sign [] (y ∷ ys) a b p q hx hy e h = absurd (omega (arith, e, magnitude_none a, magnitude_some y ys b hy))
+same_sign (x ∷ xs) ys a b p q hx hy e h = h (magnitude_some x xs a hx)
+
+key_same : (s t : List ℕ) → units s ≡ units t → key s ≡ key t
+key_same s t e =
+    let xs = significant_digits s in let ys = significant_digits t in
+    let a = shift_of s in let b = shift_of t in
+    let hx = digits_significant s in let hy = digits_significant t in
+    let u = signed_same (is_below_zero s) (is_below_zero t) (magnitude xs a) (magnitude ys b) (sym (units_by_digits s)
+    ∙ e ∙ units_by_digits t) in
+    let sign = same_sign xs ys a b (is_negative s) (is_negative t) hx hy u.0 u.1 in
+    let core = same_core xs ys a b hx hy u.0 in
+    let tops = same_top xs ys a b hx hy u.0 in
+    (λ i. (cond (sign i) 1 0, core i, tops i))
+
+pub key_respects_eq : (x y : Decimal) → IsTrue (on units_of int_eq x y) → key_writes x ≡ key_writes y
+key_respects_eq x y h = ap (λ (k : ℕ × ℕ × ℕ). fed.u8 k.0 ++ (fed.u64 k.1 ++ fed.u64 k.2))
+    (key_same x.text.now y.text.now ((signed_Decides (units x.text.now) (units y.text.now)).0 h))
