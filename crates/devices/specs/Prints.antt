@@ -33,9 +33,9 @@ Whole old new p q text = Sends old new p.waiting p.written q.written text q.wait
 abbrev pub Cut : Option (List ℕ) → Option (List ℕ) → Printing → Printing → List ℕ → Type 0
 Cut old new p q text = (left : List ℕ) × Sends old new p.waiting p.written q.written text left
 
--- The text is printed, to a sink that holds bytes and may fail: nothing happens once stopped, else all of it goes
--- out or waits, or
--- a front goes out and the printer stops. A printer that stops when the sink fails goes on to.
+-- The text is printed, to a sink that holds bytes and may fail: nothing happens once the printer has stopped; else
+-- all of the text goes out or waits, or a front of it goes out and the printer stops. A printer that had stopped
+-- exactly where the sink had failed still has.
 pub record Prints {S : Type 0} (held : S → Option (List ℕ)) (failed : S → Bool) (a b : S) (p q : Printing)
     (text : List ℕ) : Type 0 where
   pub idle : p.stopped ≡ true → (q ≡ p) × (b ≡ a)

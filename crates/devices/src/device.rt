@@ -12,6 +12,7 @@ ghost use Rattle.std.specs.Prelude.{
   true,
   length,
   IfOk,
+  IfSome,
   is_err,
   None,
 };
@@ -37,6 +38,9 @@ pub trait Source {
     // the bytes that are still to come, where they are told
     ghost to_come: { Self → Option (List ℕ) } = { λ _. None };
 
+    // whether each call fails, or none does, where that is told
+    ghost fails: { Self → Option Bool } = { λ _. None };
+
     // whether a call has failed
     ghost has_failed: { Self → Bool };
 
@@ -45,6 +49,8 @@ pub trait Source {
     fn take(&mut self, buffer: &mut [u8]) -> Result<usize, Failed>
         ensures count { IfOk result (λ n. n ≤ length buffer.new) }
         ensures bytes { ReadConsumes (to_come self.old) (to_come self.new) result buffer.new }
+        ensures told { IfSome (fails self.old) (λ each. is_err result ≡ each) }
+        ensures same { fails self.new ≡ fails self.old }
         ensures failed { has_failed self.old ≡ false → has_failed self.new ≡ is_err result }
         ensures for_good { has_failed self.old ≡ true → has_failed self.new ≡ true };
 

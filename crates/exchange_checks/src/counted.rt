@@ -60,3 +60,14 @@ fn no_byte_taken_is_a_failure(rt: HostRuntime) {
         assert_eq!(rt; Sink::failed(&sink), failed);
     }
 }
+
+#[test]
+fn a_slice_gives_its_bytes_in_turn(rt: HostRuntime) {
+    let mut source = "text".as_bytes();
+    for (count, bytes) in [(3, "tex"), (1, "t\0\0"), (0, "\0\0\0")] {
+        let mut buffer = [0; 3];
+        assert_eq!(rt; Source::take(&mut source, &mut buffer), Ok(count));
+        assert_eq!(rt; buffer.as_slice(), bytes.as_bytes());
+    }
+    assert!(rt; !Source::failed(&source));
+}

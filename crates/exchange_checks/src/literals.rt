@@ -110,6 +110,57 @@ fn whole_numbers_and_limits(rt: HostRuntime) {
     assert_eq!(rt; whole(&SEVENS[1..]), Ok(None));
 }
 
+const TURNED: [(bool, &[u8], bool, &[u8], Ordering); 5] = [
+    (true, b"2.5", false, b"-2.50", Equal),
+    (true, b"0.", false, b"0", Equal),
+    (true, b"1.", true, b"2.", Greater),
+    (false, b"-1.E-999999", true, b"0.", Less),
+    (true, b"-3", false, b"1.E1", Less),
+];
+
+fn turned_order(
+    turn: bool,
+    left: &[u8],
+    turn_right: bool,
+    right: &[u8],
+) -> Result<Ordering, TextFault> {
+    let right = Decimal::read(right)?;
+    Ok(Decimal::read(left)?.compare_turned(turn, &right, turn_right))
+}
+
+#[test]
+fn numbers_compare_with_their_signs_turned(rt: HostRuntime) {
+    for (turn, left, turn_right, right, want) in TURNED {
+        assert_eq!(rt;
+            turned_order(turn, left, turn_right, right),
+            Ok(want),
+            "{left:?}"
+        );
+    }
+}
+
+const BESIDE_WHOLE: [(&[u8], i64, Ordering); 8] = [
+    (b"3.", 3, Equal),
+    (b"-30.E-1", -3, Equal),
+    (b"2.9999", 3, Less),
+    (b"-3.0001", -3, Less),
+    (b"1.E-999999", 0, Greater),
+    (b"-1.E999999", i64::MIN, Less),
+    (b"-9223372036854775808", i64::MIN, Equal),
+    (b"9223372036854775807.5", i64::MAX, Greater),
+];
+
+fn order_beside_whole(text: &[u8], whole: i64) -> Result<Ordering, TextFault> {
+    Ok(Decimal::read(text)?.compare_whole(whole))
+}
+
+#[test]
+fn numbers_compare_with_whole_ones(rt: HostRuntime) {
+    for (text, whole, want) in BESIDE_WHOLE {
+        assert_eq!(rt; order_beside_whole(text, whole), Ok(want), "{text:?}");
+    }
+}
+
 fn read_string(text: &[u8]) -> Result<&[u8], TextFault> {
     Ok(Text::read(text)?.spelling())
 }

@@ -11,3 +11,4 @@ pub mod RemarkFound
 pub mod LayoutFound
 pub mod FrontFound
 pub mod Answered
+mod MeaningLemmas

@@ -4,3 +4,6 @@ pub mod Layout
 pub mod Front
 pub mod Reading
 pub mod Laws
+pub mod Meanings
+pub mod Doubled
+pub mod Left

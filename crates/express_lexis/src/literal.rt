@@ -1,7 +1,15 @@
 //! Words and literals, as slices of the text that spells them.
 
-ghost use Rattle.std.specs.Prelude.{◌≡◌};
+ghost use Rattle.std.specs.Prelude.{◌≡◌, ◌∷◌, ℕ, List};
 ghost use Rattle.express_lexis.specs.Tokens.{Spells, word, string, encoded, binary};
+ghost use Rattle.express_lexis.specs.Meanings.{characters_of, simple_text};
+ghost use Rattle.express_lexis.specs.Meanings;
+
+mod bits;
+mod characters;
+
+pub use bits::Bits;
+pub use characters::Characters;
 
 /// A word (ISO 10303-11, 7.2 and 7.4): a letter, then letters, digits and `_`. Whether it is a
 /// keyword is the grammar's affair.
@@ -49,6 +57,8 @@ impl<'a> Word<'a> {
 }
 
 impl<'a> SimpleString<'a> {
+    ghost use Rattle.express_lexis.specs.Left.{characters_left};
+
     pub(crate) fn from_string(text: &'a [u8]) -> SimpleString<'a>
         requires { Spells string text.now }
         ensures { result.text.now ≡ text.now }
@@ -61,6 +71,16 @@ impl<'a> SimpleString<'a> {
         ensures { result ≡ self.now.text }
     {
         self.text
+    }
+
+    /// Its characters in turn.
+    pub fn characters(&self) -> Characters<'a>
+        ensures { (content : List ℕ) → self.now.text.now ≡ simple_text content
+            → characters_left result ≡ characters_of content }
+    {
+        let (_, content) = self.text.split_at(1);
+        let (content, _) = content.split_at(content.len() - 1);
+        Characters::of_doubled(content)
     }
 }
 
@@ -81,6 +101,8 @@ impl<'a> EncodedString<'a> {
 }
 
 impl<'a> Binary<'a> {
+    ghost use Rattle.express_lexis.specs.Left.{bits_left};
+
     pub(crate) fn from_binary(text: &'a [u8]) -> Binary<'a>
         requires { Spells binary text.now }
         ensures { result.text.now ≡ text.now }
@@ -93,5 +115,14 @@ impl<'a> Binary<'a> {
         ensures { result ≡ self.now.text }
     {
         self.text
+    }
+
+    /// Its bits in turn.
+    pub fn bits(&self) -> Bits<'a>
+        ensures { (digits : List ℕ) → self.now.text.now ≡ 37 ∷ digits
+            → bits_left result ≡ Meanings.bits_of digits }
+    {
+        let (_, digits) = self.text.split_at(1);
+        Bits { digits }
     }
 }

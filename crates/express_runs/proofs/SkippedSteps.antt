@@ -23,8 +23,8 @@ use Rattle.express_schemas.specs.declared.fault.FaultKind.TheVariants as fault_k
 use Rattle.express_schemas.specs.declared.fault.SchemaFault.{SchemaFault}
 use Rattle.express_schemas.specs.declared.fault.SchemaFault.TheVariants as faults
 use Rattle.express_schemas.specs.Texts.{token, LocatedToken, Shows}
-use Rattle.express_schemas.specs.Passages.{Stands, at_place}
-use Rattle.express_schemas.specs.PassageLemmas.{stands_within}
+use Rattle.express_schemas.specs.Passages.{Stands}
+use Rattle.express_schemas.specs.PassageLemmas.{stands_within, stands_some}
 use Rattle.express_schemas.specs.Runs.{Routine, ending, further, nested, words_of_routine, BeginsRoutine, EndsRoutine, FitsRoutine}
 use Rattle.express_schemas.specs.Written.{joined}
 use Rattle.express_schemas.specs.Profile.{Every, IsWithout}
@@ -84,19 +84,20 @@ shown_within : (old new : Reading) (s : LocatedToken) (w : Word) → Shows old s
     → old.place ≤ length old.text
 shown_within old new s w h is = let t = shown_token w s old new h is in within_before old new t.0 t.1
 
--- tokens and one more
-pub begun_more : (from to : ℕ) (ws : List Word) (w : Word) (place : ℕ) (old new : Reading) → Stands old.text from ws to
-    → to ≡ old.place → (let s : LocatedToken = record {
+-- tokens, of which there are some, and one more
+pub begun_more : (from to : ℕ) (ws : List Word) (w : Word) (place : ℕ) (old new : Reading) → (from ≡ to → ⊥)
+    → Stands old.text from ws to → to ≡ old.place → (let s : LocatedToken = record {
       lookahead = token w;
       place = place;
     } in Shows old s new) → Stands new.text from (ws ++ w ∷ []) new.place
-begun_more from to ws w place old new h e k =
+begun_more from to [] w place old new some h e k = absurd (some h.0)
+begun_more from to (v ∷ ws) w place old new some h e k =
     let s : LocatedToken = record { lookahead = token w; place = place } in
-    let within = stands_within old.text from ws to h in
+    let within = stands_within old.text from (v ∷ ws) to h in
     let one = reads_stands old new (w ∷ []) (omega (arith, e, within.1)) (reads_shown w s old new k refl) in
-    let P : ℕ → Type 0 = λ p. Stands old.text from ws p in
-    let Q : List ℕ → Type 0 = λ text. Stands text from (ws ++ w ∷ []) new.place in
-    subst Q (sym (shown_text old new s w k refl)) (stands_join old.text from ws old.place (w ∷ []) new.place
+    let P : ℕ → Type 0 = λ p. Stands old.text from (v ∷ ws) p in
+    let Q : List ℕ → Type 0 = λ text. Stands text from (v ∷ (ws ++ w ∷ [])) new.place in
+    subst Q (sym (shown_text old new s w k refl)) (stands_join old.text from v ws old.place (w ∷ []) new.place
     (subst P e h) one)
 
 -- .. where there is none before it
@@ -109,10 +110,7 @@ begun_first from to [] w place old new e h k = let s : LocatedToken = record {
   lookahead = token w;
   place = place;
 } in stands_own old new s w k refl
-begun_first from to (v ∷ ws) w place old new e h k =
-    let more = stands_within old.text h.2 ws to h.5 in
-    let rise = places_rise (at_place old.text from) (at_place old.text h.2) h.1 h.0 h.3 in
-    absurd (omega (arith, e, rise.0, rise.1, more.0))
+begun_first from to (v ∷ ws) w place old new e h k = absurd (omega (arith, e, stands_some old.text from v ws to h))
 
 -- what the words of a function or procedure leave to come
 abbrev chosen : Bool → Bool → ℕ → Next

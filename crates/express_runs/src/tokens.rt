@@ -67,6 +67,7 @@ fn refused_keyword(found: Keyword) -> FaultKind
         Keyword::Extensible => FaultKind::LeftOut(LeftOut::Extensible),
         Keyword::BasedOn => FaultKind::LeftOut(LeftOut::BasedOn),
         Keyword::GenericEntity => FaultKind::LeftOut(LeftOut::GenericEntity),
+        Keyword::Schema => FaultKind::LeftOut(LeftOut::SecondSchema),
         _ => FaultKind::Expected,
     }
 }

@@ -1,10 +1,9 @@
 -- The kind of fault that the table gives is the kind that is due.
-use Rattle.std.proofs.Common.{◌≡◌, ℕ, ◌+◌, List, [], ◌∷◌, ◌++◌, map, Ok, Err, refl, sym, ap, ◌∙◌, subst, arith, append_assoc}
+use Rattle.std.proofs.Common.{◌≡◌, ◌+◌, List, [], ◌∷◌, ◌++◌, map, Ok, Err, refl, sym, ap, ◌∙◌, subst, arith, append_assoc}
 use Rattle.predictive.specs.Tables.{lookaheads}
 use Rattle.predictive.specs.Languages as languages
 use Rattle.predictive.proofs.Lists.{lookaheads_append}
-use Rattle.predictive.proofs.Leading.{Leads, leads_split}
-use Rattle.predictive.proofs.Running.{Reaches, reaches_one, reaches_join, reaches_once}
+use Rattle.predictive.proofs.Running.{Reaches, reaches_one, reaches_join}
 use Rattle.predictive.proofs.Faults.{front_from, not_front}
 use Rattle.express_trees.specs.declared.keyword.Keyword.TheVariants as keywords
 use Rattle.express_trees.specs.Words.{Word, keyword}
@@ -14,24 +13,15 @@ use Rattle.express_schemas.specs.declared.fault.FaultKind.TheVariants as fault_k
 use Rattle.express_schemas.specs.declared.fault.LeftOut.{LeftOut}
 use Rattle.express_schemas.specs.declared.fault.LeftOut.TheVariants as left_out
 use Rattle.express_schemas.specs.Written.{words_of_schema}
-use Rattle.express_schemas.specs.Texts.{Lookahead, token, flawed, end_of_text, LocatedToken, IsViablePrefix, IsWhole, IsInSkipped, IsLeftOut, FaultApplies, IsKind}
-use Rattle.express_schemas.specs.Predict.{Symbol, EndOfText, SkippedName, SkippedEnd, Routine, Until, next, schema_symbols}
+use Rattle.express_schemas.specs.Texts.{Lookahead, token, flawed, end_of_text, LocatedToken, IsViablePrefix, IsInSkipped, IsLeftOut, FaultApplies, IsKind}
+use Rattle.express_schemas.specs.Predict.{Symbol, SkippedName, SkippedEnd, Routine, Until, next, schema_symbols}
 use Rattle.express_schemas.specs.Steps.{table, IsSchema}
 use Rattle.express_schemas.proofs.Prefixes.{front_of, of_front}
-use Rattle.express_schemas.proofs.PassingSchemas.{pass_language}
 use Rattle.express_schemas.proofs.Complete.{IsAny}
 use Rattle.express_schemas.proofs.Exact.{exact}
-use Rattle.express_schemas.proofs.Refusals.{Place, in_schema, in_skipped, at_end, Leaves, Told}
+use Rattle.express_schemas.proofs.Refusals.{Place, in_schema, in_skipped, Leaves, Told}
 use Rattle.express_schemas.proofs.Reasons.{IsSkipping, place_of, skipping_place, why, leads_shallow, leads_deeper}
 use Rattle.express_schemas.proofs.InSkipped.{skipping_inside, inside_skipping}
-
-over_only : (levels : ℕ) (y : Symbol) (zs : List Symbol) → next levels y end_of_text ≡ Ok zs → y ≡ EndOfText
-over_only levels EndOfText zs e = refl
-over_only levels y zs e = absurd cc
-
-over_place : (y : Symbol) → place_of y ≡ at_end → y ≡ EndOfText
-over_place EndOfText e = refl
-over_place y e = absurd cc
 
 place_skipping : (y : Symbol) → place_of y ≡ in_skipped → IsSkipping y
 place_skipping SkippedName e = tt
@@ -58,7 +48,7 @@ pub one_more : (s : List LocatedToken) (at : LocatedToken) → lookaheads (s ++ 
 one_more s at = lookaheads_append s (at ∷ [])
 
 pub ended_once : (before : List LocatedToken) (f : languages.IsViablePrefix (IsSchema depth_limit) (lookaheads before
-    ++ end_of_text ∷ [])) → IsWhole (lookaheads before)
+    ++ end_of_text ∷ [])) → IsSchema depth_limit (lookaheads before ++ end_of_text ∷ [])
 ended_once before f =
     let e = sym (append_assoc (lookaheads before) (end_of_text ∷ []) f.0) in
     let none = last_over (lookaheads before) f.0 (words_of_schema f.1.0) (e ∙ f.1.2) in
@@ -84,15 +74,8 @@ part_is in_schema s left_out.Renamed h = ap part_of h
 part_is in_schema s left_out.Extensible h = ap part_of h
 part_is in_schema s left_out.BasedOn h = ap part_of h
 part_is in_schema s left_out.GenericEntity h = ap part_of h
-part_is in_schema s part h = absurd h
-part_is at_end s left_out.Use h = ap part_of h
-part_is at_end s left_out.Reference h = ap part_of h
-part_is at_end s left_out.Renamed h = ap part_of h
-part_is at_end s left_out.Extensible h = ap part_of h
-part_is at_end s left_out.BasedOn h = ap part_of h
-part_is at_end s left_out.GenericEntity h = ap part_of h
-part_is at_end s left_out.SecondSchema h = ap part_of h
-part_is at_end s left_out.TooLarge h = absurd h
+part_is in_schema s left_out.SecondSchema h = ap part_of h
+part_is in_schema s left_out.TooLarge h = absurd h
 
 one_part : (p : Place) (s : Lookahead) (part other : LeftOut) → Leaves p s part → Leaves p s other → part ≡ other
 one_part p s part other h g = sym (part_is p s part h) ∙ part_is p s other g
@@ -105,15 +88,8 @@ not_flawed in_schema left_out.Renamed h = cc
 not_flawed in_schema left_out.Extensible h = cc
 not_flawed in_schema left_out.BasedOn h = cc
 not_flawed in_schema left_out.GenericEntity h = cc
-not_flawed in_schema part h = h
-not_flawed at_end left_out.Use h = cc
-not_flawed at_end left_out.Reference h = cc
-not_flawed at_end left_out.Renamed h = cc
-not_flawed at_end left_out.Extensible h = cc
-not_flawed at_end left_out.BasedOn h = cc
-not_flawed at_end left_out.GenericEntity h = cc
-not_flawed at_end left_out.SecondSchema h = cc
-not_flawed at_end left_out.TooLarge h = h
+not_flawed in_schema left_out.SecondSchema h = cc
+not_flawed in_schema left_out.TooLarge h = h
 
 -- what stands first on the stack behind some tokens, and another token
 module _ (before : List LocatedToken) (at : LocatedToken) (top : Symbol) (others : List Symbol)
@@ -130,33 +106,11 @@ module _ (before : List LocatedToken) (at : LocatedToken) (top : Symbol) (others
   reason k e = why depth_limit (omega arith) top (leads_shallow depth_limit (omega arith) (lookaheads before)
       schema_symbols (top ∷ others) (tt, (tt, (tt, (tt, (tt, tt))))) reached).0 at.lookahead k e
 
-  -- a whole schema stands where the end is to come
-  over_whole : top ≡ EndOfText → IsWhole (lookaheads before)
-  over_whole e =
-      let end : LocatedToken = record { lookahead = end_of_text; place = 0 } in
-      let P : Symbol → Type 0 = λ y. Reaches table schema_symbols before (y ∷ others) in
-      let f = front_from table IsAny schema_symbols (IsSchema depth_limit) (exact depth_limit (omega arith))
-      (before ++ end ∷ []) others (reaches_join table before (end ∷ []) schema_symbols (EndOfText ∷ others) others
-      (subst P e reached) (reaches_one table EndOfText [] others end refl)) in
-      let Q : List Lookahead → Type 0 = λ l. languages.IsViablePrefix (IsSchema depth_limit) l in
-      ended_once before (subst Q (one_more before end) f)
-
-  whole_over : IsWhole (lookaheads before) → top ≡ EndOfText
-  whole_over w =
-      let through = pass_language depth_limit (omega arith) (lookaheads before ++ end_of_text ∷ []) w in
-      let p = leads_split table (lookaheads before) (end_of_text ∷ []) schema_symbols [] through in
-      let P : List Symbol → Type 0 = λ l. Leads table l (end_of_text ∷ []) [] in
-      let h = subst P (reaches_once table before schema_symbols p.0 (top ∷ others) p.1 reached) p.2 in
-      over_only depth_limit top h.0 h.1
-
   outside : (p : Place) → place_of top ≡ p → (p ≡ in_skipped → ⊥) → IsInSkipped (lookaheads before) → ⊥
   outside p e f i = f (sym e ∙ skipping_place top (inside_skipping before top others i reached))
 
   inside_it : place_of top ≡ in_skipped → IsInSkipped (lookaheads before)
   inside_it e = skipping_inside before top others reached (place_skipping top e)
-
-  place_of_over : IsWhole (lookaheads before) → place_of top ≡ at_end
-  place_of_over w = ap place_of (whole_over w)
 
   -- what is left out there is left out by the definition ..
   left_due : (p : Place) → place_of top ≡ p → (part : LeftOut) → Leaves p at.lookahead part
@@ -168,15 +122,8 @@ module _ (before : List LocatedToken) (at : LocatedToken) (top : Symbol) (others
   left_due in_schema e left_out.Extensible h = (h, outside in_schema e (λ d. cc))
   left_due in_schema e left_out.BasedOn h = (h, outside in_schema e (λ d. cc))
   left_due in_schema e left_out.GenericEntity h = (h, outside in_schema e (λ d. cc))
-  left_due in_schema e part h = absurd h
-  left_due at_end e left_out.Use h = (h, outside at_end e (λ d. cc))
-  left_due at_end e left_out.Reference h = (h, outside at_end e (λ d. cc))
-  left_due at_end e left_out.Renamed h = (h, outside at_end e (λ d. cc))
-  left_due at_end e left_out.Extensible h = (h, outside at_end e (λ d. cc))
-  left_due at_end e left_out.BasedOn h = (h, outside at_end e (λ d. cc))
-  left_due at_end e left_out.GenericEntity h = (h, outside at_end e (λ d. cc))
-  left_due at_end e left_out.SecondSchema h = (h, over_whole (over_place top e))
-  left_due at_end e left_out.TooLarge h = h
+  left_due in_schema e left_out.SecondSchema h = (h, outside in_schema e (λ d. cc))
+  left_due in_schema e left_out.TooLarge h = h
 
   -- .. and the other way
   left_stands : (p : Place) → place_of top ≡ p → (part : LeftOut) → IsLeftOut (lookaheads before) at.lookahead part
@@ -187,8 +134,7 @@ module _ (before : List LocatedToken) (at : LocatedToken) (top : Symbol) (others
   left_stands in_skipped e left_out.Extensible h = h.1 (inside_it e)
   left_stands in_skipped e left_out.BasedOn h = h.1 (inside_it e)
   left_stands in_skipped e left_out.GenericEntity h = h.1 (inside_it e)
-  left_stands in_skipped e left_out.SecondSchema h = let d : in_skipped ≡ at_end = sym e ∙ place_of_over h.1 in
-      absurd cc
+  left_stands in_skipped e left_out.SecondSchema h = h.1 (inside_it e)
   left_stands in_skipped e left_out.TooLarge h = h
   left_stands in_schema e left_out.Use h = h.0
   left_stands in_schema e left_out.Reference h = h.0
@@ -196,16 +142,8 @@ module _ (before : List LocatedToken) (at : LocatedToken) (top : Symbol) (others
   left_stands in_schema e left_out.Extensible h = h.0
   left_stands in_schema e left_out.BasedOn h = h.0
   left_stands in_schema e left_out.GenericEntity h = h.0
-  left_stands in_schema e left_out.SecondSchema h = let d : in_schema ≡ at_end = sym e ∙ place_of_over h.1 in absurd cc
+  left_stands in_schema e left_out.SecondSchema h = h.0
   left_stands in_schema e left_out.TooLarge h = h
-  left_stands at_end e left_out.Use h = h.0
-  left_stands at_end e left_out.Reference h = h.0
-  left_stands at_end e left_out.Renamed h = h.0
-  left_stands at_end e left_out.Extensible h = h.0
-  left_stands at_end e left_out.BasedOn h = h.0
-  left_stands at_end e left_out.GenericEntity h = h.0
-  left_stands at_end e left_out.SecondSchema h = h.0
-  left_stands at_end e left_out.TooLarge h = h
 
   -- with one bracket more it would stand ..
   front_deeper : (zs : List Symbol) → next (depth_limit + 1) top at.lookahead ≡ Ok zs → IsViablePrefix (depth_limit + 1)

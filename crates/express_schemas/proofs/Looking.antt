@@ -151,14 +151,15 @@ keyword_refused k s e = rw e refl
 
 pub refused_other : (k : Keyword) → (k ≡ keywords.Use → ⊥) → (k ≡ keywords.Reference → ⊥) → (k ≡ keywords.Renamed → ⊥)
     → (k ≡ keywords.Extensible → ⊥) → (k ≡ keywords.BasedOn → ⊥) → (k ≡ keywords.GenericEntity → ⊥)
-    → refused (token (keyword k)) ≡ fault_kinds.Expected
-refused_other keywords.Use a b c d e f = absurd (a refl)
-refused_other keywords.Reference a b c d e f = absurd (b refl)
-refused_other keywords.Renamed a b c d e f = absurd (c refl)
-refused_other keywords.Extensible a b c d e f = absurd (d refl)
-refused_other keywords.BasedOn a b c d e f = absurd (e refl)
-refused_other keywords.GenericEntity a b c d e f = absurd (f refl)
-refused_other _ a b c d e f = refl
+    → (k ≡ keywords.Schema → ⊥) → refused (token (keyword k)) ≡ fault_kinds.Expected
+refused_other keywords.Use a b c d e f g = absurd (a refl)
+refused_other keywords.Reference a b c d e f g = absurd (b refl)
+refused_other keywords.Renamed a b c d e f g = absurd (c refl)
+refused_other keywords.Extensible a b c d e f g = absurd (d refl)
+refused_other keywords.BasedOn a b c d e f g = absurd (e refl)
+refused_other keywords.GenericEntity a b c d e f g = absurd (f refl)
+refused_other keywords.Schema a b c d e f g = absurd (g refl)
+refused_other _ a b c d e f g = refl
 
 pub name_refused : (l : Lexeme) → ((w : _) → l ≡ lexemes.Name w → ⊥) → next depth_limit Id (token (word_of l)) ≡ Err
     (refused (token (word_of l)))

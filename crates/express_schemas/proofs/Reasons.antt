@@ -10,8 +10,6 @@ use Rattle.express_trees.specs.declared.keyword.Keyword.TheVariants as keywords
 use Rattle.express_trees.specs.Words.{Word, keyword, name, mark}
 use Rattle.express_schemas.specs.declared.fault.FaultKind.{FaultKind}
 use Rattle.express_schemas.specs.declared.fault.FaultKind.TheVariants as fault_kinds
-use Rattle.express_schemas.specs.declared.fault.LeftOut.{LeftOut}
-use Rattle.express_schemas.specs.declared.fault.LeftOut.TheVariants as left_out
 use Rattle.express_schemas.specs.Runs as runs
 use Rattle.express_schemas.specs.Runs.{words_of_routine, FitsRoutine}
 use Rattle.express_schemas.specs.Schemas.{Skipped, function, procedure, rule, constants, subtype_constraint}
@@ -20,7 +18,7 @@ use Rattle.express_schemas.specs.Profile.{IsWithout, FitsSkipped}
 use Rattle.express_schemas.specs.Texts.{Lookahead, token, flawed, end_of_text}
 use Rattle.express_schemas.specs.Predict.{explicits, Symbol, Just, Id, Declarations, EndOfText, SkippedName, SkippedEnd, Routine, Until, Underlying, TypeEnd, Head, Body, refused, Next, opens_routine, closes_routine, left_routine, next_routine, next_until, next_skipped_name, next_skipped_end, next_end_of_text, next_declaration, skipped_symbols, next}
 use Rattle.express_schemas.proofs.SoundTakes.{Takes, AllTake, takes_one}
-use Rattle.express_schemas.proofs.Refusals.{IsRead, Place, in_schema, in_skipped, at_end, Leaves, IsQuiet, Told, Answer, left_is, bad_is, deep_never, quiet, refusal, read_answer}
+use Rattle.express_schemas.proofs.Refusals.{IsRead, Place, in_schema, in_skipped, Told, Answer, quiet, refusal, read_answer}
 
 -- a symbol of a skipped declaration
 abbrev pub IsSkipping : Symbol → Type 0
@@ -35,7 +33,6 @@ place_of SkippedName = in_skipped
 place_of SkippedEnd = in_skipped
 place_of (Routine n) = in_skipped
 place_of (Until end) = in_skipped
-place_of EndOfText = at_end
 place_of _ = in_schema
 
 -- no more brackets are open around it than may be
@@ -248,33 +245,11 @@ begins levels s = refuses (refused s) (refusal (λ l. next_declaration s) levels
 
 -- the end of the text
 abbrev OverSays : ℕ → Lookahead → Next → Type 0
-OverSays levels s v = MatchResult v (λ zs. zs ≡ []) (Told at_end (λ l. v) levels s)
-
-left_at_end : (s : Lookahead) (part : LeftOut) → Leaves in_schema s part → Leaves at_end s part
-left_at_end s left_out.SecondSchema h = absurd h
-left_at_end s part h = h
-
-quiet_at_end : (s : Lookahead) → (s ≡ token (keyword keywords.Schema) → ⊥) → IsQuiet in_schema s → IsQuiet at_end s
-quiet_at_end s f h = (h.0, λ part g. by part g)
-  where
-    by : (part : LeftOut) → Leaves at_end s part → ⊥
-    by left_out.SecondSchema g = f g
-    by part g = h.1 part g
-
-end_refusal : (levels : ℕ) (s : Lookahead) → (s ≡ token (keyword keywords.Schema) → ⊥)
-    → Told at_end (λ l. Err (refused s)) levels s (refused s)
-end_refusal levels s f = by (refused s) refl
-  where
-    by : (k : FaultKind) → refused s ≡ k → Told at_end (λ l. Err k) levels s k
-    by fault_kinds.BadToken e = (bad_is s e, refl)
-    by (fault_kinds.LeftOut part) e = (left_at_end s part (left_is s part e), refl)
-    by fault_kinds.Expected e = (quiet_at_end s f (quiet s e), refl)
-    by fault_kinds.TooDeep e = absurd (deep_never s e)
+OverSays levels s v = MatchResult v (λ zs. zs ≡ []) (Told in_schema (λ l. v) levels s)
 
 over_says : (levels : ℕ) (s : Lookahead) → OverSays levels s (next_end_of_text s)
 over_says levels end_of_text = refl
-over_says levels (token (keyword keywords.Schema)) = (refl, refl)
-over_says levels s = end_refusal levels s (λ e. cc)
+over_says levels s = refusal (λ l. Err (refused s)) levels s refl
 
 -- whatever is to come
 abbrev Says : ℕ → Symbol → Lookahead → Next → Type 0
@@ -307,7 +282,7 @@ says_over levels s = by (next_end_of_text s) refl (over_says levels s)
   where
     by : (v : Next) → next_end_of_text s ≡ v → OverSays levels s v → Says levels EndOfText s v
     by (Ok zs) e h = (subst (AllAre (IsShallow levels)) (sym h) tt, e)
-    by (Err k) e h = let P : Next → Type 0 = λ v. Told at_end (λ l. v) levels s k in subst P (sym e) h
+    by (Err k) e h = let P : Next → Type 0 = λ v. Told in_schema (λ l. v) levels s k in subst P (sym e) h
 
 says_read : (levels : ℕ) → 0 < levels → (y : Symbol) → IsRead levels y → place_of y ≡ in_schema → (s : Lookahead)
     → Says levels y s (next levels y s)

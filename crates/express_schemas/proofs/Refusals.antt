@@ -34,11 +34,10 @@ IsRead levels (UniqueOr n end) = n ≤ levels
 IsRead levels (Running part n inner some) = n + length inner ≤ levels
 IsRead levels _ = Unit {0}
 
--- where a symbol stands: in what is read, in a skipped declaration, or at the end of the text
+-- where a symbol stands: in what is read, or in a skipped declaration
 pub data Place : Type 0 where
   in_schema : Place
   in_skipped : Place
-  at_end : Place
 
 -- this word is left out there
 abbrev pub Leaves : Place → Lookahead → LeftOut → Type 0
@@ -49,7 +48,7 @@ Leaves p s left_out.Renamed = s ≡ token (keyword keywords.Renamed)
 Leaves p s left_out.Extensible = s ≡ token (keyword keywords.Extensible)
 Leaves p s left_out.BasedOn = s ≡ token (keyword keywords.BasedOn)
 Leaves p s left_out.GenericEntity = s ≡ token (keyword keywords.GenericEntity)
-Leaves at_end s left_out.SecondSchema = s ≡ token (keyword keywords.Schema)
+Leaves p s left_out.SecondSchema = s ≡ token (keyword keywords.Schema)
 Leaves p s part = ⊥
 
 -- it is no fault of its own there
@@ -84,6 +83,7 @@ left_is (token (keyword keywords.Renamed)) left_out.Renamed e = refl
 left_is (token (keyword keywords.Extensible)) left_out.Extensible e = refl
 left_is (token (keyword keywords.BasedOn)) left_out.BasedOn e = refl
 left_is (token (keyword keywords.GenericEntity)) left_out.GenericEntity e = refl
+left_is (token (keyword keywords.Schema)) left_out.SecondSchema e = refl
 left_is s part e = absurd cc
 
 not_expected : (k : FaultKind) (s t : Lookahead) → refused s ≡ fault_kinds.Expected → s ≡ t → refused t ≡ k
@@ -106,7 +106,8 @@ quiet s e = ((λ g. not_expected fault_kinds.BadToken s flawed e g refl (λ d. c
         refl (λ d. cc)
     by left_out.GenericEntity h = not_expected (fault_kinds.LeftOut left_out.GenericEntity) s
         (token (keyword keywords.GenericEntity)) e h refl (λ d. cc)
-    by left_out.SecondSchema h = h
+    by left_out.SecondSchema h = not_expected (fault_kinds.LeftOut left_out.SecondSchema) s
+        (token (keyword keywords.Schema)) e h refl (λ d. cc)
     by left_out.TooLarge h = h
 
 pub refusal : (f : ℕ → Next) (levels : ℕ) (s : Lookahead) → f (levels + 1) ≡ Err (refused s) → Told in_schema f levels s

@@ -11,7 +11,7 @@ use Rattle.express_schemas.specs.declared.passage.Run as kept
 use Rattle.express_schemas.specs.declared.passage.Routine as kept_routine
 use Rattle.express_schemas.specs.Runs.{Run, ended, word, bracketed, words_of_run, inside, FitsRun, Routine, words_of_routine, FitsRoutine}
 use Rattle.express_schemas.specs.Runs.{has_some}
-use Rattle.express_schemas.specs.Passages.{Stands, at_place, IsRun}
+use Rattle.express_schemas.specs.Passages.{StandsBehind, Stands, at_place, IsRun}
 use Rattle.express_schemas.specs.PassageLemmas.{stands_within, words_prop, run_prop, routine_prop}
 use Rattle.express_schemas.proofs.Looking.{shown_token, reads_shown}
 
@@ -26,7 +26,7 @@ tail_is : {v w : Lookahead} {vs ws : List Lookahead} → v ∷ vs ≡ w ∷ ws �
 tail_is e = cc
 
 shown_stands : (text : List ℕ) (from : ℕ) (s : List LocatedToken) (ws : List Word) (new : Reading) → from ≤ length text
-    → ShowsAll (at_place text from) s new → lookaheads s ≡ map token ws → Stands text from ws new.place
+    → ShowsAll (at_place text from) s new → lookaheads s ≡ map token ws → StandsBehind text from ws new.place
 shown_stands text from [] [] new le h e = let p : from ≡ new.place = ap (λ (r : Reading). r.place) h in
     (p, omega (arith, le, p))
 shown_stands text from [] (w ∷ ws) new le h e = absurd cc
@@ -45,16 +45,20 @@ shown_stands text from (x ∷ s) (w ∷ ws) new le h e =
           (takes_within (at_place text from) h.0 t.0 t.1) (subst Q here h.2) (tail_is e),
     )
 
--- words that were read stand from one place to the other
+-- words that were read stand behind one place, and end at the other
 pub reads_stands : (old new : Reading) (ws : List Word) → old.place ≤ length old.text → Reads old ws new
-    → Stands old.text old.place ws new.place
+    → StandsBehind old.text old.place ws new.place
 reads_stands old new ws le h = shown_stands old.text old.place h.0 ws new le h.1 h.2
 
--- words stand behind others
-pub stands_join : (text : List ℕ) (from : ℕ) (u : List Word) (mid : ℕ) (v : List Word) (to : ℕ) → Stands text from u mid
-    → Stands text mid v to → Stands text from (u ++ v) to
-stands_join text from [] mid v to h g = let P : ℕ → Type 0 = λ p. Stands text p v to in subst P (sym h.0) g
-stands_join text from (w ∷ u) mid v to h g = (h.0, h.1, h.2, h.3, h.4, stands_join text h.2 u mid v to h.5 g)
+behind_join : (text : List ℕ) (from : ℕ) (u : List Word) (mid : ℕ) (v : List Word) (to : ℕ)
+    → StandsBehind text from u mid → StandsBehind text mid v to → StandsBehind text from (u ++ v) to
+behind_join text from [] mid v to h g = let P : ℕ → Type 0 = λ p. StandsBehind text p v to in subst P (sym h.0) g
+behind_join text from (w ∷ u) mid v to h g = (h.0, h.1, h.2, h.3, h.4, behind_join text h.2 u mid v to h.5 g)
+
+-- words stand behind others, of which there are some
+pub stands_join : (text : List ℕ) (from : ℕ) (w : Word) (u : List Word) (mid : ℕ) (v : List Word) (to : ℕ)
+    → Stands text from (w ∷ u) mid → StandsBehind text mid v to → Stands text from (w ∷ (u ++ v)) to
+stands_join text from w u mid v to h g = (behind_join text from (w ∷ u) mid v to h.0 g, h.1)
 
 -- a token behind layout is taken from its own place too, with no layout before it
 pub takes_own : (old new : Reading) (t : Token) → Takes old t new → Takes (at_place old.text t.place) t
@@ -83,12 +87,15 @@ stands_own old new s w h e =
     let P : List ℕ → Type 0 = λ x. Stands x t.0.place (w ∷ []) new.place in
     let Q : ℕ → Type 0 = λ p. Stands new.text p (w ∷ []) new.place in
     subst Q (sym t.3) (subst P (sym t.1.new_text) (
-      t.1.reaches.within,
-      t.0,
-      new.place,
-      takes_own old new t.0 t.1,
-      t.2,
-      (refl, takes_within old new t.0 t.1),
+      (
+        t.1.reaches.within,
+        t.0,
+        new.place,
+        takes_own old new t.0 t.1,
+        t.2,
+        (refl, takes_within old new t.0 t.1),
+      ),
+      (t.0, at_place old.text new.place, takes_own old new t.0 t.1, refl),
     ))
 
 -- the text stays as it is
@@ -107,10 +114,10 @@ stands_more [] us w from to begins last here s st h is e f =
 stands_more (v ∷ vs) us w from to begins last here s (inl none) h is e f = absurd cc
 stands_more (v ∷ vs) us w from to begins last here s (inr st) h is e f =
     let within = stands_within last.text from (v ∷ vs) to st.1 in
-    let next : Stands last.text last.place (w ∷ []) here.place = reads_stands last here (w ∷ [])
+    let next : StandsBehind last.text last.place (w ∷ []) here.place = reads_stands last here (w ∷ [])
     (omega (arith, within.1, st.0)) (reads_shown w s last here h is) in
-    let O : ℕ → Type 0 = λ p. Stands last.text p (w ∷ []) here.place in
-    let all = stands_join last.text from (v ∷ vs) to (w ∷ []) here.place st.1 (subst O (sym st.0) next) in
+    let O : ℕ → Type 0 = λ p. StandsBehind last.text p (w ∷ []) here.place in
+    let all = stands_join last.text from v vs to (w ∷ []) here.place st.1 (subst O (sym st.0) next) in
     let P : ℕ → Type 0 = λ p. Stands here.text p us here.place in
     let Q : List Word → Type 0 = λ l. Stands here.text from l here.place in
     let R : List ℕ → Type 0 = λ x. Stands x from ((v ∷ vs) ++ w ∷ []) here.place in

@@ -9,4 +9,5 @@ pub mod Sets
 pub mod Passages
 pub mod PassageLemmas
 pub mod Views
+pub mod SchemaViews
 pub mod Laws

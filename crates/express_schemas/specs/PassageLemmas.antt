@@ -4,31 +4,46 @@ use Rattle.std.specs.Prelude.{◌≡◌, ℕ, ◌≤◌, ◌<◌, true, false, L
 use Rattle.std.proofs.Common.{sym, ap, ◌∙◌, subst, arith, inl, inr}
 use Rattle.std.proofs.Math.Logic.{∥∥₁_elim}
 use mathlib.Core.HLevel.{Σ_prop_path}
-use Rattle.express_lexis.specs.declared.token.Token.{Token}
 use Rattle.express_lexis.specs.declared.token.Sort.{Sort}
 use Rattle.express_lexis.specs.declared.token.Sort.TheVariants as sorts
-use Rattle.express_lexis.specs.Reading.{Reading, Takes, SameSort}
+use Rattle.express_lexis.specs.Reading.{Reading, SameSort}
 use Rattle.express_lexis.proofs.Determined.{determined, places_rise}
 use Rattle.step_literals.specs.Words.{upper}
 use Rattle.express_trees.specs.Keywords.{keyword_at}
 use Rattle.express_trees.specs.Words.{Word, keyword_or_name, integer, real, string, encoded, binary, mark, name, word_of_sort}
 use Rattle.express_schemas.specs.Runs.{Bracket, parenthesis, square, brace, opening, closing, Run, ended, word, bracketed, words_of_run, inside, BeginsRoutine, EndsRoutine, Routine, ending, further, nested, words_of_routine, FitsRoutine}
-use Rattle.express_schemas.specs.Passages.{at_place, Stands, IsRun}
+use Rattle.express_schemas.specs.Passages.{at_place, StandsBehind, Stands, IsRun}
 use Rattle.express_schemas.specs.Sets.{Words-set, Run-set, Routine-set}
 
-pub stands_within : (text : List ℕ) (from : ℕ) (ws : List Word) (to : ℕ) → Stands text from ws to → (from ≤ to)
+behind_within : (text : List ℕ) (from : ℕ) (ws : List Word) (to : ℕ) → StandsBehind text from ws to → (from ≤ to)
     × (to ≤ length text)
-stands_within text from [] to h = (omega (arith, h.0), h.1)
-stands_within text from (w ∷ ws) to h =
-    let more = stands_within text h.2 ws to h.5 in
+behind_within text from [] to h = (omega (arith, h.0), h.1)
+behind_within text from (w ∷ ws) to h =
+    let more = behind_within text h.2 ws to h.5 in
     let rise = places_rise (at_place text from) (at_place text h.2) h.1 h.0 h.3 in
     (omega (arith, rise.0, rise.1, more.0), more.1)
 
-stands_some : (text : List ℕ) (from : ℕ) (w : Word) (ws : List Word) (to : ℕ) → Stands text from (w ∷ ws) to → from < to
-stands_some text from w ws to h =
-    let more = stands_within text h.2 ws to h.5 in
+-- words that stand from a place stand behind it
+pub stands_behind : (text : List ℕ) (from : ℕ) (ws : List Word) (to : ℕ) → Stands text from ws to
+    → StandsBehind text from ws to
+stands_behind text from [] to h = h
+stands_behind text from (w ∷ ws) to h = h.0
+
+pub stands_within : (text : List ℕ) (from : ℕ) (ws : List Word) (to : ℕ) → Stands text from ws to → (from ≤ to)
+    × (to ≤ length text)
+stands_within text from ws to h = behind_within text from ws to (stands_behind text from ws to h)
+
+behind_some : (text : List ℕ) (from : ℕ) (w : Word) (ws : List Word) (to : ℕ) → StandsBehind text from (w ∷ ws) to
+    → from < to
+behind_some text from w ws to h =
+    let more = behind_within text h.2 ws to h.5 in
     let rise = places_rise (at_place text from) (at_place text h.2) h.1 h.0 h.3 in
     omega (arith, rise.0, rise.1, more.0)
+
+-- some words end behind the place from which they stand
+pub stands_some : (text : List ℕ) (from : ℕ) (w : Word) (ws : List Word) (to : ℕ) → Stands text from (w ∷ ws) to
+    → from < to
+stands_some text from w ws to h = behind_some text from w ws to h.0
 
 same_word : (s u : Sort) → SameSort s u → word_of_sort s ≡ word_of_sort u
 same_word (sorts.Word v) (sorts.Word w) h = ap (λ t. keyword_or_name (upper t) (keyword_at (upper t))) h
@@ -40,19 +55,24 @@ same_word (sorts.Binary a) (sorts.Binary b) h = ap binary h
 same_word (sorts.Mark m) (sorts.Mark n) h = ap mark h
 same_word _ _ h = absurd h
 
-pub stands_once : (text : List ℕ) (from : ℕ) (u v : List Word) (to : ℕ) → Stands text from u to → Stands text from v to
-    → u ≡ v
-stands_once text from [] [] to h g = refl
-stands_once text from [] (w ∷ ws) to h g = let l = stands_some text from w ws to g in absurd (omega (arith, l, h.0))
-stands_once text from (w ∷ ws) [] to h g = let l = stands_some text from w ws to h in absurd (omega (arith, l, g.0))
-stands_once text from (w ∷ ws) (v ∷ vs) to h g =
+behind_once : (text : List ℕ) (from : ℕ) (u v : List Word) (to : ℕ) → StandsBehind text from u to
+    → StandsBehind text from v to → u ≡ v
+behind_once text from [] [] to h g = refl
+behind_once text from [] (w ∷ ws) to h g = let l = behind_some text from w ws to g in absurd (omega (arith, l, h.0))
+behind_once text from (w ∷ ws) [] to h g = let l = behind_some text from w ws to h in absurd (omega (arith, l, g.0))
+behind_once text from (w ∷ ws) (v ∷ vs) to h g =
     let d = determined (at_place text from) (at_place text h.2) (at_place text g.2) (Ok (Some h.1)) (Ok (Some g.1)) h.3
     g.3 in
     let e : w ≡ v = sym h.4 ∙ same_word h.1.sort g.1.sort d.0.2 ∙ g.4 in
     let n : h.2 ≡ g.2 = ap (λ (r : Reading). r.place) d.1 in
-    let P : ℕ → Type 0 = λ p. Stands text p ws to in
-    let f = stands_once text g.2 ws vs to (subst P n h.5) g.5 in
+    let P : ℕ → Type 0 = λ p. StandsBehind text p ws to in
+    let f = behind_once text g.2 ws vs to (subst P n h.5) g.5 in
     λ i. e i ∷ f i
+
+pub stands_once : (text : List ℕ) (from : ℕ) (u v : List Word) (to : ℕ) → Stands text from u to → Stands text from v to
+    → u ≡ v
+stands_once text from u v to h g = behind_once text from u v to (stands_behind text from u to h)
+    (stands_behind text from v to g)
 
 -- the words of a passage are determined
 pub words_prop : (text : List ℕ) (from to : ℕ) → IsProp ((ws : List Word) × ∥ Stands text from ws to ∥₁)

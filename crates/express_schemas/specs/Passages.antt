@@ -8,11 +8,20 @@ use Rattle.express_schemas.specs.Runs.{Run, ended, word, bracketed, words_of_run
 abbrev pub at_place : List ℕ → ℕ → Reading
 at_place text place = record { text = text; place = place }
 
--- These words stand in a text from one place to another: layout may stand between them, and nothing behind them.
+-- These words stand in a text behind one place, and end at another: layout may stand before each of them.
+abbrev pub StandsBehind : List ℕ → ℕ → List Word → ℕ → Type 0
+StandsBehind text from [] to = (from ≡ to) × (to ≤ length text)
+StandsBehind text from (w ∷ ws) to = (from ≤ length text) × (t : Token) × (next : ℕ) × Takes (at_place text from) t
+    (at_place text next) × (word_of_sort t.sort ≡ w) × StandsBehind text next ws to
+
+-- the token that stands behind this place begins just there, with no layout before it
+abbrev pub BeginsAt : List ℕ → ℕ → Type 0
+BeginsAt text from = (t : Token) × (next : Reading) × Takes (at_place text from) t next × (t.place ≡ from)
+
+-- These words stand in a text from the first byte of the first to the last byte of the last.
 abbrev pub Stands : List ℕ → ℕ → List Word → ℕ → Type 0
-Stands text from [] to = (from ≡ to) × (to ≤ length text)
-Stands text from (w ∷ ws) to = (from ≤ length text) × (t : Token) × (next : ℕ) × Takes (at_place text from) t
-    (at_place text next) × (word_of_sort t.sort ≡ w) × Stands text next ws to
+Stands text from [] to = StandsBehind text from [] to
+Stands text from (w ∷ ws) to = StandsBehind text from (w ∷ ws) to × BeginsAt text from
 
 -- a run whose words in no bracket are none
 abbrev pub IsRun : Run → Type 0

@@ -111,6 +111,7 @@ refused (token (keyword keywords.Renamed)) = fault_kinds.LeftOut left_out.Rename
 refused (token (keyword keywords.Extensible)) = fault_kinds.LeftOut left_out.Extensible
 refused (token (keyword keywords.BasedOn)) = fault_kinds.LeftOut left_out.BasedOn
 refused (token (keyword keywords.GenericEntity)) = fault_kinds.LeftOut left_out.GenericEntity
+refused (token (keyword keywords.Schema)) = fault_kinds.LeftOut left_out.SecondSchema
 refused _ = fault_kinds.Expected
 
 abbrev pub Next : Type 0
@@ -182,7 +183,6 @@ next_declaration s = Err (refused s)
 
 abbrev pub next_end_of_text : Lookahead → Next
 next_end_of_text end_of_text = Ok []
-next_end_of_text (token (keyword keywords.Schema)) = Err (fault_kinds.LeftOut left_out.SecondSchema)
 next_end_of_text s = Err (refused s)
 
 abbrev pub opens_routine : List ℕ → Bool

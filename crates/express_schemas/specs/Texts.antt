@@ -65,10 +65,6 @@ pub record IsViablePrefix (levels : ℕ) (s : List Lookahead) : Type 0 where
   pub fits : FitsSchema levels schema
   pub tokens : s ++ rest ≡ lookaheads_of schema
 
--- the tokens so far are those of a whole schema
-abbrev pub IsWhole : List Lookahead → Type 0
-IsWhole s = (x : Schema) × FitsSchema depth_limit x × (s ++ end_of_text ∷ [] ≡ lookaheads_of x)
-
 -- The tokens so far end inside a skipped declaration, behind its first word: x is the schema up to it.
 pub record IsInSkipped (before : List Lookahead) : Type 0 where
   pub x : Schema
@@ -94,7 +90,7 @@ IsLeftOut before at left_out.Renamed = BeginsLeftOut before at keywords.Renamed
 IsLeftOut before at left_out.Extensible = BeginsLeftOut before at keywords.Extensible
 IsLeftOut before at left_out.BasedOn = BeginsLeftOut before at keywords.BasedOn
 IsLeftOut before at left_out.GenericEntity = BeginsLeftOut before at keywords.GenericEntity
-IsLeftOut before at left_out.SecondSchema = (at ≡ token (keyword keywords.Schema)) × IsWhole before
+IsLeftOut before at left_out.SecondSchema = BeginsLeftOut before at keywords.Schema
 IsLeftOut before at left_out.TooLarge = ⊥
 
 -- A token that can't stand behind those before it has this kind of fault: one is too deep that would stand

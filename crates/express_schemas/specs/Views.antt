@@ -39,7 +39,6 @@ use Rattle.express_schemas.specs.declared.tree.Declaration.{Declaration}
 use Rattle.express_schemas.specs.declared.tree.Declaration.TheVariants as declarations
 use Rattle.express_schemas.specs.declared.tree.Version.{Version}
 use Rattle.express_schemas.specs.declared.tree.Version.TheVariants as versions
-use Rattle.express_schemas.specs.declared.tree.SchemaTree.{SchemaTree}
 use Rattle.express_schemas.specs.Runs as runs
 use Rattle.express_schemas.specs.Schemas as trees
 
@@ -187,10 +186,10 @@ abbrev pub version_of : Version → words.Word
 version_of (versions.String s) = words.string s.text.now
 version_of (versions.Encoded s) = words.encoded s.text.now
 
--- the schema that a value is
-abbrev pub schema_of : SchemaTree → trees.Schema
-schema_of x = record {
-  name = capitals x.name;
-  version = if_some version_of x.version;
-  declarations = map declaration_of x.declarations.items;
+-- the schema of a name, a version and declarations
+abbrev pub schema_from : Word → Option Version → List Declaration → trees.Schema
+schema_from name version declarations = record {
+  name = capitals name;
+  version = if_some version_of version;
+  declarations = map declaration_of declarations;
 }

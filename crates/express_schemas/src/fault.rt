@@ -27,7 +27,7 @@ pub enum LeftOut {
     /// A generic entity type (ISO 10303-11, 9.5.3).
     #[error("GenericEntity")]
     GenericEntity,
-    /// A second schema in the text.
+    /// A second schema in the text, behind the first one or inside it.
     #[error("SecondSchema")]
     SecondSchema,
     /// More bytes than are read.

@@ -39,7 +39,8 @@ impl<'a> Passage<'a> {
     /// The passage of a text from one place to another, where tokens stand.
     pub fn between(text: &'a [u8], from: usize, to: usize) -> Passage<'a>
         requires { (ws : List Word) × Stands text.now from ws to }
-        ensures { (ws : List Word) → Stands text.now from ws to → result.words.0 ≡ ws }
+        ensures words { (ws : List Word) → Stands text.now from ws to → result.words.0 ≡ ws }
+        ensures kept { (result.text ≡ text.entry) × (result.from ≡ from) × (result.to ≡ to) }
     {
         Passage { text, from, to }
     }
@@ -64,8 +65,9 @@ impl<'a> Run<'a> {
     /// The run that a passage is.
     pub fn of(passage: Passage<'a>) -> Run<'a>
         requires { (r : Runs.Run) × IsRun r × (words_of_run r ≡ passage.words.0) }
-        ensures { (r : Runs.Run) → IsRun r → words_of_run r ≡ passage.entry.words.0
+        ensures run { (r : Runs.Run) → IsRun r → words_of_run r ≡ passage.entry.words.0
             → result.run.0 ≡ r }
+        ensures kept { result.passage ≡ passage.entry }
     {
         Run { passage }
     }
@@ -82,8 +84,9 @@ impl<'a> Routine<'a> {
     /// The routine that a passage is.
     pub fn of(passage: Passage<'a>) -> Routine<'a>
         requires { (r : Runs.Routine) × FitsRoutine r × (words_of_routine r ≡ passage.words.0) }
-        ensures { (r : Runs.Routine) → FitsRoutine r → words_of_routine r ≡ passage.entry.words.0
-            → result.routine.0 ≡ r }
+        ensures routine { (r : Runs.Routine) → FitsRoutine r
+            → words_of_routine r ≡ passage.entry.words.0 → result.routine.0 ≡ r }
+        ensures kept { result.passage ≡ passage.entry }
     {
         Routine { passage }
     }

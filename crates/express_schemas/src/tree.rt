@@ -1,5 +1,9 @@
 //! Schemas as trees (ISO 10303-11, 8 and 9).
 
+ghost use Rattle.express_trees.specs.Grammar.{depth_limit};
+ghost use Rattle.express_schemas.specs.Profile.{FitsSchema};
+ghost use Rattle.express_schemas.specs.Views.{schema_from};
+
 use crate::passage::{Passage, Routine, Run};
 use express_lexis::literal::{EncodedString, SimpleString, Word};
 use express_trees::tree::{Expr, Sign};
@@ -220,10 +224,12 @@ pub enum Version<'a> {
     Encoded(EncodedString<'a>),
 }
 
-/// A schema (ISO 10303-11, 9.3).
+/// A schema that is within the limits, with runs only where there is no tree (ISO 10303-11, 9.3). The
+/// fields are for reading.
 #[derive(Drop)]
 pub struct SchemaTree<'a> {
     pub name: Word<'a>,
     pub version: Option<Version<'a>>,
     pub declarations: Vec<Declaration<'a>>,
+    pub ghost fits: { ∥ FitsSchema depth_limit (schema_from name version declarations.items) ∥₁ },
 }

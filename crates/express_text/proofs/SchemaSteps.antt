@@ -19,7 +19,8 @@ use Rattle.express_schemas.specs.declared.tree.Version.TheVariants as versions
 use Rattle.express_schemas.specs.declared.tree.Declaration as code
 use Rattle.express_schemas.specs.declared.tree.SchemaTree.{SchemaTree}
 use Rattle.express_schemas.specs.Schemas.{Declaration, Schema}
-use Rattle.express_schemas.specs.Views.{version_of, declaration_of, schema_of}
+use Rattle.express_schemas.specs.Views.{version_of, declaration_of}
+use Rattle.express_schemas.specs.SchemaViews.{schema_of}
 use Rattle.express_schemas.specs.Written.{joined, words_of_declaration, words_of_version, words_of_opening, words_of_schema}
 use Rattle.express_schemas.specs.Profile.{Every, IsVersion, FitsDeclaration, FitsSchema}
 use Rattle.express_schemas.specs.Texts.{token, end_of_text, LocatedToken, Shows, shows_token, shows_fault, shows_end, ShowsAll, lookaheads_of, ReadsAs, IsFaultOf, IsMemory}

@@ -20,10 +20,9 @@ ghost use Rattle.express_lexis.specs.Reading.{IsAtEnd};
 ghost use Rattle.express_trees.specs.declared.keyword.Keyword.TheVariants as keywords;
 ghost use Rattle.express_trees.specs.Words.{keyword, mark};
 ghost use Rattle.express_trees.specs.Grammar.{depth_limit};
-ghost use Rattle.express_schemas.specs.declared.fault.FaultKind.{FaultKind as FaultKind};
-ghost use Rattle.express_schemas.specs.declared.fault.SchemaFault.TheVariants.{Fault};
 ghost use Rattle.express_schemas.specs.Schemas.{Schema};
-ghost use Rattle.express_schemas.specs.Views.{if_some, version_of, declaration_of, schema_of};
+ghost use Rattle.express_schemas.specs.Views.{if_some, version_of, declaration_of};
+ghost use Rattle.express_schemas.specs.SchemaViews.{schema_of};
 ghost use Rattle.express_schemas.specs.Written.{joined, words_of_declaration, words_of_version};
 ghost use Rattle.express_schemas.specs.Profile.{
   Every,
@@ -46,7 +45,6 @@ ghost use Rattle.express_schemas.specs.Predict.{
   Declarations,
   EndOfText,
   refused,
-  next_end_of_text,
   next_version,
   schema_symbols,
 };
@@ -59,8 +57,8 @@ use express_lexis::lexer::Lexer;
 use express_lexis::marks::Mark;
 use express_runs::reader::Reader;
 use express_runs::skipped::skipped;
-use express_runs::tokens::{Item, fault_at, is_keyword, is_mark, refuse};
-use express_schemas::fault::{FaultKind, LeftOut, SchemaFault};
+use express_runs::tokens::{Item, is_keyword, is_mark, refuse};
+use express_schemas::fault::{FaultKind, SchemaFault};
 use express_schemas::tree::{Declaration, SchemaTree, Version};
 use express_trees::keyword::Keyword;
 use express_trees::lexeme::Lexeme;
@@ -142,17 +140,6 @@ fn all_declarations<'a>(reader: &mut Reader<'a>) -> Result<Vec<Declaration<'a>>,
     }
 }
 
-/// The fault at a token behind the schema.
-fn past_end(item: Item<'_>) -> SchemaFault
-    ensures { (k : FaultKind) × (next_end_of_text (located_of item.entry).lookahead ≡ Err k)
-        × (result ≡ Fault k item.entry.place) }
-{
-    if is_keyword(item, Keyword::Schema) {
-        return fault_at(FaultKind::LeftOut(LeftOut::SecondSchema), item);
-    }
-    refuse(item)
-}
-
 /// The end of what a lexer reads.
 fn expect_end(lexer: &mut Lexer<'_>) -> Result<(), SchemaFault>
     ensures { MatchResult result
@@ -161,7 +148,7 @@ fn expect_end(lexer: &mut Lexer<'_>) -> Result<(), SchemaFault>
 {
     match lexer.next_token() {
         Ok(None) => Ok(()),
-        Ok(Some(token)) => Err(past_end(Item {
+        Ok(Some(token)) => Err(refuse(Item {
             lexeme: Lexeme::of(&token),
             place: token.place,
         })),

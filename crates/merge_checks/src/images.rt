@@ -4,9 +4,9 @@ use crate::populations::{Sketch, Sketches, population};
 use std::alloc::Global;
 use std::collections::{BTreeMap, BTreeSet};
 use std::test::Fail;
-use step_equal::agree::Map;
 use step_equal::image::is_image;
 use step_equal::plain::Plain;
+use step_values::agree::Map;
 
 /// What is tested, two populations, the pairs of a map, the pinned names, and whether the map is an image of the
 /// first population on the second.

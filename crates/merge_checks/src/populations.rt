@@ -4,8 +4,9 @@ use std::alloc::Global;
 use std::test::Fail;
 use step_equal::fault::PlainFault;
 use step_equal::plain::Plain;
-use step_equal::row::{PlainRow, PlainValue};
+use step_equal::row::PlainRow;
 use step_literals::literal::{Decimal, Word};
+use step_values::value::PlainValue;
 
 /// The type and the value of a row.
 #[derive(Clone, Copy)]

@@ -60,13 +60,36 @@ fn refused(alloc: Global, text: &[u8]) -> Option<(FaultKind, u64)> {
 #[test]
 fn faults_show_first(rt: HostRuntime) -> Result<(), Fail> {
     let alloc = rt.alloc();
-    let left_out = refused(alloc, b"SCHEMA s; USE FROM t; END_SCHEMA;");
-    assert!(rt; left_out == Some((FaultKind::LeftOut(LeftOut::Use), 10)));
-    let flawed = refused(alloc, b"SCHEMA s; & END_SCHEMA;");
-    assert!(rt; flawed == Some((FaultKind::BadToken, 10)));
-    let expected = refused(alloc, b"SCHEMA s; ENTITY a END_ENTITY; END_SCHEMA;");
-    assert!(rt; expected == Some((FaultKind::Expected, 19)));
-    assert!(rt; refused(alloc, b"") == Some((FaultKind::Expected, 0)));
+    let second = FaultKind::LeftOut(LeftOut::SecondSchema);
+    let rows: [(&[u8], FaultKind, u64); 10] = [
+        (
+            b"SCHEMA s; USE FROM t; END_SCHEMA;",
+            FaultKind::LeftOut(LeftOut::Use),
+            10,
+        ),
+        (b"SCHEMA s; & END_SCHEMA;", FaultKind::BadToken, 10),
+        (
+            b"SCHEMA s; ENTITY a END_ENTITY; END_SCHEMA;",
+            FaultKind::Expected,
+            19,
+        ),
+        (b"", FaultKind::Expected, 0),
+        // A second schema, behind the first one and inside it.
+        (b"SCHEMA s; END_SCHEMA; SCHEMA t; END_SCHEMA;", second, 22),
+        (b"SCHEMA s; SCHEMA t; END_SCHEMA;", second, 10),
+        (b"SCHEMA SCHEMA;", second, 7),
+        (b"SCHEMA s; ENTITY a; SCHEMA t;", second, 20),
+        // In a run and in a skipped declaration it is a token like another.
+        (
+            b"SCHEMA s; ENTITY a; WHERE SCHEMA; &",
+            FaultKind::BadToken,
+            34,
+        ),
+        (b"SCHEMA s; FUNCTION SCHEMA", FaultKind::Expected, 19),
+    ];
+    for (text, kind, place) in rows {
+        assert!(rt; refused(alloc, text) == Some((kind, place)));
+    }
     Ok(())
 }
 

@@ -1,12 +1,12 @@
 -- Images and quotients by examples.
 use Rattle.std.proofs.Common.{◌≡◌, ℕ, Bool, true, cond, List, [], ◌∷◌, Some, None, refl, ◌∙◌, eqb-true, length}
 use Rattle.std.specs.Prelude.{◌==◌, ◌&&◌, ◌||◌}
-use Rattle.step_equal.specs.Values.{AgreeEach, reference, Values, none, more, unchanged}
-use Rattle.step_equal.specs.References.{EachReferenceOf}
+use Rattle.step_values.specs.Values.{AgreeEach, reference, Values, none, more, unchanged}
+use Rattle.step_values.specs.References.{EachReferenceOf}
 use Rattle.step_equal.specs.Rows.{Row, row_at, IsName, RowsAgree, renamed_row}
 use Rattle.step_equal.specs.Keeping.{ValueEqual}
 use Rattle.step_equal.specs.Images.{IsImage, quotient}
-use Rattle.step_equal.proofs.References.{each_reordered}
+use Rattle.step_values.proofs.References.{each_reordered}
 use Rattle.step_equal.proofs.Samples.{each_row, note, free, point, placement, node, bundle, twice}
 use Rattle.step_equal.proofs.ValueExamples.{differ, agree_of, bundles, cycles}
 

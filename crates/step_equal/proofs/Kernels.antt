@@ -2,16 +2,16 @@
 use Rattle.std.proofs.Common.{◌≡◌, ℕ, Bool, true, false, cond, List, refl, sym, ◌∙◌, ap, subst, ◌⊎◌, inl, inr, eqb-true, eq-eqb}
 use Rattle.std.specs.Prelude.{◌==◌, ◌&&◌, ◌||◌, is_some}
 use Rattle.std.proofs.lemmas.Bool.{and_parts, and_from, or_cases}
-use Rattle.step_equal.specs.Values.{AgreeEach}
-use Rattle.step_equal.specs.References.{renamed_each}
+use Rattle.step_values.specs.Values.{AgreeEach}
+use Rattle.step_values.specs.References.{renamed_each}
 use Rattle.step_equal.specs.Rows.{Row, kind_of, row_at, IsName, IsPopulation, BagsArePinned}
 use Rattle.step_equal.specs.Keeping.{under, AreAlike, AgreeUnder, Keeps}
 use Rattle.step_equal.specs.Images.{IsImage, kernel}
 use Rattle.step_equal.specs.Laws.{KernelsAreCongruences}
 use Rattle.step_equal.proofs.Lookup.{held_name, name_held, same_row}
-use Rattle.step_equal.proofs.References.{bags_both_of}
-use Rattle.step_equal.proofs.Agreement.{eqb_trans, agree_each_sym, agree_each_trans}
-use Rattle.step_equal.proofs.Renaming.{reflected_each}
+use Rattle.step_values.proofs.References.{bags_both_of}
+use Rattle.step_values.proofs.Agreement.{eqb_trans, agree_each_sym, agree_each_trans}
+use Rattle.step_values.proofs.Renaming.{reflected_each}
 
 -- two instances with one image
 pub record Meet (P : List Row) (h : ℕ → ℕ) (x z : ℕ) : Type 0 where

@@ -8,14 +8,15 @@ use Rattle.std.specs.Str.{bytes_eq}
 use Rattle.std.proofs.lemmas.Bool.{and_parts, and_from, or_cases, or_left, or_right}
 use Rattle.std.proofs.lemmas.Bool.Decides.{nat_tests}
 use Rattle.std.proofs.lemmas.Slice.Eq.{bytes_eq-Decides}
-use Rattle.step_equal.specs.Values.{Value, leaf, reference, typed, sequence, bag, Values, none, more}
-use Rattle.step_equal.specs.References.{renamed, renamed_each}
+use Rattle.step_values.specs.Values.{Value, leaf, reference, typed, sequence, bag, Values, none, more}
+use Rattle.step_values.specs.References.{renamed, renamed_each}
 use Rattle.step_equal.specs.Rows.{Row, names, row_at, IsName, RowsAgree, renamed_row}
-use Rattle.step_equal.specs.ComputedAgreement.{each_test, same_each_test}
-use Rattle.step_equal.specs.Maps.{led_by, is_key, IsMapImage}
+use Rattle.step_values.specs.ComputedAgreement.{each_test, same_each_test}
+use Rattle.step_values.specs.Maps.{led_by}
+use Rattle.step_equal.specs.Maps.{is_key, IsMapImage}
 use Rattle.step_equal.specs.ComputedImages.{IsOnto, LeavesAlone, row_lands, source, is_source}
 use Rattle.step_equal.proofs.Lookup.{row_cases, held_name, name_held, name_here, name_later, all_rows, rows_all, all_names, names_all, row_name}
-use Rattle.step_equal.proofs.Deciding.{each_decides, each_sound, each_complete}
+use Rattle.step_values.proofs.Deciding.{each_decides, each_sound, each_complete}
 
 -- each row of P is led to one of Q that agrees with it
 abbrev pub Lands : List Row → List Row → (ℕ → ℕ) → Type 0

@@ -1,7 +1,4 @@
 pub mod Lookup
-pub mod References
-pub mod Agreement
-pub mod Renaming
 pub mod Pairs
 pub mod Congruences
 pub mod Kernels
@@ -23,10 +20,6 @@ pub mod TableExamples
 pub mod StandardExample
 pub mod Placing
 pub mod Landing
-pub mod Walks
-pub mod Deciding
-pub mod Sorting
-pub mod NormalForms
 pub mod Settling
 pub mod Parting
 pub mod Births

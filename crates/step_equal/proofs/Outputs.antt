@@ -7,7 +7,7 @@ use Rattle.step_equal.specs.Images.{IsImage, head_of, quotient}
 use Rattle.step_equal.specs.Tables.{shares}
 use Rattle.step_equal.specs.Laws.{CertificatesProve}
 use Rattle.step_equal.proofs.Lookup.{same_row}
-use Rattle.step_equal.proofs.Agreement.{agree_each_sym, agree_each_trans, eqb_trans}
+use Rattle.step_values.proofs.Agreement.{agree_each_sym, agree_each_trans, eqb_trans}
 use Rattle.step_equal.proofs.Congruences.{congruence}
 use Rattle.step_equal.proofs.Quotients.{quotient_image}
 use Rattle.step_equal.proofs.Counting.{quotient_least, apart_no_more}

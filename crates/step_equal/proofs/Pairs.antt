@@ -2,12 +2,12 @@
 use Rattle.std.proofs.Common.{◌≡◌, ℕ, Bool, true, false, cond, List, refl, sym, ◌∙◌, ap, subst, inl, inr, eqb-true, eq-eqb}
 use Rattle.std.specs.Prelude.{◌==◌, ◌||◌}
 use Rattle.std.proofs.lemmas.Bool.{or_cases, or_left, or_right}
-use Rattle.step_equal.specs.Values.{AgreeEach}
+use Rattle.step_values.specs.Values.{AgreeEach}
 use Rattle.step_equal.specs.Rows.{Row, kind_of, row_at, IsName, IsPopulation}
 use Rattle.step_equal.specs.Keeping.{under, AreAlike, AgreeUnder}
 use Rattle.step_equal.proofs.Lookup.{same_row}
-use Rattle.step_equal.proofs.References.{each_weaker_of}
-use Rattle.step_equal.proofs.Agreement.{eqb_sym, eqb_trans, agree_each_grows, agree_each_refl, agree_each_back, agree_each_trans}
+use Rattle.step_values.proofs.References.{each_weaker_of}
+use Rattle.step_values.proofs.Agreement.{eqb_sym, eqb_trans, agree_each_grows, agree_each_refl, agree_each_back, agree_each_trans}
 
 module _ (pinned : ℕ → Bool) where
   pub under_grows : (R S : ℕ → ℕ → Bool) → ((y z : ℕ) → R y z ≡ true → S y z ≡ true) → (y z : ℕ)

@@ -8,13 +8,13 @@ use Rattle.std.proofs.lemmas.Slice.Eq.{bytes_eq-Decides}
 use Rattle.step_equal.specs.Rows.{Row, names, kind_of, row_at, IsName, IsPopulation}
 use Rattle.step_equal.specs.Keeping.{under, AreAlike, AgreeUnder}
 use Rattle.step_equal.specs.Images.{head_of}
-use Rattle.step_equal.specs.ComputedAgreement.{each_test}
+use Rattle.step_values.specs.ComputedAgreement.{each_test}
 use Rattle.step_equal.specs.Standard.{IsRefinement}
 use Rattle.step_equal.specs.Tables.{IsGrounded}
 use Rattle.step_equal.specs.Laws.{ValueEqualityExists}
 use Rattle.step_equal.proofs.Lookup.{row_cases}
 use Rattle.step_equal.proofs.Pairs.{alike_sym, alike_trans, agree_under_grows, agree_under_back, agree_under_trans}
-use Rattle.step_equal.proofs.Deciding.{each_decides, agree_each_by, each_by_sound, each_by_complete}
+use Rattle.step_values.proofs.Deciding.{each_decides, agree_each_by, each_by_sound, each_by_complete}
 use Rattle.step_equal.proofs.Few.{count_length, ArePartitions, many_heads}
 use Rattle.step_equal.proofs.Rounds.{own, stable_decides, refinement_grounded, refinement_stable}
 use Rattle.step_equal.proofs.Numbering.{scan, IsLeast}

@@ -10,11 +10,11 @@ use Rattle.std.proofs.lemmas.List.Quantifiers.{position-Some}
 use Rattle.step_equal.specs.declared.row.PlainRow.{PlainRow}
 use Rattle.step_equal.specs.Rows.{Row, names, row_at, IsName, IsPopulation}
 use Rattle.step_equal.specs.Views.{row_of, rows_of}
-use Rattle.step_equal.proofs.Agreement.{eqb_sym}
+use Rattle.step_values.proofs.Agreement.{eqb_sym}
 use Rattle.step_equal.proofs.Ancestors.{seen_at}
 use Rattle.step_equal.proofs.Lookup.{row_here, row_later, held_name, name_held, all_rows, rows_all}
-use Rattle.step_equal.specs.Values.{Value, leaf, reference, typed, sequence, bag, Values, none, more}
-use Rattle.step_equal.specs.References.{EachReference, EachReferenceOf}
+use Rattle.step_values.specs.Values.{Value, leaf, reference, typed, sequence, bag, Values, none, more}
+use Rattle.step_values.specs.References.{EachReference, EachReferenceOf}
 use Rattle.step_equal.specs.ComputedClosure.{references_pass, all_references_pass, rows_pass}
 
 turned : (y z : ℕ) → (y == z) ≡ (z == y)

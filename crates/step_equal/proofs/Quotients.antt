@@ -2,15 +2,15 @@
 use Rattle.std.proofs.Common.{◌≡◌, ℕ, Bool, true, false, cond, List, Some, sym, ◌∙◌, ap, subst, ◌⊎◌, inl, inr, eqb-true}
 use Rattle.std.specs.Prelude.{◌==◌, ◌||◌}
 use Rattle.std.proofs.lemmas.Bool.{or_left, or_right}
-use Rattle.step_equal.specs.Values.{AgreeEach}
-use Rattle.step_equal.specs.References.{renamed_each, EachReferenceOf}
+use Rattle.step_values.specs.Values.{AgreeEach}
+use Rattle.step_values.specs.References.{renamed_each, EachReferenceOf}
 use Rattle.step_equal.specs.Rows.{Row, names, kind_of, row_at, IsName, IsPopulation, RowsAgree, renamed_row}
 use Rattle.step_equal.specs.Keeping.{under, IsCongruence}
 use Rattle.step_equal.specs.Images.{IsImage, head_of, quotient}
 use Rattle.step_equal.specs.Laws.{QuotientsAreImages}
 use Rattle.step_equal.proofs.Lookup.{same_row}
-use Rattle.step_equal.proofs.References.{each_renamed_of}
-use Rattle.step_equal.proofs.Renaming.{agree_each_renamed}
+use Rattle.step_values.proofs.References.{each_renamed_of}
+use Rattle.step_values.proofs.Renaming.{agree_each_renamed}
 use Rattle.step_equal.proofs.Heads.{head_found, one_head, head_head, one_class}
 use Rattle.step_equal.proofs.Chosen.{quotient_row, row_of_quotient, quotient_distinct}
 

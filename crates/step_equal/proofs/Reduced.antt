@@ -2,18 +2,18 @@
 use Rattle.std.proofs.Common.{◌≡◌, ℕ, Bool, true, false, cond, List, Some, refl, sym, ◌∙◌, ap, subst, inl, inr, eqb-true, eq-eqb, [], ◌∷◌}
 use Rattle.std.specs.Prelude.{◌==◌, ◌&&◌, ◌||◌, is_some, map, filter}
 use Rattle.std.proofs.lemmas.Bool.{and_parts, and_from, or_cases, or_left, or_right}
-use Rattle.step_equal.specs.References.{renamed_each, renamed}
+use Rattle.step_values.specs.References.{renamed_each, renamed}
 use Rattle.step_equal.specs.Rows.{Row, names, row_at, IsName, IsPopulation, RowsAgree, renamed_row, BagsArePinned}
 use Rattle.step_equal.specs.Keeping.{under, AreAlike, AgreeUnder, Keeps, ValueEqual, IsValueEquality, IsCongruence}
 use Rattle.step_equal.specs.Images.{head_of, quotient}
 use Rattle.step_equal.specs.Laws.{QuotientsAreReduced, QuotientsStay}
 use Rattle.step_equal.proofs.Lookup.{held_name, name_held, same_row}
-use Rattle.step_equal.proofs.Agreement.{agree_each_trans, agree_each_sym}
+use Rattle.step_values.proofs.Agreement.{agree_each_trans, agree_each_sym}
 use Rattle.step_equal.proofs.Congruences.{identity, identity_self, identity_keeps, congruence}
 use Rattle.step_equal.proofs.Kernels.{reflected_values}
 use Rattle.step_equal.proofs.Chosen.{row_of_quotient}
 use Rattle.step_equal.proofs.Quotients.{same_head, quotient_image, quotient_population, pinned_head, pinned_apart}
-use Rattle.step_equal.specs.Values.{Value, leaf, reference, typed, sequence, bag, Values, none, more}
+use Rattle.step_values.specs.Values.{Value, leaf, reference, typed, sequence, bag, Values, none, more}
 
 -- two instances whose images under h are related
 pub record Lifts (P : List Row) (h : ℕ → ℕ) (R : ℕ → ℕ → Bool) (x z : ℕ) : Type 0 where

@@ -2,8 +2,8 @@
 use Rattle.std.proofs.Common.{◌≡◌, ℕ, Bool, false, List, [], ◌∷◌, Some, subst, inl, inr, codes}
 use Rattle.std.specs.Prelude.{⊤, pos}
 use Rattle.step_literals.specs.declared.literal.items.Item.TheVariants.{Code}
-use Rattle.step_equal.specs.Leaves.{unset, number, text}
-use Rattle.step_equal.specs.Values.{leaf, reference, sequence, bag, Values, none, more}
+use Rattle.step_values.specs.Leaves.{unset, number, text}
+use Rattle.step_values.specs.Values.{leaf, reference, sequence, bag, Values, none, more}
 use Rattle.step_equal.specs.Rows.{Row, row_at}
 use Rattle.step_equal.proofs.Lookup.{row_cases}
 

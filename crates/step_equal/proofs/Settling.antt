@@ -19,13 +19,14 @@ use Rattle.std.proofs.lemmas.List.Sorted.{list_any-IsPermutation}
 use Rattle.std.proofs.lemmas.Slice.Eq.{bytes_eq-Decides}
 use Rattle.step_literals.specs.declared.literal.Word.{Word}
 use Rattle.step_equal.specs.declared.row.PlainRow.{PlainRow}
-use Rattle.step_equal.specs.References.{EachReferenceOf}
+use Rattle.step_values.specs.References.{EachReferenceOf}
 use Rattle.step_equal.specs.Rows.{Row, names, row_at, IsName, IsPopulation}
 use Rattle.step_equal.specs.Settled.{AreInOrder, IsSettled}
-use Rattle.step_equal.specs.Views.{word_of, row_of, rows_of}
+use Rattle.step_values.specs.Views.{word_of}
+use Rattle.step_equal.specs.Views.{row_of, rows_of}
 use Rattle.step_equal.proofs.Lookup.{row_cases, row_here, row_later, held_name, name_held}
 use Rattle.step_equal.proofs.Placing.{name_stands}
-use Rattle.step_equal.proofs.References.{each_weaker_of}
+use Rattle.step_values.proofs.References.{each_weaker_of}
 
 any_map : (p : List ℕ → Bool) (ws : List Word) → list_any p (map word_of ws) ≡ list_any (λ w. p (word_of w)) ws
 any_map p [] = refl

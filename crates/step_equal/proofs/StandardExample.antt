@@ -2,7 +2,7 @@
 use Rattle.std.proofs.Common.{◌≡◌, ◌≢◌, ◌≤◌, ◌<◌, ℕ, zero, suc, true, false, List, [], ◌∷◌, Option, Some, None, refl, ◌∙◌, ap, subst, eqb-true, ◌+◌, inl, inr, arith}
 use Rattle.std.specs.Prelude.{slice_get, slice_index, slice_index_or}
 use Rattle.std.proofs.lemmas.Option.{slice_get_within}
-use Rattle.step_equal.specs.Values.{AgreeEach}
+use Rattle.step_values.specs.Values.{AgreeEach}
 use Rattle.step_equal.specs.Rows.{Row, names, kind_of, IsName}
 use Rattle.step_equal.specs.Keeping.{under, AgreeUnder}
 use Rattle.step_equal.specs.Tables.{Table, start, split, IsAncestor, itself, through, class_at, same_class, shares}

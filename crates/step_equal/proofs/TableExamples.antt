@@ -2,8 +2,8 @@
 use Rattle.std.proofs.Common.{◌≡◌, ◌≢◌, ◌<◌, ℕ, zero, suc, Bool, true, false, List, [], ◌∷◌, Option, Some, None, refl, subst, arith}
 use Rattle.std.specs.Prelude.{◌+◌, ◌==◌, map, pos}
 use Rattle.std.proofs.lemmas.Bool.{false≢true}
-use Rattle.step_equal.specs.Leaves.{number}
-use Rattle.step_equal.specs.Values.{AgreeEach}
+use Rattle.step_values.specs.Leaves.{number}
+use Rattle.step_values.specs.Values.{AgreeEach}
 use Rattle.step_equal.specs.Rows.{Row, kind_of, row_at}
 use Rattle.step_equal.specs.Keeping.{under}
 use Rattle.step_equal.specs.Tables.{Table, start, split, class_at, shares, HasMembers, IsGrounded, IsStable, IsValid}

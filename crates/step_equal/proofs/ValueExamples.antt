@@ -1,8 +1,8 @@
 -- Value equality by examples.
 use Rattle.std.proofs.Common.{◌≡◌, ℕ, Bool, true, false, List, [], ◌∷◌, Some, refl, subst, eqb-true, eq-eqb, codes}
 use Rattle.std.specs.Prelude.{pos, ⊤, ◌==◌, ◌&&◌, ◌||◌}
-use Rattle.step_equal.specs.Leaves.{unset, derived, number}
-use Rattle.step_equal.specs.Values.{Agree, AgreeEach, leaf, typed, sequence, bag, reference, Values, none, more, IsReordering, swapped}
+use Rattle.step_values.specs.Leaves.{unset, derived, number}
+use Rattle.step_values.specs.Values.{Agree, AgreeEach, leaf, typed, sequence, bag, reference, Values, none, more, IsReordering, swapped}
 use Rattle.step_equal.specs.Rows.{Row, kind_of, row_at}
 use Rattle.step_equal.specs.Keeping.{AreAlike, AgreeUnder, ValueEqual, under}
 use Rattle.step_equal.proofs.Lookup.{same_row}

@@ -1,7 +1,7 @@
 -- What the code computes; no promise stands here. Whether the references of rows pass a test.
 use Rattle.std.specs.Prelude.{ℕ, ◌&&◌, Bool, true, List}
 use Rattle.std.specs.List.{list_all}
-use Rattle.step_equal.specs.Values.{Value, leaf, reference, typed, sequence, bag, Values, none, more}
+use Rattle.step_values.specs.Values.{Value, leaf, reference, typed, sequence, bag, Values, none, more}
 use Rattle.step_equal.specs.Rows.{Row}
 
 -- whether each reference at any depth passes

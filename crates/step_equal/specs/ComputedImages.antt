@@ -5,10 +5,11 @@ use Rattle.std.specs.BTreeMap.{BTreeMap}
 use Rattle.std.specs.BTreeSet.{BTreeSet}
 use Rattle.std.specs.HashMap.{HashMap, get}
 use Rattle.std.specs.Str.{bytes_eq}
-use Rattle.step_equal.specs.References.{renamed_each}
+use Rattle.step_values.specs.References.{renamed_each}
 use Rattle.step_equal.specs.Rows.{Row, kind_of, row_at, IsName}
-use Rattle.step_equal.specs.ComputedAgreement.{each_test, same_each_test}
-use Rattle.step_equal.specs.Maps.{led_by, is_pinned}
+use Rattle.step_values.specs.ComputedAgreement.{each_test, same_each_test}
+use Rattle.step_values.specs.Maps.{led_by}
+use Rattle.step_equal.specs.Maps.{is_pinned}
 
 abbrev pub IsOnto : List Row → List Row → (ℕ → ℕ) → Type 0
 IsOnto P Q h = (y : ℕ) → IsName Q y → (x : ℕ) × IsName P x × (h x ≡ y)

@@ -1,7 +1,7 @@
 -- Value equality (compare ISO 10303-11, 12.2.1): the greatest relation that keeps, a bisimulation that tells pinned
 -- instances by identity. So cycles are compared too.
 use Rattle.std.specs.Prelude.{◌≡◌, ℕ, ◌==◌, ◌||◌, ◌↔◌, Bool, true, cond, List, Some}
-use Rattle.step_equal.specs.Values.{AgreeEach}
+use Rattle.step_values.specs.Values.{AgreeEach}
 use Rattle.step_equal.specs.Rows.{Row, kind_of, row_at, IsName}
 
 -- references agree under R: they name the same pinned instance, or two free ones that R relates

@@ -1,6 +1,3 @@
-pub mod Leaves
-pub mod Values
-pub mod References
 pub mod Rows
 pub mod Keeping
 pub mod Images
@@ -13,9 +10,6 @@ pub mod ComputedClosure
 pub mod Faults
 pub mod ComputedCodes
 pub mod ComputedPlaces
-pub mod ComputedAgreement
 pub mod Maps
-pub mod ComputedRenamings
-pub mod ComputedForms
 pub mod ComputedImages
 pub mod Settled

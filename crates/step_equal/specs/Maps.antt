@@ -1,14 +1,11 @@
--- Finite maps from names to names, and when one is an image.
-use Rattle.std.specs.Prelude.{◌≡◌, ◌↔◌, ℕ, Bool, true, List, is_some, unwrap_or}
+-- When a finite map from names to names is an image.
+use Rattle.std.specs.Prelude.{◌≡◌, ◌↔◌, ℕ, Bool, true, List, is_some}
 use Rattle.std.specs.Ordering.{nat_cmp}
 use Rattle.std.specs.BTreeMap.{BTreeMap, get}
 use Rattle.std.specs.BTreeSet.{BTreeSet, contains}
+use Rattle.step_values.specs.Maps.{led_by}
 use Rattle.step_equal.specs.Rows.{Row, IsName}
 use Rattle.step_equal.specs.Images.{IsImage}
-
--- where the map leads a name; a name that it lacks stays
-abbrev pub led_by : BTreeMap ℕ ℕ → ℕ → ℕ
-led_by m y = unwrap_or (get nat_cmp m y) y
 
 abbrev pub is_key : BTreeMap ℕ ℕ → ℕ → Bool
 is_key m y = is_some (get nat_cmp m y)

@@ -1,8 +1,8 @@
 -- Populations: what a data section says, whatever the order of its instances and the spelling of its literals.
 use Rattle.std.specs.Prelude.{◌≡◌, ℕ, ◌==◌, Bool, true, cond, List, [], ◌∷◌, map, Option, Some, None}
 use Rattle.std.specs.List.{IsDistinct}
-use Rattle.step_equal.specs.Values.{Values, AgreeEach}
-use Rattle.step_equal.specs.References.{renamed_each, EachReferenceOf, EachBagReferenceOf}
+use Rattle.step_values.specs.Values.{Values, AgreeEach}
+use Rattle.step_values.specs.References.{renamed_each, EachReferenceOf, EachBagReferenceOf}
 
 -- an instance: its name, its type words (in upper case, in order, none twice), and a value for each attribute
 pub record Row : Type 0 where

@@ -15,18 +15,20 @@ ghost use Rattle.step_equal.specs.ComputedImages.{
   source_by,
   is_source_by,
 };
-ghost use Rattle.step_equal.specs.Maps.{led_by, is_key, is_pinned, IsMapImage};
+ghost use Rattle.step_values.specs.Maps.{led_by};
+ghost use Rattle.step_equal.specs.Maps.{is_key, is_pinned, IsMapImage};
 ghost use Rattle.step_equal.specs.Rows.{row_at, IsName};
-ghost use Rattle.step_equal.specs.ComputedAgreement.{each_test};
-ghost use Rattle.step_equal.specs.Views.{word_of, row_of, rows_of};
+ghost use Rattle.step_values.specs.ComputedAgreement.{each_test};
+ghost use Rattle.step_values.specs.Views.{word_of};
+ghost use Rattle.step_equal.specs.Views.{row_of, rows_of};
 
-use crate::agree::{Map, Renaming, lead, same_each};
-use crate::literals::same_word;
 use crate::plain::Plain;
 use crate::row::PlainRow;
 use std::alloc::{AllocError, Global};
 use std::collections::{BTreeSet, HashMap, HashSet};
 use step_literals::literal::Word;
+use step_values::agree::{Map, Renaming, lead, same_each};
+use step_values::literals::same_word;
 
 /// Whether the map is an image of the first population on the second.
 ///

@@ -6,12 +6,9 @@
 //! made it, proves it.
 #![tactic(auto)]
 
-pub mod agree;
 pub mod fault;
 pub mod image;
 pub mod laws;
-mod literals;
-mod normal;
 pub mod plain;
 pub mod row;
 mod settled;

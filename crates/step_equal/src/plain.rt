@@ -10,14 +10,16 @@ ghost use Rattle.step_equal.specs.Faults.{IsFaultOf};
 ghost use Rattle.step_equal.specs.ComputedPlaces.{IsPlaced};
 ghost use Rattle.step_equal.specs.Rows.{Row, IsPopulation, names, row_at};
 ghost use Rattle.step_equal.specs.Settled.{IsSettled};
-ghost use Rattle.step_equal.specs.Views.{value_of, values_of, row_of, rows_of};
+ghost use Rattle.step_values.specs.Views.{value_of, values_of};
+ghost use Rattle.step_equal.specs.Views.{row_of, rows_of};
 
 use crate::fault::PlainFault;
-use crate::row::{PlainRow, PlainValue};
+use crate::row::PlainRow;
 use crate::settled::settle_rows;
 use indexmap::IndexSet;
 use std::alloc::Global;
 use std::marker::Model;
+use step_values::value::PlainValue;
 
 /// A population: no name stands twice, and each reference names a row.
 #[derive(Drop)]

@@ -6,3 +6,4 @@ pub mod Views
 pub mod Predict
 pub mod Normal
 pub mod Exchanges
+pub mod FaultTexts

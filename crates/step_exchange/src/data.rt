@@ -21,10 +21,10 @@ ghost use Rattle.step_lexis.specs.declared.token.Mark.TheVariants.{Semicolon};
 
 use crate::fault::{FaultKind, LeftOut, TextFault};
 use crate::records::rows;
+use crate::structure::Instances;
 use crate::tokens::{expect, fault_at, is_mark, is_said, is_word, refuse, take};
-use crate::tree::Form;
-use indexmap::IndexMap;
 use std::alloc::Global;
+use std::hash::RandomState;
 use step_lexis::lexer::Lexer;
 use step_lexis::token::{Mark, Sort, Token};
 
@@ -106,18 +106,19 @@ fn end(lexer: &mut Lexer<'_>) -> Result<(), TextFault>
 }
 
 /// The instances of the data section, read to the end of the text, with room for so many of them
-/// from the start.
+/// from the start where memory allows that.
 pub fn data<'a>(
     alloc: Global,
+    keys: RandomState,
     lexer: &mut Lexer<'a>,
     expected: usize,
-) -> Result<IndexMap<u64, Form<'a>>, TextFault>
+) -> Result<Instances<'a>, TextFault>
     ensures { MatchResult result
         (λ m. TakesData lexer.old (map row_of m.entries) lexer.new)
         (λ e. StopsIn e data_symbols [] lexer.old) }
 {
     begin_data(lexer)?;
-    let records = rows(alloc, lexer, expected)?;
+    let records = rows(alloc, keys, lexer, expected)?;
     expect(lexer, Mark::Semicolon)?;
     end(lexer)?;
     Ok(records)

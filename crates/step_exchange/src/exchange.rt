@@ -10,6 +10,7 @@ use crate::fault::TextFault;
 use crate::header::header;
 use crate::structure::Exchange;
 use std::alloc::Global;
+use std::hash::RandomState;
 use step_lexis::lexer::Lexer;
 
 /// So many bytes an instance has in most files.
@@ -19,7 +20,13 @@ const BYTES_AN_INSTANCE: usize = 64;
 ///
 /// Where it reads as none the fault is the one that shows first, E1 to E10, with its place; where
 /// memory runs out it is `Memory`. The limit of 2^40 bytes is the caller's to test.
-pub fn read_exchange<'a>(alloc: Global, text: &'a [u8]) -> Result<Exchange<'a>, TextFault>
+///
+/// Names are hashed by these keys.
+pub fn read_exchange<'a>(
+    alloc: Global,
+    keys: RandomState,
+    text: &'a [u8],
+) -> Result<Exchange<'a>, TextFault>
     // What is read is what the text reads as.
     ensures found { IfOk result (λ x. ReadsAs text.now x.header_bytes.now (structure x)) }
     // What the text reads as is read, unless memory runs out.
@@ -31,7 +38,7 @@ pub fn read_exchange<'a>(alloc: Global, text: &'a [u8]) -> Result<Exchange<'a>, 
     let mut lexer = Lexer::new(text);
     let (first, header) = header(alloc, &mut lexer)?;
     let end = lexer.place();
-    let records = data(alloc, &mut lexer, text.len() / BYTES_AN_INSTANCE)?;
+    let records = data(alloc, keys, &mut lexer, text.len() / BYTES_AN_INSTANCE)?;
     let (header_bytes, _) = text.split_at(end as usize);
     let (_, header_bytes) = header_bytes.split_at(first as usize);
     Ok(Exchange {

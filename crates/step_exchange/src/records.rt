@@ -28,10 +28,12 @@ ghost use Rattle.step_exchange.specs.Predict.{
 
 use crate::fault::{FaultKind, LeftOut, TextFault};
 use crate::params::record_params;
+use crate::structure::Instances;
 use crate::tokens::{expect, fault_at, is_mark, is_said, is_word, refuse, take};
 use crate::tree::{Form, Record};
 use indexmap::{IndexMap, IndexSet};
 use std::alloc::{AllocFailed, Global};
+use std::hash::RandomState;
 use step_lexis::lexer::Lexer;
 use step_lexis::token::{Mark, Sort, Token};
 use step_literals::literal::Word;
@@ -43,6 +45,9 @@ const INSTANCES: usize = 0xFFFF_FFFF;
 /// keywords of those behind them are in a set.
 const LOOKED_THROUGH: usize = 8;
 
+/// Keywords of partial records, hashed as names are.
+type Keywords<'a> = IndexSet<Word<'a>, RandomState>;
+
 /// Whether one of these partial records has this keyword, whatever the case of its letters.
 fn is_among(parts: &[Record<'_>], keyword: Word<'_>) -> bool
     ensures { result ≡ any_has_keyword keyword.entry.text.now parts.now }
@@ -53,7 +58,7 @@ fn is_among(parts: &[Record<'_>], keyword: Word<'_>) -> bool
 }
 
 /// The same, where the keywords behind those that are looked through are in a set.
-fn has_keyword(parts: &[Record<'_>], further: &IndexSet<Word<'_>>, keyword: Word<'_>) -> bool
+fn has_keyword(parts: &[Record<'_>], further: &Keywords<'_>, keyword: Word<'_>) -> bool
     requires { further.now.keys ≡ further_keywords parts.now }
     ensures { result ≡ any_has_keyword keyword.entry.text.now parts.now }
 {
@@ -65,7 +70,7 @@ fn has_keyword(parts: &[Record<'_>], further: &IndexSet<Word<'_>>, keyword: Word
 
 /// Keeps the keyword of one more partial record behind these, which none of them has.
 fn keep_keyword<'a>(
-    further: &mut IndexSet<Word<'a>>,
+    further: &mut Keywords<'a>,
     parts: &[Record<'a>],
     part: &Record<'a>,
 ) -> Result<(), AllocFailed<Word<'a>>>
@@ -86,7 +91,7 @@ fn partial<'a>(
     lexer: &mut Lexer<'a>,
     first: Token<'a>,
     parts: &[Record<'a>],
-    further: &IndexSet<Word<'a>>,
+    further: &Keywords<'a>,
 ) -> Result<Record<'a>, TextFault>
     requires open { Predict.is_mark Close (located first).lookahead ≡ false }
     requires kept { further.now.keys ≡ further_keywords parts.now }
@@ -107,13 +112,17 @@ fn partial<'a>(
 }
 
 /// The partial records of an external one behind its parenthesis, and the closing one.
-fn partials<'a>(alloc: Global, lexer: &mut Lexer<'a>) -> Result<Vec<Record<'a>>, TextFault>
+fn partials<'a>(
+    alloc: Global,
+    keys: RandomState,
+    lexer: &mut Lexer<'a>,
+) -> Result<Vec<Record<'a>>, TextFault>
     ensures { MatchResult result
         (λ ps. TakesPartialRecords lexer.old (map record_of ps.items) lexer.new)
         (λ e. StopsIn e (Parts [] ∷ []) [] lexer.old) }
 {
     let mut parts: Vec<Record<'a>> = Vec::new(alloc);
-    let mut further: IndexSet<Word<'a>> = IndexSet::new(alloc);
+    let mut further: Keywords<'a> = IndexSet::with_hasher(alloc, keys);
     loop {
         let token = take(lexer)?;
         if is_mark(token, Mark::Close) {
@@ -129,14 +138,14 @@ fn partials<'a>(alloc: Global, lexer: &mut Lexer<'a>) -> Result<Vec<Record<'a>>,
 }
 
 /// What stands for an instance behind its `=`.
-fn form<'a>(alloc: Global, lexer: &mut Lexer<'a>) -> Result<Form<'a>, TextFault>
+fn form<'a>(alloc: Global, keys: RandomState, lexer: &mut Lexer<'a>) -> Result<Form<'a>, TextFault>
     ensures { MatchResult result
         (λ f. TakesForm lexer.old (form_of f) lexer.new)
         (λ e. StopsIn e (Body ∷ []) [] lexer.old) }
 {
     let first = take(lexer)?;
     if is_mark(first, Mark::Open) {
-        let parts = partials(alloc, lexer)?;
+        let parts = partials(alloc, keys, lexer)?;
         return Ok(Form::External(parts));
     }
     let Sort::Keyword(keyword) = first.sort else {
@@ -147,20 +156,20 @@ fn form<'a>(alloc: Global, lexer: &mut Lexer<'a>) -> Result<Form<'a>, TextFault>
 }
 
 /// What stands for an instance behind its name.
-fn row<'a>(alloc: Global, lexer: &mut Lexer<'a>) -> Result<Form<'a>, TextFault>
+fn row<'a>(alloc: Global, keys: RandomState, lexer: &mut Lexer<'a>) -> Result<Form<'a>, TextFault>
     ensures { MatchResult result
         (λ f. TakesRow lexer.old (form_of f) lexer.new)
         (λ e. StopsIn e row_symbols [] lexer.old) }
 {
     expect(lexer, Mark::Equals)?;
-    let form = form(alloc, lexer)?;
+    let form = form(alloc, keys, lexer)?;
     expect(lexer, Mark::Semicolon)?;
     Ok(form)
 }
 
 /// Whether one of the instances has this name, where none has a name beyond the greatest. Names
 /// rise in most files, and then none is looked up.
-fn has_name(records: &IndexMap<u64, Form<'_>>, greatest: u64, name: u64) -> bool
+fn has_name(records: &Instances<'_>, greatest: u64, name: u64) -> bool
     requires { AtMost greatest (names_of (map row_of records.now.entries)) }
     ensures { result ≡ Fits.has_name name (names_of (map row_of records.now.entries)) }
 {
@@ -171,11 +180,7 @@ fn has_name(records: &IndexMap<u64, Form<'_>>, greatest: u64, name: u64) -> bool
 }
 
 /// The name of one more instance, if it is none of those that stand already.
-fn next_name(
-    records: &IndexMap<u64, Form<'_>>,
-    greatest: u64,
-    token: Token<'_>,
-) -> Result<u64, TextFault>
+fn next_name(records: &Instances<'_>, greatest: u64, token: Token<'_>) -> Result<u64, TextFault>
     requires bound { AtMost greatest (names_of (map row_of records.now.entries)) }
     requires more { Predict.is_word (codes "ENDSEC") (located token).lookahead ≡ false }
     ensures { MatchResult result
@@ -194,17 +199,29 @@ fn next_name(
     Ok(name)
 }
 
-/// The instances up to the word that ends them, with room for so many of them from the start.
+/// No instances, with room for so many where memory allows that, and else with none.
+fn room_for<'a>(alloc: Global, keys: RandomState, expected: usize) -> Instances<'a>
+    ensures { result.entries ≡ [] }
+{
+    match IndexMap::with_capacity_and_hasher(alloc, expected, keys) {
+        Ok(records) => records,
+        Err(_) => IndexMap::with_hasher(alloc, keys),
+    }
+}
+
+/// The instances up to the word that ends them, with room for so many of them from the start where
+/// memory allows that.
 pub fn rows<'a>(
     alloc: Global,
+    keys: RandomState,
     lexer: &mut Lexer<'a>,
     expected: usize,
-) -> Result<IndexMap<u64, Form<'a>>, TextFault>
+) -> Result<Instances<'a>, TextFault>
     ensures { MatchResult result
         (λ m. TakesRows lexer.old (map row_of m.entries) lexer.new)
         (λ e. StopsIn e (Rows [] ∷ []) [] lexer.old) }
 {
-    let mut records: IndexMap<u64, Form<'a>> = IndexMap::with_capacity(alloc, expected)?;
+    let mut records = room_for(alloc, keys, expected);
     let mut greatest = 0;
     loop {
         let token = take(lexer)?;
@@ -212,7 +229,7 @@ pub fn rows<'a>(
             return Ok(records);
         }
         let name = next_name(&records, greatest, token)?;
-        let form = row(alloc, lexer)?;
+        let form = row(alloc, keys, lexer)?;
         records.insert(name, form)?;
         greatest = greatest.max(name);
     }

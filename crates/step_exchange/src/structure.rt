@@ -5,6 +5,11 @@ ghost use Rattle.step_exchange.specs.Views.{file_of};
 
 use crate::tree::{Form, Record};
 use indexmap::IndexMap;
+use std::hash::RandomState;
+
+/// Instances by their names, in the order of the file. Names are hashed by keys that the text's
+/// author doesn't know, so that nobody can choose names that are slow to find.
+pub type Instances<'a> = IndexMap<u64, Form<'a>, RandomState>;
 
 /// An exchange structure that some text reads as. The fields are for reading.
 #[derive(Drop)]
@@ -14,6 +19,6 @@ pub struct Exchange<'a> {
     /// The records of the header.
     pub header: Vec<Record<'a>>,
     /// The instances by their names, in the order of the file.
-    pub records: IndexMap<u64, Form<'a>>,
+    pub records: Instances<'a>,
     pub ghost read: { ∥ IsRead header_bytes.now (file_of header.items records.entries) ∥₁ },
 }

@@ -21,11 +21,10 @@ ghost use Rattle.step_exchange.specs.Normal.{
 ghost use Rattle.step_exchange.specs.Exchanges.{structure, normal_text};
 ghost use Rattle.step_exchange.specs.Texts.{ReadsAs};
 
-use crate::structure::Exchange;
+use crate::structure::{Exchange, Instances};
 use crate::tree::{Form, Param, Record};
 use devices::device::{Sink, WriteFault};
 use devices::printer::Printer;
-use indexmap::IndexMap;
 
 // Whether a byte of the word is a letter in lower case.
 fn has_lowercase(word: &[u8]) -> bool
@@ -165,7 +164,7 @@ fn print_row<S: Sink>(printer: &mut Printer, out: &mut S, name: u64, form: &Form
 }
 
 // A line for each instance, in order.
-fn print_rows<S: Sink>(printer: &mut Printer, out: &mut S, records: &IndexMap<u64, Form<'_>>)
+fn print_rows<S: Sink>(printer: &mut Printer, out: &mut S, records: &Instances<'_>)
     ensures { Prints S.held S.has_failed out.old out.new printer.old printer.new
         (plain_rows (map row_of records.now.entries)) }
 {

@@ -53,6 +53,10 @@ finest = 1000400
 unfoldable pub units : List ℕ → ℤ
 units t = mantissa t *ℤ ten_to (exponent t +ℤ pos finest)
 
+-- a whole number with its sign turned, if that is asked for
+abbrev pub turned : Bool → ℤ → ℤ
+turned is_turned z = if is_turned then neg_ℤ z else z
+
 -- a number is worth the whole number n
 abbrev pub IsWorth : List ℕ → ℤ → Type 0
 IsWorth t n = units t ≡ n *ℤ ten_to (pos finest)

@@ -129,7 +129,7 @@ pub magnitude_leads : (x : ℕ) (xs : List ℕ) (s : ℕ) → is_significant (x 
 unfolding magnitude
 magnitude_leads x xs s h = rw pow-add (mul-le-mul_right (10 ^ s) (leading x xs h))
 
-magnitude_below : (xs : List ℕ) (s : ℕ) → is_significant xs ≡ true → magnitude xs s < 10 ^ (length xs + s)
+pub magnitude_below : (xs : List ℕ) (s : ℕ) → is_significant xs ≡ true → magnitude xs s < 10 ^ (length xs + s)
 unfolding magnitude
 magnitude_below xs s h = rw pow-add (mul-lt-mul_of_pos_right (digits_value-lt 10 xs (below_ten xs (all_digits xs h)))
     (ten_pos s))

@@ -44,7 +44,7 @@ left_items i page bs = inner_items i bs ++ clean_items page (behind i bs)
 abbrev pub rest_items : Rest → List Item
 rest_items r = left_items r.inside r.page (clean r.bytes.now)
 
--- the bytes that are left, and the characters of what is left before a piece
+-- the bytes that are left, and their characters where they are read from here on, inside of nothing
 abbrev pub bytes_left : Rest → List ℕ
 bytes_left r = clean r.bytes.now
 

@@ -1,6 +1,5 @@
 -- What `plain` answers for the bytes that a source gave to its end.
-use Rattle.std.proofs.Common.{◌≡◌, ◌≤◌, ◌^◌, ℕ, List, Option, IfSome, length, Result, Ok, Err, refl, sym, subst}
-use Rattle.std.specs.Prelude.{IsErrAnd}
+use Rattle.std.proofs.Common.{◌≡◌, ◌≤◌, ◌^◌, ℕ, List, Option, IfSome, length, Err, refl, sym, subst}
 use Rattle.std.proofs.KnownBytes.{Consumes-whole}
 use Rattle.std.specs.Io.KnownBytes.{Consumes, IsAtEnd}
 use Rattle.devices.specs.declared.device.WriteFault.{WriteFault}
@@ -8,7 +7,8 @@ use Rattle.devices.specs.Emits.{EmitsFront}
 use Rattle.step_exchange.specs.Normal.{plain_text}
 use Rattle.step_exchange.specs.Texts.{ReadsAs}
 use Rattle.step_exchange.specs.Trees.{File}
-use Rattle.stepmin.specs.declared.plain.Fault.{Fault}
+use Rattle.stepmin.specs.declared.fault.Role.TheVariants as roles
+use Rattle.stepmin.specs.declared.fault.Fault.{Fault}
 use Rattle.stepmin.specs.Faults.{write_fault}
 use Rattle.stepmin.specs.Plain.{HasPlain, Plain}
 
@@ -26,10 +26,8 @@ gave_plain coming left bytes header_bytes file gave end within reads =
     })
 
 -- a front of the text went out
-pub cut_short : (coming old new : Option (List ℕ)) (text : List ℕ) (fault : WriteFault) (result : Result Unit Fault)
-    → IsErrAnd result (λ e. e ≡ write_fault fault)
-    → IfSome coming (HasPlain text) → EmitsFront old new text fault.written → Plain coming old new result
-cut_short coming old new text fault (Ok done) e whole emits = absurd e
-cut_short coming old new text fault (Err f) e whole emits =
-    let P : Fault → Type 0 = λ x. Plain coming old new (Err x) in
-    subst P (sym e) (text, whole, emits)
+pub cut_short : (coming old new : Option (List ℕ)) (text : List ℕ) (fault : WriteFault) (met : Fault)
+    → met ≡ write_fault roles.Output fault
+    → IfSome coming (HasPlain text) → EmitsFront old new text fault.written → Plain coming old new (Err met)
+cut_short coming old new text fault met e whole emits =
+    subst (λ (x : Fault). Plain coming old new (Err x)) (sym e) (text, whole, emits)

@@ -1,55 +1,230 @@
 -- What a run of the command line comes to.
-use Rattle.std.proofs.Common.{◌≡◌, Bool, List, [], ℕ, Option, None, Some, inl, inr, sym, append-nil, subst, ◌∙◌}
-use Rattle.std.specs.Prelude.{string_bytes}
+use Rattle.std.proofs.Common.{◌≡◌, Bool, true, false, List, ℕ, Option, None, Some, Result, Ok, Err, IfSome, inl, inr, refl, sym, ap, subst, ◌∙◌, true≢false, arith}
+use Rattle.std.specs.Prelude.{◌⊎◌, MatchBool, string_bytes}
 use Rattle.std.specs.Io.KnownBytes.{Appends, Keeps}
 use Rattle.stepmin.specs.Commands.{AsksPlain}
-use Rattle.stepmin.specs.Requests.{AskFor, CallFor}
-use Rattle.stepmin.specs.Runs.{Does, Refuses, RunsNothing, RunsPlain}
+use Rattle.stepmin.specs.Lines.{line_of}
+use Rattle.stepmin.specs.Plain.{FailsAs, Plain, is_output_fault}
+use Rattle.stepmin.specs.Requests.{AskFor}
+use Rattle.stepmin.specs.Runs.{AppendsFront, Does, Ends, IsDevices, Output, Prints, Refuses, RunsPlain}
+use Rattle.stepmin.specs.Statuses.{IsStatus, fault_status}
+use Rattle.stepmin.specs.Stores.{Stored}
+use Rattle.stepmin.specs.declared.fault.Role.TheVariants as roles
+use Rattle.stepmin.specs.declared.fault.Fault.{Fault}
+use Rattle.stepmin.specs.declared.fault.Fault.TheVariants as faults
 use Rattle.stepmin.specs.declared.usage.Request.{Request}
 use Rattle.stepmin.specs.declared.usage.Request.TheVariants as requests
 use Rattle.stepmin.specs.declared.usage.Refusal.{Refusal}
 use Rattle.stepmin.specs.declared.usage.Refusal.TheVariants.{Help, Usage, Memory}
 use Rattle.stepmin.proofs.Asking.{asked_once}
 
-kept_appends : (old new : Option (List ℕ)) → Keeps old new → Appends old new []
-kept_appends None new k = tt
-kept_appends (Some xs) None k = absurd k
-kept_appends (Some xs) (Some ys) k = k ∙ sym (append-nil xs)
+-- ---- one output
 
-pub refused_runs_nothing : (words : List (List ℕ)) (refusal : Refusal) (out out' err err' : Option (List ℕ))
-    (status : ℕ) → CallFor words refusal
-    → Refuses refusal out out' err err' status → RunsNothing words out out' status
-refused_runs_nothing words (Help text) out out' err err' status calls (inl e) =
-    inl (e.0, calls, (string_bytes text, e.1))
-refused_runs_nothing words (Help text) out out' err err' status calls (inr e) = inr (inl (e.0, (e.1.0, e.1.3)))
-refused_runs_nothing words (Usage text) out out' err err' status calls (kept, inl e) =
-    inr (inr (inl (e.0, calls, kept)))
-refused_runs_nothing words (Usage text) out out' err err' status calls (kept, inr e) =
-    inr (inl (e.0, ([], kept_appends out out' kept)))
-refused_runs_nothing words Memory out out' err err' status calls (kept, inl e) = inr (inr (inr (e, kept)))
-refused_runs_nothing words Memory out out' err err' status calls (kept, inr e) =
-    inr (inl (e, ([], kept_appends out out' kept)))
+failed_twice : {A : Type 0} (old new : Output) → new ≡ old → old.has_failed ≡ false → new.has_failed ≡ true → A
+failed_twice old new same fresh fails =
+    absurd (true≢false (sym fails ∙ ap (λ (o : Output). o.has_failed) same ∙ fresh))
 
-pub memory_keeps : (refusal : Refusal) (out out' err err' : Option (List ℕ)) (status : ℕ) → refusal ≡ Memory
-    → Refuses refusal out out' err err' status → Keeps out out'
-memory_keeps refusal out out' err err' status is refuses =
-    (subst (λ r. Refuses r out out' err err' status) is refuses).0
+keeps_self : (held : Option (List ℕ)) → Keeps held held
+keeps_self None = tt
+keeps_self (Some xs) = refl
+
+keeps_same : (old new : Output) → new ≡ old → Keeps old.held new.held
+keeps_same old new same = subst (λ (o : Output). Keeps old.held o.held) (sym same) (keeps_self old.held)
+
+-- ---- one text
+
+abbrev Sent : Bool → Output → Output → List ℕ → ℕ → ℕ → Type 0
+Sent fails old new text wanted status = MatchBool fails ((status ≡ 4) × AppendsFront old.held new.held text)
+    ((status ≡ wanted) × Appends old.held new.held text)
+
+-- the status is the one that is wanted, or a device's
+pub status_printed : (old new : Output) (text : List ℕ) (wanted status : ℕ) → Prints old new text wanted status
+    → (status ≡ wanted) ⊎ (status ≡ 4)
+status_printed old new text wanted status p = go p.fails p.sent
+  where
+    go : (b : Bool) → Sent b old new text wanted status → (status ≡ wanted) ⊎ (status ≡ 4)
+    go true s = inr s.0
+    go false s = inl s.0
+
+-- where the output fails the status is a device's
+pub failure_printed : (old new : Output) (text : List ℕ) (wanted status : ℕ) → Prints old new text wanted status
+    → old.has_failed ≡ false → new.has_failed ≡ true → status ≡ 4
+failure_printed old new text wanted status p fresh fails = go p.fails (sym (p.told fresh) ∙ fails) p.sent
+  where
+    go : (b : Bool) → b ≡ true → Sent b old new text wanted status → status ≡ 4
+    go true e s = s.0
+    go false e s = absurd (true≢false (sym e))
+
+-- where it is a device's, and another is wanted, the output has failed
+pub device_printed : (old new : Output) (text : List ℕ) (wanted status : ℕ) → Prints old new text wanted status
+    → (wanted ≡ 4 → ⊥) → status ≡ 4 → old.has_failed ≡ false → new.has_failed ≡ true
+device_printed old new text wanted status p other is fresh = go p.fails refl p.sent
+  where
+    go : (b : Bool) → p.fails ≡ b → Sent b old new text wanted status → new.has_failed ≡ true
+    go true e s = p.told fresh ∙ e
+    go false e s = absurd (other (sym s.0 ∙ is))
+
+four : (status : ℕ) → (status ≡ 4) ⊎ (status ≡ 4) → status ≡ 4
+four status (inl e) = e
+four status (inr e) = e
+
+-- ---- how a run ends
+
+fault_is_status : (fault : Fault) (status : ℕ) → (status ≡ fault_status fault) ⊎ (status ≡ 4) → IsStatus status
+fault_is_status (faults.Text role kind place) status (inl e) = inr (inl e)
+fault_is_status (faults.Device role written) status (inl e) = inr (inr (inr (inl e)))
+fault_is_status faults.Memory status (inl e) = inr (inr (inr (inr e)))
+fault_is_status fault status (inr e) = inr (inr (inr (inl e)))
+
+pub ends_in_status : (outcome : Result Unit Fault) (err err' : Output) (status : ℕ) → Ends outcome err err' status
+    → IsStatus status
+ends_in_status (Ok x) err err' status e = inl e.0
+ends_in_status (Err fault) err err' status e = fault_is_status fault status
+    (status_printed err err' (line_of fault) (fault_status fault) status e)
+
+pub ends_failing : (outcome : Result Unit Fault) (err err' : Output) (status : ℕ) → Ends outcome err err' status
+    → err.has_failed ≡ false → err'.has_failed ≡ true → status ≡ 4
+ends_failing (Ok x) err err' status e fresh fails = failed_twice err err' e.1 fresh fails
+ends_failing (Err fault) err err' status e fresh fails = failure_printed err err' (line_of fault) (fault_status fault)
+    status e fresh fails
+
+-- ---- what was asked for
+
+unwritten_by : (coming old new : Option (List ℕ)) (outcome : Result Unit Fault) (err err' : Output) (status : ℕ)
+    → Plain coming old new outcome → Ends outcome err err' status → (status ≡ 0) ⊎ ((status ≡ 4) ⊎ Keeps old new)
+unwritten_by coming old new (Ok x) err err' status plain e = inl e.0
+unwritten_by coming old new (Err (faults.Text roles.File kind place)) err err' status plain e = inr (inr plain.1)
+unwritten_by coming old new (Err (faults.Text roles.Schema kind place)) err err' status plain e = absurd plain
+unwritten_by coming old new (Err (faults.Text roles.Output kind place)) err err' status plain e = absurd plain
+unwritten_by coming old new (Err (faults.Text roles.Certificate kind place)) err err' status plain e = absurd plain
+unwritten_by coming old new (Err (faults.Device role written)) err err' status plain e = inr (inl (four status
+    (status_printed err err' (line_of (faults.Device role written)) 4 status e)))
+unwritten_by coming old new (Err faults.Memory) err err' status plain e = inr (inr plain)
+
+output_failing : (outcome : Result Unit Fault) (err err' : Output) (status : ℕ) → is_output_fault outcome ≡ true
+    → Ends outcome err err' status → status ≡ 4
+output_failing (Ok x) err err' status is e = absurd (true≢false (sym is))
+output_failing (Err (faults.Text role kind place)) err err' status is e = absurd (true≢false (sym is))
+output_failing (Err (faults.Device role written)) err err' status is e = four status
+    (status_printed err err' (line_of (faults.Device role written)) 4 status e)
+output_failing (Err faults.Memory) err err' status is e = absurd (true≢false (sym is))
+
+file_failing : (outcome : Result Unit Fault) (err err' : Output) (status : ℕ) → FailsAs outcome true
+    → Ends outcome err err' status → (status ≡ 4) ⊎ (status ≡ 5)
+file_failing (Ok x) err err' status is e = absurd (true≢false (sym is))
+file_failing (Err (faults.Text role kind place)) err err' status is e = absurd (true≢false (sym is))
+file_failing (Err (faults.Device role written)) err err' status is e = inl (four status
+    (status_printed err err' (line_of (faults.Device role written)) 4 status e))
+file_failing (Err faults.Memory) err err' status is e =
+    elim (status_printed err err' (line_of faults.Memory) 5 status e) [
+      | inl m ↦ inr m
+      | inr d ↦ inl d
+    ]
+
+device_by : (words : List (List ℕ)) (files : List ℕ → Stored) (path : List ℕ) (out out' err err' : Output)
+    (outcome : Result Unit Fault) (status : ℕ) → AsksPlain words path
+    → Plain (files path).contents out.held out'.held outcome → IfSome (files path).fails (FailsAs outcome)
+    → (out.has_failed ≡ false → out'.has_failed ≡ is_output_fault outcome) → Ends outcome err err' status
+    → status ≡ 4 → IsDevices words files out out' err err'
+device_by words files path out out' err err' (Ok x) status asks plain told fails e is =
+    absurd (omega (arith, e.0, is))
+device_by words files path out out' err err' (Err (faults.Text role kind place)) status asks plain told fails e is =
+    λ fresh clean. inr (inl (device_printed err err' (line_of (faults.Text role kind place)) 2 status e
+    (λ no. omega (arith, no)) is clean))
+device_by words files path out out' err err' (Err (faults.Device roles.File written)) status asks plain told fails e is =
+    λ fresh clean. inr (inr (
+      path,
+      asks,
+      λ never. absurd (true≢false (subst (λ o. IfSome o
+          (FailsAs (Err (faults.Device roles.File written)))) never told)),
+    ))
+device_by words files path out out' err err' (Err (faults.Device roles.Output written)) status asks plain told fails e
+    is = λ fresh clean. inl (fails fresh)
+device_by words files path out out' err err' (Err (faults.Device roles.Schema written)) status asks plain told fails e
+    is = absurd plain
+device_by words files path out out' err err' (Err (faults.Device roles.Certificate written)) status asks plain told
+    fails e is = absurd plain
+device_by words files path out out' err err' (Err faults.Memory) status asks plain told fails e is = λ fresh clean. inr
+    (inl (device_printed err err' (line_of faults.Memory) 5 status e (λ no. omega (arith, no)) is clean))
+
+-- What a run of `plain` says beside what it did.
+pub record SaysPlain (words : List (List ℕ)) (files : List ℕ → Stored) (file : Stored) (out out' err err' : Output)
+    (status : ℕ) : Type 0 where
+  pub is_status : IsStatus status
+  pub unwritten : (status ≡ 0) ⊎ ((status ≡ 4) ⊎ Keeps out.held out'.held)
+  pub device : status ≡ 4 → IsDevices words files out out' err err'
+  pub out_failed : out.has_failed ≡ false → out'.has_failed ≡ true → status ≡ 4
+  pub err_failed : err.has_failed ≡ false → err'.has_failed ≡ true → status ≡ 4
+
+pub file_failed : (file : Stored) (out out' err err' : Output) (status : ℕ)
+    → RunsPlain file out out' err err' status → file.fails ≡ Some true → (status ≡ 4) ⊎ (status ≡ 5)
+file_failed file out out' err err' status r is = file_failing r.outcome err err' status
+    (subst (λ o. IfSome o (FailsAs r.outcome)) is r.file_fails) r.ends
+
+pub plain_says : (words : List (List ℕ)) (files : List ℕ → Stored) (path : List ℕ) (out out' err err' : Output)
+    (status : ℕ) → AsksPlain words path → RunsPlain (files path) out out' err err' status
+    → SaysPlain words files (files path) out out' err err' status
+plain_says words files path out out' err err' status asks r = record {
+  is_status = ends_in_status r.outcome err err' status r.ends;
+  unwritten = unwritten_by (files path).contents out.held out'.held r.outcome err err' status r.plain r.ends;
+  device = device_by words files path out out' err err' r.outcome status asks r.plain r.file_fails r.output_fails
+      r.ends;
+  out_failed = (λ fresh fails. output_failing r.outcome err err' status (sym (r.output_fails fresh) ∙ fails) r.ends);
+  err_failed = ends_failing r.outcome err err' status r.ends;
+}
 
 -- what is asked for is a file's text
 pub none_asked : (words : List (List ℕ)) (request : Request) → ((path : List ℕ) → AsksPlain words path → ⊥)
     → AskFor words request → ⊥
 none_asked words (requests.Plain path) none asks = none path.now asks
 
-pub asked_runs : (words : List (List ℕ)) (request : Request) (contents : List ℕ → Option (List ℕ))
-    (old new : Option (List ℕ)) (before after : Bool) (status : ℕ)
-    → AskFor words request → Does request contents old new before after status → (path : List ℕ) × AsksPlain words path
-    × RunsPlain (contents path) old new before after status
-asked_runs words (requests.Plain path) contents old new before after status asks does = (path.now, asks, does)
+pub asked_runs : (words : List (List ℕ)) (request : Request) (files : List ℕ → Stored)
+    (out out' err err' : Output) (status : ℕ)
+    → AskFor words request → Does request files out out' err err' status → (path : List ℕ) × AsksPlain words path
+    × RunsPlain (files path) out out' err err' status
+asked_runs words (requests.Plain path) files out out' err err' status asks does = (path.now, asks, does)
+
+pub asked_says : (words : List (List ℕ)) (request : Request) (files : List ℕ → Stored)
+    (out out' err err' : Output) (status : ℕ)
+    → AskFor words request → Does request files out out' err err' status
+    → (path : List ℕ) × SaysPlain words files (files path) out out' err err' status
+asked_says words request files out out' err err' status asks does =
+    let r = asked_runs words request files out out' err err' status asks does in
+    (r.0, plain_says words files r.0 out out' err err' status r.1 r.2)
 
 -- the path that was asked for is the only one
-pub runs_asked : (words : List (List ℕ)) (request : Request) (contents : List ℕ → Option (List ℕ))
-    (old new : Option (List ℕ)) (before after : Bool) (status : ℕ) (path : List ℕ)
-    → AskFor words request → Does request contents old new before after status → AsksPlain words path
-    → RunsPlain (contents path) old new before after status
-runs_asked words (requests.Plain found) contents old new before after status path asks does other =
-    subst (λ p. RunsPlain (contents p) old new before after status) (asked_once words found.now path asks other) does
+pub runs_asked : (words : List (List ℕ)) (request : Request) (files : List ℕ → Stored)
+    (out out' err err' : Output) (status : ℕ) (path : List ℕ)
+    → AskFor words request → Does request files out out' err err' status → AsksPlain words path
+    → RunsPlain (files path) out out' err err' status
+runs_asked words (requests.Plain found) files out out' err err' status path asks does other =
+    subst (λ p. RunsPlain (files p) out out' err err' status) (asked_once words found.now path asks other) does
+
+-- ---- what was refused
+
+pub refused_device : (words : List (List ℕ)) (files : List ℕ → Stored) (refusal : Refusal)
+    (out out' err err' : Output) (status : ℕ) → Refuses refusal out out' err err' status → status ≡ 4
+    → IsDevices words files out out' err err'
+refused_device words files (Help text) out out' err err' status r is = λ fresh clean. inl (device_printed out out'
+    (string_bytes text) 0 status r.0 (λ no. omega (arith, no)) is fresh)
+refused_device words files (Usage text) out out' err err' status r is = λ fresh clean. inr (inl (device_printed err
+    err' (string_bytes text) 3 status r.1 (λ no. omega (arith, no)) is clean))
+refused_device words files Memory out out' err err' status r is = λ fresh clean. inr (inl (device_printed err err'
+    (line_of faults.Memory) 5 status r.1 (λ no. omega (arith, no)) is clean))
+
+-- words that ask for something are refused for want of memory alone
+pub memory_runs : (refusal : Refusal) (file : Stored) (out out' err err' : Output) (status : ℕ) → refusal ≡ Memory
+    → Refuses refusal out out' err err' status → RunsPlain file out out' err err' status
+memory_runs refusal file out out' err err' status is refuses =
+    let r = subst (λ m. Refuses m out out' err err' status) is refuses in
+    record {
+      outcome = Err faults.Memory;
+      plain = keeps_same out out' r.0;
+      file_fails = nothing_told file.fails;
+      output_fails = (λ fresh. ap (λ (o : Output). o.has_failed) r.0 ∙ fresh);
+      ends = r.1;
+    }
+  where
+    nothing_told : (o : Option Bool) → IfSome o (FailsAs (Err faults.Memory))
+    nothing_told None = tt
+    nothing_told (Some each) = tt

@@ -7,17 +7,20 @@ use Rattle.step_exchange.specs.declared.fault.TextFault.TheVariants as texts
 use Rattle.devices.specs.declared.device.WriteFault.{WriteFault}
 use Rattle.stepmin.specs.declared.read.ReadFault.{ReadFault}
 use Rattle.stepmin.specs.declared.read.ReadFault.TheVariants as reads
-use Rattle.stepmin.specs.declared.plain.Fault.{Fault}
-use Rattle.stepmin.specs.declared.plain.Fault.TheVariants.{Text, File, Output, Memory}
+use Rattle.stepmin.specs.declared.fault.Role.{Role}
+use Rattle.stepmin.specs.declared.fault.Fault.{Fault}
+use Rattle.stepmin.specs.declared.fault.Fault.TheVariants.{Text, Device, Memory}
 
-abbrev pub read_fault : ReadFault → Fault
-read_fault reads.Device = File
-read_fault reads.TooLarge = Text (LeftOut TooLarge) (2 ^ 40)
-read_fault reads.Memory = Memory
+-- where what is read plays this role
+abbrev pub read_fault : Role → ReadFault → Fault
+read_fault role reads.Device = Device role 0
+read_fault role reads.TooLarge = Text role (LeftOut TooLarge) (2 ^ 40)
+read_fault role reads.Memory = Memory
 
-abbrev pub text_fault : TextFault → Fault
-text_fault texts.Memory = Memory
-text_fault (texts.Fault kind place) = Text kind place
+abbrev pub text_fault : Role → TextFault → Fault
+text_fault role texts.Memory = Memory
+text_fault role (texts.Fault kind place) = Text role kind place
 
-abbrev pub write_fault : WriteFault → Fault
-write_fault fault = Output fault.written
+-- where what is written does
+abbrev pub write_fault : Role → WriteFault → Fault
+write_fault role fault = Device role fault.written

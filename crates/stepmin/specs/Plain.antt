@@ -8,8 +8,9 @@ use Rattle.devices.specs.Emits.{EmitsFront}
 use Rattle.step_exchange.specs.Normal.{plain_text}
 use Rattle.step_exchange.specs.Texts.{ReadsAs, IsFirstFault}
 use Rattle.step_exchange.specs.Trees as trees
-use Rattle.stepmin.specs.declared.plain.Fault.{Fault}
-use Rattle.stepmin.specs.declared.plain.Fault.TheVariants.{Text, File, Output, Memory}
+use Rattle.stepmin.specs.declared.fault.Role.TheVariants.{File, Output}
+use Rattle.stepmin.specs.declared.fault.Fault.{Fault}
+use Rattle.stepmin.specs.declared.fault.Fault.TheVariants.{Text, Device, Memory}
 
 -- The bytes are at most 2^40 and read as some structure, and this is its normal text.
 pub record HasPlain (text bytes : List ℕ) : Type 0 where
@@ -29,16 +30,24 @@ HasFault kind place bytes = (2 ^ 40 < length bytes × (kind ≡ LeftOut TooLarge
 -- the normal text went out, or nothing did, or a front of the text whose length is counted.
 abbrev pub Plain : Option (List ℕ) → Option (List ℕ) → Option (List ℕ) → Result Unit Fault → Type 0
 Plain coming old new (Ok _) = (text : List ℕ) × IfSome coming (HasPlain text) × Appends old new text
-Plain coming old new (Err (Text kind place)) = IfSome coming (HasFault kind place) × Keeps old new
-Plain coming old new (Err File) = Keeps old new
-Plain coming old new (Err (Output written)) = (text : List ℕ) × IfSome coming (HasPlain text) × EmitsFront old new text
-    written
+Plain coming old new (Err (Text File kind place)) = IfSome coming (HasFault kind place) × Keeps old new
+Plain coming old new (Err (Text _ kind place)) = ⊥
+Plain coming old new (Err (Device File written)) = (written ≡ 0) × Keeps old new
+Plain coming old new (Err (Device Output written)) = (text : List ℕ) × IfSome coming (HasPlain text)
+    × EmitsFront old new text written
+Plain coming old new (Err (Device _ written)) = ⊥
 Plain coming old new (Err Memory) = Keeps old new
 
 abbrev pub is_file_fault : Result Unit Fault → Bool
-is_file_fault (Err File) = true
+is_file_fault (Err (Device File written)) = true
 is_file_fault _ = false
 
 abbrev pub is_output_fault : Result Unit Fault → Bool
-is_output_fault (Err (Output written)) = true
+is_output_fault (Err (Device Output written)) = true
 is_output_fault _ = false
+
+-- Where each read fails (`true`) the answer is the file's fault, and where none does it isn't; but memory may run
+-- out first.
+abbrev pub FailsAs : Result Unit Fault → Bool → Type 0
+FailsAs (Err Memory) each = Unit {0}
+FailsAs result each = is_file_fault result ≡ each

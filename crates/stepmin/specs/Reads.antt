@@ -15,6 +15,12 @@ abbrev pub device_failed : {T : Type 0} → Result T ReadFault → Bool
 device_failed (Ok x) = false
 device_failed (Err fault) = is_device fault
 
+-- Where each read fails (`true`) the answer is the device's fault, and where none does it isn't; but memory may run
+-- out first.
+abbrev pub DeviceFailsAs : {T : Type 0} → Result T ReadFault → Bool → Type 0
+DeviceFailsAs (Err Memory) each = Unit {0}
+DeviceFailsAs result each = device_failed result ≡ each
+
 -- So many bytes came, and they stand behind the earlier ones: `coming` was to come before, `left` is then.
 abbrev pub ReadsBehind : Option (List ℕ) → Option (List ℕ) → List ℕ → List ℕ → ℕ → Type 0
 ReadsBehind coming left earlier bytes count = (got : List ℕ) × (bytes ≡ earlier ++ got) × (length got ≡ count)

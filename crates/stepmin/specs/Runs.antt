@@ -1,59 +1,79 @@
 -- What a run of the command line comes to.
-use Rattle.std.specs.Prelude.{◌≡◌, ◌++◌, ◌⊎◌, ℕ, List, Option, Bool, false, Result, string_bytes}
-use Rattle.std.specs.Bool.{if◌then◌else◌}
-use Rattle.std.specs.Io.KnownBytes.{Appends, Keeps}
+use Rattle.std.specs.Prelude.{◌≡◌, ◌++◌, ◌⊎◌, ℕ, List, Option, IfSome, Some, Bool, true, false, Result, Ok, Err, MatchBool, string_bytes}
+use Rattle.std.specs.Io.KnownBytes.{Appends}
 use Rattle.stepmin.specs.Commands.{AsksNoPlain, AsksPlain}
-use Rattle.stepmin.specs.Plain.{Plain}
-use Rattle.stepmin.specs.Requests.{AsksHelp, AsksWrongly}
-use Rattle.stepmin.specs.Statuses.{outcome_status}
-use Rattle.stepmin.specs.declared.plain.Fault.{Fault}
+use Rattle.stepmin.specs.Lines.{line_of}
+use Rattle.stepmin.specs.Plain.{FailsAs, Plain, is_output_fault}
+use Rattle.stepmin.specs.Requests.{CallFor}
+use Rattle.stepmin.specs.Statuses.{fault_status}
+use Rattle.stepmin.specs.Stores.{Stored}
+use Rattle.stepmin.specs.declared.fault.Fault.{Fault}
+use Rattle.stepmin.specs.declared.fault.Fault.TheVariants as faults
 use Rattle.stepmin.specs.declared.usage.Request.{Request}
 use Rattle.stepmin.specs.declared.usage.Request.TheVariants as requests
 use Rattle.stepmin.specs.declared.usage.Refusal.{Refusal}
 use Rattle.stepmin.specs.declared.usage.Refusal.TheVariants.{Help, Usage, Memory}
 
+-- An output as a run finds it or leaves it: what it holds, where that is told, and whether it has failed.
+pub record Output : Type 0 where
+  pub held : Option (List ℕ)
+  pub has_failed : Bool
+
+abbrev pub output : {S : Type 0} → (S → Option (List ℕ)) → (S → Bool) → S → Output
+output held has_failed sink = record { held = held sink; has_failed = has_failed sink }
+
 -- A front of the text went out.
 abbrev pub AppendsFront : Option (List ℕ) → Option (List ℕ) → List ℕ → Type 0
 AppendsFront old new text = (sent : List ℕ) × (left : List ℕ) × (text ≡ sent ++ left) × Appends old new sent
 
--- The text went out, and this is the status; or a front of it did, and the status is a device's.
-abbrev pub Prints : Option (List ℕ) → Option (List ℕ) → List ℕ → ℕ → ℕ → Type 0
-Prints old new text wanted status = ((status ≡ wanted) × Appends old new text)
-    ⊎ ((status ≡ 4) × AppendsFront old new text)
+-- The text went out, and this is the status; or the output failed behind a front of it, and the status is a
+-- device's.
+pub record Prints (old new : Output) (text : List ℕ) (wanted status : ℕ) : Type 0 where
+  pub fails : Bool
+  pub told : old.has_failed ≡ false → new.has_failed ≡ fails
+  pub sent : MatchBool fails ((status ≡ 4) × AppendsFront old.held new.held text)
+      ((status ≡ wanted) × Appends old.held new.held text)
 
--- The status is the outcome's, or a device's where the line of a fault can't be printed: where the error
--- output, which had not failed `before`, has `after`.
-pub record IsStatusFor (outcome : Result Unit Fault) (before after : Bool) (status : ℕ) : Type 0 where
-  pub either : (status ≡ outcome_status outcome) ⊎ (status ≡ 4)
-  pub exact : before ≡ false → status ≡ (if after then 4 else outcome_status outcome)
+-- How a run ends for what a command came to, by its error output: silently, or with the line of the fault.
+abbrev pub Ends : Result Unit Fault → Output → Output → ℕ → Type 0
+Ends (Ok _) err err' status = (status ≡ 0) × (err' ≡ err)
+Ends (Err fault) err err' status = Prints err err' (line_of fault) (fault_status fault) status
 
--- What goes out where nothing is done: `out` and `err` are what the outputs hold before and behind it.
-abbrev pub Refuses : Refusal → Option (List ℕ) → Option (List ℕ) → Option (List ℕ) → Option (List ℕ) → ℕ → Type 0
-Refuses (Help text) out out' err err' status = Prints out out' (string_bytes text) 0 status
-Refuses (Usage text) out out' err err' status = Keeps out out' × Prints err err' (string_bytes text) 3 status
-Refuses Memory out out' err err' status = Keeps out out' × ((status ≡ 5) ⊎ (status ≡ 4))
+-- What goes out where nothing is done: `out` and `err` are the outputs before and behind it.
+abbrev pub Refuses : Refusal → Output → Output → Output → Output → ℕ → Type 0
+Refuses (Help text) out out' err err' status = Prints out out' (string_bytes text) 0 status × (err' ≡ err)
+Refuses (Usage text) out out' err err' status = (out' ≡ out) × Prints err err' (string_bytes text) 3 status
+Refuses Memory out out' err err' status = (out' ≡ out) × Ends (Err faults.Memory) err err' status
 
--- The file holds this, where that is told, and the run did with it what `plain` does.
-pub record RunsPlain (contents old new : Option (List ℕ)) (before after : Bool) (status : ℕ) : Type 0 where
+-- The run did with the file what `plain` does. The output has failed exactly where that is the fault, and a file of
+-- which it is told whether its reads fail has just where they do.
+pub record RunsPlain (file : Stored) (out out' err err' : Output) (status : ℕ) : Type 0 where
   pub outcome : Result Unit Fault
-  pub plain : Plain contents old new outcome
-  pub status_is : IsStatusFor outcome before after status
+  pub plain : Plain file.contents out.held out'.held outcome
+  pub file_fails : IfSome file.fails (FailsAs outcome)
+  pub output_fails : out.has_failed ≡ false → out'.has_failed ≡ is_output_fault outcome
+  pub ends : Ends outcome err err' status
 
--- What is asked for was done.
-abbrev pub Does : Request → (List ℕ → Option (List ℕ)) → Option (List ℕ) → Option (List ℕ) → Bool → Bool → ℕ → Type 0
-Does (requests.Plain path) contents old new before after status = RunsPlain (contents path.now) old new before after
-    status
+-- What is asked for was done, in a store of these files.
+abbrev pub Does : Request → (List ℕ → Stored) → Output → Output → Output → Output → ℕ → Type 0
+Does (requests.Plain path) files out out' err err' status = RunsPlain (files path.now) out out' err err' status
 
--- A help text went out, for which the words call, or a front of it; or nothing did.
-abbrev pub RunsNothing : List (List ℕ) → Option (List ℕ) → Option (List ℕ) → ℕ → Type 0
-RunsNothing words old new status = ((status ≡ 0) × AsksHelp words × ((text : List ℕ) × Appends old new text))
-    ⊎ ((status ≡ 4) × ((sent : List ℕ) × Appends old new sent))
-    ⊎ ((status ≡ 3) × AsksWrongly words × Keeps old new)
-    ⊎ ((status ≡ 5) × Keeps old new)
+-- Nothing was done, and this was said for which the words call.
+abbrev pub RunsNothing : List (List ℕ) → Output → Output → Output → Output → ℕ → Type 0
+RunsNothing words out out' err err' status = (refusal : Refusal) × CallFor words refusal × Refuses refusal out out' err
+    err' status
 
 -- The words ask for the normal text of a file, and that was run; or they ask for no file's.
-abbrev pub Runs : List (List ℕ) → (List ℕ → Option (List ℕ)) → Option (List ℕ) → Option (List ℕ) → Bool → Bool → ℕ
-    → Type 0
-Runs words contents old new before after status = ((path : List ℕ) × AsksPlain words path × RunsPlain (contents path)
-    old new before after status)
-    ⊎ (AsksNoPlain words × RunsNothing words old new status)
+abbrev pub Runs : List (List ℕ) → (List ℕ → Stored) → Output → Output → Output → Output → ℕ → Type 0
+Runs words files out out' err err' status = ((path : List ℕ) × AsksPlain words path × RunsPlain (files path) out out'
+    err err' status)
+    ⊎ (AsksNoPlain words × RunsNothing words out out' err err' status)
+
+-- The words ask for a file that can fail: it isn't told that no read of it does.
+abbrev pub AsksFailing : List (List ℕ) → (List ℕ → Stored) → Type 0
+AsksFailing words files = (path : List ℕ) × AsksPlain words path × ((files path).fails ≡ Some false → ⊥)
+
+-- Where an output hasn't failed before, a device's status comes only where one has failed then, or the file can.
+abbrev pub IsDevices : List (List ℕ) → (List ℕ → Stored) → Output → Output → Output → Output → Type 0
+IsDevices words files out out' err err' = out.has_failed ≡ false → err.has_failed ≡ false
+    → (out'.has_failed ≡ true) ⊎ (err'.has_failed ≡ true) ⊎ AsksFailing words files

@@ -1,13 +1,12 @@
 -- The exit statuses.
 use Rattle.std.specs.Prelude.{◌≡◌, ◌⊎◌, ℕ, Result, Ok, Err}
-use Rattle.stepmin.specs.declared.plain.Fault.{Fault}
-use Rattle.stepmin.specs.declared.plain.Fault.TheVariants.{Text, File, Output, Memory}
+use Rattle.stepmin.specs.declared.fault.Fault.{Fault}
+use Rattle.stepmin.specs.declared.fault.Fault.TheVariants.{Text, Device, Memory}
 
 -- the status for a fault
 abbrev pub fault_status : Fault → ℕ
-fault_status (Text kind place) = 2
-fault_status File = 4
-fault_status (Output written) = 4
+fault_status (Text role kind place) = 2
+fault_status (Device role written) = 4
 fault_status Memory = 5
 
 -- the status for what a command came to

@@ -2,6 +2,7 @@
 #![tactic(auto)]
 
 mod command;
+mod fault;
 mod files;
 mod plain;
 mod read;
@@ -10,11 +11,12 @@ mod store;
 mod tests;
 mod usage;
 
-use crate::command::{refuse, run_command};
+use crate::command::{refuse, refuse_to_read, run_command};
 use crate::files::Folder;
 use crate::usage::unread_words;
 use devices::counted::Counted;
 use std::env::Env;
+use std::hash::RandomState;
 use std::io;
 use std::process::ExitCode;
 
@@ -28,10 +30,13 @@ fn main(rt: HostRuntime) -> ExitCode {
     let mut out = Counted::new(io::writer(&rt));
     let mut err = Counted::new(rt.stderr());
     let status = match words(&rt) {
-        Ok(words) => {
-            let mut store = Folder::new(&rt);
-            run_command(rt.alloc(), &words, &mut store, &mut out, &mut err)
-        }
+        Ok(words) => match RandomState::new(&rt) {
+            Ok(keys) => {
+                let mut store = Folder::new(&rt);
+                run_command(rt.alloc(), keys, &words, &mut store, &mut out, &mut err)
+            }
+            Err(_) => refuse_to_read(&mut err),
+        },
         Err(error) => refuse(unread_words(rt.alloc(), &error), &mut out, &mut err),
     };
     ExitCode::from(status)

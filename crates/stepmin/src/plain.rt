@@ -1,81 +1,28 @@
 //! The normal text of a file.
 
-ghost use Rattle.std.specs.Prelude.{◌≡◌, false};
-ghost use Rattle.stepmin.specs.Plain.{Plain, is_file_fault, is_output_fault};
-ghost use Rattle.stepmin.specs.Faults.{read_fault, text_fault, write_fault};
+ghost use Rattle.std.specs.Prelude.{◌≡◌, false, IfSome};
+ghost use Rattle.stepmin.specs.Plain.{FailsAs, Plain, is_file_fault, is_output_fault};
 
-use crate::read::{ReadFault, read_whole};
-use devices::device::{Sink, Source, WriteFault};
+use crate::fault::{Fault, LIMIT, Role};
+use crate::read::read_whole;
+use devices::device::{Sink, Source};
 use std::alloc::Global;
+use std::hash::RandomState;
 use step_exchange::exchange::read_exchange;
-use step_exchange::fault::{FaultKind, LeftOut, TextFault};
 use step_exchange::write::write_plain;
-use thiserror::Error;
-
-/// The most bytes that a file has.
-pub const LIMIT: u64 = 1 << 40;
-
-/// Why a command ends before it is done. Each prints as the line that says so.
-#[derive(Clone, Copy, Debug, PartialEq, Eq, Error)]
-pub enum Fault {
-    /// The file's text is no exchange structure: the fault that shows first, and the number of
-    /// bytes before it.
-    #[error("file: {kind} at byte {place}")]
-    Text { kind: FaultKind, place: u64 },
-    /// The file can't be opened or read.
-    #[error("device: file")]
-    File,
-    /// The output can't be written: how many bytes of the text went out, as far as 2^64 - 1.
-    #[error("device: output after {written} bytes")]
-    Output { written: u64 },
-    /// Memory ran out.
-    #[error("memory")]
-    Memory,
-}
-
-impl From<ReadFault> for Fault {
-    ghost from_gives = { λ fault result. result ≡ read_fault fault };
-
-    fn from(fault: ReadFault) -> Fault {
-        match fault {
-            ReadFault::Device => Fault::File,
-            ReadFault::TooLarge => Fault::Text {
-                kind: FaultKind::LeftOut(LeftOut::TooLarge),
-                place: LIMIT,
-            },
-            ReadFault::Memory => Fault::Memory,
-        }
-    }
-}
-
-impl From<TextFault> for Fault {
-    ghost from_gives = { λ fault result. result ≡ text_fault fault };
-
-    fn from(fault: TextFault) -> Fault {
-        match fault {
-            TextFault::Memory => Fault::Memory,
-            TextFault::Fault { kind, place } => Fault::Text { kind, place },
-        }
-    }
-}
-
-impl From<WriteFault> for Fault {
-    ghost from_gives = { λ fault result. result ≡ write_fault fault };
-
-    fn from(fault: WriteFault) -> Fault {
-        Fault::Output {
-            written: fault.written,
-        }
-    }
-}
 
 /// Writes the normal text of what the source's bytes read as. All of them are read before the first
-/// byte is written.
+/// byte is written. The source plays the role `File`, and the output `Output`.
 ///
-/// `Text` comes where they are no exchange structure, and for `TooLarge` where they are more than
-/// 2^40; `File` where the source fails, `Output` where the output does, and `Memory` where memory
-/// runs out.
-pub fn plain<S: Source, O: Sink>(alloc: Global, source: &mut S, out: &mut O) -> Result<(), Fault>
+/// `Text` comes where the bytes are no exchange structure, and for `TooLarge` where they are more
+/// than 2^40; `Device` where the source or the output fails, and `Memory` where memory runs out.
+/// Names are hashed by these keys.
+pub fn plain<S: Source, O: Sink>(
+    alloc: Global,
+    keys: RandomState,
+    source: &mut S,
+    out: &mut O,
+) -> Result<(), Fault>
     // What went out is the normal text, or nothing, or a front of it.
     ensures plain { Plain (S.to_come source.old) (O.held out.old) (O.held out.new) result }
     // The fault is the file's exactly where the source failed, and the output's where that did.
@@ -83,9 +30,19 @@ pub fn plain<S: Source, O: Sink>(alloc: Global, source: &mut S, out: &mut O) -> 
         → S.has_failed source.new ≡ is_file_fault result }
     ensures output_fault { O.has_failed out.old ≡ false
         → O.has_failed out.new ≡ is_output_fault result }
+    // A source that can't fail has no fault, and one that can't but fail has one.
+    ensures told { IfSome (S.fails source.old) (FailsAs result) }
 {
-    let bytes = read_whole(alloc, source, LIMIT)?;
-    let exchange = read_exchange(alloc, &bytes)?;
-    write_plain(&exchange, out)?;
-    Ok(())
+    let bytes = match read_whole(alloc, source, LIMIT) {
+        Ok(bytes) => bytes,
+        Err(fault) => return Err(Fault::of_read(Role::File, fault)),
+    };
+    let exchange = match read_exchange(alloc, keys, &bytes) {
+        Ok(exchange) => exchange,
+        Err(fault) => return Err(Fault::of_text(Role::File, fault)),
+    };
+    match write_plain(&exchange, out) {
+        Ok(()) => Ok(()),
+        Err(fault) => Err(Fault::of_write(Role::Output, fault)),
+    }
 }

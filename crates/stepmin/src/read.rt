@@ -1,8 +1,24 @@
 //! A source read to its end.
 
-ghost use Rattle.std.specs.Prelude.{◌≡◌, ◌≤◌, ◌<◌, false, length, IfOk, IsErrOf, MatchResult};
+ghost use Rattle.std.specs.Prelude.{
+  ◌≡◌,
+  ◌≤◌,
+  ◌<◌,
+  false,
+  length,
+  IfOk,
+  IfSome,
+  IsErrOf,
+  MatchResult,
+};
 ghost use Rattle.std.specs.Io.KnownBytes.{IsAtEnd, Keeps};
-ghost use Rattle.stepmin.specs.Reads.{IsBeyond, ReadsBehind, ReadsWhole, device_failed};
+ghost use Rattle.stepmin.specs.Reads.{
+  DeviceFailsAs,
+  IsBeyond,
+  ReadsBehind,
+  ReadsWhole,
+  device_failed,
+};
 ghost use Rattle.stepmin.specs.declared.read.ReadFault.TheVariants.{TooLarge};
 
 use devices::device::Source;
@@ -44,6 +60,8 @@ fn read_more<S: Source>(
     ensures end { IfOk result (λ count. count ≡ 0 → IsAtEnd (S.to_come source.new)) }
     ensures failed { S.has_failed source.old ≡ false
         → S.has_failed source.new ≡ device_failed result }
+    ensures told { IfSome (S.fails source.old) (DeviceFailsAs result) }
+    ensures same { S.fails source.new ≡ S.fails source.old }
     ensures fault { IsErrOf result TooLarge → ⊥ }
 {
     let start = bytes.len();
@@ -72,6 +90,7 @@ pub fn read_whole<S: Source>(
     ensures too_large { IsErrOf result TooLarge → IsBeyond limit (S.to_come source.old) }
     ensures failed { S.has_failed source.old ≡ false
         → S.has_failed source.new ≡ device_failed result }
+    ensures told { IfSome (S.fails source.old) (DeviceFailsAs result) }
 {
     let mut bytes = Vec::new(alloc);
     while bytes.len() as u64 <= limit {

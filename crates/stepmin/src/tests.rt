@@ -1,18 +1,23 @@
-//! The command line over one file in memory.
+//! The command line over one file, in memory or in the file system.
 
-ghost use Rattle.std.specs.Prelude.{Some, None, codes, option_map};
+ghost use Rattle.std.specs.Prelude.{Some, None, codes, false, option_map};
 ghost use Rattle.std.specs.Bool.{if◌then◌else◌};
 ghost use Rattle.std.specs.Str.{bytes_eq};
 
-use crate::command::run_command;
-use crate::plain::Fault;
+use crate::command::{refuse, refuse_to_read, run_command};
+use crate::fault::{Fault, Role, print_line};
+use crate::files::Folder;
 use crate::read::ReadFault;
 use crate::store::Store;
+use crate::usage::unread_words;
 use devices::counted::Counted;
+use devices::device::Sink;
 use std::alloc::{AllocError, Global};
-use std::io;
+use std::hash::RandomState;
 use std::io::{Read, Write};
 use std::test::Fail;
+use std::{fs, io};
+use step_exchange::fault::{FaultKind, LeftOut};
 
 const FILE: &str = "ISO-10303-21;\n\
     HEADER;\n\
@@ -129,6 +134,33 @@ impl<'p, 'b> Store<'p> for Shelf<'b> {
     fn keep(&mut self, _path: &'p str, _writer: Counted<Paper>) {}
 }
 
+// A store in which each path leads to these bytes, and no read fails.
+#[derive(Drop)]
+struct Desk<'b> {
+    alloc: Global,
+    bytes: &'b [u8],
+}
+
+impl<'p, 'b> Store<'p> for Desk<'b> {
+    ghost contents = { λ desk _. Some desk.bytes.now };
+
+    ghost fails = { λ _ _. Some false };
+
+    type Reader = &'b [u8];
+
+    type Writer = Counted<Paper>;
+
+    fn reader(&mut self, _path: &'p str) -> &'b [u8] {
+        self.bytes
+    }
+
+    fn writer(&mut self, _path: &'p str) -> Counted<Paper> {
+        Counted::new(Paper::new(self.alloc, usize::MAX))
+    }
+
+    fn keep(&mut self, _path: &'p str, _writer: Counted<Paper>) {}
+}
+
 // What a run comes to.
 #[derive(Drop)]
 struct Ending {
@@ -137,38 +169,58 @@ struct Ending {
     err: Vec<u8>,
 }
 
+// The words, owned.
+fn owned(alloc: Global, words: &[&str]) -> Result<Vec<String>, AllocError> {
+    let mut owned = Vec::new(alloc);
+    for word in words {
+        owned.push(String::from_str(alloc, word)?)?;
+    }
+    Ok(owned)
+}
+
+// A command line over a store, where the outputs have this room.
+fn run_in<'p, S: Store<'p>>(
+    alloc: Global,
+    keys: RandomState,
+    words: &'p [String],
+    store: &mut S,
+    out_room: usize,
+    err_room: usize,
+) -> Ending {
+    let mut out = Counted::new(Paper::new(alloc, out_room));
+    let mut err = Counted::new(Paper::new(alloc, err_room));
+    let status = run_command(alloc, keys, words, store, &mut out, &mut err);
+    Ending {
+        status,
+        out: out.into_inner().bytes,
+        err: err.into_inner().bytes,
+    }
+}
+
 // A command line over the file, where the outputs have this room.
 fn run(
     alloc: Global,
+    keys: RandomState,
     words: &[&str],
     file: &str,
     breaks: bool,
     out_room: usize,
     err_room: usize,
 ) -> Result<Ending, AllocError> {
-    let mut owned = Vec::new(alloc);
-    for word in words {
-        owned.push(String::from_str(alloc, word)?)?;
-    }
+    let words = owned(alloc, words)?;
     let mut store = Shelf {
         alloc,
         bytes: file.as_bytes(),
         breaks,
     };
-    let mut out = Counted::new(Paper::new(alloc, out_room));
-    let mut err = Counted::new(Paper::new(alloc, err_room));
-    let status = run_command(alloc, &owned, &mut store, &mut out, &mut err);
-    Ok(Ending {
-        status,
-        out: out.into_inner().bytes,
-        err: err.into_inner().bytes,
-    })
+    Ok(run_in(alloc, keys, &words, &mut store, out_room, err_room))
 }
 
 // The file with `new` for `old` gives the file with this text for `old`, or is refused with this line.
 #[test]
 fn a_text_is_written_or_refused(rt: HostRuntime) -> Result<(), Fail> {
     let alloc = rt.alloc();
+    let keys = RandomState::new(&rt)?;
     for (old, new, want) in [
         // Layout, case and the spelling of names go, and that is all.
         ("DATA;\n", "DATA;\n", Ok("DATA;\n")),
@@ -371,7 +423,15 @@ fn a_text_is_written_or_refused(rt: HostRuntime) -> Result<(), Fail> {
     ] {
         let file = FILE.replace(alloc, old, new)?;
         let words = ["stepmin", "plain", "F"];
-        let run = run(alloc, &words, file.as_str(), false, usize::MAX, usize::MAX)?;
+        let run = run(
+            alloc,
+            keys,
+            &words,
+            file.as_str(),
+            false,
+            usize::MAX,
+            usize::MAX,
+        )?;
         let (status, out, err) = match want {
             Ok(text) => (0, FILE.replace(alloc, old, text)?, String::new(alloc)),
             Err(line) => (2, String::new(alloc), format!(in alloc; "{line}\n")?),
@@ -387,6 +447,7 @@ fn a_text_is_written_or_refused(rt: HostRuntime) -> Result<(), Fail> {
 #[test]
 fn a_device_that_fails_is_told(rt: HostRuntime) -> Result<(), Fail> {
     let alloc = rt.alloc();
+    let keys = RandomState::new(&rt)?;
     let all = usize::MAX;
     let words = ["stepmin", "plain", "F"].as_slice();
     let lost = "device: file\n";
@@ -498,7 +559,7 @@ fn a_device_that_fails_is_told(rt: HostRuntime) -> Result<(), Fail> {
             "device: output after 150 bytes\n",
         ),
     ] {
-        let run = run(alloc, words, file, breaks, out_room, err_room)?;
+        let run = run(alloc, keys, words, file, breaks, out_room, err_room)?;
         assert_eq!(rt;
             (run.status, run.out.len()),
             (status, sent),
@@ -527,6 +588,7 @@ fn said_by(status: u8, run: &Ending) -> (&[u8], usize) {
 #[test]
 fn words_that_ask_for_no_file_are_answered(rt: HostRuntime) -> Result<(), Fail> {
     let alloc = rt.alloc();
+    let keys = RandomState::new(&rt)?;
     for (words, status, begins) in [
         (["stepmin"].as_slice(), 3, "error: "),
         (&["stepmin", "check", "GEO"], 3, "error: "),
@@ -540,8 +602,8 @@ fn words_that_ask_for_no_file_are_answered(rt: HostRuntime) -> Result<(), Fail> 
         (&["stepmin", "help"], 0, "Reads STEP files"),
         (&["stepmin", "plain", "--help"], 0, "Writes the normal text"),
     ] {
-        let whole = run(alloc, words, "", false, usize::MAX, usize::MAX)?;
-        let cut = run(alloc, words, "", false, 3, 3)?;
+        let whole = run(alloc, keys, words, "", false, usize::MAX, usize::MAX)?;
+        let cut = run(alloc, keys, words, "", false, 3, 3)?;
         let (said, unsaid) = said_by(status, &whole);
         assert_eq!(rt;
             (whole.status, cut.status, unsaid, said_by(status, &cut).1),
@@ -555,11 +617,111 @@ fn words_that_ask_for_no_file_are_answered(rt: HostRuntime) -> Result<(), Fail> 
 }
 
 #[test]
-fn a_file_that_is_too_large_is_refused(rt: HostRuntime) -> Result<(), Fail> {
-    let line = format!(in rt.alloc(); "{}", Fault::from(ReadFault::TooLarge))?;
+fn a_fault_has_its_line(rt: HostRuntime) -> Result<(), Fail> {
+    let alloc = rt.alloc();
+    let too_many = Fault::Text {
+        role: Role::Output,
+        kind: FaultKind::LeftOut(LeftOut::TooMany),
+        place: u64::MAX,
+    };
+    for (fault, line) in [
+        (
+            Fault::of_read(Role::Schema, ReadFault::TooLarge),
+            "schema: E8 LeftOut TooLarge at byte 1099511627776\n",
+        ),
+        (
+            too_many,
+            "output: E8 LeftOut TooMany at byte 18446744073709551615\n",
+        ),
+        (
+            Fault::of_read(Role::Schema, ReadFault::Device),
+            "device: schema\n",
+        ),
+        (
+            Fault::Device {
+                role: Role::Certificate,
+                written: 0,
+            },
+            "device: certificate after 0 bytes\n",
+        ),
+    ] {
+        let mut err = Counted::new(Paper::new(alloc, usize::MAX));
+        assert_eq!(rt; print_line(&mut err, fault), Ok(()));
+        assert_eq!(rt; err.into_inner().bytes.as_slice(), line.as_bytes());
+    }
+    Ok(())
+}
+
+#[test]
+fn words_that_the_system_can_not_give_are_wrong(rt: HostRuntime) -> Result<(), Fail> {
+    let alloc = rt.alloc();
+    for (kind, status, line) in [
+        (
+            io::ErrorKind::InvalidData,
+            3,
+            "error: an argument is not text\n",
+        ),
+        (io::ErrorKind::OutOfMemory, 5, "memory\n"),
+    ] {
+        let mut out = Counted::new(Paper::new(alloc, usize::MAX));
+        let mut err = Counted::new(Paper::new(alloc, usize::MAX));
+        let refusal = unread_words(alloc, &io::Error::from(kind));
+        assert_eq!(rt; refuse(refusal, &mut out, &mut err), status);
+        assert_eq!(rt; out.into_inner().bytes.len(), 0);
+        assert_eq!(rt; err.into_inner().bytes.as_slice(), line.as_bytes());
+    }
+    Ok(())
+}
+
+#[test]
+fn without_keys_no_file_is_read(rt: HostRuntime) {
+    let mut err = Counted::new(Paper::new(rt.alloc(), usize::MAX));
+    assert_eq!(rt; refuse_to_read(&mut err), 4);
     assert_eq!(rt;
-        line.as_str(),
-        "file: E8 LeftOut TooLarge at byte 1099511627776"
+        err.into_inner().bytes.as_slice(),
+        b"device: file\n".as_slice()
     );
+}
+
+// Where the normal text of the large file lies for a while.
+const LARGE: &str = "normal-text-of-a-large-file.stp";
+
+// A file of more than a MiB with two further records in its header, and its normal text.
+fn large_file(alloc: Global) -> Result<(String, String), AllocError> {
+    let mut spelt = String::from_str(alloc, "DATA;\n")?;
+    let mut normal = String::from_str(alloc, "DATA;\n")?;
+    for name in 1..40000u32 {
+        write!(spelt, "#{name} = point ( ( 0., 1. ) ) ;\n")?;
+        write!(normal, "#{name}=POINT((0.,1.));\n")?;
+    }
+    let head = FILE.replace(alloc, "'GEO'));\n", "'GEO'));\nA(1);\nB('x');\n")?;
+    let file = head.as_str().replace(alloc, "DATA;\n", spelt.as_str())?;
+    let text = head.as_str().replace(alloc, "DATA;\n", normal.as_str())?;
+    Ok((file, text))
+}
+
+#[test]
+fn a_large_file_is_written_and_read_again(rt: HostRuntime) -> Result<(), Fail> {
+    let alloc = rt.alloc();
+    let keys = RandomState::new(&rt)?;
+    let all = usize::MAX;
+    let words = owned(alloc, &["stepmin", "plain", LARGE])?;
+    let (file, text) = large_file(alloc)?;
+    assert!(rt; file.len() > 1 << 20);
+    let mut desk = Desk {
+        alloc,
+        bytes: file.as_bytes(),
+    };
+    let first = run_in(alloc, keys, &words, &mut desk, all, all);
+    assert_eq!(rt; (first.status, first.err.len()), (0, 0));
+    assert_eq!(rt; first.out.as_slice(), text.as_bytes());
+    let mut folder = Folder::new(&rt);
+    let mut writer = folder.writer(LARGE);
+    assert_eq!(rt; writer.put(text.as_bytes()), Ok(text.len()));
+    folder.keep(LARGE, writer);
+    let again = run_in(alloc, keys, &words, &mut folder, all, all);
+    fs::remove_file(&rt, LARGE)?;
+    assert_eq!(rt; (again.status, again.err.len()), (0, 0));
+    assert_eq!(rt; again.out.as_slice(), text.as_bytes());
     Ok(())
 }

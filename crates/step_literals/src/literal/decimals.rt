@@ -8,6 +8,9 @@ ghost use Rattle.std.specs.Prelude.{
   ◌||◌,
   ◌%◌,
   ◌^◌,
+  ◌*◌,
+  ◌*ℤ◌,
+  pos,
   ◌++◌,
   ◌==◌,
   ℕ,
@@ -29,6 +32,9 @@ ghost use Rattle.step_literals.specs.Decimals.{
   signed,
   units,
   IsWorth,
+  finest,
+  ten_to,
+  turned,
 };
 ghost use Rattle.step_literals.specs.DigitStrings.{
   is_significant,
@@ -68,7 +74,7 @@ struct Digits<'a> {
 }
 
 impl<'a> Digits<'a> {
-    ghost use Rattle.step_literals.specs.Digits.{digits_of, magnitude_of};
+    ghost use Rattle.step_literals.specs.Digits.{digits_of, magnitude_of, worth_of};
 
     fn len(&self) -> usize
         ensures len { result ≡ length (digits_of self.now) }
@@ -127,6 +133,46 @@ impl<'a> Digits<'a> {
                 .wrapping_add(u64::from(self.digit(i)));
         }
         value
+    }
+
+    /// The number with its sign turned, if that is asked for.
+    fn turned(self, is_turned: bool) -> Digits<'a>
+        ensures { worth_of result ≡ turned is_turned (worth_of self.entry) }
+    {
+        Digits {
+            below_zero: self.len() > 0 && self.below_zero != is_turned,
+            whole: self.whole,
+            part: self.part,
+            shift: self.shift,
+        }
+    }
+
+    /// Compares the numbers.
+    fn compare(&self, other: &Digits<'_>) -> Ordering
+        ensures { result ≡ int_cmp (worth_of self.now) (worth_of other.now) }
+    {
+        match (self.below_zero, other.below_zero) {
+            (false, false) => self.compare_magnitude(other),
+            (true, true) => other.compare_magnitude(self),
+            (true, false) => Ordering::Less,
+            (false, true) => Ordering::Greater,
+        }
+    }
+
+    /// Compares the number without its sign with a whole number.
+    fn compare_whole_magnitude(&self, whole: u64) -> Ordering
+        requires { whole ≤ 2 ^ 63 }
+        ensures { result ≡ nat_cmp (magnitude_of self.now) (whole * 10 ^ finest) }
+    {
+        let len = self.top().saturating_sub(FINEST as usize);
+        if len > LONGEST_WHOLE {
+            return Ordering::Greater;
+        }
+        let front = self.front_value(len);
+        if front == whole && self.end() > len {
+            return Ordering::Greater;
+        }
+        front.cmp(&whole)
     }
 
     /// Compares the numbers without their signs.
@@ -239,6 +285,34 @@ impl<'a> Decimal<'a> {
         })
         .ok()
     }
+
+    /// Compares what the two are worth, each with its sign turned where that is asked for.
+    pub fn compare_turned(
+        &self,
+        is_turned: bool,
+        other: &Decimal<'_>,
+        is_other_turned: bool,
+    ) -> Ordering
+        ensures { result ≡ int_cmp (turned is_turned (units self.now.text.now))
+            (turned is_other_turned (units other.now.text.now)) }
+    {
+        let digits = self.digits().turned(is_turned);
+        digits.compare(&other.digits().turned(is_other_turned))
+    }
+
+    /// Compares what it is worth with a whole number.
+    pub fn compare_whole(&self, whole: i64) -> Ordering
+        ensures { result ≡ int_cmp (units self.now.text.now) (whole *ℤ ten_to (pos finest)) }
+    {
+        let digits = self.digits();
+        let magnitude = whole.unsigned_abs();
+        match (digits.below_zero, whole < 0) {
+            (false, false) => digits.compare_whole_magnitude(magnitude),
+            (true, true) => digits.compare_whole_magnitude(magnitude).reverse(),
+            (true, false) => Ordering::Less,
+            (false, true) => Ordering::Greater,
+        }
+    }
 }
 
 impl<'a> PartialEq for Decimal<'a> {
@@ -284,13 +358,7 @@ impl<'a> Ord for Decimal<'a> {
     ghost matches_eq = { Prim.search (comparing, rules) };
 
     fn cmp(&self, other: &Decimal<'a>) -> Ordering {
-        let (digits, other_digits) = (self.digits(), other.digits());
-        match (digits.below_zero, other_digits.below_zero) {
-            (false, false) => digits.compare_magnitude(&other_digits),
-            (true, true) => other_digits.compare_magnitude(&digits),
-            (true, false) => Ordering::Less,
-            (false, true) => Ordering::Greater,
-        }
+        self.digits().compare(&other.digits())
     }
 }
 

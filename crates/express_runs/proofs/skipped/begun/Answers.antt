@@ -1,4 +1,4 @@
-use Rattle.std.proofs.Common.{arith}
+use Rattle.std.proofs.Common.{◌≡◌, arith}
 use Rattle.express_trees.specs.Words.{word_of}
 use Rattle.express_runs.proofs.SkippedSteps.{begun_first, begun_more}
 use Rattle.express_runs.proofs.skipped.begun.Goals as goal
@@ -9,4 +9,4 @@ returns-then-from-to c = λ ws old new h e k. begun_first c.args.from c.args.to 
 
 pub returns : goal.returns
 returns c = λ ws old new h e k. begun_more c.args.from c.args.to ws (word_of c.args.item.lexeme) c.args.item.place old
-    new h e k
+    new (λ (same : c.args.from ≡ c.args.to). omega (arith, same)) h e k

@@ -48,7 +48,7 @@ of-requires c =
       c.in_ok-item.ensures,
       c.begun-from.ensures,
     ) ended c.place-to.result c.place-to.ensures c.text.result.now c.text.ensures in
-    (d.routine, d.fits, sym (c.between-passage.ensures (words_of_routine d.routine) d.stand))
+    (d.routine, d.fits, sym (c.between-passage.ensures.words (words_of_routine d.routine) d.stand))
 
 pub returns-in_default : goal.returns-in_default
 returns-in_default c =
@@ -59,7 +59,7 @@ returns-in_default c =
       c.in_ok-item.ensures,
       c.begun-from.ensures,
     ) ended c.place-to.result c.place-to.ensures c.text.result.now c.text.ensures in
-    let is = c.of.ensures d.routine d.fits (sym (c.between-passage.ensures (words_of_routine d.routine) d.stand)) in
+    let is = c.of.ensures.routine d.routine d.fits (sym (c.between-passage.ensures.words (words_of_routine d.routine) d.stand)) in
     routine_is_done c.args.reader.now c.take.new.self c.text.result.now c.begun-from.result c.place-to.result d
     (routine_of c.of.result) is
 

@@ -36,7 +36,7 @@ returns-then-is_named c =
     let stand = until_text c.args.end.now c.args.reader.now c.loop-item.reader c.take.new.self c.loop-item.from
     c.loop-item.to s w c.loop-item.invariant c.in_ok-item.ensures refl c.text.result.now c.text.ensures in
     until_done c.args.end.now c.args.reader.now c.loop-item.reader c.take.new.self c.loop-item.from c.loop-item.to s w
-    (words_of_passage c.between.result) c.loop-item.invariant (c.between.ensures c.loop-item.invariant.words stand)
+    (words_of_passage c.between.result) c.loop-item.invariant (c.between.ensures.words c.loop-item.invariant.words stand)
     c.in_ok-item.ensures refl (sym c.is_named.ensures ∙ c.if-is_named.true)
 
 pub loop-item-smaller : goal.loop-item-smaller

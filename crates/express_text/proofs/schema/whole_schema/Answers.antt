@@ -36,6 +36,9 @@ returns-in_err-end_of_text c =
     rw (p.1, p.2) (stops_second _ (EndOfText ∷ []) [] (passes_both opening c.in_ok-declarations.ensures.1)
     c.in_err-end_of_text.ensures)
 
+pub invariant_of-result : goal.invariant_of-result
+invariant_of-result c = record { fits = ∣ (c.in_ok-version.ensures.0, c.in_ok-declarations.ensures.0) ∣₁ }
+
 pub returns : goal.returns
 returns c =
     let x : Schema = record {

@@ -1,7 +1,7 @@
 use Rattle.std.proofs.Common.{Bool, nat_eq, sym, ◌∙◌}
 use Rattle.std.specs.HashMap.{get}
 use Rattle.step_equal.specs.ComputedImages.{is_source}
-use Rattle.step_equal.specs.Maps.{led_by}
+use Rattle.step_values.specs.Maps.{led_by}
 use Rattle.step_equal.specs.Rows.{Row}
 use Rattle.step_equal.proofs.Lookup.{all_stop, all_next}
 use Rattle.step_equal.proofs.image.are_sources.Goals as goal

@@ -1,7 +1,7 @@
 use Rattle.std.proofs.Common.{◌≡◌, drop, nat_eq}
 use Rattle.std.specs.List.{list_all}
 use Rattle.std.specs.HashMap.{get}
-use Rattle.step_equal.specs.Maps.{led_by}
+use Rattle.step_values.specs.Maps.{led_by}
 use Rattle.step_equal.specs.ComputedImages.{is_source}
 use Rattle.step_equal.specs.Views.{rows_of}
 use Rattle.step_equal.proofs.image.are_sources.Given as goal

@@ -1,6 +1,6 @@
 use Rattle.std.proofs.Common.{nat_eq}
 use Rattle.std.specs.HashSet.{contains}
-use Rattle.step_equal.specs.Maps.{led_by}
+use Rattle.step_values.specs.Maps.{led_by}
 use Rattle.step_equal.specs.Views.{rows_of}
 use Rattle.step_equal.proofs.Landing.{onto_where}
 use Rattle.step_equal.proofs.image.is_onto.Goals as goal

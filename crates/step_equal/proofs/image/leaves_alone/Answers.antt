@@ -2,7 +2,7 @@ use Rattle.std.proofs.Common.{nat_eq}
 use Rattle.std.specs.Ordering.{nat_cmp}
 use Rattle.std.specs.BTreeSet.{contains}
 use Rattle.std.specs.HashMap.{get}
-use Rattle.step_equal.specs.Maps.{led_by}
+use Rattle.step_values.specs.Maps.{led_by}
 use Rattle.step_equal.specs.Views.{rows_of}
 use Rattle.step_equal.proofs.Landing.{alone_where}
 use Rattle.step_equal.proofs.image.leaves_alone.Goals as goal

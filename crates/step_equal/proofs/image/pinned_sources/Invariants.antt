@@ -2,7 +2,7 @@ use Rattle.std.proofs.Common.{◌≡◌, ℕ, drop, nat_eq, None}
 use Rattle.std.specs.Ordering.{nat_cmp}
 use Rattle.std.specs.BTreeSet.{contains}
 use Rattle.std.specs.HashMap.{get}
-use Rattle.step_equal.specs.Maps.{led_by}
+use Rattle.step_values.specs.Maps.{led_by}
 use Rattle.step_equal.specs.ComputedImages.{source}
 use Rattle.step_equal.specs.Views.{rows_of}
 use Rattle.step_equal.proofs.image.pinned_sources.Given as goal

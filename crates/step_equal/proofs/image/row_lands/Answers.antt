@@ -1,5 +1,5 @@
 use Rattle.std.proofs.Common.{ap, sym, ◌∙◌}
-use Rattle.step_equal.specs.Maps.{led_by}
+use Rattle.step_values.specs.Maps.{led_by}
 use Rattle.step_equal.specs.Rows.{row_at}
 use Rattle.step_equal.specs.Views.{row_of}
 use Rattle.step_equal.proofs.Landing.{lands_if_words}

@@ -1,6 +1,6 @@
 use Rattle.std.proofs.Common.{◌≡◌, drop}
 use Rattle.std.specs.List.{list_all}
-use Rattle.step_equal.specs.Maps.{led_by}
+use Rattle.step_values.specs.Maps.{led_by}
 use Rattle.step_equal.specs.Rows.{row_at}
 use Rattle.step_equal.specs.ComputedImages.{row_lands}
 use Rattle.step_equal.specs.Views.{rows_of}

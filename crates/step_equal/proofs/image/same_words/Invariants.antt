@@ -1,7 +1,7 @@
 use Rattle.std.proofs.Common.{◌≡◌, length, map, drop}
 use Rattle.std.specs.Str.{bytes_eq}
-use Rattle.step_equal.specs.ComputedAgreement.{each_test}
-use Rattle.step_equal.specs.Views.{word_of}
+use Rattle.step_values.specs.ComputedAgreement.{each_test}
+use Rattle.step_values.specs.Views.{word_of}
 use Rattle.step_equal.proofs.image.same_words.Given as goal
 
 -- what is left decides

@@ -1,7 +1,7 @@
 use Rattle.std.proofs.Common.{◌≡◌, drop, nat_eq}
 use Rattle.indexmap.specs.IndexSet.{contains}
 use Rattle.step_equal.specs.ComputedClosure.{all_references_pass}
-use Rattle.step_equal.specs.Views.{values_of}
+use Rattle.step_values.specs.Views.{values_of}
 use Rattle.step_equal.proofs.plain.+refer.Given as goal
 
 -- what is left decides

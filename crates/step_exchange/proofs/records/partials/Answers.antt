@@ -14,7 +14,7 @@ loop-further-init c = let e : map record_of c.new-parts.result.items ≡ [] = ap
     in
     record {
       read = (rw e (parts_start c.args.lexer.now));
-      kept = c.new-further.ensures.empty ∙ sym (ap further_keywords c.new-parts.ensures.items);
+      kept = c.with_hasher-further.ensures.empty ∙ sym (ap further_keywords c.new-parts.ensures.items);
     }
 
 pub returns-in_err-token : goal.returns-in_err-token

@@ -6,8 +6,8 @@ use Rattle.step_exchange.proofs.RowSteps.{rows_start, rows_err_token, rows_err_n
 use Rattle.step_exchange.proofs.records.rows.Goals as goal
 
 pub loop-records-init : goal.loop-records-init
-loop-records-init c = let e : map row_of c.in_ok-records.records.entries ≡ [] =
-    ap (map row_of) c.in_ok-records.ensures.empty in
+loop-records-init c = let e : map row_of c.room_for-records.result.entries ≡ [] =
+    ap (map row_of) c.room_for-records.ensures in
     record {
       read = (rw e (rows_start c.args.lexer.now));
       bound = (let P : List ℕ → Type 0 = AtMost 0 in subst P (sym (ap names_of e)) tt);
@@ -15,7 +15,7 @@ loop-records-init c = let e : map row_of c.in_ok-records.records.entries ≡ [] 
 
 pub returns-in_err-token : goal.returns-in_err-token
 returns-in_err-token c =
-    let p = err_from_is_err_and c.from_residual-in_err-token.result c.from_residual-in_err-token.ensures.1 in
+    let p = err_from_is_err_and c.from_residual.result c.from_residual.ensures.1 in
     let ns = names_of (map row_of c.loop-records.records.entries) in
     rw (p.1, p.2) (rows_err_token _ c.args.lexer.now (map row_of c.loop-records.records.entries) c.loop-records.lexer
     c.loop-records.invariant.read (c.in_err-token.ensures (Rows ns) (λ (e : Rows ns ≡ EndOfText). cc)))

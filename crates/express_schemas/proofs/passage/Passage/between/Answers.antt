@@ -7,8 +7,8 @@ invariant_of-result c =
     let h = stands_within c.args.text.now c.args.from c.requires.0 c.args.to c.requires.1 in
     record { order = h.0; within = h.1; words = (c.requires.0, ∣ c.requires.1 ∣₁) }
 
-pub returns : goal.returns
-returns c = λ ws h. passage_words record {
+pub returns-clause-words : goal.returns-clause-words
+returns-clause-words c = λ ws h. passage_words record {
   text = c.args.text;
   from = c.args.from;
   to = c.args.to;

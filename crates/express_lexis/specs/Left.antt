@@ -1,0 +1,22 @@
+-- What iterators over literals still give; no promise stands here.
+use Rattle.std.specs.Prelude.{◌≡◌, Bool, List, [], ◌∷◌, Option, MatchOption}
+use Rattle.step_literals.specs.declared.literal.items.Item.{Item}
+use Rattle.express_lexis.specs.declared.literal.characters.Characters.{Characters}
+use Rattle.express_lexis.specs.declared.literal.bits.Bits.{Bits}
+use Rattle.express_lexis.specs.Meanings.{bits_of}
+use Rattle.express_lexis.specs.Doubled.{left}
+
+abbrev pub characters_left : Characters → List Item
+characters_left c = left c.run.now c.raw.now c.rest.now
+
+-- no run is begun
+abbrev pub IsBetween : Characters → Type 0
+IsBetween c = (c.run.now ≡ []) × (c.raw.now ≡ [])
+
+-- the next character of a run, or none where none is begun
+abbrev pub GoesInside : Characters → Option Item → Characters → Type 0
+GoesInside old item new = MatchOption item (IsBetween old × IsBetween new × (new.rest.now ≡ old.rest.now))
+    (λ x. characters_left old ≡ x ∷ characters_left new)
+
+abbrev pub bits_left : Bits → List Bool
+bits_left b = bits_of b.digits.now

@@ -1,0 +1,58 @@
+-- What the code computes; no promise stands here. Agreement of values, each reference with itself
+-- alone, as a test.
+use Rattle.std.specs.Prelude.{ℕ, suc, ◌==◌, ◌&&◌, Bool, true, false, cond, List, [], ◌∷◌}
+use Rattle.std.specs.Ordering.{int_eq}
+use Rattle.std.specs.Bool.{beq}
+use Rattle.std.specs.Cmp.Lexicographic.{pointwise}
+use Rattle.std.specs.Str.{bytes_eq}
+use Rattle.step_literals.specs.declared.literal.items.Item.{Item}
+use Rattle.step_literals.specs.declared.literal.items.Item.TheVariants.{Code, Page, Raw}
+use Rattle.step_values.specs.Leaves.{Leaf, unset, derived, number, text, bits, element}
+use Rattle.step_values.specs.Values.{Value, leaf, reference, typed, sequence, bag, Values, none, more}
+
+abbrev pub item_test : Item → Item → Bool
+item_test (Code c) (Code d) = c == d
+item_test (Page p b) (Page q c) = (p == q) && (b == c)
+item_test (Raw b) (Raw c) = b == c
+item_test _ _ = false
+
+abbrev pub each_test : {A : Type 0} → (A → A → Bool) → List A → List A → Bool
+each_test test [] [] = true
+each_test test (x ∷ xs) (y ∷ ys) = test x y && each_test test xs ys
+each_test test _ _ = false
+
+abbrev pub leaf_test : Leaf → Leaf → Bool
+leaf_test unset unset = true
+leaf_test derived derived = true
+leaf_test (number y) (number z) = int_eq y z
+leaf_test (text s) (text t) = each_test item_test s t
+leaf_test (bits b) (bits c) = pointwise beq b c
+leaf_test (element s) (element t) = bytes_eq s t
+leaf_test _ _ = false
+
+abbrev pub count_in : (Value → Bool) → Values → ℕ
+count_in p none = 0
+count_in p (more v vs) = cond (p v) (suc (count_in p vs)) (count_in p vs)
+
+abbrev pub size : Values → ℕ
+size none = 0
+size (more v vs) = suc (size vs)
+
+-- two bags agree where they have one size and each value of the first stands in both equally often
+abbrev mutual
+  pub same_test : Value → Value → Bool
+  same_test (leaf a) (leaf b) = leaf_test a b
+  same_test (reference y) (reference z) = y == z
+  same_test (typed n v) (typed m w) = bytes_eq n m && same_test v w
+  same_test (sequence vs) (sequence ws) = same_each_test vs ws
+  same_test (bag vs) (bag ws) = (size vs == size ws) && counts_test vs vs ws
+  same_test _ _ = false
+
+  pub same_each_test : Values → Values → Bool
+  same_each_test none none = true
+  same_each_test (more v vs) (more w ws) = same_test v w && same_each_test vs ws
+  same_each_test _ _ = false
+
+  pub counts_test : Values → Values → Values → Bool
+  counts_test none vs ws = true
+  counts_test (more v rest) vs ws = (count_in (same_test v) vs == count_in (same_test v) ws) && counts_test rest vs ws

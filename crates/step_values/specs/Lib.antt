@@ -1,0 +1,9 @@
+pub mod Leaves
+pub mod Values
+pub mod References
+pub mod Maps
+pub mod Views
+pub mod ComputedCodes
+pub mod ComputedAgreement
+pub mod ComputedRenamings
+pub mod ComputedForms

@@ -1,0 +1,17 @@
+-- Files by their names.
+use Rattle.std.specs.Prelude.{◌≡◌, ℕ, List, [], ◌∷◌, Option, Some, None, Bool}
+
+-- A file as a store tells it: what it holds, and whether each read of it fails or none does.
+pub record Stored : Type 0 where
+  pub contents : Option (List ℕ)
+  pub fails : Option Bool
+
+-- the file of this path
+abbrev pub stored : {S : Type 0} → (S → List ℕ → Option (List ℕ)) → (S → List ℕ → Option Bool) → S → List ℕ → Stored
+stored contents fails store path = record { contents = contents store path; fails = fails store path }
+
+-- Where bytes were written, as far as the writer tells them, the file holds these: it is made at the first write.
+abbrev pub HoldsWritten : Option (List ℕ) → Option (List ℕ) → Type 0
+HoldsWritten None holds = Unit {0}
+HoldsWritten (Some []) holds = Unit {0}
+HoldsWritten (Some (byte ∷ bytes)) holds = holds ≡ Some (byte ∷ bytes)
