@@ -200,6 +200,7 @@ abbrev pub Unless : NotRead → Type 0 → Type 0
 Unless failures.NoExpression n = n
 Unless failures.Memory n = Unit {0}
 
+-- what is read has p, or n holds where no expression is read
 abbrev pub Reading : {X : Type 0} → Result X NotRead → Type 0 → (X → Type 0) → Type 0
 Reading r n p = MatchResult r p (λ e. Unless e n)
 

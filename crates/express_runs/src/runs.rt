@@ -9,6 +9,7 @@ ghost use Rattle.express_schemas.specs.declared.fault.SchemaFault.TheVariants.{F
 ghost use Rattle.express_runs.specs.Items.{located_of, named};
 ghost use Rattle.express_schemas.specs.Texts.{Shows};
 ghost use Rattle.express_schemas.specs.Views.{run_of};
+ghost use Rattle.express_schemas.specs.Sources.{IsRunOf};
 ghost use Rattle.express_schemas.specs.Runs;
 ghost use Rattle.express_schemas.specs.Runs.{words_of_run};
 ghost use Rattle.express_schemas.specs.Predict;
@@ -120,8 +121,9 @@ impl<'a> Buffer<'a> {
 /// The run from one place of a text to another.
 fn run_between(text: &[u8], from: u64, to: u64) -> Run<'_>
     requires { (r : Runs.Run) × IsRun r × Stands text.now from (words_of_run r) to }
-    ensures { (r : Runs.Run) → IsRun r → Stands text.now from (words_of_run r) to
+    ensures run { (r : Runs.Run) → IsRun r → Stands text.now from (words_of_run r) to
         → run_of result ≡ r }
+    ensures text { IsRunOf text.now result }
 {
     Run::of(Passage::between(text, from as usize, to as usize))
 }
@@ -285,11 +287,12 @@ pub fn gather<'a>(
     requires around { around ≤ 64 }
     requires begun { (mid : Reading) × IsBegun (part_of part) around buffer.old mid
         × Shows mid (located_of first) lexer.old }
-    ensures { MatchResult result
+    ensures read { MatchResult result
         (λ r. Gathered (part_of part) around buffer.old buffer.new (located_of first.entry)
         (run_of r) lexer.old lexer.new)
         (λ e. StopsIn e (more_of (part_of part) around buffer.old ∷ [])
         (located_of first.entry ∷ []) lexer.old) }
+    ensures text { IfOk result (λ r. IsRunOf lexer.old.text r) }
 {
     let mut item = first;
     loop {

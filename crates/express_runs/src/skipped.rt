@@ -1,6 +1,6 @@
 //! Declarations of which only the tokens are kept (ISO 10303-11, 9.4 to 9.7).
 
-ghost use Rattle.std.specs.Prelude.{◌≡◌, ◌+◌, ◌<◌, ◌^◌, [], ◌∷◌, ◌++◌, List, Ok, MatchResult};
+ghost use Rattle.std.specs.Prelude.{◌≡◌, ◌+◌, ◌<◌, ◌^◌, [], ◌∷◌, ◌++◌, List, Ok, IfOk, MatchResult};
 ghost use Rattle.std.specs.Str.{bytes_eq};
 ghost use Rattle.step_literals.specs.Words.{upper};
 ghost use Rattle.express_lexis.specs.declared.marks.Mark.TheVariants as marks;
@@ -12,6 +12,7 @@ ghost use Rattle.express_schemas.specs.Texts.{Shows};
 ghost use Rattle.express_schemas.specs.Passages.{Stands};
 ghost use Rattle.express_schemas.specs.Runs.{words_of_routine, FitsRoutine};
 ghost use Rattle.express_schemas.specs.Views.{routine_of, words_of_passage, skipped_of};
+ghost use Rattle.express_schemas.specs.Sources.{IsPassageOf, IsRoutineOf, IsSkippedOf};
 ghost use Rattle.express_schemas.specs.Written.{words_of_skipped};
 ghost use Rattle.express_schemas.specs.Profile.{IsWithout, FitsSkipped};
 ghost use Rattle.express_schemas.specs.Predict;
@@ -128,9 +129,10 @@ fn left_open(others: u64, item: Item<'_>) -> Option<u64>
 
 /// The tokens of a function or procedure behind its name, with the word that ends it.
 fn routine_tokens<'a>(reader: &mut Reader<'a>) -> Result<Routine<'a>, SchemaFault>
-    ensures { ParsesWhere result (Predict.Routine 0 ∷ [])
+    ensures read { ParsesWhere result (Predict.Routine 0 ∷ [])
         (λ r. words_of_routine (routine_of r)) (λ r. FitsRoutine (routine_of r))
         reader.old reader.new }
+    ensures text { IfOk result (λ r. IsRoutineOf reader.old.text r) }
 {
     let mut others = 0;
     let mut from = reader.place();
@@ -150,9 +152,10 @@ fn routine_tokens<'a>(reader: &mut Reader<'a>) -> Result<Routine<'a>, SchemaFaul
 /// The tokens up to a name, which is in capitals, and that.
 fn tokens_until<'a>(reader: &mut Reader<'a>, end: &[u8]) -> Result<Passage<'a>, SchemaFault>
     requires { upper end.now ≡ end.now }
-    ensures { ParsesWhere result (Until end.now ∷ [])
+    ensures read { ParsesWhere result (Until end.now ∷ [])
         (λ p. words_of_passage p ++ name end.now ∷ []) (λ p. IsWithout end.now (words_of_passage p))
         reader.old reader.new }
+    ensures text { IfOk result (λ p. IsPassageOf reader.old.text p) }
 {
     let mut from = reader.place();
     let mut to = from;
@@ -168,10 +171,11 @@ fn tokens_until<'a>(reader: &mut Reader<'a>, end: &[u8]) -> Result<Passage<'a>, 
 
 /// A function or procedure behind its first word.
 fn named_routine<'a>(reader: &mut Reader<'a>) -> Result<(Word<'a>, Routine<'a>), SchemaFault>
-    ensures { ParsesWhere result (SkippedName ∷ Predict.Routine 0 ∷ SkippedEnd ∷ [])
+    ensures read { ParsesWhere result (SkippedName ∷ Predict.Routine 0 ∷ SkippedEnd ∷ [])
         (λ r. name (capitals r.0)
         ∷ (words_of_routine (routine_of r.1) ++ mark marks.Semicolon ∷ []))
         (λ r. FitsRoutine (routine_of r.1)) reader.old reader.new }
+    ensures text { IfOk result (λ r. IsRoutineOf reader.old.text r.1) }
 {
     let name = skipped_name(reader)?;
     let tokens = routine_tokens(reader)?;
@@ -182,9 +186,10 @@ fn named_routine<'a>(reader: &mut Reader<'a>) -> Result<(Word<'a>, Routine<'a>),
 /// The tokens of a declaration up to this name, with that and the semicolon.
 fn tokens_ended<'a>(reader: &mut Reader<'a>, end: &[u8]) -> Result<Passage<'a>, SchemaFault>
     requires { upper end.now ≡ end.now }
-    ensures { ParsesWhere result (Until end.now ∷ SkippedEnd ∷ [])
+    ensures read { ParsesWhere result (Until end.now ∷ SkippedEnd ∷ [])
         (λ p. words_of_passage p ++ name end.now ∷ mark marks.Semicolon ∷ [])
         (λ p. IsWithout end.now (words_of_passage p)) reader.old reader.new }
+    ensures text { IfOk result (λ p. IsPassageOf reader.old.text p) }
 {
     let tokens = tokens_until(reader, end)?;
     skipped_end(reader)?;
@@ -197,10 +202,11 @@ fn named_tokens<'a>(
     end: &[u8],
 ) -> Result<(Word<'a>, Passage<'a>), SchemaFault>
     requires { upper end.now ≡ end.now }
-    ensures { ParsesWhere result (SkippedName ∷ Until end.now ∷ SkippedEnd ∷ [])
+    ensures read { ParsesWhere result (SkippedName ∷ Until end.now ∷ SkippedEnd ∷ [])
         (λ p. name (capitals p.0)
         ∷ (words_of_passage p.1 ++ name end.now ∷ mark marks.Semicolon ∷ []))
         (λ p. IsWithout end.now (words_of_passage p.1)) reader.old reader.new }
+    ensures text { IfOk result (λ p. IsPassageOf reader.old.text p.1) }
 {
     let name = skipped_name(reader)?;
     let tokens = tokens_ended(reader, end)?;
@@ -213,11 +219,12 @@ pub fn skipped<'a>(
     first: Word<'a>,
     place: u64,
 ) -> Result<Skipped<'a>, SchemaFault>
-    ensures { MatchResult result
+    ensures read { MatchResult result
         (λ s. FitsSkipped (skipped_of s)
         × Passes (Declarations ∷ []) (Declarations ∷ []) (named first.entry place ∷ [])
         (words_of_skipped (skipped_of s)) reader.old reader.new)
         (λ e. StopsIn e (Declarations ∷ []) (named first.entry place ∷ []) reader.old) }
+    ensures text { IfOk result (λ s. IsSkippedOf reader.old.text s) }
 {
     if spells(first, b"FUNCTION") {
         let (name, tokens) = named_routine(reader)?;

@@ -34,4 +34,5 @@ pub mod InSkipped
 pub mod FaultKinds
 pub mod FirstFault
 pub mod EachText
+pub mod SameText
 pub mod StandLemmas

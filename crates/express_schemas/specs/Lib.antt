@@ -11,3 +11,5 @@ pub mod PassageLemmas
 pub mod Views
 pub mod SchemaViews
 pub mod Laws
+pub mod Clauses
+pub mod Sources

@@ -1,5 +1,5 @@
 -- What may stand next, token by token: a stack of what is still to come, in which each symbol takes one token.
--- No promise rests on this table: it stands between the definitions, which speak of trees and of fronts, and
+-- No promise rests on this table: it stands between the definitions, which speak of trees and of prefixes, and
 -- the reader.
 use Rattle.std.specs.Prelude.{ℕ, zero, suc, ◌+◌, nat_lt, Bool, true, false, if◌then◌else◌, List, [], ◌∷◌, ◌++◌, length, Result, Ok, Err, codes}
 use Rattle.std.specs.Str.{bytes_eq}

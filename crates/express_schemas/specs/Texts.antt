@@ -58,7 +58,7 @@ pub record ReadsAs (text : List ℕ) (x : Schema) : Type 0 where
   pub shows : ShowsAll (start text) shown end
   pub are : lookaheads shown ≡ lookaheads_of x
 
--- the tokens so far are the front of some schema's, where so many brackets may be open
+-- the tokens so far are a prefix of some schema's, where so many brackets may be open
 pub record IsViablePrefix (levels : ℕ) (s : List Lookahead) : Type 0 where
   pub rest : List Lookahead
   pub schema : Schema
@@ -101,13 +101,13 @@ FaultApplies before at (fault_kinds.LeftOut part) = IsLeftOut before at part
 FaultApplies before at fault_kinds.TooDeep = IsViablePrefix (depth_limit + 1) (before ++ at ∷ [])
 FaultApplies before at fault_kinds.Expected = Unit {0}
 
--- .. and another token is expected only where no other kind of fault is due
+-- .. and another token is expected only where no other kind of fault applies
 abbrev pub IsKind : List Lookahead → Lookahead → FaultKind → Type 0
 IsKind before at fault_kinds.Expected = (kind : FaultKind) → (kind ≡ fault_kinds.Expected → ⊥)
     → FaultApplies before at kind → ⊥
 IsKind before at kind = FaultApplies before at kind
 
--- The fault that shows first: what stands there is the first with which the tokens so far are no front.
+-- The fault that shows first: what stands there is the first with which the tokens so far are no viable prefix.
 pub record IsFirstFault (text : List ℕ) (kind : FaultKind) (place : ℕ) : Type 0 where
   pub before : List LocatedToken
   pub at : LocatedToken

@@ -6,4 +6,8 @@ mod images;
 #[cfg(test)]
 mod populations;
 #[cfg(test)]
+mod rings;
+#[cfg(test)]
 mod tables;
+#[cfg(test)]
+mod values;

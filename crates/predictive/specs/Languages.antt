@@ -3,11 +3,11 @@
 use Rattle.std.specs.Prelude.{◌≡◌, ℕ, List, [], ◌∷◌, ◌++◌, Ok}
 use Rattle.predictive.specs.Tables.{LocatedToken, lookaheads, Table, run, passes}
 
--- the lookaheads are the front of a whole text's
+-- the lookaheads are a prefix of a whole text's
 abbrev pub IsViablePrefix : {W : Type 0} → (List W → Type 0) → List W → Type 0
 IsViablePrefix {W} L s = (rest : List W) × L (s ++ rest)
 
--- the first token with which those so far are no front stands at this place
+-- the first token with which those so far are no viable prefix stands at this place
 pub record IsFirstFault {W : Type 0} (L : List W → Type 0) (s : List (LocatedToken W)) (place : ℕ) : Type 0 where
   pub before : List (LocatedToken W)
   pub at : LocatedToken W

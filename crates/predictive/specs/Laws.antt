@@ -4,7 +4,7 @@ use Rattle.predictive.specs.Tables.{LocatedToken, lookaheads, Table, run, stops,
 use Rattle.predictive.specs.Languages.{IsViablePrefix, IsFirstFault, Accepts, AllAre, IsComplete}
 
 -- A table in which each symbol that comes to stand can be completed stops just at the first token with which
--- those so far are the front of nothing that it takes: no token late, and none early.
+-- those so far are a prefix of nothing that it takes: no token late, and none early.
 abbrev pub StopsAtFirstFault : Type 0 → Type 0 → Type 0 → Type 0
 StopsAtFirstFault S W K =
     (table : Table S W K) (sort : S → Bool) (start : List S) → IsComplete table (λ y. sort y ≡ true)
@@ -12,7 +12,7 @@ StopsAtFirstFault S W K =
     → (s : List (LocatedToken W)) (place : ℕ) → ((k : K) × (run table start s ≡ stops k place))
     ↔ IsFirstFault (Accepts table start) s place
 
--- It asks for more just where the tokens are a front of what it takes, and not whole.
+-- It asks for more just where the tokens are a prefix of what it takes, and not whole.
 abbrev pub AsksForMore : Type 0 → Type 0 → Type 0 → Type 0
 AsksForMore S W K =
     (table : Table S W K) (sort : S → Bool) (start : List S) → IsComplete table (λ y. sort y ≡ true)

@@ -49,7 +49,7 @@ module _ (P : List Row) (pinned : ℕ → Bool) (population : IsPopulation P) (b
 
 module _ (P Q : List Row) (pinned : ℕ → Bool) (h : ℕ → ℕ) (population : IsPopulation P) (bags : BagsArePinned P pinned)
     (image : IsImage P Q h pinned) where
-  apart : IsApart P pinned population bags h
+  pub apart : IsApart P pinned population bags h
   apart y w n m (inl py) e = sym (image.alone w y m n py (sym e))
   apart y w n m (inr pw) e = image.alone y w n m pw e
 

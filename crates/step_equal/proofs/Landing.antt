@@ -4,19 +4,19 @@ use Rattle.std.specs.Prelude.{◌==◌, ◌&&◌, ◌↔◌, is_some, IfOk}
 use Rattle.std.specs.List.{IsDistinct, list_all, list_any}
 use Rattle.std.specs.Ordering.{nat_cmp, eq_by_cmp}
 use Rattle.std.specs.BTreeMap.{BTreeMap, keys}
-use Rattle.std.specs.Str.{bytes_eq}
 use Rattle.std.proofs.lemmas.Bool.{and_parts, and_from, or_cases, or_left, or_right}
 use Rattle.std.proofs.lemmas.Bool.Decides.{nat_tests}
-use Rattle.std.proofs.lemmas.Slice.Eq.{bytes_eq-Decides}
 use Rattle.step_values.specs.Values.{Value, leaf, reference, typed, sequence, bag, Values, none, more}
 use Rattle.step_values.specs.References.{renamed, renamed_each}
-use Rattle.step_equal.specs.Rows.{Row, names, row_at, IsName, RowsAgree, renamed_row}
-use Rattle.step_values.specs.ComputedAgreement.{each_test, same_each_test}
+use Rattle.step_equal.specs.Rows.{Row, kind_of, names, row_at, IsName, RowsAgree, renamed_row}
+use Rattle.step_values.specs.ComputedAgreement.{same_each_test}
 use Rattle.step_values.specs.Maps.{led_by}
 use Rattle.step_equal.specs.Maps.{is_key, IsMapImage}
 use Rattle.step_equal.specs.ComputedImages.{IsOnto, LeavesAlone, row_lands, source, is_source}
 use Rattle.step_equal.proofs.Lookup.{row_cases, held_name, name_held, name_here, name_later, all_rows, rows_all, all_names, names_all, row_name}
-use Rattle.step_values.proofs.Deciding.{each_decides, each_sound, each_complete}
+use Rattle.step_equal.specs.ComputedKinds.{kind_test}
+use Rattle.step_values.proofs.Deciding.{each_sound, each_complete}
+use Rattle.step_equal.proofs.OneKind.{kinds_decide}
 
 -- each row of P is led to one of Q that agrees with it
 abbrev pub Lands : List Row → List Row → (ℕ → ℕ) → Type 0
@@ -93,12 +93,12 @@ module _ (h : ℕ → ℕ) where
       × RowsAgree (renamed_row h p) q
   lands_at p None e = absurd (cc)
   lands_at p (Some q) e =
-      let parts = and_parts (each_test bytes_eq p.types q.types) (same_each_test (renamed_each h p.values) q.values) e
+      let parts = and_parts (kind_test (kind_of p) (kind_of q)) (same_each_test (renamed_each h p.values) q.values) e
       in (
         q,
         refl,
         record {
-          same_kind = (each_decides bytes_eq bytes_eq-Decides p.types q.types).0 parts.0;
+          same_kind = (kinds_decide (kind_of p) (kind_of q)).0 parts.0;
           values_agree = each_sound (renamed_each h p.values) q.values parts.1;
         },
       )
@@ -106,8 +106,8 @@ module _ (h : ℕ → ℕ) where
   landed : (p q : Row) (o : Option Row) → o ≡ Some q → RowsAgree (renamed_row h p) q → row_lands h p o ≡ true
   landed p q o at agree =
       ap (row_lands h p) at
-      ∙ and_from (each_test bytes_eq p.types q.types) (same_each_test (renamed_each h p.values) q.values)
-      ((each_decides bytes_eq bytes_eq-Decides p.types q.types).1 agree.same_kind)
+      ∙ and_from (kind_test (kind_of p) (kind_of q)) (same_each_test (renamed_each h p.values) q.values)
+      ((kinds_decide (kind_of p) (kind_of q)).1 agree.same_kind)
       (each_complete (renamed_each h p.values) q.values agree.values_agree)
 
   pub lands_where : (P Q : List Row) → IsDistinct (◌==◌) (names P) → (r : Bool)
@@ -208,18 +208,18 @@ mutual
   renamed_each_itself none = refl
   renamed_each_itself (more v vs) = let first = renamed_itself v in let rest = renamed_each_itself vs in cc
 
-lands_where_words : (h : ℕ → ℕ) (p q : Row) (o : Option Row) (r : Bool) → Some q ≡ o → each_test bytes_eq p.types
-    q.types ≡ true → r ≡ same_each_test (renamed_each h p.values) (renamed_each (λ y. y) q.values) → r ≡ row_lands h p o
-lands_where_words h p q o r found words e =
+lands_where_kinds : (h : ℕ → ℕ) (p q : Row) (o : Option Row) (r : Bool) → Some q ≡ o → kind_test (kind_of p)
+    (kind_of q) ≡ true → r ≡ same_each_test (renamed_each h p.values) (renamed_each (λ y. y) q.values) → r ≡ row_lands h p o
+lands_where_kinds h p q o r found one e =
     e ∙ ap (same_each_test (renamed_each h p.values)) (renamed_each_itself q.values)
-    ∙ ap (λ b. b && same_each_test (renamed_each h p.values) q.values) (sym words) ∙ ap (row_lands h p) found
+    ∙ ap (λ b. b && same_each_test (renamed_each h p.values) q.values) (sym one) ∙ ap (row_lands h p) found
 
-pub lands_if_words : {E : Type 0} (h : ℕ → ℕ) (p q : Row) (o : Option Row) (r : Result Bool E) → Some q ≡ o
-    → each_test bytes_eq p.types q.types ≡ true
+pub lands_if_one_kind : {E : Type 0} (h : ℕ → ℕ) (p q : Row) (o : Option Row) (r : Result Bool E) → Some q ≡ o
+    → kind_test (kind_of p) (kind_of q) ≡ true
     → IfOk r (λ b. b ≡ same_each_test (renamed_each h p.values) (renamed_each (λ y. y) q.values))
     → IfOk r (λ b. b ≡ row_lands h p o)
-lands_if_words h p q o (Ok b) found words f = lands_where_words h p q o b found words f
-lands_if_words h p q o (Err e) found words f = f
+lands_if_one_kind h p q o (Ok b) found one f = lands_where_kinds h p q o b found one f
+lands_if_one_kind h p q o (Err e) found one f = f
 
 pub image_where : {E : Type 0} (P Q : List Row) (m : BTreeMap ℕ ℕ) (pinned : ℕ → Bool) (r : Result Bool E)
     → ((y : ℕ) → (is_key m y ≡ true) ↔ IsName P y) → Lands P Q (led_by m) → IsOnto P Q (led_by m)

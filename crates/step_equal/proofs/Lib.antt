@@ -2,6 +2,7 @@ pub mod Lookup
 pub mod Pairs
 pub mod Congruences
 pub mod Kernels
+pub mod Carried
 pub mod Rounds
 pub mod Heads
 pub mod Chosen
@@ -18,6 +19,8 @@ pub mod ValueExamples
 pub mod ImageExamples
 pub mod TableExamples
 pub mod StandardExample
+pub mod OneKind
+pub mod OneTable
 pub mod Placing
 pub mod Landing
 pub mod Settling

@@ -2,19 +2,18 @@
 use Rattle.std.proofs.Common.{◌≡◌, ◌≤◌, ◌<◌, ℕ, zero, suc, Bool, true, false, cond, List, [], ◌∷◌, Option, Some, None, refl, sym, ◌∙◌, ap, subst, inl, inr, eqb-true, eq-eqb, length, arith, add-one}
 use Rattle.std.specs.Prelude.{◌==◌, ◌&&◌, ◌||◌, not}
 use Rattle.std.specs.List.{list_any}
-use Rattle.std.specs.Str.{bytes_eq}
 use Rattle.std.proofs.lemmas.Bool.{and_parts, and_from, or_cases, or_left, or_right, not-true, not_from_false, not-false, true_from_ne_false, cases_lt}
-use Rattle.std.proofs.lemmas.Slice.Eq.{bytes_eq-Decides}
 use Rattle.step_equal.specs.Rows.{Row, names, kind_of, row_at, IsName, IsPopulation}
 use Rattle.step_equal.specs.Keeping.{under, AreAlike, AgreeUnder}
 use Rattle.step_equal.specs.Images.{head_of}
-use Rattle.step_values.specs.ComputedAgreement.{each_test}
+use Rattle.step_equal.specs.ComputedKinds.{kind_test}
 use Rattle.step_equal.specs.Standard.{IsRefinement}
 use Rattle.step_equal.specs.Tables.{IsGrounded}
 use Rattle.step_equal.specs.Laws.{ValueEqualityExists}
+use Rattle.step_equal.proofs.OneKind.{kinds_decide}
 use Rattle.step_equal.proofs.Lookup.{row_cases}
 use Rattle.step_equal.proofs.Pairs.{alike_sym, alike_trans, agree_under_grows, agree_under_back, agree_under_trans}
-use Rattle.step_values.proofs.Deciding.{each_decides, agree_each_by, each_by_sound, each_by_complete}
+use Rattle.step_values.proofs.Deciding.{agree_each_by, each_by_sound, each_by_complete}
 use Rattle.step_equal.proofs.Few.{count_length, ArePartitions, many_heads}
 use Rattle.step_equal.proofs.Rounds.{own, stable_decides, refinement_grounded, refinement_stable}
 use Rattle.step_equal.proofs.Numbering.{scan, IsLeast}
@@ -39,11 +38,11 @@ rows_pass test (Some s) (Some t) p q e f h = let one : s ≡ p = cc in let two :
     let both : test s t ≡ test p q = cc in cc
 
 module _ (P : List Row) (pinned : ℕ → Bool) where
-  abbrev kind_test : Row → Row → Bool
-  kind_test p q = each_test bytes_eq (kind_of p) (kind_of q)
+  abbrev one_kind : Row → Row → Bool
+  one_kind p q = kind_test (kind_of p) (kind_of q)
 
   abbrev alike : ℕ → ℕ → Bool
-  alike x z = cond (pinned x || pinned z) (x == z) true && rows_by kind_test (row_at P x) (row_at P z)
+  alike x z = cond (pinned x || pinned z) (x == z) true && rows_by one_kind (row_at P x) (row_at P z)
 
   abbrev agreeing : (ℕ → ℕ → Bool) → ℕ → ℕ → Bool
   agreeing R x z = rows_by (λ p q. agree_each_by (under pinned R) p.values q.values) (row_at P x) (row_at P z)
@@ -58,24 +57,24 @@ module _ (P : List Row) (pinned : ℕ → Bool) where
 
   alike_sound : (x z : ℕ) → alike x z ≡ true → AreAlike P pinned x z
   alike_sound x z h =
-      let parts = and_parts (cond (pinned x || pinned z) (x == z) true) (rows_by kind_test (row_at P x) (row_at P z)) h
+      let parts = and_parts (cond (pinned x || pinned z) (x == z) true) (rows_by one_kind (row_at P x) (row_at P z)) h
       in
-      let found = rows_there kind_test (row_at P x) (row_at P z) parts.1 in
+      let found = rows_there one_kind (row_at P x) (row_at P z) parts.1 in
       record {
         left = found.0;
         right = found.1;
         left_is = found.2;
         right_is = found.3;
-        same_kind = (each_decides bytes_eq bytes_eq-Decides (kind_of found.0) (kind_of found.1)).0 found.4;
+        same_kind = (kinds_decide (kind_of found.0) (kind_of found.1)).0 found.4;
         same_if_pinned = same_from (pinned x || pinned z) x z parts.0;
       }
 
   alike_complete : (x z : ℕ) → AreAlike P pinned x z → alike x z ≡ true
   alike_complete x z a =
-      and_from (cond (pinned x || pinned z) (x == z) true) (rows_by kind_test (row_at P x) (row_at P z))
+      and_from (cond (pinned x || pinned z) (x == z) true) (rows_by one_kind (row_at P x) (row_at P z))
       (from_same (pinned x || pinned z) x z a.same_if_pinned)
-      (rows_pass kind_test (row_at P x) (row_at P z) a.left a.right a.left_is a.right_is
-      ((each_decides bytes_eq bytes_eq-Decides (kind_of a.left) (kind_of a.right)).1 a.same_kind))
+      (rows_pass one_kind (row_at P x) (row_at P z) a.left a.right a.left_is a.right_is
+      ((kinds_decide (kind_of a.left) (kind_of a.right)).1 a.same_kind))
 
   agreeing_sound : (R : ℕ → ℕ → Bool) (x z : ℕ) → agreeing R x z ≡ true → AgreeUnder P pinned R x z
   agreeing_sound R x z h =

@@ -1,5 +1,5 @@
 -- Names in the order of rows, and what they say of the rows.
-use Rattle.std.proofs.Common.{◌≡◌, ◌<◌, ℕ, suc, zero, Bool, true, false, cond, List, [], ◌∷◌, length, get_or, take, Option, Some, None, nat_eq, nat_lt, Bor, refl, sym, ◌∙◌, ap, inl, inr, eqb-true, arith}
+use Rattle.std.proofs.Common.{◌≡◌, ◌<◌, ◌≤◌, ℕ, suc, zero, Bool, true, false, cond, List, [], ◌∷◌, length, get_or, take, Option, Some, None, nat_eq, nat_lt, Bor, refl, sym, ◌∙◌, ap, inl, inr, eqb-true, arith}
 use Rattle.std.specs.Prelude.{◌==◌, ◌||◌, is_some, slice_get, position, IfSome}
 use Rattle.std.specs.List.{IsDistinct, AllByRecursion, list_any}
 use Rattle.std.specs.Option.{option_map}
@@ -8,7 +8,7 @@ use Rattle.std.proofs.lemmas.Bool.Decides.{nat_tests}
 use Rattle.std.proofs.lemmas.List.{length-map}
 use Rattle.std.proofs.lemmas.List.Quantifiers.{position-Some}
 use Rattle.step_equal.specs.declared.row.PlainRow.{PlainRow}
-use Rattle.step_equal.specs.Rows.{Row, names, row_at, IsName, IsPopulation}
+use Rattle.step_equal.specs.Rows.{Row, names, row_at, IsName, IsPopulation, AreFew}
 use Rattle.step_equal.specs.Views.{row_of, rows_of}
 use Rattle.step_values.proofs.Agreement.{eqb_sym}
 use Rattle.step_equal.proofs.Ancestors.{seen_at}
@@ -82,6 +82,9 @@ module _ (rows : List PlainRow) (places : List ℕ) (in_order : places ≡ names
   row_got (Some r) i e l held at =
       sym (row_found (rows_of rows) i y (row_of r.now) (ap (position (nat_eq y)) (sym in_order) ∙ sym e)
       (seen_at row_of rows i r.now (within l) at))
+
+pub few_rows : (rows : List PlainRow) → length rows ≤ 4294967295 → AreFew (rows_of rows)
+few_rows rows h = omega (arith, h, length-map rows row_of)
 
 -- a name that stands among those before it stands twice
 module _ (r : PlainRow) where

@@ -1,51 +1,23 @@
 -- Value equality on the quotient by value equality is the identity.
-use Rattle.std.proofs.Common.{◌≡◌, ℕ, Bool, true, false, cond, List, Some, refl, sym, ◌∙◌, ap, subst, inl, inr, eqb-true, eq-eqb, [], ◌∷◌}
-use Rattle.std.specs.Prelude.{◌==◌, ◌&&◌, ◌||◌, is_some, map, filter}
-use Rattle.std.proofs.lemmas.Bool.{and_parts, and_from, or_cases, or_left, or_right}
+use Rattle.std.proofs.Common.{◌≡◌, ℕ, Bool, true, false, cond, List, refl, sym, ◌∙◌, ap, subst, inl, inr, eq-eqb, [], ◌∷◌}
+use Rattle.std.specs.Prelude.{◌==◌, map, filter}
+use Rattle.step_values.specs.Values.{Value, leaf, reference, typed, sequence, bag, Values, none, more}
 use Rattle.step_values.specs.References.{renamed_each, renamed}
-use Rattle.step_equal.specs.Rows.{Row, names, row_at, IsName, IsPopulation, RowsAgree, renamed_row, BagsArePinned}
-use Rattle.step_equal.specs.Keeping.{under, AreAlike, AgreeUnder, Keeps, ValueEqual, IsValueEquality, IsCongruence}
+use Rattle.step_equal.specs.Rows.{Row, names, IsName, IsPopulation, renamed_row, BagsArePinned}
+use Rattle.step_equal.specs.Keeping.{ValueEqual, IsValueEquality, IsCongruence}
 use Rattle.step_equal.specs.Images.{head_of, quotient}
 use Rattle.step_equal.specs.Laws.{QuotientsAreReduced, QuotientsStay}
-use Rattle.step_equal.proofs.Lookup.{held_name, name_held, same_row}
-use Rattle.step_values.proofs.Agreement.{agree_each_trans, agree_each_sym}
 use Rattle.step_equal.proofs.Congruences.{identity, identity_self, identity_keeps, congruence}
-use Rattle.step_equal.proofs.Kernels.{reflected_values}
 use Rattle.step_equal.proofs.Chosen.{row_of_quotient}
-use Rattle.step_equal.proofs.Quotients.{same_head, quotient_image, quotient_population, pinned_head, pinned_apart}
-use Rattle.step_values.specs.Values.{Value, leaf, reference, typed, sequence, bag, Values, none, more}
+use Rattle.step_equal.proofs.Quotients.{same_head, quotient_image, quotient_population, pinned_head}
+use Rattle.step_equal.proofs.Carried.{images_carry_value_equality}
 
--- two instances whose images under h are related
-pub record Lifts (P : List Row) (h : ℕ → ℕ) (R : ℕ → ℕ → Bool) (x z : ℕ) : Type 0 where
-  pub left : IsName P x
-  pub right : IsName P z
-  pub related : R (h x) (h z) ≡ true
+module _ (P : List Row) (pinned kept : ℕ → Bool) (E : ℕ → ℕ → Bool) (population : IsPopulation P)
+    (bags : BagsArePinned P pinned) (equal : IsValueEquality P pinned E)
+    (same : (y : ℕ) → IsName (quotient P E) y → kept y ≡ pinned y) where
+  by : IsCongruence P pinned E
+  by = congruence P pinned E population equal
 
-lifted : List Row → (ℕ → ℕ) → (ℕ → ℕ → Bool) → ℕ → ℕ → Bool
-lifted P h R x z = is_some (row_at P x) && (is_some (row_at P z) && R (h x) (h z))
-
-lifts_from : (P : List Row) (h : ℕ → ℕ) (R : ℕ → ℕ → Bool) (x z : ℕ) → lifted P h R x z ≡ true → Lifts P h R x z
-unfolding lifted
-lifts_from P h R x z k =
-    let parts = and_parts (is_some (row_at P x)) (is_some (row_at P z) && R (h x) (h z)) k in
-    let others = and_parts (is_some (row_at P z)) (R (h x) (h z)) parts.1 in
-    record { left = held_name P x parts.0; right = held_name P z others.0; related = others.1 }
-
-lifted_from : (P : List Row) (h : ℕ → ℕ) (R : ℕ → ℕ → Bool) (x z : ℕ) → Lifts P h R x z → lifted P h R x z ≡ true
-unfolding lifted
-lifted_from P h R x z m =
-    and_from (is_some (row_at P x)) (is_some (row_at P z) && R (h x) (h z)) (name_held P x m.left)
-    (and_from (is_some (row_at P z)) (R (h x) (h z)) (name_held P z m.right) m.related)
-
-after_equal : (l : ℕ → ℕ → Bool) (x y z : ℕ) → (x == y) ≡ true → l y z ≡ true → l x z ≡ true
-after_equal l x y z h k = subst (λ w. l w z ≡ true) (sym (eqb-true x y h)) k
-
-before_equal : (l : ℕ → ℕ → Bool) (x y z : ℕ) → l x y ≡ true → (y == z) ≡ true → l x z ≡ true
-before_equal l x y z h k = subst (λ w. l x w ≡ true) (eqb-true y z k) h
-
-module _ (P : List Row) (pinned : ℕ → Bool) (E : ℕ → ℕ → Bool) (population : IsPopulation P)
-    (bags : BagsArePinned P pinned) (by : IsCongruence P pinned E) (R : ℕ → ℕ → Bool)
-    (keeps : Keeps (quotient P E) pinned R) where
   abbrev head : ℕ → ℕ
   head = head_of (names P) E
 
@@ -57,102 +29,34 @@ module _ (P : List Row) (pinned : ℕ → Bool) (E : ℕ → ℕ → Bool) (popu
       go false true py ph = sym ph ∙ ap pinned (pinned_head P pinned E by y n (inr ph)) ∙ py
       go false false py ph = refl
 
-  lifted_under : (y w : ℕ) → IsName P y → IsName P w → under pinned R (head y) (head w) ≡ true
-      → under pinned (lifted P head R) y w ≡ true
-  lifted_under y w n m e = go (pinned y) (pinned w) refl refl
-      (subst (λ b. cond (pinned y || b) (head y == head w) (R (head y) (head w)) ≡ true) (pinned_same w m)
-      (subst (λ a. cond (a || pinned (head w)) (head y == head w) (R (head y) (head w)) ≡ true) (pinned_same y n) e))
-    where
-      go : (a b : Bool) → pinned y ≡ a → pinned w ≡ b → cond (a || b) (head y == head w) (R (head y) (head w)) ≡ true
-          → cond (a || b) (y == w) (lifted P head R y w) ≡ true
-      go true b py pw k = eq-eqb y w (pinned_apart P pinned E by y w n m (inl py) (eqb-true (head y) (head w) k))
-      go false true py pw k = eq-eqb y w (pinned_apart P pinned E by y w n m (inr pw) (eqb-true (head y) (head w) k))
-      go false false py pw k = lifted_from P head R y w (record { left = n; right = m; related = k })
-
-  -- the row of the first of x's class
-  at_head : (x : ℕ) (n : IsName P x) (q : Row) → row_at (quotient P E) (head x) ≡ Some q
-      → RowsAgree (renamed_row head n.0) q
-  at_head x n q e =
-      let landed = (quotient_image P pinned E by).lands x n.0 n.1 in
-      subst (λ (r : Row). RowsAgree (renamed_row head n.0) r) (same_row (row_at (quotient P E) (head x)) landed.1 e)
-      landed.2
-
-  lifts_alike : (x z : ℕ) → Lifts P head R x z → AreAlike P pinned x z
-  lifts_alike x z m =
-      let pair = (keeps (head x) (head z) m.related).0 in
-      let ex = at_head x m.left pair.left pair.left_is in
-      let ez = at_head z m.right pair.right pair.right_is in
-      record {
-        left = m.left.0;
-        right = m.right.0;
-        left_is = m.left.1;
-        right_is = m.right.1;
-        same_kind = ex.same_kind ∙ pair.same_kind ∙ sym ez.same_kind;
-        same_if_pinned = λ flag. pinned_apart P pinned E by x z m.left m.right (or_cases (pinned x) (pinned z) flag)
-            (pair.same_if_pinned (elim (or_cases (pinned x) (pinned z) flag) [
-              | inl px ↦ or_left (pinned (head x)) (pinned (head z)) (pinned_same x m.left ∙ px)
-              | inr pz ↦ or_right (pinned (head x)) (pinned (head z)) (pinned_same z m.right ∙ pz)
-            ]));
-      }
-
-  lifts_agree : (x z : ℕ) → Lifts P head R x z → AgreeUnder P pinned (lifted P head R) x z
-  lifts_agree x z m =
-      let pair = (keeps (head x) (head z) m.related).1 in
-      let ex = at_head x m.left pair.left pair.left_is in
-      let ez = at_head z m.right pair.right pair.right_is in
-      let vx = renamed_each head m.left.0.values in
-      let vz = renamed_each head m.right.0.values in
-      let there = agree_each_trans (◌==◌) (under pinned R) (under pinned R) (after_equal (under pinned R)) vx
-      pair.left.values pair.right.values ex.values_agree pair.values_agree in
-      let whole = agree_each_trans (under pinned R) (◌==◌) (under pinned R) (before_equal (under pinned R)) vx
-      pair.right.values vz there (agree_each_sym vz pair.right.values ez.values_agree) in
-      record {
-        left = m.left.0;
-        right = m.right.0;
-        left_is = m.left.1;
-        right_is = m.right.1;
-        values_agree = reflected_values P pinned population bags head (under pinned R) (under pinned (lifted P head R))
-            (pinned_apart P pinned E by) lifted_under x z m.left m.right whole;
-      }
-
-  lifted_keeps : Keeps P pinned (lifted P head R)
-  lifted_keeps x z h = let m = lifts_from P head R x z h in (lifts_alike x z m, lifts_agree x z m)
-
-module _ (P : List Row) (pinned : ℕ → Bool) (E : ℕ → ℕ → Bool) (population : IsPopulation P)
-    (bags : BagsArePinned P pinned) (equal : IsValueEquality P pinned E) where
-  by : IsCongruence P pinned E
-  by = congruence P pinned E population equal
+  -- the first of a class is pinned in the quotient where an instance of the class is pinned
+  anew : (y : ℕ) → IsName P y → kept (head y) ≡ pinned y
+  anew y n =
+      let landed = (quotient_image P pinned E by).lands y n.0 n.1 in
+      same (head y) (landed.0, landed.1) ∙ pinned_same y n
 
   -- instances of the quotient that are value-equal there are so in the population
-  pub equal_same : (x z : ℕ) → ValueEqual (quotient P E) pinned x z → x ≡ z
+  pub equal_same : (x z : ℕ) → ValueEqual (quotient P E) kept x z → x ≡ z
   equal_same x z found =
-      let h = head_of (names P) E in
       let alike = (found.2 x z found.1).0 in
       let from_x = row_of_quotient P E x alike.left alike.left_is in
       let from_z = row_of_quotient P E z alike.right alike.right_is in
-      let related : found.0 (h x) (h z) ≡ true = subst (λ a. found.0 a (h z) ≡ true) (sym from_x.first)
-      (subst (λ b. found.0 x b ≡ true) (sym from_z.first) found.1) in
-      let lifts = lifted_from P h found.0 x z (record {
-        left = (from_x.row, from_x.row_is);
-        right = (from_z.row, from_z.row_is);
-        related = related;
-      }) in
-      let together : E x z ≡ true = (equal x z).1 (
-        lifted P h found.0,
-        lifts,
-        lifted_keeps P pinned E population bags by
-            found.0 found.2,
-      ) in
+      let firsts : ValueEqual (quotient P E) kept (head x) (head z) =
+      subst (λ a. ValueEqual (quotient P E) kept a (head z)) (sym from_x.first)
+      (subst (λ b. ValueEqual (quotient P E) kept x b) (sym from_z.first) found) in
+      let together : E x z ≡ true =
+      (equal x z).1 ((images_carry_value_equality P (quotient P E) pinned kept head population bags (quotient_image P pinned E by) anew
+      x z).1 ((from_x.row, from_x.row_is), (from_z.row, from_z.row_is), firsts)) in
       sym from_x.first ∙ same_head P pinned E by x z together ∙ from_z.first
 
-  pub reduced : (x z : ℕ) → (ValueEqual (quotient P E) pinned x z → IsName (quotient P E) x × (x ≡ z))
-      × (IsName (quotient P E) x × (x ≡ z) → ValueEqual (quotient P E) pinned x z)
+  pub reduced : (x z : ℕ) → (ValueEqual (quotient P E) kept x z → IsName (quotient P E) x × (x ≡ z))
+      × (IsName (quotient P E) x × (x ≡ z) → ValueEqual (quotient P E) kept x z)
   reduced x z = (
     λ found. let alike = (found.2 x z found.1).0 in ((alike.left, alike.left_is), equal_same x z found),
-    λ n. subst (λ w. ValueEqual (quotient P E) pinned x w) n.1 (
+    λ n. subst (λ w. ValueEqual (quotient P E) kept x w) n.1 (
       identity (quotient P E),
       identity_self (quotient P E) x n.0,
-      identity_keeps (quotient P E) pinned
+      identity_keeps (quotient P E) kept
           (quotient_population P pinned E by population),
     ),
   )
@@ -192,8 +96,8 @@ all_chosen h test f g (r ∷ rows) =
     (g r.name) ∙ (cc)
 
 pub quotients_stay : QuotientsStay
-quotients_stay P pinned E F population bags equal again =
-    let apart : (x z : ℕ) → F x z ≡ true → x ≡ z = λ x z h. equal_same P pinned E population bags equal x z
+quotients_stay P pinned kept E F population bags equal same again =
+    let apart : (x z : ℕ) → F x z ≡ true → x ≡ z = λ x z h. equal_same P pinned kept E population bags equal same x z
     ((again x z).0 h) in
     let Q = quotient P E in
     all_chosen (head_of (names Q) F) (λ y. head_of (names Q) F y == y) (head_itself F apart (names Q))

@@ -1,10 +1,10 @@
 -- Rows to make examples of, and what holds of rows that are written out.
-use Rattle.std.proofs.Common.{◌≡◌, ℕ, Bool, false, List, [], ◌∷◌, Some, subst, inl, inr, codes}
+use Rattle.std.proofs.Common.{◌≡◌, ℕ, Bool, false, List, [], ◌∷◌, Some, ap, subst, inl, inr, codes}
 use Rattle.std.specs.Prelude.{⊤, pos}
 use Rattle.step_literals.specs.declared.literal.items.Item.TheVariants.{Code}
 use Rattle.step_values.specs.Leaves.{unset, number, text}
 use Rattle.step_values.specs.Values.{leaf, reference, sequence, bag, Values, none, more}
-use Rattle.step_equal.specs.Rows.{Row, row_at}
+use Rattle.step_equal.specs.Rows.{Row, Kind, row_at}
 use Rattle.step_equal.proofs.Lookup.{row_cases}
 
 -- a property of each row of a list that is written out
@@ -31,7 +31,11 @@ each_two G rows f x z p q n m = each_row (λ w r. G x w p r) rows (each_row (λ 
     f x p n) z q m
 
 abbrev pub row : ℕ → List ℕ → Values → Row
-row name word values = record { name = name; types = word ∷ []; values = values }
+row name word values = record { name = name; section = 0; types = word ∷ []; values = values }
+
+-- rows of one kind are of one type
+pub one_type : {a b : Kind} → a ≡ b → a.1 ≡ b.1
+one_type e = ap (λ (k : Kind). k.1) e
 
 -- nothing is pinned
 abbrev pub free : ℕ → Bool

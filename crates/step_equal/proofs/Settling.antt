@@ -11,7 +11,7 @@ use Rattle.std.specs.Ordering.{nat_cmp, on, eq_by_cmp}
 use Rattle.std.specs.Str.{bytes_eq}
 use Rattle.std.proofs.lemmas.Cmp.{nat_list_cmp_total}
 use Rattle.std.proofs.Math.Seq.{take-suc, take-suc-set, take-append_seam}
-use Rattle.std.proofs.lemmas.List.{length-set, drop-set-lt}
+use Rattle.std.proofs.lemmas.List.{length-map, length-set, drop-set-lt}
 use Rattle.std.proofs.lemmas.List.Elements.{AllZip-push, length_all_zip}
 use Rattle.std.proofs.lemmas.List.Filters.{dedup_is}
 use Rattle.std.proofs.lemmas.List.Kept.{IsStrictlySortedBy-dedup}
@@ -20,7 +20,7 @@ use Rattle.std.proofs.lemmas.Slice.Eq.{bytes_eq-Decides}
 use Rattle.step_literals.specs.declared.literal.Word.{Word}
 use Rattle.step_equal.specs.declared.row.PlainRow.{PlainRow}
 use Rattle.step_values.specs.References.{EachReferenceOf}
-use Rattle.step_equal.specs.Rows.{Row, names, row_at, IsName, IsPopulation}
+use Rattle.step_equal.specs.Rows.{Row, names, row_at, IsName, IsPopulation, AreFew}
 use Rattle.step_equal.specs.Settled.{AreInOrder, IsSettled}
 use Rattle.step_values.specs.Views.{word_of}
 use Rattle.step_equal.specs.Views.{row_of, rows_of}
@@ -97,6 +97,10 @@ names_settled [] [] z = refl
 names_settled [] (q ∷ qs) z = absurd z
 names_settled (r ∷ rs) [] z = absurd z
 names_settled (r ∷ rs) (q ∷ qs) z = let first = z.0.name in let rest = names_settled rs qs z.1 in cc
+
+pub few_settled : (rs qs : List PlainRow) → AllZip Settles rs qs → AreFew (rows_of rs) → AreFew (rows_of qs)
+few_settled rs qs z few =
+    omega (arith, few, length-map rs row_of, length-map qs row_of, length_all_zip Settles rs qs z)
 
 row_settled : (rs qs : List PlainRow) → AllZip Settles rs qs → (x : ℕ) (q : Row) → row_at (rows_of qs) x ≡ Some q
     → (r : Row) × (row_at (rows_of rs) x ≡ Some r) × (r.values ≡ q.values)

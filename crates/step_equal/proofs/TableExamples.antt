@@ -10,7 +10,7 @@ use Rattle.step_equal.specs.Tables.{Table, start, split, class_at, shares, HasMe
 use Rattle.step_equal.proofs.Lookup.{same_row}
 use Rattle.step_equal.proofs.Rounds.{sharer_named}
 use Rattle.step_equal.proofs.Few.{same_class_back}
-use Rattle.step_equal.proofs.Samples.{EachTwo, each_two, free, point, placement, twice}
+use Rattle.step_equal.proofs.Samples.{EachTwo, each_two, one_type, free, point, placement, twice}
 use Rattle.step_equal.proofs.ValueExamples.{differ}
 
 -- `#1=POINT((0.,1.));` `#2=POINT((5.,1.));` `#3=PLACEMENT(#1,$);` `#4=PLACEMENT(#2,$);`
@@ -92,12 +92,12 @@ points_differ l x z m n e a =
 
 pub first_of_refined : EachTwo (First refined) apart
 first_of_refined = (
-  (λ k. refl, (λ k. refl, (λ k. absurd (cc), (λ k. absurd (cc), tt)))),
+  (λ k. refl, (λ k. refl, (λ k. absurd (let e = one_type k in cc), (λ k. absurd (let e = one_type k in cc), tt)))),
   (
-    (λ k. refl, (λ k. refl, (λ k. absurd (cc), (λ k. absurd (cc), tt)))),
+    (λ k. refl, (λ k. refl, (λ k. absurd (let e = one_type k in cc), (λ k. absurd (let e = one_type k in cc), tt)))),
     (
-      (λ k. absurd (cc), (λ k. absurd (cc), (λ k. refl, (λ k. refl, tt)))),
-      ((λ k. absurd (cc), (λ k. absurd (cc), (λ k. refl, (λ k. refl, tt)))), tt),
+      (λ k. absurd (let e = one_type k in cc), (λ k. absurd (let e = one_type k in cc), (λ k. refl, (λ k. refl, tt)))),
+      ((λ k. absurd (let e = one_type k in cc), (λ k. absurd (let e = one_type k in cc), (λ k. refl, (λ k. refl, tt)))), tt),
     ),
   ),
 )
@@ -201,12 +201,12 @@ coarse_is_refused stable =
 -- .. and are right where the points agree: #1 with #2, #3 with #4
 coarse_is_valid : IsValid twice free coarse
 coarse_is_valid = valid_by twice coarse refl (
-  (λ k. refl, (λ k. refl, (λ k. absurd (cc), (λ k. absurd (cc), tt)))),
+  (λ k. refl, (λ k. refl, (λ k. absurd (let e = one_type k in cc), (λ k. absurd (let e = one_type k in cc), tt)))),
   (
-    (λ k. refl, (λ k. refl, (λ k. absurd (cc), (λ k. absurd (cc), tt)))),
+    (λ k. refl, (λ k. refl, (λ k. absurd (let e = one_type k in cc), (λ k. absurd (let e = one_type k in cc), tt)))),
     (
-      (λ k. absurd (cc), (λ k. absurd (cc), (λ k. refl, (λ k. refl, tt)))),
-      ((λ k. absurd (cc), (λ k. absurd (cc), (λ k. refl, (λ k. refl, tt)))), tt),
+      (λ k. absurd (let e = one_type k in cc), (λ k. absurd (let e = one_type k in cc), (λ k. refl, (λ k. refl, tt)))),
+      ((λ k. absurd (let e = one_type k in cc), (λ k. absurd (let e = one_type k in cc), (λ k. refl, (λ k. refl, tt)))), tt),
     ),
   ),
 ) (λ round l. absurd (omega arith)) (

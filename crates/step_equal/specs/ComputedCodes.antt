@@ -7,6 +7,7 @@ use Rattle.step_equal.specs.Rows.{Row}
 
 abbrev pub coded_rows : Coded (List Row)
 coded_rows =
-    coded_list (code_by (ℕ × (List (List ℕ) × Values)) (coded× coded_ℕ (coded× (coded_list bytes) values))
-    (λ r. (r.name, (r.types, r.values)))
-    (λ p. record { name = p.0; types = p.1.0; values = p.1.1 }) (λ _. refl))
+    coded_list (code_by (ℕ × (ℕ × (List (List ℕ) × Values)))
+    (coded× coded_ℕ (coded× coded_ℕ (coded× (coded_list bytes) values)))
+    (λ r. (r.name, (r.section, (r.types, r.values))))
+    (λ p. record { name = p.0; section = p.1.0; types = p.1.1.0; values = p.1.1.1 }) (λ _. refl))

@@ -4,10 +4,10 @@ use Rattle.std.specs.List.{list_any}
 use Rattle.std.specs.BTreeMap.{BTreeMap}
 use Rattle.std.specs.BTreeSet.{BTreeSet}
 use Rattle.std.specs.HashMap.{HashMap, get}
-use Rattle.std.specs.Str.{bytes_eq}
 use Rattle.step_values.specs.References.{renamed_each}
 use Rattle.step_equal.specs.Rows.{Row, kind_of, row_at, IsName}
-use Rattle.step_values.specs.ComputedAgreement.{each_test, same_each_test}
+use Rattle.step_values.specs.ComputedAgreement.{same_each_test}
+use Rattle.step_equal.specs.ComputedKinds.{kind_test}
 use Rattle.step_values.specs.Maps.{led_by}
 use Rattle.step_equal.specs.Maps.{is_pinned}
 
@@ -20,7 +20,7 @@ LeavesAlone P h pinned = (x z : ℕ) → IsName P x → IsName P z → pinned z 
 -- whether a row, renamed, agrees with the row that it is led to
 abbrev pub row_lands : (ℕ → ℕ) → Row → Option Row → Bool
 row_lands h p None = false
-row_lands h p (Some q) = each_test bytes_eq (kind_of p) (kind_of q) && same_each_test (renamed_each h p.values) q.values
+row_lands h p (Some q) = kind_test (kind_of p) (kind_of q) && same_each_test (renamed_each h p.values) q.values
 
 -- .. with the row of Q that the map leads it to
 abbrev pub lands_by : BTreeMap ℕ ℕ → List Row → Row → Bool

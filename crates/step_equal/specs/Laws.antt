@@ -30,6 +30,14 @@ NoImageHasFewer =
     (P Q : List Row) (pinned : ℕ → Bool) (E : ℕ → ℕ → Bool) (h : ℕ → ℕ) → IsPopulation P → BagsArePinned P pinned
     → IsValueEquality P pinned E → IsImage P Q h pinned → length (quotient P E) ≤ length Q
 
+-- An image carries value equality over, both ways, where bags refer to pinned instances alone and the image of a name
+-- is pinned exactly where the name is.
+abbrev pub ImagesCarryValueEquality : Type 0
+ImagesCarryValueEquality =
+    (P Q : List Row) (pinned kept : ℕ → Bool) (h : ℕ → ℕ) → IsPopulation P → BagsArePinned P pinned
+    → IsImage P Q h pinned → ((y : ℕ) → IsName P y → kept (h y) ≡ pinned y)
+    → (x z : ℕ) → ValueEqual P pinned x z ↔ (IsName P x × IsName P z × ValueEqual Q kept (h x) (h z))
+
 -- A valid table, whoever made it, has value equality as its last partition.
 abbrev pub TablesDecide : Type 0
 TablesDecide =
@@ -42,19 +50,20 @@ QuotientsAreImages =
     (P : List Row) (pinned : ℕ → Bool) (E : ℕ → ℕ → Bool) → IsPopulation P → IsCongruence P pinned E
     → IsImage P (quotient P E) (head_of (names P) E) pinned × IsPopulation (quotient P E)
 
--- Value equality on the quotient by value equality is the identity.
+-- Value equality on the quotient by value equality is the identity, also where what is pinned is found anew: it has to
+-- be the same on the names of the quotient.
 abbrev pub QuotientsAreReduced : Type 0
 QuotientsAreReduced =
-    (P : List Row) (pinned : ℕ → Bool) (E : ℕ → ℕ → Bool) → IsPopulation P → BagsArePinned P pinned
-    → IsValueEquality P pinned E
-    → (x z : ℕ) → ValueEqual (quotient P E) pinned x z ↔ (IsName (quotient P E) x × (x ≡ z))
+    (P : List Row) (pinned kept : ℕ → Bool) (E : ℕ → ℕ → Bool) → IsPopulation P → BagsArePinned P pinned
+    → IsValueEquality P pinned E → ((y : ℕ) → IsName (quotient P E) y → kept y ≡ pinned y)
+    → (x z : ℕ) → ValueEqual (quotient P E) kept x z ↔ (IsName (quotient P E) x × (x ≡ z))
 
 -- So a second quotient changes nothing.
 abbrev pub QuotientsStay : Type 0
 QuotientsStay =
-    (P : List Row) (pinned : ℕ → Bool) (E F : ℕ → ℕ → Bool) → IsPopulation P → BagsArePinned P pinned
-    → IsValueEquality P pinned E
-    → IsValueEquality (quotient P E) pinned F → quotient (quotient P E) F ≡ quotient P E
+    (P : List Row) (pinned kept : ℕ → Bool) (E F : ℕ → ℕ → Bool) → IsPopulation P → BagsArePinned P pinned
+    → IsValueEquality P pinned E → ((y : ℕ) → IsName (quotient P E) y → kept y ≡ pinned y)
+    → IsValueEquality (quotient P E) kept F → quotient (quotient P E) F ≡ quotient P E
 
 -- The table that partition refinement makes is valid ..
 abbrev pub StandardIsValid : Type 0

@@ -11,5 +11,6 @@ pub mod Faults
 pub mod ComputedCodes
 pub mod ComputedPlaces
 pub mod Maps
+pub mod ComputedKinds
 pub mod ComputedImages
 pub mod Settled

@@ -1,21 +1,23 @@
 -- Populations: what a data section says, whatever the order of its instances and the spelling of its literals.
-use Rattle.std.specs.Prelude.{◌≡◌, ℕ, ◌==◌, Bool, true, cond, List, [], ◌∷◌, map, Option, Some, None}
+use Rattle.std.specs.Prelude.{◌≡◌, ◌<◌, ℕ, ◌==◌, Bool, true, cond, List, [], ◌∷◌, length, map, Option, Some, None}
 use Rattle.std.specs.List.{IsDistinct}
 use Rattle.step_values.specs.Values.{Values, AgreeEach}
 use Rattle.step_values.specs.References.{renamed_each, EachReferenceOf, EachBagReferenceOf}
 
--- an instance: its name, its type words (in upper case, in order, none twice), and a value for each attribute
+-- an instance: its name, its data section (counted from 0), its type words (in upper case, in order, none twice), and
+-- a value for each attribute
 pub record Row : Type 0 where
   pub name : ℕ
+  pub section : ℕ
   pub types : List (List ℕ)
   pub values : Values
 
 -- what instances have to share, beside their values, to be one: this is the only place that says it
 abbrev pub Kind : Type 0
-Kind = List (List ℕ)
+Kind = ℕ × List (List ℕ)
 
 abbrev pub kind_of : Row → Kind
-kind_of r = r.types
+kind_of r = (r.section, r.types)
 
 abbrev pub names : List Row → List ℕ
 names rows = map (λ r. r.name) rows
@@ -42,6 +44,10 @@ pub record RowsAgree (p q : Row) : Type 0 where
 pub record SamePopulation (P Q : List Row) : Type 0 where
   pub there : (x : ℕ) (p : Row) → row_at P x ≡ Some p → (q : Row) × (row_at Q x ≡ Some q) × RowsAgree p q
   pub back : (x : ℕ) → IsName Q x → IsName P x
+
+-- as many as the numbers of 32 bits tell apart, with one to spare
+abbrev pub AreFew : List Row → Type 0
+AreFew rows = length rows < 4294967296
 
 -- the row with each reference y replaced by h y
 abbrev pub renamed_row : (ℕ → ℕ) → Row → Row

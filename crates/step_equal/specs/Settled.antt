@@ -15,5 +15,6 @@ pub record AreInOrder (words types : List (List ℕ)) : Type 0 where
 -- the same row, with its type words in order
 pub record IsSettled (r q : Row) : Type 0 where
   pub name : q.name ≡ r.name
+  pub section : q.section ≡ r.section
   pub types : AreInOrder r.types q.types
   pub values : q.values ≡ r.values

@@ -1,8 +1,10 @@
 -- The table that the program's table is.
-use Rattle.std.specs.Prelude.{ℕ, map}
+use Rattle.std.specs.Prelude.{ℕ, Bool, map}
 use Rattle.step_equal.specs.declared.table.Origin.{Origin}
 use Rattle.step_equal.specs.declared.table.Origin.TheVariants.{Start, Split}
 use Rattle.step_equal.specs.declared.table.Table.{Table}
+use Rattle.step_equal.specs.contracts.table.OriginPartialEq.TheImpl.{ghosts as origins}
+use Rattle.step_equal.specs.contracts.table.TablePartialEq.TheImpl.{ghosts as compared}
 use Rattle.step_equal.specs.Tables as tables
 
 abbrev pub origin_of : Origin → tables.Origin
@@ -18,3 +20,10 @@ table_of t = record {
   classes = map origin_of t.classes.items;
   members = map member_of t.members.items;
 }
+
+-- `==` of the program's origins, and of its tables
+abbrev pub origin_eq : Origin → Origin → Bool
+origin_eq o u = origins.eq o u
+
+abbrev pub table_eq : Table → Table → Bool
+table_eq s t = compared.eq s t

@@ -5,7 +5,12 @@ use Rattle.step_values.specs.Views.{word_of, values_of}
 use Rattle.step_equal.specs.Rows.{Row}
 
 abbrev pub row_of : PlainRow → Row
-row_of r = record { name = r.name; types = map word_of r.types.items; values = values_of r.values.items }
+row_of r = record {
+  name = r.name;
+  section = r.section;
+  types = map word_of r.types.items;
+  values = values_of r.values.items;
+}
 
 abbrev pub rows_of : List PlainRow → List Row
 rows_of rs = map row_of rs

@@ -9,6 +9,9 @@ use thiserror::Error;
 /// Why rows are no population.
 #[derive(Clone, Copy, Debug, PartialEq, Eq, Error)]
 pub enum PlainFault {
+    /// There are more than 2^32 - 1 rows.
+    #[error("TooManyRows")]
+    TooManyRows,
     /// A name stands twice.
     #[error("DuplicateRow")]
     DuplicateRow,

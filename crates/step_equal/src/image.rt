@@ -1,12 +1,11 @@
 //! Whether a map is an image.
 
-ghost use Rattle.std.specs.Prelude.{◌≡◌, ◌↔◌, ℕ, nat_eq, is_some, map, IfOk, IsTrue, true};
+ghost use Rattle.std.specs.Prelude.{◌≡◌, ◌↔◌, ℕ, nat_eq, is_some, IfOk, IsTrue, true};
 ghost use Rattle.std.specs.BTreeMap.{keys};
 ghost use Rattle.std.specs.HashMap.{get as hash_get};
 ghost use Rattle.std.specs.HashSet.{contains as hash_contains};
 ghost use Rattle.std.specs.List.{list_all, list_any};
 ghost use Rattle.std.specs.Ordering.{nat_cmp, eq_by_cmp};
-ghost use Rattle.std.specs.Str.{bytes_eq};
 ghost use Rattle.step_equal.specs.ComputedImages.{
   IsOnto,
   LeavesAlone,
@@ -18,27 +17,23 @@ ghost use Rattle.step_equal.specs.ComputedImages.{
 ghost use Rattle.step_values.specs.Maps.{led_by};
 ghost use Rattle.step_equal.specs.Maps.{is_key, is_pinned, IsMapImage};
 ghost use Rattle.step_equal.specs.Rows.{row_at, IsName};
-ghost use Rattle.step_values.specs.ComputedAgreement.{each_test};
-ghost use Rattle.step_values.specs.Views.{word_of};
 ghost use Rattle.step_equal.specs.Views.{row_of, rows_of};
 
 use crate::plain::Plain;
-use crate::row::PlainRow;
+use crate::row::{PlainRow, is_one_kind};
 use std::alloc::{AllocError, Global};
 use std::collections::{BTreeSet, HashMap, HashSet};
-use step_literals::literal::Word;
 use step_values::agree::{Map, Renaming, lead, same_each};
-use step_values::literals::same_word;
 
 /// Whether the map is an image of the first population on the second.
 ///
-/// It is one where it leads each name of the first, and no other, so that types, values and references are
+/// It is one where it leads each name of the first, and no other, so that sections, types, values and references are
 /// kept, each name of the second is reached, and nothing else is led to where a pinned instance is. `AllocError`
 /// comes where memory runs out.
-pub fn is_image<'a>(
+pub fn is_image<'p, 'q>(
     alloc: Global,
-    p: &Plain<'a>,
-    q: &Plain<'a>,
+    p: &Plain<'p>,
+    q: &Plain<'q>,
     map: &Map,
     pinned: &BTreeSet<u64>,
 ) -> Result<bool, AllocError>
@@ -88,11 +83,11 @@ fn names_are_keys<'a>(map: &Map, rows: &[PlainRow<'a>]) -> bool
 }
 
 /// Whether each row is led to one of its kind, with values that agree.
-fn rows_land<'a>(
+fn rows_land<'p, 'q>(
     alloc: Global,
     map: &Map,
-    rows: &[PlainRow<'a>],
-    q: &Plain<'a>,
+    rows: &[PlainRow<'p>],
+    q: &Plain<'q>,
 ) -> Result<bool, AllocError>
     ensures { IfOk result (λ b. b ≡ list_all (lands_by map.now q.now) (rows_of rows.now)) }
 {
@@ -105,18 +100,18 @@ fn rows_land<'a>(
 }
 
 /// Whether a row is.
-fn row_lands<'a>(
+fn row_lands<'p, 'q>(
     alloc: Global,
     map: &Map,
-    row: &PlainRow<'a>,
-    q: &Plain<'a>,
+    row: &PlainRow<'p>,
+    q: &Plain<'q>,
 ) -> Result<bool, AllocError>
     ensures { IfOk result (λ b. b ≡ lands_by map.now q.now (row_of row.now)) }
 {
     let Some(other) = q.find(lead(map, row.name)) else {
         return Ok(false);
     };
-    if !same_words(&row.types, &other.types) {
+    if !is_one_kind(row, other) {
         return Ok(false);
     }
     same_each(
@@ -128,27 +123,12 @@ fn row_lands<'a>(
     )
 }
 
-/// Whether two lists of words are equal, whatever the case of their letters.
-fn same_words<'a>(a: &[Word<'a>], b: &[Word<'a>]) -> bool
-    ensures { result ≡ each_test bytes_eq (map word_of a.now) (map word_of b.now) }
-{
-    if a.len() != b.len() {
-        return false;
-    }
-    for i in 0..a.len() {
-        if !same_word(&a[i], &b[i]) {
-            return false;
-        }
-    }
-    true
-}
-
 /// Whether each of the others is reached.
-fn is_onto<'a>(
+fn is_onto<'p, 'q>(
     alloc: Global,
     map: &Map,
-    rows: &[PlainRow<'a>],
-    others: &[PlainRow<'a>],
+    rows: &[PlainRow<'p>],
+    others: &[PlainRow<'q>],
 ) -> Result<bool, AllocError>
     ensures { IfOk result
         (λ b. IsTrue b ↔ IsOnto (rows_of rows.now) (rows_of others.now) (led_by map.now)) }

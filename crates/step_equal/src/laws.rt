@@ -1,8 +1,13 @@
 //! Laws of the definitions alone.
 
+ghost use Rattle.std.specs.Prelude.{◌≡◌, ◌↔◌, IsTrue};
+ghost use Rattle.step_equal.specs.TableViews.{origin_of, table_of, origin_eq, table_eq};
+ghost use Rattle.step_equal.specs.declared.table.Origin.{Origin};
+ghost use Rattle.step_equal.specs.declared.table.Table.{Table};
 ghost use Rattle.step_equal.specs.Laws.{
   CertificatesProve,
   ClassesAreAncestors,
+  ImagesCarryValueEquality,
   KernelsAreCongruences,
   NoImageHasFewer,
   QuotientsAreImages,
@@ -38,6 +43,12 @@ pub fn no_image_has_fewer()
     ensures { NoImageHasFewer }
 {}
 
+/// An image carries value equality over, both ways, where each reference in a bag names a pinned instance and the image
+/// of a name is pinned exactly where the name is.
+pub fn images_carry_value_equality()
+    ensures { ImagesCarryValueEquality }
+{}
+
 /// A valid table, whoever made it, has value equality as its last partition.
 pub fn tables_decide()
     ensures { TablesDecide }
@@ -48,12 +59,12 @@ pub fn quotients_are_images()
     ensures { QuotientsAreImages }
 {}
 
-/// Value equality on the quotient by value equality is the identity.
+/// Value equality on the quotient by value equality is the identity, also under pins that are found anew.
 pub fn quotients_are_reduced()
     ensures { QuotientsAreReduced }
 {}
 
-/// A second quotient by value equality changes nothing.
+/// A second quotient by value equality changes nothing, also under pins that are found anew.
 pub fn quotients_stay()
     ensures { QuotientsStay }
 {}
@@ -92,4 +103,10 @@ pub fn certificates_prove()
 /// The class of a name at a round is the nearest ancestor of its last class that had begun by then.
 pub fn classes_are_ancestors()
     ensures { ClassesAreAncestors }
+{}
+
+/// `==` of origins, and of tables, says exactly that they are the same.
+pub fn equal_tables_are_the_same()
+    ensures origins { (o u : Origin) → IsTrue (origin_eq o u) ↔ (origin_of o ≡ origin_of u) }
+    ensures tables { (s t : Table) → IsTrue (table_eq s t) ↔ (table_of s ≡ table_of t) }
 {}

@@ -8,7 +8,7 @@ ghost use Rattle.step_equal.specs.ComputedClosure.{references_pass, all_referenc
 ghost use Rattle.step_equal.specs.ComputedCodes.{coded_rows};
 ghost use Rattle.step_equal.specs.Faults.{IsFaultOf};
 ghost use Rattle.step_equal.specs.ComputedPlaces.{IsPlaced};
-ghost use Rattle.step_equal.specs.Rows.{Row, IsPopulation, names, row_at};
+ghost use Rattle.step_equal.specs.Rows.{Row, AreFew, IsPopulation, names, row_at};
 ghost use Rattle.step_equal.specs.Settled.{IsSettled};
 ghost use Rattle.step_values.specs.Views.{value_of, values_of};
 ghost use Rattle.step_equal.specs.Views.{row_of, rows_of};
@@ -21,7 +21,10 @@ use std::alloc::Global;
 use std::marker::Model;
 use step_values::value::PlainValue;
 
-/// A population: no name stands twice, and each reference names a row.
+/// As many rows as a population has at most, so that the classes of its instances have numbers of 32 bits.
+const MOST_ROWS: usize = 4_294_967_295;
+
+/// A population: at most 2^32 - 1 rows, no name stands twice, and each reference names a row.
 #[derive(Drop)]
 pub struct Plain<'a> {
     rows: Vec<PlainRow<'a>>,
@@ -41,11 +44,12 @@ impl<'a> Model for Plain<'a> {
 impl<'a> Plain<'a> {
     /// The population of these rows, in order, with the type words of each in order and none twice.
     ///
-    /// Where a name stands twice the fault is `DuplicateRow`, else where a reference names no row
-    /// `UnknownReference`; where memory runs out it is `Memory`. The number of rows has no limit of its own.
+    /// Where there are more than 2^32 - 1 rows the fault is `TooManyRows`, else where a name stands twice
+    /// `DuplicateRow`, else where a reference names no row `UnknownReference`; where memory runs out it is `Memory`.
     pub fn from_rows(alloc: Global, rows: Vec<PlainRow<'a>>) -> Result<Plain<'a>, PlainFault>
         ensures rows { IfOk result (λ p. AllZip IsSettled (rows_of rows.entry.items) p) }
         ensures population { IfOk result (λ p. IsPopulation p) }
+        ensures few { IfOk result (λ p. AreFew p) }
         ensures fault { IfErr result (λ e. IsFaultOf (rows_of rows.entry.items) e) }
     {
         let places = places_of(alloc, &rows)?;
@@ -59,7 +63,8 @@ impl<'a> Plain<'a> {
 
     /// How many rows it has.
     pub fn len(&self) -> usize
-        ensures { result ≡ length self.now }
+        ensures length { result ≡ length self.now }
+        ensures few { AreFew self.now }
     {
         self.rows.len()
     }
@@ -91,9 +96,13 @@ impl<'a> Plain<'a> {
 /// The names of the rows, in order.
 fn places_of<'a>(alloc: Global, rows: &[PlainRow<'a>]) -> Result<IndexSet<u64>, PlainFault>
     ensures places { IfOk result (λ s. s.keys ≡ names (rows_of rows.now)) }
+    ensures few { IfOk result (λ _. AreFew (rows_of rows.now)) }
     ensures distinct { IfOk result (λ _. IsDistinct nat_eq (names (rows_of rows.now))) }
     ensures fault { IfErr result (λ e. IsFaultOf (rows_of rows.now) e) }
 {
+    if rows.len() > MOST_ROWS {
+        return Err(PlainFault::TooManyRows);
+    }
     let mut places = IndexSet::with_capacity(alloc, rows.len())?;
     for row in rows {
         if !places.insert(row.name)? {

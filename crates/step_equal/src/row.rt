@@ -1,12 +1,49 @@
-//! Rows of a population: names, types and values.
+//! Rows of a population: names, sections, types and values.
+
+ghost use Rattle.std.specs.Prelude.{◌≡◌, ◌↔◌, map, IsTrue};
+ghost use Rattle.std.specs.Str.{bytes_eq};
+ghost use Rattle.step_values.specs.ComputedAgreement.{each_test};
+ghost use Rattle.step_values.specs.Views.{word_of};
+ghost use Rattle.step_equal.specs.ComputedKinds.{kind_test};
+ghost use Rattle.step_equal.specs.Rows.{kind_of};
+ghost use Rattle.step_equal.specs.Views.{row_of};
 
 use step_literals::literal::Word;
+use step_values::literals::same_word;
 use step_values::value::PlainValue;
 
-/// A row: an instance's name, its types, and a value for each of its attributes.
+/// A row: an instance's name, the data section that it stands in, its types, and a value for each of its attributes.
 #[derive(Drop)]
 pub struct PlainRow<'a> {
     pub name: u64,
+    /// Counted from 0.
+    pub section: u32,
     pub types: Vec<Word<'a>>,
     pub values: Vec<PlainValue<'a>>,
+}
+
+/// Whether two rows are of one kind: they stand in one section, and their type words are equal one by one.
+pub fn is_one_kind<'p, 'q>(row: &PlainRow<'p>, other: &PlainRow<'q>) -> bool
+    ensures kinds { IsTrue result ↔ (kind_of (row_of row.now) ≡ kind_of (row_of other.now)) }
+    ensures test { result ≡ kind_test (kind_of (row_of row.now)) (kind_of (row_of other.now)) }
+{
+    if row.section != other.section {
+        return false;
+    }
+    same_words(&row.types, &other.types)
+}
+
+/// Whether two lists of words are equal, whatever the case of their letters.
+fn same_words<'p, 'q>(a: &[Word<'p>], b: &[Word<'q>]) -> bool
+    ensures { result ≡ each_test bytes_eq (map word_of a.now) (map word_of b.now) }
+{
+    if a.len() != b.len() {
+        return false;
+    }
+    for i in 0..a.len() {
+        if !same_word(&a[i], &b[i]) {
+            return false;
+        }
+    }
+    true
 }

@@ -6,7 +6,7 @@ ghost use Rattle.step_equal.specs.Tables as tables;
 ghost use Rattle.step_equal.specs.TableViews.{origin_of, member_of, table_of};
 
 /// Where a class comes from.
-#[derive(Clone, Copy, Debug)]
+#[derive(Clone, Copy, Debug, PartialEq, Eq)]
 pub enum Origin {
     /// It is there from round 0 on.
     Start,
@@ -15,7 +15,7 @@ pub enum Origin {
 }
 
 /// The classes of instances by rounds, as a certificate tells them.
-#[derive(Debug, Drop)]
+#[derive(Debug, PartialEq, Eq, Drop)]
 pub struct Table {
     /// The last round.
     pub rounds: u32,
@@ -29,7 +29,7 @@ impl Table {
     /// The class of a name at a round.
     ///
     /// It is None where the name is no member, or where the chain of parents leaves the list of classes or
-    /// doesn't fall.
+    /// doesn't fall before that class is found. A chain that is broken above it is no matter.
     pub fn class_at(&self, name: u64, round: u32) -> Option<u32>
         ensures { result ≡ tables.class_at (table_of self.now) name round }
     {

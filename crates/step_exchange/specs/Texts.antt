@@ -113,7 +113,7 @@ FaultApplies before at kinds.TooDeep = IsViablePrefix more_levels (before ++ at 
 FaultApplies before at kinds.HeaderFault = IsViablePrefix unheaded (before ++ at ∷ [])
 FaultApplies before at kinds.Expected = Unit {0}
 
--- .. and another token is expected only where no other kind of fault is due
+-- .. and another token is expected only where no other kind of fault applies
 abbrev pub IsKind : List LocatedToken → LocatedToken → FaultKind → Type 0
 IsKind before at kinds.Expected = (kind : FaultKind) → (kind ≡ kinds.Expected → ⊥) → FaultApplies before at kind → ⊥
 IsKind before at kind = FaultApplies before at kind

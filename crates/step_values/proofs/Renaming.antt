@@ -34,6 +34,32 @@ mutual
   agree_each_renamed h l f (more v vs) (more w ws) e = (agree_renamed h l f v w e.0, agree_each_renamed h l f vs ws e.1)
   agree_each_renamed h l f _ _ e = absurd e
 
+-- values that agree under l are renamed to values that agree under m, where names that l passes are led to names that
+-- m passes
+mutual
+  pub agree_led : (h : ℕ → ℕ) (l m : ℕ → ℕ → Bool) (A : ℕ → Type 0)
+      → ((y z : ℕ) → A y → A z → l y z ≡ true → m (h y) (h z) ≡ true) → (v w : Value) → EachReference A v
+      → EachReference A w → Agree l v w → Agree m (renamed h v) (renamed h w)
+  agree_led h l m A f (leaf a) (leaf b) p q e = e
+  agree_led h l m A f (reference y) (reference z) p q e = f y z p q e
+  agree_led h l m A f (typed n v) (typed k w) p q e = (e.0, agree_led h l m A f v w p q e.1)
+  agree_led h l m A f (sequence vs) (sequence ws) p q e = agree_each_led h l m A f vs ws p q e
+  agree_led h l m A f (bag vs) (bag ws) p q e = (
+    renamed_each h e.0,
+    renamed_reordering h e.1,
+    agree_each_renamed h (◌==◌) (λ y z n. ap h (eqb-true y z n)) vs e.0
+        e.2,
+  )
+  agree_led h l m A f _ _ p q e = absurd e
+
+  pub agree_each_led : (h : ℕ → ℕ) (l m : ℕ → ℕ → Bool) (A : ℕ → Type 0)
+      → ((y z : ℕ) → A y → A z → l y z ≡ true → m (h y) (h z) ≡ true) → (vs ws : Values) → EachReferenceOf A vs
+      → EachReferenceOf A ws → AgreeEach l vs ws → AgreeEach m (renamed_each h vs) (renamed_each h ws)
+  agree_each_led h l m A f none none p q e = tt
+  agree_each_led h l m A f (more v vs) (more w ws) p q e =
+      (agree_led h l m A f v w p.0 q.0 e.0, agree_each_led h l m A f vs ws p.1 q.1 e.1)
+  agree_each_led h l m A f _ _ p q e = absurd e
+
 -- a reordering of renamed values is made of renamed values
 pub reordering_of_renamed : (h : ℕ → ℕ) {us xs : Values} → IsReordering us xs → (ws : Values) → xs ≡ renamed_each h ws
     → (vs : Values) × IsReordering vs ws × (us ≡ renamed_each h vs)

@@ -7,3 +7,4 @@ pub mod ComputedCodes
 pub mod ComputedAgreement
 pub mod ComputedRenamings
 pub mod ComputedForms
+pub mod Laws

@@ -45,12 +45,12 @@ impl<'m> Renaming<'m> {
 ///
 /// `AllocError` comes where memory runs out, which only bags take.
 #[cycle(agree)]
-pub fn same_value<'m, 'a>(
+pub fn same_value<'m, 'a, 'b>(
     alloc: Global,
     f: &Renaming<'m>,
     g: &Renaming<'m>,
     v: &PlainValue<'a>,
-    w: &PlainValue<'a>,
+    w: &PlainValue<'b>,
 ) -> Result<bool, AllocError>
     ensures { IfOk result (λ b. b ≡ same_by f.now v.now g.now w.now) }
 {
@@ -79,12 +79,12 @@ pub fn same_value<'m, 'a>(
 ///
 /// `AllocError` comes where memory runs out.
 #[cycle(agree)]
-pub fn same_each<'m, 'a>(
+pub fn same_each<'m, 'a, 'b>(
     alloc: Global,
     f: &Renaming<'m>,
     g: &Renaming<'m>,
     vs: &[PlainValue<'a>],
-    ws: &[PlainValue<'a>],
+    ws: &[PlainValue<'b>],
 ) -> Result<bool, AllocError>
     ensures { IfOk result (λ b. b ≡ same_each_by f.now vs.now g.now ws.now) }
 {
@@ -100,12 +100,12 @@ pub fn same_each<'m, 'a>(
 }
 
 /// Whether two bags agree.
-fn same_bags<'m, 'a>(
+fn same_bags<'m, 'a, 'b>(
     alloc: Global,
     f: &Renaming<'m>,
     g: &Renaming<'m>,
     vs: &[PlainValue<'a>],
-    ws: &[PlainValue<'a>],
+    ws: &[PlainValue<'b>],
 ) -> Result<bool, AllocError>
     ensures { IfOk result (λ b. b ≡ same_bags_by f.now vs.now g.now ws.now) }
 {

@@ -5,6 +5,7 @@
 #![tactic(auto)]
 
 pub mod agree;
+pub mod laws;
 pub mod literals;
 pub mod normal;
 pub mod value;

@@ -7,26 +7,26 @@ ghost use Rattle.step_values.specs.Views.{word_of, number_leaf, text_leaf, bits_
 
 use step_literals::literal::{Bits, Decimal, Text, Word};
 
-pub(crate) fn same_number<'a>(a: &Decimal<'a>, b: &Decimal<'a>) -> bool
+pub(crate) fn same_number<'a, 'b>(a: &Decimal<'a>, b: &Decimal<'b>) -> bool
     ensures { result ≡ leaf_test (number_leaf a.now) (number_leaf b.now) }
 {
     *a == *b
 }
 
-pub(crate) fn same_text<'a>(a: &Text<'a>, b: &Text<'a>) -> bool
+pub(crate) fn same_text<'a, 'b>(a: &Text<'a>, b: &Text<'b>) -> bool
     ensures { result ≡ leaf_test (text_leaf a.now) (text_leaf b.now) }
 {
     *a == *b
 }
 
-pub(crate) fn same_bits<'a>(a: &Bits<'a>, b: &Bits<'a>) -> bool
+pub(crate) fn same_bits<'a, 'b>(a: &Bits<'a>, b: &Bits<'b>) -> bool
     ensures { result ≡ leaf_test (bits_leaf a.now) (bits_leaf b.now) }
 {
     *a == *b
 }
 
 /// Whether two words are equal, whatever the case of their letters.
-pub fn same_word<'a>(word: &Word<'a>, other: &Word<'a>) -> bool
+pub fn same_word<'a, 'b>(word: &Word<'a>, other: &Word<'b>) -> bool
     ensures { result ≡ bytes_eq (word_of word.now) (word_of other.now) }
 {
     *word == *other

@@ -31,11 +31,11 @@ pub enum Normal<'a> {
 ///
 /// `AllocError` comes where memory runs out.
 #[cycle(normal)]
-pub fn normal_form<'m, 'a>(
+pub fn normal_form<'m, 'a: 'c, 'c>(
     alloc: Global,
     f: &Renaming<'m>,
     value: &PlainValue<'a>,
-) -> Result<Normal<'a>, AllocError>
+) -> Result<Normal<'c>, AllocError>
     ensures { IfOk result (λ n. IsNormal (value_by f.now value.now) n) }
 {
     match value {
@@ -59,11 +59,11 @@ pub fn normal_form<'m, 'a>(
 ///
 /// `AllocError` comes where memory runs out.
 #[cycle(normal)]
-pub fn normal_forms<'m, 'a>(
+pub fn normal_forms<'m, 'a: 'c, 'c>(
     alloc: Global,
     f: &Renaming<'m>,
     values: &[PlainValue<'a>],
-) -> Result<Vec<Normal<'a>>, AllocError>
+) -> Result<Vec<Normal<'c>>, AllocError>
     ensures { IfOk result (λ ns. AreNormal (values_by f.now values.now) ns.items) }
 {
     let mut forms = Vec::with_capacity(alloc, values.len())?;
@@ -77,11 +77,11 @@ pub fn normal_forms<'m, 'a>(
 ///
 /// `AllocError` comes where memory runs out.
 #[cycle(normal)]
-pub fn sorted_forms<'m, 'a>(
+pub fn sorted_forms<'m, 'a: 'c, 'c>(
     alloc: Global,
     f: &Renaming<'m>,
     values: &[PlainValue<'a>],
-) -> Result<Vec<Normal<'a>>, AllocError>
+) -> Result<Vec<Normal<'c>>, AllocError>
     ensures { IfOk result (λ ns. AreSorted (values_by f.now values.now) ns.items) }
 {
     let mut forms = normal_forms(alloc, f, values)?;

@@ -8,4 +8,4 @@ pub returns : goal.returns
 returns c =
     run_of_gather run_of (part_of c.args.part) c.args.around c.clear.new.self c.gather.new.buffer
     (located_of c.in_ok-first.first) c.args.lexer.now c.next_item.new.lexer c.gather.new.lexer c.gather.result
-    c.clear.ensures.empty c.in_ok-first.ensures c.gather.ensures
+    c.clear.ensures.empty c.in_ok-first.ensures c.gather.ensures.read

@@ -1,4 +1,4 @@
-use Rattle.std.proofs.Common.{rules, not, ℕ, refl, subst, arith}
+use Rattle.std.proofs.Common.{rules, not, ℕ, refl, subst, arith, ◌∙◌}
 use Rattle.std.proofs.lemmas.Result.{err_from_is_err_and}
 use Rattle.express_trees.specs.Words.{word_of, words_of}
 use Rattle.express_runs.specs.declared.runs.Buffer.{Buffer}
@@ -6,6 +6,7 @@ use Rattle.express_runs.specs.Items.{located_of}
 use Rattle.express_schemas.specs.Views.{run_of}
 use Rattle.express_runs.specs.OpenRuns.{part_of, brackets_of, IsPushed}
 use Rattle.express_schemas.proofs.Looking.{shown_less}
+use Rattle.express_schemas.proofs.SameText.{passes_text}
 use Rattle.express_runs.proofs.RunSteps.{brackets_length, few_open, some_is, agreed_ended, agreed_further, so_start, so_err_step, so_err_take, so_next, so_stands, so_gathered}
 use Rattle.express_runs.proofs.runs.gather.Goals as goal
 
@@ -23,8 +24,8 @@ step-requires-clause-within c =
           (words_of b.lexemes.items) c.loop-lexer.invariant.begun.run,
     )
 
-pub returns-in_err-step : goal.returns-in_err-step
-returns-in_err-step c =
+pub returns-in_err-step-clause-read : goal.returns-in_err-step-clause-read
+returns-in_err-step-clause-read c =
     let part = part_of c.args.part in
     let b = c.loop-lexer.buffer in
     let s = located_of c.loop-lexer.item in
@@ -46,8 +47,8 @@ run_between-requires c =
     so_stands part c.args.around c.args.buffer.now (located_of c.args.first) c.args.lexer.now b c.loop-lexer.item
     c.loop-lexer.lexer c.loop-lexer.invariant ended c.text.result.now c.text.ensures
 
-pub returns-then-branch : goal.returns-then-branch
-returns-then-branch c =
+pub returns-then-branch-clause-read : goal.returns-then-branch-clause-read
+returns-then-branch-clause-read c =
     let part = part_of c.args.part in
     let b = c.loop-lexer.buffer in
     let s = located_of c.loop-lexer.item in
@@ -57,10 +58,25 @@ returns-then-branch c =
     c.in_ok-step.ensures c.if-branch.true in
     so_gathered part c.args.around c.args.buffer.now (located_of c.args.first) c.args.lexer.now b c.loop-lexer.item
     c.loop-lexer.lexer _ (run_of c.run_between.result) c.text.result.now c.loop-lexer.invariant ended refl
-    c.text.ensures c.run_between.ensures
+    c.text.ensures c.run_between.ensures.run
 
-pub returns-in_err-item : goal.returns-in_err-item
-returns-in_err-item c =
+pub returns-then-branch-clause-text : goal.returns-then-branch-clause-text
+returns-then-branch-clause-text c =
+    let part = part_of c.args.part in
+    let b = c.loop-lexer.buffer in
+    let s = located_of c.loop-lexer.item in
+    let left = brackets_of c.step.new.open.items in
+    let some = some_is b.lexemes.items b.lexemes.len c.is_empty-some.result c.is_empty-some.ensures (search rules) in
+    let ended = agreed_ended part c.args.around b left s (not c.is_empty-some.result) c.in_ok-step.field-0 some
+    c.in_ok-step.ensures c.if-branch.true in
+    let g =
+    so_gathered part c.args.around c.args.buffer.now (located_of c.args.first) c.args.lexer.now b c.loop-lexer.item
+    c.loop-lexer.lexer b (run_of c.run_between.result) c.text.result.now c.loop-lexer.invariant ended refl
+    c.text.ensures c.run_between.ensures.run in
+    c.run_between.ensures.text ∙ c.text.ensures ∙ passes_text g.passes
+
+pub returns-in_err-item-clause-read : goal.returns-in_err-item-clause-read
+returns-in_err-item-clause-read c =
     let part = part_of c.args.part in
     let b = c.loop-lexer.buffer in
     let s = located_of c.loop-lexer.item in

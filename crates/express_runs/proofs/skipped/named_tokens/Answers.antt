@@ -1,14 +1,18 @@
-use Rattle.std.proofs.Common.{[], ◌∷◌}
+use Rattle.std.proofs.Common.{[], ◌∷◌, ◌∙◌}
 use Rattle.std.proofs.lemmas.Result.{err_from_is_err_and}
 use Rattle.express_schemas.specs.Predict.{Until, SkippedEnd}
+use Rattle.express_schemas.proofs.SameText.{passes_text}
 use Rattle.express_runs.proofs.SkippedSteps.{stops_second, passes_both}
 use Rattle.express_runs.proofs.skipped.named_tokens.Goals as goal
 
-pub returns-in_err-tokens : goal.returns-in_err-tokens
-returns-in_err-tokens c =
+pub returns-in_err-tokens-clause-read : goal.returns-in_err-tokens-clause-read
+returns-in_err-tokens-clause-read c =
     let p = err_from_is_err_and c.from_residual-in_err-tokens.result c.from_residual-in_err-tokens.ensures.1 in
     rw (p.1, p.2) (stops_second _ (Until c.args.end.now ∷ SkippedEnd ∷ []) [] c.in_ok-name.ensures
-    c.in_err-tokens.ensures)
+    c.in_err-tokens.ensures.read)
 
-pub returns : goal.returns
-returns c = (c.in_ok-tokens.ensures.0, passes_both c.in_ok-name.ensures c.in_ok-tokens.ensures.1)
+pub returns-clause-read : goal.returns-clause-read
+returns-clause-read c = (c.in_ok-tokens.ensures.read.0, passes_both c.in_ok-name.ensures c.in_ok-tokens.ensures.read.1)
+
+pub returns-clause-text : goal.returns-clause-text
+returns-clause-text c = c.in_ok-tokens.ensures.text ∙ passes_text c.in_ok-name.ensures

@@ -2,20 +2,22 @@ use Rattle.std.proofs.Common.{[], ◌∷◌, ◌≡◌, Ok, refl, sym, ap, ◌�
 use Rattle.std.proofs.lemmas.Result.{err_from_is_err_and}
 use Rattle.express_trees.specs.Words.{word_of}
 use Rattle.express_runs.specs.Items.{located_of}
+use Rattle.express_schemas.specs.declared.passage.Passage.{Passage}
 use Rattle.express_schemas.specs.Runs.{words_of_routine}
 use Rattle.express_schemas.specs.Views.{routine_of}
 use Rattle.express_runs.specs.Skips.{still_open}
 use Rattle.express_schemas.specs.Predict.{Routine, EndOfText}
 use Rattle.express_schemas.proofs.Looking.{shown_less}
 use Rattle.express_schemas.proofs.Taking.{stops_behind}
+use Rattle.express_schemas.proofs.SameText.{passes_text}
 use Rattle.express_runs.proofs.SkippedSteps.{routine_start, routine_few, routine_next, routine_done, routine_is_done}
 use Rattle.express_runs.proofs.skipped.routine_tokens.Goals as goal
 
 pub loop-item-init : goal.loop-item-init
 loop-item-init c = routine_start c.args.reader.now c.place-from.result c.place-from.ensures
 
-pub returns-in_err-item : goal.returns-in_err-item
-returns-in_err-item c =
+pub returns-in_err-item-clause-read : goal.returns-in_err-item-clause-read
+returns-in_err-item-clause-read c =
     let p = err_from_is_err_and c.from_residual.result c.from_residual.ensures.1 in
     let y = Routine c.loop-item.others in
     rw (p.1, p.2) (stops_behind _ (y ∷ []) [] c.loop-item.invariant.passes
@@ -50,8 +52,8 @@ of-requires c =
     ) ended c.place-to.result c.place-to.ensures c.text.result.now c.text.ensures in
     (d.routine, d.fits, sym (c.between-passage.ensures.words (words_of_routine d.routine) d.stand))
 
-pub returns-in_default : goal.returns-in_default
-returns-in_default c =
+pub returns-in_default-clause-read : goal.returns-in_default-clause-read
+returns-in_default-clause-read c =
     let w = word_of c.in_ok-item.item.lexeme in
     let ended = c.left_open.ensures ∙ ap (λ o. Ok (still_open o)) c.in_default.is in
     let d = routine_done c.args.reader.now c.loop-item.reader c.take.new.self c.loop-item.from c.loop-item.to
@@ -59,9 +61,22 @@ returns-in_default c =
       c.in_ok-item.ensures,
       c.begun-from.ensures,
     ) ended c.place-to.result c.place-to.ensures c.text.result.now c.text.ensures in
-    let is = c.of.ensures.routine d.routine d.fits (sym (c.between-passage.ensures.words (words_of_routine d.routine) d.stand)) in
+    let stood = c.between-passage.ensures.words (words_of_routine d.routine) d.stand in
+    let is = c.of.ensures.routine d.routine d.fits (sym stood) in
     routine_is_done c.args.reader.now c.take.new.self c.text.result.now c.begun-from.result c.place-to.result d
     (routine_of c.of.result) is
+
+pub returns-in_default-clause-text : goal.returns-in_default-clause-text
+returns-in_default-clause-text c =
+    let w = word_of c.in_ok-item.item.lexeme in
+    let ended = c.left_open.ensures ∙ ap (λ o. Ok (still_open o)) c.in_default.is in
+    let d = routine_done c.args.reader.now c.loop-item.reader c.take.new.self c.loop-item.from c.loop-item.to
+    c.begun-from.result c.loop-item.others c.in_ok-item.item.place w c.loop-item.invariant (
+      c.in_ok-item.ensures,
+      c.begun-from.ensures,
+    ) ended c.place-to.result c.place-to.ensures c.text.result.now c.text.ensures in
+    ap (λ (p : Passage). p.text.now) c.of.ensures.kept ∙ ap (λ t. t.now) c.between-passage.ensures.kept.0
+    ∙ c.text.ensures ∙ passes_text d.passes
 
 pub loop-item-smaller : goal.loop-item-smaller
 loop-item-smaller c = shown_less (word_of c.in_ok-item.item.lexeme) (located_of c.in_ok-item.item) c.loop-item.reader

@@ -8,18 +8,18 @@ use Rattle.express_schemas.proofs.Taking.{passes_as}
 use Rattle.express_runs.proofs.SkippedSteps.{stops_second, passes_both}
 use Rattle.express_runs.proofs.skipped.tokens_ended.Goals as goal
 
-pub returns-in_err-skipped_end : goal.returns-in_err-skipped_end
-returns-in_err-skipped_end c =
+pub returns-in_err-skipped_end-clause-read : goal.returns-in_err-skipped_end-clause-read
+returns-in_err-skipped_end-clause-read c =
     let p = err_from_is_err_and c.from_residual-in_err-skipped_end.result c.from_residual-in_err-skipped_end.ensures.1
     in
-    rw (p.1, p.2) (stops_second _ (SkippedEnd ∷ []) [] c.in_ok-tokens.ensures.1 c.in_err-skipped_end.ensures)
+    rw (p.1, p.2) (stops_second _ (SkippedEnd ∷ []) [] c.in_ok-tokens.ensures.read.1 c.in_err-skipped_end.ensures)
 
-pub returns : goal.returns
-returns c =
+pub returns-clause-read : goal.returns-clause-read
+returns-clause-read c =
     let ws = words_of_passage c.in_ok-tokens.tokens in
     let end = name c.args.end.now in (
-      c.in_ok-tokens.ensures.0,
+      c.in_ok-tokens.ensures.read.0,
       passes_as (ws ++ end ∷ mark marks.Semicolon ∷ [])
           (append_assoc ws (end ∷ []) (mark marks.Semicolon ∷ []))
-          (passes_both c.in_ok-tokens.ensures.1 c.in_ok-skipped_end.ensures),
+          (passes_both c.in_ok-tokens.ensures.read.1 c.in_ok-skipped_end.ensures),
     )

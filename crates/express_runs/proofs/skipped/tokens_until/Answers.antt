@@ -1,4 +1,4 @@
-use Rattle.std.proofs.Common.{[], ◌∷◌, ◌≡◌, refl, sym, ◌∙◌}
+use Rattle.std.proofs.Common.{[], ◌∷◌, ◌≡◌, refl, sym, ap, ◌∙◌}
 use Rattle.std.proofs.lemmas.Result.{err_from_is_err_and}
 use Rattle.express_trees.specs.Words.{word_of}
 use Rattle.express_runs.specs.Items.{located_of}
@@ -6,14 +6,15 @@ use Rattle.express_schemas.specs.Views.{words_of_passage}
 use Rattle.express_schemas.specs.Predict.{Until, EndOfText}
 use Rattle.express_schemas.proofs.Looking.{shown_less}
 use Rattle.express_schemas.proofs.Taking.{stops_behind}
+use Rattle.express_schemas.proofs.SameText.{passes_text}
 use Rattle.express_runs.proofs.SkippedSteps.{until_start, until_next, until_text, until_done}
 use Rattle.express_runs.proofs.skipped.tokens_until.Goals as goal
 
 pub loop-item-init : goal.loop-item-init
 loop-item-init c = until_start c.args.end.now c.args.reader.now c.place-from.result c.place-from.ensures
 
-pub returns-in_err-item : goal.returns-in_err-item
-returns-in_err-item c =
+pub returns-in_err-item-clause-read : goal.returns-in_err-item-clause-read
+returns-in_err-item-clause-read c =
     let p = err_from_is_err_and c.from_residual.result c.from_residual.ensures.1 in
     let y = Until c.args.end.now in
     rw (p.1, p.2) (stops_behind _ (y ∷ []) [] c.loop-item.invariant.passes
@@ -29,15 +30,29 @@ between-requires c =
           c.text.result.now c.text.ensures,
     )
 
-pub returns-then-is_named : goal.returns-then-is_named
-returns-then-is_named c =
+pub returns-then-is_named-clause-read : goal.returns-then-is_named-clause-read
+returns-then-is_named-clause-read c =
     let w = word_of c.in_ok-item.item.lexeme in
     let s = located_of c.in_ok-item.item in
     let stand = until_text c.args.end.now c.args.reader.now c.loop-item.reader c.take.new.self c.loop-item.from
     c.loop-item.to s w c.loop-item.invariant c.in_ok-item.ensures refl c.text.result.now c.text.ensures in
     until_done c.args.end.now c.args.reader.now c.loop-item.reader c.take.new.self c.loop-item.from c.loop-item.to s w
-    (words_of_passage c.between.result) c.loop-item.invariant (c.between.ensures.words c.loop-item.invariant.words stand)
-    c.in_ok-item.ensures refl (sym c.is_named.ensures ∙ c.if-is_named.true)
+    (words_of_passage c.between.result) c.loop-item.invariant
+    (c.between.ensures.words c.loop-item.invariant.words stand) c.in_ok-item.ensures refl
+    (sym c.is_named.ensures ∙ c.if-is_named.true)
+
+pub returns-then-is_named-clause-text : goal.returns-then-is_named-clause-text
+returns-then-is_named-clause-text c =
+    let w = word_of c.in_ok-item.item.lexeme in
+    let s = located_of c.in_ok-item.item in
+    let stand = until_text c.args.end.now c.args.reader.now c.loop-item.reader c.take.new.self c.loop-item.from
+    c.loop-item.to s w c.loop-item.invariant c.in_ok-item.ensures refl c.text.result.now c.text.ensures in
+    let done =
+    until_done c.args.end.now c.args.reader.now c.loop-item.reader c.take.new.self c.loop-item.from c.loop-item.to s w
+    (words_of_passage c.between.result) c.loop-item.invariant
+    (c.between.ensures.words c.loop-item.invariant.words stand) c.in_ok-item.ensures refl
+    (sym c.is_named.ensures ∙ c.if-is_named.true) in
+    ap (λ t. t.now) c.between.ensures.kept.0 ∙ c.text.ensures ∙ passes_text done.1
 
 pub loop-item-smaller : goal.loop-item-smaller
 loop-item-smaller c = shown_less (word_of c.in_ok-item.item.lexeme) (located_of c.in_ok-item.item) c.loop-item.reader

@@ -5,6 +5,7 @@ use Rattle.step_equal.proofs.settled.settle.Goals as goal
 pub returns : goal.returns
 returns c = record {
   name = refl;
+  section = refl;
   types = sorted_words c.args.row.now.types.items c.sort.new.self.items c.dedup.new.self.items
       c.in_ok-sort.ensures.permutation c.in_ok-sort.ensures.sorted c.dedup.ensures.filtered;
   values = refl;

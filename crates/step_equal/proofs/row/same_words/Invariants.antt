@@ -2,7 +2,7 @@ use Rattle.std.proofs.Common.{◌≡◌, length, map, drop}
 use Rattle.std.specs.Str.{bytes_eq}
 use Rattle.step_values.specs.ComputedAgreement.{each_test}
 use Rattle.step_values.specs.Views.{word_of}
-use Rattle.step_equal.proofs.image.same_words.Given as goal
+use Rattle.step_equal.proofs.row.same_words.Given as goal
 
 -- what is left decides
 abbrev pub invariant-loop-i : goal.invariant-loop-i

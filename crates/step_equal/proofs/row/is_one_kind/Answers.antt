@@ -1,0 +1,27 @@
+use Rattle.std.proofs.Common.{sym, ◌∙◌, ap}
+use Rattle.step_equal.specs.Rows.{Kind, kind_of}
+use Rattle.step_equal.specs.Views.{row_of}
+use Rattle.step_equal.proofs.OneKind.{kinds_decide, two_sections, one_section}
+use Rattle.step_equal.proofs.row.is_one_kind.Goals as goal
+
+pub returns-then-row-other-clause-kinds : goal.returns-then-row-other-clause-kinds
+returns-then-row-other-clause-kinds c =
+    (λ e. absurd (cc), λ e. absurd (c.if-row-other.true (ap (λ (k : Kind). k.0) e)))
+
+pub returns-then-row-other-clause-test : goal.returns-then-row-other-clause-test
+returns-then-row-other-clause-test c =
+    two_sections (kind_of (row_of c.args.row.now)) (kind_of (row_of c.args.other.now)) c.if-row-other.true
+
+pub returns-clause-kinds : goal.returns-clause-kinds
+returns-clause-kinds c =
+    let a = kind_of (row_of c.args.row.now) in
+    let b = kind_of (row_of c.args.other.now) in
+    let words = rw (c.deref.ensures.value, c.deref-2.ensures.value) at c.same_words.ensures in
+    let test = one_section a b c.same_words.result c.if-row-other.false words in
+    (λ e. (kinds_decide a b).0 (sym test ∙ e), λ e. test ∙ (kinds_decide a b).1 e)
+
+pub returns-clause-test : goal.returns-clause-test
+returns-clause-test c =
+    let words = rw (c.deref.ensures.value, c.deref-2.ensures.value) at c.same_words.ensures in
+    one_section (kind_of (row_of c.args.row.now)) (kind_of (row_of c.args.other.now)) c.same_words.result
+    c.if-row-other.false words
