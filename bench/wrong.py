@@ -18,7 +18,7 @@ import subprocess
 import sys
 import tempfile
 
-ROOT = os.path.dirname(os.path.dirname(os.path.abspath(__file__)))
+from building import ROOT, copy_repository
 
 
 def main(names):
@@ -87,17 +87,10 @@ def tried(folder, names):
     """Tries the edits of these crates in a copy of the repository below this folder, and gives the status."""
     copy, work = os.path.join(folder, "copy"), os.path.join(folder, "work")
     os.mkdir(work)
-    listed = subprocess.run(["git", "ls-files", "-co", "--exclude-standard", "-z"], cwd=ROOT, stdout=subprocess.PIPE, text=True, check=True)
-    for path in filter(None, listed.stdout.split("\0")):
-        if os.path.isfile(os.path.join(ROOT, path)) and "/must-fail/" not in path:
-            os.makedirs(os.path.dirname(os.path.join(copy, path)), exist_ok=True)
-            shutil.copy2(os.path.join(ROOT, path), os.path.join(copy, path))
-    for name in os.listdir(os.path.join(copy, "crates")):
-        built = os.path.join(ROOT, "crates", name, "out", "rlib")
-        if os.path.isdir(built):
-            shutil.copytree(built, os.path.join(copy, "crates", name, "out", "rlib"))
+    copy_repository(copy)
     for name in names:
         crate = os.path.join(copy, "crates", name)
+        shutil.rmtree(os.path.join(crate, "must-fail"), ignore_errors=True)
         os.rename(os.path.join(crate, "wrong"), os.path.join(crate, "must-fail"))
     # what rt makes for each edit lies in the folder too
     ran = subprocess.Popen(["rt", "must-fail", *names], cwd=copy, env={**os.environ, "TMPDIR": work})

@@ -8,8 +8,8 @@ use Rattle.express_trees.specs.declared.lexeme.Lexeme.{Lexeme}
 use Rattle.express_trees.specs.declared.lexeme.Lexeme.TheVariants as lexemes
 use Rattle.express_trees.specs.Words.{Word, keyword, name, mark, word_of}
 use Rattle.express_trees.specs.Grammar.{depth_limit}
-use Rattle.express_schemas.specs.declared.fault.SchemaFault.{SchemaFault}
-use Rattle.express_schemas.specs.declared.fault.SchemaFault.TheVariants as faults
+use Rattle.express_schemas.specs.declared.fault.SyntaxFault.{SyntaxFault}
+use Rattle.express_schemas.specs.declared.fault.SyntaxFault.TheVariants as faults
 use Rattle.express_schemas.specs.declared.tree.Attribute as code
 use Rattle.express_schemas.specs.Schemas.{Attribute, own}
 use Rattle.express_schemas.specs.Written.{with_commas, words_of_attribute, words_of_unique}
@@ -25,7 +25,7 @@ use Rattle.express_schemas.proofs.Taking.{passes_as, passes_join, passes_more, p
 use Rattle.express_schemas.proofs.Lists.{commas_push, filled_push}
 
 -- an attribute that is redeclared, behind SELF
-pub own_attribute : (r : Result code.Attribute SchemaFault) (s : LocatedToken) (old mid new : Reading) → Shows old s mid
+pub own_attribute : (r : Result code.Attribute SyntaxFault) (s : LocatedToken) (old mid new : Reading) → Shows old s mid
     → s.lookahead ≡ token (keyword keywords.SelfWord)
     → MatchResult r (λ a. (ws : List Word) × (words_of_attribute (attribute_of a) ≡ keyword keywords.SelfWord ∷ ws)
     × Passes redeclared_symbols [] [] ws mid new) (λ e. StopsIn e redeclared_symbols [] mid)
@@ -58,7 +58,7 @@ continues_on y first old ws s here us mid t new listed h is a shows =
     }
 
 -- .. that isn't there
-pub continues_attribute : (e : SchemaFault) (y : Symbol) (first : LocatedToken) (old : Reading) (ws : List Word)
+pub continues_attribute : (e : SyntaxFault) (y : Symbol) (first : LocatedToken) (old : Reading) (ws : List Word)
     (s : LocatedToken) (here : Reading) → IsListed y → Continues y first old ws s here
     → s.lookahead ≡ token (mark marks.Comma) → StopsIn e (AnAttribute ∷ []) [] here → StopsIn e (y ∷ []) (first ∷ [])
     old
@@ -67,7 +67,7 @@ continues_attribute e y first old ws s here listed h is g =
     here is listed) g)
 
 -- .. with nothing behind it
-pub continues_end : (e : SchemaFault) (y : Symbol) (first : LocatedToken) (old : Reading) (ws : List Word)
+pub continues_end : (e : SyntaxFault) (y : Symbol) (first : LocatedToken) (old : Reading) (ws : List Word)
     (s : LocatedToken) (here : Reading) (us : List Word) (mid : Reading) → IsListed y → Continues y first old ws s here
     → s.lookahead ≡ token (mark marks.Comma) → Passes (AnAttribute ∷ []) [] [] us here mid → StopsIn e (y ∷ []) [] mid
     → StopsIn e (y ∷ []) (first ∷ []) old
@@ -96,7 +96,7 @@ lists_next y a first old list s here o mid t new listed h is p shows = record {
 }
 
 -- .. that isn't there
-pub lists_stop : (e : SchemaFault) (y : Symbol) (a : Attribute) (first : LocatedToken) (old : Reading)
+pub lists_stop : (e : SyntaxFault) (y : Symbol) (a : Attribute) (first : LocatedToken) (old : Reading)
     (list : List Attribute) (s : LocatedToken) (here : Reading) → IsListed y → ListsOn y a first old list s here
     → is_mark marks.Comma s.lookahead ≡ true → StopsIn e (AnAttribute ∷ []) [] here → StopsIn e (y ∷ []) (first ∷ [])
     old
@@ -104,7 +104,7 @@ lists_stop e y a first old list s here listed h is g = continues_attribute e y f
     h.goes_on (mark_met marks.Comma s.lookahead is) g
 
 -- .. with nothing behind it
-pub lists_end : (e : SchemaFault) (y : Symbol) (a : Attribute) (first : LocatedToken) (old : Reading)
+pub lists_end : (e : SyntaxFault) (y : Symbol) (a : Attribute) (first : LocatedToken) (old : Reading)
     (list : List Attribute) (s : LocatedToken) (here : Reading) (o : Attribute) (mid : Reading) → IsListed y
     → ListsOn y a first old list s here
     → is_mark marks.Comma s.lookahead ≡ true → Passes (AnAttribute ∷ []) [] [] (words_of_attribute o) here mid
@@ -125,7 +125,7 @@ uniques_refused (token (mark marks.Semicolon)) h g = absurd cc
 uniques_refused _ h g = refl
 
 -- neither a comma nor a colon stands behind explicit attributes
-pub explicit_refused : (e : SchemaFault) (a : Attribute) (first : LocatedToken) (old mid : Reading)
+pub explicit_refused : (e : SyntaxFault) (a : Attribute) (first : LocatedToken) (old mid : Reading)
     (list : List Attribute) (s : LocatedToken) (here : Reading) → Shows old first mid → ListsOn Explicits a first mid
     list s here
     → is_mark marks.Comma s.lookahead ≡ false → is_mark marks.Colon s.lookahead ≡ false
@@ -134,7 +134,7 @@ explicit_refused e a first old mid list s here shows h comma colon is = stops_fi
     (h.goes_on.stops e (stops_here e Explicits s here (explicits_refused s.lookahead comma colon) is))
 
 -- a colon, and no data type
-pub explicit_stop : (e : SchemaFault) (a : Attribute) (first : LocatedToken) (old mid : Reading) (list : List Attribute)
+pub explicit_stop : (e : SyntaxFault) (a : Attribute) (first : LocatedToken) (old mid : Reading) (list : List Attribute)
     (s : LocatedToken) (here : Reading) → Shows old first mid → ListsOn Explicits a first mid list s here
     → is_mark marks.Colon s.lookahead ≡ true → StopsIn e (OptionalDataType ∷ []) [] here → StopsIn e (Explicits ∷ []) []
     old
@@ -163,7 +163,7 @@ explicit_words a list further us e = ap (λ l. l ++ mark marks.Colon ∷ us) e �
     further (mark marks.Colon ∷ us)
 
 -- neither a comma nor a semicolon stands behind the attributes of a uniqueness rule
-pub unique_refused : (e : SchemaFault) (a : Attribute) (first : LocatedToken) (old : Reading) (list : List Attribute)
+pub unique_refused : (e : SyntaxFault) (a : Attribute) (first : LocatedToken) (old : Reading) (list : List Attribute)
     (s : LocatedToken) (here : Reading) → ListsOn Uniques a first old list s here
     → is_mark marks.Comma s.lookahead ≡ false → is_mark marks.Semicolon s.lookahead ≡ false
     → e ≡ faults.Fault (refused s.lookahead) s.place → StopsIn e (Uniques ∷ []) (first ∷ []) old
@@ -191,7 +191,7 @@ named_as _ h = refl
 
 -- the attributes of a uniqueness rule, with the token behind the first
 pub unique_behind : {A : Type 0} (view : A → List Attribute) (a : Attribute) (s : LocatedToken) (old mid : Reading)
-    (r : Result A SchemaFault) (new : Reading) → Shows old s mid
+    (r : Result A SyntaxFault) (new : Reading) → Shows old s mid
     → MatchResult r (λ l. UniqueOn a s mid (view l) new) (λ e. StopsIn e (Uniques ∷ []) (s ∷ []) mid)
     → MatchResult r (λ l. IsFilled (view l) × (ws : List Word) × (with_commas (map words_of_attribute (view l))
     ++ mark marks.Semicolon ∷ [] ≡ words_of_attribute a ++ ws) × Passes (Uniques ∷ []) [] [] ws old new)
@@ -225,20 +225,20 @@ pub named_passes : (n : List ℕ) (s : LocatedToken) (old mid : Reading) (list :
 named_passes n s old mid list new shows colon h = passes_first s old shows
     (passes_other UniqueNamed Uniques s (named_as s.lookahead colon) h.passes)
 
-pub named_stops : (e : SchemaFault) (s : LocatedToken) (old mid : Reading) → Shows old s mid
+pub named_stops : (e : SyntaxFault) (s : LocatedToken) (old mid : Reading) → Shows old s mid
     → is_mark marks.Colon s.lookahead ≡ false → StopsIn e (Uniques ∷ []) (s ∷ []) mid → StopsIn e (UniqueNamed ∷ []) []
     old
 named_stops e s old mid shows colon h = stops_first e (UniqueNamed ∷ []) s shows
     (stops_as e UniqueNamed Uniques s mid (named_as s.lookahead colon) h)
 
 -- behind a label an attribute is to come, and others
-pub labelled_stops : (e : SchemaFault) (s : LocatedToken) (old mid : Reading) → Shows old s mid
+pub labelled_stops : (e : SyntaxFault) (s : LocatedToken) (old mid : Reading) → Shows old s mid
     → is_mark marks.Colon s.lookahead ≡ true → StopsIn e (AnAttribute ∷ []) [] mid → StopsIn e (UniqueNamed ∷ []) [] old
 labelled_stops e s old mid shows colon h = stops_behind e (AnAttribute ∷ []) (Uniques ∷ [])
     (passes_token UniqueNamed (AnAttribute ∷ Uniques ∷ []) (mark marks.Colon) s old mid shows
     (mark_met marks.Colon s.lookahead colon) refl) h
 
-pub labelled_stops_behind : (e : SchemaFault) (a : Attribute) (s : LocatedToken) (old mid next : Reading)
+pub labelled_stops_behind : (e : SyntaxFault) (a : Attribute) (s : LocatedToken) (old mid next : Reading)
     → Shows old s mid → is_mark marks.Colon s.lookahead ≡ true → Passes (AnAttribute ∷ []) [] [] (words_of_attribute a)
     mid next → StopsIn e (Uniques ∷ []) [] next → StopsIn e (UniqueNamed ∷ []) [] old
 labelled_stops_behind e a s old mid next shows colon h g =
@@ -253,7 +253,7 @@ pub optional_passes : (s : LocatedToken) (old mid : Reading) (ws : List Word) (n
 optional_passes s old mid ws new shows is h = passes_join (passes_token OptionalDataType (DataTypeThen 0 semicolon ∷ [])
     (keyword keywords.Optional) s old mid shows (keyword_met keywords.Optional s.lookahead is) refl) h
 
-pub optional_stops : (e : SchemaFault) (s : LocatedToken) (old mid : Reading) → Shows old s mid
+pub optional_stops : (e : SyntaxFault) (s : LocatedToken) (old mid : Reading) → Shows old s mid
     → is_keyword keywords.Optional s.lookahead ≡ true → StopsIn e (DataTypeThen 0 semicolon ∷ []) [] mid
     → StopsIn e (OptionalDataType ∷ []) [] old
 optional_stops e s old mid shows is h = stops_behind e (DataTypeThen 0 semicolon ∷ []) []
@@ -272,7 +272,7 @@ pub data_type_passes : (s : LocatedToken) (old mid : Reading) (ws : List Word) (
 data_type_passes s old mid ws new shows is h = passes_first s old shows
     (passes_other OptionalDataType (DataTypeThen 0 semicolon) s (data_type_as s.lookahead is) h)
 
-pub data_type_stops : (e : SchemaFault) (s : LocatedToken) (old mid : Reading) → Shows old s mid
+pub data_type_stops : (e : SyntaxFault) (s : LocatedToken) (old mid : Reading) → Shows old s mid
     → is_keyword keywords.Optional s.lookahead ≡ false → StopsIn e (DataTypeThen 0 semicolon ∷ []) (s ∷ []) mid
     → StopsIn e (OptionalDataType ∷ []) [] old
 data_type_stops e s old mid shows is h = stops_first e (OptionalDataType ∷ []) s shows
@@ -287,13 +287,13 @@ pub grouped_passes : (k : Keyword) (s : LocatedToken) (old mid : Reading) (u : L
 grouped_passes k s old mid u next n new e shows is h g =
     passes_join (passes_token Inverted (BoundsOrOf 0 ∷ Id ∷ []) (keyword k) s old mid shows is e) (passes_then h g)
 
-pub grouped_stops : (e : SchemaFault) (k : Keyword) (s : LocatedToken) (old mid : Reading) → predict.next depth_limit
+pub grouped_stops : (e : SyntaxFault) (k : Keyword) (s : LocatedToken) (old mid : Reading) → predict.next depth_limit
     Inverted (token (keyword k)) ≡ Ok (BoundsOrOf 0 ∷ Id ∷ []) → Shows old s mid → s.lookahead ≡ token (keyword k)
     → StopsIn e (BoundsOrOf 0 ∷ []) [] mid → StopsIn e (Inverted ∷ []) [] old
 grouped_stops e k s old mid n shows is h = stops_behind e (BoundsOrOf 0 ∷ []) (Id ∷ [])
     (passes_token Inverted (BoundsOrOf 0 ∷ Id ∷ []) (keyword k) s old mid shows is n) h
 
-pub grouped_stops_behind : (e : SchemaFault) (k : Keyword) (s : LocatedToken) (old mid : Reading) (u : List Word)
+pub grouped_stops_behind : (e : SyntaxFault) (k : Keyword) (s : LocatedToken) (old mid : Reading) (u : List Word)
     (next : Reading) → predict.next depth_limit Inverted (token (keyword k)) ≡ Ok (BoundsOrOf 0 ∷ Id ∷ [])
     → Shows old s mid → s.lookahead ≡ token (keyword k)
     → Passes (BoundsOrOf 0 ∷ []) [] [] u mid next → StopsIn e (Id ∷ []) [] next → StopsIn e (Inverted ∷ []) [] old
@@ -308,7 +308,7 @@ holder_unmet (token (mark marks.Dot)) h g = absurd cc
 holder_unmet _ h g = refl
 
 -- neither a semicolon nor a dot stands behind the name that follows FOR
-pub holder_refused : (e : SchemaFault) (s : LocatedToken) (old mid : Reading) → Shows old s mid
+pub holder_refused : (e : SyntaxFault) (s : LocatedToken) (old mid : Reading) → Shows old s mid
     → is_mark marks.Semicolon s.lookahead ≡ false → is_mark marks.Dot s.lookahead ≡ false
     → e ≡ faults.Fault (refused s.lookahead) s.place → StopsIn e (Holder ∷ []) [] old
 holder_refused e s old mid shows h g is = stops_refused e Holder s old mid shows (holder_unmet s.lookahead h g) is
@@ -321,13 +321,13 @@ pub holder_passes : (s : LocatedToken) (old mid : Reading) (n : List ℕ) (next 
 holder_passes s old mid n next new shows is h g = passes_join (passes_token Holder (Id ∷ Just marks.Semicolon ∷ [])
     (mark marks.Dot) s old mid shows (mark_met marks.Dot s.lookahead is) refl) (passes_then h g)
 
-pub holder_stops : (e : SchemaFault) (s : LocatedToken) (old mid : Reading) → Shows old s mid
+pub holder_stops : (e : SyntaxFault) (s : LocatedToken) (old mid : Reading) → Shows old s mid
     → is_mark marks.Dot s.lookahead ≡ true → StopsIn e (Id ∷ []) [] mid → StopsIn e (Holder ∷ []) [] old
 holder_stops e s old mid shows is g = stops_behind e (Id ∷ []) (Just marks.Semicolon ∷ [])
     (passes_token Holder (Id ∷ Just marks.Semicolon ∷ []) (mark marks.Dot) s old mid shows
     (mark_met marks.Dot s.lookahead is) refl) g
 
-pub holder_stops_behind : (e : SchemaFault) (s : LocatedToken) (old mid : Reading) (n : List ℕ) (next : Reading)
+pub holder_stops_behind : (e : SyntaxFault) (s : LocatedToken) (old mid : Reading) (n : List ℕ) (next : Reading)
     → Shows old s mid → is_mark marks.Dot s.lookahead ≡ true → Passes (Id ∷ []) [] [] (name n ∷ []) mid next
     → StopsIn e (Just marks.Semicolon ∷ []) [] next → StopsIn e (Holder ∷ []) [] old
 holder_stops_behind e s old mid n next shows is h g = stops_behind e (Just marks.Semicolon ∷ []) []

@@ -3,7 +3,7 @@ use Rattle.std.proofs.Common.{◌≡◌, ◌<◌, true, false, List, [], ◌∷�
 use Rattle.std.proofs.lemmas.Bool.{false≢true}
 use Rattle.predictive.specs.Tables.{lookaheads}
 use Rattle.express_lexis.specs.declared.marks.Mark.TheVariants as marks
-use Rattle.express_lexis.specs.declared.literal.Word as literal
+use Rattle.step_literals.specs.declared.literal.Word as literal
 use Rattle.express_lexis.specs.Reading.{Reading, left}
 use Rattle.express_trees.specs.declared.keyword.Keyword.{Keyword}
 use Rattle.express_trees.specs.declared.keyword.Keyword.TheVariants as keywords
@@ -12,8 +12,8 @@ use Rattle.express_trees.specs.declared.lexeme.Lexeme.TheVariants as lexemes
 use Rattle.express_trees.specs.Words.{Word, keyword, name, mark, word_of}
 use Rattle.express_trees.specs.Views.{capitals}
 use Rattle.express_trees.specs.Grammar.{depth_limit}
-use Rattle.express_schemas.specs.declared.fault.SchemaFault.{SchemaFault}
-use Rattle.express_schemas.specs.declared.fault.SchemaFault.TheVariants as faults
+use Rattle.express_schemas.specs.declared.fault.SyntaxFault.{SyntaxFault}
+use Rattle.express_schemas.specs.declared.fault.SyntaxFault.TheVariants as faults
 use Rattle.express_entities.specs.declared.clauses.Boundary.{Boundary}
 use Rattle.express_entities.specs.declared.clauses.Boundary.TheVariants as boundaries
 use Rattle.express_entities.specs.declared.clauses.ClauseStart.{ClauseStart}
@@ -49,7 +49,7 @@ self_passes c s old new h e = passes_token (Body c) (redeclared_symbols ++ (behi
     (keyword keywords.SelfWord) s old new h (keyword_met keywords.SelfWord s.lookahead e) refl
 
 -- .. that is none
-pub self_stops : (e : SchemaFault) (c : Clause) (s : LocatedToken) (old new : Reading) → Shows old s new
+pub self_stops : (e : SyntaxFault) (c : Clause) (s : LocatedToken) (old new : Reading) → Shows old s new
     → is_keyword keywords.SelfWord s.lookahead ≡ true → StopsIn e redeclared_symbols [] new → StopsIn e (Body c ∷ []) []
     old
 self_stops e c s old new h k g = stops_behind e redeclared_symbols (behind_attribute c ++ Body c ∷ [])
@@ -88,7 +88,7 @@ boundary_begins c k b s old new h e m = (
 )
 
 -- one that doesn't
-pub keyword_stops : (e : SchemaFault) (c : Clause) (k : Keyword) (s : LocatedToken) (old new : Reading)
+pub keyword_stops : (e : SyntaxFault) (c : Clause) (k : Keyword) (s : LocatedToken) (old new : Reading)
     → Shows old s new → s.lookahead ≡ token (keyword k) → is_keyword keywords.SelfWord s.lookahead ≡ false
     → ((k ≡ keywords.SelfWord → ⊥) → next depth_limit (Body c) (token (keyword k)) ≡ Err (refused (token (keyword k))))
     → e ≡ faults.Fault (refused s.lookahead) s.place → StopsIn e (Body c ∷ []) [] old
@@ -166,13 +166,13 @@ stand_push {M} {A} view c Fit write ms ns m a us old here mid new e b h p g =
     (words_of_attribute (attribute_of a)) old here mid new h q g)
 
 -- what stands next stops the clause
-pub stand_stops_front : {A : Type 0} (e : SchemaFault) (c : Clause) (Fit : A → Type 0) (write : A → List Word)
+pub stand_stops_front : {A : Type 0} (e : SyntaxFault) (c : Clause) (Fit : A → Type 0) (write : A → List Word)
     (xs : List A) (old here : Reading) → Stand c Fit write xs old here → StopsIn e (Body c ∷ []) [] here
     → StopsIn e (Body c ∷ []) [] old
 stand_stops_front e c Fit write xs old here h g = stops_behind e (Body c ∷ []) [] h.passes g
 
 -- .. or what is behind its first attribute does
-pub stand_stops_item : {A : Type 0} (e : SchemaFault) (c : Clause) (Fit : A → Type 0) (write : A → List Word)
+pub stand_stops_item : {A : Type 0} (e : SyntaxFault) (c : Clause) (Fit : A → Type 0) (write : A → List Word)
     (xs : List A) (a : code.Attribute) (us : List Symbol) (old here mid : Reading)
     → us ≡ behind_first c (attribute_of a)
     → Stand c Fit write xs old here → Begins c (starts.Attribute a) here mid → StopsIn e us [] mid
@@ -194,7 +194,7 @@ not_where boundaries.EndEntity e h = refl
 not_where _ e h = absurd (false≢true e)
 
 -- what stops behind what passes stops it all
-pub stops_end : {ys zs : List Symbol} {ws : List Word} {old mid : Reading} (e : SchemaFault)
+pub stops_end : {ys zs : List Symbol} {ws : List Word} {old mid : Reading} (e : SyntaxFault)
     → Passes ys zs [] ws old mid → StopsIn e zs [] mid → StopsIn e ys [] old
 stops_end {ys} {zs} {ws} {old} {mid} e h g = let P : List Symbol → Type 0 = λ us. Passes ys us [] ws old mid in
     stops_behind e zs [] (subst P (sym (append-nil zs)) h) g

@@ -5,7 +5,7 @@ use Rattle.express_lexis.specs.Reading.{Reading}
 use Rattle.express_trees.specs.declared.keyword.Keyword.TheVariants as keywords
 use Rattle.express_trees.specs.Words.{Word, keyword, name, mark}
 use Rattle.express_trees.specs.Grammar.{depth_limit}
-use Rattle.express_schemas.specs.declared.fault.SchemaFault.{SchemaFault}
+use Rattle.express_schemas.specs.declared.fault.SyntaxFault.{SyntaxFault}
 use Rattle.express_entities.specs.declared.entities.Head as code
 use Rattle.express_entities.specs.declared.clauses.Clauses.{Clauses}
 use Rattle.express_schemas.specs.Schemas.{Supertype, Entity}
@@ -51,13 +51,13 @@ sub_names : (names : List (List ℕ)) (s : LocatedToken) (here a b : Reading) �
 sub_names names s here a b e h g = passes_join (sub_of s here a e h) (passes_more (Just marks.Semicolon ∷ []) g)
 
 -- what stops the names
-pub sub_err_names : (f : SchemaFault) (s : LocatedToken) (here a : Reading) → is_keyword keywords.Subtype
+pub sub_err_names : (f : SyntaxFault) (s : LocatedToken) (here a : Reading) → is_keyword keywords.Subtype
     s.lookahead ≡ true → Passes (Say keywords.Of ∷ []) [] [] (keyword keywords.Of ∷ []) here a → StopsIn f names_symbols
     [] a → StopsIn f (Sub ∷ []) (s ∷ []) here
 sub_err_names f s here a e h g = stops_behind f names_symbols (Just marks.Semicolon ∷ []) (sub_of s here a e h) g
 
 -- .. or the semicolon behind them
-pub sub_err_semicolon : (f : SchemaFault) (names : List (List ℕ)) (s : LocatedToken) (here a b : Reading)
+pub sub_err_semicolon : (f : SyntaxFault) (names : List (List ℕ)) (s : LocatedToken) (here a b : Reading)
     → is_keyword keywords.Subtype s.lookahead ≡ true → Passes (Say keywords.Of ∷ []) [] [] (keyword keywords.Of ∷ [])
     here a
     → Passes names_symbols [] [] (words_of_names names) a b → StopsIn f (Just marks.Semicolon ∷ []) [] b
@@ -74,7 +74,7 @@ pub sub_done : (names : List (List ℕ)) (s : LocatedToken) (here a b c : Readin
 sub_done names s here a b c e h g k = passes_join (sub_names names s here a b e h g) k
 
 -- no SUPERTYPE
-pub super_err_unsaid : (f : SchemaFault) (s : LocatedToken) (old : Reading) → is_keyword keywords.Supertype
+pub super_err_unsaid : (f : SyntaxFault) (s : LocatedToken) (old : Reading) → is_keyword keywords.Supertype
     s.lookahead ≡ false → StopsIn f (Sub ∷ []) (s ∷ []) old → StopsIn f (Super ∷ []) (s ∷ []) old
 super_err_unsaid f s old e h = stops_as f Super Sub s old (super_next s.lookahead e) h
 
@@ -84,7 +84,7 @@ super_begins s here e = passes_taken Super (SuperOf ∷ []) (keyword keywords.Su
     (keyword_met keywords.Supertype s.lookahead e) refl
 
 -- what stops behind SUPERTYPE
-pub super_err_second : (f : SchemaFault) (s : LocatedToken) (here : Reading) → is_keyword keywords.Supertype
+pub super_err_second : (f : SyntaxFault) (s : LocatedToken) (here : Reading) → is_keyword keywords.Supertype
     s.lookahead ≡ true → StopsIn f (SuperOf ∷ []) [] here → StopsIn f (Super ∷ []) (s ∷ []) here
 super_err_second f s here e g = stops_behind f (SuperOf ∷ []) [] (super_begins s here e) g
 
@@ -97,7 +97,7 @@ super_bare s t here e shows k h = passes_join (super_begins s here e)
     (passes_first t here shows (passes_other SuperOf Sub t (super_of_next t.lookahead k) h))
 
 -- .. behind SUPERTYPE without an expression
-pub super_err_bare : {a : Reading} (f : SchemaFault) (s t : LocatedToken) (here : Reading)
+pub super_err_bare : {a : Reading} (f : SyntaxFault) (s t : LocatedToken) (here : Reading)
     → is_keyword keywords.Supertype s.lookahead ≡ true → Shows here t a → is_keyword keywords.Of t.lookahead ≡ false
     → StopsIn f (Sub ∷ []) (t ∷ []) a
     → StopsIn f (Super ∷ []) (s ∷ []) here
@@ -131,14 +131,14 @@ super_said x s t here e shows k h g = passes_as (words_of_supertype x) (sym g.1)
     (passes_join (super_open s t here e shows k h) (passes_more (Sub ∷ []) g.2))
 
 -- .. behind SUPERTYPE OF
-pub super_err_open : {a : Reading} (f : SchemaFault) (s t : LocatedToken) (here : Reading)
+pub super_err_open : {a : Reading} (f : SyntaxFault) (s t : LocatedToken) (here : Reading)
     → is_keyword keywords.Supertype s.lookahead ≡ true → Shows here t a → is_keyword keywords.Of t.lookahead ≡ true
     → StopsIn f (Just marks.Open ∷ []) [] a → StopsIn f (Super ∷ []) (s ∷ []) here
 super_err_open f s t here e shows k g = stops_behind f (Just marks.Open ∷ []) (Running in_parentheses 1 [] false ∷ Sub
     ∷ []) (super_of s t here e shows k) g
 
 -- .. in the expression
-pub super_err_expression : {a b : Reading} (f : SchemaFault) (s t : LocatedToken) (here : Reading)
+pub super_err_expression : {a b : Reading} (f : SyntaxFault) (s t : LocatedToken) (here : Reading)
     → is_keyword keywords.Supertype s.lookahead ≡ true → Shows here t a → is_keyword keywords.Of t.lookahead ≡ true
     → Passes (Just marks.Open ∷ []) [] [] (mark marks.Open ∷ []) a b
     → StopsIn f (Running in_parentheses 1 [] false ∷ []) [] b → StopsIn f (Super ∷ []) (s ∷ []) here
@@ -146,7 +146,7 @@ super_err_expression f s t here e shows k h g = stops_behind f (Running in_paren
     (super_open s t here e shows k h) g
 
 -- .. behind it
-pub super_err_behind : {a b c : Reading} (f : SchemaFault) (x : Supertype) (s t : LocatedToken) (here : Reading)
+pub super_err_behind : {a b c : Reading} (f : SyntaxFault) (x : Supertype) (s t : LocatedToken) (here : Reading)
     → is_keyword keywords.Supertype s.lookahead ≡ true → Shows here t a → is_keyword keywords.Of t.lookahead ≡ true
     → Passes (Just marks.Open ∷ []) [] [] (mark marks.Open ∷ []) a b
     → ((ws : List Word) × (words_of_supertype x ≡ keyword keywords.Supertype ∷ keyword keywords.Of ∷ mark marks.Open
@@ -156,7 +156,7 @@ super_err_behind f x s t here e shows k h g stop = stops_behind f (Sub ∷ []) [
     stop
 
 -- .. from a token on that is taken
-pub super_err_sub : {a b c d : Reading} (f : SchemaFault) (x : Supertype) (s t u : LocatedToken) (here : Reading)
+pub super_err_sub : {a b c d : Reading} (f : SyntaxFault) (x : Supertype) (s t u : LocatedToken) (here : Reading)
     → is_keyword keywords.Supertype s.lookahead ≡ true → Shows here t a → is_keyword keywords.Of t.lookahead ≡ true
     → Passes (Just marks.Open ∷ []) [] [] (mark marks.Open ∷ []) a b
     → ((ws : List Word) × (words_of_supertype x ≡ keyword keywords.Supertype ∷ keyword keywords.Of ∷ mark marks.Open
@@ -195,7 +195,7 @@ head_plain h s old shows e g = (
 )
 
 -- .. that is none
-pub head_err_plain : {a : Reading} (f : SchemaFault) (s : LocatedToken) (old : Reading) → Shows old s a
+pub head_err_plain : {a : Reading} (f : SyntaxFault) (s : LocatedToken) (old : Reading) → Shows old s a
     → is_keyword keywords.Abstract s.lookahead ≡ false → StopsIn f (Super ∷ []) (s ∷ []) a → StopsIn f (Head ∷ []) []
     old
 head_err_plain {a} f s old shows e h = stops_first f (Head ∷ []) s shows
@@ -207,7 +207,7 @@ head_begins {a} s old shows e = passes_token Head (Super ∷ []) (keyword keywor
     (keyword_met keywords.Abstract s.lookahead e) refl
 
 -- what stops behind ABSTRACT
-pub head_err_second : {a : Reading} (f : SchemaFault) (s : LocatedToken) (old : Reading) → Shows old s a
+pub head_err_second : {a : Reading} (f : SyntaxFault) (s : LocatedToken) (old : Reading) → Shows old s a
     → is_keyword keywords.Abstract s.lookahead ≡ true → StopsIn f (Super ∷ []) [] a → StopsIn f (Head ∷ []) [] old
 head_err_second f s old shows e g = stops_behind f (Super ∷ []) [] (head_begins s old shows e) g
 
@@ -220,7 +220,7 @@ head_abstract {a} h s t old shows e more g =
     (g.1, rw g.0 (passes_join (head_begins s old shows e) (passes_first t a more g.2)))
 
 -- .. from a token on that is taken
-pub head_err_abstract : {a b : Reading} (f : SchemaFault) (s t : LocatedToken) (old : Reading) → Shows old s a
+pub head_err_abstract : {a b : Reading} (f : SyntaxFault) (s t : LocatedToken) (old : Reading) → Shows old s a
     → is_keyword keywords.Abstract s.lookahead ≡ true → Shows a t b → StopsIn f (Super ∷ []) (t ∷ []) b
     → StopsIn f (Head ∷ []) [] old
 head_err_abstract f s t old shows e more g = head_err_second f s old shows e (stops_first f (Super ∷ []) t more g)
@@ -230,12 +230,12 @@ abbrev entity_symbols : List Symbol
 entity_symbols = Id ∷ Head ∷ Body explicits ∷ []
 
 -- what stops the head
-pub entity_err_head : {u : List Word} {old a : Reading} (f : SchemaFault) → Passes (Id ∷ []) [] [] u old a
+pub entity_err_head : {u : List Word} {old a : Reading} (f : SyntaxFault) → Passes (Id ∷ []) [] [] u old a
     → StopsIn f (Head ∷ []) [] a → StopsIn f entity_symbols [] old
 entity_err_head f h g = stops_behind f (Head ∷ []) (Body explicits ∷ []) (passes_more (Head ∷ Body explicits ∷ []) h) g
 
 -- .. or the clauses
-pub entity_err_clauses : {u v : List Word} {old a b : Reading} (f : SchemaFault) → Passes (Id ∷ []) [] [] u old a
+pub entity_err_clauses : {u v : List Word} {old a b : Reading} (f : SyntaxFault) → Passes (Id ∷ []) [] [] u old a
     → Passes (Head ∷ []) [] [] v a b → StopsIn f (Body explicits ∷ []) [] b → StopsIn f entity_symbols [] old
 entity_err_clauses f h g stop = stops_behind f (Body explicits ∷ []) []
     (passes_then h (passes_more (Body explicits ∷ []) g)) stop

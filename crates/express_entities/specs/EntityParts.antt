@@ -1,5 +1,5 @@
 -- Parts of an entity as they are read: its head, and its clauses one behind another.
-use Rattle.std.specs.Prelude.{◌≡◌, Bool, true, List, [], ◌∷◌, ◌++◌, map, Option, None, Some}
+use Rattle.std.specs.Prelude.{◌≡◌, ℕ, Bool, true, List, [], ◌∷◌, ◌++◌, map, Option, None, Some}
 use Rattle.express_lexis.specs.declared.marks.Mark.TheVariants as marks
 use Rattle.express_lexis.specs.Reading.{Reading}
 use Rattle.express_trees.specs.declared.keyword.Keyword.{Keyword}
@@ -18,6 +18,7 @@ use Rattle.express_schemas.specs.Schemas.{Attribute, own, redeclared}
 use Rattle.express_schemas.specs.Views.{if_some, names_of, supertype_of, attribute_of, explicit_of, derived_of, inverse_of, unique_of, rules_of}
 use Rattle.express_schemas.specs.Written.{joined, said, words_of_attribute, words_of_clause, words_of_supertype, words_of_subtype, words_of_explicit, words_of_derived, words_of_inverse, words_of_unique, words_of_rule}
 use Rattle.express_schemas.specs.Profile.{Every, Maybe, IsFilled, FitsSupertype, FitsExplicit, FitsDerived, FitsInverse, FitsUnique, FitsRules}
+use Rattle.express_schemas.specs.Sources.{IsExplicitOf, IsDerivedOf, IsInverseOf, IsRuleOf}
 use Rattle.express_schemas.specs.Predict.{Clause, explicits, derived, inverses, uniques, follows, behind_name, behind_attribute, Symbol, Just, Body, Rules}
 use Rattle.express_schemas.specs.Steps.{Passes}
 
@@ -121,3 +122,11 @@ words_of_clauses x =
     ++ words_of_clause keywords.Unique words_of_unique (if_some (λ us. map unique_of us.items) x.uniques)
     ++ words_of_clause keywords.Where words_of_rule (if_some (λ rs. rules_of rs.items) x.rules)
     ++ keyword keywords.EndEntity ∷ mark marks.Semicolon ∷ []
+
+-- the passages that clauses keep are of this text
+abbrev pub AreClausesOf : List ℕ → Clauses → Type 0
+AreClausesOf text x =
+    Every (IsExplicitOf text) x.explicits.items
+    × Maybe (λ list. Every (IsDerivedOf text) list.items) x.derived
+    × Maybe (λ list. Every (IsInverseOf text) list.items) x.inverses
+    × Maybe (λ rs. Every (IsRuleOf text) rs.items) x.rules

@@ -4,7 +4,7 @@ use Rattle.express_lexis.specs.declared.marks.Mark.TheVariants as marks
 use Rattle.express_lexis.specs.Reading.{Reading}
 use Rattle.express_trees.specs.Words.{Word, mark}
 use Rattle.express_trees.specs.Grammar.{depth_limit}
-use Rattle.express_schemas.specs.declared.fault.SchemaFault.{SchemaFault}
+use Rattle.express_schemas.specs.declared.fault.SyntaxFault.{SyntaxFault}
 use Rattle.express_schemas.specs.Schemas.{Attribute}
 use Rattle.express_schemas.specs.Written.{with_commas, words_of_attribute}
 use Rattle.express_schemas.specs.Profile.{IsFilled}
@@ -21,7 +21,7 @@ pub record Continues (y : Symbol) (first : LocatedToken) (old : Reading) (ws : L
     (new : Reading) : Type 0 where
   pub passes : (zs : List Symbol) (us : List Word) (end : Reading) → Passes (y ∷ []) zs (last ∷ []) us new end
       → Passes (y ∷ []) zs (first ∷ []) (ws ++ us) old end
-  pub stops : (e : SchemaFault) → StopsIn e (y ∷ []) (last ∷ []) new → StopsIn e (y ∷ []) (first ∷ []) old
+  pub stops : (e : SyntaxFault) → StopsIn e (y ∷ []) (last ∷ []) new → StopsIn e (y ∷ []) (first ∷ []) old
 
 -- the words behind the first attribute
 pub record ListsOn (y : Symbol) (a : Attribute) (first : LocatedToken) (old : Reading) (list : List Attribute)

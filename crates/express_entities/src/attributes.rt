@@ -1,6 +1,6 @@
 //! Attributes and uniqueness rules (ISO 10303-11, 9.2.1 and 9.2.2.1).
 
-ghost use Rattle.std.specs.Prelude.{◌≡◌, false, [], ◌∷◌, ◌++◌, List, map, MatchResult};
+ghost use Rattle.std.specs.Prelude.{◌≡◌, false, [], ◌∷◌, ◌++◌, List, map, IfOk, MatchResult};
 ghost use Rattle.express_lexis.specs.declared.marks.Mark.TheVariants as marks;
 ghost use Rattle.express_trees.specs.declared.keyword.Keyword.TheVariants as keywords;
 ghost use Rattle.express_trees.specs.Words;
@@ -39,6 +39,13 @@ ghost use Rattle.express_schemas.specs.Profile.{
   FitsInverse,
   FitsUnique,
 };
+ghost use Rattle.express_schemas.specs.Sources.{
+  IsDataTypeOf,
+  IsExplicitOf,
+  IsDerivedOf,
+  IsCollectionOf,
+  IsInverseOf,
+};
 ghost use Rattle.express_schemas.specs.Predict.{
   Symbol,
   derived,
@@ -57,20 +64,20 @@ ghost use Rattle.express_schemas.specs.Predict.{
 ghost use Rattle.express_schemas.specs.Steps.{Passes, Parses, ParsesWhere, ParsesBehind, StopsIn};
 ghost use Rattle.express_entities.specs.Lists.{IsListed, ListsOn, UniqueOn};
 
-use express_lexis::literal::Word;
 use express_lexis::marks::Mark;
 use express_parts::bounds::some_bounds;
 use express_parts::data_types::{Ending, data_type, data_type_from};
 use express_parts::rules::body;
 use express_runs::reader::Reader;
 use express_runs::tokens::{Item, is_keyword, is_mark, refuse};
-use express_schemas::fault::SchemaFault;
+use express_schemas::fault::SyntaxFault;
 use express_schemas::tree::{Attribute, Collection, DataType, Derived, Explicit, Inverse, Unique};
 use express_trees::keyword::Keyword;
 use express_trees::lexeme::Lexeme;
+use step_literals::literal::Word;
 
 /// Reads the attribute that is redeclared, behind SELF.
-pub fn redeclared<'a>(reader: &mut Reader<'a>) -> Result<Attribute<'a>, SchemaFault>
+pub fn redeclared<'a>(reader: &mut Reader<'a>) -> Result<Attribute<'a>, SyntaxFault>
     ensures { MatchResult result
         (λ a. (ws : List Words.Word)
         × (words_of_attribute (attribute_of a) ≡ keyword keywords.SelfWord ∷ ws)
@@ -85,7 +92,7 @@ pub fn redeclared<'a>(reader: &mut Reader<'a>) -> Result<Attribute<'a>, SchemaFa
 }
 
 /// Reads an attribute.
-pub fn attribute<'a>(reader: &mut Reader<'a>) -> Result<Attribute<'a>, SchemaFault>
+pub fn attribute<'a>(reader: &mut Reader<'a>) -> Result<Attribute<'a>, SyntaxFault>
     ensures { Parses result (AnAttribute ∷ [])
         (λ a. words_of_attribute (attribute_of a)) reader.old reader.new }
 {
@@ -105,7 +112,7 @@ fn attributes<'a>(
     reader: &mut Reader<'a>,
     first: Attribute<'a>,
     next: Item<'a>,
-) -> Result<(Vec<Attribute<'a>>, Item<'a>), SchemaFault>
+) -> Result<(Vec<Attribute<'a>>, Item<'a>), SyntaxFault>
     ensures { (y : Symbol) → IsListed y → MatchResult result
         (λ p. ListsOn y (attribute_of first.entry) (located_of next.entry) reader.old
         (map attribute_of p.0.items) (located_of p.1) reader.new
@@ -127,11 +134,12 @@ fn attributes<'a>(
 }
 
 /// Reads a data type, and whether OPTIONAL stands before it.
-fn optional_data_type<'a>(reader: &mut Reader<'a>) -> Result<(bool, DataType<'a>), SchemaFault>
-    ensures { ParsesWhere result (OptionalDataType ∷ [])
+fn optional_data_type<'a>(reader: &mut Reader<'a>) -> Result<(bool, DataType<'a>), SyntaxFault>
+    ensures read { ParsesWhere result (OptionalDataType ∷ [])
         (λ p. said keywords.Optional p.0 ++ words_of_data_type (data_type_of p.1)
         ++ mark marks.Semicolon ∷ [])
         (λ p. FitsDataType depth_limit 0 (data_type_of p.1)) reader.old reader.new }
+    ensures text { IfOk result (λ p. IsDataTypeOf reader.old.text p.1) }
 {
     let item = reader.take()?;
     if is_keyword(item, Keyword::Optional) {
@@ -146,10 +154,11 @@ fn optional_data_type<'a>(reader: &mut Reader<'a>) -> Result<(bool, DataType<'a>
 pub fn explicit<'a>(
     reader: &mut Reader<'a>,
     first: Attribute<'a>,
-) -> Result<Explicit<'a>, SchemaFault>
-    ensures { ParsesBehind (words_of_attribute (attribute_of first.entry)) result (Explicits ∷ [])
+) -> Result<Explicit<'a>, SyntaxFault>
+    ensures read { ParsesBehind (words_of_attribute (attribute_of first.entry)) result (Explicits ∷ [])
         (λ x. words_of_explicit (explicit_of x))
         (λ x. FitsExplicit depth_limit (explicit_of x)) reader.old reader.new }
+    ensures text { IfOk result (λ x. IsExplicitOf reader.old.text x) }
 {
     let next = reader.take()?;
     let (attributes, end) = attributes(reader, first, next)?;
@@ -168,11 +177,12 @@ pub fn explicit<'a>(
 pub fn derived<'a>(
     reader: &mut Reader<'a>,
     attribute: Attribute<'a>,
-) -> Result<Derived<'a>, SchemaFault>
-    ensures { ParsesBehind (words_of_attribute (attribute_of attribute.entry)) result
+) -> Result<Derived<'a>, SyntaxFault>
+    ensures read { ParsesBehind (words_of_attribute (attribute_of attribute.entry)) result
         (behind_attribute derived)
         (λ x. words_of_derived (derived_of x))
         (λ x. FitsDerived depth_limit (derived_of x)) reader.old reader.new }
+    ensures text { IfOk result (λ x. IsDerivedOf reader.old.text x) }
 {
     reader.expect(Mark::Colon)?;
     let data_type = data_type(reader, 0, Ending::Assignment)?;
@@ -185,10 +195,11 @@ pub fn derived<'a>(
 }
 
 /// Reads the collection of an inverse attribute, and the entity.
-fn collection<'a>(reader: &mut Reader<'a>) -> Result<(Collection<'a>, Word<'a>), SchemaFault>
-    ensures { ParsesWhere result (Inverted ∷ [])
+fn collection<'a>(reader: &mut Reader<'a>) -> Result<(Collection<'a>, Word<'a>), SyntaxFault>
+    ensures read { ParsesWhere result (Inverted ∷ [])
         (λ p. words_of_collection (collection_of p.0) ++ name (capitals p.1) ∷ [])
         (λ p. FitsCollection depth_limit (collection_of p.0)) reader.old reader.new }
+    ensures text { IfOk result (λ p. IsCollectionOf reader.old.text p.0) }
 {
     let item = reader.take()?;
     if is_keyword(item, Keyword::Set) {
@@ -212,7 +223,7 @@ fn collection<'a>(reader: &mut Reader<'a>) -> Result<(Collection<'a>, Word<'a>),
 fn holder<'a>(
     reader: &mut Reader<'a>,
     first: Word<'a>,
-) -> Result<(Option<Word<'a>>, Word<'a>), SchemaFault>
+) -> Result<(Option<Word<'a>>, Word<'a>), SyntaxFault>
     ensures { MatchResult result
         (λ p. (ws : List Words.Word)
         × (words_of_holder (if_some capitals p.0)
@@ -236,11 +247,12 @@ fn holder<'a>(
 pub fn inverse<'a>(
     reader: &mut Reader<'a>,
     attribute: Attribute<'a>,
-) -> Result<Inverse<'a>, SchemaFault>
-    ensures { ParsesBehind (words_of_attribute (attribute_of attribute.entry)) result
+) -> Result<Inverse<'a>, SyntaxFault>
+    ensures read { ParsesBehind (words_of_attribute (attribute_of attribute.entry)) result
         (behind_attribute inverses)
         (λ x. words_of_inverse (inverse_of x))
         (λ x. FitsInverse depth_limit (inverse_of x)) reader.old reader.new }
+    ensures text { IfOk result (λ x. IsInverseOf reader.old.text x) }
 {
     reader.expect(Mark::Colon)?;
     let (collection, entity) = collection(reader)?;
@@ -262,7 +274,7 @@ fn attributes_of_unique<'a>(
     reader: &mut Reader<'a>,
     first: Attribute<'a>,
     next: Item<'a>,
-) -> Result<Vec<Attribute<'a>>, SchemaFault>
+) -> Result<Vec<Attribute<'a>>, SyntaxFault>
     ensures { MatchResult result
         (λ l. UniqueOn (attribute_of first.entry) (located_of next.entry) reader.old
         (map attribute_of l.items) reader.new)
@@ -279,7 +291,7 @@ fn attributes_of_unique<'a>(
 fn unique_attributes<'a>(
     reader: &mut Reader<'a>,
     first: Attribute<'a>,
-) -> Result<Vec<Attribute<'a>>, SchemaFault>
+) -> Result<Vec<Attribute<'a>>, SyntaxFault>
     ensures { ParsesBehind (words_of_attribute (attribute_of first.entry)) result (Uniques ∷ [])
         (λ l. with_commas (map words_of_attribute (map attribute_of l.items))
         ++ mark marks.Semicolon ∷ [])
@@ -290,7 +302,7 @@ fn unique_attributes<'a>(
 }
 
 /// Reads a uniqueness rule without a label behind its first attribute.
-pub fn unique<'a>(reader: &mut Reader<'a>, first: Attribute<'a>) -> Result<Unique<'a>, SchemaFault>
+pub fn unique<'a>(reader: &mut Reader<'a>, first: Attribute<'a>) -> Result<Unique<'a>, SyntaxFault>
     ensures { ParsesBehind (words_of_attribute (attribute_of first.entry)) result (Uniques ∷ [])
         (λ x. words_of_unique (unique_of x))
         (λ x. FitsUnique (unique_of x)) reader.old reader.new }
@@ -303,7 +315,7 @@ pub fn unique<'a>(reader: &mut Reader<'a>, first: Attribute<'a>) -> Result<Uniqu
 }
 
 /// Reads a uniqueness rule behind the name with which it begins: its label, or its first attribute.
-pub fn unique_named<'a>(reader: &mut Reader<'a>, first: Word<'a>) -> Result<Unique<'a>, SchemaFault>
+pub fn unique_named<'a>(reader: &mut Reader<'a>, first: Word<'a>) -> Result<Unique<'a>, SyntaxFault>
     ensures { ParsesBehind (name (capitals first.entry) ∷ []) result (UniqueNamed ∷ [])
         (λ x. words_of_unique (unique_of x))
         (λ x. FitsUnique (unique_of x)) reader.old reader.new }

@@ -8,6 +8,7 @@ ghost use Rattle.std.specs.Prelude.{
   List,
   map,
   true,
+  IfOk,
   MatchOption,
   MatchResult,
   Err,
@@ -36,6 +37,7 @@ ghost use Rattle.express_schemas.specs.Written.{
   words_of_rule,
 };
 ghost use Rattle.express_schemas.specs.Profile.{
+  Every,
   Maybe,
   FitsExplicit,
   FitsDerived,
@@ -43,6 +45,7 @@ ghost use Rattle.express_schemas.specs.Profile.{
   FitsUnique,
   FitsRules,
 };
+ghost use Rattle.express_schemas.specs.Sources.{IsExplicitOf, IsDerivedOf, IsInverseOf, IsRuleOf};
 ghost use Rattle.express_schemas.specs.Predict;
 ghost use Rattle.express_schemas.specs.Predict.{explicits, derived, inverses, uniques, refused};
 ghost use Rattle.express_entities.specs.EntityParts;
@@ -55,6 +58,7 @@ ghost use Rattle.express_entities.specs.EntityParts.{
   Begins,
   Ended,
   Clausal,
+  AreClausesOf,
   FitsClauses,
   words_of_clauses,
 };
@@ -65,7 +69,7 @@ use express_lexis::marks::Mark;
 use express_parts::rules::rules;
 use express_runs::reader::Reader;
 use express_runs::tokens::{is_keyword, refuse};
-use express_schemas::fault::SchemaFault;
+use express_schemas::fault::SyntaxFault;
 use express_schemas::tree::{Attribute, Derived, Explicit, Inverse, Rule, Unique};
 use express_trees::keyword::Keyword;
 use express_trees::lexeme::Lexeme;
@@ -148,7 +152,7 @@ fn boundary_behind(clause: Clause, found: Keyword) -> Option<Boundary>
 }
 
 /// Reads the first attribute of what stands next in a clause, or the keyword that ends it.
-fn take_start<'a>(reader: &mut Reader<'a>, clause: Clause) -> Result<ClauseStart<'a>, SchemaFault>
+fn take_start<'a>(reader: &mut Reader<'a>, clause: Clause) -> Result<ClauseStart<'a>, SyntaxFault>
     ensures { MatchResult result
         (λ f. Begins (clause_of clause) f reader.old reader.new)
         (λ e. StopsIn e (Predict.Body (clause_of clause) ∷ []) [] reader.old) }
@@ -170,11 +174,12 @@ fn take_start<'a>(reader: &mut Reader<'a>, clause: Clause) -> Result<ClauseStart
 /// Reads explicit attributes up to the keyword behind them.
 fn explicit_clause<'a>(
     reader: &mut Reader<'a>,
-) -> Result<(Vec<Explicit<'a>>, Boundary), SchemaFault>
-    ensures { MatchResult result
+) -> Result<(Vec<Explicit<'a>>, Boundary), SyntaxFault>
+    ensures read { MatchResult result
         (λ p. Ended explicits (FitsExplicit depth_limit) words_of_explicit
         (map explicit_of p.0.items) p.1 reader.old reader.new)
         (λ e. StopsIn e (Predict.Body explicits ∷ []) [] reader.old) }
+    ensures text { IfOk result (λ p. Every (IsExplicitOf reader.old.text) p.0.items) }
 {
     let mut list = Vec::new(reader.alloc());
     loop {
@@ -192,11 +197,12 @@ fn explicit_clause<'a>(
 }
 
 /// Reads derived attributes up to the keyword behind them.
-fn derived_clause<'a>(reader: &mut Reader<'a>) -> Result<(Vec<Derived<'a>>, Boundary), SchemaFault>
-    ensures { MatchResult result
+fn derived_clause<'a>(reader: &mut Reader<'a>) -> Result<(Vec<Derived<'a>>, Boundary), SyntaxFault>
+    ensures read { MatchResult result
         (λ p. Ended derived (FitsDerived depth_limit) words_of_derived (map derived_of p.0.items)
         p.1 reader.old reader.new)
         (λ e. StopsIn e (Predict.Body derived ∷ []) [] reader.old) }
+    ensures text { IfOk result (λ p. Every (IsDerivedOf reader.old.text) p.0.items) }
 {
     let mut list = Vec::new(reader.alloc());
     loop {
@@ -214,11 +220,12 @@ fn derived_clause<'a>(reader: &mut Reader<'a>) -> Result<(Vec<Derived<'a>>, Boun
 }
 
 /// Reads inverse attributes up to the keyword behind them.
-fn inverse_clause<'a>(reader: &mut Reader<'a>) -> Result<(Vec<Inverse<'a>>, Boundary), SchemaFault>
-    ensures { MatchResult result
+fn inverse_clause<'a>(reader: &mut Reader<'a>) -> Result<(Vec<Inverse<'a>>, Boundary), SyntaxFault>
+    ensures read { MatchResult result
         (λ p. Ended inverses (FitsInverse depth_limit) words_of_inverse (map inverse_of p.0.items)
         p.1 reader.old reader.new)
         (λ e. StopsIn e (Predict.Body inverses ∷ []) [] reader.old) }
+    ensures text { IfOk result (λ p. Every (IsInverseOf reader.old.text) p.0.items) }
 {
     let mut list = Vec::new(reader.alloc());
     loop {
@@ -236,7 +243,7 @@ fn inverse_clause<'a>(reader: &mut Reader<'a>) -> Result<(Vec<Inverse<'a>>, Boun
 }
 
 /// Reads a uniqueness rule behind the attribute with which it begins, or its label.
-fn unique_rule<'a>(reader: &mut Reader<'a>, first: Attribute<'a>) -> Result<Unique<'a>, SchemaFault>
+fn unique_rule<'a>(reader: &mut Reader<'a>, first: Attribute<'a>) -> Result<Unique<'a>, SyntaxFault>
     ensures { ParsesBehind (words_of_attribute (attribute_of first.entry)) result
         (behind_first uniques (attribute_of first.entry))
         (λ x. words_of_unique (unique_of x))
@@ -249,7 +256,7 @@ fn unique_rule<'a>(reader: &mut Reader<'a>, first: Attribute<'a>) -> Result<Uniq
 }
 
 /// Reads uniqueness rules up to the keyword behind them.
-fn unique_clause<'a>(reader: &mut Reader<'a>) -> Result<(Vec<Unique<'a>>, Boundary), SchemaFault>
+fn unique_clause<'a>(reader: &mut Reader<'a>) -> Result<(Vec<Unique<'a>>, Boundary), SyntaxFault>
     ensures { MatchResult result
         (λ p. Ended uniques FitsUnique words_of_unique (map unique_of p.0.items) p.1 reader.old
         reader.new)
@@ -274,11 +281,13 @@ fn unique_clause<'a>(reader: &mut Reader<'a>) -> Result<(Vec<Unique<'a>>, Bounda
 fn some_derived<'a>(
     reader: &mut Reader<'a>,
     from: Boundary,
-) -> Result<(Option<Vec<Derived<'a>>>, Boundary), SchemaFault>
-    ensures { MatchResult result
+) -> Result<(Option<Vec<Derived<'a>>>, Boundary), SyntaxFault>
+    ensures read { MatchResult result
         (λ p. Clausal derived keywords.Derive (FitsDerived depth_limit) words_of_derived
         (if_some (λ list. map derived_of list.items) p.0) from p.1 reader.old reader.new)
         (λ e. StopsIn e (symbols_behind from) [] reader.old) }
+    ensures text { IfOk result
+        (λ p. Maybe (λ list. Every (IsDerivedOf reader.old.text) list.items) p.0) }
 {
     match from {
         Boundary::Derive => {
@@ -293,12 +302,14 @@ fn some_derived<'a>(
 fn some_inverses<'a>(
     reader: &mut Reader<'a>,
     from: Boundary,
-) -> Result<(Option<Vec<Inverse<'a>>>, Boundary), SchemaFault>
+) -> Result<(Option<Vec<Inverse<'a>>>, Boundary), SyntaxFault>
     requires { EntityParts.may_end derived from ≡ true }
-    ensures { MatchResult result
+    ensures read { MatchResult result
         (λ p. Clausal inverses keywords.Inverse (FitsInverse depth_limit) words_of_inverse
         (if_some (λ list. map inverse_of list.items) p.0) from p.1 reader.old reader.new)
         (λ e. StopsIn e (symbols_behind from) [] reader.old) }
+    ensures text { IfOk result
+        (λ p. Maybe (λ list. Every (IsInverseOf reader.old.text) list.items) p.0) }
 {
     match from {
         Boundary::Inverse => {
@@ -313,7 +324,7 @@ fn some_inverses<'a>(
 fn some_uniques<'a>(
     reader: &mut Reader<'a>,
     from: Boundary,
-) -> Result<(Option<Vec<Unique<'a>>>, Boundary), SchemaFault>
+) -> Result<(Option<Vec<Unique<'a>>>, Boundary), SyntaxFault>
     requires { EntityParts.may_end inverses from ≡ true }
     ensures { MatchResult result
         (λ p. Clausal uniques keywords.Unique FitsUnique words_of_unique
@@ -333,15 +344,17 @@ fn some_uniques<'a>(
 fn some_rules<'a>(
     reader: &mut Reader<'a>,
     from: Boundary,
-) -> Result<Option<Vec<Rule<'a>>>, SchemaFault>
+) -> Result<Option<Vec<Rule<'a>>>, SyntaxFault>
     requires { EntityParts.may_end uniques from ≡ true }
-    ensures { MatchResult result
+    ensures read { MatchResult result
         (λ x. Maybe (FitsRules depth_limit keywords.EndEntity) (if_some (λ rs. rules_of rs.items) x)
         × (ws : List Word) × (keyword (keyword_of from) ∷ ws
         ≡ words_of_clause keywords.Where words_of_rule (if_some (λ rs. rules_of rs.items) x)
         ++ keyword keywords.EndEntity ∷ mark marks.Semicolon ∷ [])
         × Passes (symbols_behind from) [] [] ws reader.old reader.new)
         (λ e. StopsIn e (symbols_behind from) [] reader.old) }
+    ensures text { IfOk result
+        (λ x. Maybe (λ rs. Every (IsRuleOf reader.old.text) rs.items) x) }
 {
     match from {
         Boundary::Where => {
@@ -356,9 +369,10 @@ fn some_rules<'a>(
 }
 
 /// Reads the clauses of an entity, and what ends it.
-pub fn read_clauses<'a>(reader: &mut Reader<'a>) -> Result<Clauses<'a>, SchemaFault>
-    ensures { ParsesWhere result (Predict.Body explicits ∷ []) words_of_clauses FitsClauses
+pub fn read_clauses<'a>(reader: &mut Reader<'a>) -> Result<Clauses<'a>, SyntaxFault>
+    ensures read { ParsesWhere result (Predict.Body explicits ∷ []) words_of_clauses FitsClauses
         reader.old reader.new }
+    ensures text { IfOk result (λ x. AreClausesOf reader.old.text x) }
 {
     let (explicits, behind_explicits) = explicit_clause(reader)?;
     let (derived, behind_derived) = some_derived(reader, behind_explicits)?;

@@ -1,6 +1,6 @@
 //! Entities (ISO 10303-11, 9.2).
 
-ghost use Rattle.std.specs.Prelude.{◌≡◌, [], ◌∷◌, ◌++◌, List, MatchResult};
+ghost use Rattle.std.specs.Prelude.{◌≡◌, [], ◌∷◌, ◌++◌, List, IfOk, MatchResult};
 ghost use Rattle.express_lexis.specs.declared.marks.Mark.TheVariants as marks;
 ghost use Rattle.express_trees.specs.declared.keyword.Keyword.TheVariants as keywords;
 ghost use Rattle.express_trees.specs.Words;
@@ -9,6 +9,7 @@ ghost use Rattle.express_trees.specs.Grammar.{depth_limit};
 ghost use Rattle.express_schemas.specs.Views.{if_some, names_of, entity_of};
 ghost use Rattle.express_schemas.specs.Written.{words_of_subtype, words_of_entity};
 ghost use Rattle.express_schemas.specs.Profile.{Maybe, IsFilled, FitsEntity};
+ghost use Rattle.express_schemas.specs.Sources.{IsSupertypeOf, IsEntityOf};
 ghost use Rattle.express_schemas.specs.Predict;
 ghost use Rattle.express_schemas.specs.Predict.{Id, Super, Sub, explicits};
 ghost use Rattle.express_runs.specs.Items.{located_of};
@@ -22,15 +23,15 @@ ghost use Rattle.express_schemas.specs.Steps.{
 };
 
 use crate::clauses::read_clauses;
-use express_lexis::literal::Word;
 use express_lexis::marks::Mark;
 use express_parts::bounds::supertype;
 use express_runs::names::names;
 use express_runs::reader::Reader;
 use express_runs::tokens::{Item, is_keyword, is_mark, refuse};
-use express_schemas::fault::SchemaFault;
+use express_schemas::fault::SyntaxFault;
 use express_schemas::tree::{Entity, Supertype};
 use express_trees::keyword::Keyword;
+use step_literals::literal::Word;
 
 /// What stands between the name of an entity and its first clause.
 #[derive(Drop)]
@@ -44,7 +45,7 @@ pub struct Head<'a> {
 fn subtype_of<'a>(
     reader: &mut Reader<'a>,
     first: Item<'a>,
-) -> Result<Option<Vec<Word<'a>>>, SchemaFault>
+) -> Result<Option<Vec<Word<'a>>>, SyntaxFault>
     ensures { ParsesFrom (located_of first.entry) result (Sub ∷ [])
         (λ x. words_of_subtype (if_some (λ names. names_of names.items) x)
         ++ mark marks.Semicolon ∷ [])
@@ -67,12 +68,13 @@ fn types<'a>(
     reader: &mut Reader<'a>,
     first: Item<'a>,
     is_abstract: bool,
-) -> Result<Head<'a>, SchemaFault>
-    ensures { MatchResult result
+) -> Result<Head<'a>, SyntaxFault>
+    ensures read { MatchResult result
         (λ h. (h.is_abstract ≡ is_abstract) × FitsHead h
         × Passes (Super ∷ []) [] (located_of first.entry ∷ []) (words_of_types h) reader.old
         reader.new)
         (λ e. StopsIn e (Super ∷ []) (located_of first.entry ∷ []) reader.old) }
+    ensures text { IfOk result (λ h. IsSupertypeOf reader.old.text h.supertype) }
 {
     if !is_keyword(first, Keyword::Supertype) {
         let subtype_of = subtype_of(reader, first)?;
@@ -103,9 +105,10 @@ fn types<'a>(
 }
 
 /// Reads the head of an entity behind its name.
-fn read_head<'a>(reader: &mut Reader<'a>) -> Result<Head<'a>, SchemaFault>
-    ensures { ParsesWhere result (Predict.Head ∷ []) words_of_beginning FitsHead reader.old
+fn read_head<'a>(reader: &mut Reader<'a>) -> Result<Head<'a>, SyntaxFault>
+    ensures read { ParsesWhere result (Predict.Head ∷ []) words_of_beginning FitsHead reader.old
         reader.new }
+    ensures text { IfOk result (λ h. IsSupertypeOf reader.old.text h.supertype) }
 {
     let first = reader.take()?;
     if !is_keyword(first, Keyword::Abstract) {
@@ -116,11 +119,12 @@ fn read_head<'a>(reader: &mut Reader<'a>) -> Result<Head<'a>, SchemaFault>
 }
 
 /// Reads an entity behind ENTITY.
-pub fn entity<'a>(reader: &mut Reader<'a>) -> Result<Entity<'a>, SchemaFault>
-    ensures { ParsesBehind (keyword keywords.Entity ∷ []) result
+pub fn entity<'a>(reader: &mut Reader<'a>) -> Result<Entity<'a>, SyntaxFault>
+    ensures read { ParsesBehind (keyword keywords.Entity ∷ []) result
         (Id ∷ Predict.Head ∷ Predict.Body explicits ∷ [])
         (λ x. words_of_entity (entity_of x))
         (λ x. FitsEntity depth_limit (entity_of x)) reader.old reader.new }
+    ensures text { IfOk result (λ x. IsEntityOf reader.old.text x) }
 {
     let name = reader.expect_name()?;
     let head = read_head(reader)?;

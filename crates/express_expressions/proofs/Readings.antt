@@ -7,21 +7,21 @@ use Rattle.express_trees.specs.Words.{Word}
 use Rattle.express_trees.specs.Trees.{Tree}
 use Rattle.express_expressions.specs.declared.not_read.NotRead.{NotRead}
 use Rattle.express_expressions.specs.declared.not_read.NotRead.TheVariants as failures
-use Rattle.express_expressions.specs.Pieces.{words_from, boxed_tree, Unless, Reading, Builds}
+use Rattle.express_expressions.specs.Pieces.{words_from, boxed_tree, Unless, MatchRead, Builds}
 
 pub failed : {n m : Type 0} (e : NotRead) → (n → m) → Unless e n → Unless e m
 failed failures.NoExpression f h = f h
 failed failures.Memory f h = tt
 
 pub reading_map : {X n m : Type 0} {p q : X → Type 0} (r : Result X NotRead) → (n → m) → ((x : X) → p x → q x)
-    → Reading r n p → Reading r m q
+    → MatchRead r n p → MatchRead r m q
 reading_map (Ok x) f g h = g x h
 reading_map (Err e) f g h = failed e f h
 
 -- a tree that is put on the heap is the one that stands there
 pub built : (n : Type 0) (q : Tree → List Word → Type 0) (lexemes : List Lexeme) (t u : Tree) (end : ℕ)
     (r : Result (Box Expr × ℕ) NotRead) → t ≡ u → Builds t end r → q u (words_from end lexemes)
-    → Reading r n (λ p. q (boxed_tree p.0) (words_from p.1 lexemes))
+    → MatchRead r n (λ p. q (boxed_tree p.0) (words_from p.1 lexemes))
 built n q lexemes t u end (Ok p) e h k = subst (λ i. q (boxed_tree p.0) (words_from i lexemes)) (sym h.1)
     (subst (λ x. q x (words_from end lexemes)) (sym (h.0 ∙ e)) k)
 built n q lexemes t u end (Err failures.NoExpression) e h k = cc

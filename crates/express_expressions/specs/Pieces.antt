@@ -201,35 +201,35 @@ Unless failures.NoExpression n = n
 Unless failures.Memory n = Unit {0}
 
 -- what is read has p, or n holds where no expression is read
-abbrev pub Reading : {X : Type 0} → Result X NotRead → Type 0 → (X → Type 0) → Type 0
-Reading r n p = MatchResult r p (λ e. Unless e n)
+abbrev pub MatchRead : {X : Type 0} → Result X NotRead → Type 0 → (X → Type 0) → Type 0
+MatchRead r n p = MatchResult r p (λ e. Unless e n)
 
 -- what is read stands so at the front of the words from an index on; else nothing does
-abbrev pub Reads : {X Y : Type 0} → (List Word → Y → List Word → Type 0) → (X → Y) → ℕ → List Lexeme
+abbrev pub FindsPart : {X Y : Type 0} → (List Word → Y → List Word → Type 0) → (X → Y) → ℕ → List Lexeme
     → Result (X × ℕ) NotRead → Type 0
-Reads {X} {Y} Is view at lexemes r =
-    Reading r ((y : Y) (rest : List Word) → Is (words_from at lexemes) y rest → ⊥)
+FindsPart {X} {Y} Is view at lexemes r =
+    MatchRead r ((y : Y) (rest : List Word) → Is (words_from at lexemes) y rest → ⊥)
     (λ p. Is (words_from at lexemes) (view p.0) (words_from p.1 lexemes))
 
 abbrev pub boxed_tree : Box Expr → Tree
 boxed_tree b = tree_of b.value
 
 -- a primary behind its first word
-abbrev pub ReadsBehind : Word → ℕ → ℕ → List Lexeme → Result (Box Expr × ℕ) NotRead → Type 0
-ReadsBehind w n at lexemes r =
-    Reading r (StandsNone n primary (w ∷ words_from at lexemes)) (λ p. Heads n (w ∷ words_from at lexemes)
+abbrev pub FindsBehind : Word → ℕ → ℕ → List Lexeme → Result (Box Expr × ℕ) NotRead → Type 0
+FindsBehind w n at lexemes r =
+    MatchRead r (StandsNone n primary (w ∷ words_from at lexemes)) (λ p. Heads n (w ∷ words_from at lexemes)
     (boxed_tree p.0) (words_from p.1 lexemes))
 
 -- what stands before a limit of an interval, and the limit
-abbrev pub ReadsBound : ℕ → ℕ → List Lexeme → Result (Box Expr × Limit × ℕ) NotRead → Type 0
-ReadsBound n at lexemes r =
-    Reading r (BoundNone n (words_from at lexemes)) (λ p. Before n simple (word_of_limit p.1) (words_from at lexemes)
+abbrev pub FindsBound : ℕ → ℕ → List Lexeme → Result (Box Expr × Limit × ℕ) NotRead → Type 0
+FindsBound n at lexemes r =
+    MatchRead r (BoundNone n (words_from at lexemes)) (λ p. Before n simple (word_of_limit p.1) (words_from at lexemes)
     (boxed_tree p.0) (words_from p.2 lexemes))
 
 -- a number behind its sign, with however many brackets open around it
-abbrev pub ReadsSigned : Sign → ℕ → List Lexeme → Result (Box Expr × ℕ) NotRead → Type 0
-ReadsSigned s at lexemes r =
-    Reading r ((n : ℕ) → StandsNone n unary (word_of_sign s ∷ words_from at lexemes))
+abbrev pub FindsSigned : Sign → ℕ → List Lexeme → Result (Box Expr × ℕ) NotRead → Type 0
+FindsSigned s at lexemes r =
+    MatchRead r ((n : ℕ) → StandsNone n unary (word_of_sign s ∷ words_from at lexemes))
     (λ p. (n : ℕ) → Stands n unary (word_of_sign s ∷ words_from at lexemes) (boxed_tree p.0)
     (words_from p.1 lexemes))
 

@@ -19,10 +19,10 @@ ghost use Rattle.express_trees.specs.Views.{
   alternatives_of,
 };
 
-use express_lexis::literal::Word;
 use express_trees::tree::{
     Alternative, Expr, Function, Junction, Limit, Literal, Number, Qualifier, Relation, Root, Sign,
 };
+use step_literals::literal::Word;
 
 /// A literal.
 pub(crate) fn literal(value: Literal<'_>) -> Expr<'_>

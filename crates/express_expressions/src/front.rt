@@ -36,11 +36,11 @@ ghost use Rattle.express_trees.specs.Views.{capitals, number_of};
 
 use crate::literals::{junction_at, limit_at, name_at, number_at, relation_at, sign_at};
 use crate::start::{Start, start_of};
-use express_lexis::literal::Word;
 use express_lexis::marks::Mark;
 use express_trees::keyword::Keyword;
 use express_trees::lexeme::{Lexeme, is_keyword, is_mark};
 use express_trees::tree::{Junction, LEVELS, Limit, Number, Relation, Sign};
+use step_literals::literal::Word;
 
 /// The lexeme at this index, if there are more.
 fn first_at<'a>(lexemes: &[Lexeme<'a>], at: usize) -> Option<Lexeme<'a>>

@@ -11,11 +11,11 @@ ghost use Rattle.express_trees.specs.Trees.{
 ghost use Rattle.express_trees.specs.Views.{capitals, number_of};
 ghost use Rattle.express_expressions.specs.Pieces.{Spells};
 
-use express_lexis::literal::Word;
 use express_lexis::marks::Mark;
 use express_trees::keyword::Keyword;
 use express_trees::lexeme::Lexeme;
 use express_trees::tree::{Junction, Limit, Number, Relation, Sign};
+use step_literals::literal::Word;
 
 /// The number that it is, if it is one.
 pub(crate) fn number_at(lexeme: Lexeme<'_>) -> Option<Number<'_>>

@@ -30,10 +30,10 @@ ghost use Rattle.express_expressions.specs.Pieces.{
   Qualifies,
   VariableNone,
   boxed_tree,
-  Reads,
-  ReadsBehind,
-  ReadsBound,
-  ReadsSigned,
+  FindsPart,
+  FindsBehind,
+  FindsBound,
+  FindsSigned,
 };
 ghost use Rattle.express_trees.specs.Views.{
   capitals,
@@ -52,19 +52,19 @@ use crate::front::{
 };
 use crate::not_read::NotRead;
 use crate::start::{Inner, Start};
-use express_lexis::literal::Word;
 use express_lexis::marks::Mark;
 use express_trees::keyword::Keyword;
 use express_trees::lexeme::Lexeme;
 use express_trees::tree::{Alternative, Expr, Function, Limit, Qualifier, Sign};
 use std::alloc::{AllocError, Global};
+use step_literals::literal::Word;
 
 /// What is read, and the index behind it.
 type Read<X> = Result<(X, usize), NotRead>;
 
 /// The number behind a sign.
 fn signed<'a>(alloc: Global, sign: Sign, lexemes: &[Lexeme<'a>], at: usize) -> Read<Box<Expr<'a>>>
-    ensures { ReadsSigned sign at lexemes.now result }
+    ensures { FindsSigned sign at lexemes.now result }
 {
     let Some((number, rest)) = number_first(lexemes, at) else {
         return Err(NotRead::NoExpression);
@@ -114,7 +114,7 @@ fn expression<'a>(
     at: usize,
     depth: u32,
 ) -> Read<Box<Expr<'a>>>
-    ensures { Reads (Stands depth expression) boxed_tree at lexemes.now result }
+    ensures { FindsPart (Stands depth expression) boxed_tree at lexemes.now result }
 {
     let (left, rest) = simple(alloc, lexemes, at, depth)?;
     let Some((relation, more)) = relation_first(lexemes, rest) else {
@@ -130,7 +130,7 @@ fn expression<'a>(
 /// Terms, with OR or XOR between.
 #[cycle(reader)]
 fn simple<'a>(alloc: Global, lexemes: &[Lexeme<'a>], at: usize, depth: u32) -> Read<Box<Expr<'a>>>
-    ensures { Reads (Stands depth simple) boxed_tree at lexemes.now result }
+    ensures { FindsPart (Stands depth simple) boxed_tree at lexemes.now result }
 {
     let (first, rest) = term(alloc, lexemes, at, depth)?;
     let (others, end) = alternatives(alloc, lexemes, rest, depth)?;
@@ -146,7 +146,7 @@ fn alternatives<'a>(
     depth: u32,
 ) -> Read<Vec<Alternative<'a>>>
     requires { Stops term (words_from at lexemes.now) }
-    ensures { Reads (More depth) (λ xs. alternatives_of xs.items) at lexemes.now result }
+    ensures { FindsPart (More depth) (λ xs. alternatives_of xs.items) at lexemes.now result }
 {
     let mut others = Vec::new(alloc);
     let mut left = at;
@@ -163,7 +163,7 @@ fn alternatives<'a>(
 /// Unaries, with AND between.
 #[cycle(reader)]
 fn term<'a>(alloc: Global, lexemes: &[Lexeme<'a>], at: usize, depth: u32) -> Read<Box<Expr<'a>>>
-    ensures { Reads (Stands depth term) boxed_tree at lexemes.now result }
+    ensures { FindsPart (Stands depth term) boxed_tree at lexemes.now result }
 {
     let (first, rest) = unary(alloc, lexemes, at, depth)?;
     let (others, end) = conjuncts(alloc, lexemes, rest, depth)?;
@@ -179,7 +179,7 @@ fn conjuncts<'a>(
     depth: u32,
 ) -> Read<Vec<Expr<'a>>>
     requires { Stops unary (words_from at lexemes.now) }
-    ensures { Reads (Others depth) (λ xs. trees_of xs.items) at lexemes.now result }
+    ensures { FindsPart (Others depth) (λ xs. trees_of xs.items) at lexemes.now result }
 {
     let mut others = Vec::new(alloc);
     let mut left = at;
@@ -196,7 +196,7 @@ fn conjuncts<'a>(
 /// A primary, or one behind NOT, or a number behind a sign.
 #[cycle(reader)]
 fn unary<'a>(alloc: Global, lexemes: &[Lexeme<'a>], at: usize, depth: u32) -> Read<Box<Expr<'a>>>
-    ensures { Reads (Stands depth unary) boxed_tree at lexemes.now result }
+    ensures { FindsPart (Stands depth unary) boxed_tree at lexemes.now result }
 {
     if let Some((sign, more)) = sign_first(lexemes, at) {
         return signed(alloc, sign, lexemes, more);
@@ -211,7 +211,7 @@ fn unary<'a>(alloc: Global, lexemes: &[Lexeme<'a>], at: usize, depth: u32) -> Re
 /// A primary, with all its qualifiers.
 #[cycle(reader)]
 fn primary<'a>(alloc: Global, lexemes: &[Lexeme<'a>], at: usize, depth: u32) -> Read<Box<Expr<'a>>>
-    ensures { Reads (Stands depth primary) boxed_tree at lexemes.now result }
+    ensures { FindsPart (Stands depth primary) boxed_tree at lexemes.now result }
 {
     let Some((start, more)) = start_first(lexemes, at) else {
         return Err(NotRead::NoExpression);
@@ -232,7 +232,7 @@ fn started<'a>(
     at: usize,
     depth: u32,
 ) -> Read<Box<Expr<'a>>>
-    ensures { ReadsBehind (beginning_word (begun start.entry)) depth at lexemes.now result }
+    ensures { FindsBehind (beginning_word (begun start.entry)) depth at lexemes.now result }
 {
     match start {
         Start::Literal(value) => boxed(alloc, build::literal(value), at),
@@ -260,7 +260,7 @@ fn parenthesized<'a>(
     at: usize,
     depth: u32,
 ) -> Read<Box<Expr<'a>>>
-    ensures { ReadsBehind (mark marks.Open) depth at lexemes.now result }
+    ensures { FindsBehind (mark marks.Open) depth at lexemes.now result }
 {
     let (inner, end) = before(alloc, lexemes, at, depth, Inner::Expression, Mark::Close)?;
     boxed(alloc, build::parenthesized(inner), end)
@@ -275,7 +275,7 @@ fn called<'a>(
     at: usize,
     depth: u32,
 ) -> Read<Box<Expr<'a>>>
-    ensures { ReadsBehind (word_of_function function) depth at lexemes.now result }
+    ensures { FindsBehind (word_of_function function) depth at lexemes.now result }
 {
     let Some(more) = behind_mark(lexemes, at, Mark::Open) else {
         return Err(NotRead::NoExpression);
@@ -293,7 +293,7 @@ fn inside<'a>(
     depth: u32,
     inner: Inner,
 ) -> Read<Box<Expr<'a>>>
-    ensures { Reads (Stands depth (level_of inner)) boxed_tree at lexemes.now result }
+    ensures { FindsPart (Stands depth (level_of inner)) boxed_tree at lexemes.now result }
 {
     match inner {
         Inner::Simple => simple(alloc, lexemes, at, depth),
@@ -311,7 +311,8 @@ fn before<'a>(
     inner: Inner,
     end: Mark,
 ) -> Read<Box<Expr<'a>>>
-    ensures { Reads (Before depth (level_of inner) (mark end)) boxed_tree at lexemes.now result }
+    ensures { FindsPart (Before depth (level_of inner) (mark end)) boxed_tree at
+        lexemes.now result }
 {
     if is_deepest(depth) {
         return Err(NotRead::NoExpression);
@@ -331,7 +332,7 @@ fn bound<'a>(
     at: usize,
     depth: u32,
 ) -> Result<(Box<Expr<'a>>, Limit, usize), NotRead>
-    ensures { ReadsBound depth at lexemes.now result }
+    ensures { FindsBound depth at lexemes.now result }
 {
     if is_deepest(depth) {
         return Err(NotRead::NoExpression);
@@ -346,7 +347,7 @@ fn bound<'a>(
 /// An interval, behind its brace.
 #[cycle(reader)]
 fn interval<'a>(alloc: Global, lexemes: &[Lexeme<'a>], at: usize, depth: u32) -> Read<Box<Expr<'a>>>
-    ensures { ReadsBehind (mark marks.OpenBrace) depth at lexemes.now result }
+    ensures { FindsBehind (mark marks.OpenBrace) depth at lexemes.now result }
 {
     let (low, above, second) = bound(alloc, lexemes, at, depth)?;
     let (item, below, third) = bound(alloc, lexemes, second, depth)?;
@@ -364,7 +365,7 @@ fn interval<'a>(alloc: Global, lexemes: &[Lexeme<'a>], at: usize, depth: u32) ->
 /// A query, behind its first word.
 #[cycle(reader)]
 fn query<'a>(alloc: Global, lexemes: &[Lexeme<'a>], at: usize, depth: u32) -> Read<Box<Expr<'a>>>
-    ensures { ReadsBehind (keyword keywords.Query) depth at lexemes.now result }
+    ensures { FindsBehind (keyword keywords.Query) depth at lexemes.now result }
 {
     let Some((variable, first)) = variable(lexemes, at) else {
         return Err(NotRead::NoExpression);
@@ -384,7 +385,7 @@ fn query<'a>(alloc: Global, lexemes: &[Lexeme<'a>], at: usize, depth: u32) -> Re
 /// The arguments of NVL.
 #[cycle(reader)]
 fn nvl<'a>(alloc: Global, lexemes: &[Lexeme<'a>], at: usize, depth: u32) -> Read<Box<Expr<'a>>>
-    ensures { ReadsBehind (keyword keywords.Nvl) depth at lexemes.now result }
+    ensures { FindsBehind (keyword keywords.Nvl) depth at lexemes.now result }
 {
     let Some(first) = behind_mark(lexemes, at, Mark::Open) else {
         return Err(NotRead::NoExpression);
@@ -404,7 +405,7 @@ fn nvl<'a>(alloc: Global, lexemes: &[Lexeme<'a>], at: usize, depth: u32) -> Read
 /// The elements of an aggregate, and the bracket that closes it.
 #[cycle(reader)]
 fn elements<'a>(alloc: Global, lexemes: &[Lexeme<'a>], at: usize, depth: u32) -> Read<Vec<Expr<'a>>>
-    ensures { Reads (Elements depth) (λ xs. trees_of xs.items) at lexemes.now result }
+    ensures { FindsPart (Elements depth) (λ xs. trees_of xs.items) at lexemes.now result }
 {
     if is_deepest(depth) {
         return Err(NotRead::NoExpression);
@@ -435,7 +436,7 @@ fn qualifiers<'a>(
     at: usize,
     depth: u32,
 ) -> Read<Vec<Qualifier<'a>>>
-    ensures { Reads (Selects depth) (λ xs. qualifiers_of xs.items) at lexemes.now result }
+    ensures { FindsPart (Selects depth) (λ xs. qualifiers_of xs.items) at lexemes.now result }
 {
     let mut qualifiers = Vec::new(alloc);
     let mut left = at;
@@ -457,7 +458,7 @@ fn qualifier<'a>(
     at: usize,
     depth: u32,
 ) -> Read<Qualifier<'a>>
-    ensures { Reads (Qualifies depth) selection_of at lexemes.now result }
+    ensures { FindsPart (Qualifies depth) selection_of at lexemes.now result }
 {
     let Some(more) = behind_mark(lexemes, at, Mark::OpenBracket) else {
         return match attribute(lexemes, at) {
@@ -476,7 +477,7 @@ fn qualifier<'a>(
     Ok((build::index(element), end))
 }
 
-/// Reads the lexemes of one expression (ISO 10303-11, 12), with `depth` parentheses, brackets and
+/// FindsPart the lexemes of one expression (ISO 10303-11, 12), with `depth` parentheses, brackets and
 /// braces open around it; with its own they are 64 at most. `None` where the lexemes are not those
 /// of an expression.
 ///

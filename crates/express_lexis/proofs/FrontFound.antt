@@ -19,7 +19,7 @@ use Rattle.step_literals.proofs.NumberFound.{NumberAt, number_or_none, short_or_
 use Rattle.step_literals.proofs.StringEnds.{Ended, Unended, ends_or_not}
 use Rattle.express_lexis.specs.declared.marks.Mark.{Mark}
 use Rattle.express_lexis.specs.declared.marks.TheConstants.{MARKS}
-use Rattle.express_lexis.specs.declared.literal.Word.{Word}
+use Rattle.step_literals.specs.declared.literal.Word.{Word}
 use Rattle.express_lexis.specs.declared.literal.SimpleString.{SimpleString}
 use Rattle.express_lexis.specs.declared.literal.EncodedString.{EncodedString}
 use Rattle.express_lexis.specs.declared.literal.Binary.{Binary}
@@ -30,7 +30,7 @@ use Rattle.express_lexis.specs.Tokens.{word, string, encoded, binary, is_letter,
 use Rattle.express_lexis.specs.Front.{IsFront, IsFlawed}
 use Rattle.express_lexis.proofs.MarkLemmas.{NoneBefore, mark_in, longest_mark, no_mark, none_more}
 use Rattle.express_lexis.proofs.Groups.{group_first, others, others_left}
-use Rattle.express_lexis.proofs.FrontLemmas.{next_word, none_number, next_integer, next_real, none_string, next_string, none_encoded, next_encoded, none_binary, next_binary, none_mark, none_open, next_mark}
+use Rattle.express_lexis.proofs.FrontLemmas.{word_is_keyword, next_word, none_number, next_integer, next_real, none_string, next_string, none_encoded, next_encoded, none_binary, next_binary, none_mark, none_open, next_mark}
 
 -- a token stands at the front, or none within the limits does
 abbrev pub FrontAt : List ℕ → Type 0
@@ -41,7 +41,7 @@ abbrev lent : List ℕ → Bor (List ℕ)
 lent t = record { ref_ptr = (0, 0); now = t }
 
 abbrev the_word : (t : List ℕ) → Spells word t → Word
-the_word t h = record { text = lent t; spelled = ∣ h ∣₁ }
+the_word t h = record { text = lent t; spelled = ∣ word_is_keyword t h ∣₁ }
 
 abbrev the_decimal : (t : List ℕ) → IsDecimal t → Decimal
 the_decimal t h = record { text = lent t; spelled = ∣ h ∣₁ }

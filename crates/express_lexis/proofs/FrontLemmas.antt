@@ -7,8 +7,9 @@ use Rattle.std.proofs.lemmas.Bool.Decides.{nat_tests}
 use Rattle.std.proofs.Math.ListN.{length-take}
 use Rattle.std.proofs.lemmas.List.Sums.{prefix_len-le-length}
 use Rattle.step_literals.specs.Bytes.{is_digit, is_word_byte, is_hex, Each, Stops}
+use Rattle.step_literals.specs.Bytes as bytes
 use Rattle.step_literals.specs.Tokens as literals
-use Rattle.step_literals.specs.Tokens.{IsDigits, is_sign, IsSign}
+use Rattle.step_literals.specs.Tokens.{IsKeyword, IsDigits, is_sign, IsSign}
 use Rattle.step_literals.specs.Strings.{begins_with}
 use Rattle.step_literals.proofs.Runs.{run_fits, run_at_prefix, front_back, cut_unique}
 use Rattle.step_literals.proofs.Runs as runs
@@ -26,6 +27,14 @@ letter_in_word b h = grind (arith, nat_tests)
 word_each : (t : List ℕ) → IsWord t → Each is_word_byte t
 word_each [] h = absurd h
 word_each (b ∷ bs) h = (letter_in_word b h.0, h.1)
+
+letter_of_both : (b : ℕ) → is_letter b ≡ true → bytes.is_letter b ≡ true
+letter_of_both b h = grind (arith, nat_tests)
+
+-- a word is a keyword of the exchange structure
+pub word_is_keyword : (t : List ℕ) → IsWord t → IsKeyword t
+word_is_keyword [] h = absurd h
+word_is_keyword (b ∷ bs) h = (letter_of_both b h.0, h.1)
 
 -- a run that begins with a letter is a word
 pub word_run : (l : List ℕ) → is_letter (get_or l 0 0) ≡ true → IsWord (take (prefix_len is_word_byte l) l)

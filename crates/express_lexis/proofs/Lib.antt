@@ -12,3 +12,4 @@ pub mod LayoutFound
 pub mod FrontFound
 pub mod Answered
 mod MeaningLemmas
+mod CodeLemmas

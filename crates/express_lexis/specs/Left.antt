@@ -2,8 +2,9 @@
 use Rattle.std.specs.Prelude.{◌≡◌, Bool, List, [], ◌∷◌, Option, MatchOption}
 use Rattle.step_literals.specs.declared.literal.items.Item.{Item}
 use Rattle.express_lexis.specs.declared.literal.characters.Characters.{Characters}
+use Rattle.express_lexis.specs.declared.literal.codes.Codes.{Codes}
 use Rattle.express_lexis.specs.declared.literal.bits.Bits.{Bits}
-use Rattle.express_lexis.specs.Meanings.{bits_of}
+use Rattle.express_lexis.specs.Meanings.{bits_of, codes_of}
 use Rattle.express_lexis.specs.Doubled.{left}
 
 abbrev pub characters_left : Characters → List Item
@@ -17,6 +18,9 @@ IsBetween c = (c.run.now ≡ []) × (c.raw.now ≡ [])
 abbrev pub GoesInside : Characters → Option Item → Characters → Type 0
 GoesInside old item new = MatchOption item (IsBetween old × IsBetween new × (new.rest.now ≡ old.rest.now))
     (λ x. characters_left old ≡ x ∷ characters_left new)
+
+abbrev pub codes_left : Codes → List Item
+codes_left c = codes_of c.digits.now
 
 abbrev pub bits_left : Bits → List Bool
 bits_left b = bits_of b.digits.now

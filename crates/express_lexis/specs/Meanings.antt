@@ -2,7 +2,7 @@
 use Rattle.std.specs.Prelude.{ℕ, Bool, ◌==◌, List, [], ◌∷◌, ◌++◌, map, if◌then◌else◌}
 use Rattle.step_literals.specs.Tokens.{doubled}
 use Rattle.step_literals.specs.Strings.{is_high}
-use Rattle.step_literals.specs.Items.{run_items}
+use Rattle.step_literals.specs.Items.{run_items, group_items}
 use Rattle.step_literals.specs.declared.literal.items.Item.{Item}
 use Rattle.step_literals.specs.declared.literal.items.Item.TheVariants.{Code}
 
@@ -19,6 +19,14 @@ characters_of bs = characters_behind [] bs
 -- how a string of this content is spelt: each apostrophe doubled, between apostrophes (39)
 abbrev pub simple_text : List ℕ → List ℕ
 simple_text content = 39 ∷ doubled content ++ 39 ∷ []
+
+-- a character for each eight hexadecimal digits, by the code that they write
+abbrev pub codes_of : List ℕ → List Item
+codes_of digits = group_items 8 digits
+
+-- how a string of these digits is spelt: between quotes (34)
+abbrev pub encoded_text : List ℕ → List ℕ
+encoded_text digits = 34 ∷ digits ++ 34 ∷ []
 
 -- the bits that digits write: 49 is `1`
 abbrev pub bits_of : List ℕ → List Bool

@@ -20,11 +20,11 @@ ghost use Rattle.step_literals.specs.Bytes.{is_digit};
 ghost use Rattle.express_lexis.specs.Tokens.{is_letter, is_bit};
 ghost use Rattle.express_lexis.specs.Front.{FrontOrFlaw, IsFront, IsFlawed};
 
-use crate::literal::{Binary, EncodedString, SimpleString, Word};
+use crate::literal::{Binary, EncodedString, SimpleString};
 use crate::marks::mark_of;
 use crate::token::Sort;
 use step_literals::bytes::{hex_len, is_digit, word_len};
-use step_literals::literal::Decimal;
+use step_literals::literal::{Decimal, Word};
 use step_literals::numbers::{is_short_number, number_len};
 use step_literals::strings::string_len;
 
@@ -52,7 +52,7 @@ fn word_at(bytes: &[u8]) -> (Sort<'_>, usize)
 {
     let len = word_len(bytes);
     let (text, _) = bytes.split_at(len);
-    (Sort::Word(Word::from_word(text)), len)
+    (Sort::Word(Word::from_keyword(text)), len)
 }
 
 /// The number at the front of the bytes, if it is within the limits.

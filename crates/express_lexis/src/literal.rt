@@ -1,23 +1,17 @@
-//! Words and literals, as slices of the text that spells them.
+//! Strings and binaries, as slices of the text that spells them.
 
 ghost use Rattle.std.specs.Prelude.{◌≡◌, ◌∷◌, ℕ, List};
-ghost use Rattle.express_lexis.specs.Tokens.{Spells, word, string, encoded, binary};
-ghost use Rattle.express_lexis.specs.Meanings.{characters_of, simple_text};
+ghost use Rattle.express_lexis.specs.Tokens.{Spells, string, encoded, binary};
+ghost use Rattle.express_lexis.specs.Meanings.{characters_of, simple_text, codes_of, encoded_text};
 ghost use Rattle.express_lexis.specs.Meanings;
 
 mod bits;
 mod characters;
+mod codes;
 
 pub use bits::Bits;
 pub use characters::Characters;
-
-/// A word (ISO 10303-11, 7.2 and 7.4): a letter, then letters, digits and `_`. Whether it is a
-/// keyword is the grammar's affair.
-#[derive(Clone, Copy)]
-pub struct Word<'a> {
-    text: &'a [u8],
-    pub ghost spelled: { ∥ Spells word text.now ∥₁ },
-}
+pub use codes::Codes;
 
 /// A string with its apostrophes (ISO 10303-11, 7.5.5).
 #[derive(Clone, Copy)]
@@ -38,22 +32,6 @@ pub struct EncodedString<'a> {
 pub struct Binary<'a> {
     text: &'a [u8],
     pub ghost spelled: { ∥ Spells binary text.now ∥₁ },
-}
-
-impl<'a> Word<'a> {
-    pub(crate) fn from_word(text: &'a [u8]) -> Word<'a>
-        requires { Spells word text.now }
-        ensures { result.text.now ≡ text.now }
-    {
-        Word { text }
-    }
-
-    /// The bytes that spell it, in the case in which they stand.
-    pub fn spelling(&self) -> &'a [u8]
-        ensures { result ≡ self.now.text }
-    {
-        self.text
-    }
 }
 
 impl<'a> SimpleString<'a> {
@@ -85,6 +63,8 @@ impl<'a> SimpleString<'a> {
 }
 
 impl<'a> EncodedString<'a> {
+    ghost use Rattle.express_lexis.specs.Left.{codes_left};
+
     pub(crate) fn from_encoded(text: &'a [u8]) -> EncodedString<'a>
         requires { Spells encoded text.now }
         ensures { result.text.now ≡ text.now }
@@ -97,6 +77,16 @@ impl<'a> EncodedString<'a> {
         ensures { result ≡ self.now.text }
     {
         self.text
+    }
+
+    /// Its characters in turn, each by its code.
+    pub fn characters(&self) -> Codes<'a>
+        ensures { (digits : List ℕ) → self.now.text.now ≡ encoded_text digits
+            → codes_left result ≡ codes_of digits }
+    {
+        let (_, digits) = self.text.split_at(1);
+        let (digits, _) = digits.split_at(digits.len() - 1);
+        Codes { digits }
     }
 }
 

@@ -1,13 +1,15 @@
 //! Tokens of EXPRESS text (ISO 10303-11, 7), and the fault where none stands.
 
-use crate::literal::{Binary, EncodedString, SimpleString, Word};
+use crate::literal::{Binary, EncodedString, SimpleString};
 use crate::marks::Mark;
-use step_literals::literal::Decimal;
+use step_literals::literal::{Decimal, Word};
 use thiserror::Error;
 
 /// What kind of token it is, with its value.
 #[derive(Clone, Copy)]
 pub enum Sort<'a> {
+    /// A letter, then letters, digits and `_` (ISO 10303-11, 7.2 and 7.4). Whether it is a keyword is the
+    /// grammar's affair.
     Word(Word<'a>),
     Integer(Decimal<'a>),
     Real(Decimal<'a>),

@@ -16,8 +16,8 @@ use Rattle.express_trees.specs.declared.lexeme.Lexeme.{Lexeme}
 use Rattle.express_trees.specs.Words.{Word, keyword, name, integer, mark, word_of, words_of}
 use Rattle.express_trees.specs.Grammar.{depth_limit}
 use Rattle.express_schemas.specs.declared.fault.FaultKind.TheVariants as fault_kinds
-use Rattle.express_schemas.specs.declared.fault.SchemaFault.{SchemaFault}
-use Rattle.express_schemas.specs.declared.fault.SchemaFault.TheVariants as faults
+use Rattle.express_schemas.specs.declared.fault.SyntaxFault.{SyntaxFault}
+use Rattle.express_schemas.specs.declared.fault.SyntaxFault.TheVariants as faults
 use Rattle.express_runs.specs.declared.runs.Buffer.{Buffer}
 use Rattle.express_schemas.specs.Runs.{Run, words_of_run, FitsRun, IsSome}
 use Rattle.express_schemas.specs.Schemas.{Bound, other_bound, Bounds, Width, width, other_width, Supertype, of_other}
@@ -62,7 +62,7 @@ run_done part n b a s r old mid new h shows g =
 
 -- a run from its first token on
 pub run_of_gather : {M : Type 0} (f : M → Run) (part : RunEnd) (n : ℕ) (b a : Buffer) (s : LocatedToken)
-    (old mid new : Reading) (r : Result M SchemaFault) → IsEmpty b → Shows old s mid
+    (old mid new : Reading) (r : Result M SyntaxFault) → IsEmpty b → Shows old s mid
     → MatchResult r (λ x. Gathered part n b a s (f x) mid new)
     (λ e. StopsIn e (Running part n (brackets_of b.open.items) (has_some (words_of b.lexemes.items)) ∷ []) (s ∷ [])
     mid)
@@ -215,13 +215,13 @@ bound_other part n ls r old new h g =
     )
 
 -- the upper bound stops all
-pub bounds_err_upper : (e : SchemaFault) (n : ℕ) (lower : Bound) (old mid : Reading) → ReadsBound in_lower (n + 1) lower
+pub bounds_err_upper : (e : SyntaxFault) (n : ℕ) (lower : Bound) (old mid : Reading) → ReadsBound in_lower (n + 1) lower
     old mid → StopsIn e (Running in_upper (n + 1) [] false ∷ []) [] mid → StopsIn e (bounds_symbols n) [] old
 bounds_err_upper e n lower old mid h g = stops_behind e (Running in_upper (n + 1) [] false ∷ []) (Say keywords.Of ∷ [])
     (passes_more (Running in_upper (n + 1) [] false ∷ Say keywords.Of ∷ []) h.1) g
 
 -- .. and what stands in the place of OF
-pub bounds_err_of : (e : SchemaFault) (n : ℕ) (lower upper : Bound) (old mid end : Reading)
+pub bounds_err_of : (e : SyntaxFault) (n : ℕ) (lower upper : Bound) (old mid end : Reading)
     → ReadsBound in_lower (n + 1) lower old mid → ReadsBound in_upper (n + 1) upper mid end
     → StopsIn e (Say keywords.Of ∷ []) [] end → StopsIn e (bounds_symbols n) [] old
 bounds_err_of e n lower upper old mid end h g k = stops_behind e (Say keywords.Of ∷ []) []
@@ -266,7 +266,7 @@ bounds_refused n (token (keyword keywords.Of)) e f = absurd (false≢true (sym e
 bounds_refused n _ e f = refl
 
 -- a token that is neither a bracket nor OF
-pub some_bounds_err : (e : SchemaFault) (n : ℕ) (s : LocatedToken) (old new : Reading) → Shows old s new
+pub some_bounds_err : (e : SyntaxFault) (n : ℕ) (s : LocatedToken) (old new : Reading) → Shows old s new
     → is_keyword keywords.Of s.lookahead ≡ false → is_mark marks.OpenBracket s.lookahead ≡ false
     → e ≡ faults.Fault (refused s.lookahead) s.place → StopsIn e (BoundsOrOf n ∷ []) [] old
 some_bounds_err e n s old new h a b q = stops_refused e (BoundsOrOf n) s old new h (bounds_refused n s.lookahead a b) q
@@ -282,11 +282,11 @@ opening_next : (n : ℕ) → n < depth_limit → next depth_limit (BoundsOrOf n)
 opening_next n h = let f : nat_lt n depth_limit ≡ true = grind (arith, nat_tests) in rw f refl
 
 -- a bracket too deep
-pub some_bounds_deep : (e : SchemaFault) (n : ℕ) (s : LocatedToken) (old new : Reading) → Shows old s new
+pub some_bounds_deep : (e : SyntaxFault) (n : ℕ) (s : LocatedToken) (old new : Reading) → Shows old s new
     → is_mark marks.OpenBracket s.lookahead ≡ true → depth_limit ≤ n → e ≡ faults.Fault fault_kinds.TooDeep s.place
     → StopsIn e (BoundsOrOf n ∷ []) [] old
 some_bounds_deep e n s old new h m deep q =
-    let P : SchemaFault → Type 0 = λ x. StopsIn x (BoundsOrOf n ∷ []) [] old in
+    let P : SyntaxFault → Type 0 = λ x. StopsIn x (BoundsOrOf n ∷ []) [] old in
     subst P (sym q) (stops_shown fault_kinds.TooDeep (BoundsOrOf n) s old new h
     (opening_deep n s.lookahead (mark_met marks.OpenBracket s.lookahead m) deep))
 
@@ -297,7 +297,7 @@ bracket_passes n s old mid h m lt = passes_token (BoundsOrOf n) (bounds_symbols 
     (mark_met marks.OpenBracket s.lookahead m) (opening_next n lt)
 
 -- what stops bounds behind their bracket stops all
-pub some_bounds_stop : (e : SchemaFault) (n : ℕ) (s : LocatedToken) (old mid : Reading) → Shows old s mid
+pub some_bounds_stop : (e : SyntaxFault) (n : ℕ) (s : LocatedToken) (old mid : Reading) → Shows old s mid
     → is_mark marks.OpenBracket s.lookahead ≡ true → n < depth_limit → StopsIn e (bounds_symbols n) [] mid
     → StopsIn e (BoundsOrOf n ∷ []) [] old
 some_bounds_stop e n s old mid h m lt g = stops_behind e (bounds_symbols n) [] (bracket_passes n s old mid h m lt) g

@@ -9,8 +9,8 @@ use Rattle.express_trees.specs.declared.keyword.Keyword.TheVariants as keywords
 use Rattle.express_trees.specs.Words.{Word, keyword, mark}
 use Rattle.express_trees.specs.Grammar.{depth_limit}
 use Rattle.express_schemas.specs.declared.fault.FaultKind.TheVariants as fault_kinds
-use Rattle.express_schemas.specs.declared.fault.SchemaFault.{SchemaFault}
-use Rattle.express_schemas.specs.declared.fault.SchemaFault.TheVariants as faults
+use Rattle.express_schemas.specs.declared.fault.SyntaxFault.{SyntaxFault}
+use Rattle.express_schemas.specs.declared.fault.SyntaxFault.TheVariants as faults
 use Rattle.express_schemas.specs.Texts.{Lookahead, token, end_of_text, LocatedToken, Shows}
 use Rattle.express_schemas.specs.Schemas.{Bounds, Width, DataType, real, array, list, bag, set}
 use Rattle.express_schemas.specs.Written.{said, words_of_bounds, words_of_some_bounds, words_of_width, words_of_fixed, words_of_data_type}
@@ -24,7 +24,7 @@ use Rattle.express_schemas.proofs.Taking.{passes_as, passes_join, passes_more, p
 use Rattle.express_schemas.proofs.Looking.{mark_met, keyword_met, stops_refused}
 
 -- what stops what a token leaves to come stops it all
-pub stops_left : {ys : List Symbol} {before : List LocatedToken} {ws : List Word} {old mid : Reading} (e : SchemaFault)
+pub stops_left : {ys : List Symbol} {before : List LocatedToken} {ws : List Word} {old mid : Reading} (e : SyntaxFault)
     (zs : List Symbol) → Passes ys zs before ws old mid → StopsIn e zs [] mid → StopsIn e ys before old
 stops_left {ys} {before} {ws} {old} {mid} e zs h g =
     let P : List Symbol → Type 0 = λ l. Passes ys l before ws old mid in
@@ -66,17 +66,17 @@ width_none y us n end s old new t shows c = passes_token y [] (mark (ending_mark
     (mark_met (ending_mark end) s.lookahead c) (t (token (mark (ending_mark end))) ∙ mark_or_end n end us)
 
 -- a width that opens too much
-pub width_deep : (e : SchemaFault) (y : Symbol) (us : List Symbol) (n : ℕ) (end : Ending) (s : LocatedToken)
+pub width_deep : (e : SyntaxFault) (y : Symbol) (us : List Symbol) (n : ℕ) (end : Ending) (s : LocatedToken)
     (old new : Reading) → TakesWidth y us n end → Shows old s new → is_mark marks.Open s.lookahead ≡ true
     → depth_limit ≤ n → e ≡ faults.Fault fault_kinds.TooDeep s.place → StopsIn e (y ∷ []) [] old
 width_deep e y us n end s old new t shows c h q =
-    let P : SchemaFault → Type 0 = λ x. StopsIn x (y ∷ []) [] old in
+    let P : SyntaxFault → Type 0 = λ x. StopsIn x (y ∷ []) [] old in
     subst P (sym q) (stops_shown fault_kinds.TooDeep y s old new shows
     (ap (next depth_limit y) (mark_met marks.Open s.lookahead c) ∙ t (token (mark marks.Open))
     ∙ mark_or_deep n end us h))
 
 -- neither a width nor the mark
-pub width_refused : (e : SchemaFault) (y : Symbol) (us : List Symbol) (n : ℕ) (end : Ending) (s : LocatedToken)
+pub width_refused : (e : SyntaxFault) (y : Symbol) (us : List Symbol) (n : ℕ) (end : Ending) (s : LocatedToken)
     (old new : Reading) → TakesWidth y us n end → Shows old s new → is_mark marks.Open s.lookahead ≡ false
     → is_mark (ending_mark end) s.lookahead ≡ false → e ≡ faults.Fault (refused s.lookahead) s.place
     → StopsIn e (y ∷ []) [] old
@@ -91,7 +91,7 @@ passes_open y us n end s old a t shows c h = passes_token y (Running in_parenthe
     ∙ mark_or_open n end us h)
 
 -- what stops behind the parenthesis of a width stops it
-pub width_stopped : (e : SchemaFault) (y : Symbol) (us : List Symbol) (n : ℕ) (end : Ending) (s : LocatedToken)
+pub width_stopped : (e : SyntaxFault) (y : Symbol) (us : List Symbol) (n : ℕ) (end : Ending) (s : LocatedToken)
     (old a : Reading) → TakesWidth y us n end → Shows old s a → is_mark marks.Open s.lookahead ≡ true → n < depth_limit
     → StopsIn e (Running in_parentheses (n + 1) [] false ∷ []) [] a → StopsIn e (y ∷ []) [] old
 width_stopped e y us n end s old a t shows c h g = stops_behind e (Running in_parentheses (n + 1) [] false ∷ []) us
@@ -123,7 +123,7 @@ passes_fixed end s old a shows c = passes_token (FixedOr end) (Just (ending_mark
     old a shows (keyword_met keywords.Fixed s.lookahead c) refl
 
 -- what stops behind FIXED stops it all
-pub fixed_stopped : (e : SchemaFault) (end : Ending) (s : LocatedToken) (old a : Reading) → Shows old s a
+pub fixed_stopped : (e : SyntaxFault) (end : Ending) (s : LocatedToken) (old a : Reading) → Shows old s a
     → is_keyword keywords.Fixed s.lookahead ≡ true → StopsIn e (Just (ending_mark end) ∷ []) [] a
     → StopsIn e (FixedOr end ∷ []) [] old
 fixed_stopped e end s old a shows c g = stops_left e (Just (ending_mark end) ∷ []) (passes_fixed end s old a shows c) g
@@ -135,7 +135,7 @@ pub fixed_said : (end : Ending) (s : LocatedToken) (old a b : Reading) → Shows
 fixed_said end s old a b shows c g = passes_join (passes_fixed end s old a shows c) g
 
 -- neither FIXED nor the mark
-pub fixed_refused : (e : SchemaFault) (end : Ending) (s : LocatedToken) (old new : Reading) → Shows old s new
+pub fixed_refused : (e : SyntaxFault) (end : Ending) (s : LocatedToken) (old new : Reading) → Shows old s new
     → is_keyword keywords.Fixed s.lookahead ≡ false → is_mark (ending_mark end) s.lookahead ≡ false
     → e ≡ faults.Fault (refused s.lookahead) s.place → StopsIn e (FixedOr end ∷ []) [] old
 fixed_refused e end s old new shows c d q = stops_refused e (FixedOr end) s old new shows
@@ -181,14 +181,14 @@ data_type_behind w ys n end s k old new i e h = (
 )
 
 -- .. where it stops
-pub data_type_stopped : (f : SchemaFault) (w : Word) (ys : List Symbol) (n : ℕ) (end : Ending) (s : LocatedToken)
+pub data_type_stopped : (f : SyntaxFault) (w : Word) (ys : List Symbol) (n : ℕ) (end : Ending) (s : LocatedToken)
     (old : Reading) → s.lookahead ≡ token w → next depth_limit (DataTypeThen n end) (token w) ≡ Ok ys
     → StopsIn f ys [] old → StopsIn f (DataTypeThen n end ∷ []) (s ∷ []) old
 data_type_stopped f w ys n end s old i e h = stops_left f ys (passes_taken (DataTypeThen n end) ys w s old i e) h
 
 -- .. of which both are known
 pub data_type_behind_or : {C : Type 0} (f : C → DataType) (w : Word) (ys : List Symbol) (n : ℕ) (end : Ending)
-    (s : LocatedToken) (r : Result C SchemaFault) (old new : Reading) → s.lookahead ≡ token w
+    (s : LocatedToken) (r : Result C SyntaxFault) (old new : Reading) → s.lookahead ≡ token w
     → next depth_limit (DataTypeThen n end) (token w) ≡ Ok ys
     → MatchResult r (λ k. PassesBehind w ys n end (f k) old new) (λ e. StopsIn e ys [] old)
     → MatchResult r (λ k. PassesDataType (DataTypeThen n end ∷ []) (s ∷ []) [] n end (f k) old new)
@@ -246,7 +246,7 @@ unique_said n end s k old new c h = (
 )
 
 -- what stops a data type without UNIQUE before it
-pub unique_unsaid_stopped : (e : SchemaFault) (n : ℕ) (end : Ending) (s : LocatedToken) (old : Reading)
+pub unique_unsaid_stopped : (e : SyntaxFault) (n : ℕ) (end : Ending) (s : LocatedToken) (old : Reading)
     → is_keyword keywords.Unique s.lookahead ≡ false → StopsIn e (DataTypeThen n end ∷ []) (s ∷ []) old
     → StopsIn e (UniqueOr n end ∷ []) (s ∷ []) old
 unique_unsaid_stopped e n end s old c h = stops_as e (UniqueOr n end) (DataTypeThen n end) s old
@@ -272,7 +272,7 @@ pub optional_said : (n : ℕ) (end : Ending) (s : LocatedToken) (u : Bool) (k : 
 optional_said n end s u k old a b shows c h = (h.0, passes_join (passes_optional n end s old a shows c) h.1)
 
 -- what stops behind OPTIONAL stops it all
-pub optional_stopped : (e : SchemaFault) (n : ℕ) (end : Ending) (s : LocatedToken) (old a : Reading) → Shows old s a
+pub optional_stopped : (e : SyntaxFault) (n : ℕ) (end : Ending) (s : LocatedToken) (old a : Reading) → Shows old s a
     → is_keyword keywords.Optional s.lookahead ≡ true → StopsIn e (UniqueOr n end ∷ []) [] a
     → StopsIn e (OptionalOr n end ∷ []) [] old
 optional_stopped e n end s old a shows c h = stops_left e (UniqueOr n end ∷ []) (passes_optional n end s old a shows c)
@@ -290,7 +290,7 @@ optional_unsaid n end s u k old a b shows c h = (
 )
 
 -- .. and what stops them
-pub optional_unsaid_stopped : (e : SchemaFault) (n : ℕ) (end : Ending) (s : LocatedToken) (old a : Reading)
+pub optional_unsaid_stopped : (e : SyntaxFault) (n : ℕ) (end : Ending) (s : LocatedToken) (old a : Reading)
     → Shows old s a → is_keyword keywords.Optional s.lookahead ≡ false → StopsIn e (UniqueOr n end ∷ []) (s ∷ []) a
     → StopsIn e (OptionalOr n end ∷ []) [] old
 optional_unsaid_stopped e n end s old a shows c h = stops_first e (OptionalOr n end ∷ []) s shows
@@ -298,7 +298,7 @@ optional_unsaid_stopped e n end s old a shows c h = stops_first e (OptionalOr n 
 
 -- a token that a symbol begins with is taken first
 pub begins_or : {C : Type 0} (f : C → DataType) (g : C → List Word) (ys : List Symbol) (n : ℕ) (end : Ending)
-    (s : LocatedToken) (r : Result C SchemaFault) (old a b : Reading) → Shows old s a
+    (s : LocatedToken) (r : Result C SyntaxFault) (old a b : Reading) → Shows old s a
     → MatchResult r (λ k. PassesDataType ys (s ∷ []) (g k) n end (f k) a b) (λ e. StopsIn e ys (s ∷ []) a)
     → MatchResult r (λ k. PassesDataType ys [] (g k) n end (f k) old b) (λ e. StopsIn e ys [] old)
 begins_or f g ys n end s (Ok k) old a b shows h = (h.0, passes_first s old shows h.1)
@@ -312,13 +312,13 @@ aggregate_words b ss ks m =
     (sym (append_assoc ss ks m)) ∙ sym (append_assoc b (keyword keywords.Of ∷ (ss ++ ks)) m)
 
 -- what stops the bounds of an array
-pub array_bounds : (e : SchemaFault) (n : ℕ) (end : Ending) (old a : Reading) → Passes (Just marks.OpenBracket ∷ []) []
+pub array_bounds : (e : SyntaxFault) (n : ℕ) (end : Ending) (old a : Reading) → Passes (Just marks.OpenBracket ∷ []) []
     [] (mark marks.OpenBracket ∷ []) old a → StopsIn e (bounds_symbols n) [] a → StopsIn e (array_symbols n end) [] old
 array_bounds e n end old a h g = stops_behind e (bounds_symbols n) (OptionalOr (n + 1) end ∷ [])
     (passes_more (bounds_symbols n ++ OptionalOr (n + 1) end ∷ []) h) g
 
 -- what stops the elements of an array
-pub array_stopped : (e : SchemaFault) (n : ℕ) (end : Ending) (ws : List Word) (old a b : Reading)
+pub array_stopped : (e : SyntaxFault) (n : ℕ) (end : Ending) (ws : List Word) (old a b : Reading)
     → Passes (Just marks.OpenBracket ∷ []) [] [] (mark marks.OpenBracket ∷ []) old a → Passes (bounds_symbols n) [] []
     ws a b → StopsIn e (OptionalOr (n + 1) end ∷ []) [] b → StopsIn e (array_symbols n end) [] old
 array_stopped e n end ws old a b h g stop = stops_behind e (OptionalOr (n + 1) end ∷ []) []
@@ -345,7 +345,7 @@ array_done n end b o u k ws old a c d shallow h fits e g x =
     )
 
 -- behind LIST, BAG and SET
-pub bounded_stopped : (e : SchemaFault) (n : ℕ) (y : Symbol) (ws : List Word) (old a : Reading)
+pub bounded_stopped : (e : SyntaxFault) (n : ℕ) (y : Symbol) (ws : List Word) (old a : Reading)
     → Passes (BoundsOrOf n ∷ []) [] [] ws old a → StopsIn e (y ∷ []) [] a → StopsIn e (BoundsOrOf n ∷ y ∷ []) [] old
 bounded_stopped e n y ws old a h g = stops_behind e (y ∷ []) [] (passes_more (y ∷ []) h) g
 

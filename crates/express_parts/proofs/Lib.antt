@@ -1,3 +1,4 @@
 mod BoundSteps
 mod RuleSteps
 mod DataTypeSteps
+pub mod DataTypeSources

@@ -2,7 +2,7 @@
 use Rattle.std.proofs.Common.{◌≡◌, ℕ, ◌≤◌, ◌<◌, Bool, true, false, List, [], ◌∷◌, ◌++◌, map, length, Some, None, Result, Ok, Err, MatchResult, refl, sym, ap, ◌∙◌, subst, append_assoc, arith}
 use Rattle.std.proofs.lemmas.Bool.{false≢true}
 use Rattle.predictive.specs.Tables.{step_on, lookaheads}
-use Rattle.express_lexis.specs.declared.literal.Word as literal
+use Rattle.step_literals.specs.declared.literal.Word as literal
 use Rattle.express_lexis.specs.declared.marks.Mark.TheVariants as marks
 use Rattle.express_lexis.specs.Reading.{Reading, left}
 use Rattle.express_trees.specs.declared.keyword.Keyword.{Keyword}
@@ -12,8 +12,8 @@ use Rattle.express_trees.specs.Keywords.{keyword_text}
 use Rattle.express_trees.specs.Words.{Word, words_of, word_of, keyword, name, mark}
 use Rattle.express_trees.specs.Views.{capitals}
 use Rattle.express_trees.specs.Grammar.{depth_limit}
-use Rattle.express_schemas.specs.declared.fault.SchemaFault.{SchemaFault}
-use Rattle.express_schemas.specs.declared.fault.SchemaFault.TheVariants as faults
+use Rattle.express_schemas.specs.declared.fault.SyntaxFault.{SyntaxFault}
+use Rattle.express_schemas.specs.declared.fault.SyntaxFault.TheVariants as faults
 use Rattle.express_runs.specs.declared.runs.Buffer.{Buffer}
 use Rattle.express_runs.specs.declared.runs.Bracket as code
 use Rattle.express_schemas.specs.declared.tree.Body as tree
@@ -71,7 +71,7 @@ passes_on end y some w place ws old new e = λ h. record {
   turned = λ more q. same_run end y some w place (h.shown ++ q) more e ∙ h.turned (Rules end ∷ more) q;
 }
 
-stops_on : (f : SchemaFault) (end : Keyword) (y : Symbol) (some : Bool) (w : Word) (place : ℕ) (old : Reading)
+stops_on : (f : SyntaxFault) (end : Keyword) (y : Symbol) (some : Bool) (w : Word) (place : ℕ) (old : Reading)
     → GoesOn end y some w
     → (let s : LocatedToken = record {
       lookahead = token w;
@@ -133,7 +133,7 @@ read_passes before us s b old new e o g =
     (s ∷ []) (g.further ++ mark marks.Semicolon ∷ []) old new in
     subst P o (subst Q e g.passes)
 
-read_stops : (f : SchemaFault) (before : Buffer) (us : List Word) (s : LocatedToken) (old : Reading)
+read_stops : (f : SyntaxFault) (before : Buffer) (us : List Word) (s : LocatedToken) (old : Reading)
     → words_of before.lexemes.items ≡ us → before.open.items ≡ []
     → StopsIn f (Running in_rule 0 (brackets_of before.open.items) (has_some (words_of before.lexemes.items)) ∷ [])
     (s ∷ []) old → StopsIn f (Running in_rule 0 [] (has_some us) ∷ []) (s ∷ []) old
@@ -154,7 +154,7 @@ read_empty before s b old new e o g =
     (sym (g.words ∙ ap (λ l. l ++ g.further) d))) (read_passes before [] s b old new d o g)
 
 -- a body of which the first token is taken
-pub body_done : (r : Result tree.Body SchemaFault) (before : Buffer) (s : LocatedToken) (old mid new : Reading)
+pub body_done : (r : Result tree.Body SyntaxFault) (before : Buffer) (s : LocatedToken) (old mid new : Reading)
     → before.lexemes.items ≡ [] → before.open.items ≡ [] → Shows old s mid
     → MatchResult r (λ b. BodyRead before s (body_of b) mid new)
     (λ f. StopsIn f (Running in_rule 0 (brackets_of before.open.items) (has_some (words_of before.lexemes.items))
@@ -188,7 +188,7 @@ bare_read end l place before b old new e o f k = λ g.
           (rules_word end l f k) p;
     }
 
-pub bare_stops : (x : SchemaFault) (end : Keyword) (l : Lexeme) (place : ℕ) (before : Buffer) (old : Reading)
+pub bare_stops : (x : SyntaxFault) (end : Keyword) (l : Lexeme) (place : ℕ) (before : Buffer) (old : Reading)
     → before.lexemes.items ≡ [] → before.open.items ≡ [] → ((w : _) → l ≡ lexemes.Name w → ⊥)
     → is_keyword end (token (word_of l)) ≡ false
     → (let s : LocatedToken = record {
@@ -208,7 +208,7 @@ name_taken end w place here = passes_taken (Rules end) (Labelled end ∷ []) (na
     refl
 
 -- what stops behind it
-pub behind_name : (x : SchemaFault) (end : Keyword) (w : literal.Word) (place : ℕ) (here : Reading)
+pub behind_name : (x : SyntaxFault) (end : Keyword) (w : literal.Word) (place : ℕ) (here : Reading)
     → StopsIn x (Labelled end ∷ []) [] here → StopsIn x (Rules end ∷ []) (named w place ∷ []) here
 behind_name x end w place here h = stops_behind x (Labelled end ∷ []) [] (name_taken end w place here) h
 
@@ -221,7 +221,7 @@ label_taken end w place t here mid h e = passes_join (name_taken end w place her
     (passes_token (Labelled end) (Running in_rule 0 [] false ∷ Rules end ∷ []) (mark marks.Colon) t here mid h
     (mark_met marks.Colon t.lookahead e) refl)
 
-pub behind_label : (x : SchemaFault) (end : Keyword) (w : literal.Word) (place : ℕ) (t : LocatedToken)
+pub behind_label : (x : SyntaxFault) (end : Keyword) (w : literal.Word) (place : ℕ) (t : LocatedToken)
     (here mid : Reading) → Shows here t mid → is_mark marks.Colon t.lookahead ≡ true
     → StopsIn x (Running in_rule 0 [] false ∷ []) [] mid → StopsIn x (Rules end ∷ []) (named w place ∷ []) here
 behind_label x end w place t here mid h e g = stops_behind x (Running in_rule 0 [] false ∷ []) (Rules end ∷ [])
@@ -241,7 +241,7 @@ labelled_read end w place t b here mid new h e g = record {
 
 -- a rule without a label that begins with a name
 module _ (end : Keyword) (w : literal.Word) (place : ℕ) (v : Word) (at : ℕ) (before : Buffer) (here mid : Reading) where
-  pub second_stops : (x : SchemaFault) → words_of before.lexemes.items ≡ name (capitals w) ∷ [] → before.open.items ≡ []
+  pub second_stops : (x : SyntaxFault) → words_of before.lexemes.items ≡ name (capitals w) ∷ [] → before.open.items ≡ []
       → is_mark marks.Colon (token v) ≡ false
       → (let t : LocatedToken = record {
         lookahead = token v;
@@ -292,11 +292,11 @@ rules_next end rs r s old here mid new so h g = record {
       (passes_join so.passes (passes_first s here h g.passes));
 }
 
-pub rules_err_first : (x : SchemaFault) (end : Keyword) (rs : List Rule) (old here : Reading)
+pub rules_err_first : (x : SyntaxFault) (end : Keyword) (rs : List Rule) (old here : Reading)
     → RulesSoFar end rs old here → StopsIn x (Rules end ∷ []) [] here → StopsIn x (Rules end ∷ []) [] old
 rules_err_first x end rs old here so h = stops_behind x (Rules end ∷ []) [] so.passes h
 
-pub rules_err_rule : (x : SchemaFault) (end : Keyword) (rs : List Rule) (s : LocatedToken) (old here mid : Reading)
+pub rules_err_rule : (x : SyntaxFault) (end : Keyword) (rs : List Rule) (s : LocatedToken) (old here mid : Reading)
     → RulesSoFar end rs old here → Shows here s mid → StopsIn x (Rules end ∷ []) (s ∷ []) mid
     → StopsIn x (Rules end ∷ []) [] old
 rules_err_rule x end rs s old here mid so h g = stops_behind_taken x (Rules end ∷ []) [] s so.passes h g
@@ -308,7 +308,7 @@ rules_ended : (end : Keyword) (rs : List Rule) (s : LocatedToken) (old here mid 
 rules_ended end rs s old here mid so h e = passes_join so.passes (passes_token (Rules end) (Just marks.Semicolon ∷ [])
     (keyword end) s here mid h (keyword_met end s.lookahead e) (next_rules_end depth_limit end))
 
-pub rules_err_end : (x : SchemaFault) (end : Keyword) (rs : List Rule) (s : LocatedToken) (old here mid : Reading)
+pub rules_err_end : (x : SyntaxFault) (end : Keyword) (rs : List Rule) (s : LocatedToken) (old here mid : Reading)
     → RulesSoFar end rs old here → Shows here s mid → is_keyword end s.lookahead ≡ true
     → StopsIn x (Just marks.Semicolon ∷ []) [] mid → StopsIn x (Rules end ∷ []) [] old
 rules_err_end x end rs s old here mid so h e g = stops_behind x (Just marks.Semicolon ∷ []) []
@@ -349,7 +349,7 @@ rules_smaller end w place r here mid new = λ h g.
     )
 
 -- a lexeme that is this name
-pub named_done : (end : Keyword) (l : Lexeme) (w : literal.Word) (place : ℕ) (r : Result tree_rule.Rule SchemaFault)
+pub named_done : (end : Keyword) (l : Lexeme) (w : literal.Word) (place : ℕ) (r : Result tree_rule.Rule SyntaxFault)
     (old new : Reading) → l ≡ lexemes.Name w
     → MatchResult r (λ x. RuleRead end (named w place) (rule_of x) old new)
     (λ f. StopsIn f (Rules end ∷ []) (named w place ∷ []) old)

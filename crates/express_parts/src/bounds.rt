@@ -16,6 +16,7 @@ ghost use Rattle.std.specs.Prelude.{
   ◌↔◌,
   codes,
   IfOk,
+  IfSome,
   MatchOption,
   MatchResult,
 };
@@ -55,6 +56,13 @@ ghost use Rattle.express_schemas.specs.Profile.{
   FitsWidth,
   FitsSupertype,
 };
+ghost use Rattle.express_schemas.specs.Sources.{
+  IsRunOf,
+  IsBoundOf,
+  IsBoundsOf,
+  IsWidthOf,
+  IsSupertypeOf,
+};
 ghost use Rattle.express_schemas.specs.Runs.{words_of_run, FitsRun, IsSome};
 ghost use Rattle.express_runs.specs.OpenRuns.{part_of, may_of, end_of};
 ghost use Rattle.express_schemas.specs.Predict.{
@@ -66,19 +74,18 @@ ghost use Rattle.express_schemas.specs.Predict.{
 ghost use Rattle.express_schemas.specs.Steps.{Passes, ParsesWhere, ParsesBehind, StopsIn};
 
 use express_lexis::lexer::Lexer;
-use express_lexis::literal::Word;
 use express_lexis::marks::Mark;
 use express_runs::reader::Reader;
 use express_runs::runs::{Buffer, Ends, gather};
 use express_runs::tokens::{fault_at, is_keyword, is_mark, next_item, refuse};
-use express_schemas::fault::{FaultKind, SchemaFault};
+use express_schemas::fault::{FaultKind, SyntaxFault};
 use express_schemas::passage::Run;
 use express_schemas::tree::{Bound, Bounds, Supertype, Width};
 use express_trees::keyword::Keyword;
 use express_trees::lexeme::Lexeme;
 use express_trees::tree::{LEVELS, Sign};
 use std::alloc::{AllocError, Global};
-use step_literals::literal::Decimal;
+use step_literals::literal::{Decimal, Word};
 
 /// Reads a run of tokens behind an opening bracket, or behind the colon of bounds, and what ends it.
 fn next_run<'a>(
@@ -86,15 +93,16 @@ fn next_run<'a>(
     part: Ends,
     around: u32,
     buffer: &mut Buffer<'a>,
-) -> Result<Run<'a>, SchemaFault>
+) -> Result<Run<'a>, SyntaxFault>
     requires around { around ≤ 64 }
-    ensures { MatchResult result
+    ensures read { MatchResult result
         (λ r. (words_of_run (run_of r) ≡ words_of buffer.new.lexemes.items)
         × FitsRun depth_limit (may_of (part_of part)) around (run_of r) × IsSome (run_of r)
         × Passes (Running (part_of part) around [] false ∷ []) [] []
         (words_of buffer.new.lexemes.items
         ++ mark (end_of (part_of part)) ∷ []) lexer.old lexer.new)
         (λ e. StopsIn e (Running (part_of part) around [] false ∷ []) [] lexer.old) }
+    ensures text { IfOk result (λ r. IsRunOf lexer.old.text r) }
 {
     buffer.clear();
     let first = next_item(lexer)?;
@@ -103,9 +111,10 @@ fn next_run<'a>(
 
 /// The bound that one token is, if it is one.
 fn plain_bound(lexeme: Lexeme<'_>) -> Option<Bound<'_>>
-    ensures { MatchOption result (IsBoundText (word_of lexeme.entry ∷ []) → ⊥)
+    ensures known { MatchOption result (IsBoundText (word_of lexeme.entry ∷ []) → ⊥)
         (λ b. (words_of_bound (bound_of b) ≡ word_of lexeme.entry ∷ [])
         × ((may : Words.Word → Bool) (n : ℕ) → FitsBound depth_limit may n (bound_of b))) }
+    ensures text { (text : List ℕ) → IfSome result (λ b. IsBoundOf text b) }
 {
     match lexeme {
         Lexeme::Integer(digits) => Some(Bound::Value(None, digits)),
@@ -160,9 +169,10 @@ fn shows_mark(lexeme: Lexeme<'_>, wanted: Mark) -> bool
 
 /// The bound that these tokens are, if they are one.
 fn known_bound<'a>(lexemes: &[Lexeme<'a>]) -> Option<Bound<'a>>
-    ensures { MatchOption result (IsBoundText (words_of lexemes.now) → ⊥)
+    ensures known { MatchOption result (IsBoundText (words_of lexemes.now) → ⊥)
         (λ b. (words_of_bound (bound_of b) ≡ words_of lexemes.now)
         × ((may : Words.Word → Bool) (n : ℕ) → FitsBound depth_limit may n (bound_of b))) }
+    ensures text { (text : List ℕ) → IfSome result (λ b. IsBoundOf text b) }
 {
     match lexemes {
         [lexeme] => plain_bound(*lexeme),
@@ -240,10 +250,12 @@ fn known_supertype<'a>(
     alloc: Global,
     lexemes: &[Lexeme<'a>],
 ) -> Result<Option<Supertype<'a>>, AllocError>
-    ensures { IfOk result
+    ensures known { IfOk result
         (λ r. MatchOption r (IsSupertypeText (words_of lexemes.now) → ⊥)
         (λ s. FitsSupertype depth_limit (supertype_of s)
         × (words_of_supertype (supertype_of s) ≡ words_of_expression (words_of lexemes.now)))) }
+    ensures text { (text : List ℕ) → IfOk result
+        (λ r. IfSome r (λ s. IsSupertypeOf text s)) }
 {
     let [first, names @ ..] = lexemes else {
         return Ok(None);
@@ -265,12 +277,13 @@ fn known_supertype<'a>(
 }
 
 /// Reads a bound and what ends it.
-fn bound<'a>(reader: &mut Reader<'a>, part: Ends, around: u32) -> Result<Bound<'a>, SchemaFault>
+fn bound<'a>(reader: &mut Reader<'a>, part: Ends, around: u32) -> Result<Bound<'a>, SyntaxFault>
     requires around { around ≤ 64 }
-    ensures { ParsesWhere result (Running (part_of part) around [] false ∷ [])
+    ensures read { ParsesWhere result (Running (part_of part) around [] false ∷ [])
         (λ b. words_of_bound (bound_of b) ++ mark (end_of (part_of part)) ∷ [])
         (λ b. FitsBound depth_limit (may_of (part_of part)) around (bound_of b)) reader.old
         reader.new }
+    ensures text { IfOk result (λ b. IsBoundOf reader.old.text b) }
 {
     let tokens = next_run(&mut reader.lexer, part, around, &mut reader.buffer)?;
     if let Some(bound) = known_bound(&reader.buffer.lexemes) {
@@ -281,11 +294,12 @@ fn bound<'a>(reader: &mut Reader<'a>, part: Ends, around: u32) -> Result<Bound<'
 
 /// Reads the bounds of an aggregate type behind their bracket, and OF, with so many brackets and aggregate
 /// types open around it.
-pub fn bounds<'a>(reader: &mut Reader<'a>, around: u32) -> Result<Bounds<'a>, SchemaFault>
+pub fn bounds<'a>(reader: &mut Reader<'a>, around: u32) -> Result<Bounds<'a>, SyntaxFault>
     requires around { around < 64 }
-    ensures { ParsesBehind (mark marks.OpenBracket ∷ []) result (bounds_symbols around)
+    ensures read { ParsesBehind (mark marks.OpenBracket ∷ []) result (bounds_symbols around)
         (λ b. words_of_bounds (bounds_of b) ++ keyword keywords.Of ∷ [])
         (λ b. FitsBounds depth_limit around (bounds_of b)) reader.old reader.new }
+    ensures text { IfOk result (λ b. IsBoundsOf reader.old.text b) }
 {
     let lower = bound(reader, Ends::Lower, around + 1)?;
     let upper = bound(reader, Ends::Upper, around + 1)?;
@@ -297,11 +311,12 @@ pub fn bounds<'a>(reader: &mut Reader<'a>, around: u32) -> Result<Bounds<'a>, Sc
 pub fn some_bounds<'a>(
     reader: &mut Reader<'a>,
     around: u32,
-) -> Result<Option<Bounds<'a>>, SchemaFault>
+) -> Result<Option<Bounds<'a>>, SyntaxFault>
     requires around { around ≤ 64 }
-    ensures { ParsesWhere result (BoundsOrOf around ∷ [])
+    ensures read { ParsesWhere result (BoundsOrOf around ∷ [])
         (λ b. words_of_some_bounds (if_some bounds_of b) ++ keyword keywords.Of ∷ [])
         (λ b. Maybe (FitsBounds depth_limit around) (if_some bounds_of b)) reader.old reader.new }
+    ensures text { IfOk result (λ b. Maybe (IsBoundsOf reader.old.text) b) }
 {
     let item = reader.take()?;
     if is_keyword(item, Keyword::Of) {
@@ -318,12 +333,13 @@ pub fn some_bounds<'a>(
 }
 
 /// Reads a width behind its parenthesis, and the closing one.
-pub fn width<'a>(reader: &mut Reader<'a>, around: u32) -> Result<Width<'a>, SchemaFault>
+pub fn width<'a>(reader: &mut Reader<'a>, around: u32) -> Result<Width<'a>, SyntaxFault>
     requires around { around < 64 }
-    ensures { ParsesBehind (mark marks.Open ∷ []) result
+    ensures read { ParsesBehind (mark marks.Open ∷ []) result
         (Running in_parentheses (around + 1) [] false ∷ [])
         (λ w. words_of_width (width_of w))
         (λ w. FitsWidth depth_limit around (width_of w)) reader.old reader.new }
+    ensures text { IfOk result (λ w. IsWidthOf reader.old.text w) }
 {
     let tokens = next_run(
         &mut reader.lexer,
@@ -338,11 +354,12 @@ pub fn width<'a>(reader: &mut Reader<'a>, around: u32) -> Result<Width<'a>, Sche
 }
 
 /// Reads a supertype expression behind its parenthesis, and the closing one.
-pub fn supertype<'a>(reader: &mut Reader<'a>) -> Result<Supertype<'a>, SchemaFault>
-    ensures { ParsesBehind (keyword keywords.Supertype ∷ keyword keywords.Of ∷ mark marks.Open ∷ [])
+pub fn supertype<'a>(reader: &mut Reader<'a>) -> Result<Supertype<'a>, SyntaxFault>
+    ensures read { ParsesBehind (keyword keywords.Supertype ∷ keyword keywords.Of ∷ mark marks.Open ∷ [])
         result (Running in_parentheses 1 [] false ∷ [])
         (λ s. words_of_supertype (supertype_of s))
         (λ s. FitsSupertype depth_limit (supertype_of s)) reader.old reader.new }
+    ensures text { IfOk result (λ s. IsSupertypeOf reader.old.text s) }
 {
     let tokens = next_run(&mut reader.lexer, Ends::Parentheses, 1, &mut reader.buffer)?;
     let known = known_supertype(reader.alloc, &reader.buffer.lexemes)?;

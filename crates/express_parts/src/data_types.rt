@@ -2,6 +2,7 @@
 
 ghost use Rattle.std.specs.Prelude.{
   ◌≡◌,
+  ℕ,
   [],
   ◌∷◌,
   ◌++◌,
@@ -11,6 +12,7 @@ ghost use Rattle.std.specs.Prelude.{
   List,
   true,
   false,
+  IfOk,
   MatchResult,
   MatchOption,
 };
@@ -29,6 +31,7 @@ ghost use Rattle.express_schemas.specs.Written.{
   words_of_some_bounds,
 };
 ghost use Rattle.express_schemas.specs.Profile.{FitsDataType, FitsWidth, FitsBounds, Maybe};
+ghost use Rattle.express_schemas.specs.Sources.{IsBoundsOf, IsWidthOf, IsFixedWidthOf, IsDataTypeOf};
 ghost use Rattle.express_schemas.specs.Predict;
 ghost use Rattle.express_schemas.specs.Predict.{
   Symbol,
@@ -53,7 +56,7 @@ use crate::build;
 use express_lexis::marks::Mark;
 use express_runs::reader::Reader;
 use express_runs::tokens::{Item, fault_at, is_keyword, is_mark, refuse};
-use express_schemas::fault::{self, SchemaFault};
+use express_schemas::fault::{self, SyntaxFault};
 use express_schemas::tree::{Bounds, DataType, FixedWidth, Width};
 use express_trees::keyword::Keyword;
 use express_trees::lexeme::Lexeme;
@@ -100,7 +103,7 @@ fn is_end(item: Item<'_>, end: Ending) -> bool
 }
 
 /// Reads the mark behind a data type.
-fn expect_end(reader: &mut Reader<'_>, end: Ending) -> Result<(), SchemaFault>
+fn expect_end(reader: &mut Reader<'_>, end: Ending) -> Result<(), SyntaxFault>
     ensures { Parses result (Just (ending_mark (ending_of end)) ∷ [])
         (λ _. mark (ending_mark (ending_of end)) ∷ []) reader.old reader.new }
 {
@@ -112,10 +115,12 @@ fn ended<'a>(
     reader: &mut Reader<'_>,
     data_type: DataType<'a>,
     end: Ending,
-) -> Result<DataType<'a>, SchemaFault>
-    ensures { ParsesWhere result (Just (ending_mark (ending_of end)) ∷ [])
+) -> Result<DataType<'a>, SyntaxFault>
+    ensures read { ParsesWhere result (Just (ending_mark (ending_of end)) ∷ [])
         (λ k. mark (ending_mark (ending_of end)) ∷ [])
         (λ k. (k ≡ data_type.entry)) reader.old reader.new }
+    ensures text { (text : List ℕ) → IsDataTypeOf text data_type.entry
+        → IfOk result (λ k. IsDataTypeOf text k) }
 {
     expect_end(reader, end)?;
     Ok(data_type)
@@ -126,15 +131,16 @@ fn width_or_end<'a>(
     reader: &mut Reader<'a>,
     depth: u32,
     end: Ending,
-) -> Result<Option<Width<'a>>, SchemaFault>
+) -> Result<Option<Width<'a>>, SyntaxFault>
     requires depth { depth ≤ 64 }
-    ensures { MatchResult result
+    ensures read { MatchResult result
         (λ o. (y : Symbol) (us : List Symbol) → TakesWidth y us depth (ending_of end)
         → MatchOption o (Passes (y ∷ []) [] [] (mark (ending_mark (ending_of end)) ∷ []) reader.old
         reader.new) (λ w. FitsWidth depth_limit depth (width_of w)
         × Passes (y ∷ []) us [] (words_of_width (width_of w)) reader.old reader.new))
         (λ e. (y : Symbol) (us : List Symbol) → TakesWidth y us depth (ending_of end)
         → StopsIn e (y ∷ []) [] reader.old) }
+    ensures text { IfOk result (λ w. Maybe (IsWidthOf reader.old.text) w) }
 {
     let first = reader.take()?;
     if is_mark(first, Mark::Open) {
@@ -151,7 +157,7 @@ fn width_or_end<'a>(
 }
 
 /// Reads FIXED, if it stands behind a width, and the mark behind the data type.
-fn fixed(reader: &mut Reader<'_>, end: Ending) -> Result<bool, SchemaFault>
+fn fixed(reader: &mut Reader<'_>, end: Ending) -> Result<bool, SyntaxFault>
     ensures { Parses result (FixedOr (ending_of end) ∷ [])
         (λ f. said keywords.Fixed f
         ++ mark (ending_mark (ending_of end)) ∷ []) reader.old reader.new }
@@ -168,12 +174,13 @@ fn fixed(reader: &mut Reader<'_>, end: Ending) -> Result<bool, SchemaFault>
 }
 
 /// Reads what stands behind REAL.
-fn real<'a>(reader: &mut Reader<'a>, depth: u32, end: Ending) -> Result<DataType<'a>, SchemaFault>
+fn real<'a>(reader: &mut Reader<'a>, depth: u32, end: Ending) -> Result<DataType<'a>, SyntaxFault>
     requires depth { depth ≤ 64 }
-    ensures { MatchResult result
+    ensures read { MatchResult result
         (λ k. PassesBehind (keyword keywords.Real) (WidthOr depth (ending_of end) ∷ []) depth
         (ending_of end) (data_type_of k) reader.old reader.new)
         (λ e. StopsIn e (WidthOr depth (ending_of end) ∷ []) [] reader.old) }
+    ensures text { IfOk result (λ k. IsDataTypeOf reader.old.text k) }
 {
     let Some(width) = width_or_end(reader, depth, end)? else {
         return Ok(build::real(None));
@@ -187,12 +194,13 @@ fn fixed_width<'a>(
     reader: &mut Reader<'a>,
     depth: u32,
     end: Ending,
-) -> Result<Option<FixedWidth<'a>>, SchemaFault>
+) -> Result<Option<FixedWidth<'a>>, SyntaxFault>
     requires depth { depth ≤ 64 }
-    ensures { ParsesWhere result (FixedWidthOr depth (ending_of end) ∷ [])
+    ensures read { ParsesWhere result (FixedWidthOr depth (ending_of end) ∷ [])
         (λ f. words_of_fixed (if_some fixed_of f) ++ mark (ending_mark (ending_of end)) ∷ [])
         (λ f. Maybe (λ p. FitsWidth depth_limit depth p.0) (if_some fixed_of f)) reader.old
         reader.new }
+    ensures text { IfOk result (λ f. Maybe (IsFixedWidthOf reader.old.text) f) }
 {
     let Some(width) = width_or_end(reader, depth, end)? else {
         return Ok(None);
@@ -208,15 +216,16 @@ fn simple<'a>(
     found: Keyword,
     depth: u32,
     end: Ending,
-) -> Result<DataType<'a>, SchemaFault>
+) -> Result<DataType<'a>, SyntaxFault>
     requires depth { depth ≤ 64 }
     requires first { (located_of first).lookahead ≡ token (keyword found) }
     requires found { DataTypeParts.is_aggregate found ≡ false }
-    ensures { MatchResult result
+    ensures read { MatchResult result
         (λ k. PassesDataType (DataTypeThen depth (ending_of end) ∷ []) (located_of first.entry ∷ [])
         [] depth (ending_of end) (data_type_of k) reader.old reader.new)
         (λ e. StopsIn e (DataTypeThen depth (ending_of end) ∷ []) (located_of first.entry ∷ [])
         reader.old) }
+    ensures text { IfOk result (λ k. IsDataTypeOf reader.old.text k) }
 {
     match found {
         Keyword::Integer => ended(reader, DataType::Integer, end),
@@ -243,14 +252,15 @@ fn element_from<'a>(
     first: Item<'a>,
     depth: u32,
     end: Ending,
-) -> Result<(bool, Box<DataType<'a>>), SchemaFault>
+) -> Result<(bool, Box<DataType<'a>>), SyntaxFault>
     requires depth { depth ≤ 64 }
-    ensures { MatchResult result
+    ensures read { MatchResult result
         (λ x. PassesDataType (UniqueOr depth (ending_of end) ∷ []) (located_of first.entry ∷ [])
         (said keywords.Unique x.0) depth (ending_of end) (data_type_of x.1.value) reader.old
         reader.new)
         (λ e. StopsIn e (UniqueOr depth (ending_of end) ∷ []) (located_of first.entry ∷ [])
         reader.old) }
+    ensures text { IfOk result (λ x. IsDataTypeOf reader.old.text x.1.value) }
 {
     if is_keyword(first, Keyword::Unique) {
         let unique = data_type(reader, depth, end)?;
@@ -268,12 +278,13 @@ fn element<'a>(
     reader: &mut Reader<'a>,
     depth: u32,
     end: Ending,
-) -> Result<(bool, Box<DataType<'a>>), SchemaFault>
+) -> Result<(bool, Box<DataType<'a>>), SyntaxFault>
     requires depth { depth ≤ 64 }
-    ensures { MatchResult result
+    ensures read { MatchResult result
         (λ x. PassesDataType (UniqueOr depth (ending_of end) ∷ []) [] (said keywords.Unique x.0)
         depth (ending_of end) (data_type_of x.1.value) reader.old reader.new)
         (λ e. StopsIn e (UniqueOr depth (ending_of end) ∷ []) [] reader.old) }
+    ensures text { IfOk result (λ x. IsDataTypeOf reader.old.text x.1.value) }
 {
     let first = reader.take()?;
     element_from(reader, first, depth, end)
@@ -285,13 +296,14 @@ fn optional_element<'a>(
     reader: &mut Reader<'a>,
     depth: u32,
     end: Ending,
-) -> Result<(bool, bool, Box<DataType<'a>>), SchemaFault>
+) -> Result<(bool, bool, Box<DataType<'a>>), SyntaxFault>
     requires depth { depth ≤ 64 }
-    ensures { MatchResult result
+    ensures read { MatchResult result
         (λ x. PassesDataType (OptionalOr depth (ending_of end) ∷ []) [] (said keywords.Optional x.0
         ++ said keywords.Unique x.1) depth (ending_of end) (data_type_of x.2.value) reader.old
         reader.new)
         (λ e. StopsIn e (OptionalOr depth (ending_of end) ∷ []) [] reader.old) }
+    ensures text { IfOk result (λ x. IsDataTypeOf reader.old.text x.2.value) }
 {
     let first = reader.take()?;
     if is_keyword(first, Keyword::Optional) {
@@ -304,14 +316,15 @@ fn optional_element<'a>(
 
 /// Reads an array behind ARRAY.
 #[cycle(data_types)]
-fn array<'a>(reader: &mut Reader<'a>, depth: u32, end: Ending) -> Result<DataType<'a>, SchemaFault>
+fn array<'a>(reader: &mut Reader<'a>, depth: u32, end: Ending) -> Result<DataType<'a>, SyntaxFault>
     requires depth { depth < 64 }
-    ensures { MatchResult result
+    ensures read { MatchResult result
         (λ k. PassesBehind (keyword keywords.Array) (Just marks.OpenBracket ∷ (bounds_symbols depth
         ++ OptionalOr (depth + 1) (ending_of end) ∷ [])) depth (ending_of end) (data_type_of k)
         reader.old reader.new)
         (λ e. StopsIn e (Just marks.OpenBracket ∷ (bounds_symbols depth
         ++ OptionalOr (depth + 1) (ending_of end) ∷ [])) [] reader.old) }
+    ensures text { IfOk result (λ k. IsDataTypeOf reader.old.text k) }
 {
     reader.expect(Mark::OpenBracket)?;
     let bounds = bounds(reader, depth)?;
@@ -321,14 +334,15 @@ fn array<'a>(reader: &mut Reader<'a>, depth: u32, end: Ending) -> Result<DataTyp
 
 /// Reads a list behind LIST.
 #[cycle(data_types)]
-fn list<'a>(reader: &mut Reader<'a>, depth: u32, end: Ending) -> Result<DataType<'a>, SchemaFault>
+fn list<'a>(reader: &mut Reader<'a>, depth: u32, end: Ending) -> Result<DataType<'a>, SyntaxFault>
     requires depth { depth < 64 }
-    ensures { MatchResult result
+    ensures read { MatchResult result
         (λ k. PassesBehind (keyword keywords.List)
         (BoundsOrOf depth ∷ UniqueOr (depth + 1) (ending_of end) ∷ []) depth (ending_of end)
         (data_type_of k) reader.old reader.new)
         (λ e. StopsIn e (BoundsOrOf depth ∷ UniqueOr (depth + 1) (ending_of end) ∷ []) []
         reader.old) }
+    ensures text { IfOk result (λ k. IsDataTypeOf reader.old.text k) }
 {
     let bounds = some_bounds(reader, depth)?;
     let (is_unique, element) = element(reader, depth + 1, end)?;
@@ -341,9 +355,9 @@ fn collection<'a>(
     reader: &mut Reader<'a>,
     depth: u32,
     end: Ending,
-) -> Result<(Option<Bounds<'a>>, Box<DataType<'a>>), SchemaFault>
+) -> Result<(Option<Bounds<'a>>, Box<DataType<'a>>), SyntaxFault>
     requires depth { depth < 64 }
-    ensures { MatchResult result
+    ensures read { MatchResult result
         (λ x. Maybe (FitsBounds depth_limit depth) (if_some bounds_of x.0)
         × PassesDataType (BoundsOrOf depth ∷ DataTypeThen (depth + 1) (ending_of end) ∷ []) []
         (words_of_some_bounds (if_some bounds_of x.0)
@@ -351,6 +365,8 @@ fn collection<'a>(
         reader.new)
         (λ e. StopsIn e (BoundsOrOf depth ∷ DataTypeThen (depth + 1) (ending_of end) ∷ []) []
         reader.old) }
+    ensures text { IfOk result (λ x. Maybe (IsBoundsOf reader.old.text) x.0
+        × IsDataTypeOf reader.old.text x.1.value) }
 {
     let bounds = some_bounds(reader, depth)?;
     let element = data_type(reader, depth + 1, end)?;
@@ -366,15 +382,16 @@ fn aggregate<'a>(
     found: Keyword,
     depth: u32,
     end: Ending,
-) -> Result<DataType<'a>, SchemaFault>
+) -> Result<DataType<'a>, SyntaxFault>
     requires depth { depth ≤ 64 }
     requires first { (located_of first).lookahead ≡ token (keyword found) }
     requires found { DataTypeParts.is_aggregate found ≡ true }
-    ensures { MatchResult result
+    ensures read { MatchResult result
         (λ k. PassesDataType (DataTypeThen depth (ending_of end) ∷ []) (located_of first.entry ∷ [])
         [] depth (ending_of end) (data_type_of k) reader.old reader.new)
         (λ e. StopsIn e (DataTypeThen depth (ending_of end) ∷ []) (located_of first.entry ∷ [])
         reader.old) }
+    ensures text { IfOk result (λ k. IsDataTypeOf reader.old.text k) }
 {
     if depth >= LEVELS {
         return Err(fault_at(fault::FaultKind::TooDeep, first));
@@ -401,11 +418,12 @@ pub fn data_type_from<'a>(
     first: Item<'a>,
     depth: u32,
     end: Ending,
-) -> Result<DataType<'a>, SchemaFault>
+) -> Result<DataType<'a>, SyntaxFault>
     requires depth { depth ≤ 64 }
-    ensures { ParsesFrom (located_of first.entry) result (DataTypeThen depth (ending_of end) ∷ [])
+    ensures read { ParsesFrom (located_of first.entry) result (DataTypeThen depth (ending_of end) ∷ [])
         (λ k. words_of_data_type (data_type_of k) ++ mark (ending_mark (ending_of end)) ∷ [])
         (λ k. FitsDataType depth_limit depth (data_type_of k)) reader.old reader.new }
+    ensures text { IfOk result (λ k. IsDataTypeOf reader.old.text k) }
 {
     match first.lexeme {
         Lexeme::Name(word) => ended(reader, DataType::Named(word), end),
@@ -425,11 +443,12 @@ pub fn data_type<'a>(
     reader: &mut Reader<'a>,
     depth: u32,
     end: Ending,
-) -> Result<DataType<'a>, SchemaFault>
+) -> Result<DataType<'a>, SyntaxFault>
     requires depth { depth ≤ 64 }
-    ensures { ParsesWhere result (DataTypeThen depth (ending_of end) ∷ [])
+    ensures read { ParsesWhere result (DataTypeThen depth (ending_of end) ∷ [])
         (λ k. words_of_data_type (data_type_of k) ++ mark (ending_mark (ending_of end)) ∷ [])
         (λ k. FitsDataType depth_limit depth (data_type_of k)) reader.old reader.new }
+    ensures text { IfOk result (λ k. IsDataTypeOf reader.old.text k) }
 {
     let first = reader.take()?;
     data_type_from(reader, first, depth, end)

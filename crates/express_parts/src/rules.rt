@@ -1,6 +1,6 @@
 //! What rules and derived attributes say (ISO 10303-11, 9.2.1.2 and 9.2.2.2).
 
-ghost use Rattle.std.specs.Prelude.{◌≡◌, [], ◌∷◌, ◌++◌, List, map, false, MatchResult};
+ghost use Rattle.std.specs.Prelude.{◌≡◌, [], ◌∷◌, ◌++◌, List, map, false, IfOk, MatchResult};
 ghost use Rattle.express_lexis.specs.Reading.{Reading};
 ghost use Rattle.express_lexis.specs.declared.marks.Mark.TheVariants as marks;
 ghost use Rattle.express_trees.specs.declared.keyword.Keyword.{Keyword};
@@ -10,7 +10,8 @@ ghost use Rattle.express_runs.specs.Items.{located_of, named};
 ghost use Rattle.express_schemas.specs.Texts.{Shows};
 ghost use Rattle.express_schemas.specs.Views.{body_of, rule_of, rules_of};
 ghost use Rattle.express_schemas.specs.Written.{joined, words_of_body, words_of_rule};
-ghost use Rattle.express_schemas.specs.Profile.{FitsBody, FitsRules};
+ghost use Rattle.express_schemas.specs.Profile.{Every, FitsBody, FitsRules};
+ghost use Rattle.express_schemas.specs.Sources.{IsBodyOf, IsRuleOf};
 ghost use Rattle.express_runs.specs.OpenRuns.{IsBegun, more_of};
 ghost use Rattle.express_schemas.specs.Predict;
 ghost use Rattle.express_schemas.specs.Predict.{Running, in_rule, Rules};
@@ -19,16 +20,16 @@ ghost use Rattle.express_parts.specs.RuleReading.{BodyRead, RuleRead};
 
 use express_expressions::read::read_expression;
 use express_lexis::lexer::Lexer;
-use express_lexis::literal::Word;
 use express_lexis::marks::Mark;
 use express_runs::reader::Reader;
 use express_runs::runs::{Buffer, Ends, gather};
 use express_runs::tokens::{Item, is_keyword, is_mark};
-use express_schemas::fault::SchemaFault;
+use express_schemas::fault::SyntaxFault;
 use express_schemas::tree::{Body, Rule};
 use express_trees::keyword::Keyword;
 use express_trees::lexeme::Lexeme;
 use std::alloc::Global;
+use step_literals::literal::Word;
 
 /// The tokens of the buffer and those behind them up to a semicolon, of which this one is taken: an
 /// expression, or tokens that are none.
@@ -37,13 +38,14 @@ fn gathered_body<'a>(
     lexer: &mut Lexer<'a>,
     first: Item<'a>,
     buffer: &mut Buffer<'a>,
-) -> Result<Body<'a>, SchemaFault>
+) -> Result<Body<'a>, SyntaxFault>
     requires begun { (mid : Reading) × IsBegun in_rule 0 buffer.old mid
         × Shows mid (located_of first) lexer.old }
-    ensures { MatchResult result
+    ensures read { MatchResult result
         (λ b. BodyRead buffer.old (located_of first.entry) (body_of b) lexer.old lexer.new)
         (λ e. StopsIn e (more_of in_rule 0 buffer.old ∷ []) (located_of first.entry ∷ [])
         lexer.old) }
+    ensures text { IfOk result (λ b. IsBodyOf lexer.old.text b) }
 {
     let run = gather(lexer, Ends::Rule, 0, buffer, first)?;
     match read_expression(alloc, &buffer.lexemes, 0)? {
@@ -53,10 +55,11 @@ fn gathered_body<'a>(
 }
 
 /// Reads an expression, or tokens that are none, and the semicolon behind it.
-pub fn body<'a>(reader: &mut Reader<'a>) -> Result<Body<'a>, SchemaFault>
-    ensures { ParsesWhere result (Running in_rule 0 [] false ∷ [])
+pub fn body<'a>(reader: &mut Reader<'a>) -> Result<Body<'a>, SyntaxFault>
+    ensures read { ParsesWhere result (Running in_rule 0 [] false ∷ [])
         (λ b. words_of_body (body_of b) ++ mark marks.Semicolon ∷ [])
         (λ b. FitsBody depth_limit (body_of b)) reader.old reader.new }
+    ensures text { IfOk result (λ b. IsBodyOf reader.old.text b) }
 {
     let first = reader.take()?;
     reader.buffer.clear();
@@ -68,11 +71,12 @@ fn named_rule<'a>(
     reader: &mut Reader<'a>,
     word: Word<'a>,
     place: u64,
-) -> Result<Rule<'a>, SchemaFault>
+) -> Result<Rule<'a>, SyntaxFault>
     requires shown { (mid : Reading) × Shows mid (named word place) reader.old }
-    ensures { (end : Keyword) → MatchResult result
+    ensures read { (end : Keyword) → MatchResult result
         (λ r. RuleRead end (named word.entry place) (rule_of r) reader.old reader.new)
         (λ e. StopsIn e (Rules end ∷ []) (named word.entry place ∷ []) reader.old) }
+    ensures text { IfOk result (λ r. IsRuleOf reader.old.text r) }
 {
     let to = reader.place();
     let next = reader.take()?;
@@ -89,12 +93,13 @@ fn named_rule<'a>(
 }
 
 /// The rule that begins with this token.
-fn rule_from<'a>(reader: &mut Reader<'a>, first: Item<'a>) -> Result<Rule<'a>, SchemaFault>
+fn rule_from<'a>(reader: &mut Reader<'a>, first: Item<'a>) -> Result<Rule<'a>, SyntaxFault>
     requires shown { (mid : Reading) × Shows mid (located_of first) reader.old }
-    ensures { (end : Keyword) → Predict.is_keyword end (located_of first.entry).lookahead ≡ false
+    ensures read { (end : Keyword) → Predict.is_keyword end (located_of first.entry).lookahead ≡ false
         → MatchResult result
         (λ r. RuleRead end (located_of first.entry) (rule_of r) reader.old reader.new)
         (λ e. StopsIn e (Rules end ∷ []) (located_of first.entry ∷ []) reader.old) }
+    ensures text { IfOk result (λ r. IsRuleOf reader.old.text r) }
 {
     if let Lexeme::Name(word) = first.lexeme {
         return named_rule(reader, word, first.place);
@@ -105,11 +110,12 @@ fn rule_from<'a>(reader: &mut Reader<'a>, first: Item<'a>) -> Result<Rule<'a>, S
 }
 
 /// Reads rules up to the keyword that ends them, and its semicolon.
-pub fn rules<'a>(reader: &mut Reader<'a>, end: Keyword) -> Result<Vec<Rule<'a>>, SchemaFault>
-    ensures { ParsesWhere result (Rules end ∷ [])
+pub fn rules<'a>(reader: &mut Reader<'a>, end: Keyword) -> Result<Vec<Rule<'a>>, SyntaxFault>
+    ensures read { ParsesWhere result (Rules end ∷ [])
         (λ rs. joined (map words_of_rule (rules_of rs.items))
         ++ keyword end ∷ mark marks.Semicolon ∷ [])
         (λ rs. FitsRules depth_limit end (rules_of rs.items)) reader.old reader.new }
+    ensures text { IfOk result (λ rs. Every (IsRuleOf reader.old.text) rs.items) }
 {
     let mut rules = Vec::new(reader.alloc());
     loop {

@@ -5,8 +5,8 @@ use Rattle.express_lexis.specs.declared.marks.Mark.TheVariants as marks
 use Rattle.express_lexis.specs.Reading.{Reading, left}
 use Rattle.express_trees.specs.Words.{name, mark}
 use Rattle.express_trees.specs.Grammar.{depth_limit}
-use Rattle.express_schemas.specs.declared.fault.SchemaFault.{SchemaFault}
-use Rattle.express_schemas.specs.declared.fault.SchemaFault.TheVariants as faults
+use Rattle.express_schemas.specs.declared.fault.SyntaxFault.{SyntaxFault}
+use Rattle.express_schemas.specs.declared.fault.SyntaxFault.TheVariants as faults
 use Rattle.express_schemas.specs.Texts.{Lookahead, token, LocatedToken, Shows}
 use Rattle.express_schemas.specs.Written.{joined, with_commas, words_of_name, words_of_names}
 use Rattle.express_schemas.specs.Profile.{IsFilled}
@@ -27,12 +27,12 @@ pub names_first : (n : List ℕ) (old a b : Reading) → Passes (Just marks.Open
 names_first n old a b h g = record { filled = tt; passes = passes_then h (passes_more (Names ∷ []) g) }
 
 -- no name stands behind the parenthesis
-pub names_none : (e : SchemaFault) (old a : Reading) → Passes (Just marks.Open ∷ []) [] [] (mark marks.Open ∷ []) old a
+pub names_none : (e : SyntaxFault) (old a : Reading) → Passes (Just marks.Open ∷ []) [] [] (mark marks.Open ∷ []) old a
     → StopsIn e (Id ∷ []) [] a → StopsIn e names_symbols [] old
 names_none e old a h g = stops_behind e (Id ∷ []) (Names ∷ []) (passes_more (Id ∷ Names ∷ []) h) g
 
 -- what stops behind some names stops them
-pub names_stopped : (e : SchemaFault) (names : List (List ℕ)) (old here : Reading) → NamesSoFar names old here
+pub names_stopped : (e : SyntaxFault) (names : List (List ℕ)) (old here : Reading) → NamesSoFar names old here
     → StopsIn e (Names ∷ []) [] here → StopsIn e names_symbols [] old
 names_stopped e names old here h g = stops_behind e (Names ∷ []) [] h.passes g
 
@@ -43,7 +43,7 @@ names_refused (token (mark marks.Close)) c d = absurd (false≢true (sym c))
 names_refused _ c d = refl
 
 -- neither a comma nor the closing parenthesis stands behind some names
-pub names_other : (e : SchemaFault) (names : List (List ℕ)) (s : LocatedToken) (old here new : Reading)
+pub names_other : (e : SyntaxFault) (names : List (List ℕ)) (s : LocatedToken) (old here new : Reading)
     → NamesSoFar names old here → Shows here s new → is_mark marks.Close s.lookahead ≡ false
     → is_mark marks.Comma s.lookahead ≡ false → e ≡ faults.Fault (refused s.lookahead) s.place → StopsIn e names_symbols
     [] old
@@ -67,7 +67,7 @@ passes_comma names s old here new h shows c = passes_join h.passes
     (passes_token Names (Id ∷ Names ∷ []) (mark marks.Comma) s here new shows (mark_met marks.Comma s.lookahead c) refl)
 
 -- a comma without a name behind it
-pub names_lacking : (e : SchemaFault) (names : List (List ℕ)) (s : LocatedToken) (old here new : Reading)
+pub names_lacking : (e : SyntaxFault) (names : List (List ℕ)) (s : LocatedToken) (old here new : Reading)
     → NamesSoFar names old here → Shows here s new → is_mark marks.Comma s.lookahead ≡ true → StopsIn e (Id ∷ []) [] new
     → StopsIn e names_symbols [] old
 names_lacking e names s old here new h shows c g = stops_behind e (Id ∷ []) (Names ∷ [])

@@ -11,8 +11,8 @@ use Rattle.express_trees.specs.Words.{Word, mark, name, word_of, words_of}
 use Rattle.express_trees.specs.Grammar.{depth_limit}
 use Rattle.express_schemas.specs.declared.fault.FaultKind.{FaultKind}
 use Rattle.express_schemas.specs.declared.fault.FaultKind.TheVariants as fault_kinds
-use Rattle.express_schemas.specs.declared.fault.SchemaFault.{SchemaFault}
-use Rattle.express_schemas.specs.declared.fault.SchemaFault.TheVariants as faults
+use Rattle.express_schemas.specs.declared.fault.SyntaxFault.{SyntaxFault}
+use Rattle.express_schemas.specs.declared.fault.SyntaxFault.TheVariants as faults
 use Rattle.express_runs.specs.declared.runs.Bracket as code
 use Rattle.express_runs.specs.declared.runs.Buffer.{Buffer}
 use Rattle.express_runs.specs.declared.tokens.Item.{Item}
@@ -43,8 +43,8 @@ brackets_length xs = omega (arith, stacked_length xs [])
 
 -- an answer that is a fault
 pub agrees_fault : (t : Next) (part : RunEnd) (n : ℕ) (inner : List Bracket) (place : ℕ) (kind : FaultKind)
-    (e : SchemaFault) → e ≡ faults.Fault kind place → t ≡ Err kind → Agrees t part n inner place (Err e)
-agrees_fault t part n inner place kind e h g = let P : SchemaFault → Type 0 = λ f. Agrees t part n inner place (Err f)
+    (e : SyntaxFault) → e ≡ faults.Fault kind place → t ≡ Err kind → Agrees t part n inner place (Err e)
+agrees_fault t part n inner place kind e h g = let P : SyntaxFault → Type 0 = λ f. Agrees t part n inner place (Err f)
     in subst P (sym h) (g, refl)
 
 pub opened_deep : (part : RunEnd) (n : ℕ) (xs : List code.Bracket) (b : Bracket) → depth_limit ≤ n + length xs
@@ -68,7 +68,7 @@ opened_next part n xs ys x h e =
     rw lt (ap (going part n) same)
 
 pub closed_none : (part : RunEnd) (n : ℕ) (xs ys : List code.Bracket) (some : Bool) (b : Bracket) (m : Mark) (place : ℕ)
-    (r : Result Bool SchemaFault) → length xs ≡ 0 → length ys ≡ 0
+    (r : Result Bool SyntaxFault) → length xs ≡ 0 → length ys ≡ 0
     → Agrees (next_outside part n some true m) part n [] place r → Agrees (closed part n (brackets_of xs) some b m) part
     n (brackets_of ys) place r
 closed_none part n [] [] some b m place r e f h = h
@@ -91,7 +91,7 @@ pub closed_other : (part : RunEnd) (n : ℕ) (xs ys : List code.Bracket) (x : co
 closed_other part n xs ys x some b m e s = closed_is part n xs ys x some b m e ∙ rw s refl
 
 pub beside_none : (part : RunEnd) (n : ℕ) (xs : List code.Bracket) (some : Bool) (m : Mark) (place : ℕ)
-    (r : Result Bool SchemaFault) → length xs ≡ 0
+    (r : Result Bool SyntaxFault) → length xs ≡ 0
     → Agrees (next_outside part n some false m) part n [] place r → Agrees (next_mark part n (brackets_of xs) some m)
     part n (brackets_of xs) place r
 beside_none part n [] some m place r e h = h
@@ -108,7 +108,7 @@ beside_some part n xs some m h = beside_open part n (brackets_of xs) some m (λ 
 
 -- one word in the place of another that is the same
 pub agrees_word : (part : RunEnd) (n : ℕ) (xs ys : List Bracket) (some : Bool) (v w : Word) (place : ℕ)
-    (r : Result Bool SchemaFault) → v ≡ w
+    (r : Result Bool SyntaxFault) → v ≡ w
     → Agrees (next_running depth_limit part n xs some (token w)) part n ys place r
     → Agrees (next_running depth_limit part n xs some (token v)) part n ys place r
 agrees_word part n xs ys some v w place r e h = let P : Word → Type 0 =
@@ -182,7 +182,7 @@ pub record SoFar (part : RunEnd) (n : ℕ) (before : Buffer) (first : LocatedTok
   pub words : words_of b.lexemes.items ≡ words_of before.lexemes.items ++ further
   pub passes : (zs : List Symbol) (ws : List Word) (new : Reading) → Passes (running part n b ∷ []) zs (s ∷ []) ws here
       new → Passes (running part n before ∷ []) zs (first ∷ []) (further ++ ws) old new
-  pub stops : (e : SchemaFault) → StopsIn e (running part n b ∷ []) (s ∷ []) here
+  pub stops : (e : SyntaxFault) → StopsIn e (running part n b ∷ []) (s ∷ []) here
       → StopsIn e (running part n before ∷ []) (first ∷ []) old
 
 pub so_start : (part : RunEnd) (n : ℕ) (b : Buffer) (s : LocatedToken) (here last : Reading) → IsBegun part n b last
@@ -197,7 +197,7 @@ so_start part n b s here last h g = record {
   stops = λ e p. p;
 }
 
-stops_agreed : (e : SchemaFault) (part : RunEnd) (n : ℕ) (b : Buffer) (left : List Bracket) (s : LocatedToken)
+stops_agreed : (e : SyntaxFault) (part : RunEnd) (n : ℕ) (b : Buffer) (left : List Bracket) (s : LocatedToken)
     (here : Reading) → Agrees (answer part n b s) part n left s.place (Err e) → StopsIn e (running part n b ∷ [])
     (s ∷ []) here
 stops_agreed faults.Memory part n b left s here a = tt
@@ -206,7 +206,7 @@ stops_agreed (faults.Fault k p) part n b left s here a =
     subst P (sym a.1) (turning.stops_taken table Shows k (running part n b) s here a.0)
 
 -- the token can't stand there
-pub so_err_step : (e : SchemaFault) (part : RunEnd) (n : ℕ) (before : Buffer) (first : LocatedToken) (old : Reading)
+pub so_err_step : (e : SyntaxFault) (part : RunEnd) (n : ℕ) (before : Buffer) (first : LocatedToken) (old : Reading)
     (b : Buffer) (left : List Bracket) (s : LocatedToken) (here : Reading) (some : Bool) → SoFar part n before first old
     b s here
     → some ≡ has_some (words_of b.lexemes.items) → Agrees (next_running depth_limit part n (brackets_of b.open.items)
@@ -217,7 +217,7 @@ so_err_step e part n before first old b left s here some so same a =
     so.stops e (stops_agreed e part n b left s here (subst P same a))
 
 -- no token stands behind it
-pub so_err_take : (e : SchemaFault) (part : RunEnd) (n : ℕ) (before : Buffer) (first : LocatedToken) (old : Reading)
+pub so_err_take : (e : SyntaxFault) (part : RunEnd) (n : ℕ) (before : Buffer) (first : LocatedToken) (old : Reading)
     (b : Buffer) (left : List Bracket) (w : Word) (s : LocatedToken) (here : Reading) → SoFar part n before first old b
     s here
     → s.lookahead ≡ token w → answer part n b s ≡ Ok (Running part n left true ∷ [])

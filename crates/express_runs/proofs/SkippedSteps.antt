@@ -20,8 +20,8 @@ use Rattle.express_trees.specs.Words as words
 use Rattle.express_trees.specs.Words.{Word, name, mark, word_of}
 use Rattle.express_trees.specs.Grammar.{depth_limit}
 use Rattle.express_schemas.specs.declared.fault.FaultKind.TheVariants as fault_kinds
-use Rattle.express_schemas.specs.declared.fault.SchemaFault.{SchemaFault}
-use Rattle.express_schemas.specs.declared.fault.SchemaFault.TheVariants as faults
+use Rattle.express_schemas.specs.declared.fault.SyntaxFault.{SyntaxFault}
+use Rattle.express_schemas.specs.declared.fault.SyntaxFault.TheVariants as faults
 use Rattle.express_schemas.specs.Texts.{token, LocatedToken, Shows}
 use Rattle.express_schemas.specs.Passages.{Stands}
 use Rattle.express_schemas.specs.PassageLemmas.{stands_within, stands_some}
@@ -50,10 +50,10 @@ spelled text wanted r capital d =
     ))
 
 -- another token is expected
-pub stops_expected : (e : SchemaFault) (y : Symbol) (s : LocatedToken) (old new : Reading) → Shows old s new
+pub stops_expected : (e : SyntaxFault) (y : Symbol) (s : LocatedToken) (old new : Reading) → Shows old s new
     → next depth_limit y s.lookahead ≡ Err fault_kinds.Expected → e ≡ faults.Fault fault_kinds.Expected s.place
     → StopsIn e (y ∷ []) [] old
-stops_expected e y s old new h n q = let P : SchemaFault → Type 0 = λ x. StopsIn x (y ∷ []) [] old in
+stops_expected e y s old new h n q = let P : SyntaxFault → Type 0 = λ x. StopsIn x (y ∷ []) [] old in
     subst P (sym q) (stops_shown fault_kinds.Expected y s old new h n)
 
 pub name_expected : (l : Lexeme) → ((w : _) → l ≡ lexemes.Name w → ⊥) → next depth_limit SkippedName
@@ -404,7 +404,7 @@ until_text end old here new from to s w so h is text e =
     subst P (sym (e ∙ shown_text here new s w h is)) (so.stand (shown_within here new s w h is))
 
 -- one part stops behind another
-pub stops_second : {ys : List Symbol} {ws : List Word} {old mid : Reading} (e : SchemaFault) (zs xs : List Symbol)
+pub stops_second : {ys : List Symbol} {ws : List Word} {old mid : Reading} (e : SyntaxFault) (zs xs : List Symbol)
     → Passes ys [] [] ws old mid → StopsIn e zs [] mid → StopsIn e (ys ++ (zs ++ xs)) [] old
 stops_second e zs xs h g = stops_behind e zs xs (passes_more (zs ++ xs) h) g
 
@@ -436,7 +436,7 @@ pub skipped_done : {ws : List Word} {old new : Reading} (n text : List ℕ) (ys 
 skipped_done {ws} {old} n text ys place e t h =
     passes_join (taken_word n text ys place old ((bytes_eq-Decides text n).0 e) t) (passes_more (Declarations ∷ []) h)
 
-pub skipped_stops : (e : SchemaFault) (n text : List ℕ) (ys : List Symbol) (place : ℕ) (old : Reading)
+pub skipped_stops : (e : SyntaxFault) (n text : List ℕ) (ys : List Symbol) (place : ℕ) (old : Reading)
     → bytes_eq text n ≡ true → next depth_limit Declarations (token (name n)) ≡ Ok (ys ++ Declarations ∷ [])
     → StopsIn e ys [] old → (let s : LocatedToken = record {
       lookahead = token (name text);

@@ -1,6 +1,6 @@
 -- What the reader's tokens show.
 use Rattle.std.specs.Prelude.{ℕ}
-use Rattle.express_lexis.specs.declared.literal.Word as literal
+use Rattle.step_literals.specs.declared.literal.Word as literal
 use Rattle.express_trees.specs.Words.{word_of, name}
 use Rattle.express_trees.specs.Views.{capitals}
 use Rattle.express_runs.specs.declared.tokens.Item.{Item}

@@ -11,8 +11,8 @@ use Rattle.express_runs.specs.declared.runs.Buffer.{Buffer}
 use Rattle.express_runs.specs.declared.runs.Bracket as code
 use Rattle.express_runs.specs.declared.runs.Bracket.TheVariants as brackets
 use Rattle.express_runs.specs.declared.tokens.Item.{Item}
-use Rattle.express_schemas.specs.declared.fault.SchemaFault.{SchemaFault}
-use Rattle.express_schemas.specs.declared.fault.SchemaFault.TheVariants as faults
+use Rattle.express_schemas.specs.declared.fault.SyntaxFault.{SyntaxFault}
+use Rattle.express_schemas.specs.declared.fault.SyntaxFault.TheVariants as faults
 use Rattle.express_schemas.specs.Runs.{Bracket, parenthesis, square, brace, opening, Run, words_of_run, inside, FitsRun, IsSome, in_brackets}
 use Rattle.express_schemas.specs.Runs.{has_some}
 use Rattle.express_schemas.specs.Runs as runs
@@ -71,7 +71,7 @@ going_on part n inner true = []
 going_on part n inner false = Running part n inner true ∷ []
 
 -- the answer to one token is what the table says: whether the run is ended, or a fault at this place
-abbrev pub Agrees : Next → RunEnd → ℕ → List Bracket → ℕ → Result Bool SchemaFault → Type 0
+abbrev pub Agrees : Next → RunEnd → ℕ → List Bracket → ℕ → Result Bool SyntaxFault → Type 0
 Agrees t part n inner place (Ok ended) = t ≡ Ok (going_on part n inner ended)
 Agrees t part n inner place (Err faults.Memory) = Unit {0}
 Agrees t part n inner place (Err (faults.Fault kind p)) = (t ≡ Err kind) × (p ≡ place)

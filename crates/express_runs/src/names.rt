@@ -9,12 +9,12 @@ ghost use Rattle.express_schemas.specs.Steps.{ParsesWhere};
 
 use crate::reader::Reader;
 use crate::tokens::{is_mark, refuse};
-use express_lexis::literal::Word;
 use express_lexis::marks::Mark;
-use express_schemas::fault::SchemaFault;
+use express_schemas::fault::SyntaxFault;
+use step_literals::literal::Word;
 
 /// Reads names in parentheses, of which there is one at least.
-pub fn names<'a>(reader: &mut Reader<'a>) -> Result<Vec<Word<'a>>, SchemaFault>
+pub fn names<'a>(reader: &mut Reader<'a>) -> Result<Vec<Word<'a>>, SyntaxFault>
     ensures { ParsesWhere result names_symbols
         (λ ns. words_of_names (names_of ns.items)) (λ ns. IsFilled (names_of ns.items))
         reader.old reader.new }

@@ -12,13 +12,13 @@ ghost use Rattle.express_runs.specs.Items.{located_of};
 use crate::runs::Buffer;
 use crate::tokens::{Item, is_keyword, is_mark, next_item, refuse};
 use express_lexis::lexer::Lexer;
-use express_lexis::literal::Word;
 use express_lexis::marks::Mark;
-use express_schemas::fault::SchemaFault;
+use express_schemas::fault::SyntaxFault;
 use express_trees::keyword::Keyword;
 use express_trees::lexeme::Lexeme;
 use std::alloc::Global;
 use std::marker::Model;
+use step_literals::literal::Word;
 
 /// Reads a text by its tokens. It has the memory for the trees, and a buffer that is used again for
 /// each run.
@@ -69,7 +69,7 @@ impl<'a> Reader<'a> {
     }
 
     /// The next token, where the text doesn't end.
-    pub fn take(&mut self) -> Result<Item<'a>, SchemaFault>
+    pub fn take(&mut self) -> Result<Item<'a>, SyntaxFault>
         ensures { MatchResult result
             (λ i. Shows self.old (located_of i) self.new)
             (λ e. (y : Symbol) → (y ≡ EndOfText → ⊥) → StopsIn e (y ∷ []) [] self.old) }
@@ -78,7 +78,7 @@ impl<'a> Reader<'a> {
     }
 
     /// Reads this mark.
-    pub fn expect(&mut self, wanted: Mark) -> Result<(), SchemaFault>
+    pub fn expect(&mut self, wanted: Mark) -> Result<(), SyntaxFault>
         ensures { Parses result (Just wanted ∷ []) (λ _. mark wanted ∷ []) self.old self.new }
     {
         let item = self.take()?;
@@ -89,7 +89,7 @@ impl<'a> Reader<'a> {
     }
 
     /// Reads this keyword.
-    pub fn expect_keyword(&mut self, wanted: Keyword) -> Result<(), SchemaFault>
+    pub fn expect_keyword(&mut self, wanted: Keyword) -> Result<(), SyntaxFault>
         ensures { Parses result (Say wanted ∷ []) (λ _. keyword wanted ∷ []) self.old self.new }
     {
         let item = self.take()?;
@@ -100,7 +100,7 @@ impl<'a> Reader<'a> {
     }
 
     /// Reads a name.
-    pub fn expect_name(&mut self) -> Result<Word<'a>, SchemaFault>
+    pub fn expect_name(&mut self) -> Result<Word<'a>, SyntaxFault>
         ensures { Parses result (Id ∷ []) (λ w. name (capitals w) ∷ []) self.old self.new }
     {
         let item = self.take()?;

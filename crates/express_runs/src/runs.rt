@@ -5,7 +5,7 @@ ghost use Rattle.express_lexis.specs.Reading.{Reading};
 ghost use Rattle.express_trees.specs.Words.{words_of, mark, name};
 ghost use Rattle.express_trees.specs.Views.{capitals};
 ghost use Rattle.express_trees.specs.Grammar.{depth_limit};
-ghost use Rattle.express_schemas.specs.declared.fault.SchemaFault.TheVariants.{Fault};
+ghost use Rattle.express_schemas.specs.declared.fault.SyntaxFault.TheVariants.{Fault};
 ghost use Rattle.express_runs.specs.Items.{located_of, named};
 ghost use Rattle.express_schemas.specs.Texts.{Shows};
 ghost use Rattle.express_schemas.specs.Views.{run_of};
@@ -29,13 +29,13 @@ ghost use Rattle.express_schemas.specs.Passages.{Stands, IsRun};
 
 use crate::tokens::{Item, next_item};
 use express_lexis::lexer::Lexer;
-use express_lexis::literal::Word;
 use express_lexis::marks::Mark;
-use express_schemas::fault::{FaultKind, SchemaFault};
+use express_schemas::fault::{FaultKind, SyntaxFault};
 use express_schemas::passage::{Passage, Run};
 use express_trees::lexeme::Lexeme;
 use express_trees::tree::LEVELS;
 use std::alloc::{AllocError, Global};
+use step_literals::literal::Word;
 
 /// What ends a run.
 #[derive(Clone, Copy, Debug, PartialEq, Eq)]
@@ -128,10 +128,10 @@ fn run_between(text: &[u8], from: u64, to: u64) -> Run<'_>
     Run::of(Passage::between(text, from as usize, to as usize))
 }
 
-fn fault(kind: FaultKind, place: u64) -> SchemaFault
+fn fault(kind: FaultKind, place: u64) -> SyntaxFault
     ensures { result ≡ Fault kind place }
 {
-    SchemaFault::Fault { kind, place }
+    SyntaxFault::Fault { kind, place }
 }
 
 /// Whether the mark ends such a run where none of its brackets is open.
@@ -164,7 +164,7 @@ fn opened(
     open: &mut Vec<Bracket>,
     bracket: Bracket,
     place: u64,
-) -> Result<bool, SchemaFault>
+) -> Result<bool, SyntaxFault>
     requires around { around ≤ 64 }
     requires within { length open.old.items ≤ 64 }
     ensures { (part : RunEnd) → Agrees
@@ -185,7 +185,7 @@ fn outside(
     closes: bool,
     mark: Mark,
     place: u64,
-) -> Result<bool, SchemaFault>
+) -> Result<bool, SyntaxFault>
     ensures { (around : _) → Agrees (Predict.next_outside (part_of part) around some closes mark)
         (part_of part) around [] place result }
 {
@@ -209,7 +209,7 @@ fn closed(
     bracket: Bracket,
     mark: Mark,
     place: u64,
-) -> Result<bool, SchemaFault>
+) -> Result<bool, SyntaxFault>
     ensures { (around : _) → Agrees
         (Predict.closed (part_of part) around (brackets_of open.old.items) some
         (bracket_of bracket) mark)
@@ -234,7 +234,7 @@ fn beside(
     some: bool,
     mark: Mark,
     place: u64,
-) -> Result<bool, SchemaFault>
+) -> Result<bool, SyntaxFault>
     ensures { (around : _) → Agrees
         (Predict.next_mark (part_of part) around (brackets_of open.now) some mark)
         (part_of part) around (brackets_of open.now) place result }
@@ -252,7 +252,7 @@ fn step(
     open: &mut Vec<Bracket>,
     some: bool,
     item: Item<'_>,
-) -> Result<bool, SchemaFault>
+) -> Result<bool, SyntaxFault>
     requires around { around ≤ 64 }
     requires within { length open.old.items ≤ 64 }
     ensures { Agrees
@@ -283,7 +283,7 @@ pub fn gather<'a>(
     around: u32,
     buffer: &mut Buffer<'a>,
     first: Item<'a>,
-) -> Result<Run<'a>, SchemaFault>
+) -> Result<Run<'a>, SyntaxFault>
     requires around { around ≤ 64 }
     requires begun { (mid : Reading) × IsBegun (part_of part) around buffer.old mid
         × Shows mid (located_of first) lexer.old }

@@ -31,12 +31,12 @@ ghost use Rattle.express_schemas.specs.Steps.{Passes, Parses, ParsesWhere, Stops
 
 use crate::reader::Reader;
 use crate::tokens::{Item, fault_at, is_mark};
-use express_lexis::literal::Word;
 use express_lexis::marks::Mark;
-use express_schemas::fault::{FaultKind, SchemaFault};
+use express_schemas::fault::{FaultKind, SyntaxFault};
 use express_schemas::passage::{Passage, Routine};
 use express_schemas::tree::Skipped;
 use express_trees::lexeme::Lexeme;
+use step_literals::literal::Word;
 
 /// Whether a name is this word, which is in capitals.
 fn spells(found: Word<'_>, wanted: &[u8]) -> bool
@@ -58,7 +58,7 @@ fn is_named(item: Item<'_>, wanted: &[u8]) -> bool
 }
 
 /// The name of a declaration.
-fn skipped_name<'a>(reader: &mut Reader<'a>) -> Result<Word<'a>, SchemaFault>
+fn skipped_name<'a>(reader: &mut Reader<'a>) -> Result<Word<'a>, SyntaxFault>
     ensures { Parses result (SkippedName ∷ []) (λ w. name (capitals w) ∷ []) reader.old reader.new }
 {
     let item = reader.take()?;
@@ -69,7 +69,7 @@ fn skipped_name<'a>(reader: &mut Reader<'a>) -> Result<Word<'a>, SchemaFault>
 }
 
 /// The semicolon behind a declaration.
-fn skipped_end(reader: &mut Reader<'_>) -> Result<(), SchemaFault>
+fn skipped_end(reader: &mut Reader<'_>) -> Result<(), SyntaxFault>
     ensures { Parses result (SkippedEnd ∷ [])
         (λ _. mark marks.Semicolon ∷ []) reader.old reader.new }
 {
@@ -128,7 +128,7 @@ fn left_open(others: u64, item: Item<'_>) -> Option<u64>
 }
 
 /// The tokens of a function or procedure behind its name, with the word that ends it.
-fn routine_tokens<'a>(reader: &mut Reader<'a>) -> Result<Routine<'a>, SchemaFault>
+fn routine_tokens<'a>(reader: &mut Reader<'a>) -> Result<Routine<'a>, SyntaxFault>
     ensures read { ParsesWhere result (Predict.Routine 0 ∷ [])
         (λ r. words_of_routine (routine_of r)) (λ r. FitsRoutine (routine_of r))
         reader.old reader.new }
@@ -150,7 +150,7 @@ fn routine_tokens<'a>(reader: &mut Reader<'a>) -> Result<Routine<'a>, SchemaFaul
 }
 
 /// The tokens up to a name, which is in capitals, and that.
-fn tokens_until<'a>(reader: &mut Reader<'a>, end: &[u8]) -> Result<Passage<'a>, SchemaFault>
+fn tokens_until<'a>(reader: &mut Reader<'a>, end: &[u8]) -> Result<Passage<'a>, SyntaxFault>
     requires { upper end.now ≡ end.now }
     ensures read { ParsesWhere result (Until end.now ∷ [])
         (λ p. words_of_passage p ++ name end.now ∷ []) (λ p. IsWithout end.now (words_of_passage p))
@@ -170,7 +170,7 @@ fn tokens_until<'a>(reader: &mut Reader<'a>, end: &[u8]) -> Result<Passage<'a>, 
 }
 
 /// A function or procedure behind its first word.
-fn named_routine<'a>(reader: &mut Reader<'a>) -> Result<(Word<'a>, Routine<'a>), SchemaFault>
+fn named_routine<'a>(reader: &mut Reader<'a>) -> Result<(Word<'a>, Routine<'a>), SyntaxFault>
     ensures read { ParsesWhere result (SkippedName ∷ Predict.Routine 0 ∷ SkippedEnd ∷ [])
         (λ r. name (capitals r.0)
         ∷ (words_of_routine (routine_of r.1) ++ mark marks.Semicolon ∷ []))
@@ -184,7 +184,7 @@ fn named_routine<'a>(reader: &mut Reader<'a>) -> Result<(Word<'a>, Routine<'a>),
 }
 
 /// The tokens of a declaration up to this name, with that and the semicolon.
-fn tokens_ended<'a>(reader: &mut Reader<'a>, end: &[u8]) -> Result<Passage<'a>, SchemaFault>
+fn tokens_ended<'a>(reader: &mut Reader<'a>, end: &[u8]) -> Result<Passage<'a>, SyntaxFault>
     requires { upper end.now ≡ end.now }
     ensures read { ParsesWhere result (Until end.now ∷ SkippedEnd ∷ [])
         (λ p. words_of_passage p ++ name end.now ∷ mark marks.Semicolon ∷ [])
@@ -200,7 +200,7 @@ fn tokens_ended<'a>(reader: &mut Reader<'a>, end: &[u8]) -> Result<Passage<'a>, 
 fn named_tokens<'a>(
     reader: &mut Reader<'a>,
     end: &[u8],
-) -> Result<(Word<'a>, Passage<'a>), SchemaFault>
+) -> Result<(Word<'a>, Passage<'a>), SyntaxFault>
     requires { upper end.now ≡ end.now }
     ensures read { ParsesWhere result (SkippedName ∷ Until end.now ∷ SkippedEnd ∷ [])
         (λ p. name (capitals p.0)
@@ -218,7 +218,7 @@ pub fn skipped<'a>(
     reader: &mut Reader<'a>,
     first: Word<'a>,
     place: u64,
-) -> Result<Skipped<'a>, SchemaFault>
+) -> Result<Skipped<'a>, SyntaxFault>
     ensures read { MatchResult result
         (λ s. FitsSkipped (skipped_of s)
         × Passes (Declarations ∷ []) (Declarations ∷ []) (named first.entry place ∷ [])
@@ -246,7 +246,7 @@ pub fn skipped<'a>(
         let (name, tokens) = named_tokens(reader, b"END_SUBTYPE_CONSTRAINT")?;
         return Ok(Skipped::SubtypeConstraint(name, tokens));
     }
-    Err(SchemaFault::Fault {
+    Err(SyntaxFault::Fault {
         kind: FaultKind::Expected,
         place,
     })

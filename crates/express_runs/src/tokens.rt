@@ -3,7 +3,7 @@
 ghost use Rattle.std.specs.Prelude.{◌≡◌, [], ◌∷◌, MatchResult};
 ghost use Rattle.express_trees.specs.Words.{keyword, mark, name};
 ghost use Rattle.express_trees.specs.Views.{capitals};
-ghost use Rattle.express_schemas.specs.declared.fault.SchemaFault.TheVariants.{Fault};
+ghost use Rattle.express_schemas.specs.declared.fault.SyntaxFault.TheVariants.{Fault};
 ghost use Rattle.express_schemas.specs.Texts.{Shows, token};
 ghost use Rattle.express_schemas.specs.Predict;
 ghost use Rattle.express_schemas.specs.Predict.{Symbol, Just, Say, Id, EndOfText, refused};
@@ -11,11 +11,11 @@ ghost use Rattle.express_schemas.specs.Steps.{Passes, StopsIn};
 ghost use Rattle.express_runs.specs.Items.{located_of};
 
 use express_lexis::lexer::Lexer;
-use express_lexis::literal::Word;
 use express_lexis::marks::Mark;
-use express_schemas::fault::{FaultKind, LeftOut, SchemaFault};
+use express_schemas::fault::{FaultKind, LeftOut, SyntaxFault};
 use express_trees::keyword::Keyword;
 use express_trees::lexeme::Lexeme;
+use step_literals::literal::Word;
 
 /// A token as the grammar sees it, and how many bytes come before it.
 #[derive(Clone, Copy)]
@@ -25,7 +25,7 @@ pub struct Item<'a> {
 }
 
 /// The next token, where the text doesn't end.
-pub fn next_item<'a>(lexer: &mut Lexer<'a>) -> Result<Item<'a>, SchemaFault>
+pub fn next_item<'a>(lexer: &mut Lexer<'a>) -> Result<Item<'a>, SyntaxFault>
     ensures { MatchResult result
         (λ i. Shows lexer.old (located_of i) lexer.new)
         (λ e. (y : Symbol) → (y ≡ EndOfText → ⊥) → StopsIn e (y ∷ []) [] lexer.old) }
@@ -35,11 +35,11 @@ pub fn next_item<'a>(lexer: &mut Lexer<'a>) -> Result<Item<'a>, SchemaFault>
             lexeme: Lexeme::of(&token),
             place: token.place,
         }),
-        Ok(None) => Err(SchemaFault::Fault {
+        Ok(None) => Err(SyntaxFault::Fault {
             kind: FaultKind::Expected,
             place: lexer.place(),
         }),
-        Err(fault) => Err(SchemaFault::Fault {
+        Err(fault) => Err(SyntaxFault::Fault {
             kind: FaultKind::BadToken,
             place: fault.place,
         }),
@@ -47,10 +47,10 @@ pub fn next_item<'a>(lexer: &mut Lexer<'a>) -> Result<Item<'a>, SchemaFault>
 }
 
 /// A fault at a token.
-pub fn fault_at(kind: FaultKind, at: Item<'_>) -> SchemaFault
+pub fn fault_at(kind: FaultKind, at: Item<'_>) -> SyntaxFault
     ensures { result ≡ Fault kind at.entry.place }
 {
-    SchemaFault::Fault {
+    SyntaxFault::Fault {
         kind,
         place: at.place,
     }
@@ -73,7 +73,7 @@ fn refused_keyword(found: Keyword) -> FaultKind
 }
 
 /// The fault at a token that can't stand where it stands.
-pub fn refuse(item: Item<'_>) -> SchemaFault
+pub fn refuse(item: Item<'_>) -> SyntaxFault
     ensures { result ≡ Fault (refused (located_of item.entry).lookahead) item.entry.place }
 {
     match item.lexeme {

@@ -11,9 +11,10 @@ use Rattle.predictive.proofs.Turning.{stops_run}
 use Rattle.express_lexis.specs.Reading.{Reading, start}
 use Rattle.express_trees.specs.Grammar.{depth_limit}
 use Rattle.express_schemas.specs.declared.fault.FaultKind.{FaultKind}
-use Rattle.express_schemas.specs.declared.fault.SchemaFault.{SchemaFault}
-use Rattle.express_schemas.specs.declared.fault.SchemaFault.TheVariants as faults
+use Rattle.express_schemas.specs.declared.fault.SyntaxFault.{SyntaxFault}
+use Rattle.express_schemas.specs.declared.fault.SyntaxFault.TheVariants as faults
 use Rattle.express_schemas.specs.Schemas.{Schema}
+use Rattle.express_schemas.specs.Faults.{schema_fault}
 use Rattle.express_schemas.specs.Texts.{LocatedToken, Shows, ShowsAll, ReadsAs, IsKind, IsFirstFault, IsFaultOf, IsMemory}
 use Rattle.express_schemas.specs.Laws.{ReadsWithoutFault, FaultsOnce}
 use Rattle.express_schemas.specs.Predict.{schema_symbols, run}
@@ -36,7 +37,8 @@ stopped text s new kind place h e =
     (data_type_of f.before f.at t.0 t.1 t.3 t.2 t.4))
 
 -- a stop of the table is the text's first fault
-pub stop_is_fault : (e : SchemaFault) (text : List ℕ) → StopsIn e schema_symbols [] (start text) → IsFaultOf text e
+pub stop_is_fault : (e : SyntaxFault) (text : List ℕ) → StopsIn e schema_symbols [] (start text)
+    → IsFaultOf text (schema_fault e)
 stop_is_fault faults.Memory text h = tt
 stop_is_fault (faults.Fault kind place) text h =
     let g = stops_run table Shows kind place schema_symbols (start text) h in
@@ -56,8 +58,8 @@ reads_on text x r kind place s new h e = by (shown_alike Shows shown_once (start
         (ap (run depth_limit schema_symbols) (sym m.1) ∙ stops_append table s m.0 schema_symbols kind place e)
 
 -- what reads as a schema stops nowhere
-pub reads_never_stops : (e : SchemaFault) (text : List ℕ) (x : Schema) → ReadsAs text x → StopsIn e schema_symbols []
-    (start text) → IsMemory e
+pub reads_never_stops : (e : SyntaxFault) (text : List ℕ) (x : Schema) → ReadsAs text x → StopsIn e schema_symbols []
+    (start text) → IsMemory (schema_fault e)
 reads_never_stops faults.Memory text x r h = refl
 reads_never_stops (faults.Fault kind place) text x r h =
     let g = stops_run table Shows kind place schema_symbols (start text) h in

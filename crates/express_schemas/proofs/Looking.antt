@@ -20,8 +20,8 @@ use Rattle.express_trees.specs.Keywords.{keyword_text, keyword_at}
 use Rattle.express_trees.specs.Words.{Word, keyword, mark, word_of, word_of_sort}
 use Rattle.express_trees.specs.Grammar.{depth_limit}
 use Rattle.express_schemas.specs.declared.fault.FaultKind.TheVariants as fault_kinds
-use Rattle.express_schemas.specs.declared.fault.SchemaFault.{SchemaFault}
-use Rattle.express_schemas.specs.declared.fault.SchemaFault.TheVariants as faults
+use Rattle.express_schemas.specs.declared.fault.SyntaxFault.{SyntaxFault}
+use Rattle.express_schemas.specs.declared.fault.SyntaxFault.TheVariants as faults
 use Rattle.express_schemas.specs.Texts.{Lookahead, token, flawed, end_of_text, LocatedToken, ShowsAll, Shows, shows_token, shows_fault, shows_end}
 use Rattle.express_schemas.specs.Predict.{Symbol, Just, Say, Id, EndOfText, next, refused, is_mark, is_keyword}
 use Rattle.express_schemas.specs.Steps.{table, Reads, Turns, StopsIn, Passes}
@@ -57,10 +57,10 @@ pub shows_lexeme : (t : Token) (l : Lexeme) (old new : Reading) → word_of l �
 shows_lexeme t l old new e h = shows_token t h (λ i. record { lookahead = token (e i); place = t.place })
 
 -- a token that can't stand there is refused
-pub stops_refused : (e : SchemaFault) (y : Symbol) (s : LocatedToken) (old new : Reading) → Shows old s new
+pub stops_refused : (e : SyntaxFault) (y : Symbol) (s : LocatedToken) (old new : Reading) → Shows old s new
     → next depth_limit y s.lookahead ≡ Err (refused s.lookahead) → e ≡ faults.Fault (refused s.lookahead) s.place
     → StopsIn e (y ∷ []) [] old
-stops_refused e y s old new h n q = let P : SchemaFault → Type 0 = λ x. StopsIn x (y ∷ []) [] old in
+stops_refused e y s old new h n q = let P : SyntaxFault → Type 0 = λ x. StopsIn x (y ∷ []) [] old in
     subst P (sym q) (stops_shown (refused s.lookahead) y s old new h n)
 
 -- a token that may stand there

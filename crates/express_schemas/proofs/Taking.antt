@@ -7,8 +7,8 @@ use Rattle.predictive.proofs.Turning as turning
 use Rattle.express_lexis.specs.Reading.{Reading}
 use Rattle.express_trees.specs.Words.{Word}
 use Rattle.express_trees.specs.Grammar.{depth_limit}
-use Rattle.express_schemas.specs.declared.fault.SchemaFault.{SchemaFault}
-use Rattle.express_schemas.specs.declared.fault.SchemaFault.TheVariants as faults
+use Rattle.express_schemas.specs.declared.fault.SyntaxFault.{SyntaxFault}
+use Rattle.express_schemas.specs.declared.fault.SyntaxFault.TheVariants as faults
 use Rattle.express_schemas.specs.Texts.{token, LocatedToken, Shows}
 use Rattle.express_schemas.specs.Predict.{Symbol, next, refused, run}
 use Rattle.express_schemas.specs.Steps.{table, Turns, fault_at, StopsIn, Passes}
@@ -95,20 +95,20 @@ passes_first {ys} {zs} {ws} {b} {c} s a h g = record {
 
 -- what stops behind what passes stops it all
 pub stops_behind : {ys : List Symbol} {before : List LocatedToken} {ws : List Word} {old mid : Reading}
-    (e : SchemaFault) (zs xs : List Symbol) → Passes ys (zs ++ xs) before ws old mid → StopsIn e zs [] mid
+    (e : SyntaxFault) (zs xs : List Symbol) → Passes ys (zs ++ xs) before ws old mid → StopsIn e zs [] mid
     → StopsIn e ys before old
 stops_behind {ys} {before} {ws} {old} {mid} e zs xs h g = turning.stops_via table Shows (fault_at e) ys zs xs before old
     mid (turns_of h) g
 
 -- the same where the stop has its first token taken already
 pub stops_behind_taken : {ys : List Symbol} {before : List LocatedToken} {ws : List Word} {old mid new : Reading}
-    (e : SchemaFault) (zs xs : List Symbol) (s : LocatedToken) → Passes ys (zs ++ xs) before ws old mid
+    (e : SyntaxFault) (zs xs : List Symbol) (s : LocatedToken) → Passes ys (zs ++ xs) before ws old mid
     → Shows mid s new → StopsIn e zs (s ∷ []) new → StopsIn e ys before old
 stops_behind_taken {ys} {before} {ws} {old} {mid} {new} e zs xs s h shows g = turning.stops_via_taken table Shows
     (fault_at e) ys zs xs before s old mid new (turns_of h) shows g
 
 -- .. where nothing comes before it
-pub stops_first : {old new : Reading} (e : SchemaFault) (ys : List Symbol) (s : LocatedToken) → Shows old s new
+pub stops_first : {old new : Reading} (e : SyntaxFault) (ys : List Symbol) (s : LocatedToken) → Shows old s new
     → StopsIn e ys (s ∷ []) new → StopsIn e ys [] old
 stops_first {old} {new} e ys s shows g = turning.stops_via_taken table Shows (fault_at e) ys ys [] [] s old old new
     (record {
@@ -119,18 +119,18 @@ stops_first {old} {new} e ys s shows g = turning.stops_via_taken table Shows (fa
     shows g
 
 -- what stops what is first stops all
-pub stops_all : (e : SchemaFault) (ys xs : List Symbol) (before : List LocatedToken) (old : Reading)
+pub stops_all : (e : SyntaxFault) (ys xs : List Symbol) (before : List LocatedToken) (old : Reading)
     → StopsIn e ys before old → StopsIn e (ys ++ xs) before old
 stops_all e ys xs before old h = turning.stops_more table Shows (fault_at e) ys xs before old h
 
 -- .. where some of it passes, and this is to come next
-pub stops_next : {ys : List Symbol} {before : List LocatedToken} {ws : List Word} {old mid : Reading} (e : SchemaFault)
+pub stops_next : {ys : List Symbol} {before : List LocatedToken} {ws : List Word} {old mid : Reading} (e : SyntaxFault)
     (zs xs : List Symbol) → Passes ys [] before ws old mid → StopsIn e zs [] mid → StopsIn e (ys ++ (zs ++ xs)) before
     old
 stops_next e zs xs h g = stops_behind e zs xs (passes_more (zs ++ xs) h) g
 
 -- a token taken already that can't stand there
-pub stops_here : (e : SchemaFault) (y : Symbol) (s : LocatedToken) (here : Reading)
+pub stops_here : (e : SyntaxFault) (y : Symbol) (s : LocatedToken) (here : Reading)
     → next depth_limit y s.lookahead ≡ Err (refused s.lookahead) → e ≡ faults.Fault (refused s.lookahead) s.place
     → StopsIn e (y ∷ []) (s ∷ []) here
 stops_here e y s here n is = subst (λ f. StopsIn f (y ∷ []) (s ∷ []) here) (sym is)
@@ -148,7 +148,7 @@ passes_other y z s same h = record {
 }
 
 -- .. and stops where the other does
-pub stops_as : (e : SchemaFault) (y z : Symbol) (s : LocatedToken) (old : Reading)
+pub stops_as : (e : SyntaxFault) (y z : Symbol) (s : LocatedToken) (old : Reading)
     → next depth_limit y s.lookahead ≡ next depth_limit z s.lookahead → StopsIn e (z ∷ []) (s ∷ []) old
     → StopsIn e (y ∷ []) (s ∷ []) old
 stops_as faults.Memory y z s old same h = tt

@@ -10,8 +10,8 @@ use Rattle.express_lexis.specs.Reading.{Reading, Takes}
 use Rattle.express_trees.specs.Words.{Word, word_of_sort}
 use Rattle.express_trees.specs.Grammar.{depth_limit}
 use Rattle.express_schemas.specs.declared.fault.FaultKind.{FaultKind}
-use Rattle.express_schemas.specs.declared.fault.SchemaFault.{SchemaFault}
-use Rattle.express_schemas.specs.declared.fault.SchemaFault.TheVariants as faults
+use Rattle.express_schemas.specs.declared.fault.SyntaxFault.{SyntaxFault}
+use Rattle.express_schemas.specs.declared.fault.SyntaxFault.TheVariants as faults
 use Rattle.express_schemas.specs.Texts.{token, LocatedToken, located, Shows, shows_token, ShowsAll}
 use Rattle.express_schemas.specs.Predict.{Symbol, next}
 use Rattle.express_schemas.specs.Steps.{table, Reads, Turns, fault_at, StopsIn}
@@ -63,12 +63,12 @@ turns_reads_first ys ws t old new pass s h e = turning.turns_reads_first table S
     new pass s h e
 
 -- what stops behind what was read stops it all
-pub stops_via : (e : SchemaFault) (ys zs ws : List Symbol) (before : List LocatedToken) (old mid : Reading)
+pub stops_via : (e : SyntaxFault) (ys zs ws : List Symbol) (before : List LocatedToken) (old mid : Reading)
     → Turns ys (zs ++ ws) before old mid → StopsIn e zs [] mid → StopsIn e ys before old
 stops_via e ys zs ws before old mid h g = turning.stops_via table Shows (fault_at e) ys zs ws before old mid h g
 
 -- the same where the stop has its first token taken already
-pub stops_via_taken : (e : SchemaFault) (ys zs ws : List Symbol) (before : List LocatedToken) (t : Token)
+pub stops_via_taken : (e : SyntaxFault) (ys zs ws : List Symbol) (before : List LocatedToken) (t : Token)
     (old mid new : Reading) → Turns ys (zs ++ ws) before old mid → Takes mid t new → StopsIn e zs (located t ∷ []) new
     → StopsIn e ys before old
 stops_via_taken e ys zs ws before t old mid new h taken g = turning.stops_via_taken table Shows (fault_at e) ys zs ws
@@ -90,7 +90,7 @@ pub stops_shown : (k : FaultKind) (y : Symbol) (s : LocatedToken) (old new : Rea
 stops_shown k y s old new h e = turning.stops_token table Shows k y s old new h e
 
 -- what stops what is first stops all
-pub stops_more : (e : SchemaFault) (ys ws : List Symbol) (before : List LocatedToken) (old : Reading)
+pub stops_more : (e : SyntaxFault) (ys ws : List Symbol) (before : List LocatedToken) (old : Reading)
     → StopsIn e ys before old → StopsIn e (ys ++ ws) before old
 stops_more e ys ws before old h = turning.stops_more table Shows (fault_at e) ys ws before old h
 

@@ -13,3 +13,4 @@ pub mod SchemaViews
 pub mod Laws
 pub mod Clauses
 pub mod Sources
+pub mod Faults

@@ -6,8 +6,8 @@ use Rattle.express_lexis.specs.Reading.{Reading}
 use Rattle.express_trees.specs.Words.{Word}
 use Rattle.express_trees.specs.Grammar.{depth_limit}
 use Rattle.express_schemas.specs.declared.fault.FaultKind.{FaultKind}
-use Rattle.express_schemas.specs.declared.fault.SchemaFault.{SchemaFault}
-use Rattle.express_schemas.specs.declared.fault.SchemaFault.TheVariants as faults
+use Rattle.express_schemas.specs.declared.fault.SyntaxFault.{SyntaxFault}
+use Rattle.express_schemas.specs.declared.fault.SyntaxFault.TheVariants as faults
 use Rattle.express_schemas.specs.Schemas.{Schema}
 use Rattle.express_schemas.specs.Profile.{FitsSchema}
 use Rattle.express_schemas.specs.Texts.{Lookahead, token, LocatedToken, Shows, ShowsAll, lookaheads_of}
@@ -30,12 +30,12 @@ abbrev pub Turns : List Symbol → List Symbol → List LocatedToken → Reading
 Turns ys zs before old new = lexers.Turns table Shows ys zs before old new
 
 -- a fault's kind and place; where memory ran out there is none
-abbrev pub fault_at : SchemaFault → Option (FaultKind × ℕ)
+abbrev pub fault_at : SyntaxFault → Option (FaultKind × ℕ)
 fault_at faults.Memory = None
 fault_at (faults.Fault kind place) = Some (kind, place)
 
 -- what was to come first, or first behind these, isn't there: a fault whatever follows it
-abbrev pub StopsIn : SchemaFault → List Symbol → List LocatedToken → Reading → Type 0
+abbrev pub StopsIn : SyntaxFault → List Symbol → List LocatedToken → Reading → Type 0
 StopsIn e ys before old = lexers.StopsIn table Shows (fault_at e) ys before old
 
 -- these words, of which some are taken already, stand from one place to another, and turn what is to come into
@@ -49,23 +49,23 @@ pub record Passes (ys zs : List Symbol) (before : List LocatedToken) (ws : List 
 
 -- A parser of these symbols: the words of what it gives stand from one place to another, and are what the symbols
 -- derive. Where it gives nothing, what the symbols want isn't there.
-abbrev pub Parses : {A : Type 0} → Result A SchemaFault → List Symbol → (A → List Word) → Reading → Reading → Type 0
+abbrev pub Parses : {A : Type 0} → Result A SyntaxFault → List Symbol → (A → List Word) → Reading → Reading → Type 0
 Parses result ys words old new = MatchResult result (λ x. Passes ys [] [] (words x) old new) (λ e. StopsIn e ys [] old)
 
 -- .. and this holds of what it gives
-abbrev pub ParsesWhere : {A : Type 0} → Result A SchemaFault → List Symbol → (A → List Word) → (A → Type 0) → Reading
+abbrev pub ParsesWhere : {A : Type 0} → Result A SyntaxFault → List Symbol → (A → List Word) → (A → Type 0) → Reading
     → Reading → Type 0
 ParsesWhere result ys words Holds old new = MatchResult result (λ x. Holds x × Passes ys [] [] (words x) old new)
     (λ e. StopsIn e ys [] old)
 
 -- .. where this token, the first, is taken already
-abbrev pub ParsesFrom : {A : Type 0} → LocatedToken → Result A SchemaFault → List Symbol → (A → List Word)
+abbrev pub ParsesFrom : {A : Type 0} → LocatedToken → Result A SyntaxFault → List Symbol → (A → List Word)
     → (A → Type 0) → Reading → Reading → Type 0
 ParsesFrom first result ys words Holds old new = MatchResult result (λ x. Holds x × Passes ys [] (first ∷ []) (words x)
     old new) (λ e. StopsIn e ys (first ∷ []) old)
 
 -- .. where these words, the first, are read already
-abbrev pub ParsesBehind : {A : Type 0} → List Word → Result A SchemaFault → List Symbol → (A → List Word) → (A → Type 0)
+abbrev pub ParsesBehind : {A : Type 0} → List Word → Result A SyntaxFault → List Symbol → (A → List Word) → (A → Type 0)
     → Reading → Reading → Type 0
 ParsesBehind said result ys words Holds old new = MatchResult result (λ x. Holds x × (ws : List Word)
     × (words x ≡ said ++ ws) × Passes ys [] [] ws old new) (λ e. StopsIn e ys [] old)

@@ -58,6 +58,10 @@ pub record ReadsAs (text : List ℕ) (x : Schema) : Type 0 where
   pub shows : ShowsAll (start text) shown end
   pub are : lookaheads shown ≡ lookaheads_of x
 
+-- some text reads as this schema
+abbrev pub IsRead : Schema → Type 0
+IsRead x = (text : List ℕ) × ReadsAs text x
+
 -- the tokens so far are a prefix of some schema's, where so many brackets may be open
 pub record IsViablePrefix (levels : ℕ) (s : List Lookahead) : Type 0 where
   pub rest : List Lookahead
@@ -122,10 +126,11 @@ pub record IsFirstFault (text : List ℕ) (kind : FaultKind) (place : ℕ) : Typ
   pub kind_is : IsKind (lookaheads before) at.lookahead kind
   pub place_is : place ≡ at.place
 
--- A fault of a text is its first one; memory may always run out.
+-- A fault of a text is its first one, and none of a name; memory may always run out.
 abbrev pub IsFaultOf : List ℕ → SchemaFault → Type 0
 IsFaultOf text faults.Memory = Unit {0}
-IsFaultOf text (faults.Fault kind place) = IsFirstFault text kind place
+IsFaultOf text (faults.Text kind place) = IsFirstFault text kind place
+IsFaultOf text (faults.Name kind name) = ⊥
 
 abbrev pub IsMemory : SchemaFault → Type 0
 IsMemory e = e ≡ faults.Memory

@@ -1,6 +1,6 @@
 -- The trees that the program's values are; letters of names have no case.
 use Rattle.std.specs.Prelude.{ℕ, Bool, List, map, Option, None, Some}
-use Rattle.express_lexis.specs.declared.literal.Word.{Word}
+use Rattle.step_literals.specs.declared.literal.Word.{Word}
 use Rattle.express_trees.specs.Words as words
 use Rattle.express_trees.specs.Views.{capitals, tree_of}
 use Rattle.express_schemas.specs.declared.passage.Passage.{Passage}

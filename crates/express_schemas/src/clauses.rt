@@ -1,10 +1,14 @@
-//! What stands in the clauses of declarations, of which some may be absent, and the names of attributes.
+//! What stands in the clauses of declarations, of which some may be absent, the names of attributes, and the
+//! integers that bounds are.
 
-ghost use Rattle.std.specs.Prelude.{◌≡◌, [], MatchOption};
-ghost use Rattle.express_schemas.specs.Clauses.{name_of};
+ghost use Rattle.std.specs.Prelude.{◌≡◌, ℤ, [], FitsSigned, MatchOption};
+ghost use Rattle.std.specs.Int.{w64};
+ghost use Rattle.express_schemas.specs.Clauses.{name_of, is_minus, IsInteger};
+ghost use Rattle.express_schemas.specs.Views.{bound_of};
 
-use crate::tree::{Attribute, Derived, Entity, Inverse, Rule, TypeDeclaration, Unique};
-use express_lexis::literal::Word;
+use crate::tree::{Attribute, Bound, Derived, Entity, Inverse, Rule, TypeDeclaration, Unique};
+use express_trees::tree::Sign;
+use step_literals::literal::Word;
 
 impl<'a> TypeDeclaration<'a> {
     /// Its domain rules; none where WHERE is absent (ISO 10303-11, 9.1).
@@ -82,6 +86,28 @@ impl<'a> Attribute<'a> {
         match *self {
             Attribute::Unqualified(name) => name,
             Attribute::Redeclared(_, name) => name,
+        }
+    }
+}
+
+/// Whether a sign stands there that is `-`.
+fn is_minus(sign: Option<Sign>) -> bool
+    ensures { result ≡ is_minus sign }
+{
+    matches!(sign, Some(Sign::Minus))
+}
+
+impl<'a> Bound<'a> {
+    /// The integer that it is, with its sign (ISO 10303-11, 8.2); none where it is beyond the range of
+    /// `i64`, for `?`, and for tokens that are no integer.
+    pub fn value(&self) -> Option<i64>
+        ensures { MatchOption result
+            ((n : ℤ) → FitsSigned w64 n → IsInteger (bound_of self.now) n → ⊥)
+            (λ n. IsInteger (bound_of self.now) n) }
+    {
+        match *self {
+            Bound::Value(sign, digits) => digits.whole_turned(is_minus(sign)),
+            _ => None,
         }
     }
 }

@@ -1,7 +1,7 @@
-//! Why a text is no schema that is read.
+//! Why a text is no schema that is read, and why a schema isn't used.
 
 ghost use Rattle.std.specs.Prelude.{◌≡◌};
-ghost use Rattle.express_schemas.specs.declared.fault.SchemaFault.TheVariants.{Memory};
+ghost use Rattle.express_schemas.specs.declared.fault.SyntaxFault.TheVariants.{Memory};
 
 use std::alloc::{AllocError, AllocFailed};
 use thiserror::Error;
@@ -52,29 +52,71 @@ pub enum FaultKind {
     TooDeep,
 }
 
-/// Why a text is no schema that is read.
-#[derive(Clone, Copy, Debug, PartialEq, Eq, Error)]
-pub enum SchemaFault {
+/// Why a text is no schema by its tokens.
+#[derive(Clone, Copy, Debug, PartialEq, Eq)]
+pub enum SyntaxFault {
     /// What is wrong, and how many bytes come before it.
-    #[error("{kind} at byte {place}")]
     Fault { kind: FaultKind, place: u64 },
+    /// Memory ran out.
+    Memory,
+}
+
+impl From<AllocError> for SyntaxFault {
+    ghost from_gives = { λ _ e. e ≡ Memory };
+
+    fn from(_: AllocError) -> SyntaxFault {
+        SyntaxFault::Memory
+    }
+}
+
+impl<T: Drop> From<AllocFailed<T>> for SyntaxFault {
+    ghost from_gives = { λ _ e. e ≡ Memory };
+
+    fn from(_: AllocFailed<T>) -> SyntaxFault {
+        SyntaxFault::Memory
+    }
+}
+
+/// What is wrong with a name of a schema.
+#[derive(Clone, Copy, Debug, PartialEq, Eq, Error)]
+pub enum NameFault {
+    /// Nothing of the name is declared that its place asks for.
+    #[error("S3 UnknownName")]
+    UnknownName,
+    /// It is declared twice.
+    #[error("S4 DuplicateName")]
+    DuplicateName,
+    /// An entity is its own proper supertype (ISO 10303-11, 9.2.3).
+    #[error("S5 SupertypeCycle")]
+    SupertypeCycle,
+    /// A defined type stands for itself (ISO 10303-11, 8.3).
+    #[error("S6 TypeCycle")]
+    TypeCycle,
+}
+
+/// Why a schema isn't used: a fault of its text or of a name in it.
+#[derive(Debug, PartialEq, Eq, Error, Drop)]
+pub enum SchemaFault {
+    /// What is wrong with the text, and how many bytes come before it.
+    #[error("{kind} at byte {place}")]
+    Text { kind: FaultKind, place: u64 },
+    /// What is wrong with a name, which is in capitals.
+    #[error("{kind} {name}")]
+    Name { kind: NameFault, name: String },
     /// Memory ran out.
     #[error("memory")]
     Memory,
 }
 
-impl From<AllocError> for SchemaFault {
-    ghost from_gives = { λ _ e. e ≡ Memory };
+impl From<SyntaxFault> for SchemaFault {
+    ghost use Rattle.express_schemas.specs.Faults.{schema_fault};
 
-    fn from(_: AllocError) -> SchemaFault {
-        SchemaFault::Memory
-    }
-}
+    ghost from_gives = { λ fault e. e ≡ schema_fault fault };
 
-impl<T: Drop> From<AllocFailed<T>> for SchemaFault {
-    ghost from_gives = { λ _ e. e ≡ Memory };
-
-    fn from(_: AllocFailed<T>) -> SchemaFault {
-        SchemaFault::Memory
+    fn from(fault: SyntaxFault) -> SchemaFault {
+        match fault {
+            SyntaxFault::Fault { kind, place } => SchemaFault::Text { kind, place },
+            SyntaxFault::Memory => SchemaFault::Memory,
+        }
     }
 }

@@ -1,13 +1,12 @@
 //! Schemas as trees (ISO 10303-11, 8 and 9).
 
-ghost use Rattle.express_trees.specs.Grammar.{depth_limit};
-ghost use Rattle.express_schemas.specs.Profile.{FitsSchema};
+ghost use Rattle.express_schemas.specs.Texts.{IsRead};
 ghost use Rattle.express_schemas.specs.Views.{schema_from};
 
 use crate::passage::{Passage, Routine, Run};
-use express_lexis::literal::{EncodedString, SimpleString, Word};
+use express_lexis::literal::{EncodedString, SimpleString};
 use express_trees::tree::{Expr, Sign};
-use step_literals::literal::Decimal;
+use step_literals::literal::{Decimal, Word};
 
 /// What a rule or a derived attribute says.
 #[derive(Drop)]
@@ -224,12 +223,12 @@ pub enum Version<'a> {
     Encoded(EncodedString<'a>),
 }
 
-/// A schema that is within the limits, with runs only where there is no tree (ISO 10303-11, 9.3). The
-/// fields are for reading.
+/// A schema that some text reads as: it is within the limits, with runs only where there is no tree
+/// (ISO 10303-11, 9.3). The fields are for reading.
 #[derive(Drop)]
 pub struct SchemaTree<'a> {
     pub name: Word<'a>,
     pub version: Option<Version<'a>>,
     pub declarations: Vec<Declaration<'a>>,
-    pub ghost fits: { ∥ FitsSchema depth_limit (schema_from name version declarations.items) ∥₁ },
+    pub ghost read: { ∥ IsRead (schema_from name version declarations.items) ∥₁ },
 }

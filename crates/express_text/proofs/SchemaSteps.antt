@@ -1,5 +1,5 @@
 -- A schema, token by token.
-use Rattle.std.proofs.Common.{◌≡◌, ℕ, ◌<◌, ◌≤◌, true, List, [], ◌∷◌, ◌++◌, length, map, Option, Some, Result, Ok, Err, IfErr, MatchResult, refl, sym, ap, ◌∙◌, subst, append_assoc, length-drop, le_of_eq, arith}
+use Rattle.std.proofs.Common.{◌≡◌, ℕ, ◌<◌, ◌≤◌, true, List, [], ◌∷◌, ◌++◌, length, map, Option, Some, Ok, Err, refl, sym, ap, ◌∙◌, subst, append_assoc, length-drop, le_of_eq, arith}
 use Rattle.predictive.specs.Tables.{lookaheads}
 use Rattle.predictive.proofs.Lists.{lookaheads_append}
 use Rattle.predictive.proofs.Shown as shown
@@ -12,18 +12,16 @@ use Rattle.express_trees.specs.declared.lexeme.Lexeme.{Lexeme}
 use Rattle.express_trees.specs.Words.{Word, keyword, name, mark, word_of, word_of_sort}
 use Rattle.express_trees.specs.Grammar.{depth_limit}
 use Rattle.express_schemas.specs.declared.fault.FaultKind.{FaultKind}
-use Rattle.express_schemas.specs.declared.fault.SchemaFault.{SchemaFault}
-use Rattle.express_schemas.specs.declared.fault.SchemaFault.TheVariants as faults
+use Rattle.express_schemas.specs.declared.fault.SyntaxFault.{SyntaxFault}
+use Rattle.express_schemas.specs.declared.fault.SyntaxFault.TheVariants as faults
 use Rattle.express_schemas.specs.declared.tree.Version.{Version}
 use Rattle.express_schemas.specs.declared.tree.Version.TheVariants as versions
 use Rattle.express_schemas.specs.declared.tree.Declaration as code
-use Rattle.express_schemas.specs.declared.tree.SchemaTree.{SchemaTree}
 use Rattle.express_schemas.specs.Schemas.{Declaration, Schema}
 use Rattle.express_schemas.specs.Views.{version_of, declaration_of}
-use Rattle.express_schemas.specs.SchemaViews.{schema_of}
 use Rattle.express_schemas.specs.Written.{joined, words_of_declaration, words_of_version, words_of_opening, words_of_schema}
 use Rattle.express_schemas.specs.Profile.{Every, IsVersion, FitsDeclaration, FitsSchema}
-use Rattle.express_schemas.specs.Texts.{token, end_of_text, LocatedToken, Shows, shows_token, shows_fault, shows_end, ShowsAll, lookaheads_of, ReadsAs, IsFaultOf, IsMemory}
+use Rattle.express_schemas.specs.Texts.{token, end_of_text, LocatedToken, Shows, shows_token, shows_fault, shows_end, ShowsAll, lookaheads_of, ReadsAs}
 use Rattle.express_schemas.specs.Predict.{Symbol, Just, Say, Id, Declarations, EndOfText, refused, is_mark, is_keyword, next, next_version, schema_symbols}
 use Rattle.express_schemas.specs.Predict as predict
 use Rattle.express_schemas.specs.Steps.{StopsIn, Passes}
@@ -34,9 +32,9 @@ use Rattle.express_runs.proofs.SkippedSteps.{passes_both}
 use Rattle.express_schemas.proofs.Lists.{every_push, joined_push, map_push}
 
 -- a fault at a token
-pub stops_at : (e : SchemaFault) (k : FaultKind) (y : Symbol) (s : LocatedToken) (old new : Reading) → Shows old s new
+pub stops_at : (e : SyntaxFault) (k : FaultKind) (y : Symbol) (s : LocatedToken) (old new : Reading) → Shows old s new
     → next depth_limit y s.lookahead ≡ Err k → e ≡ faults.Fault k s.place → StopsIn e (y ∷ []) [] old
-stops_at e k y s old new h n q = let P : SchemaFault → Type 0 = λ x. StopsIn x (y ∷ []) [] old in
+stops_at e k y s old new h n q = let P : SyntaxFault → Type 0 = λ x. StopsIn x (y ∷ []) [] old in
     subst P (sym q) (stops_shown k y s old new h n)
 
 version_next : (v : Version) → next depth_limit predict.Version (token (version_of v)) ≡ Ok (Just marks.Semicolon ∷ [])
@@ -93,11 +91,11 @@ declarations_next old here mid new ds all d s so h e fits p =
           (passes_join so.passes (passes_first s here h p));
     })
 
-pub declarations_stop : (e : SchemaFault) (old here : Reading) (ds : List Declaration) → DeclarationsSoFar old here ds
+pub declarations_stop : (e : SyntaxFault) (old here : Reading) (ds : List Declaration) → DeclarationsSoFar old here ds
     → StopsIn e (Declarations ∷ []) [] here → StopsIn e (Declarations ∷ []) [] old
 declarations_stop e old here ds so h = stops_behind e (Declarations ∷ []) [] so.passes h
 
-pub declarations_stop_taken : (e : SchemaFault) (old here mid : Reading) (ds : List Declaration) (s : LocatedToken)
+pub declarations_stop_taken : (e : SyntaxFault) (old here mid : Reading) (ds : List Declaration) (s : LocatedToken)
     → DeclarationsSoFar old here ds → Shows here s mid → StopsIn e (Declarations ∷ []) (s ∷ []) mid
     → StopsIn e (Declarations ∷ []) [] old
 declarations_stop_taken e old here mid ds s so h g = stops_behind_taken e (Declarations ∷ []) [] s so.passes h g
@@ -108,7 +106,7 @@ passes_end : (old here mid : Reading) (ds : List Declaration) (s : LocatedToken)
 passes_end old here mid ds s so h e = passes_join so.passes (passes_token Declarations (Just marks.Semicolon ∷ [])
     (keyword keywords.EndSchema) s here mid h (keyword_met keywords.EndSchema s.lookahead e) refl)
 
-pub declarations_stop_end : (e : SchemaFault) (old here mid : Reading) (ds : List Declaration) (s : LocatedToken)
+pub declarations_stop_end : (e : SyntaxFault) (old here mid : Reading) (ds : List Declaration) (s : LocatedToken)
     → DeclarationsSoFar old here ds → Shows here s mid → is_keyword keywords.EndSchema s.lookahead ≡ true
     → StopsIn e (Just marks.Semicolon ∷ []) [] mid → StopsIn e (Declarations ∷ []) [] old
 declarations_stop_end e old here mid ds s so h q g = stops_behind e (Just marks.Semicolon ∷ []) []
@@ -185,31 +183,14 @@ at_some : (old : Reading) (o : Option Token) (t : Token) (new : Reading) → o �
 at_some old o t new e h = let P : Option Token → Type 0 = λ p. Answers old (Ok p) new in subst P e h
 
 -- a token behind the schema
-pub stops_over : (e : SchemaFault) (k : FaultKind) (old : Reading) (o : Option Token) (t : Token) (l : Lexeme)
+pub stops_over : (e : SyntaxFault) (k : FaultKind) (old : Reading) (o : Option Token) (t : Token) (l : Lexeme)
     (new : Reading) → o ≡ Some t → Answers old (Ok o) new → word_of l ≡ word_of_sort t.sort → next depth_limit EndOfText
     (token (word_of l)) ≡ Err k → e ≡ faults.Fault k t.place → StopsIn e (EndOfText ∷ []) [] old
 stops_over e k old o t l new is h w n q =
     let s : LocatedToken = record { lookahead = token (word_of l); place = t.place } in
     stops_at e k EndOfText s old new (shows_lexeme t l old new w (at_some old o t new is h)) n q
 
--- what a text reads as is read, where it reads as one schema and memory alone runs out
-pub all_read : (text : List ℕ) (old new : Reading) (r : Result SchemaTree SchemaFault) → old ≡ start text
-    → MatchResult r (λ t. FitsSchema depth_limit (schema_of t) × (shown : List LocatedToken) × ShowsAll old shown new
-    × (lookaheads shown ≡ lookaheads_of (schema_of t))) (λ e. StopsIn e schema_symbols [] old)
-    → (x : Schema) → ((y : Schema) → ReadsAs text y → y ≡ x)
-    → ((e : SchemaFault) → StopsIn e schema_symbols [] (start text) → IsMemory e)
-    → MatchResult r (λ t. schema_of t ≡ x) IsMemory
-all_read text old new (Ok t) e h x once memory = once (schema_of t) (reads_as text old new (schema_of t) e h.0 h.1 h.2
-    h.3)
-all_read text old new (Err f) e h x once memory = let P : Reading → Type 0 = λ r. StopsIn f schema_symbols [] r in
-    memory f (subst P e h)
-
--- a fault is that of the text, where what stops is
-pub fault_read : (text : List ℕ) (old new : Reading) (r : Result SchemaTree SchemaFault) → old ≡ start text
-    → MatchResult r (λ t. FitsSchema depth_limit (schema_of t) × (shown : List LocatedToken) × ShowsAll old shown new
-    × (lookaheads shown ≡ lookaheads_of (schema_of t))) (λ e. StopsIn e schema_symbols [] old)
-    → ((e : SchemaFault) → StopsIn e schema_symbols [] (start text) → IsFaultOf text e)
-    → IfErr r (λ e. IsFaultOf text e)
-fault_read text old new (Ok t) e h due = tt
-fault_read text old new (Err f) e h due = let P : Reading → Type 0 = λ r. StopsIn f schema_symbols [] r in
-    due f (subst P e h)
+-- a stop at the start of a text
+pub stops_at_start : (e : SyntaxFault) (text : List ℕ) (old : Reading) → old ≡ start text
+    → StopsIn e schema_symbols [] old → StopsIn e schema_symbols [] (start text)
+stops_at_start e text old h s = let P : Reading → Type 0 = λ r. StopsIn e schema_symbols [] r in subst P h s

@@ -6,8 +6,8 @@ use Rattle.express_lexis.specs.Reading.{Reading}
 use Rattle.express_trees.specs.declared.keyword.Keyword.TheVariants as keywords
 use Rattle.express_trees.specs.Words.{Word, keyword, name, mark}
 use Rattle.express_trees.specs.Grammar.{depth_limit}
-use Rattle.express_schemas.specs.declared.fault.SchemaFault.{SchemaFault}
-use Rattle.express_schemas.specs.declared.fault.SchemaFault.TheVariants as faults
+use Rattle.express_schemas.specs.declared.fault.SyntaxFault.{SyntaxFault}
+use Rattle.express_schemas.specs.declared.fault.SyntaxFault.TheVariants as faults
 use Rattle.express_schemas.specs.Texts.{Lookahead, token, LocatedToken, Shows}
 use Rattle.express_schemas.specs.Schemas.{Rule, DataType, data_type, enumeration, select, TypeDeclaration}
 use Rattle.express_schemas.specs.Written.{joined, words_of_names, words_of_underlying, words_of_rule, words_of_clause, words_of_type}
@@ -20,7 +20,7 @@ use Rattle.express_schemas.proofs.Taking.{passes_as, passes_join, passes_more, p
 use Rattle.express_schemas.proofs.Looking.{keyword_met, stops_refused}
 
 -- names without a semicolon behind them
-pub last_names_open : (e : SchemaFault) (names : List (List ℕ)) (old a : Reading) → Passes names_symbols [] []
+pub last_names_open : (e : SyntaxFault) (names : List (List ℕ)) (old a : Reading) → Passes names_symbols [] []
     (words_of_names names) old a → StopsIn e (Just marks.Semicolon ∷ []) [] a
     → StopsIn e (names_symbols ++ Just marks.Semicolon ∷ []) [] old
 last_names_open e names old a h g = stops_behind e (Just marks.Semicolon ∷ []) []
@@ -42,14 +42,14 @@ passes_enumeration s old a shows c = passes_token table.Underlying (Say keywords
     (keyword_met keywords.Enumeration s.lookahead c) refl
 
 -- ENUMERATION without OF
-pub enumeration_unsaid : (e : SchemaFault) (s : LocatedToken) (old a : Reading) → Shows old s a
+pub enumeration_unsaid : (e : SyntaxFault) (s : LocatedToken) (old a : Reading) → Shows old s a
     → is_keyword keywords.Enumeration s.lookahead ≡ true → StopsIn e (Say keywords.Of ∷ []) [] a
     → StopsIn e (table.Underlying ∷ []) [] old
 enumeration_unsaid e s old a shows c g = stops_behind e (Say keywords.Of ∷ []) (names_symbols ++ Just marks.Semicolon
     ∷ []) (passes_enumeration s old a shows c) g
 
 -- what stops the items of an enumeration
-pub enumeration_stopped : (e : SchemaFault) (s : LocatedToken) (old a b : Reading) → Shows old s a
+pub enumeration_stopped : (e : SyntaxFault) (s : LocatedToken) (old a b : Reading) → Shows old s a
     → is_keyword keywords.Enumeration s.lookahead ≡ true → Passes (Say keywords.Of ∷ []) [] [] (keyword keywords.Of
     ∷ []) a b
     → StopsIn e (names_symbols ++ Just marks.Semicolon ∷ []) [] b → StopsIn e (table.Underlying ∷ []) [] old
@@ -73,7 +73,7 @@ passes_select s old a shows c = passes_token table.Underlying (names_symbols ++ 
     (keyword keywords.Select) s old a shows (keyword_met keywords.Select s.lookahead c) refl
 
 -- what stops the types of a select
-pub select_stopped : (e : SchemaFault) (s : LocatedToken) (old a : Reading) → Shows old s a → is_keyword keywords.Select
+pub select_stopped : (e : SyntaxFault) (s : LocatedToken) (old a : Reading) → Shows old s a → is_keyword keywords.Select
     s.lookahead ≡ true → StopsIn e (names_symbols ++ Just marks.Semicolon ∷ []) [] a → StopsIn e (table.Underlying ∷ [])
     [] old
 select_stopped e s old a shows c g = stops_behind e (names_symbols ++ Just marks.Semicolon ∷ []) []
@@ -94,7 +94,7 @@ underlying_other (token (keyword keywords.Select)) c d = absurd (false≢true (s
 underlying_other _ c d = refl
 
 -- what stops a data type stops the type that it stands for
-pub underlying_stopped : (e : SchemaFault) (s : LocatedToken) (old a : Reading) → Shows old s a
+pub underlying_stopped : (e : SyntaxFault) (s : LocatedToken) (old a : Reading) → Shows old s a
     → is_keyword keywords.Enumeration s.lookahead ≡ false → is_keyword keywords.Select s.lookahead ≡ false
     → StopsIn e (DataTypeThen 0 semicolon ∷ []) (s ∷ []) a → StopsIn e (table.Underlying ∷ []) [] old
 underlying_stopped e s old a shows c d h = stops_first e (table.Underlying ∷ []) s shows
@@ -119,7 +119,7 @@ passes_where s old a shows c = passes_token TypeEnd (Rules keywords.EndType ∷ 
     (keyword_met keywords.Where s.lookahead c) refl
 
 -- what stops the rules of a type
-pub where_stopped : (e : SchemaFault) (s : LocatedToken) (old a : Reading) → Shows old s a → is_keyword keywords.Where
+pub where_stopped : (e : SyntaxFault) (s : LocatedToken) (old a : Reading) → Shows old s a → is_keyword keywords.Where
     s.lookahead ≡ true → StopsIn e (Rules keywords.EndType ∷ []) [] a → StopsIn e (TypeEnd ∷ []) [] old
 where_stopped e s old a shows c g = stops_behind e (Rules keywords.EndType ∷ []) [] (passes_where s old a shows c) g
 
@@ -144,13 +144,13 @@ type_end_other (token (keyword keywords.EndType)) c d = absurd (false≢true (sy
 type_end_other _ c d = refl
 
 -- neither WHERE nor END_TYPE
-pub type_end_refused : (e : SchemaFault) (s : LocatedToken) (old a : Reading) → Shows old s a
+pub type_end_refused : (e : SyntaxFault) (s : LocatedToken) (old a : Reading) → Shows old s a
     → is_keyword keywords.Where s.lookahead ≡ false → is_keyword keywords.EndType s.lookahead ≡ false
     → e ≡ faults.Fault (refused s.lookahead) s.place → StopsIn e (TypeEnd ∷ []) [] old
 type_end_refused e s old a shows c d q = stops_refused e TypeEnd s old a shows (type_end_other s.lookahead c d) q
 
 -- END_TYPE without its semicolon
-pub type_end_stopped : (e : SchemaFault) (s : LocatedToken) (old a : Reading) → Shows old s a
+pub type_end_stopped : (e : SyntaxFault) (s : LocatedToken) (old a : Reading) → Shows old s a
     → is_keyword keywords.EndType s.lookahead ≡ true → StopsIn e (Just marks.Semicolon ∷ []) [] a
     → StopsIn e (TypeEnd ∷ []) [] old
 type_end_stopped e s old a shows c g = stops_behind e (Just marks.Semicolon ∷ []) [] (passes_end s old a shows c) g
@@ -175,13 +175,13 @@ passes_equal : (n : List ℕ) (old a b : Reading) → Passes (Id ∷ []) [] [] (
 passes_equal n old a b h g = passes_join (passes_name n old a h) (passes_more (table.Underlying ∷ TypeEnd ∷ []) g)
 
 -- a name without an equals sign behind it
-pub type_unequal : (e : SchemaFault) (n : List ℕ) (old a : Reading) → Passes (Id ∷ []) [] [] (name n ∷ []) old a
+pub type_unequal : (e : SyntaxFault) (n : List ℕ) (old a : Reading) → Passes (Id ∷ []) [] [] (name n ∷ []) old a
     → StopsIn e (Just marks.Equal ∷ []) [] a → StopsIn e type_symbols [] old
 type_unequal e n old a h g = stops_behind e (Just marks.Equal ∷ []) (table.Underlying ∷ TypeEnd ∷ [])
     (passes_name n old a h) g
 
 -- what stops the type that a type stands for
-pub type_underlying : (e : SchemaFault) (n : List ℕ) (old a b : Reading) → Passes (Id ∷ []) [] [] (name n ∷ []) old a
+pub type_underlying : (e : SyntaxFault) (n : List ℕ) (old a b : Reading) → Passes (Id ∷ []) [] [] (name n ∷ []) old a
     → Passes (Just marks.Equal ∷ []) [] [] (mark marks.Equal ∷ []) a b → StopsIn e (table.Underlying ∷ []) [] b
     → StopsIn e type_symbols [] old
 type_underlying e n old a b h g stop = stops_behind e (table.Underlying ∷ []) (TypeEnd ∷ [])
@@ -193,7 +193,7 @@ passes_underlying : (n : List ℕ) (us : List Word) (old a b d : Reading) → Pa
 passes_underlying n us old a b d h g x = passes_join (passes_equal n old a b h g) (passes_more (TypeEnd ∷ []) x)
 
 -- what stops the end of a type
-pub type_unended : (e : SchemaFault) (n : List ℕ) (us : List Word) (old a b d : Reading)
+pub type_unended : (e : SyntaxFault) (n : List ℕ) (us : List Word) (old a b d : Reading)
     → Passes (Id ∷ []) [] [] (name n ∷ []) old a → Passes (Just marks.Equal ∷ []) [] [] (mark marks.Equal ∷ []) a b
     → Passes (table.Underlying ∷ []) [] [] us b d
     → StopsIn e (TypeEnd ∷ []) [] d → StopsIn e type_symbols [] old

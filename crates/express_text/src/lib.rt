@@ -1,5 +1,14 @@
 //! EXPRESS schemas (ISO 10303-11), read as trees.
+//!
+//! All that a user of trees needs is reached from here: `read_schema`, the tree of a schema and its faults, the trees
+//! of expressions, and literals with what they mean.
 #![tactic(auto)]
 
-pub mod schema;
+mod schema;
 mod types;
+
+pub use express_lexis::literal;
+pub use express_schemas::{fault, passage, tree};
+pub use express_trees::tree as expression;
+pub use schema::read_schema;
+pub use step_literals::literal::{Decimal, Word};

@@ -2,6 +2,7 @@
 
 ghost use Rattle.std.specs.Prelude.{
   ◌≡◌,
+  ℕ,
   [],
   ◌∷◌,
   ◌++◌,
@@ -16,7 +17,7 @@ ghost use Rattle.std.specs.Prelude.{
 };
 ghost use Rattle.predictive.specs.Tables.{lookaheads};
 ghost use Rattle.express_lexis.specs.declared.marks.Mark.TheVariants as marks;
-ghost use Rattle.express_lexis.specs.Reading.{IsAtEnd};
+ghost use Rattle.express_lexis.specs.Reading.{start, IsAtEnd};
 ghost use Rattle.express_trees.specs.declared.keyword.Keyword.TheVariants as keywords;
 ghost use Rattle.express_trees.specs.Words.{keyword, mark};
 ghost use Rattle.express_trees.specs.Grammar.{depth_limit};
@@ -40,6 +41,7 @@ ghost use Rattle.express_schemas.specs.Texts.{
   IsFaultOf,
   IsMemory,
 };
+ghost use Rattle.express_schemas.specs.Sources.{IsDeclarationOf, IsSchemaOf};
 ghost use Rattle.express_schemas.specs.Predict;
 ghost use Rattle.express_schemas.specs.Predict.{
   Declarations,
@@ -58,7 +60,7 @@ use express_lexis::marks::Mark;
 use express_runs::reader::Reader;
 use express_runs::skipped::skipped;
 use express_runs::tokens::{Item, is_keyword, is_mark, refuse};
-use express_schemas::fault::{FaultKind, SchemaFault};
+use express_schemas::fault::{FaultKind, SchemaFault, SyntaxFault};
 use express_schemas::tree::{Declaration, SchemaTree, Version};
 use express_trees::keyword::Keyword;
 use express_trees::lexeme::Lexeme;
@@ -79,7 +81,7 @@ fn version_at(item: Item<'_>) -> Option<Version<'_>>
 }
 
 /// The version of a schema, if one stands there, and the semicolon.
-fn some_version<'a>(reader: &mut Reader<'a>) -> Result<Option<Version<'a>>, SchemaFault>
+fn some_version<'a>(reader: &mut Reader<'a>) -> Result<Option<Version<'a>>, SyntaxFault>
     ensures { ParsesWhere result (Predict.Version ∷ [])
         (λ v. words_of_version (if_some version_of v) ++ mark marks.Semicolon ∷ [])
         (λ v. Maybe IsVersion (if_some version_of v)) reader.old reader.new }
@@ -96,13 +98,14 @@ fn some_version<'a>(reader: &mut Reader<'a>) -> Result<Option<Version<'a>>, Sche
 }
 
 /// The declaration that begins with this token.
-fn declaration<'a>(reader: &mut Reader<'a>, first: Item<'a>) -> Result<Declaration<'a>, SchemaFault>
+fn declaration<'a>(reader: &mut Reader<'a>, first: Item<'a>) -> Result<Declaration<'a>, SyntaxFault>
     requires { Predict.is_keyword keywords.EndSchema (located_of first).lookahead ≡ false }
-    ensures { MatchResult result
+    ensures read { MatchResult result
         (λ d. FitsDeclaration depth_limit (declaration_of d)
         × Passes (Declarations ∷ []) (Declarations ∷ []) (located_of first.entry ∷ [])
         (words_of_declaration (declaration_of d)) reader.old reader.new)
         (λ e. StopsIn e (Declarations ∷ []) (located_of first.entry ∷ []) reader.old) }
+    ensures text { IfOk result (λ d. IsDeclarationOf reader.old.text d) }
 {
     if is_keyword(first, Keyword::Type) {
         let declared = type_declaration(reader)?;
@@ -120,12 +123,14 @@ fn declaration<'a>(reader: &mut Reader<'a>, first: Item<'a>) -> Result<Declarati
 }
 
 /// The declarations of a schema, and what ends it.
-fn all_declarations<'a>(reader: &mut Reader<'a>) -> Result<Vec<Declaration<'a>>, SchemaFault>
-    ensures { ParsesWhere result (Declarations ∷ [])
+fn all_declarations<'a>(reader: &mut Reader<'a>) -> Result<Vec<Declaration<'a>>, SyntaxFault>
+    ensures read { ParsesWhere result (Declarations ∷ [])
         (λ v. joined (map words_of_declaration (map declaration_of v.items))
         ++ keyword keywords.EndSchema ∷ mark marks.Semicolon ∷ [])
         (λ v. Every (FitsDeclaration depth_limit) (map declaration_of v.items)) reader.old
         reader.new }
+    ensures text { IfOk result
+        (λ v. Every (IsDeclarationOf reader.old.text) v.items) }
 {
     let mut declarations = Vec::new(reader.alloc());
     loop {
@@ -141,7 +146,7 @@ fn all_declarations<'a>(reader: &mut Reader<'a>) -> Result<Vec<Declaration<'a>>,
 }
 
 /// The end of what a lexer reads.
-fn expect_end(lexer: &mut Lexer<'_>) -> Result<(), SchemaFault>
+fn expect_end(lexer: &mut Lexer<'_>) -> Result<(), SyntaxFault>
     ensures { MatchResult result
         (λ _. IsAtEnd lexer.old lexer.new)
         (λ e. StopsIn e (EndOfText ∷ []) [] lexer.old) }
@@ -152,7 +157,7 @@ fn expect_end(lexer: &mut Lexer<'_>) -> Result<(), SchemaFault>
             lexeme: Lexeme::of(&token),
             place: token.place,
         })),
-        Err(fault) => Err(SchemaFault::Fault {
+        Err(fault) => Err(SyntaxFault::Fault {
             kind: FaultKind::BadToken,
             place: fault.place,
         }),
@@ -160,7 +165,7 @@ fn expect_end(lexer: &mut Lexer<'_>) -> Result<(), SchemaFault>
 }
 
 /// The end of the text.
-fn end_of_text(reader: &mut Reader<'_>) -> Result<(), SchemaFault>
+fn end_of_text(reader: &mut Reader<'_>) -> Result<(), SyntaxFault>
     ensures { MatchResult result
         (λ _. IsAtEnd reader.old reader.new)
         (λ e. StopsIn e (EndOfText ∷ []) [] reader.old) }
@@ -169,11 +174,13 @@ fn end_of_text(reader: &mut Reader<'_>) -> Result<(), SchemaFault>
 }
 
 /// A schema, and the end of the text.
-fn whole_schema<'a>(reader: &mut Reader<'a>) -> Result<SchemaTree<'a>, SchemaFault>
-    ensures { MatchResult result
+fn whole_schema<'a>(reader: &mut Reader<'a>) -> Result<SchemaTree<'a>, SyntaxFault>
+    requires { (text : List ℕ) × (reader.old ≡ start text) }
+    ensures read { MatchResult result
         (λ x. FitsSchema depth_limit (schema_of x) × (shown : List LocatedToken)
         × ShowsAll reader.old shown reader.new × (lookaheads shown ≡ lookaheads_of (schema_of x)))
         (λ e. StopsIn e schema_symbols [] reader.old) }
+    ensures text { IfOk result (λ x. IsSchemaOf reader.old.text x) }
 {
     reader.expect_keyword(Keyword::Schema)?;
     let name = reader.expect_name()?;
@@ -198,9 +205,12 @@ pub fn read_schema<'a>(alloc: Global, text: &'a [u8]) -> Result<SchemaTree<'a>, 
     // What the text reads as is read, unless memory runs out.
     ensures all { (x : Schema) → ReadsAs text.now x → MatchResult result
         (λ t. schema_of t ≡ x) IsMemory }
+    // The passages that it keeps are of the text.
+    ensures text { IfOk result (λ x. IsSchemaOf text.now x) }
     // A fault is the text's first one.
     ensures fault { IfErr result (λ e. IsFaultOf text.now e) }
 {
     let mut reader = Reader::new(alloc, text);
-    whole_schema(&mut reader)
+    let schema = whole_schema(&mut reader)?;
+    Ok(schema)
 }

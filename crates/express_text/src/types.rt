@@ -1,6 +1,6 @@
 //! Defined types (ISO 10303-11, 8.3, 8.4 and 9.1).
 
-ghost use Rattle.std.specs.Prelude.{◌≡◌, [], ◌∷◌, ◌++◌, List};
+ghost use Rattle.std.specs.Prelude.{◌≡◌, [], ◌∷◌, ◌++◌, List, IfOk};
 ghost use Rattle.express_lexis.specs.declared.marks.Mark.TheVariants as marks;
 ghost use Rattle.express_trees.specs.declared.keyword.Keyword.TheVariants as keywords;
 ghost use Rattle.express_trees.specs.Words;
@@ -15,29 +15,31 @@ ghost use Rattle.express_schemas.specs.Written.{
   words_of_rule,
 };
 ghost use Rattle.express_schemas.specs.Profile.{
+  Every,
   FitsType,
   FitsUnderlying,
   FitsRules,
   IsFilled,
   Maybe,
 };
+ghost use Rattle.express_schemas.specs.Sources.{IsUnderlyingOf, IsRuleOf, IsTypeOf};
 ghost use Rattle.express_schemas.specs.Predict;
 ghost use Rattle.express_schemas.specs.Predict.{Id, Just, TypeEnd, names_symbols};
 ghost use Rattle.express_schemas.specs.Steps.{ParsesWhere, ParsesBehind};
 
-use express_lexis::literal::Word;
 use express_lexis::marks::Mark;
 use express_parts::data_types::{Ending, data_type_from};
 use express_parts::rules::rules;
 use express_runs::names::names;
 use express_runs::reader::Reader;
 use express_runs::tokens::{is_keyword, refuse};
-use express_schemas::fault::SchemaFault;
+use express_schemas::fault::SyntaxFault;
 use express_schemas::tree::{Rule, TypeDeclaration, Underlying};
 use express_trees::keyword::Keyword;
+use step_literals::literal::Word;
 
 /// Reads names in parentheses, and the semicolon behind them.
-fn last_names<'a>(reader: &mut Reader<'a>) -> Result<Vec<Word<'a>>, SchemaFault>
+fn last_names<'a>(reader: &mut Reader<'a>) -> Result<Vec<Word<'a>>, SyntaxFault>
     ensures { ParsesWhere result (names_symbols ++ Just marks.Semicolon ∷ [])
         (λ ns. words_of_names (names_of ns.items) ++ mark marks.Semicolon ∷ [])
         (λ ns. IsFilled (names_of ns.items)) reader.old reader.new }
@@ -48,10 +50,11 @@ fn last_names<'a>(reader: &mut Reader<'a>) -> Result<Vec<Word<'a>>, SchemaFault>
 }
 
 /// Reads what a defined type stands for, and the semicolon behind it.
-fn underlying<'a>(reader: &mut Reader<'a>) -> Result<Underlying<'a>, SchemaFault>
-    ensures { ParsesWhere result (Predict.Underlying ∷ [])
+fn underlying<'a>(reader: &mut Reader<'a>) -> Result<Underlying<'a>, SyntaxFault>
+    ensures read { ParsesWhere result (Predict.Underlying ∷ [])
         (λ u. words_of_underlying (underlying_of u) ++ mark marks.Semicolon ∷ [])
         (λ u. FitsUnderlying depth_limit (underlying_of u)) reader.old reader.new }
+    ensures text { IfOk result (λ u. IsUnderlyingOf reader.old.text u) }
 {
     let first = reader.take()?;
     if is_keyword(first, Keyword::Enumeration) {
@@ -68,12 +71,14 @@ fn underlying<'a>(reader: &mut Reader<'a>) -> Result<Underlying<'a>, SchemaFault
 }
 
 /// Reads the rules of a defined type, where they stand, and its end.
-fn rules_to_end<'a>(reader: &mut Reader<'a>) -> Result<Option<Vec<Rule<'a>>>, SchemaFault>
-    ensures { ParsesWhere result (TypeEnd ∷ [])
+fn rules_to_end<'a>(reader: &mut Reader<'a>) -> Result<Option<Vec<Rule<'a>>>, SyntaxFault>
+    ensures read { ParsesWhere result (TypeEnd ∷ [])
         (λ o. words_of_clause keywords.Where words_of_rule (if_some (λ rs. rules_of rs.items) o)
         ++ keyword keywords.EndType ∷ mark marks.Semicolon ∷ [])
         (λ o. Maybe (FitsRules depth_limit keywords.EndType) (if_some (λ rs. rules_of rs.items) o))
         reader.old reader.new }
+    ensures text { IfOk result
+        (λ o. Maybe (λ rs. Every (IsRuleOf reader.old.text) rs.items) o) }
 {
     let first = reader.take()?;
     if is_keyword(first, Keyword::Where) {
@@ -88,11 +93,12 @@ fn rules_to_end<'a>(reader: &mut Reader<'a>) -> Result<Option<Vec<Rule<'a>>>, Sc
 }
 
 /// Reads a defined type behind TYPE.
-pub fn type_declaration<'a>(reader: &mut Reader<'a>) -> Result<TypeDeclaration<'a>, SchemaFault>
-    ensures { ParsesBehind (keyword keywords.Type ∷ []) result
+pub fn type_declaration<'a>(reader: &mut Reader<'a>) -> Result<TypeDeclaration<'a>, SyntaxFault>
+    ensures read { ParsesBehind (keyword keywords.Type ∷ []) result
         (Id ∷ Just marks.Equal ∷ Predict.Underlying ∷ TypeEnd ∷ [])
         (λ t. words_of_type (type_of t))
         (λ t. FitsType depth_limit (type_of t)) reader.old reader.new }
+    ensures text { IfOk result (λ t. IsTypeOf reader.old.text t) }
 {
     let name = reader.expect_name()?;
     reader.expect(Mark::Equal)?;

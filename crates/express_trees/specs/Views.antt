@@ -1,7 +1,7 @@
 -- The trees that the program's values are; letters of names have no case.
 use Rattle.std.specs.Prelude.{ℕ, List, [], ◌∷◌, map}
 use Rattle.step_literals.specs.Words.{upper}
-use Rattle.express_lexis.specs.declared.literal.Word.{Word}
+use Rattle.step_literals.specs.declared.literal.Word.{Word}
 use Rattle.express_trees.specs.declared.tree.Junction.{Junction}
 use Rattle.express_trees.specs.declared.tree.Number.{Number}
 use Rattle.express_trees.specs.declared.tree.Number.TheVariants as numbers

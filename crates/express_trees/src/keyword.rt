@@ -5,7 +5,7 @@ ghost use Rattle.step_literals.specs.Words.{upper};
 ghost use Rattle.express_trees.specs.Keywords.{keyword_text, keyword_among, keyword_at};
 ghost use Rattle.express_trees.specs.Letters.{keywords_from};
 
-use express_lexis::literal::Word;
+use step_literals::literal::Word;
 
 /// A word that is never a name (ISO 10303-11, 7.2.1): those of the declarations and expressions that are
 /// read, and those that begin what isn't read (USE, REFERENCE, RENAMED, EXTENSIBLE, BASED_ON,

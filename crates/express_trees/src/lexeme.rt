@@ -6,10 +6,10 @@ ghost use Rattle.express_trees.specs.Keywords.{keyword_at};
 ghost use Rattle.express_trees.specs.Words.{word_of, word_of_sort, keyword_or_name, keyword, mark};
 
 use crate::keyword::Keyword;
-use express_lexis::literal::{Binary, EncodedString, SimpleString, Word};
+use express_lexis::literal::{Binary, EncodedString, SimpleString};
 use express_lexis::marks::Mark;
 use express_lexis::token::{Sort, Token};
-use step_literals::literal::Decimal;
+use step_literals::literal::{Decimal, Word};
 
 /// A token without its place; a word is a keyword or a name.
 #[derive(Clone, Copy)]

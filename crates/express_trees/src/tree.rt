@@ -1,7 +1,7 @@
 //! Expressions as trees (ISO 10303-11, 12).
 
-use express_lexis::literal::{Binary, EncodedString, SimpleString, Word};
-use step_literals::literal::Decimal;
+use express_lexis::literal::{Binary, EncodedString, SimpleString};
+use step_literals::literal::{Decimal, Word};
 
 /// So many parentheses, brackets and braces may be open at once.
 pub const LEVELS: u32 = 64;

@@ -6,7 +6,7 @@ use std::collections::{BTreeMap, BTreeSet};
 use std::test::Fail;
 use step_equal::image::is_image;
 use step_equal::plain::Plain;
-use step_values::agree::Map;
+use step_values::labels::Map;
 
 /// What is tested, two populations, the pairs of a map, the pinned names, and whether the map is an image of the
 /// first population on the second.

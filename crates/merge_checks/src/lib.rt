@@ -4,6 +4,8 @@
 #[cfg(test)]
 mod images;
 #[cfg(test)]
+mod labels;
+#[cfg(test)]
 mod populations;
 #[cfg(test)]
 mod rings;

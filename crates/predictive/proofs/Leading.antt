@@ -1,5 +1,5 @@
 -- What turns a stack into another, by lookaheads alone.
-use Rattle.std.proofs.Common.{◌≡◌, List, [], ◌∷◌, ◌++◌, Ok, refl, sym, ap, subst, append_assoc}
+use Rattle.std.proofs.Common.{◌≡◌, List, [], ◌∷◌, ◌++◌, Ok, refl, sym, ap, ◌∙◌, subst, append_assoc, ◌⊎◌, inl, inr}
 use Rattle.predictive.specs.Tables.{Table}
 
 -- these lookaheads turn what is to come into something else
@@ -55,6 +55,33 @@ leads_apart {S} table (w ∷ ws) (y ∷ ys) b h =
     let P : List S → Type 0 = λ l. Leads table l ws [] in
     let r = leads_apart table ws (h.0 ++ ys) b (subst P (sym (append_assoc h.0 ys b)) h.2) in
     (w ∷ r.0, r.1, ap (λ l. w ∷ l) r.2, (h.0, h.1, r.3), r.4)
+
+-- what they lead to is determined
+pub leads_same : {S W K : Type 0} (table : Table S W K) (ws : List W) (ys zs xs : List S) → Leads table ys ws zs
+    → Leads table ys ws xs → zs ≡ xs
+leads_same table [] ys zs xs h g = sym h ∙ g
+leads_same table (w ∷ ws) [] zs xs h g = absurd h
+leads_same {S} table (w ∷ ws) (y ∷ ys) zs xs h g =
+    let same : g.0 ≡ h.0 = cc in
+    let P : List S → Type 0 = λ l. Leads table (l ++ ys) ws xs in
+    leads_same table ws (h.0 ++ ys) zs xs h.2 (subst P same g.2)
+
+-- What was to come at first is still to come, or it all stood, and others of the lookaheads are for what is behind it.
+pub leads_parts : {S W K : Type 0} (table : Table S W K) (ws : List W) (ys b zs : List S) → Leads table (ys ++ b) ws zs
+    → ((y : S) × (more : List S) × Leads table ys ws (y ∷ more) × (zs ≡ y ∷ more ++ b))
+    ⊎ ((u v : List W) × (ws ≡ u ++ v) × Leads table ys u [] × Leads table b v zs)
+leads_parts table ws [] b zs h = inr ([], ws, refl, refl, h)
+leads_parts table [] (y ∷ ys) b zs h = inl (y, ys, refl, sym h)
+leads_parts {S} {W} table (w ∷ ws) (y ∷ ys) b zs h =
+    let P : List S → Type 0 = λ l. Leads table l ws zs in
+    by (leads_parts table ws (h.0 ++ ys) b zs (subst P (sym (append_assoc h.0 ys b)) h.2))
+  where
+    by : ((x : S) × (more : List S) × Leads table (h.0 ++ ys) ws (x ∷ more) × (zs ≡ x ∷ more ++ b))
+        ⊎ ((u v : List W) × (ws ≡ u ++ v) × Leads table (h.0 ++ ys) u [] × Leads table b v zs)
+        → ((x : S) × (more : List S) × Leads table (y ∷ ys) (w ∷ ws) (x ∷ more) × (zs ≡ x ∷ more ++ b))
+        ⊎ ((u v : List W) × (w ∷ ws ≡ u ++ v) × Leads table (y ∷ ys) u [] × Leads table b v zs)
+    by (inl g) = inl (g.0, g.1, (h.0, h.1, g.2), g.3)
+    by (inr g) = inr (w ∷ g.0, g.1, ap (λ l. w ∷ l) g.2, (h.0, h.1, g.3), g.4)
 
 -- of lookaheads no more and no fewer lead to nothing more
 pub leads_once : {S W K : Type 0} (table : Table S W K) (ys : List S) (u v a b : List W) → Leads table ys u []

@@ -3,6 +3,7 @@ pub mod Leading
 pub mod Running
 pub mod Shown
 pub mod Turning
+pub mod Taking
 pub mod Faults
 pub mod Wider
 pub mod Texts

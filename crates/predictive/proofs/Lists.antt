@@ -16,6 +16,16 @@ pub lookaheads_placed : {W : Type 0} (ws : List W) → lookaheads (placed ws) �
 lookaheads_placed [] = refl
 lookaheads_placed (w ∷ ws) = ap (λ l. w ∷ l) (lookaheads_placed ws)
 
+-- tokens are cut where their lookaheads are
+pub cut_at : {W : Type 0} (s : List (LocatedToken W)) (u v : List W) → lookaheads s ≡ u ++ v
+    → (a b : List (LocatedToken W)) × (s ≡ a ++ b) × (lookaheads a ≡ u) × (lookaheads b ≡ v)
+cut_at s [] v e = ([], s, refl, refl, e)
+cut_at [] (w ∷ u) v e = absurd cc
+cut_at (t ∷ s) (w ∷ u) v e =
+    let first : t.lookahead ≡ w = cc in
+    let r = cut_at s u v (let q : lookaheads s ≡ u ++ v = cc in q) in
+    (t ∷ r.0, r.1, ap (λ l. t ∷ l) r.2, (λ i. first i ∷ r.3 i), r.4)
+
 pub all_append : {X : Type 0} (P : X → Type 0) (xs ys : List X) → AllAre P xs → AllAre P ys → AllAre P (xs ++ ys)
 all_append P [] ys h k = k
 all_append P (x ∷ xs) ys h k = (h.0, all_append P xs ys h.1 k)

@@ -2,8 +2,8 @@
 use Rattle.std.proofs.Common.{◌≡◌, ℕ, List, [], ◌∷◌, ◌++◌, Result, Ok, Err, refl, sym, ap, ◌∙◌, subst, append_assoc, append-nil, ◌⊎◌, inl, inr}
 use Rattle.predictive.specs.Tables.{LocatedToken, lookaheads, Table, Outcome, passes, stops, short, step_on, run}
 use Rattle.predictive.specs.Languages.{AllAre, IsComplete}
-use Rattle.predictive.proofs.Leading.{Leads}
-use Rattle.predictive.proofs.Lists.{all_append, same_ok, same_stop, passes_or_stops, passes_or_short, short_or_stops}
+use Rattle.predictive.proofs.Leading.{Leads, leads_same, leads_parts}
+use Rattle.predictive.proofs.Lists.{cut_at, placed, lookaheads_placed, all_append, same_stop, passes_or_stops, passes_or_short, short_or_stops}
 
 -- these tokens turn what is to come into something else
 abbrev pub Reaches : {S W K : Type 0} → Table S W K → List S → List (LocatedToken W) → List S → Type 0
@@ -56,12 +56,7 @@ reaches_more {S} table (t ∷ s) (y ∷ ys) zs b h =
 -- what the tokens reach is determined
 pub reaches_once : {S W K : Type 0} (table : Table S W K) (s : List (LocatedToken W)) (ys zs ws : List S)
     → Reaches table ys s zs → Reaches table ys s ws → zs ≡ ws
-reaches_once table [] ys zs ws h g = sym h ∙ g
-reaches_once table (t ∷ s) [] zs ws h g = absurd h
-reaches_once {S} table (t ∷ s) (y ∷ ys) zs ws h g =
-    let e = same_ok (table y t.lookahead) g.0 h.0 g.1 h.1 in
-    let P : List S → Type 0 = λ l. Reaches table (l ++ ys) s ws in
-    reaches_once table s (h.0 ++ ys) zs ws h.2 (subst P e g.2)
+reaches_once table s ys zs ws h g = leads_same table (lookaheads s) ys zs ws h g
 
 -- .. by their lookaheads
 pub reaches_alike : {S W K : Type 0} (table : Table S W K) (s r : List (LocatedToken W)) (ys zs : List S)
@@ -85,23 +80,34 @@ completes table sort c (y ∷ ys) a =
     let r = completes table sort c ys a.1 in
     (h.0 ++ r.0, h.1 ys r.0 ∙ r.1)
 
+-- lookaheads that lead from a symbol to nothing more complete it
+pub completed_by : {S W K : Type 0} (table : Table S W K) (y : S) (ws : List W) → Leads table (y ∷ []) ws []
+    → (u : List (LocatedToken W)) × ((b : List S) (q : List (LocatedToken W)) → run table (y ∷ b) (u ++ q) ≡ run table b
+    q)
+completed_by {S} {W} table y ws h =
+    let P : List W → Type 0 = λ l. Leads table (y ∷ []) l [] in (
+      placed ws,
+      λ b q. reaches_run table (placed ws) (y ∷ b) b q (reaches_more table (placed ws) (y ∷ []) [] b
+          (subst P (sym (lookaheads_placed ws)) h)),
+    )
+
 -- What was to come at first is still to come, or it all stood, and others of the tokens are for what is behind it.
 pub reaches_parts : {S W K : Type 0} (table : Table S W K) (s : List (LocatedToken W)) (ys b zs : List S)
     → Reaches table (ys ++ b) s zs
     → ((y : S) × (more : List S) × Reaches table ys s (y ∷ more) × (zs ≡ y ∷ more ++ b))
     ⊎ ((u v : List (LocatedToken W)) × (s ≡ u ++ v) × Reaches table ys u [] × Reaches table b v zs)
-reaches_parts table s [] b zs h = inr ([], s, refl, refl, h)
-reaches_parts table [] (y ∷ ys) b zs h = inl (y, ys, refl, sym h)
-reaches_parts {S} {W} table (t ∷ s) (y ∷ ys) b zs h =
-    let P : List S → Type 0 = λ l. Reaches table l s zs in
-    by (reaches_parts table s (h.0 ++ ys) b zs (subst P (sym (append_assoc h.0 ys b)) h.2))
+reaches_parts {S} {W} table s ys b zs h = by (leads_parts table (lookaheads s) ys b zs h)
   where
-    by : ((x : S) × (more : List S) × Reaches table (h.0 ++ ys) s (x ∷ more) × (zs ≡ x ∷ more ++ b))
-        ⊎ ((u v : List (LocatedToken W)) × (s ≡ u ++ v) × Reaches table (h.0 ++ ys) u [] × Reaches table b v zs)
-        → ((x : S) × (more : List S) × Reaches table (y ∷ ys) (t ∷ s) (x ∷ more) × (zs ≡ x ∷ more ++ b))
-        ⊎ ((u v : List (LocatedToken W)) × (t ∷ s ≡ u ++ v) × Reaches table (y ∷ ys) u [] × Reaches table b v zs)
-    by (inl g) = inl (g.0, g.1, (h.0, h.1, g.2), g.3)
-    by (inr g) = inr (t ∷ g.0, g.1, ap (λ l. t ∷ l) g.2, (h.0, h.1, g.3), g.4)
+    by : ((y : S) × (more : List S) × Leads table ys (lookaheads s) (y ∷ more) × (zs ≡ y ∷ more ++ b))
+        ⊎ ((u v : List W) × (lookaheads s ≡ u ++ v) × Leads table ys u [] × Leads table b v zs)
+        → ((y : S) × (more : List S) × Reaches table ys s (y ∷ more) × (zs ≡ y ∷ more ++ b))
+        ⊎ ((u v : List (LocatedToken W)) × (s ≡ u ++ v) × Reaches table ys u [] × Reaches table b v zs)
+    by (inl g) = inl g
+    by (inr g) =
+        let c = cut_at s g.0 g.1 g.2 in
+        let P : List W → Type 0 = λ l. Leads table ys l [] in
+        let Q : List W → Type 0 = λ l. Leads table b l zs in
+        inr (c.0, c.1, c.2, subst P (sym c.3) g.3, subst Q (sym c.4) g.4)
 
 -- where the table stops: a token that can't be next to what stands first on the stack then
 pub record Spot {S W K : Type 0} (table : Table S W K) (ys : List S) (s : List (LocatedToken W)) (k : K)

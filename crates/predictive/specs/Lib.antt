@@ -1,4 +1,5 @@
 pub mod Tables
 pub mod Lexers
+pub mod Steps
 pub mod Languages
 pub mod Laws

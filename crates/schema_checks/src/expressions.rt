@@ -1,13 +1,58 @@
 //! Expressions of worked texts.
 
+use crate::outline::outline;
 use express_expressions::read::read_expression;
 use express_lexis::lexer::Lexer;
+use express_text::expression::Expr;
 use express_trees::lexeme::Lexeme;
-use express_trees::tree::{
-    Expr, Function, Junction, Limit, Literal, Qualifier, Relation, Root, Sign,
-};
 use std::alloc::{AllocError, Global};
 use std::test::Fail;
+
+// A text, how many brackets are open around it, and the outline of the expression that it is; nothing where it is
+// none.
+type Row = (&'static [u8], u32, &'static [u8]);
+
+const EXPRESSIONS: &'static [Row] = &[
+    (b"a", 0, b"a"),
+    (b"- 1", 0, b"-1"),
+    (b"?", 0, b"?"),
+    (b"UNKNOWN", 0, b"UNKNOWN"),
+    (b"%01", 0, b"%01"),
+    (b"\"000000e9\"", 0, b"\"000000e9\""),
+    (b"((a))", 0, b"((a))"),
+    (b"[]", 0, b"[]"),
+    (b"[1, 2]", 0, b"[1 2]"),
+    (b"NVL(a, b.c[1])", 0, b"NVL(a b.c[1])"),
+    (b"NOT a AND b OR c", 0, b"OR(AND(NOT(a) b) c)"),
+    (b"a XOR b AND c OR d", 0, b"OR(XOR(a AND(b c)) d)"),
+    (b"{0 < volume <= 1.E3}", 0, b"{0 < volume <= 1.E3}"),
+    (b"SELF\\shape.label <> 'x'", 0, b"<>(SELF\\shape.label 'x')"),
+    (
+        b"'GEO.LEN_M' in TypeOf(SELF.volume)",
+        0,
+        b"IN('GEO.LEN_M' TYPEOF(SELF.volume))",
+    ),
+    (
+        b"SIZEOF(QUERY(r <* ratios | r <> 0.0)) > 0",
+        0,
+        b">(SIZEOF(QUERY(r ratios <>(r 0.0))) 0)",
+    ),
+    // No expression.
+    (b"", 0, b""),
+    (b"a = b = c", 0, b""),
+    (b"a AND", 0, b""),
+    (b"NOT NOT a", 0, b""),
+    (b"- a", 0, b""),
+    (b"1 [2]", 0, b""),
+    (b"(a", 0, b""),
+    (b"a b", 0, b""),
+    (b"[1,]", 0, b""),
+    // At most 64 brackets.
+    (b"(a)", 63, b"(a)"),
+    (b"((a))", 63, b""),
+    (b"a", 64, b"a"),
+    (b"(a)", 64, b""),
+];
 
 // The expression that a text is, in so many brackets.
 fn read<'a>(alloc: Global, text: &'a [u8], depth: u32) -> Result<Option<Expr<'a>>, AllocError> {
@@ -22,149 +67,26 @@ fn read<'a>(alloc: Global, text: &'a [u8], depth: u32) -> Result<Option<Expr<'a>
     read_expression(alloc, lexemes.as_slice(), depth)
 }
 
-fn is_name(expr: &Expr<'_>) -> bool {
-    match expr {
-        Expr::Reference(Root::Name(_), qualifiers) => qualifiers.is_empty(),
-        _ => false,
+fn is_read(alloc: Global, row: Row) -> Result<bool, AllocError> {
+    let (text, depth, wanted) = row;
+    let mut found = Vec::new(alloc);
+    if let Some(expression) = read(alloc, text, depth)? {
+        outline(&expression, &mut found)?;
     }
+    Ok(found.as_slice() == wanted)
 }
 
-// NOT a AND b
-fn is_not_and(expr: &Expr<'_>) -> bool {
-    let Expr::Conjunction(first, others) = expr else {
-        return false;
-    };
-    let Expr::Not(inner) = &**first else {
-        return false;
-    };
-    is_name(inner) && others.len() == 1 && is_name(&others[0])
-}
-
-#[test]
-fn not_binds_before_and_before_or(rt: HostRuntime) -> Result<(), Fail> {
-    let alloc = rt.alloc();
-    let Some(Expr::Disjunction(first, others)) = read(alloc, b"NOT a AND b OR c", 0)? else {
-        panic!(rt; "no disjunction");
-    };
-    assert!(rt; is_not_and(&first));
-    assert_eq!(rt; others.len(), 1);
-    assert_eq!(rt; others[0].junction, Junction::Or);
-    assert!(rt; is_name(&others[0].term));
-    Ok(())
+fn first_wrong(alloc: Global, rows: &[Row]) -> Result<Option<usize>, AllocError> {
+    for i in 0..rows.len() {
+        if !is_read(alloc, rows[i])? {
+            return Ok(Some(i));
+        }
+    }
+    Ok(None)
 }
 
 #[test]
-fn reads_an_interval(rt: HostRuntime) -> Result<(), Fail> {
-    let alloc = rt.alloc();
-    let read = read(alloc, b"{0 < volume <= 1.E3}", 0)?;
-    let Some(
-        Expr::Interval {
-            low,
-            above,
-            item,
-            below,
-            high,
-        },
-    ) = read
-    else {
-        panic!(rt; "no interval");
-    };
-    assert!(rt; matches!(*low, Expr::Literal(Literal::Number(_))));
-    assert_eq!(rt; above, Limit::Less);
-    assert!(rt; is_name(&item));
-    assert_eq!(rt; below, Limit::LessOrEqual);
-    assert!(rt; matches!(*high, Expr::Literal(Literal::Number(_))));
-    Ok(())
-}
-
-#[test]
-fn reads_comparisons(rt: HostRuntime) -> Result<(), Fail> {
-    let alloc = rt.alloc();
-    let Some(Expr::Comparison(left, relation, right)) = read(alloc, b"SELF\\shape.label <> 'x'", 0)?
-    else {
-        panic!(rt; "no comparison");
-    };
-    let Expr::Reference(Root::SelfInstance, qualifiers) = &*left else {
-        panic!(rt; "no SELF");
-    };
-    assert_eq!(rt; qualifiers.len(), 1);
-    assert!(rt; matches!(&qualifiers[0], Qualifier::Group(_, _)));
-    assert_eq!(rt; relation, Relation::NotEqual);
-    assert!(rt; matches!(*right, Expr::Literal(Literal::String(_))));
-    let Some(Expr::Comparison(left, relation, right)) = read(
-        alloc,
-        b"'GEO.LEN_M' in TypeOf(SELF.volume)",
-        0,
-    )?
-    else {
-        panic!(rt; "no comparison");
-    };
-    assert!(rt; matches!(*left, Expr::Literal(Literal::String(_))));
-    assert_eq!(rt; relation, Relation::In);
-    assert!(rt; matches!(*right, Expr::Call(Function::Typeof, _)));
-    Ok(())
-}
-
-#[test]
-fn reads_a_query(rt: HostRuntime) -> Result<(), Fail> {
-    let alloc = rt.alloc();
-    let text = b"SIZEOF(QUERY(r <* ratios | r <> 0.0)) > 0";
-    let Some(Expr::Comparison(left, relation, _)) = read(alloc, text, 0)? else {
-        panic!(rt; "no comparison");
-    };
-    assert_eq!(rt; relation, Relation::Greater);
-    let Expr::Call(function, argument) = &*left else {
-        panic!(rt; "no call");
-    };
-    assert_eq!(rt; *function, Function::Sizeof);
-    assert!(rt; matches!(**argument, Expr::Query { .. }));
-    Ok(())
-}
-
-#[test]
-fn reads_small_ones(rt: HostRuntime) -> Result<(), Fail> {
-    let alloc = rt.alloc();
-    assert!(rt; matches!(read(alloc, b"- 1", 0)?, Some(Expr::Signed(Sign::Minus, _))));
-    assert!(rt;
-        matches!(
-            read(alloc, b"?", 0)?,
-            Some(Expr::Literal(Literal::Indeterminate))
-        )
-    );
-    assert!(rt; matches!(read(alloc, b"NVL(a, b.c[1])", 0)?, Some(Expr::Nvl(_, _))));
-    assert!(rt; matches!(read(alloc, b"((a))", 0)?, Some(Expr::Parenthesized(_))));
-    let Some(Expr::Aggregate(elements)) = read(alloc, b"[1, 2]", 0)? else {
-        panic!(rt; "no aggregate");
-    };
-    assert_eq!(rt; elements.len(), 2);
-    let Some(Expr::Aggregate(elements)) = read(alloc, b"[]", 0)? else {
-        panic!(rt; "no aggregate");
-    };
-    assert!(rt; elements.is_empty());
-    Ok(())
-}
-
-#[test]
-fn refuses_what_is_no_expression(rt: HostRuntime) -> Result<(), Fail> {
-    let alloc = rt.alloc();
-    assert!(rt; read(alloc, b"", 0)?.is_none());
-    assert!(rt; read(alloc, b"a = b = c", 0)?.is_none());
-    assert!(rt; read(alloc, b"a AND", 0)?.is_none());
-    assert!(rt; read(alloc, b"NOT NOT a", 0)?.is_none());
-    assert!(rt; read(alloc, b"- a", 0)?.is_none());
-    assert!(rt; read(alloc, b"1 [2]", 0)?.is_none());
-    assert!(rt; read(alloc, b"(a", 0)?.is_none());
-    assert!(rt; read(alloc, b"a b", 0)?.is_none());
-    assert!(rt; read(alloc, b"[1,]", 0)?.is_none());
-    Ok(())
-}
-
-#[test]
-fn opens_64_brackets(rt: HostRuntime) -> Result<(), Fail> {
-    let alloc = rt.alloc();
-    assert!(rt; read(alloc, b"(a)", 63)?.is_some());
-    assert!(rt; read(alloc, b"((a))", 63)?.is_none());
-    assert!(rt; read(alloc, b"a", 64)?.is_some());
-    assert!(rt; read(alloc, b"(a)", 64)?.is_none());
+fn expressions_are_trees(rt: HostRuntime) -> Result<(), Fail> {
+    assert_eq!(rt; first_wrong(rt.alloc(), EXPRESSIONS)?, None);
     Ok(())
 }

@@ -4,6 +4,10 @@
 #[cfg(test)]
 mod expressions;
 #[cfg(test)]
+mod outline;
+#[cfg(test)]
 mod schemas;
 #[cfg(test)]
 mod tokens;
+#[cfg(test)]
+mod values;

@@ -1,11 +1,12 @@
 //! Schemas of worked texts.
 
-use express_schemas::fault::{FaultKind, LeftOut, SchemaFault};
-use express_schemas::tree::{
-    Attribute, Body, Collection, Declaration, Entity, Skipped, Supertype, Underlying,
+use express_text::expression::Expr;
+use express_text::fault::{FaultKind, LeftOut, SchemaFault};
+use express_text::read_schema;
+use express_text::tree::{
+    Attribute, Body, Collection, Declaration, Entity, Rule, SchemaTree, Skipped, Supertype,
+    Underlying,
 };
-use express_text::schema::read_schema;
-use express_trees::tree::Expr;
 use std::alloc::{AllocError, Global};
 use std::test::Fail;
 
@@ -37,8 +38,6 @@ ENTITY plain_mark SUBTYPE OF (marked);
 DERIVE SELF\\shape.label : STRING(8) := 'p'; END_ENTITY;
 ";
 
-const END: &[u8] = b"END_SCHEMA;";
-
 const SKIPPED: &[u8] =
     b"FUNCTION ok(p : point) : BOOLEAN; RETURN (TRUE); END_FUNCTION;\nEND_SCHEMA;";
 
@@ -50,47 +49,58 @@ fn joined(alloc: Global, first: &[u8], second: &[u8]) -> Result<Vec<u8>, AllocEr
     Ok(text)
 }
 
-fn refused(alloc: Global, text: &[u8]) -> Option<(FaultKind, u64)> {
+const SECOND: FaultKind = FaultKind::LeftOut(LeftOut::SecondSchema);
+
+// A text, and the kind and place of its first fault.
+type FaultRow = (&'static [u8], FaultKind, u64);
+
+const FAULTS: &'static [FaultRow] = &[
+    (
+        b"SCHEMA s; USE FROM t; END_SCHEMA;",
+        FaultKind::LeftOut(LeftOut::Use),
+        10,
+    ),
+    (b"SCHEMA s; & END_SCHEMA;", FaultKind::BadToken, 10),
+    (
+        b"SCHEMA s; ENTITY a END_ENTITY; END_SCHEMA;",
+        FaultKind::Expected,
+        19,
+    ),
+    (b"", FaultKind::Expected, 0),
+    // A second schema, behind the first one and inside it.
+    (b"SCHEMA s; END_SCHEMA; SCHEMA t; END_SCHEMA;", SECOND, 22),
+    (b"SCHEMA s; SCHEMA t; END_SCHEMA;", SECOND, 10),
+    (b"SCHEMA SCHEMA;", SECOND, 7),
+    (b"SCHEMA s; ENTITY a; SCHEMA t;", SECOND, 20),
+    // In a run and in a skipped declaration it is a token like another.
+    (
+        b"SCHEMA s; ENTITY a; WHERE SCHEMA; &",
+        FaultKind::BadToken,
+        34,
+    ),
+    (b"SCHEMA s; FUNCTION SCHEMA", FaultKind::Expected, 19),
+];
+
+fn is_refused(alloc: Global, text: &[u8], kind: FaultKind, place: u64) -> bool {
     match read_schema(alloc, text) {
-        Err(SchemaFault::Fault { kind, place }) => Some((kind, place)),
-        _ => None,
+        Err(fault) => fault == SchemaFault::Text { kind, place },
+        Ok(_) => false,
     }
 }
 
-#[test]
-fn faults_show_first(rt: HostRuntime) -> Result<(), Fail> {
-    let alloc = rt.alloc();
-    let second = FaultKind::LeftOut(LeftOut::SecondSchema);
-    let rows: [(&[u8], FaultKind, u64); 10] = [
-        (
-            b"SCHEMA s; USE FROM t; END_SCHEMA;",
-            FaultKind::LeftOut(LeftOut::Use),
-            10,
-        ),
-        (b"SCHEMA s; & END_SCHEMA;", FaultKind::BadToken, 10),
-        (
-            b"SCHEMA s; ENTITY a END_ENTITY; END_SCHEMA;",
-            FaultKind::Expected,
-            19,
-        ),
-        (b"", FaultKind::Expected, 0),
-        // A second schema, behind the first one and inside it.
-        (b"SCHEMA s; END_SCHEMA; SCHEMA t; END_SCHEMA;", second, 22),
-        (b"SCHEMA s; SCHEMA t; END_SCHEMA;", second, 10),
-        (b"SCHEMA SCHEMA;", second, 7),
-        (b"SCHEMA s; ENTITY a; SCHEMA t;", second, 20),
-        // In a run and in a skipped declaration it is a token like another.
-        (
-            b"SCHEMA s; ENTITY a; WHERE SCHEMA; &",
-            FaultKind::BadToken,
-            34,
-        ),
-        (b"SCHEMA s; FUNCTION SCHEMA", FaultKind::Expected, 19),
-    ];
-    for (text, kind, place) in rows {
-        assert!(rt; refused(alloc, text) == Some((kind, place)));
+fn wrong_fault(alloc: Global, rows: &[FaultRow]) -> Option<usize> {
+    for i in 0..rows.len() {
+        let (text, kind, place) = rows[i];
+        if !is_refused(alloc, text, kind, place) {
+            return Some(i);
+        }
     }
-    Ok(())
+    None
+}
+
+#[test]
+fn faults_show_first(rt: HostRuntime) {
+    assert_eq!(rt; wrong_fault(rt.alloc(), FAULTS), None);
 }
 
 // A rule in so many parentheses.
@@ -112,112 +122,104 @@ fn nested(alloc: Global, depth: usize) -> Result<Vec<u8>, AllocError> {
 fn brackets_are_64_at_most(rt: HostRuntime) -> Result<(), Fail> {
     let alloc = rt.alloc();
     let deep = nested(alloc, 65)?;
-    assert!(rt; refused(alloc, &deep) == Some((FaultKind::TooDeep, 90)));
     let most = nested(alloc, 64)?;
-    assert!(rt; read_schema(alloc, &most).is_ok());
+    assert!(rt;
+        is_refused(alloc, &deep, FaultKind::TooDeep, 90) && read_schema(alloc, &most).is_ok()
+    );
     Ok(())
 }
 
-fn entity_at<'t, 'a>(declarations: &'t [Declaration<'a>], place: usize) -> Option<&'t Entity<'a>> {
-    match declarations.get(place) {
+fn entity_at<'t, 'a>(schema: &'t SchemaTree<'a>, place: usize) -> Option<&'t Entity<'a>> {
+    match schema.declarations.get(place) {
         Some(Declaration::Entity(entity)) => Some(entity),
         _ => None,
     }
 }
 
-#[test]
-fn reads_types(rt: HostRuntime) -> Result<(), Fail> {
-    let alloc = rt.alloc();
-    let text = joined(alloc, GEO, END)?;
-    let Ok(schema) = read_schema(alloc, &text) else {
-        panic!(rt; "no schema");
-    };
-    assert!(rt; schema.name.spelling() == b"geo".as_slice());
-    assert!(rt; schema.version.is_none());
-    assert_eq!(rt; schema.declarations.len(), 17);
-    let Some(Declaration::Type(finish)) = schema.declarations.get(2) else {
-        panic!(rt; "no type");
-    };
-    assert!(rt; matches!(&finish.underlying, Underlying::Enumeration(items) if items.len() == 2));
-    let Some(Declaration::Type(amount)) = schema.declarations.get(3) else {
-        panic!(rt; "no type");
-    };
-    assert!(rt; matches!(&amount.underlying, Underlying::Select(types) if types.len() == 2));
-    assert!(rt; amount.rules.is_none());
-    Ok(())
+fn underlying_at<'t, 'a>(schema: &'t SchemaTree<'a>, place: usize) -> Option<&'t Underlying<'a>> {
+    match schema.declarations.get(place) {
+        Some(Declaration::Type(declared)) => Some(&declared.underlying),
+        _ => None,
+    }
+}
+
+fn types_are_read(schema: &SchemaTree<'_>) -> bool {
+    schema.name.spelling() == b"geo".as_slice()
+        && schema.version.is_none()
+        && schema.declarations.len() == 18
+        && matches!(underlying_at(schema, 2), Some(Underlying::Enumeration(items)) if items.len() == 2)
+        && matches!(underlying_at(schema, 3), Some(Underlying::Select(types)) if types.len() == 2)
+}
+
+// The one with an optional attribute and an inverse one.
+fn is_placement(entity: &Entity<'_>) -> bool {
+    matches!(entity.explicits.as_slice(), [location, axis] if !location.is_optional && axis.is_optional)
+        && matches!(entity.inverse_attributes(), [notes] if matches!(notes.collection, Collection::Set(Some(_))))
+}
+
+fn is_item(entity: &Entity<'_>) -> bool {
+    entity.is_abstract && matches!(&entity.supertype, Supertype::OfOneOf(names) if names.len() == 2)
+}
+
+fn is_redeclared_label(attribute: &Attribute<'_>) -> bool {
+    matches!(attribute, Attribute::Redeclared(_, _))
+        && attribute.name().spelling() == b"label".as_slice()
+}
+
+fn redeclares_label(entity: &Entity<'_>) -> bool {
+    matches!(entity.derived_attributes(), [label] if is_redeclared_label(&label.attribute))
+}
+
+fn entities_are_read(schema: &SchemaTree<'_>) -> bool {
+    entity_at(schema, 6).is_some_and(is_placement)
+        && entity_at(schema, 7).is_some_and(is_item)
+        && entity_at(schema, 16).is_some_and(redeclares_label)
+}
+
+fn is_function_kept(schema: &SchemaTree<'_>) -> bool {
+    match schema.declarations.get(17) {
+        Some(Declaration::Skipped(Skipped::Function(name, tokens))) => {
+            name.spelling() == b"ok".as_slice()
+                && tokens.passage().text()
+                    == b"(p : point) : BOOLEAN; RETURN (TRUE); END_FUNCTION".as_slice()
+        }
+        _ => false,
+    }
 }
 
 #[test]
-fn reads_entities(rt: HostRuntime) -> Result<(), Fail> {
-    let alloc = rt.alloc();
-    let text = joined(alloc, GEO, END)?;
-    let Ok(schema) = read_schema(alloc, &text) else {
-        panic!(rt; "no schema");
-    };
-    let Some(placement) = entity_at(&schema.declarations, 6) else {
-        panic!(rt; "no entity");
-    };
-    assert_eq!(rt; placement.explicits.len(), 2);
-    assert!(rt; !placement.explicits[0].is_optional);
-    assert!(rt; placement.explicits[1].is_optional);
-    let Some(inverses) = &placement.inverses else {
-        panic!(rt; "no inverse");
-    };
-    assert_eq!(rt; inverses.len(), 1);
-    assert!(rt; matches!(inverses[0].collection, Collection::Set(Some(_))));
-    let Some(item) = entity_at(&schema.declarations, 7) else {
-        panic!(rt; "no entity");
-    };
-    assert!(rt; item.is_abstract);
-    assert!(rt; matches!(&item.supertype, Supertype::OfOneOf(names) if names.len() == 2));
-    let Some(plain) = entity_at(&schema.declarations, 16) else {
-        panic!(rt; "no entity");
-    };
-    let Some(derived) = &plain.derived else {
-        panic!(rt; "no derived attribute");
-    };
-    assert_eq!(rt; derived.len(), 1);
-    assert!(rt; matches!(derived[0].attribute, Attribute::Redeclared(_, _)));
-    Ok(())
-}
-
-#[test]
-fn keeps_what_is_skipped(rt: HostRuntime) -> Result<(), Fail> {
+fn schemas_are_trees(rt: HostRuntime) -> Result<(), Fail> {
     let alloc = rt.alloc();
     let text = joined(alloc, GEO, SKIPPED)?;
     let Ok(schema) = read_schema(alloc, &text) else {
         panic!(rt; "no schema");
     };
-    assert_eq!(rt; schema.declarations.len(), 18);
-    let Some(Declaration::Skipped(Skipped::Function(name, tokens))) = schema.declarations.get(17)
-    else {
-        panic!(rt; "no function");
-    };
-    assert!(rt; name.spelling() == b"ok".as_slice());
-    let kept: &[u8] = b"(p : point) : BOOLEAN; RETURN (TRUE); END_FUNCTION";
-    assert!(rt; tokens.passage().text() == kept);
+    assert!(rt; types_are_read(&schema));
+    assert!(rt; entities_are_read(&schema));
+    assert!(rt; is_function_kept(&schema));
     Ok(())
 }
 
+// An expression, and a run behind it.
+fn is_set_aside(rules: &[Rule<'_>]) -> bool {
+    let [first, second] = rules else {
+        return false;
+    };
+    let Body::SetAside(run) = &second.body else {
+        return false;
+    };
+    matches!(&first.body, Body::Expression(Expr::Disjunction(_, _)))
+        && run.passage().text() == b"a = b = c".as_slice()
+        && run.passage().place() == 44
+}
+
 #[test]
-fn tells_expressions_from_what_is_set_aside(rt: HostRuntime) -> Result<(), Fail> {
-    let alloc = rt.alloc();
+fn tells_expressions_from_what_is_set_aside(rt: HostRuntime) {
     let text = b"SCHEMA s; ENTITY e; WHERE NOT a AND b OR c; a = b = c; END_ENTITY; END_SCHEMA;";
-    let Ok(schema) = read_schema(alloc, text) else {
+    let Ok(schema) = read_schema(rt.alloc(), text) else {
         panic!(rt; "no schema");
     };
-    let Some(entity) = entity_at(&schema.declarations, 0) else {
-        panic!(rt; "no entity");
-    };
-    let Some(rules) = &entity.rules else {
-        panic!(rt; "no rules");
-    };
-    assert_eq!(rt; rules.len(), 2);
-    assert!(rt; matches!(&rules[0].body, Body::Expression(Expr::Disjunction(_, _))));
-    let Body::SetAside(run) = &rules[1].body else {
-        panic!(rt; "an expression");
-    };
-    assert!(rt; run.passage().text() == b"a = b = c".as_slice());
-    assert_eq!(rt; run.passage().place(), 44);
-    Ok(())
+    assert!(rt;
+        matches!(entity_at(&schema, 0), Some(entity) if is_set_aside(entity.domain_rules()))
+    );
 }

@@ -6,8 +6,8 @@ use Rattle.std.specs.Ordering.{nat_cmp, eq_by_cmp}
 use Rattle.std.specs.BTreeMap.{BTreeMap, keys}
 use Rattle.std.proofs.lemmas.Bool.{and_parts, and_from, or_cases, or_left, or_right}
 use Rattle.std.proofs.lemmas.Bool.Decides.{nat_tests}
-use Rattle.step_values.specs.Values.{Value, leaf, reference, typed, sequence, bag, Values, none, more}
-use Rattle.step_values.specs.References.{renamed, renamed_each}
+use Rattle.step_values.specs.References.{renamed_each}
+use Rattle.step_values.specs.Labels.{renaming, AgreeEachBy}
 use Rattle.step_equal.specs.Rows.{Row, kind_of, names, row_at, IsName, RowsAgree, renamed_row}
 use Rattle.step_values.specs.ComputedAgreement.{same_each_test}
 use Rattle.step_values.specs.Maps.{led_by}
@@ -15,7 +15,8 @@ use Rattle.step_equal.specs.Maps.{is_key, IsMapImage}
 use Rattle.step_equal.specs.ComputedImages.{IsOnto, LeavesAlone, row_lands, source, is_source}
 use Rattle.step_equal.proofs.Lookup.{row_cases, held_name, name_held, name_here, name_later, all_rows, rows_all, all_names, names_all, row_name}
 use Rattle.step_equal.specs.ComputedKinds.{kind_test}
-use Rattle.step_values.proofs.Deciding.{each_sound, each_complete}
+use Rattle.step_values.proofs.Deciding.{same_bool, each_sound, each_complete}
+use Rattle.step_values.proofs.Labelled.{agree_each_led_once, led_once_agree_each}
 use Rattle.step_equal.proofs.OneKind.{kinds_decide}
 
 -- each row of P is led to one of Q that agrees with it
@@ -195,31 +196,24 @@ module _ (h : ℕ → ℕ) where
         λ apart. e ∙ names_all (λ x. is_source (g (h x)) x) P (λ x n. its_source apart x n (g (h x)) refl),
       )
 
--- renamed by what leaves each name, a value stays
-mutual
-  renamed_itself : (v : Value) → renamed (λ y. y) v ≡ v
-  renamed_itself (leaf a) = refl
-  renamed_itself (reference y) = refl
-  renamed_itself (typed n v) = ap (typed n) (renamed_itself v)
-  renamed_itself (sequence vs) = ap sequence (renamed_each_itself vs)
-  renamed_itself (bag vs) = ap bag (renamed_each_itself vs)
-
-  renamed_each_itself : (vs : Values) → renamed_each (λ y. y) vs ≡ vs
-  renamed_each_itself none = refl
-  renamed_each_itself (more v vs) = let first = renamed_itself v in let rest = renamed_each_itself vs in cc
-
-lands_where_kinds : (h : ℕ → ℕ) (p q : Row) (o : Option Row) (r : Bool) → Some q ≡ o → kind_test (kind_of p)
-    (kind_of q) ≡ true → r ≡ same_each_test (renamed_each h p.values) (renamed_each (λ y. y) q.values) → r ≡ row_lands h p o
-lands_where_kinds h p q o r found one e =
-    e ∙ ap (same_each_test (renamed_each h p.values)) (renamed_each_itself q.values)
-    ∙ ap (λ b. b && same_each_test (renamed_each h p.values) q.values) (sym one) ∙ ap (row_lands h p) found
-
+-- a row lands where its values agree with those of the row that it is led to, by the map on its side alone
 pub lands_if_one_kind : {E : Type 0} (h : ℕ → ℕ) (p q : Row) (o : Option Row) (r : Result Bool E) → Some q ≡ o
     → kind_test (kind_of p) (kind_of q) ≡ true
-    → IfOk r (λ b. b ≡ same_each_test (renamed_each h p.values) (renamed_each (λ y. y) q.values))
+    → IfOk r (λ b. (b ≡ true) ↔ AgreeEachBy (renaming h) (renaming (λ y. y)) p.values q.values)
     → IfOk r (λ b. b ≡ row_lands h p o)
-lands_if_one_kind h p q o (Ok b) found one f = lands_where_kinds h p q o b found one f
+lands_if_one_kind h p q o (Ok b) found one f =
+    same_bool b (same_each_test (renamed_each h p.values) q.values)
+    (λ e. each_complete (renamed_each h p.values) q.values (agree_each_led_once h p.values q.values (f.0 e)))
+    (λ e. f.1 (led_once_agree_each h p.values q.values (each_sound (renamed_each h p.values) q.values e)))
+    ∙ ap (λ b. b && same_each_test (renamed_each h p.values) q.values) (sym one) ∙ ap (row_lands h p) found
 lands_if_one_kind h p q o (Err e) found one f = f
+
+-- a row doesn't land on one of another kind
+pub lands_in_two_kinds : (h : ℕ → ℕ) (p q : Row) (o : Option Row) → Some q ≡ o
+    → kind_test (kind_of p) (kind_of q) ≡ false
+    → false ≡ row_lands h p o
+lands_in_two_kinds h p q o found two =
+    ap (λ b. b && same_each_test (renamed_each h p.values) q.values) (sym two) ∙ ap (row_lands h p) found
 
 pub image_where : {E : Type 0} (P Q : List Row) (m : BTreeMap ℕ ℕ) (pinned : ℕ → Bool) (r : Result Bool E)
     → ((y : ℕ) → (is_key m y ≡ true) ↔ IsName P y) → Lands P Q (led_by m) → IsOnto P Q (led_by m)

@@ -13,7 +13,8 @@ use Rattle.step_equal.specs.Laws.{ValueEqualityExists}
 use Rattle.step_equal.proofs.OneKind.{kinds_decide}
 use Rattle.step_equal.proofs.Lookup.{row_cases}
 use Rattle.step_equal.proofs.Pairs.{alike_sym, alike_trans, agree_under_grows, agree_under_back, agree_under_trans}
-use Rattle.step_values.proofs.Deciding.{agree_each_by, each_by_sound, each_by_complete}
+use Rattle.step_values.specs.ComputedAgreement.{agree_each_by}
+use Rattle.step_values.proofs.Deciding.{each_by_sound, each_by_complete}
 use Rattle.step_equal.proofs.Few.{count_length, ArePartitions, many_heads}
 use Rattle.step_equal.proofs.Rounds.{own, stable_decides, refinement_grounded, refinement_stable}
 use Rattle.step_equal.proofs.Numbering.{scan, IsLeast}

@@ -1,17 +1,16 @@
 -- Names in the order of rows, and what they say of the rows.
-use Rattle.std.proofs.Common.{◌≡◌, ◌<◌, ◌≤◌, ℕ, suc, zero, Bool, true, false, cond, List, [], ◌∷◌, length, get_or, take, Option, Some, None, nat_eq, nat_lt, Bor, refl, sym, ◌∙◌, ap, inl, inr, eqb-true, arith}
-use Rattle.std.specs.Prelude.{◌==◌, ◌||◌, is_some, slice_get, position, IfSome}
+use Rattle.std.proofs.Common.{◌≡◌, ◌<◌, ◌≤◌, ℕ, suc, zero, Bool, true, false, cond, List, [], ◌∷◌, length, get_or, take, Option, Some, None, nat_eq, refl, sym, ◌∙◌, ap, inl, inr, eqb-true, arith}
+use Rattle.std.specs.Prelude.{◌==◌, ◌||◌, is_some, slice_get, position, IfSome, MatchOption}
 use Rattle.std.specs.List.{IsDistinct, AllByRecursion, list_any}
 use Rattle.std.specs.Option.{option_map}
 use Rattle.std.proofs.lemmas.Bool.{or_cases, and_parts, and_from}
-use Rattle.std.proofs.lemmas.Bool.Decides.{nat_tests}
 use Rattle.std.proofs.lemmas.List.{length-map}
+use Rattle.std.proofs.lemmas.Option.{slice_get-map}
 use Rattle.std.proofs.lemmas.List.Quantifiers.{position-Some}
 use Rattle.step_equal.specs.declared.row.PlainRow.{PlainRow}
 use Rattle.step_equal.specs.Rows.{Row, names, row_at, IsName, IsPopulation, AreFew}
 use Rattle.step_equal.specs.Views.{row_of, rows_of}
 use Rattle.step_values.proofs.Agreement.{eqb_sym}
-use Rattle.step_equal.proofs.Ancestors.{seen_at}
 use Rattle.step_equal.proofs.Lookup.{row_here, row_later, held_name, name_held, all_rows, rows_all}
 use Rattle.step_values.specs.Values.{Value, leaf, reference, typed, sequence, bag, Values, none, more}
 use Rattle.step_values.specs.References.{EachReference, EachReferenceOf}
@@ -59,12 +58,18 @@ row_found rows i y r e at =
     let found = position-Some (nat_eq y) (names rows) i 0 e in
     row_by_place rows i y r at (ap (nat_eq y) (sym (name_by_place rows i r at)) ∙ found.1) found.2
 
-beyond : (i n : ℕ) → i < n → false ≡ nat_lt i n → ⊥
-beyond i n l e = grind (arith, nat_tests)
-
 lost : (o : Option Row) → is_some o ≡ false → o ≡ None
 lost None h = refl
 lost (Some r) h = absurd (cc)
+
+no_end : (rows : List PlainRow) (i : ℕ) → i < length rows → slice_get rows i ≡ None → ⊥
+no_end [] i l e = absurd (omega (arith, l))
+no_end (r ∷ rows) zero l e = absurd (cc)
+no_end (r ∷ rows) (suc i) l e = no_end rows i (omega (arith, l)) e
+
+-- the name at a place
+pub name_at : (rows : List Row) (i : ℕ) (r : Row) → slice_get rows i ≡ Some r → slice_get (names rows) i ≡ Some r.name
+name_at rows i r e = slice_get-map (λ (q : Row). q.name) rows i ∙ ap (option_map (λ (q : Row). q.name)) e
 
 module _ (rows : List PlainRow) (places : List ℕ) (in_order : places ≡ names (rows_of rows)) (y : ℕ) where
   pub row_lost : list_any (nat_eq y) places ≡ false → row_at (rows_of rows) y ≡ None
@@ -74,14 +79,21 @@ module _ (rows : List PlainRow) (places : List ℕ) (in_order : places ≡ names
   within : {i : ℕ} → i < length places → i < length rows
   within l = omega (arith, l, ap length in_order, length-map (rows_of rows) (λ r. r.name), length-map rows row_of)
 
-  -- what a look-up by place answers
-  pub row_got : (o : Option (Bor PlainRow)) (i : ℕ) → Some i ≡ position (nat_eq y) places → i < length places
-      → is_some o ≡ nat_lt i (length rows) → IfSome o (λ r. r.now ≡ get_or rows i r.now)
-      → option_map (λ r. row_of r.now) o ≡ row_at (rows_of rows) y
-  row_got None i e l held at = absurd (beyond i (length rows) (within l) held)
-  row_got (Some r) i e l held at =
-      sym (row_found (rows_of rows) i y (row_of r.now) (ap (position (nat_eq y)) (sym in_order) ∙ sym e)
-      (seen_at row_of rows i r.now (within l) at))
+  there : (i : ℕ) → i < length rows → (o : Option PlainRow) → slice_get rows i ≡ o → (r : Row)
+      × (slice_get (rows_of rows) i ≡ Some r)
+  there i l None e = absurd (no_end rows i l e)
+  there i l (Some r) e = (row_of r, slice_get-map row_of rows i ∙ ap (option_map row_of) e)
+
+  -- where the row of a name is found
+  pub found_at : (o : Option ℕ) → o ≡ position (nat_eq y) places → is_some o ≡ list_any (nat_eq y) places
+      → IfSome o (λ i. i < length places) → MatchOption o (row_at (rows_of rows) y ≡ None)
+      (λ i. (i < length (rows_of rows)) × (slice_get (rows_of rows) i ≡ row_at (rows_of rows) y))
+  found_at None e held l = row_lost (sym held)
+  found_at (Some i) e held l =
+      let at = there i (within l) (slice_get rows i) refl in (
+        omega (arith, l, ap length in_order, length-map (rows_of rows) (λ r. r.name)),
+        at.1 ∙ sym (row_found (rows_of rows) i y at.0 (ap (position (nat_eq y)) (sym in_order) ∙ sym e) at.1),
+      )
 
 pub few_rows : (rows : List PlainRow) → length rows ≤ 4294967295 → AreFew (rows_of rows)
 few_rows rows h = omega (arith, h, length-map rows row_of)

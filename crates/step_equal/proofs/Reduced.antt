@@ -1,8 +1,7 @@
 -- Value equality on the quotient by value equality is the identity.
 use Rattle.std.proofs.Common.{◌≡◌, ℕ, Bool, true, false, cond, List, refl, sym, ◌∙◌, ap, subst, inl, inr, eq-eqb, [], ◌∷◌}
 use Rattle.std.specs.Prelude.{◌==◌, map, filter}
-use Rattle.step_values.specs.Values.{Value, leaf, reference, typed, sequence, bag, Values, none, more}
-use Rattle.step_values.specs.References.{renamed_each, renamed}
+use Rattle.step_values.proofs.Renaming.{each_renamed_itself}
 use Rattle.step_equal.specs.Rows.{Row, names, IsName, IsPopulation, renamed_row, BagsArePinned}
 use Rattle.step_equal.specs.Keeping.{ValueEqual, IsValueEquality, IsCongruence}
 use Rattle.step_equal.specs.Images.{head_of, quotient}
@@ -65,18 +64,6 @@ pub quotients_are_reduced : QuotientsAreReduced
 quotients_are_reduced = reduced
 
 -- The quotient by a relation that relates nothing to another instance is the population itself.
-
-mutual
-  renamed_itself : (h : ℕ → ℕ) → ((y : ℕ) → h y ≡ y) → (v : Value) → renamed h v ≡ v
-  renamed_itself h f (leaf a) = refl
-  renamed_itself h f (reference y) = ap reference (f y)
-  renamed_itself h f (typed n v) = ap (typed n) (renamed_itself h f v)
-  renamed_itself h f (sequence vs) = ap sequence (each_renamed_itself h f vs)
-  renamed_itself h f (bag vs) = ap bag (each_renamed_itself h f vs)
-
-  each_renamed_itself : (h : ℕ → ℕ) → ((y : ℕ) → h y ≡ y) → (vs : Values) → renamed_each h vs ≡ vs
-  each_renamed_itself h f none = refl
-  each_renamed_itself h f (more v vs) = let first = renamed_itself h f v in let rest = each_renamed_itself h f vs in cc
 
 head_itself : (F : ℕ → ℕ → Bool) → ((x z : ℕ) → F x z ≡ true → x ≡ z) → (ys : List ℕ) (y : ℕ) → head_of ys F y ≡ y
 head_itself F f [] y = refl

@@ -17,13 +17,14 @@ ghost use Rattle.step_equal.specs.ComputedImages.{
 ghost use Rattle.step_values.specs.Maps.{led_by};
 ghost use Rattle.step_equal.specs.Maps.{is_key, is_pinned, IsMapImage};
 ghost use Rattle.step_equal.specs.Rows.{row_at, IsName};
-ghost use Rattle.step_equal.specs.Views.{row_of, rows_of};
+ghost use Rattle.step_equal.specs.Views.{row_of, row_seen, rows_of};
 
 use crate::plain::Plain;
-use crate::row::{PlainRow, is_one_kind};
+use crate::row::{PlainRow, RowSlot, is_one_kind};
 use std::alloc::{AllocError, Global};
 use std::collections::{BTreeSet, HashMap, HashSet};
-use step_values::agree::{Map, Renaming, lead, same_each};
+use step_values::agree::same_each;
+use step_values::labels::{Itself, Map, lead};
 
 /// Whether the map is an image of the first population on the second.
 ///
@@ -92,7 +93,7 @@ fn rows_land<'p, 'q>(
     ensures { IfOk result (λ b. b ≡ list_all (lands_by map.now q.now) (rows_of rows.now)) }
 {
     for row in rows {
-        if !row_lands(alloc, map, row, q)? {
+        if !row_lands(alloc, map, &RowSlot::of(row), q)? {
             return Ok(false);
         }
     }
@@ -100,27 +101,22 @@ fn rows_land<'p, 'q>(
 }
 
 /// Whether a row is.
-fn row_lands<'p, 'q>(
+fn row_lands<'p, 'a, 'q>(
     alloc: Global,
     map: &Map,
-    row: &PlainRow<'p>,
+    row: &RowSlot<'p, 'a>,
     q: &Plain<'q>,
 ) -> Result<bool, AllocError>
-    ensures { IfOk result (λ b. b ≡ lands_by map.now q.now (row_of row.now)) }
+    ensures { IfOk result (λ b. b ≡ lands_by map.now q.now (row_seen row.now)) }
 {
-    let Some(other) = q.find(lead(map, row.name)) else {
+    let Some(place) = q.find(lead(map, row.name)) else {
         return Ok(false);
     };
-    if !is_one_kind(row, other) {
+    let other = q.row(place);
+    if !is_one_kind(row, &other) {
         return Ok(false);
     }
-    same_each(
-        alloc,
-        &Renaming::By(map),
-        &Renaming::Itself,
-        &row.values,
-        &other.values,
-    )
+    same_each(alloc, map, &Itself, &row.values, &other.values)
 }
 
 /// Whether each of the others is reached.

@@ -1,8 +1,20 @@
 //! Populations whose rows are found by name.
 
-ghost use Rattle.std.specs.Prelude.{◌≡◌, nat_eq, is_some, length, map, IfOk, IfErr, List};
+ghost use Rattle.std.specs.Prelude.{
+  ◌≡◌,
+  ◌<◌,
+  nat_eq,
+  is_some,
+  length,
+  slice_get,
+  IfOk,
+  IfErr,
+  List,
+  MatchOption,
+  None,
+  Some,
+};
 ghost use Rattle.std.specs.List.{IsDistinct, AllZip};
-ghost use Rattle.std.specs.Option.{option_map};
 ghost use Rattle.indexmap.specs.IndexSet.{contains};
 ghost use Rattle.step_equal.specs.ComputedClosure.{references_pass, all_references_pass, rows_pass};
 ghost use Rattle.step_equal.specs.ComputedCodes.{coded_rows};
@@ -11,10 +23,10 @@ ghost use Rattle.step_equal.specs.ComputedPlaces.{IsPlaced};
 ghost use Rattle.step_equal.specs.Rows.{Row, AreFew, IsPopulation, names, row_at};
 ghost use Rattle.step_equal.specs.Settled.{IsSettled};
 ghost use Rattle.step_values.specs.Views.{value_of, values_of};
-ghost use Rattle.step_equal.specs.Views.{row_of, rows_of};
+ghost use Rattle.step_equal.specs.Views.{rows_of, row_seen};
 
 use crate::fault::PlainFault;
-use crate::row::PlainRow;
+use crate::row::{PlainRow, RowSlot};
 use crate::settled::settle_rows;
 use indexmap::IndexSet;
 use std::alloc::Global;
@@ -65,24 +77,41 @@ impl<'a> Plain<'a> {
     pub fn len(&self) -> usize
         ensures length { result ≡ length self.now }
         ensures few { AreFew self.now }
+        ensures population { IsPopulation self.now }
     {
         self.rows.len()
     }
 
-    /// Its rows, in order.
-    pub fn rows(&self) -> &[PlainRow<'a>]
+    /// Its rows, in order, as they are kept.
+    pub(crate) fn rows(&self) -> &[PlainRow<'a>]
         ensures rows { rows_of result.now ≡ self.now }
         ensures population { IsPopulation self.now }
     {
         &self.rows
     }
 
-    /// The row of a name.
-    pub fn find(&self, name: u64) -> Option<&PlainRow<'a>>
-        ensures { option_map (λ r. row_of r.now) result ≡ row_at self.now name }
+    /// The row at a place, counted from 0.
+    pub fn row<'p>(&'p self, place: usize) -> RowSlot<'p, 'a>
+        requires { place < length self.now }
+        ensures { slice_get self.now place ≡ Some (row_seen result) }
     {
-        let place = self.places.get_index_of(&name)?;
-        self.rows.get(place)
+        row_in(&self.rows, place)
+    }
+
+    /// The name of the row at a place.
+    pub fn name(&self, place: usize) -> u64
+        requires { place < length self.now }
+        ensures { slice_get (names self.now) place ≡ Some result }
+    {
+        self.row(place).name
+    }
+
+    /// The place of the row of a name.
+    pub fn find(&self, name: u64) -> Option<usize>
+        ensures { MatchOption result (row_at self.now name ≡ None)
+            (λ i. (i < length self.now) × (slice_get self.now i ≡ row_at self.now name)) }
+    {
+        self.places.get_index_of(&name)
     }
 
     /// Whether a row has this name.
@@ -91,6 +120,13 @@ impl<'a> Plain<'a> {
     {
         self.places.contains(&name)
     }
+}
+
+fn row_in<'p, 'a>(rows: &'p [PlainRow<'a>], place: usize) -> RowSlot<'p, 'a>
+    requires { place < length rows.now }
+    ensures { slice_get (rows_of rows.entry.now) place ≡ Some (row_seen result) }
+{
+    RowSlot::of(&rows[place])
 }
 
 /// The names of the rows, in order.

@@ -6,10 +6,11 @@ ghost use Rattle.step_values.specs.ComputedAgreement.{each_test};
 ghost use Rattle.step_values.specs.Views.{word_of};
 ghost use Rattle.step_equal.specs.ComputedKinds.{kind_test};
 ghost use Rattle.step_equal.specs.Rows.{kind_of};
-ghost use Rattle.step_equal.specs.Views.{row_of};
+ghost use Rattle.step_equal.specs.Views.{row_of, row_seen};
 
 use step_literals::literal::Word;
 use step_values::literals::same_word;
+use step_values::slot::Slots;
 use step_values::value::PlainValue;
 
 /// A row: an instance's name, the data section that it stands in, its types, and a value for each of its attributes.
@@ -22,15 +23,39 @@ pub struct PlainRow<'a> {
     pub values: Vec<PlainValue<'a>>,
 }
 
+/// A row as its readers see it, whatever it is kept in.
+#[derive(Drop)]
+pub struct RowSlot<'p, 'a> {
+    pub name: u64,
+    /// Counted from 0.
+    pub section: u32,
+    pub types: &'p [Word<'a>],
+    pub values: Slots<'p, 'a>,
+}
+
+impl<'p, 'a> RowSlot<'p, 'a> {
+    /// The row, where it is kept.
+    pub fn of(row: &'p PlainRow<'a>) -> RowSlot<'p, 'a>
+        ensures { row_seen result ≡ row_of row.entry.now }
+    {
+        RowSlot {
+            name: row.name,
+            section: row.section,
+            types: &row.types,
+            values: Slots::of(&row.values),
+        }
+    }
+}
+
 /// Whether two rows are of one kind: they stand in one section, and their type words are equal one by one.
-pub fn is_one_kind<'p, 'q>(row: &PlainRow<'p>, other: &PlainRow<'q>) -> bool
-    ensures kinds { IsTrue result ↔ (kind_of (row_of row.now) ≡ kind_of (row_of other.now)) }
-    ensures test { result ≡ kind_test (kind_of (row_of row.now)) (kind_of (row_of other.now)) }
+pub fn is_one_kind<'p, 'a, 'q, 'b>(row: &RowSlot<'p, 'a>, other: &RowSlot<'q, 'b>) -> bool
+    ensures kinds { IsTrue result ↔ (kind_of (row_seen row.now) ≡ kind_of (row_seen other.now)) }
+    ensures test { result ≡ kind_test (kind_of (row_seen row.now)) (kind_of (row_seen other.now)) }
 {
     if row.section != other.section {
         return false;
     }
-    same_words(&row.types, &other.types)
+    same_words(row.types, other.types)
 }
 
 /// Whether two lists of words are equal, whatever the case of their letters.

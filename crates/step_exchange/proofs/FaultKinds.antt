@@ -1,397 +1,375 @@
--- The kind of fault that the table gives is the kind that is due.
-use Rattle.std.proofs.Common.{◌≡◌, ℕ, ◌<◌, Bool, true, false, if◌then◌else◌, List, [], ◌∷◌, ◌++◌, Ok, Err, refl, sym, ap, ◌∙◌, subst, ◌⊎◌, inl, inr, append_assoc, arith, codes}
-use Rattle.step_lexis.specs.declared.token.Mark.TheVariants.{Open, Semicolon}
+-- The kind of fault that the table gives is the kind that is due, and no other is.
+use Rattle.std.proofs.Common.{◌≡◌, ℕ, Bool, true, false, List, [], ◌∷◌, ◌++◌, Ok, Err, refl, sym, ap, ◌∙◌, subst, ◌⊎◌, inl, inr, arith, codes}
+use Rattle.std.specs.Str.{str_to_ascii_lowercase}
+use Rattle.std.proofs.lemmas.Slice.Eq.{bytes_eq-Decides}
+use Rattle.predictive.specs.Tables.{lookaheads}
+use Rattle.predictive.specs.Languages as languages
+use Rattle.predictive.proofs.Leading.{Leads}
+use Rattle.predictive.proofs.Running.{reaches_keeps}
+use Rattle.predictive.proofs.Wider.{goes_on_wider}
+use Rattle.step_lexis.specs.declared.token.Mark.TheVariants.{Open}
+use Rattle.step_literals.specs.declared.fault.Flaw.{Flaw}
 use Rattle.step_exchange.specs.declared.fault.FaultKind.{FaultKind}
 use Rattle.step_exchange.specs.declared.fault.FaultKind.TheVariants as kinds
+use Rattle.step_exchange.specs.declared.fault.LeftOut.{LeftOut}
 use Rattle.step_exchange.specs.declared.fault.LeftOut.TheVariants as left_out
-use Rattle.step_exchange.specs.Words.{ends, keyword, name, user_defined, scope, mark, Lookahead, token, end_of_text, LocatedToken}
-use Rattle.step_exchange.specs.Trees.{Record, File, Item, this, says, finish, is_said, Begins, Meets, items_of_header, items_of_data, items_of_file}
-use Rattle.step_exchange.specs.Fits.{Rules, the_rules, FitsHeader, FitsFile, Where}
-use Rattle.step_exchange.specs.Texts.{HoldsSchema, IsViablePrefix, EndsHeader, EndsData, EndsFile, BeginsData, IsWord, IsBetween, IsLeftOut, more_levels, more_instances, repeated, unheaded, FaultApplies, IsKind}
-use Rattle.step_exchange.specs.Predict.{Symbol, Just, Data, Behind, Rows, Finish, EndOfText, Next, passes, stops, next, next_data, next_finish, next_end_of_text, section_kind, step_on, run, data_symbols, file_symbols}
-use Rattle.step_exchange.proofs.Passing.{run_step, run_stop, meets_finish, pass_header, pass_data, pass_file}
-use Rattle.step_exchange.proofs.Begins.{begins_split, begins_append}
+use Rattle.step_exchange.specs.Words.{keyword, user_defined, scope, mark, Lookahead, token, flawed, LocatedToken}
+use Rattle.step_exchange.specs.Trees.{is_said}
+use Rattle.step_exchange.specs.Fits.{Rules, the_rules}
+use Rattle.step_exchange.specs.Texts.{HoldsSchema, IsViablePrefix, EndsData, EndsFile, BeginsData, IsWord, IsBetween, IsLeftOut, more_levels, more_instances, repeated, unheaded, FaultApplies, IsKind}
+use Rattle.step_exchange.specs.Predict.{Symbol, Data, Behind, Finish, EndOfText, Next, refused, next, section_kind, file_symbols}
+use Rattle.step_exchange.specs.Steps.{table, IsFile}
+use Rattle.step_exchange.proofs.Meeting.{one_more}
 use Rattle.step_exchange.proofs.Looser.{IsLooser, levels_looser, instances_looser, repeated_looser, unheaded_looser}
-use Rattle.step_exchange.proofs.Forms.{IsOrdinary}
-use Rattle.step_exchange.proofs.Wider.{looser_self}
-use Rattle.step_exchange.proofs.Prefixes.{same_stop, prefix_from, not_prefix, end_symbols}
-use Rattle.step_exchange.proofs.Reached.{Stands, stands_little}
-use Rattle.step_exchange.proofs.Reasons.{why}
-use Rattle.step_exchange.proofs.Holds.{holds_behind}
+use Rattle.step_exchange.proofs.Forms.{Little}
+use Rattle.step_exchange.proofs.Complete.{complete, starts, exact}
+use Rattle.step_exchange.proofs.Wider.{looser_self, wider}
+use Rattle.step_exchange.proofs.Schemas.{holds_stricter, holds_behind}
+use Rattle.step_exchange.proofs.Prefixes.{front_of, of_front}
+use Rattle.step_exchange.proofs.Sections.{Stands, stands, ended_header, begun_data, ended_data, ended_file, data_to_come, behind_to_come, finish_to_come, end_to_come}
+use Rattle.step_exchange.proofs.Reasons.{Can, NoSemicolon, Why, why}
 
--- the tokens before lead to a stack
-abbrev pub Comes : Rules → List LocatedToken → List Symbol → Type 0
-Comes rules before zs = (w : Rules) → IsLooser rules w → (q : List LocatedToken)
-    → run w file_symbols (before ++ q) ≡ run w zs q
+-- what no structure has
+abbrev pub IsOdd : Lookahead → Type 0
+IsOdd (flawed f) = Unit {0}
+IsOdd (token (user_defined text)) = Unit {0}
+IsOdd (token scope) = Unit {0}
+IsOdd _ = ⊥
 
--- under these rules it could be next
-abbrev pub Can : Rules → Symbol → Lookahead → Type 0
-Can w y s = (zs : List Symbol) × (next w y s ≡ Ok zs)
+pub odd_refused : (y : Symbol) (s : Lookahead) → IsOdd s → table y s ≡ Err (refused s)
+odd_refused EndOfText (flawed f) o = refl
+odd_refused _ (flawed f) o = refl
+odd_refused EndOfText (token (user_defined text)) o = refl
+odd_refused _ (token (user_defined text)) o = refl
+odd_refused EndOfText (token scope) o = refl
+odd_refused _ (token scope) o = refl
+odd_refused y s o = absurd o
 
--- with a token that can be next they are a viable prefix
-can_be_prefix : (rules w : Rules) → IsLooser rules w → 1 < w.levels → (before : List LocatedToken) (at : LocatedToken)
-    (y : Symbol) (ys : List Symbol) → Comes rules before (y ∷ ys) → Can w y at.lookahead
-    → Where w.headed (HoldsSchema w (before ++ at ∷ [])) → IsViablePrefix w (before ++ at ∷ [])
-can_be_prefix rules w i l before at y ys h c schema =
-    prefix_from w l (before ++ at ∷ []) (c.0 ++ ys) (λ q. ap (run w file_symbols) (append_assoc before (at ∷ []) q)
-    ∙ h w i (at ∷ q) ∙ run_step w y ys c.0 at q c.1) schema
-
--- .. and with one that can't they are none
-pub no_prefix : (rules w : Rules) → IsLooser rules w → (before : List LocatedToken) (at : LocatedToken) (y : Symbol)
-    (ys : List Symbol) (k : FaultKind) → Comes rules before (y ∷ ys) → next w y at.lookahead ≡ Err k
-    → IsViablePrefix w (before ++ at ∷ []) → ⊥
-no_prefix rules w i before at y ys k h e = not_prefix w k at.place before at (λ q. h w i (at ∷ q)
-    ∙ run_stop w y ys k at q e)
-
--- the first thing that was to come is what stops at the only token
-stops_first : (rules : Rules) (y : Symbol) (ys : List Symbol) (t : LocatedToken) (k : FaultKind) (place : ℕ)
-    → run rules (y ∷ ys) (t ∷ []) ≡ stops k place → next rules y t.lookahead ≡ Err k
-stops_first rules y ys t k place e = by (next rules y t.lookahead) refl e
+-- a keyword is one word
+not_said : (v w text : List ℕ) → is_said v w ≡ false → is_said w text ≡ true → is_said v text ≡ false
+not_said v w text apart h = by (is_said v text) refl
   where
-    nothing : (l : List Symbol) → run rules l [] ≡ stops k place → ⊥
-    nothing [] g = cc
-    nothing (z ∷ l) g = cc
+    by : (b : Bool) → is_said v text ≡ b → b ≡ false
+    by false e = refl
+    by true e =
+        let a = (bytes_eq-Decides (str_to_ascii_lowercase v) (str_to_ascii_lowercase text)).0 e in
+        let b = (bytes_eq-Decides (str_to_ascii_lowercase w) (str_to_ascii_lowercase text)).0 h in
+        let same : is_said v w ≡ true = (bytes_eq-Decides (str_to_ascii_lowercase v) (str_to_ascii_lowercase w)).1
+        (a ∙ sym b) in
+        let q : false ≡ true = sym apart ∙ same in absurd cc
 
-    by : (r : Next) → next rules y t.lookahead ≡ r → step_on t.place (λ zs. run rules zs []) ys r ≡ stops k place
-        → next rules y t.lookahead ≡ Err k
-    by (Err j) d g = d ∙ ap (λ i. Err i) (same_stop j k t.place place g).0
-    by (Ok zs) d g = absurd (nothing (zs ++ ys) g)
+-- the fault at a word with which a section that is left out begins
+abbrev SaysPart : List ℕ → LeftOut → Type 0
+SaysPart word part = (text : List ℕ) → is_said word text ≡ true → (is_said (codes "DATA") text ≡ false)
+    × (section_kind text ≡ kinds.LeftOut part)
 
--- what stands behind a header, a data section and a structure
-stuck_at : (rules : Rules) (before : List LocatedToken) (at : LocatedToken) (y : Symbol) (ys : List Symbol)
-    (k : FaultKind) → Comes rules before (y ∷ ys) → next rules y at.lookahead ≡ Err k
-    → run rules file_symbols (before ++ at ∷ []) ≡ stops k at.place
-stuck_at rules before at y ys k h e = h rules (looser_self rules) (at ∷ []) ∙ run_stop rules y ys k at [] e
+says_anchor : SaysPart (codes "ANCHOR") left_out.Anchor
+says_anchor text h = (not_said (codes "DATA") (codes "ANCHOR") text refl h, rw h refl)
 
-behind_header : (rules : Rules) (before : List LocatedToken) (at : LocatedToken) (k : FaultKind)
-    → run rules file_symbols (before ++ at ∷ []) ≡ stops k at.place → (header : List Record) → FitsHeader rules header
-    → Begins before (items_of_header header) [] → next rules Data at.lookahead ≡ Err k
-behind_header rules before at k e header f h =
-    let run_on = pass_header rules header data_symbols (before ++ at ∷ []) (at ∷ []) f
-    (begins_append before (items_of_header header) [] (at ∷ []) h) in
-    stops_first rules Data (Behind ∷ Rows [] ∷ Just Semicolon ∷ end_symbols) at k at.place (sym run_on ∙ e)
+says_reference : SaysPart (codes "REFERENCE") left_out.Reference
+says_reference text h = (
+  not_said (codes "DATA") (codes "REFERENCE") text refl h,
+  rw (not_said (codes "ANCHOR") (codes "REFERENCE") text refl h, h) refl,
+)
 
-behind_data : (rules : Rules) (before : List LocatedToken) (at : LocatedToken) (k : FaultKind)
-    → run rules file_symbols (before ++ at ∷ []) ≡ stops k at.place → (x : File) → FitsFile rules x
-    → Begins before (items_of_header x.header ++ items_of_data x.rows) [] → next rules Finish at.lookahead ≡ Err k
-behind_data rules before at k e x f h =
-    let s = before ++ at ∷ [] in
-    let a = begins_split s (items_of_header x.header) (items_of_data x.rows) (at ∷ [])
-    (begins_append before (items_of_header x.header ++ items_of_data x.rows) [] (at ∷ []) h) in
-    let run_on = pass_header rules x.header data_symbols s a.0 f.0 a.1 ∙ pass_data rules x.rows end_symbols a.0
-    (at ∷ []) f.1 a.2 in
-    stops_first rules Finish (Just Semicolon ∷ EndOfText ∷ []) at k at.place (sym run_on ∙ e)
+says_signature : SaysPart (codes "SIGNATURE") left_out.Signature
+says_signature text h = (
+  not_said (codes "DATA") (codes "SIGNATURE") text refl h,
+  rw (
+    not_said (codes "ANCHOR") (codes "SIGNATURE") text refl h,
+    not_said (codes "REFERENCE") (codes "SIGNATURE") text refl h,
+    h,
+  ) refl,
+)
 
--- the last token meets the last item
-last_meets : (b : List LocatedToken) (t : LocatedToken) (a : List Item) (i : Item) → Begins (b ++ t ∷ []) (a ++ i ∷ [])
-    [] → Meets t.lookahead i
-last_meets [] t [] i h = h.0
-last_meets [] t (j ∷ []) i h = absurd h.1
-last_meets [] t (j ∷ l ∷ a) i h = absurd h.1
-last_meets (u ∷ []) t [] i h = (let e : t ∷ [] ≡ [] = h.1 in absurd cc)
-last_meets (u ∷ v ∷ b) t [] i h = (let e : v ∷ (b ++ t ∷ []) ≡ [] = h.1 in absurd cc)
-last_meets (u ∷ b) t (j ∷ a) i h = last_meets b t a i h.1
+at_section : (y : Symbol) (text : List ℕ) → (y ≡ Data) ⊎ (y ≡ Finish) → is_said (codes "DATA") text ≡ false
+    → table y (token (keyword text)) ≡ Err (section_kind text)
+at_section y text (inl e) h = ap (λ z. table z (token (keyword text))) e ∙ (rw h refl)
+at_section y text (inr e) h = ap (λ z. table z (token (keyword text))) e ∙ (rw h refl)
 
-over_only : (rules : Rules) (y : Symbol) (zs : List Symbol) → next rules y end_of_text ≡ Ok zs → y ≡ EndOfText
-over_only rules EndOfText zs e = refl
-over_only rules y zs e = cc
+section_word : (y : Symbol) (s : Lookahead) (word : List ℕ) (part : LeftOut) → (y ≡ Data) ⊎ (y ≡ Finish)
+    → SaysPart word part → IsWord word s → table y s ≡ Err (kinds.LeftOut part)
+section_word y (token (keyword text)) word part h says w = let p = says text w in
+    at_section y text h p.0 ∙ ap (λ k. Err k) p.1
+section_word y s word part h says w = absurd w
 
-behind_file : (rules : Rules) (before : List LocatedToken) (at : LocatedToken) (y : Symbol) (ys : List Symbol)
-    (k : FaultKind) → Comes rules before (y ∷ ys) → next rules y at.lookahead ≡ Err k → (t : LocatedToken) (x : File)
-    → FitsFile rules x → Begins (before ++ t ∷ []) (items_of_file x) [] → next rules EndOfText at.lookahead ≡ Err k
-behind_file rules before at y ys k h e t x f b =
-    let opened = items_of_header x.header ++ items_of_data x.rows in
-    let P : List Item → Type 0 = λ l. Begins (before ++ t ∷ []) l [] in
-    let ended = meets_finish t.lookahead (last_meets before t (opened ++ this ends ∷ this (mark Semicolon) ∷ []) finish
-    (subst P (sym (append_assoc opened (this ends ∷ this (mark Semicolon) ∷ []) (finish ∷ []))) b)) in
-    let through : run rules (y ∷ ys) (t ∷ []) ≡ passes [] = sym (h rules (looser_self rules) (t ∷ []))
-    ∙ pass_file rules x (before ++ t ∷ []) [] f b in
-    let same = by (next rules y t.lookahead) refl through ended in
-    let Q : Symbol → Type 0 = λ z. next rules z at.lookahead ≡ Err k in
-    subst Q same e
-  where
-    by : (r : Next) → next rules y t.lookahead ≡ r → step_on t.place (λ zs. run rules zs []) ys r ≡ passes []
-        → t.lookahead ≡ end_of_text → y ≡ EndOfText
-    by (Err j) d g o = cc
-    by (Ok zs) d g o = over_only rules y zs (ap (next rules y) (sym o) ∙ d)
+end_signature : (s : Lookahead) → IsWord (codes "SIGNATURE") s → table EndOfText s ≡ Err
+    (kinds.LeftOut left_out.Signature)
+end_signature (token (keyword text)) w = rw w refl
+end_signature s w = absurd w
 
--- where another token was expected, no word of a section stands
-section_other : (a b c : Bool) → (let k : FaultKind = if a then kinds.LeftOut left_out.Anchor else
-    (if b then kinds.LeftOut left_out.Reference else (if c then kinds.LeftOut left_out.Signature else kinds.Expected))
-    in k) ≡ kinds.Expected → (a ≡ false) × (b ≡ false) × (c ≡ false)
-section_other true b c e = absurd cc
-section_other false true c e = absurd cc
-section_other false false true e = absurd cc
-section_other false false false e = (refl, refl, refl)
-
-err_if : (b : Bool) (k j : FaultKind) → (let v : Next = if b then Ok [] else Err k in v) ≡ Err j → k ≡ j
-err_if true k j e = cc
-err_if false k j e = cc
-
-err_unless : (b : Bool) (k l j : FaultKind) → (l ≡ j → ⊥) → (let v : Next = if b then Err l else Err k in v) ≡ Err j
-    → (b ≡ false) × (k ≡ j)
-err_unless true k l j o e = absurd (o cc)
-err_unless false k l j o e = (refl, cc)
-
-data_expected : (text : List ℕ) → next_data (token (keyword text)) ≡ Err kinds.Expected
-    → section_kind text ≡ kinds.Expected
-data_expected text e = err_if (is_said (codes "DATA") text) (section_kind text) kinds.Expected e
-
-finish_expected : (text : List ℕ) → next_finish (token (keyword text)) ≡ Err kinds.Expected
-    → (is_said (codes "DATA") text ≡ false) × (section_kind text ≡ kinds.Expected)
-finish_expected text e = err_unless (is_said (codes "DATA") text) (section_kind text) (kinds.LeftOut left_out.Sections)
-    kinds.Expected (λ g. cc) e
-
-over_expected : (text : List ℕ) → next_end_of_text (token (keyword text)) ≡ Err kinds.Expected
-    → is_said (codes "SIGNATURE") text ≡ false
-over_expected text e = (err_unless (is_said (codes "SIGNATURE") text) kinds.Expected (kinds.LeftOut left_out.Signature)
-    kinds.Expected (λ g. cc) e).0
-
--- at a place between sections none of the words for those that are left out is expected
-no_section : (s : Lookahead) → (next_data s ≡ Err kinds.Expected) ⊎ (next_finish s ≡ Err kinds.Expected)
-    → (IsWord (codes "ANCHOR") s → ⊥) × (IsWord (codes "REFERENCE") s → ⊥) × (IsWord (codes "SIGNATURE") s → ⊥)
-no_section (token (keyword text)) h = by (kind h)
-  where
-    kind : (next_data (token (keyword text)) ≡ Err kinds.Expected)
-        ⊎ (next_finish (token (keyword text)) ≡ Err kinds.Expected) → section_kind text ≡ kinds.Expected
-    kind (inl e) = data_expected text e
-    kind (inr e) = (finish_expected text e).1
-
-    off : (b : Bool) → b ≡ false → b ≡ true → ⊥
-    off b e g = absurd cc
-
-    by : section_kind text ≡ kinds.Expected → (is_said (codes "ANCHOR") text ≡ true → ⊥)
-        × (is_said (codes "REFERENCE") text ≡ true → ⊥) × (is_said (codes "SIGNATURE") text ≡ true → ⊥)
-    by e =
-        let p = section_other (is_said (codes "ANCHOR") text) (is_said (codes "REFERENCE") text)
-        (is_said (codes "SIGNATURE") text) e in (
-          off (is_said (codes "ANCHOR") text) p.0,
-          off (is_said (codes "REFERENCE") text) p.1,
-          off (is_said (codes "SIGNATURE") text) p.2,
-        )
-no_section s h = (λ w. w, λ w. w, λ w. w)
-
-no_data : (s : Lookahead) → next_finish s ≡ Err kinds.Expected → IsWord (codes "DATA") s → ⊥
-no_data (token (keyword text)) h w = let e = (finish_expected text h).0 in absurd cc
-no_data s h w = w
-
-no_signature : (s : Lookahead) → next_end_of_text s ≡ Err kinds.Expected → IsWord (codes "SIGNATURE") s → ⊥
-no_signature (token (keyword text)) h w = let e = over_expected text h in absurd cc
-no_signature s h w = w
-
-no_open : (rules : Rules) (s : Lookahead) → next rules Behind s ≡ Err kinds.Expected → s ≡ token (mark Open) → ⊥
-no_open rules s h e = let g : next rules Behind (token (mark Open)) ≡ Err kinds.Expected = ap (next rules Behind)
-    (sym e) ∙ h in absurd cc
+finish_data : (s : Lookahead) → IsWord (codes "DATA") s → table Finish s ≡ Err (kinds.LeftOut left_out.Sections)
+finish_data (token (keyword text)) w = rw w refl
+finish_data s w = absurd w
 
 -- what is left out begins with its word
-left_anchor : (before : List LocatedToken) (s : Lookahead) → IsWord (codes "ANCHOR") s × IsBetween before
+left_anchor : (before : List Lookahead) (s : Lookahead) → IsWord (codes "ANCHOR") s × IsBetween before
     → IsLeftOut before s left_out.Anchor
 left_anchor before (token (user_defined text)) h = absurd h.0
 left_anchor before (token scope) h = absurd h.0
 left_anchor before s h = h
 
-left_reference : (before : List LocatedToken) (s : Lookahead) → IsWord (codes "REFERENCE") s × IsBetween before
+left_reference : (before : List Lookahead) (s : Lookahead) → IsWord (codes "REFERENCE") s × IsBetween before
     → IsLeftOut before s left_out.Reference
 left_reference before (token (user_defined text)) h = absurd h.0
 left_reference before (token scope) h = absurd h.0
 left_reference before s h = h
 
-left_signature : (before : List LocatedToken) (s : Lookahead) → IsWord (codes "SIGNATURE") s
+left_signature : (before : List Lookahead) (s : Lookahead) → IsWord (codes "SIGNATURE") s
     × (IsBetween before ⊎ EndsFile before) → IsLeftOut before s left_out.Signature
 left_signature before (token (user_defined text)) h = absurd h.0
 left_signature before (token scope) h = absurd h.0
 left_signature before s h = h
 
-left_sections : (before : List LocatedToken) (s : Lookahead) → (IsWord (codes "DATA") s × EndsData before)
+left_sections : (before : List Lookahead) (s : Lookahead) → (IsWord (codes "DATA") s × EndsData before)
     ⊎ ((s ≡ token (mark Open)) × BeginsData before) → IsLeftOut before s left_out.Sections
 left_sections before (token (user_defined text)) h = h
 left_sections before (token scope) h = h
 left_sections before s h = h
 
-due_anchor : (before : List LocatedToken) (s : Lookahead) → IsLeftOut before s left_out.Anchor → IsWord (codes "ANCHOR")
+due_anchor : (before : List Lookahead) (s : Lookahead) → IsLeftOut before s left_out.Anchor → IsWord (codes "ANCHOR")
     s × IsBetween before
 due_anchor before (token (user_defined text)) h = h
 due_anchor before (token scope) h = h
 due_anchor before s h = h
 
-due_reference : (before : List LocatedToken) (s : Lookahead) → IsLeftOut before s left_out.Reference
+due_reference : (before : List Lookahead) (s : Lookahead) → IsLeftOut before s left_out.Reference
     → IsWord (codes "REFERENCE") s × IsBetween before
 due_reference before (token (user_defined text)) h = h
 due_reference before (token scope) h = h
 due_reference before s h = h
 
-due_signature : (before : List LocatedToken) (s : Lookahead) → IsLeftOut before s left_out.Signature
+due_signature : (before : List Lookahead) (s : Lookahead) → IsLeftOut before s left_out.Signature
     → IsWord (codes "SIGNATURE") s × (IsBetween before ⊎ EndsFile before)
 due_signature before (token (user_defined text)) h = h
 due_signature before (token scope) h = h
 due_signature before s h = h
 
-due_sections : (before : List LocatedToken) (s : Lookahead) → IsLeftOut before s left_out.Sections
+due_sections : (before : List Lookahead) (s : Lookahead) → IsLeftOut before s left_out.Sections
     → (IsWord (codes "DATA") s × EndsData before) ⊎ ((s ≡ token (mark Open)) × BeginsData before)
 due_sections before (token (user_defined text)) h = h
 due_sections before (token scope) h = h
 due_sections before s h = h
 
-due_user_defined : (before : List LocatedToken) (s : Lookahead) → IsLeftOut before s left_out.UserDefined → IsOrdinary s
-    → ⊥
-due_user_defined before (token (user_defined text)) h o = o
-due_user_defined before (token scope) h o = o
-due_user_defined before s h o = h
+due_user_defined : (before : List Lookahead) (s : Lookahead) → IsLeftOut before s left_out.UserDefined
+    → (text : List ℕ) × (s ≡ token (user_defined text))
+due_user_defined before (token (user_defined text)) h = (text, refl)
+due_user_defined before (token scope) h = absurd h
+due_user_defined before s h = absurd h
 
-due_scope : (before : List LocatedToken) (s : Lookahead) → IsLeftOut before s left_out.Scope → IsOrdinary s → ⊥
-due_scope before (token (user_defined text)) h o = o
-due_scope before (token scope) h o = o
-due_scope before s h o = h
+due_scope : (before : List Lookahead) (s : Lookahead) → IsLeftOut before s left_out.Scope → s ≡ token scope
+due_scope before (token (user_defined text)) h = absurd h
+due_scope before (token scope) h = refl
+due_scope before s h = absurd h
 
-due_large : (before : List LocatedToken) (s : Lookahead) → IsLeftOut before s left_out.TooLarge → ⊥
+due_large : (before : List Lookahead) (s : Lookahead) → IsLeftOut before s left_out.TooLarge → ⊥
 due_large before (token (user_defined text)) h = h
 due_large before (token scope) h = h
 due_large before s h = h
 
-between : (before : List LocatedToken) (at : LocatedToken) (k : FaultKind) → run the_rules file_symbols
-    (before ++ at ∷ []) ≡ stops k at.place → IsBetween before → (next_data at.lookahead ≡ Err k)
-    ⊎ (next_finish at.lookahead ≡ Err k)
-between before at k e (inl h) = inl (behind_header the_rules before at k e h.0 h.1 h.2)
-between before at k e (inr h) = inr (behind_data the_rules before at k e h.0 h.1 h.2)
+-- a word is no mark
+word_no_mark : (word : List ℕ) (s : Lookahead) → IsWord word s → NoSemicolon s
+word_no_mark word s h e = let P : Lookahead → Type 0 = IsWord word in subst P e h
 
-begins_data : (before : List LocatedToken) (at : LocatedToken) (k : FaultKind) → run the_rules file_symbols
-    (before ++ at ∷ []) ≡ stops k at.place → BeginsData before → next the_rules Behind at.lookahead ≡ Err k
-begins_data before at k e h =
-    let s = before ++ at ∷ [] in
-    let a = begins_split s (items_of_header h.0) (says (codes "DATA") ∷ []) (at ∷ [])
-    (begins_append before (items_of_header h.0 ++ says (codes "DATA") ∷ []) [] (at ∷ []) h.2) in
-    let run_on = pass_header the_rules h.0 data_symbols s a.0 h.1 a.1 ∙ said a.0 a.2 in
-    stops_first the_rules Behind (Rows [] ∷ Just Semicolon ∷ end_symbols) at k at.place (sym run_on ∙ e)
-  where
-    word : (s : Lookahead) → Meets s (says (codes "DATA")) → next the_rules Data s ≡ Ok []
-    word (token (keyword text)) g = rw g refl
-    word (token (name n text)) g = absurd g
-    word s g = absurd g
+instances_stricter : IsLooser more_instances repeated
+instances_stricter = record { levels = omega arith; instances = omega arith; distinct = λ e. refl; headed = λ e. e }
 
-    said : (m : List LocatedToken) → Begins m (says (codes "DATA") ∷ []) (at ∷ []) → run the_rules data_symbols m ≡ run
-        the_rules (Behind ∷ Rows [] ∷ Just Semicolon ∷ end_symbols) (at ∷ [])
-    said [] g = absurd g
-    said (t ∷ m) g = run_step the_rules Data (Behind ∷ Rows [] ∷ Just Semicolon ∷ end_symbols) [] t m
-        (word t.lookahead g.0) ∙ ap (run the_rules (Behind ∷ Rows [] ∷ Just Semicolon ∷ end_symbols)) g.1
+same_err : (v : Next) (k l : FaultKind) → v ≡ Err k → v ≡ Err l → k ≡ l
+same_err v k l e d = cc
 
--- where another token was expected no other kind is due
-expected_only : (before : List LocatedToken) (at : LocatedToken) (y : Symbol) (ys : List Symbol)
-    → Comes the_rules before (y ∷ ys) → next the_rules y at.lookahead ≡ Err kinds.Expected
-    → IsKind before at kinds.Expected
-expected_only before at y ys h e = by (why the_rules y at.lookahead kinds.Expected e)
-    (stuck_at the_rules before at y ys kinds.Expected h e)
-  where
-    by : ((w : Rules) → next w y at.lookahead ≡ Err kinds.Expected) × IsOrdinary at.lookahead
-        → run the_rules file_symbols (before ++ at ∷ []) ≡ stops kinds.Expected at.place → (kind : FaultKind)
-        → (kind ≡ kinds.Expected → ⊥) → FaultApplies before at kind → ⊥
-    by w stuck (kinds.Token f) other due = let P : Lookahead → Type 0 = λ s. IsOrdinary s in subst P due w.1
-    by w stuck kinds.Expected other due = other refl
-    by w stuck kinds.DuplicateName other due = no_prefix the_rules repeated repeated_looser before at y ys
-        kinds.Expected h (w.0 repeated) due.0
-    by w stuck kinds.TooDeep other due = no_prefix the_rules more_levels levels_looser before at y ys kinds.Expected h
-        (w.0 more_levels) due
-    by w stuck kinds.HeaderFault other due = no_prefix the_rules unheaded unheaded_looser before at y ys kinds.Expected
-        h (w.0 unheaded) due
-    by w stuck (kinds.LeftOut left_out.TooMany) other due = no_prefix the_rules more_instances instances_looser before
-        at y ys kinds.Expected h (w.0 more_instances) due
-    by w stuck (kinds.LeftOut left_out.UserDefined) other due = due_user_defined before at.lookahead due w.1
-    by w stuck (kinds.LeftOut left_out.Scope) other due = due_scope before at.lookahead due w.1
-    by w stuck (kinds.LeftOut left_out.Anchor) other due =
-        let d = due_anchor before at.lookahead due in
-        (no_section at.lookahead (between before at kinds.Expected stuck d.1)).0 d.0
-    by w stuck (kinds.LeftOut left_out.Reference) other due =
-        let d = due_reference before at.lookahead due in
-        (no_section at.lookahead (between before at kinds.Expected stuck d.1)).1 d.0
-    by w stuck (kinds.LeftOut left_out.Signature) other due = sign (due_signature before at.lookahead due)
-      where
-        place : IsBetween before ⊎ EndsFile before → IsWord (codes "SIGNATURE") at.lookahead → ⊥
-        place (inl b) g = (no_section at.lookahead (between before at kinds.Expected stuck b)).2 g
-        place (inr b) g = no_signature at.lookahead (behind_file the_rules before at y ys kinds.Expected h e b.0 b.1 b.2
-            b.3) g
+-- only one kind of fault is due where one of the rules rules something out
+names_only : (y : Symbol) (s : Lookahead) (k : FaultKind) → Why y s k → Can repeated y s
+    → (Can more_instances y s → ⊥) → k ≡ kinds.DuplicateName
+names_only y s kinds.DuplicateName w c n = refl
+names_only y s (kinds.LeftOut left_out.TooMany) w c n = absurd (n w.0.by_many)
+names_only y s _ w c n = absurd (w.0.by_names c)
 
-        sign : IsWord (codes "SIGNATURE") at.lookahead × (IsBetween before ⊎ EndsFile before) → ⊥
-        sign d = place d.1 d.0
-    by w stuck (kinds.LeftOut left_out.Sections) other due = sections (due_sections before at.lookahead due)
-      where
-        sections : (IsWord (codes "DATA") at.lookahead × EndsData before)
-            ⊎ ((at.lookahead ≡ token (mark Open)) × BeginsData before) → ⊥
-        sections (inl d) = no_data at.lookahead (behind_data the_rules before at kinds.Expected stuck d.1.0 d.1.1 d.1.2)
-            d.0
-        sections (inr d) = no_open the_rules at.lookahead (begins_data before at kinds.Expected stuck d.1) d.0
-    by w stuck (kinds.LeftOut left_out.TooLarge) other due = due_large before at.lookahead due
+many_only : (y : Symbol) (s : Lookahead) (k : FaultKind) → Why y s k → Can more_instances y s
+    → k ≡ kinds.LeftOut left_out.TooMany
+many_only y s (kinds.LeftOut left_out.TooMany) w c = refl
+many_only y s _ w c = absurd (w.0.by_many c)
 
-ends_header : (before : List LocatedToken) (y : Symbol) → Stands the_rules before y → y ≡ Data → EndsHeader before
-ends_header before y h e = let P : Symbol → Type 0 = λ z. Stands the_rules before z in subst P e h
+deep_only : (y : Symbol) (s : Lookahead) (k : FaultKind) → Why y s k → Can more_levels y s → k ≡ kinds.TooDeep
+deep_only y s kinds.TooDeep w c = refl
+deep_only y s (kinds.LeftOut left_out.TooMany) w c = absurd (w.0.by_depth c)
+deep_only y s _ w c = absurd (w.0.by_depth c)
 
-ends_data : (before : List LocatedToken) (y : Symbol) → Stands the_rules before y → y ≡ Finish → EndsData before
-ends_data before y h e = let P : Symbol → Type 0 = λ z. Stands the_rules before z in subst P e h
+heads_only : (y : Symbol) (s : Lookahead) (k : FaultKind) → Why y s k → Can unheaded y s → k ≡ kinds.HeaderFault
+heads_only y s kinds.HeaderFault w c = refl
+heads_only y s (kinds.LeftOut left_out.TooMany) w c = absurd (w.0.by_heads c)
+heads_only y s _ w c = absurd (w.0.by_heads c)
 
-ends_file : (before : List LocatedToken) (y : Symbol) → Stands the_rules before y → y ≡ EndOfText → EndsFile before
-ends_file before y h e = let P : Symbol → Type 0 = λ z. Stands the_rules before z in subst P e h
+-- what stands first on the stack behind some tokens, and another token
+module _ (before : List LocatedToken) (at : LocatedToken) (top : Symbol) (others : List Symbol)
+    (reached : Leads table file_symbols (lookaheads before) (top ∷ others))
+    (viable : IsViablePrefix the_rules (lookaheads before)) where
+  abbrev ws : List Lookahead
+  ws = lookaheads before
 
-begun_data : (before : List LocatedToken) (y : Symbol) → Stands the_rules before y → y ≡ Behind → BeginsData before
-begun_data before y h e = let P : Symbol → Type 0 = λ z. Stands the_rules before z in subst P e h
+  abbrev s : Lookahead
+  s = at.lookahead
 
-is_between : (before : List LocatedToken) (y : Symbol) → Stands the_rules before y → (y ≡ Data) ⊎ (y ≡ Finish)
-    → IsBetween before
-is_between before y h (inl e) = inl (ends_header before y h e)
-is_between before y h (inr e) = inr (ends_data before y h e)
+  pub reason : (k : FaultKind) → table top s ≡ Err k → Why top s k
+  reason k e = why top s k (reaches_keeps table (Little the_rules) (complete the_rules (omega arith)) before
+      file_symbols (top ∷ others) (starts the_rules) reached).0 e
 
--- the kind that the table gives is due
-pub kind_of : (k : FaultKind) (before : List LocatedToken) (at : LocatedToken) (y : Symbol) (ys : List Symbol)
-    → Comes the_rules before (y ∷ ys) → next the_rules y at.lookahead ≡ Err k → Stands the_rules before y
-    → IsViablePrefix the_rules before → IsKind before at k
-kind_of (kinds.Token f) before at y ys h e stands viable = why the_rules y at.lookahead (kinds.Token f) e
-kind_of kinds.Expected before at y ys h e stands viable = expected_only before at y ys h e
-kind_of kinds.DuplicateName before at y ys h e stands viable =
-    let w = why the_rules y at.lookahead kinds.DuplicateName e in (
-      can_be_prefix the_rules repeated repeated_looser (omega arith) before at y ys h
-          (w.0 repeated refl (omega arith) (stands_little the_rules before y stands))
-          (holds_behind the_rules repeated repeated_looser before at viable viable.schema w.2),
-      no_prefix the_rules more_instances instances_looser before at y ys kinds.DuplicateName h
-          (w.1 more_instances refl),
-    )
-kind_of kinds.TooDeep before at y ys h e stands viable =
-    let w = why the_rules y at.lookahead kinds.TooDeep e in
-    can_be_prefix the_rules more_levels levels_looser (omega arith) before at y ys h
-    (w.0 more_levels (omega arith) (stands_little the_rules before y stands))
-    (holds_behind the_rules more_levels levels_looser before at viable viable.schema w.1)
-kind_of kinds.HeaderFault before at y ys h e stands viable =
-    let w = why the_rules y at.lookahead kinds.HeaderFault e in
-    can_be_prefix the_rules unheaded unheaded_looser (omega arith) before at y ys h (w.0 unheaded refl) tt
-kind_of (kinds.LeftOut left_out.TooMany) before at y ys h e stands viable =
-    let w = why the_rules y at.lookahead (kinds.LeftOut left_out.TooMany) e in
-    can_be_prefix the_rules more_instances instances_looser (omega arith) before at y ys h
-    (w.0 more_instances (λ g. g) (omega arith) (stands_little the_rules before y stands))
-    (holds_behind the_rules more_instances instances_looser before at viable viable.schema w.1)
-kind_of (kinds.LeftOut left_out.UserDefined) before at y ys h e stands viable =
-    let w = why the_rules y at.lookahead (kinds.LeftOut left_out.UserDefined) e in
-    let P : Lookahead → Type 0 = λ s. IsLeftOut before s left_out.UserDefined in subst P (sym w.1) tt
-kind_of (kinds.LeftOut left_out.Scope) before at y ys h e stands viable =
-    let w = why the_rules y at.lookahead (kinds.LeftOut left_out.Scope) e in
-    let P : Lookahead → Type 0 = λ s. IsLeftOut before s left_out.Scope in subst P (sym w) tt
-kind_of (kinds.LeftOut left_out.Anchor) before at y ys h e stands viable =
-    let w = why the_rules y at.lookahead (kinds.LeftOut left_out.Anchor) e in
-    left_anchor before at.lookahead (w.0, is_between before y stands w.1)
-kind_of (kinds.LeftOut left_out.Reference) before at y ys h e stands viable =
-    let w = why the_rules y at.lookahead (kinds.LeftOut left_out.Reference) e in
-    left_reference before at.lookahead (w.0, is_between before y stands w.1)
-kind_of (kinds.LeftOut left_out.Signature) before at y ys h e stands viable =
-    by (why the_rules y at.lookahead (kinds.LeftOut left_out.Signature) e)
-  where
-    place : ((y ≡ Data) ⊎ (y ≡ Finish)) ⊎ (y ≡ EndOfText) → IsBetween before ⊎ EndsFile before
-    place (inl d) = inl (is_between before y stands d)
-    place (inr d) = inr (ends_file before y stands d)
+  -- with it they are a front where looser rules let it stand ..
+  pub can : (w : Rules) → IsLooser the_rules w → Can w top s → languages.IsViablePrefix (IsFile w) (ws ++ s ∷ [])
+  can w l c = subst (languages.IsViablePrefix (IsFile w)) (one_more before at) ((goes_on_wider table (next w)
+      (wider the_rules w l) (Little w) file_symbols (IsFile w) (exact w (omega (arith, l.levels))) before at top others
+      reached).0 c)
 
-    by : IsWord (codes "SIGNATURE") at.lookahead × (((y ≡ Data) ⊎ (y ≡ Finish)) ⊎ (y ≡ EndOfText))
-        → IsLeftOut before at.lookahead left_out.Signature
-    by w = left_signature before at.lookahead (w.0, place w.1)
-kind_of (kinds.LeftOut left_out.Sections) before at y ys h e stands viable =
-    by (why the_rules y at.lookahead (kinds.LeftOut left_out.Sections) e)
-  where
-    by : (IsWord (codes "DATA") at.lookahead × (y ≡ Finish)) ⊎ ((at.lookahead ≡ token (mark Open)) × (y ≡ Behind))
-        → IsLeftOut before at.lookahead left_out.Sections
-    by (inl w) = left_sections before at.lookahead (inl (w.0, ends_data before y stands w.1))
-    by (inr w) = left_sections before at.lookahead (inr (w.0, begun_data before y stands w.1))
-kind_of (kinds.LeftOut left_out.TooLarge) before at y ys h e stands viable =
-    absurd (why the_rules y at.lookahead (kinds.LeftOut left_out.TooLarge) e)
+  -- .. and only there
+  could : (w : Rules) → IsLooser the_rules w → IsViablePrefix w (ws ++ s ∷ []) → Can w top s
+  could w l v = (goes_on_wider table (next w) (wider the_rules w l) (Little w) file_symbols (IsFile w)
+      (exact w (omega (arith, l.levels))) before at top others reached).1
+      (subst (languages.IsViablePrefix (IsFile w)) (sym (one_more before at)) (of_front w (ws ++ s ∷ []) v))
+
+  holds_at : (w : Rules) → IsLooser the_rules w → NoSemicolon s → HoldsSchema w (ws ++ s ∷ [])
+  holds_at w l o = holds_behind the_rules w l viable.file ws viable.rest s viable.fits viable.tokens viable.schema o
+
+  stood : Stands ws top
+  stood = stands ws top others reached
+
+  is_between : (top ≡ Data) ⊎ (top ≡ Finish) → IsBetween ws
+  is_between (inl e) = inl (ended_header ws top e stood)
+  is_between (inr e) = inr (ended_data ws top e stood)
+
+  between : IsBetween ws → (top ≡ Data) ⊎ (top ≡ Finish)
+  between (inl h) = inl (data_to_come ws top others h reached)
+  between (inr h) = inr (finish_to_come ws top others h reached)
+
+  -- the table's kind is due
+  pub is_due : (k : FaultKind) → table top s ≡ Err k → FaultApplies ws s k
+  is_due (kinds.Token f) e = (reason (kinds.Token f) e).1
+  is_due kinds.Expected e = tt
+  is_due kinds.DuplicateName e =
+      let w = reason kinds.DuplicateName e in (
+        front_of repeated (ws ++ s ∷ []) (can repeated repeated_looser w.0.by_names) (holds_at repeated repeated_looser
+            w.1),
+        λ v. w.0.by_many (could more_instances instances_looser v),
+      )
+  is_due kinds.TooDeep e =
+      let w = reason kinds.TooDeep e in
+      front_of more_levels (ws ++ s ∷ []) (can more_levels levels_looser w.0.by_depth) (holds_at more_levels
+      levels_looser w.1)
+  is_due kinds.HeaderFault e = front_of unheaded (ws ++ s ∷ []) (can unheaded unheaded_looser
+      (reason kinds.HeaderFault e).0.by_heads) tt
+  is_due (kinds.LeftOut left_out.TooMany) e =
+      let w = reason (kinds.LeftOut left_out.TooMany) e in
+      front_of more_instances (ws ++ s ∷ []) (can more_instances instances_looser w.0.by_many) (holds_at more_instances
+      instances_looser w.1)
+  is_due (kinds.LeftOut left_out.UserDefined) e =
+      let t = (reason (kinds.LeftOut left_out.UserDefined) e).1 in
+      let P : Lookahead → Type 0 = λ x. IsLeftOut ws x left_out.UserDefined in subst P (sym t.1) tt
+  is_due (kinds.LeftOut left_out.Scope) e =
+      let t = (reason (kinds.LeftOut left_out.Scope) e).1 in
+      let P : Lookahead → Type 0 = λ x. IsLeftOut ws x left_out.Scope in subst P (sym t) tt
+  is_due (kinds.LeftOut left_out.Anchor) e =
+      let t = (reason (kinds.LeftOut left_out.Anchor) e).1 in left_anchor ws s (t.0, is_between t.1)
+  is_due (kinds.LeftOut left_out.Reference) e =
+      let t = (reason (kinds.LeftOut left_out.Reference) e).1 in left_reference ws s (t.0, is_between t.1)
+  is_due (kinds.LeftOut left_out.Signature) e = by (reason (kinds.LeftOut left_out.Signature) e).1
+    where
+      place : ((top ≡ Data) ⊎ (top ≡ Finish)) ⊎ (top ≡ EndOfText) → IsBetween ws ⊎ EndsFile ws
+      place (inl d) = inl (is_between d)
+      place (inr d) = inr (ended_file ws top d stood)
+
+      by : IsWord (codes "SIGNATURE") s × (((top ≡ Data) ⊎ (top ≡ Finish)) ⊎ (top ≡ EndOfText))
+          → IsLeftOut ws s left_out.Signature
+      by t = left_signature ws s (t.0, place t.1)
+  is_due (kinds.LeftOut left_out.Sections) e = by (reason (kinds.LeftOut left_out.Sections) e).1
+    where
+      by : (IsWord (codes "DATA") s × (top ≡ Finish)) ⊎ ((s ≡ token (mark Open)) × (top ≡ Behind))
+          → IsLeftOut ws s left_out.Sections
+      by (inl t) = left_sections ws s (inl (t.0, ended_data ws top t.1 stood))
+      by (inr t) = left_sections ws s (inr (t.0, begun_data ws top t.1 stood))
+  is_due (kinds.LeftOut left_out.TooLarge) e = absurd (reason (kinds.LeftOut left_out.TooLarge) e).1
+
+  -- a part that is left out is told by the table
+  left_told : (part : LeftOut) → (part ≡ left_out.TooMany → ⊥) → IsLeftOut ws s part → table top s ≡ Err
+      (kinds.LeftOut part)
+  left_told left_out.UserDefined n h = let t = due_user_defined ws s h in
+      ap (table top) t.1 ∙ odd_refused top (token (user_defined t.0)) tt
+  left_told left_out.Scope n h = ap (table top) (due_scope ws s h) ∙ odd_refused top (token scope) tt
+  left_told left_out.Anchor n h = let d = due_anchor ws s h in
+      section_word top s (codes "ANCHOR") left_out.Anchor (between d.1) says_anchor d.0
+  left_told left_out.Reference n h = let d = due_reference ws s h in
+      section_word top s (codes "REFERENCE") left_out.Reference (between d.1) says_reference d.0
+  left_told left_out.Signature n h = by (due_signature ws s h)
+    where
+      by : IsWord (codes "SIGNATURE") s × (IsBetween ws ⊎ EndsFile ws) → table top s ≡ Err
+          (kinds.LeftOut left_out.Signature)
+      by (w, inl b) = section_word top s (codes "SIGNATURE") left_out.Signature (between b) says_signature w
+      by (w, inr b) = ap (λ y. table y s) (end_to_come ws top others b reached) ∙ end_signature s w
+  left_told left_out.Sections n h = by (due_sections ws s h)
+    where
+      by : (IsWord (codes "DATA") s × EndsData ws) ⊎ ((s ≡ token (mark Open)) × BeginsData ws) → table top s ≡ Err
+          (kinds.LeftOut left_out.Sections)
+      by (inl d) = ap (λ y. table y s) (finish_to_come ws top others d.1 reached) ∙ finish_data s d.0
+      by (inr d) = ap (λ y. table y s) (behind_to_come ws top others d.1 reached) ∙ ap (table Behind) d.0
+  left_told left_out.TooMany n h = absurd (n refl)
+  left_told left_out.TooLarge n h = absurd (due_large ws s h)
+
+  -- .. and no other is, but that another token is expected
+  pub only_due : (k : FaultKind) → table top s ≡ Err k → (other : FaultKind) → (other ≡ kinds.Expected → ⊥)
+      → FaultApplies ws s other → k ≡ other
+  only_due k e (kinds.Token f) n h = same_err (table top s) k (kinds.Token f) e (ap (table top) h
+      ∙ odd_refused top (flawed f) tt)
+  only_due k e kinds.Expected n h = absurd (n refl)
+  only_due k e kinds.DuplicateName n h =
+      names_only top s k (reason k e) (could repeated repeated_looser h.0) (λ c. h.1 (front_of more_instances
+      (ws ++ s ∷ []) (can more_instances instances_looser c) (holds_stricter more_instances repeated instances_stricter
+      (ws ++ s ∷ []) h.0.schema)))
+  only_due k e kinds.TooDeep n h = deep_only top s k (reason k e) (could more_levels levels_looser h)
+  only_due k e kinds.HeaderFault n h = heads_only top s k (reason k e) (could unheaded unheaded_looser h)
+  only_due k e (kinds.LeftOut left_out.TooMany) n h = many_only top s k (reason k e)
+      (could more_instances instances_looser h)
+  only_due k e (kinds.LeftOut part) n h = same_err (table top s) k (kinds.LeftOut part) e (left_told part (λ d. cc) h)
+
+  -- so it is the fault's ..
+  pub kind_of : (k : FaultKind) → table top s ≡ Err k → IsKind ws s k
+  kind_of (kinds.Token f) e = is_due (kinds.Token f) e
+  kind_of (kinds.LeftOut part) e = is_due (kinds.LeftOut part) e
+  kind_of kinds.DuplicateName e = is_due kinds.DuplicateName e
+  kind_of kinds.TooDeep e = is_due kinds.TooDeep e
+  kind_of kinds.HeaderFault e = is_due kinds.HeaderFault e
+  kind_of kinds.Expected e = λ other n h. n (sym (only_due kinds.Expected e other n h))
+
+  -- .. and no other is
+  pub kind_is : (k other : FaultKind) → table top s ≡ Err k → IsKind ws s other → k ≡ other
+  kind_is k (kinds.Token f) e h = only_due k e (kinds.Token f) (λ d. cc) h
+  kind_is k (kinds.LeftOut part) e h = only_due k e (kinds.LeftOut part) (λ d. cc) h
+  kind_is k kinds.DuplicateName e h = only_due k e kinds.DuplicateName (λ d. cc) h
+  kind_is k kinds.TooDeep e h = only_due k e kinds.TooDeep (λ d. cc) h
+  kind_is k kinds.HeaderFault e h = only_due k e kinds.HeaderFault (λ d. cc) h
+  kind_is kinds.Expected kinds.Expected e h = refl
+  kind_is (kinds.Token f) kinds.Expected e h = absurd (h (kinds.Token f) (λ d. cc) (is_due (kinds.Token f) e))
+  kind_is (kinds.LeftOut part) kinds.Expected e h = absurd (h (kinds.LeftOut part) (λ d. cc)
+      (is_due (kinds.LeftOut part) e))
+  kind_is kinds.DuplicateName kinds.Expected e h = absurd (h kinds.DuplicateName (λ d. cc)
+      (is_due kinds.DuplicateName e))
+  kind_is kinds.TooDeep kinds.Expected e h = absurd (h kinds.TooDeep (λ d. cc) (is_due kinds.TooDeep e))
+  kind_is kinds.HeaderFault kinds.Expected e h = absurd (h kinds.HeaderFault (λ d. cc) (is_due kinds.HeaderFault e))
+
+  -- A semicolon may stand there, and the third record that it ends names no schema: that is a fault of the header.
+  module _ (zs : List Symbol) (goes : table top s ≡ Ok zs) (unnamed : HoldsSchema the_rules (ws ++ s ∷ []) → ⊥) where
+    semicolon : NoSemicolon s → ⊥
+    semicolon o = unnamed (holds_at the_rules (looser_self the_rules) o)
+
+    stops_not : (k : FaultKind) → table top s ≡ Err k → ⊥
+    stops_not k e = let q : (let v : Next = Ok zs in v) ≡ Err k = sym goes ∙ e in cc
+
+    pub unnamed_kind : (k : FaultKind) → IsKind ws s k → k ≡ kinds.HeaderFault
+    unnamed_kind kinds.HeaderFault h = refl
+    unnamed_kind (kinds.Token f) h = absurd (stops_not (kinds.Token f) (ap (table top) h ∙ odd_refused top (flawed f)
+        tt))
+    unnamed_kind kinds.DuplicateName h = absurd (unnamed (holds_stricter the_rules repeated repeated_looser
+        (ws ++ s ∷ []) h.0.schema))
+    unnamed_kind kinds.TooDeep h = absurd (unnamed (holds_stricter the_rules more_levels levels_looser (ws ++ s ∷ [])
+        h.schema))
+    unnamed_kind (kinds.LeftOut left_out.TooMany) h = absurd (unnamed (holds_stricter the_rules more_instances
+        instances_looser (ws ++ s ∷ []) h.schema))
+    unnamed_kind (kinds.LeftOut part) h = absurd (stops_not (kinds.LeftOut part) (left_told part (λ d. cc) h))
+    unnamed_kind kinds.Expected h = absurd (h kinds.HeaderFault (λ d. cc) (front_of unheaded (ws ++ s ∷ [])
+        (can unheaded unheaded_looser (zs, wider the_rules unheaded unheaded_looser top s zs goes)) tt))

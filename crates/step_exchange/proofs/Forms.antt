@@ -9,19 +9,12 @@ use Rattle.step_exchange.specs.Words.{begins, ends, keyword, user_defined, scope
 use Rattle.step_exchange.specs.Trees.{is_said}
 use Rattle.step_exchange.specs.Fits.{Rules, has_name, has_keyword}
 use Rattle.step_exchange.specs.Texts.{IsWord}
-use Rattle.step_exchange.specs.Predict.{Symbol, Just, Start, Say, Head, Records, Ended, Data, Behind, Rows, Body, Parts, Value, Items, More, Finish, EndOfText, refused, Next, is_mark, next, next_start, next_say, next_records, next_ended, next_data, next_behind, next_body, next_close, next_more, next_finish, next_end_of_text, then_more, section_kind, record_symbols, row_symbols}
-
--- neither a fault nor the sign of a part that is left out
-abbrev pub IsOrdinary : Lookahead → Type 0
-IsOrdinary (flawed f) = ⊥
-IsOrdinary (token (user_defined text)) = ⊥
-IsOrdinary (token scope) = ⊥
-IsOrdinary _ = Unit {0}
+use Rattle.step_exchange.specs.Predict.{Symbol, Just, Start, Say, Head, Records, Ended, Data, Behind, Rows, Body, PartialRecords, Value, Items, More, Finish, EndOfText, refused, Next, is_mark, next, next_start, next_say, next_records, next_ended, next_data, next_behind, next_body, next_close, next_more, next_finish, next_end_of_text, then_more, section_kind, record_symbols, row_symbols}
 
 -- where a fault by no rule comes from
 abbrev pub Told : Symbol → Lookahead → FaultKind → Type 0
 Told y s (kinds.Token f) = s ≡ flawed f
-Told y s kinds.Expected = IsOrdinary s
+Told y s kinds.Expected = Unit {0}
 Told y s (kinds.LeftOut left_out.UserDefined) = (text : List ℕ) × (s ≡ token (user_defined text))
 Told y s (kinds.LeftOut left_out.Scope) = s ≡ token scope
 Told y s (kinds.LeftOut left_out.Anchor) = IsWord (codes "ANCHOR") s × ((y ≡ Data) ⊎ (y ≡ Finish))
@@ -67,7 +60,7 @@ pub data Form (y : Symbol) (s : Lookahead) : Type 0 where
   by_head : (b : Bool) (zs : List Symbol)
       → ((w : Rules) → next w y s ≡ (if w.headed && b then Err kinds.HeaderFault else Ok zs))
       → (s ≡ token (mark Semicolon) → ⊥) → Form y s
-  by_part : (b : Bool) (zs : List Symbol)
+  by_keyword : (b : Bool) (zs : List Symbol)
       → ((w : Rules) → next w y s ≡ (if w.distinct && b then Err kinds.DuplicateName else Ok zs))
       → (s ≡ token (mark Semicolon) → ⊥) → Form y s
   by_name : (b : Bool) (n : ℕ) (zs : List Symbol)
@@ -174,15 +167,15 @@ form_rows names (token (keyword text)) = fixed (if is_said (codes "ENDSEC") text
     (λ w. refl) (told_expected (Rows names) text (is_said (codes "ENDSEC") text) [])
 form_rows names s = fixed (Err (refused s)) (λ w. refl) (told_refused (Rows names) s)
 
-told_close : (before : List (List ℕ)) → ToldBy (Parts before) (token (mark Close)) (next_close before)
+told_close : (before : List (List ℕ)) → ToldBy (PartialRecords before) (token (mark Close)) (next_close before)
 told_close [] = tt
 told_close (w ∷ ws) = tt
 
-form_parts : (before : List (List ℕ)) (s : Lookahead) → Form (Parts before) s
-form_parts before (token (keyword text)) = by_part (has_keyword text before) (Just Open ∷ Items 2
-    ∷ Parts (before ++ text ∷ []) ∷ []) (λ w. refl) (λ e. cc)
-form_parts before (token (mark Close)) = fixed (next_close before) (λ w. refl) (told_close before)
-form_parts before s = fixed (Err (refused s)) (λ w. refl) (told_refused (Parts before) s)
+form_partials : (before : List (List ℕ)) (s : Lookahead) → Form (PartialRecords before) s
+form_partials before (token (keyword text)) = by_keyword (has_keyword text before) (Just Open ∷ Items 2
+    ∷ PartialRecords (before ++ text ∷ []) ∷ []) (λ w. refl) (λ e. cc)
+form_partials before (token (mark Close)) = fixed (next_close before) (λ w. refl) (told_close before)
+form_partials before s = fixed (Err (refused s)) (λ w. refl) (told_refused (PartialRecords before) s)
 
 form_value : (n : ℕ) (s : Lookahead) → Form (Value n) s
 form_value n (token (mark Dollar)) = fixed (Ok []) (λ w. refl) tt
@@ -230,7 +223,7 @@ form Data s = fixed (next_data s) (λ w. refl) (told_data s)
 form Behind s = fixed (next_behind s) (λ w. refl) (told_behind s)
 form (Rows names) s = form_rows names s
 form Body s = fixed (next_body s) (λ w. refl) (told_body s)
-form (Parts before) s = form_parts before s
+form (PartialRecords before) s = form_partials before s
 form (Value n) s = form_value n s
 form (Items n) s = form_items n s
 form (More n) s = fixed (next_more n s) (λ w. refl) (told_more n s)

@@ -1,6 +1,7 @@
 -- The header bytes of an exchange structure read the same before any other bytes.
 use Rattle.std.proofs.Common.{◌≡◌, ℕ, ◌+◌, ◌-◌, ◌≤◌, List, [], ◌∷◌, ◌++◌, length, take, drop, refl, sym, ap, ◌∙◌, subst, arith, length-append, append_assoc, Some, None, codes, false, nat_eq}
 use Rattle.std.proofs.lemmas.Bool.Decides.{nat_tests}
+use Rattle.predictive.specs.Tables.{lookaheads}
 use Rattle.step_lexis.specs.declared.token.Token.{Token}
 use Rattle.step_literals.specs.Tokens.{IsNext}
 use Rattle.step_lexis.specs.Front.{kind_of}
@@ -12,7 +13,7 @@ use Rattle.step_lexis.proofs.Closers.{next_kept, no_blank_at_token}
 use Rattle.step_lexis.proofs.Determined.{same_place}
 use Rattle.step_lexis.proofs.Standing.{Stands, stands, whole, token_at, takes}
 use Rattle.step_exchange.specs.Words.{begins, word_of, LocatedToken, located, Shows, shows_token, shows_fault, shows_end, ShowsAll}
-use Rattle.step_exchange.specs.Trees.{Item, this, says, Meets, Begins, Record, File, items_of_records, items_of_header}
+use Rattle.step_exchange.specs.Trees.{Item, this, says, Meets, MeetAll, Record, File, items_of_records, items_of_header}
 use Rattle.step_exchange.specs.Texts.{Reads, ReadsAs}
 use Rattle.step_exchange.proofs.HeaderKept.{semicolon, at, Kept, kept}
 
@@ -116,7 +117,7 @@ module _ (text header_bytes b : List ℕ) (header : List Record) (first : ℕ) (
         reads = (
           s,
           subst (λ q. ShowsAll q s (at (header_bytes ++ b) (length header_bytes))) from_zero shown,
-          subst (λ l. Begins s l []) (sym (header_items header)) (is_first, r.begins),
+          subst (MeetAll (lookaheads s)) (sym (header_items header)) (is_first, r.begins),
         );
         begins = subst (λ q. Reaches q 0) from_zero here;
         header_bytes_are = sym cut.1;
@@ -126,7 +127,7 @@ module _ (text header_bytes b : List ℕ) (header : List Record) (first : ℕ) (
 
 first_again : (text header_bytes b : List ℕ) (header : List Record) (first : ℕ) (headed next : Reading)
     (x : LocatedToken) (s : List LocatedToken) → Reaches (start text) first → Shows (start text) x next
-    → Meets x.lookahead (this begins) → ShowsAll next s headed → Begins s (inner_items header ++ semicolon) []
+    → Meets x.lookahead (this begins) → ShowsAll next s headed → MeetAll (lookaheads s) (inner_items header ++ semicolon)
     → header_bytes ≡ take (headed.place - first) (drop first text) → Again header_bytes header b
 first_again text header_bytes b header first headed next x s reach (shows_token t h e) m more rest is =
     again_at text header_bytes b header first headed next reach t h (kept (inner_items header) s next headed more rest)
@@ -138,7 +139,7 @@ first_again text header_bytes b header first headed next x s reach (shows_end h 
 
 split_again : (text header_bytes b : List ℕ) (header : List Record) (first : ℕ) (headed : Reading)
     (s : List LocatedToken) → Reaches (start text) first → ShowsAll (start text) s headed
-    → Begins s (this begins ∷ (inner_items header ++ semicolon)) [] → header_bytes ≡ take (headed.place - first)
+    → MeetAll (lookaheads s) (this begins ∷ (inner_items header ++ semicolon)) → header_bytes ≡ take (headed.place - first)
     (drop first text) → Again header_bytes header b
 split_again text header_bytes b header first headed [] reach shown begun is = absurd begun
 split_again text header_bytes b header first headed (x ∷ s) reach shown begun is = first_again text header_bytes b
@@ -149,4 +150,4 @@ pub header_again : (text header_bytes : List ℕ) (x : File) (b : List ℕ) → 
     → Again header_bytes x.header b
 header_again text header_bytes x b h =
     split_again text header_bytes b x.header h.first h.headed h.header.0 h.begins h.header.1
-    (subst (λ l. Begins h.header.0 l []) (header_items x.header) h.header.2) h.header_bytes_are
+    (subst (MeetAll (lookaheads h.header.0)) (header_items x.header) h.header.2) h.header_bytes_are

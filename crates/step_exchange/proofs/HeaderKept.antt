@@ -1,5 +1,6 @@
 -- The tokens up to a semicolon are the same whatever stands behind it.
 use Rattle.std.proofs.Common.{◌≡◌, ℕ, ◌+◌, ◌≤◌, List, [], ◌∷◌, ◌++◌, length, drop, refl, sym, ap, ◌∙◌, subst, arith, length-drop, length-append, append_assoc}
+use Rattle.predictive.specs.Tables.{lookaheads}
 use Rattle.step_lexis.specs.declared.token.Mark.TheVariants.{Semicolon}
 use Rattle.step_lexis.specs.declared.token.Sort.{Sort}
 use Rattle.step_lexis.specs.declared.token.Sort.TheVariants as sorts
@@ -11,7 +12,7 @@ use Rattle.step_lexis.proofs.Closers.{next_kept}
 use Rattle.step_lexis.proofs.FrontLemmas.{next_mark}
 use Rattle.step_lexis.proofs.Standing.{Stands, stands, stands_before, token_at, takes}
 use Rattle.step_exchange.specs.Words.{mark, word_of, flawed, LocatedToken, located, Shows, shows_token, shows_fault, shows_end, ShowsAll}
-use Rattle.step_exchange.specs.Trees.{Item, this, says, named, finish, Meets, Begins}
+use Rattle.step_exchange.specs.Trees.{Item, this, says, named, finish, Meets, MeetAll}
 
 abbrev pub semicolon : List Item
 semicolon = this (mark Semicolon) ∷ []
@@ -23,7 +24,7 @@ at text place = record { text = text; place = place }
 pub record Stretch (text : List ℕ) (place new : ℕ) (items : List Item) (b : List ℕ) : Type 0 where
   pub s : List LocatedToken
   pub shows : ShowsAll (at text place) s (at text new)
-  pub begins : Begins s (items ++ semicolon) []
+  pub begins : MeetAll (lookaheads s) (items ++ semicolon)
   pub within : new ≤ length text
   pub behind : drop new text ≡ b
 
@@ -82,7 +83,7 @@ last_kept x old new next (shows_token t h e) same m =
                   refl,
               refl,
             );
-            begins = (refl, refl);
+            begins = (refl, tt);
             within = k.1;
             behind = k.2;
           };
@@ -134,8 +135,9 @@ more_kept i items x old next new (shows_token t h e) m k =
 
 -- what stands up to a semicolon reads the same in another text, whatever stands behind
 pub kept : (items : List Item) (s : List LocatedToken) (old new : Reading) → ShowsAll old s new
-    → Begins s (items ++ semicolon) [] → Kept items old new
+    → MeetAll (lookaheads s) (items ++ semicolon) → Kept items old new
 kept [] [] old new h b = absurd b
-kept [] (x ∷ s) old new h b = last_kept x old new h.0 h.1 (subst (λ s. ShowsAll h.0 s new) b.1 h.2) b.0
+kept [] (x ∷ []) old new h b = last_kept x old new h.0 h.1 h.2 b.0
+kept [] (x ∷ y ∷ s) old new h b = absurd b.1
 kept (i ∷ items) [] old new h b = absurd b
 kept (i ∷ items) (x ∷ s) old new h b = more_kept i items x old h.0 new h.1 b.0 (kept items s h.0 new h.2 b.1)

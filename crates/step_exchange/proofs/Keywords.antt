@@ -14,7 +14,7 @@ use Rattle.step_literals.specs.Values.{word_value}
 use Rattle.step_literals.proofs.CaseLemmas.{same_without_case}
 use Rattle.step_exchange.specs.declared.tree.Record.{Record}
 use Rattle.step_exchange.specs.Trees.{is_said}
-use Rattle.step_exchange.specs.Predict.{further_keywords}
+use Rattle.step_exchange.specs.Steps.{further_keywords}
 
 abbrev pub says : Word → Record → Bool
 says w p = is_said p.keyword.text.now w.text.now

@@ -28,22 +28,22 @@ module _ (a b : Rules) (l : IsLooser a b) where
     looser_trees none n h = tt
     looser_trees (one x xs) n h = (looser_tree x n h.0, looser_trees xs n h.1)
 
-  pub looser_part : (p : Record) (n : ℕ) → FitsRecord a n p → FitsRecord b n p
-  looser_part p n h = (omega (arith, h.0, l.levels), looser_trees p.values (n + 1) h.1)
+  pub looser_record : (p : Record) (n : ℕ) → FitsRecord a n p → FitsRecord b n p
+  looser_record p n h = (omega (arith, h.0, l.levels), looser_trees p.values (n + 1) h.1)
 
-  pub looser_parts : (ps : List Record) (before : List (List ℕ)) → FitsPartialRecords a before ps
+  pub looser_partial_records : (ps : List Record) (before : List (List ℕ)) → FitsPartialRecords a before ps
       → FitsPartialRecords b before ps
-  looser_parts [] before h = tt
-  looser_parts (p ∷ ps) before h = (
+  looser_partial_records [] before h = tt
+  looser_partial_records (p ∷ ps) before h = (
     where_looser (has_keyword p.keyword before ≡ false) a.distinct b.distinct l.distinct
         h.0,
-    looser_part p 1 h.1,
-    looser_parts ps (before ++ p.keyword ∷ []) h.2,
+    looser_record p 1 h.1,
+    looser_partial_records ps (before ++ p.keyword ∷ []) h.2,
   )
 
   pub looser_form : (x : Form) → FitsForm a x → FitsForm b x
-  looser_form (internal p) h = looser_part p 0 h
-  looser_form (external ps) h = (omega (arith, h.0, l.levels), h.1, looser_parts ps [] h.2)
+  looser_form (internal p) h = looser_record p 0 h
+  looser_form (external ps) h = (omega (arith, h.0, l.levels), h.1, looser_partial_records ps [] h.2)
 
   pub looser_rows : (rs : List Row) (before : List ℕ) → FitsRows a before rs → FitsRows b before rs
   looser_rows [] before h = tt
@@ -56,7 +56,7 @@ module _ (a b : Rules) (l : IsLooser a b) where
 
   pub looser_records : (ps : List Record) → FitsRecords a ps → FitsRecords b ps
   looser_records [] h = tt
-  looser_records (p ∷ ps) h = (looser_part p 0 h.0, looser_records ps h.1)
+  looser_records (p ∷ ps) h = (looser_record p 0 h.0, looser_records ps h.1)
 
   pub looser_header : (ps : List Record) → FitsHeader a ps → FitsHeader b ps
   looser_header ps h = (looser_records ps h.0, h.1, where_looser (IsHeader ps) a.headed b.headed l.headed h.2)

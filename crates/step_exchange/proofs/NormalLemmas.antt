@@ -8,7 +8,7 @@ use Rattle.step_exchange.specs.Words.{Word, keyword, user_defined, name, number,
 use Rattle.step_exchange.specs.Trees.{Tree, leaf, typed, group, Trees, none, one, Record, Form, internal, external, Row, Item, this, named, is_said, items_of_tree, items_of_trees, items_of_more, items_of_record, items_of_partial_records, items_of_form, items_of_row, items_of_rows, items_of_data, items_of_end, section}
 use Rattle.step_exchange.specs.Fits.{Rules, IsLeaf, FitsTree, FitsTrees, FitsRecord, FitsPartialRecords, FitsForm, FitsRows, Where, has_keyword}
 use Rattle.step_literals.specs.Words.{upper}
-use Rattle.step_exchange.specs.Normal.{plain_word, plain_name, plain_tree, plain_trees, plain_more, plain_record, plain_partial_records, plain_form, plain_rows, normal_word, normal_tree, normal_trees, normal_part, normal_form, normal_row, normal_rows, NormalStays}
+use Rattle.step_exchange.specs.Normal.{plain_word, plain_name, plain_tree, plain_trees, plain_more, plain_record, plain_partial_records, plain_form, plain_rows, normal_word, normal_tree, normal_trees, normal_record, normal_form, normal_row, normal_rows, NormalStays}
 use Rattle.step_exchange.proofs.Spelling.{lower_upper}
 use Rattle.step_exchange.proofs.Written.{normal_item}
 
@@ -35,18 +35,18 @@ mutual
   more_items (one x xs) = ap (λ l. this (mark Comma) ∷ l) (both_normal (items_of_tree x) (items_of_more xs) _ _
       (tree_items x) (more_items xs))
 
-part_items : (p : Record) → items_of_record (normal_part p) ≡ normals (items_of_record p)
-part_items p = ap (λ l. this (keyword (upper p.keyword)) ∷ this (mark Open) ∷ l)
+record_items : (p : Record) → items_of_record (normal_record p) ≡ normals (items_of_record p)
+record_items p = ap (λ l. this (keyword (upper p.keyword)) ∷ this (mark Open) ∷ l)
     (both_normal (items_of_trees p.values) (this (mark Close) ∷ []) _ _ (trees_items p.values) refl)
 
-parts_items : (ps : List Record) → items_of_partial_records (map normal_part ps) ≡ normals (items_of_partial_records ps)
-parts_items [] = refl
-parts_items (p ∷ ps) = both_normal (items_of_record p) (items_of_partial_records ps) _ _ (part_items p) (parts_items ps)
+partial_records_items : (ps : List Record) → items_of_partial_records (map normal_record ps) ≡ normals (items_of_partial_records ps)
+partial_records_items [] = refl
+partial_records_items (p ∷ ps) = both_normal (items_of_record p) (items_of_partial_records ps) _ _ (record_items p) (partial_records_items ps)
 
 form_items : (f : Form) → items_of_form (normal_form f) ≡ normals (items_of_form f)
-form_items (internal p) = part_items p
+form_items (internal p) = record_items p
 form_items (external ps) = ap (λ l. this (mark Open) ∷ l) (both_normal (items_of_partial_records ps) (this (mark Close)
-    ∷ []) _ _ (parts_items ps) refl)
+    ∷ []) _ _ (partial_records_items ps) refl)
 
 row_items : (r : Row) → items_of_row (normal_row r) ≡ normals (items_of_row r)
 row_items r = ap (λ l. named r.name ∷ this (mark Equals) ∷ l) (both_normal (items_of_form r.form) (this (mark Semicolon)
@@ -84,8 +84,8 @@ module _ (rules : Rules) where
     trees_fit n none h = tt
     trees_fit n (one x xs) h = (tree_fits n x h.0, trees_fit n xs h.1)
 
-  part_fits : (n : ℕ) (p : Record) → FitsRecord rules n p → FitsRecord rules n (normal_part p)
-  part_fits n p h = (h.0, trees_fit (n + 1) p.values h.1)
+  record_fits : (n : ℕ) (p : Record) → FitsRecord rules n p → FitsRecord rules n (normal_record p)
+  record_fits n p h = (h.0, trees_fit (n + 1) p.values h.1)
 
   said_upper : (v w : List ℕ) → is_said (upper v) (upper w) ≡ is_said v w
   said_upper v w = (λ i. bytes_eq (lower_upper v i) (lower_upper w i))
@@ -94,19 +94,19 @@ module _ (rules : Rules) where
   keyword_upper word [] = refl
   keyword_upper word (w ∷ ws) = (λ i. said_upper w word i || keyword_upper word ws i)
 
-  parts_fit : (before : List (List ℕ)) (ps : List Record) → FitsPartialRecords rules before ps
-      → FitsPartialRecords rules (map upper before) (map normal_part ps)
-  parts_fit before [] h = tt
-  parts_fit before (p ∷ ps) h = (
+  partial_records_fit : (before : List (List ℕ)) (ps : List Record) → FitsPartialRecords rules before ps
+      → FitsPartialRecords rules (map upper before) (map normal_record ps)
+  partial_records_fit before [] h = tt
+  partial_records_fit before (p ∷ ps) h = (
     subst (λ b. Where rules.distinct (b ≡ false)) (sym (keyword_upper p.keyword before)) h.0,
-    part_fits 1 p h.1,
-    subst (λ l. FitsPartialRecords rules l (map normal_part ps)) (map-append upper before (p.keyword ∷ []))
-        (parts_fit (before ++ p.keyword ∷ []) ps h.2),
+    record_fits 1 p h.1,
+    subst (λ l. FitsPartialRecords rules l (map normal_record ps)) (map-append upper before (p.keyword ∷ []))
+        (partial_records_fit (before ++ p.keyword ∷ []) ps h.2),
   )
 
   form_fits : (f : Form) → FitsForm rules f → FitsForm rules (normal_form f)
-  form_fits (internal p) h = part_fits 0 p h
-  form_fits (external ps) h = (h.0, rw length-map h.1, parts_fit [] ps h.2)
+  form_fits (internal p) h = record_fits 0 p h
+  form_fits (external ps) h = (h.0, rw length-map h.1, partial_records_fit [] ps h.2)
 
   -- what fits fits as the normal text says it
   pub rows_fit : (before : List ℕ) (rs : List Row) → FitsRows rules before rs → FitsRows rules before (normal_rows rs)
@@ -137,16 +137,16 @@ mutual
   more_stays none = refl
   more_stays (one x xs) = λ i. codes "," ++ tree_stays x i ++ more_stays xs i
 
-part_stays : (p : Record) → plain_record (normal_part p) ≡ plain_record p
-part_stays p = λ i. upper_upper p.keyword i ++ codes "(" ++ trees_stay p.values i ++ codes ")"
+record_stays : (p : Record) → plain_record (normal_record p) ≡ plain_record p
+record_stays p = λ i. upper_upper p.keyword i ++ codes "(" ++ trees_stay p.values i ++ codes ")"
 
-parts_stay : (ps : List Record) → plain_partial_records (map normal_part ps) ≡ plain_partial_records ps
-parts_stay [] = refl
-parts_stay (p ∷ ps) = λ i. part_stays p i ++ parts_stay ps i
+partial_records_stay : (ps : List Record) → plain_partial_records (map normal_record ps) ≡ plain_partial_records ps
+partial_records_stay [] = refl
+partial_records_stay (p ∷ ps) = λ i. record_stays p i ++ partial_records_stay ps i
 
 form_stays : (f : Form) → plain_form (normal_form f) ≡ plain_form f
-form_stays (internal p) = part_stays p
-form_stays (external ps) = λ i. codes "(" ++ parts_stay ps i ++ codes ")"
+form_stays (internal p) = record_stays p
+form_stays (external ps) = λ i. codes "(" ++ partial_records_stay ps i ++ codes ")"
 
 rows_stay : (rs : List Row) → plain_rows (normal_rows rs) ≡ plain_rows rs
 rows_stay [] = refl

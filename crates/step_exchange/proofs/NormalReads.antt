@@ -1,6 +1,7 @@
 -- The normal text of what a text reads as reads as the same.
 use Rattle.std.proofs.Common.{◌≡◌, ℕ, List, [], ◌++◌, length, sym, subst, append_assoc, codes}
-use Rattle.step_exchange.specs.Trees.{Row, Begins, items_of_data, items_of_end}
+use Rattle.predictive.specs.Tables.{lookaheads}
+use Rattle.step_exchange.specs.Trees.{Row, MeetAll, items_of_data, items_of_end}
 use Rattle.step_exchange.specs.Fits.{the_rules}
 use Rattle.step_exchange.specs.Texts.{ReadsAs}
 use Rattle.step_exchange.specs.Normal.{plain_rows, plain_text, normal_rows, NormalReadsAgain}
@@ -34,7 +35,7 @@ normal_reads_again text header_bytes x h =
       headed = at (header_bytes ++ behind x.rows) (length header_bytes);
       end = r.0;
       header = f.reads;
-      rows = (r.1.0, r.1.1, subst (λ l. Begins r.1.0 l []) (sym (data_items x.rows)) r.1.2);
+      rows = (r.1.0, r.1.1, subst (MeetAll (lookaheads r.1.0)) (sym (data_items x.rows)) r.1.2);
       first = 0;
       begins = f.begins;
       header_bytes_are = f.header_bytes_are;

@@ -1,90 +1,90 @@
 -- What was read, against the definitions.
-use Rattle.std.proofs.Common.{◌≡◌, ℕ, ◌-◌, List, [], ◌∷◌, ◌++◌, take, drop, refl, sym, ◌∙◌, subst, arith, codes, ◌≤◌, ap, ◌+◌}
+use Rattle.std.proofs.Common.{◌≡◌, ℕ, ◌+◌, ◌-◌, ◌≤◌, List, [], ◌∷◌, ◌++◌, take, drop, refl, sym, ap, ◌∙◌, subst, append_assoc, arith, codes}
+use Rattle.std.proofs.lemmas.List.{drop-take}
+use Rattle.predictive.specs.Tables.{lookaheads, stops, run}
+use Rattle.predictive.proofs.Lists.{cut_at, lookaheads_append, passes_or_stops}
+use Rattle.predictive.proofs.Leading.{Leads}
+use Rattle.predictive.proofs.Running.{reaches_run}
+use Rattle.predictive.proofs.Shown.{shows_join}
 use Rattle.step_lexis.specs.declared.token.Mark.TheVariants.{Semicolon}
 use Rattle.step_lexis.specs.Reading.{Reading, start}
 use Rattle.step_exchange.specs.declared.fault.FaultKind.{FaultKind}
 use Rattle.step_exchange.specs.declared.fault.FaultKind.TheVariants as kinds
 use Rattle.step_exchange.specs.declared.fault.TextFault.{TextFault}
 use Rattle.step_exchange.specs.declared.fault.TextFault.TheVariants as faults
-use Rattle.step_exchange.specs.Words.{mark, keyword, LocatedToken, located, shows_token}
-use Rattle.step_exchange.specs.Trees.{Record, Row, File, Item, this, Begins, items_of_records, items_of_header, section}
-use Rattle.step_exchange.specs.Fits.{the_rules, FitsRecords, FitsHeader, HasSchema, NamesSchema}
+use Rattle.step_exchange.specs.Words.{mark, keyword, Lookahead, LocatedToken, located, Shows, shows_token}
+use Rattle.step_exchange.specs.Trees.{Record, Row, File, Item, this, MeetAll, items_of_records, items_of_header, items_of_data, items_of_end, section}
+use Rattle.step_exchange.specs.Fits.{the_rules, FitsRecords, FitsRows, FitsHeader, IsHeader, HasSchema, NamesSchema}
 use Rattle.step_exchange.specs.Texts.{ReadsAs, items_of_opening, HoldsSchema, IsFirstFault, IsFaultOf, IsMemory}
-use Rattle.step_exchange.specs.Predict.{Symbol, Just, Records, passes, stops, run, StopsIn, TakesHeader, StopsInHeader, in_opening, unnamed, in_records, TakesData, opening_symbols, closing_symbols, data_symbols}
-use Rattle.step_exchange.proofs.Passing.{pass_opening, pass_mark, pass_header, header_items}
-use Rattle.step_exchange.proofs.Begins.{begins_append, begins_split}
-use Rattle.step_exchange.proofs.Shown.{shows_join}
-use Rattle.step_exchange.proofs.Unique.{same_opening}
+use Rattle.step_exchange.specs.Predict.{Just, Records, opening_symbols, data_symbols}
+use Rattle.step_exchange.specs.Steps.{table, StopsIn, Passes, TakesHeader, StopsInHeader, in_opening, unnamed, in_records}
+use Rattle.step_exchange.proofs.Meeting.{meet_as, meet_split, meets_is}
+use Rattle.step_exchange.proofs.Passing.{pass_opened, header_items}
+use Rattle.step_exchange.proofs.Schemas.{holds_named}
 use Rattle.step_exchange.proofs.Once.{reads_once, reads_no_fault}
-use Rattle.step_exchange.proofs.ParamSteps.{meets_is}
-use Rattle.step_exchange.proofs.Places.{header_bounds}
-use Rattle.std.proofs.lemmas.List.{drop-take}
+use Rattle.step_exchange.proofs.Taking.{reads_of}
 use Rattle.step_exchange.proofs.FirstFault.{first_fault, schema_fault}
+use Rattle.step_exchange.proofs.Places.{header_bounds}
 
 -- tokens that stop in the opening hold no opening
-pub opening_holds : (s : List LocatedToken) (kind : FaultKind) (place : ℕ)
-    → ((ys : List Symbol) → run the_rules ((opening_symbols ++ Just Semicolon ∷ []) ++ ys) s ≡ stops kind place)
-    → HoldsSchema the_rules s
-opening_holds s kind place f p q r rest fits named b =
-    let m = begins_split s (items_of_opening p q r) (this (mark Semicolon) ∷ []) rest b in
-    let clash : passes rest ≡ stops kind place = sym (pass_opening the_rules p q r (Just Semicolon ∷ []) s m.0 fits
-    named m.1 ∙ pass_mark the_rules Semicolon [] m.0 rest m.2) ∙ f [] in
-    absurd (cc)
-
-third_same : (p q r x y z : Record) → p ∷ q ∷ r ∷ [] ≡ x ∷ y ∷ z ∷ [] → r ≡ z
-third_same p q r x y z e = cc
+opening_holds : (s : List LocatedToken) (kind : FaultKind) (place : ℕ)
+    → run table (opening_symbols ++ Just Semicolon ∷ []) s ≡ stops kind place → HoldsSchema the_rules (lookaheads s)
+opening_holds s kind place f p q r first rest e fits named met =
+    let opened = opening_symbols ++ Just Semicolon ∷ [] in
+    let c = cut_at s first rest e in
+    let P : List Lookahead → Type 0 = λ l. Leads table opened l [] in
+    let through = ap (run table opened) c.2 ∙ reaches_run table c.0 opened [] c.1 (subst P (sym c.3)
+    (pass_opened the_rules p q r fits named first met)) in
+    absurd (passes_or_stops (run table opened s) c.1 kind place through f)
 
 -- tokens that begin with an opening whose third record names a schema hold it
-pub known_holds : (p q r : Record) (s m : List LocatedToken) → FitsRecords the_rules (p ∷ q ∷ r ∷ [])
-    → NamesSchema r.values → Begins s (items_of_opening p q r) m → HoldsSchema the_rules s
-known_holds p q r s m fits named b x y z rest f g h =
-    let k = begins_split s (items_of_opening x y z) (this (mark Semicolon) ∷ []) rest h in
-    let e = same_opening p q r x y z the_rules s m k.0 fits f b k.1 in
-    let P : Record → Type 0 = λ v. NamesSchema v.values in
-    subst P (third_same p q r x y z e.0) named
+opened_holds : (p q r : Record) (items : List Item) (s more : List LocatedToken) → FitsRecords the_rules (p ∷ q ∷ r ∷ [])
+    → IsHeader (p ∷ q ∷ r ∷ []) → NamesSchema r.values → MeetAll (lookaheads s) (items_of_opening p q r ++ items)
+    → HoldsSchema the_rules (lookaheads (s ++ more))
+opened_holds p q r items s more fits named schema met =
+    let m = meet_split (lookaheads s) (items_of_opening p q r) items met in
+    holds_named p q r m.0 (m.1 ++ lookaheads more) (lookaheads (s ++ more)) fits named schema m.3
+    (lookaheads_append s more ∙ ap (λ l. l ++ lookaheads more) m.2 ∙ append_assoc m.0 m.1 (lookaheads more))
 
-header_holds : (header : List Record) (s m : List LocatedToken) → FitsHeader the_rules header → HasSchema header
-    → Begins s (items_of_header header) m → HoldsSchema the_rules s
-header_holds [] s m f named b = absurd named
-header_holds (p ∷ []) s m f named b = absurd named
-header_holds (p ∷ q ∷ []) s m f named b = absurd named
-header_holds (p ∷ q ∷ r ∷ more) s m f named b =
-    let P : List Item → Type 0 = λ l. Begins s l m in
-    let k = begins_split s (items_of_opening p q r) (this (mark Semicolon)
-    ∷ (items_of_records more ++ section (codes "ENDSEC"))) m (subst P (header_items p q r more) b) in
-    known_holds p q r s k.0 (f.0.0, (f.0.1.0, (f.0.1.1.0, tt))) named k.1
+header_holds : (header : List Record) (s more : List LocatedToken) → FitsHeader the_rules header → HasSchema header
+    → MeetAll (lookaheads s) (items_of_header header) → HoldsSchema the_rules (lookaheads (s ++ more))
+header_holds [] s more f schema h = absurd schema
+header_holds (p ∷ []) s more f schema h = absurd schema
+header_holds (p ∷ q ∷ []) s more f schema h = absurd schema
+header_holds (p ∷ q ∷ r ∷ rest) s more f schema h =
+    let tail = this (mark Semicolon) ∷ (items_of_records rest ++ section (codes "ENDSEC")) in
+    opened_holds p q r tail s more (f.0.0, (f.0.1.0, (f.0.1.1.0, tt))) f.2 schema (meet_as (lookaheads s)
+    (items_of_header (p ∷ q ∷ r ∷ rest)) (items_of_opening p q r ++ tail) (header_items p q r rest) h)
 
 header_fault : (text : List ℕ) (kind : FaultKind) (place : ℕ) → StopsInHeader (faults.Fault kind place) (start text)
     → IsFirstFault text kind place
 header_fault text kind place (in_opening g) = first_fault text g.0 g.1 kind place g.2 (g.3 (Records ∷ data_symbols))
-    (opening_holds g.0 kind place g.3)
+    (opening_holds g.0 kind place (g.3 []))
 header_fault text kind place (unnamed p q r at a mid new t fits first second reads head taken semi other e) =
     let k : kinds.HeaderFault ≡ kind = cc in
     let l : at ≡ place = cc in
     let P : FaultKind → Type 0 = λ v. IsFirstFault text v place in
     let Q : ℕ → Type 0 = λ v. IsFirstFault text kinds.HeaderFault v in
-    subst P k (subst Q (sym head.place_is ∙ l) (schema_fault text p q r reads.0 head.params.reads.0 (located head.key)
-    (located t) mid new (fits.0, (fits.1.0, ((omega arith, head.params.fits), tt))) (first, second, head.said)
-    (shows_join (start text) reads.0 a (located head.key ∷ head.params.reads.0) mid reads.1
-    (head.inside, shows_token head.key head.taken refl, head.params.reads.1))
-    reads.2 (meets_is (keyword r.keyword) (located head.key).lookahead head.key_is, head.params.reads.2)
+    subst P k (subst Q (sym head.place_is ∙ l) (schema_fault text p q r reads.0 head.passes.shown (located head.key)
+    (located t) mid new (fits.0, (fits.1.0, (head.head.1, tt))) (first, second, head.head.0)
+    (shows_join Shows (start text) reads.0 a (located head.key ∷ head.passes.shown) mid reads.1
+    (head.inside, shows_token head.key head.taken refl, head.passes.shown_all))
+    reads.2 (meets_is (keyword r.keyword) (located head.key).lookahead head.key_is, head.passes.words)
     (shows_token t taken refl) semi other))
 header_fault text kind place (in_records p q r header more mid op opens g) =
-    let whole = begins_append opens.0 (items_of_opening p q r ++ this (mark Semicolon) ∷ []) [] g.0 opens.2 in
-    let m = begins_split (opens.0 ++ g.0) (items_of_opening p q r) (this (mark Semicolon) ∷ []) g.0 whole in
-    first_fault text (opens.0 ++ g.0) g.1 kind place (shows_join (start text) opens.0 mid g.0 g.1 opens.1 g.2)
-    (pass_opening the_rules p q r closing_symbols (opens.0 ++ g.0) m.0 op.fits op.named m.1
-    ∙ pass_mark the_rules Semicolon (Records ∷ data_symbols) m.0 g.0 m.2 ∙ g.3 data_symbols)
-    (known_holds p q r (opens.0 ++ g.0) m.0 op.fits op.schema m.1)
+    first_fault text (opens.shown ++ g.0) g.1 kind place
+    (shows_join Shows (start text) opens.shown mid g.0 g.1 opens.shown_all g.2)
+    (opens.turned (Records ∷ data_symbols) g.0 ∙ g.3 data_symbols)
+    (opened_holds p q r (this (mark Semicolon) ∷ []) opens.shown g.0 op.fits op.named op.schema opens.words)
 
 data_fault : (text : List ℕ) (kind : FaultKind) (place first : ℕ) (header : List Record) (mid : Reading)
     → TakesHeader (start text) first header mid → StopsIn (faults.Fault kind place) data_symbols [] mid
     → IsFirstFault text kind place
 data_fault text kind place first header mid h g =
-    let whole = begins_append h.reads.0 (items_of_header header) [] g.0 h.reads.2 in
-    first_fault text (h.reads.0 ++ g.0) g.1 kind place (shows_join (start text) h.reads.0 mid g.0 g.1 h.reads.1 g.2)
-    (pass_header the_rules header data_symbols (h.reads.0 ++ g.0) g.0 h.fits whole ∙ g.3 [])
-    (header_holds header (h.reads.0 ++ g.0) g.0 h.fits h.schema whole)
+    first_fault text (h.passes.shown ++ g.0) g.1 kind place
+    (shows_join Shows (start text) h.passes.shown mid g.0 g.1 h.passes.shown_all g.2)
+    (h.passes.turned data_symbols g.0 ∙ g.3 [])
+    (header_holds header h.passes.shown g.0 h.fits h.schema h.passes.words)
 
 pub header_is_fault : (text : List ℕ) (e : TextFault) → StopsInHeader e (start text) → IsFaultOf text e
 header_is_fault text faults.Memory h = tt
@@ -103,16 +103,17 @@ between text first end h =
     ap (λ n. drop first (take n text)) e ∙ drop-take first (end - first) text
 
 pub is_read : (text header_bytes opened : List ℕ) (first place : ℕ) (header : List Record) (rows : List Row)
-    (mid end : Reading) → TakesHeader (start text) first header mid → TakesData mid rows end → place ≡ mid.place
+    (mid end : Reading) → TakesHeader (start text) first header mid → FitsRows the_rules [] rows
+    × Passes data_symbols [] [] (items_of_data rows ++ items_of_end) mid end → place ≡ mid.place
     → opened ≡ take place text → header_bytes ≡ drop first opened
     → ReadsAs text header_bytes (record { header = header; rows = rows })
 is_read text header_bytes opened first place header rows mid end h d p o f = record {
-  fits = (h.fits, d.fits);
+  fits = (h.fits, d.0);
   schema = h.schema;
   headed = mid;
   end = end;
-  header = h.reads;
-  rows = d.reads;
+  header = reads_of h.passes;
+  rows = reads_of d.1;
   first = first;
   begins = h.first;
   header_bytes_are = f ∙ ap (drop first) (o ∙ ap (λ n. take n text) p) ∙ between text first mid.place

@@ -1,11 +1,12 @@
 -- The places of a header.
 use Rattle.std.proofs.Common.{◌≡◌, ℕ, ◌≤◌, Bool, true, false, cond, ◌&&◌, nat_eq, List, [], ◌∷◌, length, refl, sym, ap, ◌∙◌, subst, arith, length-drop}
 use Rattle.std.specs.List.{starts_with}
+use Rattle.predictive.specs.Tables.{lookaheads}
 use Rattle.step_lexis.specs.Reading.{Reading, start, start_of}
 use Rattle.step_lexis.proofs.Determined.{same_place, places_rise}
 use Rattle.step_exchange.specs.Words.{LocatedToken, Shows, shows_token, shows_fault, shows_end, ShowsAll, begins}
-use Rattle.step_exchange.specs.Trees.{Record, this, Begins, Meets, items_of_header}
-use Rattle.step_exchange.specs.Predict.{TakesHeader}
+use Rattle.step_exchange.specs.Trees.{Record, this, Meets, MeetAll, items_of_header}
+use Rattle.step_exchange.specs.Steps.{TakesHeader}
 
 pub record Bounds (old new : Reading) : Type 0 where
   pub text : new.text ≡ old.text
@@ -70,12 +71,12 @@ start_within (a ∷ b ∷ c ∷ r) = more (starts_with nat_eq (a ∷ b ∷ c ∷
 pub header_bounds : (text : List ℕ) (first : ℕ) (header : List Record) (mid : Reading) → TakesHeader (start text) first
     header mid → (first ≤ mid.place) × (mid.place ≤ length text)
 header_bounds text first header mid h = (
-  by h.reads.0 h.reads.1 h.reads.2,
+  by h.passes.shown h.passes.shown_all h.passes.words,
   omega (arith, all.within, ap length all.text),
 )
   where
     all : Bounds (start text) mid
-    all = bounds (start text) h.reads.0 mid h.reads.1 (start_within text)
+    all = bounds (start text) h.passes.shown mid h.passes.shown_all (start_within text)
 
     at_first : (t : LocatedToken) (n : Reading) → Shows (start text) t n → Meets t.lookahead (this begins)
         → first ≤ n.place
@@ -86,7 +87,7 @@ header_bounds text first header mid h = (
     at_first t n (shows_end g e) m = absurd (let Q : LocatedToken → Type 0 = λ x. Meets x.lookahead (this begins) in
         subst Q e m)
 
-    by : (s : List LocatedToken) → ShowsAll (start text) s mid → Begins s (items_of_header header) []
+    by : (s : List LocatedToken) → ShowsAll (start text) s mid → MeetAll (lookaheads s) (items_of_header header)
         → first ≤ mid.place
     by [] k b = absurd b
     by (t ∷ s) k b = omega (

@@ -79,26 +79,26 @@ mutual
       (44 ∷ (plain_tree x ++ (plain_more xs ++ t))) (simp append_assoc) (simp append_assoc)
       (mark_written Comma _ _ (tree_written x _ _ (more_closed xs t c) (more_written xs is t c h)))
 
-part_written : (p : Record) (is : List Item) (t : List ℕ) → Text is t → Text (items_of_record p ++ is) (plain_record p
+record_written : (p : Record) (is : List Item) (t : List ℕ) → Text is t → Text (items_of_record p ++ is) (plain_record p
     ++ t)
-part_written p is t h =
+record_written p is t h =
     same _ (items_of_record p ++ is) _ (upper p.keyword ++ 40 ∷ ((plain_trees p.values ++ 41 ∷ []) ++ t)) refl
     (simp append_assoc)
     (word_written (keyword p.keyword) _ _ (closed 40 _ refl) (list_from p.values (trees_written p.values) is t h))
 
-parts_written : (ps : List Record) (is : List Item) (t : List ℕ) → Text is t → Text (items_of_partial_records ps ++ is)
+partial_records_written : (ps : List Record) (is : List Item) (t : List ℕ) → Text is t → Text (items_of_partial_records ps ++ is)
     (plain_partial_records ps ++ t)
-parts_written [] is t h = h
-parts_written (p ∷ ps) is t h = same _ (items_of_record p ++ (items_of_partial_records ps ++ is)) _ (plain_record p
+partial_records_written [] is t h = h
+partial_records_written (p ∷ ps) is t h = same _ (items_of_record p ++ (items_of_partial_records ps ++ is)) _ (plain_record p
     ++ (plain_partial_records ps ++ t)) (simp append_assoc) (simp append_assoc)
-    (part_written p _ _ (parts_written ps is t h))
+    (record_written p _ _ (partial_records_written ps is t h))
 
 form_written : (f : Form) (is : List Item) (t : List ℕ) → Text is t → Text (items_of_form f ++ is) (plain_form f ++ t)
-form_written (internal p) is t h = part_written p is t h
+form_written (internal p) is t h = record_written p is t h
 form_written (external ps) is t h =
     same _ (this (mark Open) ∷ (items_of_partial_records ps ++ this (mark Close) ∷ is)) _
     (40 ∷ (plain_partial_records ps ++ 41 ∷ t)) (simp append_assoc) (simp append_assoc)
-    (mark_written Open _ _ (parts_written ps _ _ (mark_written Close is t h)))
+    (mark_written Open _ _ (partial_records_written ps _ _ (mark_written Close is t h)))
 
 name_written : (n : ℕ) (is : List Item) (t : List ℕ) → StartsClosed t → Text is t
     → Text (named n ∷ is) (10 ∷ (plain_name n ++ t))

@@ -1,113 +1,155 @@
--- Why something can't be next, and under which rules it could.
-use Rattle.std.proofs.Common.{◌≡◌, ℕ, ◌<◌, ◌≤◌, nat_lt, Bool, true, false, ◌&&◌, if◌then◌else◌, List, Ok, Err, refl, sym, ◌∙◌, subst, arith}
+-- Why something can't be next: which of the rules rules it out, if any does.
+use Rattle.std.proofs.Common.{◌≡◌, ℕ, ◌+◌, ◌≤◌, nat_lt, Bool, true, false, ◌&&◌, if◌then◌else◌, List, Ok, Err, refl, sym, ◌∙◌, subst, arith}
 use Rattle.step_lexis.specs.declared.token.Mark.TheVariants.{Semicolon}
 use Rattle.step_exchange.specs.declared.fault.FaultKind.{FaultKind}
 use Rattle.step_exchange.specs.declared.fault.FaultKind.TheVariants as kinds
 use Rattle.step_exchange.specs.declared.fault.LeftOut.TheVariants as left_out
 use Rattle.step_exchange.specs.Words.{mark, Lookahead, token}
-use Rattle.step_exchange.specs.Fits.{Rules}
+use Rattle.step_exchange.specs.Fits.{Rules, the_rules}
+use Rattle.step_exchange.specs.Texts.{more_levels, more_instances, repeated, unheaded}
 use Rattle.step_exchange.specs.Predict.{Symbol, Next, next}
-use Rattle.step_exchange.proofs.Forms.{Form, fixed, by_level, by_head, by_part, by_name, form, Little, Told, ToldBy, IsOrdinary}
+use Rattle.step_exchange.proofs.Forms.{Form, fixed, by_level, by_head, by_keyword, by_name, form, Little, Told, ToldBy}
 
-abbrev pub Why : Rules → Symbol → Lookahead → FaultKind → Type 0
-Why rules y s kinds.TooDeep = ((w : Rules) → rules.levels < w.levels → Little rules y → (zs : List Symbol)
-    × (next w y s ≡ Ok zs)) × (s ≡ token (mark Semicolon) → ⊥)
-Why rules y s kinds.HeaderFault = ((w : Rules) → w.headed ≡ false → (zs : List Symbol) × (next w y s ≡ Ok zs))
-    × (s ≡ token (mark Semicolon) → ⊥)
-Why rules y s kinds.DuplicateName = ((w : Rules) → w.distinct ≡ false → rules.instances < w.instances → Little rules y
-    → (zs : List Symbol) × (next w y s ≡ Ok zs))
-    × ((w : Rules) → w.distinct ≡ true → next w y s ≡ Err kinds.DuplicateName) × (s ≡ token (mark Semicolon) → ⊥)
-Why rules y s (kinds.LeftOut left_out.TooMany) = ((w : Rules) → (rules.distinct ≡ false → w.distinct ≡ false)
-    → rules.instances < w.instances → Little rules y → (zs : List Symbol) × (next w y s ≡ Ok zs))
-    × (s ≡ token (mark Semicolon) → ⊥)
-Why rules y s kinds.Expected = ((w : Rules) → next w y s ≡ Err kinds.Expected) × IsOrdinary s
-Why rules y s k = Told y s k
+-- under these rules it could be next
+abbrev pub Can : Rules → Symbol → Lookahead → Type 0
+Can w y s = (zs : List Symbol) × (next w y s ≡ Ok zs)
 
-abbrev WhyBy : Rules → Symbol → Lookahead → Next → Type 0
-WhyBy rules y s (Ok zs) = Unit {0}
-WhyBy rules y s (Err k) = Why rules y s k
+abbrev pub If : Bool → Type 0 → Type 0
+If true A = A
+If false A = A → ⊥
 
-why_fixed : (rules : Rules) (y : Symbol) (s : Lookahead) (v : Next) → ((w : Rules) → next w y s ≡ v) → ToldBy y s v
-    → WhyBy rules y s v
-why_fixed rules y s (Ok zs) h t = tt
-why_fixed rules y s (Err kinds.TooDeep) h t = absurd t
-why_fixed rules y s (Err kinds.HeaderFault) h t = absurd t
-why_fixed rules y s (Err kinds.DuplicateName) h t = absurd t
-why_fixed rules y s (Err (kinds.LeftOut left_out.TooMany)) h t = absurd t
-why_fixed rules y s (Err kinds.Expected) h t = (h, t)
-why_fixed rules y s (Err k) h t = t
+-- which of the relaxed rules let it be next
+pub record Lets (y : Symbol) (s : Lookahead) (names many deep heads : Bool) : Type 0 where
+  pub by_names : If names (Can repeated y s)
+  pub by_many : If many (Can more_instances y s)
+  pub by_depth : If deep (Can more_levels y s)
+  pub by_heads : If heads (Can unheaded y s)
 
-below : (n a b : ℕ) → n ≤ a → a < b → nat_lt n b ≡ true
-below n a b h g = let l : n < b = omega arith in grind arith
+abbrev pub NoSemicolon : Lookahead → Type 0
+NoSemicolon s = s ≡ token (mark Semicolon) → ⊥
 
-and_right : (a b : Bool) → (a && b) ≡ true → b ≡ true
-and_right true b e = e
-and_right false b e = cc
+abbrev pub Why : Symbol → Lookahead → FaultKind → Type 0
+Why y s kinds.DuplicateName = Lets y s true false false false × NoSemicolon s
+Why y s (kinds.LeftOut left_out.TooMany) = Lets y s true true false false × NoSemicolon s
+Why y s kinds.TooDeep = Lets y s false false true false × NoSemicolon s
+Why y s kinds.HeaderFault = Lets y s false false false true × NoSemicolon s
+Why y s k = Lets y s false false false false × Told y s k
 
-stays_off : (a b c : Bool) → (a && c) ≡ false → (a ≡ false → b ≡ false) → (b && c) ≡ false
-stays_off true true c e f = e
-stays_off true false c e f = refl
-stays_off false b c e f = rw (f refl) refl
+refuses : (w : Rules) (y : Symbol) (s : Lookahead) (v : Next) (k : FaultKind) → next w y s ≡ v → v ≡ Err k
+    → Can w y s → ⊥
+refuses w y s v k e d c = let q : (let n : Next = Ok c.0 in n) ≡ Err k = sym c.1 ∙ e ∙ d in cc
 
-why_level : (rules : Rules) (y : Symbol) (s : Lookahead) (n : ℕ) (zs : List Symbol) (b : Bool)
-    → ((w : Rules) → next w y s ≡ (if nat_lt n w.levels then Ok zs else Err kinds.TooDeep))
-    → ((w : Rules) → Little w y → n ≤ w.levels) → (s ≡ token (mark Semicolon) → ⊥)
-    → WhyBy rules y s (if b then Ok zs else Err kinds.TooDeep)
-why_level rules y s n zs true h l o = tt
-why_level rules y s n zs false h l o = (λ w g k. (zs, h w ∙ rw (below n rules.levels w.levels (l rules k) g) refl), o)
+below : (n a : ℕ) → n ≤ a → nat_lt n (a + 1) ≡ true
+below n a h = grind arith
 
-why_head : (rules : Rules) (y : Symbol) (s : Lookahead) (c : Bool) (zs : List Symbol) (b : Bool)
-    → ((w : Rules) → next w y s ≡ (if w.headed && c then Err kinds.HeaderFault else Ok zs))
-    → (s ≡ token (mark Semicolon) → ⊥) → WhyBy rules y s (if b then Err kinds.HeaderFault else Ok zs)
-why_head rules y s c zs true h o = (λ w e. (zs, h w ∙ rw e refl), o)
-why_head rules y s c zs false h o = tt
+why_told : (y : Symbol) (s : Lookahead) (k : FaultKind) → Lets y s false false false false → Told y s k → Why y s k
+why_told y s kinds.TooDeep l t = absurd t
+why_told y s kinds.HeaderFault l t = absurd t
+why_told y s kinds.DuplicateName l t = absurd t
+why_told y s (kinds.LeftOut left_out.TooMany) l t = absurd t
+why_told y s k l t = (l, t)
 
-why_part : (rules : Rules) (y : Symbol) (s : Lookahead) (c : Bool) (zs : List Symbol) (b : Bool)
-    → (rules.distinct && c) ≡ b → ((w : Rules) → next w y s ≡ (if w.distinct && c then Err kinds.DuplicateName else Ok
-    zs)) → (s ≡ token (mark Semicolon) → ⊥) → WhyBy rules y s (if b then Err kinds.DuplicateName else Ok zs)
-why_part rules y s c zs true e h o = (
-  λ w g i l. (zs, h w ∙ rw g refl),
-  λ w g. h w
-      ∙ rw (g, and_right rules.distinct c e) refl,
+why_fixed : (y : Symbol) (s : Lookahead) (v : Next) (k : FaultKind) → ((w : Rules) → next w y s ≡ v) → ToldBy y s v
+    → v ≡ Err k → Why y s k
+why_fixed y s v k h t e = why_told y s k (record {
+  by_names = refuses repeated y s v k (h repeated) e;
+  by_many = refuses more_instances y s v k (h more_instances) e;
+  by_depth = refuses more_levels y s v k (h more_levels) e;
+  by_heads = refuses unheaded y s v k (h unheaded) e;
+}) (subst (ToldBy y s) e t)
+
+same_kind : (k l : FaultKind) → (let v : Next = Err k in v) ≡ Err l → k ≡ l
+same_kind k l e = cc
+
+never : {A : Type 0} (zs : List Symbol) (k : FaultKind) → (let v : Next = Ok zs in v) ≡ Err k → A
+never zs k e = cc
+
+why_level : (y : Symbol) (s : Lookahead) (n : ℕ) (zs : List Symbol) (k : FaultKind) (b : Bool)
+    → nat_lt n the_rules.levels ≡ b → ((w : Rules)
+    → next w y s ≡ (if nat_lt n w.levels then Ok zs else Err kinds.TooDeep)) → n ≤ the_rules.levels → NoSemicolon s
+    → (let v : Next = if b then Ok zs else Err kinds.TooDeep in v) ≡ Err k → Why y s k
+why_level y s n zs k true t h l o e = never zs k e
+why_level y s n zs k false t h l o e =
+    let same : (let v : Next = if nat_lt n the_rules.levels then Ok zs else Err kinds.TooDeep in v) ≡ Err kinds.TooDeep
+    = rw t refl in
+    subst (Why y s) (same_kind kinds.TooDeep k e) (
+      record {
+        by_names = refuses repeated y s _ kinds.TooDeep (h repeated) same;
+        by_many = refuses more_instances y s _ kinds.TooDeep (h more_instances) same;
+        by_depth = (zs, h more_levels ∙ rw (below n the_rules.levels l) refl);
+        by_heads = refuses unheaded y s _ kinds.TooDeep (h unheaded) same;
+      },
+      o,
+    )
+
+why_head : (y : Symbol) (s : Lookahead) (c : Bool) (zs : List Symbol) (k : FaultKind)
+    → ((w : Rules) → next w y s ≡ (if w.headed && c then Err kinds.HeaderFault else Ok zs)) → NoSemicolon s
+    → (let v : Next = if c then Err kinds.HeaderFault else Ok zs in v) ≡ Err k → Why y s k
+why_head y s false zs k h o e = never zs k e
+why_head y s true zs k h o e = subst (Why y s) (same_kind kinds.HeaderFault k e) (
+  record {
+    by_names = refuses repeated y s _ kinds.HeaderFault (h repeated) refl;
+    by_many = refuses more_instances y s _ kinds.HeaderFault (h more_instances) refl;
+    by_depth = refuses more_levels y s _ kinds.HeaderFault (h more_levels) refl;
+    by_heads = (zs, h unheaded);
+  },
   o,
 )
-why_part rules y s c zs false e h o = tt
 
-why_name : (rules : Rules) (y : Symbol) (s : Lookahead) (c : Bool) (n : ℕ) (zs : List Symbol) (b d : Bool)
-    → (rules.distinct && c) ≡ b → nat_lt n rules.instances ≡ d
-    → ((w : Rules) → next w y s ≡ (if w.distinct && c then Err kinds.DuplicateName else
-    (if nat_lt n w.instances then Ok zs else Err (kinds.LeftOut left_out.TooMany))))
-    → ((w : Rules) → Little w y → n ≤ w.instances) → (s ≡ token (mark Semicolon) → ⊥)
-    → WhyBy rules y s (if b then Err kinds.DuplicateName else
-    (if d then Ok zs else Err (kinds.LeftOut left_out.TooMany)))
-why_name rules y s c n zs true d e f h l o = (
-  λ w g i k. (zs, h w ∙ rw g (rw (below n rules.instances w.instances (l rules k) i) refl)),
-  λ w g. h w
-      ∙ rw (g, and_right rules.distinct c e) refl,
+why_keyword : (y : Symbol) (s : Lookahead) (c : Bool) (zs : List Symbol) (k : FaultKind)
+    → ((w : Rules) → next w y s ≡ (if w.distinct && c then Err kinds.DuplicateName else Ok zs)) → NoSemicolon s
+    → (let v : Next = if c then Err kinds.DuplicateName else Ok zs in v) ≡ Err k → Why y s k
+why_keyword y s false zs k h o e = never zs k e
+why_keyword y s true zs k h o e = subst (Why y s) (same_kind kinds.DuplicateName k e) (
+  record {
+    by_names = (zs, h repeated);
+    by_many = refuses more_instances y s _ kinds.DuplicateName (h more_instances) refl;
+    by_depth = refuses more_levels y s _ kinds.DuplicateName (h more_levels) refl;
+    by_heads = refuses unheaded y s _ kinds.DuplicateName (h unheaded) refl;
+  },
   o,
 )
-why_name rules y s c n zs false true e f h l o = tt
-why_name rules y s c n zs false false e f h l o = (
-  λ w g i k. (
-    zs,
-    h w ∙ rw (stays_off rules.distinct w.distinct c e g)
-        (rw (below n rules.instances w.instances (l rules k) i) refl),
-  ),
+
+abbrev Named : Bool → ℕ → List Symbol → Rules → Next
+Named c n zs w = if w.distinct && c then Err kinds.DuplicateName else
+    (if nat_lt n w.instances then Ok zs else Err (kinds.LeftOut left_out.TooMany))
+
+why_name : (y : Symbol) (s : Lookahead) (c : Bool) (n : ℕ) (zs : List Symbol) (k : FaultKind) (b : Bool)
+    → nat_lt n the_rules.instances ≡ b → ((w : Rules) → next w y s ≡ Named c n zs w) → n ≤ the_rules.instances
+    → NoSemicolon s → (let v : Next = if c then Err kinds.DuplicateName else
+    (if b then Ok zs else Err (kinds.LeftOut left_out.TooMany)) in v) ≡ Err k → Why y s k
+why_name y s true n zs k b t h l o e = subst (Why y s) (same_kind kinds.DuplicateName k e) (
+  record {
+    by_names = (zs, h repeated ∙ rw (below n the_rules.instances l) refl);
+    by_many = refuses more_instances y s _ kinds.DuplicateName (h more_instances) refl;
+    by_depth = refuses more_levels y s _ kinds.DuplicateName (h more_levels) refl;
+    by_heads = refuses unheaded y s _ kinds.DuplicateName (h unheaded) refl;
+  },
   o,
 )
+why_name y s false n zs k true t h l o e = never zs k e
+why_name y s false n zs k false t h l o e =
+    let many = kinds.LeftOut left_out.TooMany in
+    let same : Named false n zs the_rules ≡ Err many = rw t refl in
+    subst (Why y s) (same_kind many k e) (
+      record {
+        by_names = (zs, h repeated ∙ rw (below n the_rules.instances l) refl);
+        by_many = (zs, h more_instances ∙ rw (below n the_rules.instances l) refl);
+        by_depth = refuses more_levels y s _ many (h more_levels) same;
+        by_heads = refuses unheaded y s _ many (h unheaded) same;
+      },
+      o,
+    )
 
 -- each fault's reason
-pub why : (rules : Rules) (y : Symbol) (s : Lookahead) (k : FaultKind) → next rules y s ≡ Err k → Why rules y s k
-why rules y s k e = let P : Next → Type 0 = λ v. WhyBy rules y s v in subst P e (by (form y s))
+pub why : (y : Symbol) (s : Lookahead) (k : FaultKind) → Little the_rules y → next the_rules y s ≡ Err k → Why y s k
+why y s k little e = by (form y s)
   where
-    by : Form y s → WhyBy rules y s (next rules y s)
-    by (fixed v h t) = let P : Next → Type 0 = λ v. WhyBy rules y s v in subst P (sym (h rules))
-        (why_fixed rules y s v h t)
-    by (by_level n zs h l o) = let P : Next → Type 0 = λ v. WhyBy rules y s v in subst P (sym (h rules))
-        (why_level rules y s n zs (nat_lt n rules.levels) h l o)
-    by (by_head c zs h o) = let P : Next → Type 0 = λ v. WhyBy rules y s v in subst P (sym (h rules))
-        (why_head rules y s c zs (rules.headed && c) h o)
-    by (by_part c zs h o) = let P : Next → Type 0 = λ v. WhyBy rules y s v in subst P (sym (h rules))
-        (why_part rules y s c zs (rules.distinct && c) refl h o)
-    by (by_name c n zs h l o) = let P : Next → Type 0 = λ v. WhyBy rules y s v in subst P (sym (h rules))
-        (why_name rules y s c n zs (rules.distinct && c) (nat_lt n rules.instances) refl refl h l o)
+    by : Form y s → Why y s k
+    by (fixed v h t) = why_fixed y s v k h t (sym (h the_rules) ∙ e)
+    by (by_level n zs h l o) = why_level y s n zs k (nat_lt n the_rules.levels) refl h (l the_rules little) o
+        (sym (h the_rules) ∙ e)
+    by (by_head c zs h o) = why_head y s c zs k h o (sym (h the_rules) ∙ e)
+    by (by_keyword c zs h o) = why_keyword y s c zs k h o (sym (h the_rules) ∙ e)
+    by (by_name c n zs h l o) = why_name y s c n zs k (nat_lt n the_rules.instances) refl h (l the_rules little) o
+        (sym (h the_rules) ∙ e)

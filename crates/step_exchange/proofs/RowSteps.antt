@@ -5,27 +5,26 @@ use Rattle.indexmap.specs.IndexMap.{insert_entry}
 use Rattle.std.proofs.lemmas.Bool.{false≢true}
 use Rattle.std.proofs.lemmas.Bool.Decides.{nat_tests}
 use Rattle.std.proofs.lemmas.List.{length-map}
-use Rattle.step_lexis.specs.declared.token.Mark.TheVariants.{Open, Close, Comma, Semicolon, Equals, Dollar, Asterisk}
 use Rattle.step_lexis.specs.declared.token.Sort.{Sort}
 use Rattle.step_lexis.specs.declared.token.Sort.TheVariants as sorts
 use Rattle.step_lexis.specs.Reading.{Reading, Takes, left}
 use Rattle.step_lexis.specs.declared.token.Token.{Token}
+use Rattle.step_lexis.proofs.ReadingLemmas.{takes_less}
 use Rattle.step_exchange.specs.declared.fault.FaultKind.TheVariants as kinds
 use Rattle.step_exchange.specs.declared.fault.LeftOut.TheVariants as left_out
 use Rattle.step_exchange.specs.declared.fault.TextFault.{TextFault}
 use Rattle.step_exchange.specs.declared.fault.TextFault.TheVariants as faults
 use Rattle.step_exchange.specs.declared.tree.Form as code
-use Rattle.step_exchange.specs.Words.{Lookahead, token, mark, name, located, word_of}
-use Rattle.step_exchange.specs.Trees.{Row, Form, this, named, says, Meets, items_of_row, items_of_rows, items_of_form}
+use Rattle.step_exchange.specs.Words.{Lookahead, token, keyword, name, located, word_of}
+use Rattle.step_exchange.specs.Trees.{Row, Form, named, says, items_of_row, items_of_rows}
 use Rattle.step_exchange.specs.Fits.{the_rules, FitsForm, FitsRows, has_name}
-use Rattle.step_exchange.specs.Texts.{Reads}
 use Rattle.step_exchange.specs.Views.{row_of}
-use Rattle.step_exchange.specs.Predict.{Rows, next, refused, is_word, StopsIn, Turns, TakesRow, TakesRows, RowsSoFar, IsNextName, IsNoName, row_symbols, names_of, AtMost}
-use Rattle.step_lexis.proofs.ReadingLemmas.{takes_less}
-use Rattle.step_exchange.proofs.Passing.{pass_row}
-use Rattle.step_exchange.proofs.Begins.{begins_append}
-use Rattle.step_exchange.proofs.Turning.{turns_join, turns_token, turns_here, stops_via, stops_token, reads_join, reads_first, left_less}
-use Rattle.step_exchange.proofs.Looking.{reads_word}
+use Rattle.step_exchange.specs.Predict.{Rows, refused, is_word, row_symbols}
+use Rattle.step_exchange.specs.Steps.{table, StopsIn, Passes, IsNextName, IsNoName, names_of, AtMost}
+use Rattle.step_exchange.proofs.Meeting.{meets_named}
+use Rattle.step_exchange.proofs.Taking.{passes_here, passes_as, passes_join, passes_more, passes_token, passes_within, stops_behind, stops_token}
+use Rattle.step_exchange.proofs.Looking.{passes_other_word}
+use Rattle.step_exchange.proofs.RecordSteps.{Lined}
 
 -- the names in the map
 pub has_lookup : (k : ℕ) (es : List (ℕ × code.Form)) → has_name k (names_of (map row_of es)) ≡ is_some
@@ -68,41 +67,26 @@ name_refused names t e h c q = record {
 }
   where
     by : (sort : Sort) (text : List ℕ) → ((n : ℕ) → sort ≡ sorts.Name n → ⊥) → is_word (codes "ENDSEC")
-        (token (word_of sort text)) ≡ false → next the_rules (Rows names) (token (word_of sort text)) ≡ Err
+        (token (word_of sort text)) ≡ false → table (Rows names) (token (word_of sort text)) ≡ Err
         (refused (token (word_of sort text)))
     by (sorts.Name n) text h c = absurd (h n refl)
     by (sorts.Keyword w) text h c = rw c refl
-    by (sorts.Mark Open) text h c = refl
-    by (sorts.Mark Close) text h c = refl
-    by (sorts.Mark Comma) text h c = refl
-    by (sorts.Mark Semicolon) text h c = refl
-    by (sorts.Mark Equals) text h c = refl
-    by (sorts.Mark Dollar) text h c = refl
-    by (sorts.Mark Asterisk) text h c = refl
-    by sorts.Begin text h c = refl
-    by sorts.End text h c = refl
-    by (sorts.UserDefined w) text h c = refl
-    by sorts.Scope text h c = refl
-    by (sorts.Integer d) text h c = refl
-    by (sorts.Real d) text h c = refl
-    by (sorts.Element w) text h c = refl
-    by (sorts.String s) text h c = refl
-    by (sorts.Binary b) text h c = refl
+    by _ text h c = refl
 
 name_at : (t : Token) (n : ℕ) → t.sort ≡ sorts.Name n → (located t).lookahead ≡ token (name n t.text.now)
 name_at t n e = ap (λ s. token (word_of s t.text.now)) e
 
-twice_next : (names : List ℕ) (n : ℕ) (text : List ℕ) → has_name n names ≡ true → next the_rules (Rows names)
+twice_next : (names : List ℕ) (n : ℕ) (text : List ℕ) → has_name n names ≡ true → table (Rows names)
     (token (name n text)) ≡ Err kinds.DuplicateName
 twice_next names n text h = rw h refl
 
 many_next : (names : List ℕ) (n : ℕ) (text : List ℕ) → has_name n names ≡ false → the_rules.instances ≤ length names
-    → next the_rules (Rows names) (token (name n text)) ≡ Err (kinds.LeftOut left_out.TooMany)
+    → table (Rows names) (token (name n text)) ≡ Err (kinds.LeftOut left_out.TooMany)
 many_next names n text h m = let e : nat_lt (length names) the_rules.instances ≡ false = grind (arith, nat_tests) in
     rw (h, e) refl
 
 name_next : (names : List ℕ) (n : ℕ) (text : List ℕ) → has_name n names ≡ false → length names < the_rules.instances
-    → next the_rules (Rows names) (token (name n text)) ≡ Ok (row_symbols ++ Rows (names ++ n ∷ []) ∷ [])
+    → table (Rows names) (token (name n text)) ≡ Ok (row_symbols ++ Rows (names ++ n ∷ []) ∷ [])
 name_next names n text h m = let e : nat_lt (length names) the_rules.instances ≡ true = grind (arith, nat_tests) in
     rw (h, e) refl
 
@@ -110,7 +94,7 @@ pub name_twice : (names : List ℕ) (t : Token) (n : ℕ) (e : TextFault) → t.
     → e ≡ faults.Fault kinds.DuplicateName t.place → IsNoName names (located t) e
 name_twice names t n e is h q = record {
   kind = kinds.DuplicateName;
-  refused = ap (next the_rules (Rows names)) (name_at t n is)
+  refused = ap (table (Rows names)) (name_at t n is)
       ∙ twice_next names n t.text.now h;
   fault_is = q;
 }
@@ -120,7 +104,7 @@ pub name_too_many : (names : List ℕ) (t : Token) (n : ℕ) (e : TextFault) →
     t.place → IsNoName names (located t) e
 name_too_many names t n e is h m q = record {
   kind = kinds.LeftOut left_out.TooMany;
-  refused = ap (next the_rules (Rows names)) (name_at t n is)
+  refused = ap (table (Rows names)) (name_at t n is)
       ∙ many_next names n t.text.now h m;
   fault_is = q;
 }
@@ -130,61 +114,56 @@ pub name_fits : (names : List ℕ) (t : Token) (n : ℕ) → t.sort ≡ sorts.Na
 name_fits names t n is h m = record { text = t.text.now; is = name_at t n is; alone = h; few = m }
 
 -- the loop
+-- the instances so far, with the others and the word that ends them behind
+pub record RowsSoFar (old : Reading) (rs : List Row) (here : Reading) : Type 0 where
+  pub fits : FitsRows the_rules [] rs
+  pub passes : Passes (Rows [] ∷ []) (Rows (names_of rs) ∷ []) [] (items_of_rows rs) old here
+
 pub rows_start : (r : Reading) → RowsSoFar r [] r
-rows_start r = record { fits = tt; reads = ([], refl, refl); turns = turns_here (Rows [] ∷ []) r }
+rows_start r = record { fits = tt; passes = passes_here (Rows [] ∷ []) r }
 
 pub rows_err_token : (e : TextFault) (old : Reading) (rs : List Row) (here : Reading) → RowsSoFar old rs here
     → StopsIn e (Rows (names_of rs) ∷ []) [] here → StopsIn e (Rows [] ∷ []) [] old
-rows_err_token e old rs here so g = stops_via e (Rows [] ∷ []) (Rows (names_of rs) ∷ []) [] [] old here so.turns g
+rows_err_token e old rs here so g = stops_behind e (Rows (names_of rs) ∷ []) [] so.passes g
 
 pub rows_err_name : (e : TextFault) (old : Reading) (rs : List Row) (here : Reading) (t : Token) (a : Reading)
     → RowsSoFar old rs here → Takes here t a → IsNoName (names_of rs) (located t) e → StopsIn e (Rows [] ∷ []) [] old
-rows_err_name e old rs here t a so h g =
-    let P : TextFault → Type 0 = λ x. StopsIn x (Rows (names_of rs) ∷ []) [] here in
-    rows_err_token e old rs here so (subst P (sym g.fault_is) (stops_token g.kind (Rows (names_of rs)) t here a h
-    g.refused))
+rows_err_name e old rs here t a so h g = rows_err_token e old rs here so
+    (stops_token e g.kind (Rows (names_of rs)) t here a h g.refused g.fault_is)
+
+passes_name : (names : List ℕ) (t : Token) (n : ℕ) (here a : Reading) → Takes here t a → IsNextName names (located t) n
+    → Passes (Rows names ∷ []) (row_symbols ++ Rows (names ++ n ∷ []) ∷ []) [] (named n ∷ []) here a
+passes_name names t n here a h is = passes_token (Rows names) (row_symbols ++ Rows (names ++ n ∷ []) ∷ []) (named n) t
+    here a h (meets_named (located t).lookahead n is.text is.is) (ap (table (Rows names)) is.is ∙ name_next names n
+    is.text is.alone is.few)
 
 pub rows_err_row : (e : TextFault) (old : Reading) (rs : List Row) (here : Reading) (t : Token) (n : ℕ) (a : Reading)
     → RowsSoFar old rs here → Takes here t a → IsNextName (names_of rs) (located t) n → StopsIn e row_symbols [] a
     → StopsIn e (Rows [] ∷ []) [] old
-rows_err_row e old rs here t n a so h is g =
-    stops_via e (Rows [] ∷ []) row_symbols (Rows (names_of rs ++ n ∷ []) ∷ []) [] old a
-    (turns_join (Rows [] ∷ []) (Rows (names_of rs) ∷ []) (row_symbols ++ Rows (names_of rs ++ n ∷ []) ∷ []) [] old here
-    a so.turns
-    (turns_token (Rows (names_of rs)) (row_symbols ++ Rows (names_of rs ++ n ∷ []) ∷ []) [] t here a h
-    (ap (next the_rules (Rows (names_of rs))) is.is ∙ name_next (names_of rs) n is.text is.alone is.few)))
-    g
+rows_err_row e old rs here t n a so h is g = stops_behind e row_symbols (Rows (names_of rs ++ n ∷ []) ∷ [])
+    (passes_join so.passes (passes_name (names_of rs) t n here a h is)) g
 
-meets_named : (s : Lookahead) (n : ℕ) (text : List ℕ) → s ≡ token (name n text) → Meets s (named n)
-meets_named s n text e = let P : Lookahead → Type 0 = λ x. Meets x (named n) in subst P (sym e) refl
-
-reads_row : (names : List ℕ) (t : Token) (n : ℕ) (f : Form) (here a b : Reading) → Takes here t a
-    → IsNextName names (located t) n → TakesRow a f b → Reads here (items_of_row (record { name = n; form = f })) b
-reads_row names t n f here a b h is g = reads_first (named n) (this (mark Equals)
-    ∷ (items_of_form f ++ this (mark Semicolon) ∷ [])) t here a b h (meets_named (located t).lookahead n is.text is.is)
-    g.reads
-
-fits_rows_push : (before : List ℕ) (rs : List Row) (r : Row) → FitsRows the_rules before rs
+fits_push : (before : List ℕ) (rs : List Row) (r : Row) → FitsRows the_rules before rs
     → has_name r.name (before ++ names_of rs) ≡ false → length (before ++ names_of rs) < the_rules.instances
     → FitsForm the_rules r.form → FitsRows the_rules before (rs ++ r ∷ [])
-fits_rows_push before [] r h g m f = (
+fits_push before [] r h g m f = (
   subst (λ l. has_name r.name l ≡ false) (append-nil before) g,
   subst (λ l. length l < the_rules.instances) (append-nil before) m,
   f,
   tt,
 )
-fits_rows_push before (q ∷ rs) r h g m f =
+fits_push before (q ∷ rs) r h g m f =
     let e = sym (append_assoc before (q.name ∷ []) (names_of rs)) in (
       h.0,
       h.1,
       h.2,
-      fits_rows_push (before ++ q.name ∷ []) rs r h.3 (subst (λ l. has_name r.name l ≡ false) e g)
+      fits_push (before ++ q.name ∷ []) rs r h.3 (subst (λ l. has_name r.name l ≡ false) e g)
           (subst (λ l. length l < the_rules.instances) e m) f,
     )
 
-items_rows_push : (rs : List Row) (r : Row) → items_of_rows (rs ++ r ∷ []) ≡ items_of_rows rs ++ items_of_row r
-items_rows_push [] r = append-nil (items_of_row r)
-items_rows_push (q ∷ rs) r = ap (λ l. items_of_row q ++ l) (items_rows_push rs r)
+items_push : (rs : List Row) (r : Row) → items_of_rows (rs ++ r ∷ []) ≡ items_of_rows rs ++ items_of_row r
+items_push [] r = append-nil (items_of_row r)
+items_push (q ∷ rs) r = ap (λ l. items_of_row q ++ l) (items_push rs r)
     ∙ sym (append_assoc (items_of_row q) (items_of_rows rs) (items_of_row r))
 
 names_push : (rs : List Row) (r : Row) → names_of (rs ++ r ∷ []) ≡ names_of rs ++ r.name ∷ []
@@ -192,37 +171,35 @@ names_push [] r = refl
 names_push (q ∷ rs) r = ap (λ l. q.name ∷ l) (names_push rs r)
 
 pub rows_next : (old : Reading) (rs : List Row) (here : Reading) (t : Token) (n : ℕ) (a : Reading) (f : Form)
-    (b : Reading) → RowsSoFar old rs here → Takes here t a → IsNextName (names_of rs) (located t) n → TakesRow a f b
+    (b : Reading) → RowsSoFar old rs here → Takes here t a → IsNextName (names_of rs) (located t) n → Lined a f b
     → RowsSoFar old (rs ++ (record { name = n; form = f }) ∷ []) b
 rows_next old rs here t n a f b so h is g =
     let r : Row = record { name = n; form = f } in
-    let one = reads_row (names_of rs) t n f here a b h is g in
-    let step : Turns (Rows (names_of rs) ∷ []) (Rows (names_of rs ++ n ∷ []) ∷ []) [] here b = record {
-      shown = one.0;
-      shows = one.1;
-      turned = λ more q. pass_row the_rules r (names_of rs) more (one.0 ++ q) q is.alone is.few g.fits
-          (begins_append one.0 (items_of_row r) [] q one.2);
-    } in
     record {
-      fits = fits_rows_push [] rs r so.fits is.alone is.few g.fits;
-      reads = subst (λ l. Reads old l b) (sym (items_rows_push rs r))
-          (reads_join old (items_of_rows rs) here (items_of_row r) b so.reads one);
-      turns = subst (λ l. Turns (Rows [] ∷ []) (Rows l ∷ []) [] old b) (sym (names_push rs r))
-          (turns_join (Rows [] ∷ []) (Rows (names_of rs) ∷ []) (Rows (names_of rs ++ n ∷ []) ∷ []) [] old here b
-          so.turns step);
+      fits = fits_push [] rs r so.fits is.alone is.few g.0;
+      passes =
+          let P : List ℕ → Type 0 = λ l. Passes (Rows [] ∷ []) (Rows l ∷ []) [] (items_of_rows (rs ++ r ∷ [])) old b in
+          subst P (sym (names_push rs r)) (passes_as (items_of_rows (rs ++ r ∷ [])) (sym (items_push rs r))
+          (passes_join so.passes (passes_join (passes_name (names_of rs) t n here a h is)
+          (passes_more (Rows (names_of rs ++ n ∷ []) ∷ []) g.1))));
     }
 
-pub rows_done : (old : Reading) (rs : List Row) (here : Reading) (t : Token) (a : Reading) → RowsSoFar old rs here
-    → Takes here t a → is_word (codes "ENDSEC") (located t).lookahead ≡ true → TakesRows old rs a
-rows_done old rs here t a so h c = record {
-  fits = so.fits;
-  reads = reads_join old (items_of_rows rs) here (says (codes "ENDSEC") ∷ []) a so.reads
-      (reads_word (codes "ENDSEC") t here a h c);
-}
+end_next : (names : List ℕ) (s : Lookahead) → is_word (codes "ENDSEC") s ≡ true → table (Rows names) s ≡ Ok []
+end_next names (token (keyword text)) e = rw e refl
+end_next names _ e = absurd (false≢true e)
 
-pub rows_smaller : (here : Reading) (t : Token) (a : Reading) (f : Form) (b : Reading) → Takes here t a → TakesRow a f b
+pub rows_done : (old : Reading) (rs : List Row) (here : Reading) (t : Token) (a : Reading) → RowsSoFar old rs here
+    → Takes here t a → is_word (codes "ENDSEC") (located t).lookahead ≡ true → FitsRows the_rules [] rs
+    × Passes (Rows [] ∷ []) [] [] (items_of_rows rs ++ says (codes "ENDSEC") ∷ []) old a
+rows_done old rs here t a so h c = (
+  so.fits,
+  passes_join so.passes (passes_other_word (Rows (names_of rs)) (codes "ENDSEC") t here a h c (end_next (names_of rs)
+      (located t).lookahead c)),
+)
+
+pub rows_smaller : (here : Reading) (t : Token) (a : Reading) (f : Form) (b : Reading) → Takes here t a → Lined a f b
     → length (left b) < length (left here)
-rows_smaller here t a f b h g = omega (arith, takes_less here a t h, left_less a g.reads.0 b g.reads.1)
+rows_smaller here t a f b h g = omega (arith, takes_less here a t h, passes_within g.1)
 
 -- names beyond the greatest
 not_same : (n m g : ℕ) → m ≤ g → g < n → (n == m) ≡ false

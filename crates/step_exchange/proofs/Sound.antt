@@ -1,76 +1,89 @@
--- What passes the table of what may stand next is a structure, or the part of one that the table asks for.
-use Rattle.std.proofs.Common.{◌≡◌, ℕ, ◌+◌, ◌<◌, Bool, true, false, not, ◌&&◌, eqb, ltb, List, [], ◌∷◌, ◌++◌, length, Ok, Err, codes, refl, sym, ap, ◌∙◌, subst, append_assoc, arith, if◌then◌else◌, ◌⊎◌, inl, inr, MatchResult}
+-- What leads from what is to come, by the table, to nothing more is a structure, or the part of one that is asked for.
+use Rattle.std.proofs.Common.{◌≡◌, ℕ, ◌+◌, ◌<◌, Bool, true, false, not, ◌&&◌, eqb, ltb, List, [], ◌∷◌, ◌++◌, length, Ok, Err, codes, refl, sym, ap, ◌∙◌, subst, append_assoc, append-nil, arith, if◌then◌else◌, ◌⊎◌, inl, inr, MatchResult}
+use Rattle.predictive.proofs.Leading.{Leads}
 use Rattle.step_lexis.specs.declared.token.Mark.{Mark}
 use Rattle.step_lexis.specs.declared.token.Mark.TheVariants.{Open, Close, Comma, Semicolon, Equals, Dollar, Asterisk}
 use Rattle.step_exchange.specs.declared.fault.FaultKind.{FaultKind}
 use Rattle.step_exchange.specs.declared.fault.FaultKind.TheVariants as kinds
 use Rattle.step_exchange.specs.declared.fault.LeftOut.TheVariants as left_out
-use Rattle.step_exchange.specs.Words.{begins, ends, keyword, name, number, element, string, binary, mark, Lookahead, token, end_of_text, LocatedToken}
-use Rattle.step_exchange.specs.Trees.{Tree, leaf, typed, group, Trees, none, one, Record, Form, internal, external, Row, File, Item, this, says, finish, is_said, Begins, items_of_tree, items_of_more, items_of_list, items_of_record, items_of_partial_records, items_of_form, items_of_rows, items_of_records, section, items_of_header, items_of_data, items_of_end, items_of_file}
+use Rattle.step_exchange.specs.Words.{begins, ends, keyword, name, number, element, string, binary, mark, Lookahead, token, end_of_text}
+use Rattle.step_exchange.specs.Trees.{Tree, leaf, typed, group, Trees, none, one, Record, Form, internal, external, Row, File, Item, this, says, finish, is_said, MeetAll, items_of_tree, items_of_more, items_of_list, items_of_record, items_of_partial_records, items_of_form, items_of_rows, items_of_records, section, items_of_start, items_of_header, items_of_data, items_of_end}
 use Rattle.step_exchange.specs.Fits.{Rules, FitsTree, FitsTrees, FitsRecord, Where, has_keyword, FitsPartialRecords, FitsForm, has_name, FitsRows, FitsRecords, IsHeader, FitsHeader, FitsFile}
 use Rattle.step_exchange.specs.Texts.{items_of_opening}
-use Rattle.step_exchange.specs.Predict.{refused, Symbol, Just, Start, Say, Head, Records, Ended, Data, Behind, Rows, Body, Parts, Value, Items, More, Finish, EndOfText, Next, mark_code, record_symbols, row_symbols, opening_symbols, data_symbols, file_symbols, section_kind, next, next_value, next_close, then_more, passes, step_on, run}
-use Rattle.step_exchange.proofs.Passing.{regroup_two, header_items}
-use Rattle.step_exchange.proofs.Begins.{begins_join}
+use Rattle.step_exchange.specs.Predict.{refused, Symbol, Just, Start, Say, Head, Records, Ended, Data, Behind, Rows, Body, PartialRecords, Value, Items, More, Finish, EndOfText, Next, mark_code, record_symbols, row_symbols, opening_symbols, header_symbols, file_symbols, section_kind, next, next_value, next_close, then_more}
+use Rattle.step_exchange.specs.Steps.{IsFile}
+use Rattle.step_exchange.proofs.Meeting.{meet_join, meet_as}
+use Rattle.step_exchange.proofs.Passing.{regroup_two, header_items, section_symbols, end_symbols}
 
--- what each symbol asks for stands here, and this is behind it
-abbrev pub Lang : Rules → Symbol → List LocatedToken → List LocatedToken → Type 0
-Lang rules (Just m) s rest = Begins s (this (mark m) ∷ []) rest
-Lang rules Start s rest = Begins s (this begins ∷ []) rest
-Lang rules (Say word) s rest = Begins s (says word ∷ []) rest
-Lang rules (Head word) s rest = (p : Record) × FitsRecord rules 0 p × Where rules.headed (is_said word p.keyword ≡ true)
-    × Begins s (items_of_record p) rest
-Lang rules Records s rest = (ps : List Record) × FitsRecords rules ps
-    × Begins s (items_of_records ps ++ section (codes "ENDSEC")) rest
-Lang rules Ended s rest = Begins s (this (mark Semicolon) ∷ []) rest
+-- what a symbol asks for stands
+abbrev pub Lang : Rules → Symbol → List Lookahead → Type 0
+Lang rules (Just m) ws = MeetAll ws (this (mark m) ∷ [])
+Lang rules Start ws = MeetAll ws (this begins ∷ [])
+Lang rules (Say word) ws = MeetAll ws (says word ∷ [])
+Lang rules (Head word) ws = (p : Record) × FitsRecord rules 0 p × Where rules.headed (is_said word p.keyword ≡ true)
+    × MeetAll ws (items_of_record p)
+Lang rules Records ws = (ps : List Record) × FitsRecords rules ps
+    × MeetAll ws (items_of_records ps ++ section (codes "ENDSEC"))
+Lang rules Ended ws = MeetAll ws (this (mark Semicolon) ∷ [])
     ⊎ ((xs : Trees) × (ps : List Record) × FitsTrees rules 1 xs × FitsRecords rules ps
-    × Begins s (this (mark Open) ∷ (items_of_list xs ++ this (mark Semicolon) ∷ items_of_records ps
-    ++ section (codes "ENDSEC"))) rest)
-Lang rules Data s rest = Begins s (says (codes "DATA") ∷ []) rest
-Lang rules Behind s rest = Begins s (this (mark Semicolon) ∷ []) rest
-Lang rules (Rows names) s rest = (rs : List Row) × FitsRows rules names rs
-    × Begins s (items_of_rows rs ++ says (codes "ENDSEC") ∷ []) rest
-Lang rules Body s rest = (x : Form) × FitsForm rules x × Begins s (items_of_form x) rest
-Lang rules (Parts before) s rest = (ps : List Record) × (0 < length before + length ps) × FitsPartialRecords rules
-    before ps × Begins s (items_of_partial_records ps ++ this (mark Close) ∷ []) rest
-Lang rules (Value n) s rest = (x : Tree) × FitsTree rules n x × Begins s (items_of_tree x) rest
-Lang rules (Items n) s rest = (xs : Trees) × FitsTrees rules n xs × Begins s (items_of_list xs) rest
-Lang rules (More n) s rest = (xs : Trees) × FitsTrees rules n xs × Begins s (items_of_more xs ++ this (mark Close) ∷ [])
-    rest
-Lang rules Finish s rest = Begins s (this ends ∷ []) rest
-Lang rules EndOfText s rest = Begins s (finish ∷ []) rest
+    × MeetAll ws (this (mark Open) ∷ (items_of_list xs ++ this (mark Semicolon) ∷ items_of_records ps
+    ++ section (codes "ENDSEC"))))
+Lang rules Data ws = MeetAll ws (says (codes "DATA") ∷ [])
+Lang rules Behind ws = MeetAll ws (this (mark Semicolon) ∷ [])
+Lang rules (Rows names) ws = (rs : List Row) × FitsRows rules names rs
+    × MeetAll ws (items_of_rows rs ++ says (codes "ENDSEC") ∷ [])
+Lang rules Body ws = (x : Form) × FitsForm rules x × MeetAll ws (items_of_form x)
+Lang rules (PartialRecords before) ws = (ps : List Record) × (0 < length before + length ps)
+    × FitsPartialRecords rules before ps × MeetAll ws (items_of_partial_records ps ++ this (mark Close) ∷ [])
+Lang rules (Value n) ws = (x : Tree) × FitsTree rules n x × MeetAll ws (items_of_tree x)
+Lang rules (Items n) ws = (xs : Trees) × FitsTrees rules n xs × MeetAll ws (items_of_list xs)
+Lang rules (More n) ws = (xs : Trees) × FitsTrees rules n xs × MeetAll ws (items_of_more xs ++ this (mark Close) ∷ [])
+Lang rules Finish ws = MeetAll ws (this ends ∷ [])
+Lang rules EndOfText ws = MeetAll ws (finish ∷ [])
 
 -- .. one after another
-abbrev pub Langs : Rules → List Symbol → List LocatedToken → List LocatedToken → Type 0
-Langs rules [] s rest = s ≡ rest
-Langs rules (y ∷ ys) s rest = (m : List LocatedToken) × Lang rules y s m × Langs rules ys m rest
+abbrev pub Langs : Rules → List Symbol → List Lookahead → Type 0
+Langs rules [] ws = ws ≡ []
+Langs rules (y ∷ ys) ws = (u v : List Lookahead) × (ws ≡ u ++ v) × Lang rules y u × Langs rules ys v
 
-pub langs_split : (rules : Rules) (zs ys : List Symbol) (s rest : List LocatedToken) → Langs rules (zs ++ ys) s rest
-    → (m : List LocatedToken) × Langs rules zs s m × Langs rules ys m rest
-langs_split rules [] ys s rest h = (s, refl, h)
-langs_split rules (z ∷ zs) ys s rest h = let p = langs_split rules zs ys h.0 rest h.2 in (p.0, (h.0, h.1, p.1), p.2)
+pub langs_split : (rules : Rules) (zs ys : List Symbol) (ws : List Lookahead) → Langs rules (zs ++ ys) ws
+    → (u v : List Lookahead) × (ws ≡ u ++ v) × Langs rules zs u × Langs rules ys v
+langs_split rules [] ys ws h = ([], ws, refl, refl, h)
+langs_split rules (z ∷ zs) ys ws h =
+    let p = langs_split rules zs ys h.1 h.4 in (
+      h.0 ++ p.0,
+      p.1,
+      h.2 ∙ ap (λ l. h.0 ++ l) p.2 ∙ sym (append_assoc h.0 p.0 p.1),
+      (h.0, p.0, refl, h.3, p.3),
+      p.4,
+    )
 
-pub single : (rules : Rules) (y : Symbol) (s rest : List LocatedToken) → Langs rules (y ∷ []) s rest
-    → Lang rules y s rest
-single rules y s rest h = let P : List LocatedToken → Type 0 = λ x. Lang rules y s x in subst P h.2 h.1
+pub single : (rules : Rules) (y : Symbol) (ws : List Lookahead) → Langs rules (y ∷ []) ws → Lang rules y ws
+single rules y ws h = subst (Lang rules y) (sym (append-nil h.0) ∙ ap (λ l. h.0 ++ l) (sym h.4) ∙ sym h.2) h.3
+
+-- some items and others
+joined : (ws u v : List Lookahead) (a b : List Item) → ws ≡ u ++ v → MeetAll u a → MeetAll v b → MeetAll ws (a ++ b)
+joined ws u v a b e h k = subst (λ l. MeetAll l (a ++ b)) (sym e) (meet_join u v a b h k)
 
 -- a symbol is there, if this stands first and then what comes in its place
 abbrev Held : Rules → Symbol → Lookahead → List Symbol → Type 0
-Held rules y x zs = (place : ℕ) (s rest : List LocatedToken) → Langs rules zs s rest → Lang rules y (record {
-  lookahead = x;
-  place = place;
-} ∷ s) rest
+Held rules y s zs = (ws : List Lookahead) → Langs rules zs ws → Lang rules y (s ∷ ws)
 
 abbrev Answer : Rules → Symbol → Lookahead → Next → Type 0
-Answer rules y x v = MatchResult v (Held rules y x) (λ _. Unit {0})
+Answer rules y s v = MatchResult v (Held rules y s) (λ _. Unit {0})
 
 abbrev Production : Rules → Symbol → Lookahead → Type 0
-Production rules y x = Answer rules y x (next rules y x)
+Production rules y s = Answer rules y s (next rules y s)
 
-neither : (rules : Rules) (y : Symbol) (x : Lookahead) (k j : FaultKind) (b : Bool)
-    → Answer rules y x (if b then Err k else Err j)
-neither rules y x k j true = tt
-neither rules y x k j false = tt
+neither : (rules : Rules) (y : Symbol) (s : Lookahead) (k j : FaultKind) (b : Bool)
+    → Answer rules y s (if b then Err k else Err j)
+neither rules y s k j true = tt
+neither rules y s k j false = tt
+
+-- a symbol that a token alone is
+at_end : (rules : Rules) (y : Symbol) (s : Lookahead) (i : Item) → MeetAll (s ∷ []) (i ∷ [])
+    → ((ws : List Lookahead) → MeetAll ws (i ∷ []) → Lang rules y ws) → Held rules y s []
+at_end rules y s i m f = λ ws h. f (s ∷ ws) (subst (λ l. MeetAll (s ∷ l) (i ∷ [])) (sym h) m)
 
 -- marks
 mark_of : ℕ → Mark
@@ -95,79 +108,102 @@ same_mark m k h =
 
 just_held : (rules : Rules) (m k : Mark) (b : Bool) → eqb (mark_code m) (mark_code k) ≡ b
     → Answer rules (Just m) (token (mark k)) (if b then Ok [] else Err (refused (token (mark k))))
-just_held rules m k true g = λ place s rest h. (ap mark (same_mark m k g), h)
+just_held rules m k true g = at_end rules (Just m) (token (mark k)) (this (mark m)) (ap mark (same_mark m k g), tt)
+    (λ ws h. h)
 just_held rules m k false g = tt
 
-just_production : (rules : Rules) (m : Mark) (x : Lookahead) → Production rules (Just m) x
+just_production : (rules : Rules) (m : Mark) (s : Lookahead) → Production rules (Just m) s
 just_production rules m (token (mark k)) = just_held rules m k (eqb (mark_code m) (mark_code k)) refl
-just_production rules m x = tt
+just_production rules m s = tt
 
 open_below : (n levels : ℕ) → ltb n levels ≡ true → n < levels
 open_below n levels h = grind arith
 
 -- a parameter
+leaf_held : (rules : Rules) (n : ℕ) (s : Lookahead) (x : Tree) (i : Item) → FitsTree rules n x → items_of_tree x ≡ i ∷ []
+    → MeetAll (s ∷ []) (i ∷ []) → Held rules (Value n) s []
+leaf_held rules n s x i f e m = at_end rules (Value n) s i m (λ ws h. (
+  x,
+  f,
+  meet_as ws (i ∷ []) (items_of_tree x)
+      (sym e) h,
+))
+
 typed_held : (rules : Rules) (n : ℕ) (text : List ℕ) (b : Bool) → ltb n rules.levels ≡ b
     → Answer rules (Value n) (token (keyword text)) (if b then Ok (Just Open ∷ Value (n + 1) ∷ Just Close ∷ []) else Err
     kinds.TooDeep)
-typed_held rules n text true g = λ place s rest h.
-    let x = h.2.1 in
-    let close = single rules (Just Close) h.2.0 rest h.2.2 in
-    let inner = begins_join h.0 (items_of_tree x.0) h.2.0 (this (mark Close) ∷ []) rest x.2 close in (
+typed_held rules n text true g = λ ws h.
+    let k = h.4 in
+    let x = k.3 in
+    let close = single rules (Just Close) k.1 k.4 in (
       typed text x.0,
       (open_below n rules.levels g, x.1),
-      (refl, begins_join s (this (mark Open) ∷ []) h.0 (items_of_tree x.0 ++ this (mark Close) ∷ []) rest h.1 inner),
+      (
+        refl,
+        joined ws h.0 h.1 (this (mark Open) ∷ []) (items_of_tree x.0 ++ this (mark Close) ∷ []) h.2 h.3
+            (joined h.1 k.0 k.1 (items_of_tree x.0) (this (mark Close) ∷ []) k.2 x.2 close),
+      ),
     )
 typed_held rules n text false g = tt
 
 group_held : (rules : Rules) (n : ℕ) (b : Bool) → ltb n rules.levels ≡ b → Answer rules (Value n) (token (mark Open))
     (if b then Ok (Items (n + 1) ∷ []) else Err kinds.TooDeep)
-group_held rules n true g = λ place s rest h.
-    let xs = single rules (Items (n + 1)) s rest h in
+group_held rules n true g = λ ws h.
+    let xs = single rules (Items (n + 1)) ws h in
     (group xs.0, (open_below n rules.levels g, xs.1), (refl, xs.2))
 group_held rules n false g = tt
 
-value_production : (rules : Rules) (n : ℕ) (x : Lookahead) → Production rules (Value n) x
-value_production rules n (token (mark Dollar)) = λ place s rest h. (leaf (mark Dollar), tt, (refl, h))
-value_production rules n (token (mark Asterisk)) = λ place s rest h. (leaf (mark Asterisk), tt, (refl, h))
-value_production rules n (token (name m text)) = λ place s rest h. (leaf (name m text), tt, (refl, h))
-value_production rules n (token (number text)) = λ place s rest h. (leaf (number text), tt, (refl, h))
-value_production rules n (token (element text)) = λ place s rest h. (leaf (element text), tt, (refl, h))
-value_production rules n (token (string text)) = λ place s rest h. (leaf (string text), tt, (refl, h))
-value_production rules n (token (binary text)) = λ place s rest h. (leaf (binary text), tt, (refl, h))
+value_production : (rules : Rules) (n : ℕ) (s : Lookahead) → Production rules (Value n) s
+value_production rules n (token (mark Dollar)) = leaf_held rules n (token (mark Dollar)) (leaf (mark Dollar))
+    (this (mark Dollar)) tt refl (refl, tt)
+value_production rules n (token (mark Asterisk)) = leaf_held rules n (token (mark Asterisk)) (leaf (mark Asterisk))
+    (this (mark Asterisk)) tt refl (refl, tt)
+value_production rules n (token (name m text)) = leaf_held rules n (token (name m text)) (leaf (name m text))
+    (this (name m text)) tt refl (refl, tt)
+value_production rules n (token (number text)) = leaf_held rules n (token (number text)) (leaf (number text))
+    (this (number text)) tt refl (refl, tt)
+value_production rules n (token (element text)) = leaf_held rules n (token (element text)) (leaf (element text))
+    (this (element text)) tt refl (refl, tt)
+value_production rules n (token (string text)) = leaf_held rules n (token (string text)) (leaf (string text))
+    (this (string text)) tt refl (refl, tt)
+value_production rules n (token (binary text)) = leaf_held rules n (token (binary text)) (leaf (binary text))
+    (this (binary text)) tt refl (refl, tt)
 value_production rules n (token (keyword text)) = typed_held rules n text (ltb n rules.levels) refl
 value_production rules n (token (mark Open)) = group_held rules n (ltb n rules.levels) refl
-value_production rules n x = tt
+value_production rules n s = tt
 
 -- parameters
-list_joined : (s : List LocatedToken) (x : Tree) (m : List LocatedToken) (xs : Trees) (rest : List LocatedToken)
-    → Begins s (items_of_tree x) m → Begins m (items_of_more xs ++ this (mark Close) ∷ []) rest
-    → Begins s (items_of_tree x ++ items_of_more xs ++ this (mark Close) ∷ []) rest
-list_joined s x m xs rest h k =
-    let P : List Item → Type 0 = λ l. Begins s l rest in
+list_joined : (ws u v : List Lookahead) (x : Tree) (xs : Trees) → ws ≡ u ++ v → MeetAll u (items_of_tree x)
+    → MeetAll v (items_of_more xs ++ this (mark Close) ∷ [])
+    → MeetAll ws (items_of_tree x ++ items_of_more xs ++ this (mark Close) ∷ [])
+list_joined ws u v x xs e h k =
     let tail = items_of_more xs ++ this (mark Close) ∷ [] in
-    subst P (sym (append_assoc (items_of_tree x) (items_of_more xs) (this (mark Close) ∷ [])))
-    (begins_join s (items_of_tree x) m tail rest h k)
+    meet_as ws (items_of_tree x ++ tail) (items_of_tree x ++ items_of_more xs ++ this (mark Close) ∷ [])
+    (sym (append_assoc (items_of_tree x) (items_of_more xs) (this (mark Close) ∷ [])))
+    (joined ws u v (items_of_tree x) tail e h k)
 
-items_from_value : (rules : Rules) (n : ℕ) (x : Lookahead) (v : Next) → Answer rules (Value n) x v
-    → Answer rules (Items n) x (then_more n v)
-items_from_value rules n x (Err k) f = tt
-items_from_value rules n x (Ok zs) f = λ place s rest h.
-    let p = langs_split rules zs (More n ∷ []) s rest h in
-    let y = f place s p.0 p.1 in
-    let ys = single rules (More n) p.0 rest p.2 in
-    (one y.0 ys.0, (y.1, ys.1), list_joined (record { lookahead = x; place = place } ∷ s) y.0 p.0 ys.0 rest y.2 ys.2)
+items_from_value : (rules : Rules) (n : ℕ) (s : Lookahead) (v : Next) → Answer rules (Value n) s v
+    → Answer rules (Items n) s (then_more n v)
+items_from_value rules n s (Err k) f = tt
+items_from_value rules n s (Ok zs) f = λ ws h.
+    let p = langs_split rules zs (More n ∷ []) ws h in
+    let y = f p.0 p.3 in
+    let ys = single rules (More n) p.1 p.4 in
+    (one y.0 ys.0, (y.1, ys.1), list_joined (s ∷ ws) (s ∷ p.0) p.1 y.0 ys.0 (ap (λ l. s ∷ l) p.2) y.2 ys.2)
 
-items_production : (rules : Rules) (n : ℕ) (x : Lookahead) → Production rules (Items n) x
-items_production rules n (token (mark Close)) = λ place s rest h. (none, tt, (refl, h))
-items_production rules n x = items_from_value rules n x (next_value rules n x) (value_production rules n x)
+items_production : (rules : Rules) (n : ℕ) (s : Lookahead) → Production rules (Items n) s
+items_production rules n (token (mark Close)) = at_end rules (Items n) (token (mark Close)) (this (mark Close))
+    (refl, tt) (λ ws h. (none, tt, h))
+items_production rules n s = items_from_value rules n s (next_value rules n s) (value_production rules n s)
 
-more_production : (rules : Rules) (n : ℕ) (x : Lookahead) → Production rules (More n) x
-more_production rules n (token (mark Close)) = λ place s rest h. (none, tt, (refl, h))
-more_production rules n (token (mark Comma)) = λ place s rest h.
-    let y = h.1 in
-    let ys = single rules (More n) h.0 rest h.2 in
-    (one y.0 ys.0, (y.1, ys.1), (refl, list_joined s y.0 h.0 ys.0 rest y.2 ys.2))
-more_production rules n x = tt
+more_production : (rules : Rules) (n : ℕ) (s : Lookahead) → Production rules (More n) s
+more_production rules n (token (mark Close)) = at_end rules (More n) (token (mark Close)) (this (mark Close))
+    (refl, tt) (λ ws h. (none, tt, h))
+more_production rules n (token (mark Comma)) = λ ws h.
+    let y = h.3 in
+    let ys = single rules (More n) h.1 h.4 in
+    (one y.0 ys.0, (y.1, ys.1), (refl, list_joined ws h.0 h.1 y.0 ys.0 h.2 y.2 ys.2))
+more_production rules n s = tt
 
 -- a rule that rules nothing out holds where it is asked for
 unruled : (d b : Bool) → (d && b) ≡ false → Where d (b ≡ false)
@@ -179,66 +215,64 @@ unruled_not true true h = refl
 unruled_not true false h = cc
 unruled_not false b h = tt
 
--- the parameters of a record behind its keyword
-part_joined : (s : List LocatedToken) (xs : Trees) (m : List LocatedToken) (items : List Item)
-    (rest : List LocatedToken) (a : List LocatedToken) → Begins s (this (mark Open) ∷ []) a
-    → Begins a (items_of_list xs) m → Begins m items rest → Begins s (this (mark Open) ∷ (items_of_list xs ++ items))
-    rest
-part_joined s xs m items rest a h k l = begins_join s (this (mark Open) ∷ []) a (items_of_list xs ++ items) rest h
-    (begins_join a (items_of_list xs) m items rest k l)
-
-list_behind : (s : List LocatedToken) (xs : Trees) (rest : List LocatedToken) (a : List LocatedToken)
-    → Begins s (this (mark Open) ∷ []) a → Begins a (items_of_list xs) rest
-    → Begins s (this (mark Open) ∷ items_of_list xs) rest
-list_behind s xs rest a h k = begins_join s (this (mark Open) ∷ []) a (items_of_list xs) rest h k
+-- parameters in parentheses, and what is behind them
+params_joined : (ws a b u v : List Lookahead) (xs : Trees) (items : List Item) → ws ≡ a ++ b → b ≡ u ++ v
+    → MeetAll a (this (mark Open) ∷ []) → MeetAll u (items_of_list xs) → MeetAll v items
+    → MeetAll ws (this (mark Open) ∷ (items_of_list xs ++ items))
+params_joined ws a b u v xs items e f h k l = joined ws a b (this (mark Open) ∷ []) (items_of_list xs ++ items) e h
+    (joined b u v (items_of_list xs) items f k l)
 
 -- partial records
-part_held : (rules : Rules) → 1 < rules.levels → (before : List (List ℕ)) (text : List ℕ) (b : Bool)
-    → (rules.distinct && has_keyword text before) ≡ b → Answer rules (Parts before) (token (keyword text))
-    (if b then Err kinds.DuplicateName else Ok (Just Open ∷ Items 2 ∷ Parts (before ++ text ∷ []) ∷ []))
-part_held rules deep before text true g = tt
-part_held rules deep before text false g = λ place s rest h.
-    let xs = h.2.1 in
-    let ps = single rules (Parts (before ++ text ∷ [])) h.2.0 rest h.2.2 in
+partial_held : (rules : Rules) → 1 < rules.levels → (before : List (List ℕ)) (text : List ℕ) (b : Bool)
+    → (rules.distinct && has_keyword text before) ≡ b → Answer rules (PartialRecords before) (token (keyword text))
+    (if b then Err kinds.DuplicateName else Ok (Just Open ∷ Items 2 ∷ PartialRecords (before ++ text ∷ []) ∷ []))
+partial_held rules deep before text true g = tt
+partial_held rules deep before text false g = λ ws h.
+    let k = h.4 in
+    let xs = k.3 in
+    let ps = single rules (PartialRecords (before ++ text ∷ [])) k.1 k.4 in
     let p : Record = record { keyword = text; values = xs.0 } in
-    let close = this (mark Close) ∷ [] in
-    let P : List Item → Type 0 = λ l. Begins s (this (mark Open) ∷ l) rest in (
+    let close = this (mark Close) ∷ [] in (
       p ∷ ps.0,
       omega arith,
       (unruled rules.distinct (has_keyword text before) g, (deep, xs.1), ps.2),
       (
         refl,
-        subst P (sym (append_assoc (items_of_list xs.0) (items_of_partial_records ps.0) close))
-            (part_joined s xs.0 h.2.0 (items_of_partial_records ps.0 ++ close) rest h.0 h.1 xs.2 ps.3),
+        meet_as ws (this (mark Open) ∷ (items_of_list xs.0 ++ (items_of_partial_records ps.0 ++ close)))
+            (this (mark Open) ∷ (items_of_list xs.0 ++ items_of_partial_records ps.0 ++ close))
+            (ap (λ l. this (mark Open) ∷ l) (sym (append_assoc (items_of_list xs.0) (items_of_partial_records ps.0)
+            close)))
+            (params_joined ws h.0 h.1 k.0 k.1 xs.0 (items_of_partial_records ps.0 ++ close) h.2 k.2 h.3 xs.2 ps.3),
       ),
     )
 
-close_held : (rules : Rules) (before : List (List ℕ)) → Answer rules (Parts before) (token (mark Close))
+close_held : (rules : Rules) (before : List (List ℕ)) → Answer rules (PartialRecords before) (token (mark Close))
     (next_close before)
 close_held rules [] = tt
-close_held rules (w ∷ ws) = λ place s rest h. ([], omega arith, tt, (refl, h))
+close_held rules (w ∷ before) = at_end rules (PartialRecords (w ∷ before)) (token (mark Close)) (this (mark Close))
+    (refl, tt) (λ ws h. ([], omega arith, tt, h))
 
-parts_production : (rules : Rules) → 1 < rules.levels → (before : List (List ℕ)) (x : Lookahead)
-    → Production rules (Parts before) x
-parts_production rules deep before (token (keyword text)) = part_held rules deep before text
+partials_production : (rules : Rules) → 1 < rules.levels → (before : List (List ℕ)) (s : Lookahead)
+    → Production rules (PartialRecords before) s
+partials_production rules deep before (token (keyword text)) = partial_held rules deep before text
     (rules.distinct && has_keyword text before) refl
-parts_production rules deep before (token (mark Close)) = close_held rules before
-parts_production rules deep before x = tt
+partials_production rules deep before (token (mark Close)) = close_held rules before
+partials_production rules deep before s = tt
 
-body_production : (rules : Rules) → 1 < rules.levels → (x : Lookahead) → Production rules Body x
-body_production rules deep (token (keyword text)) = λ place s rest h.
-    let xs = single rules (Items 1) h.0 rest h.2 in (
-      internal (record {
-        keyword = text;
-        values = xs.0;
-      }),
-      (omega (arith, deep), xs.1),
-      (refl, list_behind s xs.0 rest h.0 h.1 xs.2),
-    )
-body_production rules deep (token (mark Open)) = λ place s rest h.
-    let ps = single rules (Parts []) s rest h in
+-- parameters in parentheses
+list_held : (rules : Rules) (ws : List Lookahead) → Langs rules record_symbols ws → (xs : Trees)
+    × FitsTrees rules 1 xs × MeetAll ws (this (mark Open) ∷ items_of_list xs)
+list_held rules ws h = let xs = single rules (Items 1) h.1 h.4 in
+    (xs.0, xs.1, joined ws h.0 h.1 (this (mark Open) ∷ []) (items_of_list xs.0) h.2 h.3 xs.2)
+
+body_production : (rules : Rules) → 1 < rules.levels → (s : Lookahead) → Production rules Body s
+body_production rules deep (token (keyword text)) = λ ws h.
+    let xs = list_held rules ws h in
+    (internal (record { keyword = text; values = xs.0 }), (omega (arith, deep), xs.1), (refl, xs.2))
+body_production rules deep (token (mark Open)) = λ ws h.
+    let ps = single rules (PartialRecords []) ws h in
     (external ps.0, (omega (arith, deep), omega (arith, ps.1), ps.2), (refl, ps.3))
-body_production rules deep x = tt
+body_production rules deep s = tt
 
 -- instances
 name_held : (rules : Rules) (names : List ℕ) (n : ℕ) (text : List ℕ) (a b : Bool)
@@ -247,285 +281,287 @@ name_held : (rules : Rules) (names : List ℕ) (n : ℕ) (text : List ℕ) (a b 
     (if b then Ok (row_symbols ++ Rows (names ++ n ∷ []) ∷ []) else Err (kinds.LeftOut left_out.TooMany)))
 name_held rules names n text true b g k = tt
 name_held rules names n text false false g k = tt
-name_held rules names n text false true g k = λ place s rest h.
-    let x = h.2.1 in
-    let semi = h.2.2 in
-    let rs = single rules (Rows (names ++ n ∷ [])) semi.0 rest semi.2 in
+name_held rules names n text false true g k = λ ws h.
+    let form = h.4 in
+    let semi = form.4 in
+    let x = form.3 in
+    let rs = single rules (Rows (names ++ n ∷ [])) semi.1 semi.4 in
     let r : Row = record { name = n; form = x.0 } in
-    let form_items = items_of_form x.0 ++ this (mark Semicolon) ∷ [] in
-    let last = says (codes "ENDSEC") ∷ [] in
-    let form = begins_join h.0 (items_of_form x.0) h.2.0 (this (mark Semicolon) ∷ []) semi.0 x.2 semi.1 in
-    let row = begins_join s (this (mark Equals) ∷ []) h.0 form_items semi.0 h.1 form in
-    let all = begins_join s (this (mark Equals) ∷ form_items) semi.0 (items_of_rows rs.0 ++ last) rest row rs.2 in
-    let P : List Item → Type 0 = λ l. Begins s (this (mark Equals) ∷ l) rest in (
+    let equals = this (mark Equals) ∷ [] in
+    let semicolon = this (mark Semicolon) ∷ [] in
+    let last = items_of_rows rs.0 ++ says (codes "ENDSEC") ∷ [] in
+    let items = items_of_form x.0 ++ semicolon in
+    let e : this (mark Equals) ∷ (items_of_form x.0 ++ (semicolon ++ last)) ≡ this (mark Equals)
+    ∷ (items ++ items_of_rows rs.0 ++ says (codes "ENDSEC") ∷ []) = ap (λ l. this (mark Equals) ∷ l)
+    (sym (append_assoc (items_of_form x.0) semicolon last) ∙ sym (append_assoc items (items_of_rows rs.0)
+    (says (codes "ENDSEC") ∷ []))) in (
       r ∷ rs.0,
       (unruled rules.distinct (has_name n names) g, open_below (length names) rules.instances k, x.1, rs.1),
-      (refl, subst P (sym (append_assoc form_items (items_of_rows rs.0) last)) all),
+      (
+        refl,
+        meet_as ws (this (mark Equals) ∷ (items_of_form x.0 ++ (semicolon ++ last))) (this (mark Equals)
+            ∷ (items ++ items_of_rows rs.0 ++ says (codes "ENDSEC") ∷ [])) e
+            (joined ws h.0 h.1 equals (items_of_form x.0 ++ (semicolon ++ last)) h.2 h.3
+            (joined h.1 form.0 form.1 (items_of_form x.0) (semicolon ++ last) form.2 x.2
+            (joined form.1 semi.0 semi.1 semicolon last semi.2 semi.3 rs.2))),
+      ),
     )
 
 rows_end_held : (rules : Rules) (names : List ℕ) (text : List ℕ) (b : Bool) → is_said (codes "ENDSEC") text ≡ b
     → Answer rules (Rows names) (token (keyword text)) (if b then Ok [] else Err kinds.Expected)
-rows_end_held rules names text true g = λ place s rest h. ([], tt, (g, h))
+rows_end_held rules names text true g = at_end rules (Rows names) (token (keyword text)) (says (codes "ENDSEC"))
+    (g, tt) (λ ws h. ([], tt, h))
 rows_end_held rules names text false g = tt
 
-rows_production : (rules : Rules) (names : List ℕ) (x : Lookahead) → Production rules (Rows names) x
+rows_production : (rules : Rules) (names : List ℕ) (s : Lookahead) → Production rules (Rows names) s
 rows_production rules names (token (name n text)) = name_held rules names n text (rules.distinct && has_name n names)
     (ltb (length names) rules.instances) refl refl
 rows_production rules names (token (keyword text)) = rows_end_held rules names text (is_said (codes "ENDSEC") text) refl
-rows_production rules names x = tt
+rows_production rules names s = tt
 
 -- the header
-records_joined : (rules : Rules) (s : List LocatedToken) (xs : Trees) (m n : List LocatedToken) (ps : List Record)
-    (rest : List LocatedToken) → Begins s (items_of_list xs) m → Begins m (this (mark Semicolon) ∷ []) n
-    → Begins n (items_of_records ps ++ section (codes "ENDSEC")) rest
-    → Begins s (items_of_list xs ++ this (mark Semicolon) ∷ items_of_records ps ++ section (codes "ENDSEC")) rest
-records_joined rules s xs m n ps rest h k l =
-    let last = section (codes "ENDSEC") in
-    let P : List Item → Type 0 = λ i. Begins s i rest in
-    subst P (sym (append_assoc (items_of_list xs) (this (mark Semicolon) ∷ items_of_records ps) last))
-    (begins_join s (items_of_list xs) m (this (mark Semicolon) ∷ (items_of_records ps ++ last)) rest h
-    (begins_join m (this (mark Semicolon) ∷ []) n (items_of_records ps ++ last) rest k l))
+records_joined : (rules : Rules) (ws : List Lookahead) → Langs rules (Items 1 ∷ Just Semicolon ∷ Records ∷ []) ws
+    → (xs : Trees) × (ps : List Record) × FitsTrees rules 1 xs × FitsRecords rules ps
+    × MeetAll ws (items_of_list xs ++ this (mark Semicolon) ∷ items_of_records ps ++ section (codes "ENDSEC"))
+records_joined rules ws h =
+    let k = h.4 in
+    let ps = single rules Records k.1 k.4 in
+    let last = items_of_records ps.0 ++ section (codes "ENDSEC") in
+    let items = items_of_list h.3.0 in (
+      h.3.0,
+      ps.0,
+      h.3.1,
+      ps.1,
+      meet_as ws (items ++ (this (mark Semicolon) ∷ last)) (items ++ this (mark Semicolon) ∷ items_of_records ps.0
+          ++ section (codes "ENDSEC")) (sym (append_assoc items (this (mark Semicolon) ∷ items_of_records ps.0)
+          (section (codes "ENDSEC"))))
+          (joined ws h.0 h.1 items (this (mark Semicolon) ∷ last) h.2 h.3.2
+          (joined h.1 k.0 k.1 (this (mark Semicolon) ∷ []) last k.2 k.3 ps.2)),
+    )
 
-ended_production : (rules : Rules) (x : Lookahead) → Production rules Ended x
-ended_production rules (token (mark Semicolon)) = λ place s rest h. inl (refl, h)
-ended_production rules (token (mark Open)) = λ place s rest h.
-    let xs = h.1 in
-    let ps = single rules Records h.2.0 rest h.2.2 in
-    inr (xs.0, ps.0, xs.1, ps.1, (refl, records_joined rules s xs.0 h.0 h.2.0 ps.0 rest xs.2 h.2.1 ps.2))
-ended_production rules x = tt
+ended_production : (rules : Rules) (s : Lookahead) → Production rules Ended s
+ended_production rules (token (mark Semicolon)) = at_end rules Ended (token (mark Semicolon)) (this (mark Semicolon))
+    (refl, tt) (λ ws h. inl h)
+ended_production rules (token (mark Open)) = λ ws h.
+    let r = records_joined rules ws h in
+    inr (r.0, r.1, r.2, r.3, (refl, r.4))
+ended_production rules s = tt
 
 records_held : (rules : Rules) → 0 < rules.levels → (text : List ℕ) (b : Bool) → is_said (codes "ENDSEC") text ≡ b
     → Answer rules Records (token (keyword text)) (if b then Ok (Ended ∷ []) else Ok (Just Open ∷ Items 1
     ∷ Just Semicolon ∷ Records ∷ []))
-records_held rules deep text true g = λ place s rest h. by place s rest (single rules Ended s rest h)
+records_held rules deep text true g = λ ws h. by ws (single rules Ended ws h)
   where
-    by : (place : ℕ) (s rest : List LocatedToken) → Lang rules Ended s rest → Lang rules Records (record {
-      lookahead = token (keyword text);
-      place = place;
-    } ∷ s) rest
-    by place s rest (inl k) = ([], tt, (g, k))
-    by place s rest (inr k) = let p : Record = record {
+    by : (ws : List Lookahead) → Lang rules Ended ws → Lang rules Records (token (keyword text) ∷ ws)
+    by ws (inl k) = ([], tt, (g, k))
+    by ws (inr k) = let p : Record = record {
       keyword = text;
       values = k.0;
     } in (p ∷ k.1, ((deep, k.2), k.3), (refl, k.4))
-records_held rules deep text false g = λ place s rest h.
-    let xs = h.2.1 in
-    let ps = single rules Records h.2.2.0 rest h.2.2.2 in
-    let p : Record = record { keyword = text; values = xs.0 } in
-    let items = items_of_list xs.0 ++ this (mark Semicolon) ∷ items_of_records ps.0 ++ section (codes "ENDSEC") in (
-      p ∷ ps.0,
-      ((deep, xs.1), ps.1),
-      (
-        refl,
-        begins_join s (this (mark Open) ∷ []) h.0 items rest h.1
-            (records_joined rules h.0 xs.0 h.2.0 h.2.2.0 ps.0 rest xs.2 h.2.2.1 ps.2),
-      ),
-    )
+records_held rules deep text false g = λ ws h.
+    let r = records_joined rules h.1 h.4 in
+    let p : Record = record { keyword = text; values = r.0 } in
+    let items = items_of_list r.0 ++ this (mark Semicolon) ∷ items_of_records r.1 ++ section (codes "ENDSEC") in
+    (p ∷ r.1, ((deep, r.2), r.3), (refl, joined ws h.0 h.1 (this (mark Open) ∷ []) items h.2 h.3 r.4))
 
-records_production : (rules : Rules) → 0 < rules.levels → (x : Lookahead) → Production rules Records x
+records_production : (rules : Rules) → 0 < rules.levels → (s : Lookahead) → Production rules Records s
 records_production rules deep (token (keyword text)) = records_held rules deep text (is_said (codes "ENDSEC") text) refl
-records_production rules deep x = tt
+records_production rules deep s = tt
 
 head_held : (rules : Rules) → 0 < rules.levels → (word text : List ℕ) (b : Bool)
     → (rules.headed && not (is_said word text)) ≡ b → Answer rules (Head word) (token (keyword text))
     (if b then Err kinds.HeaderFault else Ok record_symbols)
 head_held rules deep word text true g = tt
-head_held rules deep word text false g = λ place s rest h.
-    let xs = single rules (Items 1) h.0 rest h.2 in (
-      record {
-        keyword = text;
-        values = xs.0;
-      },
+head_held rules deep word text false g = λ ws h.
+    let xs = list_held rules ws h in (
+      record { keyword = text; values = xs.0 },
       (deep, xs.1),
       unruled_not rules.headed (is_said word text) g,
-      (refl, list_behind s xs.0 rest h.0 h.1 xs.2),
+      (refl, xs.2),
     )
 
-head_production : (rules : Rules) → 0 < rules.levels → (word : List ℕ) (x : Lookahead) → Production rules (Head word) x
+head_production : (rules : Rules) → 0 < rules.levels → (word : List ℕ) (s : Lookahead) → Production rules (Head word) s
 head_production rules deep word (token (keyword text)) = head_held rules deep word text
     (rules.headed && not (is_said word text)) refl
-head_production rules deep word x = tt
+head_production rules deep word s = tt
 
 -- words and marks
 said_held : (rules : Rules) (y : Symbol) (word text : List ℕ) (k : FaultKind) (b : Bool) → is_said word text ≡ b
-    → ((s rest : List LocatedToken) → Begins s (says word ∷ []) rest → Lang rules y s rest)
+    → ((ws : List Lookahead) → MeetAll ws (says word ∷ []) → Lang rules y ws)
     → Answer rules y (token (keyword text)) (if b then Ok [] else Err k)
-said_held rules y word text k true g f = λ place s rest h. f (record {
-  lookahead = token (keyword text);
-  place = place;
-} ∷ s) rest (g, h)
+said_held rules y word text k true g f = at_end rules y (token (keyword text)) (says word) (g, tt) f
 said_held rules y word text k false g f = tt
 
-say_production : (rules : Rules) (word : List ℕ) (x : Lookahead) → Production rules (Say word) x
+say_production : (rules : Rules) (word : List ℕ) (s : Lookahead) → Production rules (Say word) s
 say_production rules word (token (keyword text)) = said_held rules (Say word) word text kinds.Expected
-    (is_said word text) refl (λ s rest h. h)
-say_production rules word x = tt
+    (is_said word text) refl (λ ws h. h)
+say_production rules word s = tt
 
-data_production : (rules : Rules) (x : Lookahead) → Production rules Data x
+data_production : (rules : Rules) (s : Lookahead) → Production rules Data s
 data_production rules (token (keyword text)) = said_held rules Data (codes "DATA") text (section_kind text)
-    (is_said (codes "DATA") text) refl (λ s rest h. h)
-data_production rules x = tt
+    (is_said (codes "DATA") text) refl (λ ws h. h)
+data_production rules s = tt
 
-start_production : (rules : Rules) (x : Lookahead) → Production rules Start x
-start_production rules (token begins) = λ place s rest h. (refl, h)
-start_production rules x = tt
+start_production : (rules : Rules) (s : Lookahead) → Production rules Start s
+start_production rules (token begins) = at_end rules Start (token begins) (this begins) (refl, tt) (λ ws h. h)
+start_production rules s = tt
 
-behind_production : (rules : Rules) (x : Lookahead) → Production rules Behind x
-behind_production rules (token (mark Semicolon)) = λ place s rest h. (refl, h)
-behind_production rules x = tt
+behind_production : (rules : Rules) (s : Lookahead) → Production rules Behind s
+behind_production rules (token (mark Semicolon)) = at_end rules Behind (token (mark Semicolon)) (this (mark Semicolon))
+    (refl, tt) (λ ws h. h)
+behind_production rules s = tt
 
-finish_production : (rules : Rules) (x : Lookahead) → Production rules Finish x
-finish_production rules (token ends) = λ place s rest h. (refl, h)
+finish_production : (rules : Rules) (s : Lookahead) → Production rules Finish s
+finish_production rules (token ends) = at_end rules Finish (token ends) (this ends) (refl, tt) (λ ws h. h)
 finish_production rules (token (keyword text)) = neither rules Finish (token (keyword text))
     (kinds.LeftOut left_out.Sections) (section_kind text) (is_said (codes "DATA") text)
-finish_production rules x = tt
+finish_production rules s = tt
 
-over_production : (rules : Rules) (x : Lookahead) → Production rules EndOfText x
-over_production rules end_of_text = λ place s rest h. (tt, h)
+over_production : (rules : Rules) (s : Lookahead) → Production rules EndOfText s
+over_production rules end_of_text = at_end rules EndOfText end_of_text finish (tt, tt) (λ ws h. h)
 over_production rules (token (keyword text)) = neither rules EndOfText (token (keyword text))
     (kinds.LeftOut left_out.Signature) kinds.Expected (is_said (codes "SIGNATURE") text)
-over_production rules x = tt
+over_production rules s = tt
 
-production : (rules : Rules) → 1 < rules.levels → (y : Symbol) (x : Lookahead) → Production rules y x
-production rules deep (Just m) x = just_production rules m x
-production rules deep Start x = start_production rules x
-production rules deep (Say word) x = say_production rules word x
-production rules deep (Head word) x = head_production rules (omega (arith, deep)) word x
-production rules deep Records x = records_production rules (omega (arith, deep)) x
-production rules deep Ended x = ended_production rules x
-production rules deep Data x = data_production rules x
-production rules deep Behind x = behind_production rules x
-production rules deep (Rows names) x = rows_production rules names x
-production rules deep Body x = body_production rules deep x
-production rules deep (Parts before) x = parts_production rules deep before x
-production rules deep (Value n) x = value_production rules n x
-production rules deep (Items n) x = items_production rules n x
-production rules deep (More n) x = more_production rules n x
-production rules deep Finish x = finish_production rules x
-production rules deep EndOfText x = over_production rules x
+production : (rules : Rules) → 1 < rules.levels → (y : Symbol) (s : Lookahead) → Production rules y s
+production rules deep (Just m) s = just_production rules m s
+production rules deep Start s = start_production rules s
+production rules deep (Say word) s = say_production rules word s
+production rules deep (Head word) s = head_production rules (omega (arith, deep)) word s
+production rules deep Records s = records_production rules (omega (arith, deep)) s
+production rules deep Ended s = ended_production rules s
+production rules deep Data s = data_production rules s
+production rules deep Behind s = behind_production rules s
+production rules deep (Rows names) s = rows_production rules names s
+production rules deep Body s = body_production rules deep s
+production rules deep (PartialRecords before) s = partials_production rules deep before s
+production rules deep (Value n) s = value_production rules n s
+production rules deep (Items n) s = items_production rules n s
+production rules deep (More n) s = more_production rules n s
+production rules deep Finish s = finish_production rules s
+production rules deep EndOfText s = over_production rules s
 
--- what passes is what was asked for
-pub sound : (rules : Rules) → 1 < rules.levels → (s : List LocatedToken) (ys : List Symbol) (rest : List LocatedToken)
-    → run rules ys s ≡ passes rest → Langs rules ys s rest
-sound rules deep s [] rest e = cc
-sound rules deep [] (y ∷ ys) rest e = cc
-sound rules deep (t ∷ s) (y ∷ ys) rest e = by (λ zs g. sound rules deep s zs rest g) (next rules y t.lookahead)
-    (production rules deep y t.lookahead) e
-  where
-    by : ((zs : List Symbol) → run rules zs s ≡ passes rest → Langs rules zs s rest) → (v : Next)
-        → Answer rules y t.lookahead v → step_on t.place (λ zs. run rules zs s) ys v ≡ passes rest
-        → Langs rules (y ∷ ys) (t ∷ s) rest
-    by go (Err k) f g = cc
-    by go (Ok zs) f g =
-        let p = langs_split rules zs ys s rest (go (zs ++ ys) g) in
-        (p.0, f t.place s p.0 p.1, p.2)
+-- what leads to nothing more is what was asked for
+pub sound : (rules : Rules) → 1 < rules.levels → (ws : List Lookahead) (ys : List Symbol) → Leads (next rules) ys ws []
+    → Langs rules ys ws
+sound rules deep [] [] h = refl
+sound rules deep [] (y ∷ ys) h = absurd cc
+sound rules deep (s ∷ ws) [] h = absurd h
+sound rules deep (s ∷ ws) (y ∷ ys) h =
+    let p = langs_split rules h.0 ys ws (sound rules deep ws (h.0 ++ ys) h.2) in
+    let P : Next → Type 0 = Answer rules y s in
+    let held : Held rules y s h.0 = subst P h.1 (production rules deep y s) in
+    (s ∷ p.0, p.1, ap (λ l. s ∷ l) p.2, held p.0 p.3, p.4)
 
-where_three : (d : Bool) (A B C : Type 0) → Where d A → Where d B → Where d C → Where d (A × B × C)
-where_three true A B C a b c = (a, b, c)
-where_three false A B C a b c = tt
+where_three : (A B C : Type 0) → (d : Bool) → Where d A → Where d B → Where d C → Where d (A × B × C)
+where_three A B C true a b c = (a, b, c)
+where_three A B C false a b c = tt
 
 -- what begins the file, and the first three records of the header
-pub opening_of : (rules : Rules) (s rest : List LocatedToken) → Langs rules opening_symbols s rest → (p : Record)
-    × (q : Record) × (r : Record) × FitsRecords rules (p ∷ q ∷ r ∷ []) × Where rules.headed (IsHeader (p ∷ q ∷ r ∷ []))
-    × Begins s (items_of_opening p q r) rest
-opening_of rules s rest h1 =
+abbrev pub IsOpened : Rules → List Lookahead → Type 0
+IsOpened rules ws = (p q r : Record) × FitsRecords rules (p ∷ q ∷ r ∷ []) × Where rules.headed (IsHeader (p ∷ q ∷ r
+    ∷ [])) × MeetAll ws (items_of_opening p q r)
+
+pub opening_of : (rules : Rules) (ws : List Lookahead) → Langs rules opening_symbols ws → IsOpened rules ws
+opening_of rules ws a =
     let semi = this (mark Semicolon) in
-    let h2 = h1.2 in
-    let h3 = h2.2 in
-    let h4 = h3.2 in
-    let h5 = h4.2 in
-    let h6 = h5.2 in
-    let h7 = h6.2 in
-    let h8 = h7.2 in
-    let p = h5.1 in
-    let q = h7.1 in
-    let r = single rules (Head (codes "FILE_SCHEMA")) h8.0 rest h8.2 in
-    let a = items_of_record p.0 in
-    let b = items_of_record q.0 in
-    let c = items_of_record r.0 in
+    let b = a.4 in
+    let c = b.4 in
+    let d = c.4 in
+    let e = d.4 in
+    let f = e.4 in
+    let g = f.4 in
+    let h = g.4 in
+    let p = e.3 in
+    let q = g.3 in
+    let r = single rules (Head (codes "FILE_SCHEMA")) h.1 h.4 in
+    let x = items_of_record p.0 in
+    let y = items_of_record q.0 in
+    let z = items_of_record r.0 in
     let word = says (codes "HEADER") in
-    let P : List Item → Type 0 = λ l. Begins h4.0 l rest in
-    let first = begins_join h4.0 a h5.0 (semi ∷ (b ++ semi ∷ c)) rest p.3
-    (begins_join h5.0 (semi ∷ []) h6.0 (b ++ semi ∷ c) rest h6.1
-    (begins_join h6.0 b h7.0 (semi ∷ c) rest q.3
-    (begins_join h7.0 (semi ∷ []) h8.0 c rest h8.1 r.3))) in
-    let three = a ++ semi ∷ (b ++ semi ∷ []) ++ c in
-    let regrouped = subst P (sym (regroup_two a semi b c)) first in (
+    let three = x ++ (semi ∷ (y ++ (semi ∷ z))) in
+    let all = this begins ∷ semi ∷ word ∷ semi ∷ three in (
       p.0,
       q.0,
       r.0,
       (p.1, (q.1, (r.1, tt))),
-      where_three rules.headed (is_said (codes "FILE_DESCRIPTION") p.0.keyword ≡ true)
-          (is_said (codes "FILE_NAME") q.0.keyword ≡ true) (is_said (codes "FILE_SCHEMA") r.0.keyword ≡ true) p.2 q.2
-          r.2,
-      begins_join s (this begins ∷ []) h1.0 (semi ∷ word ∷ semi ∷ three) rest h1.1
-          (begins_join h1.0 (semi ∷ []) h2.0 (word ∷ semi ∷ three) rest h2.1
-          (begins_join h2.0 (word ∷ []) h3.0 (semi ∷ three) rest h3.1
-          (begins_join h3.0 (semi ∷ []) h4.0 three rest h4.1 regrouped))),
+      where_three _ _ _ rules.headed p.2 q.2 r.2,
+      meet_as ws all (items_of_opening p.0 q.0 r.0) (ap (λ l. items_of_start ++ l) (sym (regroup_two x semi y z)))
+          (joined ws a.0 a.1 (this begins ∷ []) (semi ∷ word ∷ semi ∷ three) a.2 a.3
+          (joined a.1 b.0 b.1 (semi ∷ []) (word ∷ semi ∷ three) b.2 b.3
+          (joined b.1 c.0 c.1 (word ∷ []) (semi ∷ three) c.2 c.3
+          (joined c.1 d.0 d.1 (semi ∷ []) three d.2 d.3
+          (joined d.1 e.0 e.1 x (semi ∷ (y ++ (semi ∷ z))) e.2 p.3
+          (joined e.1 f.0 f.1 (semi ∷ []) (y ++ (semi ∷ z)) f.2 f.3
+          (joined f.1 g.0 g.1 y (semi ∷ z) g.2 q.3
+          (joined g.1 h.0 h.1 (semi ∷ []) z h.2 h.3 r.3)))))))),
     )
 
 -- the header
-pub header_of : (rules : Rules) (s rest : List LocatedToken) → Langs rules (opening_symbols ++ Just Semicolon ∷ Records
-    ∷ []) s rest → (header : List Record) × FitsHeader rules header × Begins s (items_of_header header) rest
-header_of rules s rest h =
-    let parts = langs_split rules opening_symbols (Just Semicolon ∷ Records ∷ []) s rest h in
-    let x = opening_of rules s parts.0 parts.1 in
-    let more = single rules Records parts.2.0 rest parts.2.2 in
-    let last = items_of_records more.0 ++ section (codes "ENDSEC") in
-    let P : List Item → Type 0 = λ l. Begins s l rest in (
+abbrev pub IsHeaded : Rules → List Lookahead → Type 0
+IsHeaded rules ws = (header : List Record) × FitsHeader rules header × MeetAll ws (items_of_header header)
+
+pub header_of : (rules : Rules) (ws : List Lookahead) → Langs rules header_symbols ws → IsHeaded rules ws
+header_of rules ws h =
+    let l = langs_split rules opening_symbols (Just Semicolon ∷ Records ∷ []) ws h in
+    let x = opening_of rules l.0 l.3 in
+    let more = single rules Records l.4.1 l.4.4 in
+    let last = items_of_records more.0 ++ section (codes "ENDSEC") in (
       x.0 ∷ x.1 ∷ x.2 ∷ more.0,
       ((x.3.0, (x.3.1.0, (x.3.1.1.0, more.1))), tt, x.4),
-      subst P (sym (header_items x.0 x.1 x.2 more.0))
-          (begins_join s (items_of_opening x.0 x.1 x.2) parts.0 (this (mark Semicolon) ∷ last) rest x.5
-          (begins_join parts.0 (this (mark Semicolon) ∷ []) parts.2.0 last rest parts.2.1 more.2)),
+      meet_as ws (items_of_opening x.0 x.1 x.2 ++ (this (mark Semicolon) ∷ last)) (items_of_header (x.0 ∷ x.1 ∷ x.2
+          ∷ more.0)) (sym (header_items x.0 x.1 x.2 more.0))
+          (joined ws l.0 l.1 (items_of_opening x.0 x.1 x.2) (this (mark Semicolon) ∷ last) l.2 x.5
+          (joined l.1 l.4.0 l.4.1 (this (mark Semicolon) ∷ []) last l.4.2 l.4.3 more.2)),
     )
 
 -- the data section
-pub data_of : (rules : Rules) (s rest : List LocatedToken) → Langs rules (Data ∷ Behind ∷ Rows [] ∷ Just Semicolon ∷ [])
-    s rest → (rs : List Row) × FitsRows rules [] rs × Begins s (items_of_data rs) rest
-data_of rules s rest h =
-    let semi = this (mark Semicolon) in
-    let behind = h.2 in
-    let rows = behind.2 in
-    let rs = rows.1 in
-    let close = single rules (Just Semicolon) rows.0 rest rows.2 in
-    let all = items_of_rows rs.0 ++ section (codes "ENDSEC") in
-    let P : List Item → Type 0 = λ l. Begins behind.0 l rest in (
+pub data_of : (rules : Rules) (ws : List Lookahead) → Langs rules section_symbols ws → (rs : List Row)
+    × FitsRows rules [] rs × MeetAll ws (items_of_data rs)
+data_of rules ws h =
+    let semi = this (mark Semicolon) ∷ [] in
+    let word = says (codes "ENDSEC") ∷ [] in
+    let behind = h.4 in
+    let rows = behind.4 in
+    let rs = rows.3 in
+    let close = single rules (Just Semicolon) rows.1 rows.4 in
+    let lines = items_of_rows rs.0 in
+    let all = lines ++ section (codes "ENDSEC") in (
       rs.0,
       rs.1,
-      begins_join s (says (codes "DATA") ∷ []) h.0 (semi ∷ all) rest h.1
-          (begins_join h.0 (semi ∷ []) behind.0 all rest behind.1
-          (subst P (append_assoc (items_of_rows rs.0) (says (codes "ENDSEC") ∷ []) (semi ∷ []))
-          (begins_join behind.0 (items_of_rows rs.0 ++ says (codes "ENDSEC") ∷ []) rows.0 (semi ∷ []) rest rs.2
-          close))),
+      joined ws h.0 h.1 (says (codes "DATA") ∷ []) (semi ++ all) h.2 h.3
+          (joined h.1 behind.0 behind.1 semi all behind.2 behind.3
+          (meet_as behind.1 ((lines ++ word) ++ semi) all (append_assoc lines word semi)
+          (joined behind.1 rows.0 rows.1 (lines ++ word) semi rows.2 rs.2 close))),
     )
 
--- the end of the file
-pub end_of : (rules : Rules) (s rest : List LocatedToken) → Langs rules (Finish ∷ Just Semicolon ∷ EndOfText ∷ []) s
-    rest → Begins s items_of_end rest
-end_of rules s rest h =
-    let semi = this (mark Semicolon) in
-    begins_join s (this ends ∷ []) h.0 (semi ∷ finish ∷ []) rest h.1
-    (begins_join h.0 (semi ∷ []) h.2.0 (finish ∷ []) rest h.2.1 (single rules EndOfText h.2.0 rest h.2.2))
+-- the header and the data section
+abbrev pub IsSectioned : Rules → List Lookahead → Type 0
+IsSectioned rules ws = (x : File) × FitsFile rules x × MeetAll ws (items_of_header x.header ++ items_of_data x.rows)
+
+pub sections_of : (rules : Rules) (ws : List Lookahead) → Langs rules (header_symbols ++ section_symbols) ws
+    → IsSectioned rules ws
+sections_of rules ws h =
+    let l = langs_split rules header_symbols section_symbols ws h in
+    let header = header_of rules l.0 l.3 in
+    let rows = data_of rules l.1 l.4 in (
+      record { header = header.0; rows = rows.0 },
+      (header.1, rows.1),
+      joined ws l.0 l.1 (items_of_header header.0) (items_of_data rows.0) l.2 header.2 rows.2,
+    )
 
 -- a whole structure
-pub file_of : (rules : Rules) (s rest : List LocatedToken) → Langs rules file_symbols s rest → (x : File)
-    × FitsFile rules x × Begins s (items_of_file x) rest
-file_of rules s rest h =
-    let a = langs_split rules (opening_symbols ++ Just Semicolon ∷ Records ∷ []) data_symbols s rest h in
-    let b = langs_split rules (Data ∷ Behind ∷ Rows [] ∷ Just Semicolon ∷ []) (Finish ∷ Just Semicolon ∷ EndOfText ∷ [])
-    a.0 rest a.2 in
-    let header = header_of rules s a.0 a.1 in
-    let rows = data_of rules a.0 b.0 b.1 in
-    let last = end_of rules b.0 rest b.2 in
-    let x : File = record { header = header.0; rows = rows.0 } in (
-      x,
-      (header.1, rows.1),
-      begins_join s (items_of_header header.0 ++ items_of_data rows.0) b.0 items_of_end rest
-          (begins_join s (items_of_header header.0) a.0 (items_of_data rows.0) b.0 header.2 rows.2) last,
+pub file_of : (rules : Rules) (ws : List Lookahead) → Langs rules file_symbols ws → IsFile rules ws
+file_of rules ws h =
+    let semi = this (mark Semicolon) ∷ [] in
+    let l = langs_split rules (header_symbols ++ section_symbols) end_symbols ws h in
+    let x = sections_of rules l.0 l.3 in
+    let e = l.4 in
+    let m = e.4 in
+    let last = single rules EndOfText m.1 m.4 in (
+      x.0,
+      x.1,
+      joined ws l.0 l.1 (items_of_header x.0.header ++ items_of_data x.0.rows) items_of_end l.2 x.2
+          (joined l.1 e.0 e.1 (this ends ∷ []) (semi ++ finish ∷ []) e.2 e.3
+          (joined e.1 m.0 m.1 semi (finish ∷ []) m.2 m.3 last)),
     )
-
--- what passes as a whole is a structure
-pub sound_file : (rules : Rules) → 1 < rules.levels → (s rest : List LocatedToken) → run rules file_symbols s ≡ passes
-    rest → (x : File) × FitsFile rules x × Begins s (items_of_file x) rest
-sound_file rules deep s rest e = file_of rules s rest (sound rules deep s file_symbols rest e)

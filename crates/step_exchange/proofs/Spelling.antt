@@ -5,6 +5,7 @@ use Rattle.std.proofs.lemmas.Bool.Decides.{nat_tests}
 use Rattle.std.proofs.lemmas.List.{append_cancel_right}
 use Rattle.std.proofs.lemmas.Slice.Eq.{bytes_eq-Decides}
 use Rattle.std.proofs.lemmas.Str.Ascii.{lowercase-uppercase}
+use Rattle.predictive.specs.Tables.{lookaheads}
 use Rattle.step_lexis.specs.declared.token.Sort.{Sort}
 use Rattle.step_lexis.specs.declared.token.Sort.TheVariants as sorts
 use Rattle.step_literals.specs.Bytes.{is_letter, is_word_byte, Each}
@@ -15,7 +16,7 @@ use Rattle.step_lexis.specs.Front.{kind_of, HasValue}
 use Rattle.step_lexis.specs.Reading.{Reading}
 use Rattle.step_lexis.proofs.Standing.{stands}
 use Rattle.step_exchange.specs.Words.{Word, begins, ends, keyword, user_defined, scope, name, number, element, string, binary, mark, word_of, token, end_of_text, LocatedToken, Shows, shows_token, shows_fault, shows_end, ShowsAll}
-use Rattle.step_exchange.specs.Trees.{Item, this, says, named, finish, Meets, Begins, is_said}
+use Rattle.step_exchange.specs.Trees.{Item, this, says, named, finish, Meets, MeetAll, is_said}
 use Rattle.step_literals.specs.Words.{upper}
 use Rattle.step_exchange.proofs.HeaderKept.{no_flaw}
 
@@ -132,7 +133,7 @@ item_spelt x i old next (shows_fault f h e) m = absurd (no_flaw f.flaw i (subst 
 item_spelt x i old next (shows_end h e) m = end_spelt i (subst (λ y. Meets y.lookahead i) e m)
 
 -- what is read is spelt
-pub all_spelt : (items : List Item) (s : List LocatedToken) (old new : Reading) → ShowsAll old s new → Begins s items []
+pub all_spelt : (items : List Item) (s : List LocatedToken) (old new : Reading) → ShowsAll old s new → MeetAll (lookaheads s) items
     → AllSpelt items
 all_spelt [] s old new h b = tt
 all_spelt (i ∷ is) [] old new h b = absurd b

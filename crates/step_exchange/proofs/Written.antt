@@ -250,7 +250,7 @@ this_meets w = refl
 -- a text that is written as the items ask is read as they ask
 pub written_reads : (items : List Item) (text left : List ℕ) (place : ℕ) → place ≤ length text → drop place text ≡ left
     → AllSpelt items → Written items left → Read items text place
-written_reads [] text left place within here s w = (at text place, ([], refl, refl))
+written_reads [] text left place within here s w = (at text place, ([], refl, tt))
 written_reads (this v ∷ is) text left place within here s w =
     word_read (this v) is text left w.1 w.0 place v (token_of v s.0) within here w.4.1 w.2 w.4.0 (this_meets v)
     (λ after k e. written_reads is text w.1 after k e s.1 w.3)

@@ -4,6 +4,7 @@ pub mod Fits
 pub mod Texts
 pub mod Views
 pub mod Predict
+pub mod Steps
 pub mod Normal
 pub mod Exchanges
 pub mod FaultTexts

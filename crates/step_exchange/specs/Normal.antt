@@ -82,12 +82,12 @@ abbrev mutual
   normal_trees none = none
   normal_trees (one x xs) = one (normal_tree x) (normal_trees xs)
 
-abbrev pub normal_part : Record → Record
-normal_part p = record { keyword = upper p.keyword; values = normal_trees p.values }
+abbrev pub normal_record : Record → Record
+normal_record p = record { keyword = upper p.keyword; values = normal_trees p.values }
 
 abbrev pub normal_form : Form → Form
-normal_form (internal p) = internal (normal_part p)
-normal_form (external ps) = external (map normal_part ps)
+normal_form (internal p) = internal (normal_record p)
+normal_form (external ps) = external (map normal_record ps)
 
 abbrev pub normal_row : Row → Row
 normal_row r = record { name = r.name; form = normal_form r.form }

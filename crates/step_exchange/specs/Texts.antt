@@ -1,6 +1,7 @@
 -- What exchange structure a text reads as, and the fault that shows first where it reads as none
 -- (ISO 10303-21, 5 to 11).
 use Rattle.std.specs.Prelude.{◌≡◌, ℕ, ◌+◌, ◌-◌, true, false, List, [], ◌∷◌, ◌++◌, take, drop, codes, ◌⊎◌}
+use Rattle.predictive.specs.Tables.{lookaheads}
 use Rattle.step_lexis.specs.declared.token.Mark.TheVariants.{Open, Semicolon}
 use Rattle.step_lexis.specs.Reading.{Reading, Reaches, start}
 use Rattle.step_exchange.specs.declared.fault.FaultKind.{FaultKind}
@@ -10,12 +11,12 @@ use Rattle.step_exchange.specs.declared.fault.TextFault.{TextFault}
 use Rattle.step_exchange.specs.declared.fault.TextFault.TheVariants as faults
 use Rattle.step_exchange.specs.declared.fault.LeftOut.TheVariants.{UserDefined, Scope, Anchor, Reference, Signature, Sections, TooMany}
 use Rattle.step_exchange.specs.Words.{keyword, user_defined, scope, mark, Lookahead, token, flawed, LocatedToken, Shows, ShowsAll}
-use Rattle.step_exchange.specs.Trees.{Record, File, Item, this, says, Begins, is_said, items_of_record, items_of_records, items_of_start, items_of_header, items_of_data, items_of_end, items_of_file}
+use Rattle.step_exchange.specs.Trees.{Record, File, Item, this, says, MeetAll, is_said, items_of_record, items_of_records, items_of_start, items_of_header, items_of_data, items_of_end, items_of_file}
 use Rattle.step_exchange.specs.Fits.{Rules, the_rules, FitsFile, FitsHeader, FitsRecords, IsHeader, HasSchema, NamesSchema, Where}
 
 -- from one place of a text to another stands what the items ask for
 abbrev pub Reads : Reading → List Item → Reading → Type 0
-Reads old items new = (s : List LocatedToken) × ShowsAll old s new × Begins s items []
+Reads old items new = (s : List LocatedToken) × ShowsAll old s new × MeetAll (lookaheads s) items
 
 -- The text reads as this structure, and its header bytes, from the first token through the semicolon of the
 -- header's end, are these.
@@ -39,46 +40,46 @@ abbrev pub items_of_opening : Record → Record → Record → List Item
 items_of_opening p q r = items_of_start ++ items_of_records (p ∷ q ∷ []) ++ items_of_record r
 
 -- once the semicolon of the three records stands among the tokens, the third one names one schema
-abbrev pub HoldsSchema : Rules → List LocatedToken → Type 0
-HoldsSchema rules s = (p q r : Record) (rest : List LocatedToken) → FitsRecords rules (p ∷ q ∷ r ∷ [])
-    → IsHeader (p ∷ q ∷ r ∷ []) → Begins s (items_of_opening p q r ++ this (mark Semicolon) ∷ []) rest
-    → NamesSchema r.values
+abbrev pub HoldsSchema : Rules → List Lookahead → Type 0
+HoldsSchema rules s = (p q r : Record) (first rest : List Lookahead) → s ≡ first ++ rest
+    → FitsRecords rules (p ∷ q ∷ r ∷ []) → IsHeader (p ∷ q ∷ r ∷ [])
+    → MeetAll first (items_of_opening p q r ++ this (mark Semicolon) ∷ []) → NamesSchema r.values
 
 -- the tokens so far are a viable prefix: some structure's tokens begin with them
-pub record IsViablePrefix (rules : Rules) (s : List LocatedToken) : Type 0 where
-  pub rest : List LocatedToken
+pub record IsViablePrefix (rules : Rules) (s : List Lookahead) : Type 0 where
+  pub rest : List Lookahead
   pub file : File
   pub fits : FitsFile rules file
-  pub tokens : Begins (s ++ rest) (items_of_file file) []
+  pub tokens : MeetAll (s ++ rest) (items_of_file file)
   pub schema : Where rules.headed (HoldsSchema rules s)
 
 -- the tokens so far are a header, or a header and a data section, or a whole structure
-abbrev pub EndsHeader : List LocatedToken → Type 0
-EndsHeader s = (header : List Record) × FitsHeader the_rules header × Begins s (items_of_header header) []
+abbrev pub EndsHeader : List Lookahead → Type 0
+EndsHeader s = (header : List Record) × FitsHeader the_rules header × MeetAll s (items_of_header header)
 
-abbrev pub EndsData : List LocatedToken → Type 0
-EndsData s = (file : File) × FitsFile the_rules file × Begins s (items_of_header file.header ++ items_of_data file.rows)
-    []
+abbrev pub EndsData : List Lookahead → Type 0
+EndsData s = (file : File) × FitsFile the_rules file
+    × MeetAll s (items_of_header file.header ++ items_of_data file.rows)
 
-abbrev pub EndsFile : List LocatedToken → Type 0
-EndsFile s = (rest : LocatedToken) × (file : File) × FitsFile the_rules file × Begins (s ++ rest ∷ [])
-    (items_of_file file) []
+abbrev pub EndsFile : List Lookahead → Type 0
+EndsFile s = (last : Lookahead) × (file : File) × FitsFile the_rules file × MeetAll (s ++ last ∷ [])
+    (items_of_file file)
 
 -- the word for a data section came, and nothing behind it
-abbrev pub BeginsData : List LocatedToken → Type 0
+abbrev pub BeginsData : List Lookahead → Type 0
 BeginsData s = (header : List Record) × FitsHeader the_rules header
-    × Begins s (items_of_header header ++ says (codes "DATA") ∷ []) []
+    × MeetAll s (items_of_header header ++ says (codes "DATA") ∷ [])
 
 abbrev pub IsWord : List ℕ → Lookahead → Type 0
 IsWord word (token (keyword text)) = is_said word text ≡ true
 IsWord word _ = ⊥
 
 -- another section could begin, or the file end
-abbrev pub IsBetween : List LocatedToken → Type 0
+abbrev pub IsBetween : List Lookahead → Type 0
 IsBetween s = EndsHeader s ⊎ EndsData s
 
 -- a part of the standard that isn't read begins with this token
-abbrev pub IsLeftOut : List LocatedToken → Lookahead → LeftOut → Type 0
+abbrev pub IsLeftOut : List Lookahead → Lookahead → LeftOut → Type 0
 IsLeftOut before (token (user_defined text)) UserDefined = Unit {0}
 IsLeftOut before (token scope) Scope = Unit {0}
 IsLeftOut before at Anchor = IsWord (codes "ANCHOR") at × IsBetween before
@@ -103,18 +104,18 @@ unheaded = record the_rules { headed = false }
 
 -- A token that can't stand behind those before it has this kind of fault: one that a rule rules out would
 -- stand without the rule.
-abbrev pub FaultApplies : List LocatedToken → LocatedToken → FaultKind → Type 0
-FaultApplies before at (kinds.Token flaw) = at.lookahead ≡ flawed flaw
+abbrev pub FaultApplies : List Lookahead → Lookahead → FaultKind → Type 0
+FaultApplies before at (kinds.Token flaw) = at ≡ flawed flaw
 FaultApplies before at kinds.DuplicateName = IsViablePrefix repeated (before ++ at ∷ [])
     × (IsViablePrefix more_instances (before ++ at ∷ []) → ⊥)
 FaultApplies before at (kinds.LeftOut TooMany) = IsViablePrefix more_instances (before ++ at ∷ [])
-FaultApplies before at (kinds.LeftOut part) = IsLeftOut before at.lookahead part
+FaultApplies before at (kinds.LeftOut part) = IsLeftOut before at part
 FaultApplies before at kinds.TooDeep = IsViablePrefix more_levels (before ++ at ∷ [])
 FaultApplies before at kinds.HeaderFault = IsViablePrefix unheaded (before ++ at ∷ [])
 FaultApplies before at kinds.Expected = Unit {0}
 
 -- .. and another token is expected only where no other kind of fault applies
-abbrev pub IsKind : List LocatedToken → LocatedToken → FaultKind → Type 0
+abbrev pub IsKind : List Lookahead → Lookahead → FaultKind → Type 0
 IsKind before at kinds.Expected = (kind : FaultKind) → (kind ≡ kinds.Expected → ⊥) → FaultApplies before at kind → ⊥
 IsKind before at kind = FaultApplies before at kind
 
@@ -125,7 +126,7 @@ pub data IsPlace (before : List LocatedToken) (at : LocatedToken) (kind : FaultK
   place_of_schema : (kind ≡ kinds.HeaderFault) → at.lookahead ≡ token (mark Semicolon)
       → (earlier inner : List LocatedToken) (key : LocatedToken) (p q : Record)
       → before ≡ earlier ++ key ∷ inner → FitsRecords the_rules (p ∷ q ∷ [])
-      → Begins earlier (items_of_start ++ items_of_records (p ∷ q ∷ [])) [] → place ≡ key.place
+      → MeetAll (lookaheads earlier) (items_of_start ++ items_of_records (p ∷ q ∷ [])) → place ≡ key.place
       → IsPlace before at kind place
 
 -- The fault that shows first: what stands there is the first with which the tokens so far are no viable prefix.
@@ -136,11 +137,11 @@ pub record IsFirstFault (text : List ℕ) (kind : FaultKind) (place : ℕ) : Typ
   pub next : Reading
   pub read : ShowsAll (start text) before here
   pub shown : Shows here at next
-  pub viable : IsViablePrefix the_rules before
+  pub viable : IsViablePrefix the_rules (lookaheads before)
   -- they aren't a whole structure's
-  pub unended : (x : File) → FitsFile the_rules x → Begins before (items_of_file x) [] → ⊥
-  pub refused : IsViablePrefix the_rules (before ++ at ∷ []) → ⊥
-  pub kind_is : IsKind before at kind
+  pub unended : (x : File) → FitsFile the_rules x → MeetAll (lookaheads before) (items_of_file x) → ⊥
+  pub refused : IsViablePrefix the_rules (lookaheads (before ++ at ∷ [])) → ⊥
+  pub kind_is : IsKind (lookaheads before) at.lookahead kind
   pub place_is : IsPlace before at kind place
 
 -- A fault of a text is its first one; memory may always run out.

@@ -2,7 +2,7 @@
 use Rattle.std.specs.Prelude.{◌≡◌, ℕ, Bool, true, List, [], ◌∷◌, ◌++◌, codes}
 use Rattle.std.specs.Str.{str_eq_ignore_ascii_case}
 use Rattle.step_lexis.specs.declared.token.Mark.TheVariants.{Open, Close, Comma, Semicolon, Equals}
-use Rattle.step_exchange.specs.Words.{Word, keyword, name, mark, begins, ends, Lookahead, token, end_of_text, LocatedToken}
+use Rattle.step_exchange.specs.Words.{Word, keyword, name, mark, begins, ends, Lookahead, token, end_of_text}
 
 -- a parameter: one token, a typed parameter, or a list
 mutual
@@ -56,11 +56,11 @@ Meets (token (name n text)) (named m) = n ≡ m
 Meets end_of_text finish = Unit {0}
 Meets _ _ = ⊥
 
--- s begins with what the items ask for, and rest is behind it
-abbrev pub Begins : List LocatedToken → List Item → List LocatedToken → Type 0
-Begins s [] rest = s ≡ rest
-Begins [] (i ∷ items) rest = ⊥
-Begins (t ∷ s) (i ∷ items) rest = Meets t.lookahead i × Begins s items rest
+-- these are what the items ask for, one after another
+abbrev pub MeetAll : List Lookahead → List Item → Type 0
+MeetAll [] [] = Unit {0}
+MeetAll (s ∷ rest) (i ∷ items) = Meets s i × MeetAll rest items
+MeetAll _ _ = ⊥
 
 abbrev mutual
   pub items_of_tree : Tree → List Item

@@ -1,5 +1,7 @@
 -- Tokens as contracts see them, and what a lexer shows of a text.
-use Rattle.std.specs.Prelude.{◌≡◌, ℕ, List, [], ◌∷◌, length}
+use Rattle.std.specs.Prelude.{◌≡◌, ℕ, List, length}
+use Rattle.predictive.specs.Tables as tables
+use Rattle.predictive.specs.Lexers as lexers
 use Rattle.step_lexis.specs.declared.token.Mark.{Mark}
 use Rattle.step_lexis.specs.declared.token.Sort.{Sort}
 use Rattle.step_lexis.specs.declared.token.Sort.TheVariants as sorts
@@ -44,9 +46,8 @@ pub data Lookahead : Type 0 where
   end_of_text : Lookahead
 
 -- what stands in a text, and how many bytes come before it, or before its fault
-pub record LocatedToken : Type 0 where
-  pub lookahead : Lookahead
-  pub place : ℕ
+abbrev pub LocatedToken : Type 0
+LocatedToken = tables.LocatedToken Lookahead
 
 abbrev pub located : Token → LocatedToken
 located t = record { lookahead = token (word_of t.sort t.text.now); place = t.place }
@@ -65,5 +66,4 @@ pub data Shows (old : Reading) (s : LocatedToken) (new : Reading) : Type 0 where
 
 -- these are what a lexer shows in turn
 abbrev pub ShowsAll : Reading → List LocatedToken → Reading → Type 0
-ShowsAll old [] new = old ≡ new
-ShowsAll old (s ∷ rest) new = (next : Reading) × Shows old s next × ShowsAll next rest new
+ShowsAll = lexers.ShowsAll Shows

@@ -1,23 +1,14 @@
 //! The data section and the end of the file, read from tokens (ISO 10303-21, 5.3 and 11).
 
-ghost use Rattle.std.specs.Prelude.{◌≡◌, [], ◌∷◌, MatchResult, map, codes};
+ghost use Rattle.std.specs.Prelude.{◌≡◌, [], ◌∷◌, ◌++◌, map, codes};
+ghost use Rattle.step_lexis.specs.declared.token.Mark.TheVariants.{Semicolon};
 ghost use Rattle.step_exchange.specs.declared.fault.TextFault.TheVariants.{Fault};
 ghost use Rattle.step_exchange.specs.Words.{located};
-ghost use Rattle.step_exchange.specs.Trees.{items_of_end, section, finish};
-ghost use Rattle.step_exchange.specs.Texts.{Reads};
+ghost use Rattle.step_exchange.specs.Trees.{items_of_data, items_of_end, section, finish};
+ghost use Rattle.step_exchange.specs.Fits.{the_rules, FitsRows};
 ghost use Rattle.step_exchange.specs.Views.{row_of};
-ghost use Rattle.step_exchange.specs.Predict.{
-  Data,
-  Behind,
-  Finish,
-  Just,
-  EndOfText,
-  StopsIn,
-  TakesData,
-  data_symbols,
-  section_refused,
-};
-ghost use Rattle.step_lexis.specs.declared.token.Mark.TheVariants.{Semicolon};
+ghost use Rattle.step_exchange.specs.Predict.{Data, Behind, Finish, Just, EndOfText, data_symbols};
+ghost use Rattle.step_exchange.specs.Steps.{Parses, ParsesWhere, section_refused};
 
 use crate::fault::{FaultKind, LeftOut, TextFault};
 use crate::records::rows;
@@ -49,9 +40,8 @@ fn refuse_section(token: Token<'_>) -> TextFault
 
 /// Reads what begins the data section.
 fn begin_data(lexer: &mut Lexer<'_>) -> Result<(), TextFault>
-    ensures { MatchResult result
-        (λ _. Reads lexer.old (section (codes "DATA")) lexer.new)
-        (λ e. StopsIn e (Data ∷ Behind ∷ []) [] lexer.old) }
+    ensures { Parses result (Data ∷ Behind ∷ []) (λ _. section (codes "DATA"))
+        lexer.old lexer.new }
 {
     let token = take(lexer)?;
     if !is_word(token, b"DATA") {
@@ -69,9 +59,7 @@ fn begin_data(lexer: &mut Lexer<'_>) -> Result<(), TextFault>
 
 /// Reads the end of the text.
 fn end_of_text(lexer: &mut Lexer<'_>) -> Result<(), TextFault>
-    ensures { MatchResult result
-        (λ _. Reads lexer.old (finish ∷ []) lexer.new)
-        (λ e. StopsIn e (EndOfText ∷ []) [] lexer.old) }
+    ensures { Parses result (EndOfText ∷ []) (λ _. finish ∷ []) lexer.old lexer.new }
 {
     match lexer.next_token() {
         Ok(None) => Ok(()),
@@ -90,9 +78,8 @@ fn end_of_text(lexer: &mut Lexer<'_>) -> Result<(), TextFault>
 
 /// Reads the end of the file.
 fn end(lexer: &mut Lexer<'_>) -> Result<(), TextFault>
-    ensures { MatchResult result
-        (λ _. Reads lexer.old items_of_end lexer.new)
-        (λ e. StopsIn e (Finish ∷ Just Semicolon ∷ EndOfText ∷ []) [] lexer.old) }
+    ensures { Parses result (Finish ∷ Just Semicolon ∷ EndOfText ∷ []) (λ _. items_of_end)
+        lexer.old lexer.new }
 {
     let token = take(lexer)?;
     if is_word(token, b"DATA") {
@@ -113,9 +100,9 @@ pub fn data<'a>(
     lexer: &mut Lexer<'a>,
     expected: usize,
 ) -> Result<Instances<'a>, TextFault>
-    ensures { MatchResult result
-        (λ m. TakesData lexer.old (map row_of m.entries) lexer.new)
-        (λ e. StopsIn e data_symbols [] lexer.old) }
+    ensures { ParsesWhere result data_symbols
+        (λ m. items_of_data (map row_of m.entries) ++ items_of_end)
+        (λ m. FitsRows the_rules [] (map row_of m.entries)) lexer.old lexer.new }
 {
     begin_data(lexer)?;
     let records = rows(alloc, keys, lexer, expected)?;

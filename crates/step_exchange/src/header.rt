@@ -1,30 +1,28 @@
 //! The header, read from tokens (ISO 10303-21, 8).
 
-ghost use Rattle.std.specs.Prelude.{[], ◌∷◌, MatchResult, MatchOption, IsTrue, ◌↔◌, map, codes};
-ghost use Rattle.step_exchange.specs.Trees.{section};
-ghost use Rattle.step_exchange.specs.Fits.{NamesSchema};
-ghost use Rattle.step_exchange.specs.Texts.{Reads};
+ghost use Rattle.std.specs.Prelude.{◌≡◌, true, [], ◌∷◌, ◌++◌, MatchResult, MatchOption, IsTrue, ◌↔◌};
+ghost use Rattle.std.specs.Prelude.{map, codes};
+ghost use Rattle.step_lexis.specs.declared.token.Mark.TheVariants.{Open, Semicolon};
+ghost use Rattle.step_exchange.specs.Words.{mark};
+ghost use Rattle.step_exchange.specs.Trees;
+ghost use Rattle.step_exchange.specs.Trees.{this, section, items_of_list, items_of_record};
+ghost use Rattle.step_exchange.specs.Fits.{the_rules, FitsTrees, FitsRecord, NamesSchema};
 ghost use Rattle.step_exchange.specs.Views.{record_of, trees_of};
-ghost use Rattle.step_exchange.specs.Predict.{
-  Head,
-  Just,
+ghost use Rattle.step_exchange.specs.Predict.{Head, Just, Records};
+ghost use Rattle.step_exchange.specs.Steps.{
   StopsIn,
+  Passes,
+  ParsesWhere,
   Starts,
+  IsHead,
   TakesHead,
-  TakesRecord,
-  TakesSchema,
   StopsAtSchema,
-  TakesKeyed,
-  TakesEnd,
-  TakesOneMore,
   HeaderSoFar,
   TakesHeader,
   StopsInHeader,
-  Records,
   start_symbols,
   after_keyword,
 };
-ghost use Rattle.step_lexis.specs.declared.token.Mark.TheVariants.{Semicolon};
 
 use crate::fault::{FaultKind, TextFault};
 use crate::params::{items, record_params};
@@ -74,13 +72,13 @@ fn head<'a>(
 
 /// The record with this keyword.
 fn record<'a>(alloc: Global, lexer: &mut Lexer<'a>, word: &[u8]) -> Result<Record<'a>, TextFault>
-    ensures { MatchResult result
-        (λ p. TakesRecord word.now lexer.old (record_of p) lexer.new)
-        (λ e. StopsIn e (Head word.now ∷ Just Semicolon ∷ []) [] lexer.old) }
+    ensures { ParsesWhere result (Head word.now ∷ Just Semicolon ∷ [])
+        (λ p. items_of_record (record_of p) ++ this (mark Semicolon) ∷ [])
+        (λ p. IsHead word.now (record_of p)) lexer.old lexer.new }
 {
-    let (part, _) = head(alloc, lexer, word)?;
+    let (record, _) = head(alloc, lexer, word)?;
     expect(lexer, Mark::Semicolon)?;
-    Ok(part)
+    Ok(record)
 }
 
 /// Whether these are one parameter, a list of one string.
@@ -102,21 +100,23 @@ fn names_schema(params: &[Param<'_>]) -> bool
 /// FILE_SCHEMA, which names one schema.
 fn schema<'a>(alloc: Global, lexer: &mut Lexer<'a>) -> Result<Record<'a>, TextFault>
     ensures { MatchResult result
-        (λ p. TakesSchema lexer.old (record_of p) lexer.new)
+        (λ p. (IsHead (codes "FILE_SCHEMA") (record_of p) × NamesSchema (trees_of p.params.items))
+        × Passes (Head (codes "FILE_SCHEMA") ∷ Just Semicolon ∷ []) [] []
+        (items_of_record (record_of p) ++ this (mark Semicolon) ∷ []) lexer.old lexer.new)
         (λ e. StopsAtSchema e lexer.old) }
 {
-    let (part, place) = head(alloc, lexer, b"FILE_SCHEMA")?;
+    let (record, place) = head(alloc, lexer, b"FILE_SCHEMA")?;
     let end = take(lexer)?;
     if !is_mark(end, Mark::Semicolon) {
         return Err(refuse(end));
     }
-    if !names_schema(&part.params) {
+    if !names_schema(&record.params) {
         return Err(TextFault::Fault {
             kind: FaultKind::HeaderFault,
             place,
         });
     }
-    Ok(part)
+    Ok(record)
 }
 
 /// What stands behind the keyword of one more record of the header: its parameters, or none where
@@ -129,8 +129,12 @@ fn record_or_end<'a>(
 ) -> Result<Option<Vec<Param<'a>>>, TextFault>
     ensures { MatchResult result
         (λ o. MatchOption o
-        (TakesEnd keyword.entry.text.now lexer.old lexer.new)
-        (λ v. TakesKeyed keyword.entry.text.now lexer.old (trees_of v.items) lexer.new))
+        ((Trees.is_said (codes "ENDSEC") keyword.entry.text.now ≡ true)
+        × Passes (after_keyword keyword.entry.text.now) [] [] (this (mark Semicolon) ∷ [])
+        lexer.old lexer.new)
+        (λ v. FitsTrees the_rules 1 (trees_of v.items)
+        × Passes (after_keyword keyword.entry.text.now) (Just Semicolon ∷ Records ∷ []) []
+        (this (mark Open) ∷ items_of_list (trees_of v.items)) lexer.old lexer.new))
         (λ e. StopsIn e (after_keyword keyword.entry.text.now) [] lexer.old) }
 {
     if !is_said(keyword, b"ENDSEC") {
@@ -152,8 +156,10 @@ fn record_or_end<'a>(
 fn next_record<'a>(alloc: Global, lexer: &mut Lexer<'a>) -> Result<Option<Record<'a>>, TextFault>
     ensures { MatchResult result
         (λ o. MatchOption o
-        (Reads lexer.old (section (codes "ENDSEC")) lexer.new)
-        (λ p. TakesOneMore lexer.old (record_of p) lexer.new))
+        (Passes (Records ∷ []) [] [] (section (codes "ENDSEC")) lexer.old lexer.new)
+        (λ p. FitsRecord the_rules 0 (record_of p)
+        × Passes (Records ∷ []) (Records ∷ []) []
+        (items_of_record (record_of p) ++ this (mark Semicolon) ∷ []) lexer.old lexer.new))
         (λ e. StopsIn e (Records ∷ []) [] lexer.old) }
 {
     let key = take(lexer)?;
@@ -192,9 +198,9 @@ pub fn header<'a>(alloc: Global, lexer: &mut Lexer<'a>) -> Result<(u64, Vec<Reco
 {
     let (place, mut records) = opening(alloc, lexer)?;
     loop {
-        let Some(part) = next_record(alloc, lexer)? else {
+        let Some(record) = next_record(alloc, lexer)? else {
             return Ok((place, records));
         };
-        records.push(part)?;
+        records.push(record)?;
     }
 }

@@ -1,20 +1,14 @@
 //! Parameters, read from tokens (ISO 10303-21, 11).
 
-ghost use Rattle.std.specs.Prelude.{◌≡◌, ◌≤◌, ◌<◌, [], ◌∷◌, MatchResult};
-ghost use Rattle.step_exchange.specs.Words.{located};
+ghost use Rattle.std.specs.Prelude.{◌≡◌, ◌≤◌, ◌<◌, ◌+◌, [], ◌∷◌, ◌++◌};
+ghost use Rattle.step_lexis.specs.declared.token.Mark.TheVariants as marks;
+ghost use Rattle.step_exchange.specs.Words.{mark, located};
 ghost use Rattle.step_exchange.specs.Trees;
+ghost use Rattle.step_exchange.specs.Trees.{this, items_of_tree, items_of_list};
+ghost use Rattle.step_exchange.specs.Fits.{the_rules, FitsTree, FitsTrees};
 ghost use Rattle.step_exchange.specs.Views.{tree_of, trees_of};
-ghost use Rattle.step_exchange.specs.Predict.{
-  Value,
-  Items,
-  StopsIn,
-  TakesTree,
-  TakesInner,
-  TakesList,
-  TakesParams,
-  inner_symbols,
-  params_symbols,
-};
+ghost use Rattle.step_exchange.specs.Predict.{Value, Items};
+ghost use Rattle.step_exchange.specs.Steps.{ParsesWhere, ParsesFrom, inner_symbols, params_symbols};
 
 use crate::fault::{FaultKind, TextFault};
 use crate::tokens::{expect, fault_at, is_mark, refuse, take};
@@ -38,9 +32,9 @@ fn typed<'a>(keyword: Word<'a>, inner: Box<Param<'a>>) -> Param<'a>
 #[cycle(params)]
 fn inner<'a>(alloc: Global, lexer: &mut Lexer<'a>, depth: u32) -> Result<Param<'a>, TextFault>
     requires { depth < 64 }
-    ensures { MatchResult result
-        (λ p. TakesInner depth lexer.old (tree_of p) lexer.new)
-        (λ e. StopsIn e (inner_symbols depth) [] lexer.old) }
+    ensures { ParsesWhere result (inner_symbols depth)
+        (λ p. this (mark marks.Open) ∷ (items_of_tree (tree_of p) ++ this (mark marks.Close) ∷ []))
+        (λ p. FitsTree the_rules (depth + 1) (tree_of p)) lexer.old lexer.new }
 {
     expect(lexer, Mark::Open)?;
     let first = take(lexer)?;
@@ -58,9 +52,9 @@ fn value<'a>(
     depth: u32,
 ) -> Result<Param<'a>, TextFault>
     requires { depth ≤ 64 }
-    ensures { MatchResult result
-        (λ p. TakesTree depth (located first.entry) lexer.old (tree_of p) lexer.new)
-        (λ e. StopsIn e (Value depth ∷ []) (located first.entry ∷ []) lexer.old) }
+    ensures { ParsesFrom (located first.entry) result (Value depth ∷ [])
+        (λ p. items_of_tree (tree_of p)) (λ p. FitsTree the_rules depth (tree_of p))
+        lexer.old lexer.new }
 {
     match first.sort {
         Sort::Mark(Mark::Dollar) => Ok(Param::Unset),
@@ -98,9 +92,8 @@ pub fn items<'a>(
     depth: u32,
 ) -> Result<Vec<Param<'a>>, TextFault>
     requires { depth ≤ 64 }
-    ensures { MatchResult result
-        (λ v. TakesList depth lexer.old (trees_of v.items) lexer.new)
-        (λ e. StopsIn e (Items depth ∷ []) [] lexer.old) }
+    ensures { ParsesWhere result (Items depth ∷ []) (λ v. items_of_list (trees_of v.items))
+        (λ v. FitsTrees the_rules depth (trees_of v.items)) lexer.old lexer.new }
 {
     let mut values = Vec::new(alloc);
     let first = take(lexer)?;
@@ -130,9 +123,9 @@ pub fn record_params<'a>(
     depth: u32,
 ) -> Result<Vec<Param<'a>>, TextFault>
     requires { depth < 64 }
-    ensures { MatchResult result
-        (λ v. TakesParams depth lexer.old (trees_of v.items) lexer.new)
-        (λ e. StopsIn e (params_symbols depth) [] lexer.old) }
+    ensures { ParsesWhere result (params_symbols depth)
+        (λ v. this (mark marks.Open) ∷ items_of_list (trees_of v.items))
+        (λ v. FitsTrees the_rules (depth + 1) (trees_of v.items)) lexer.old lexer.new }
 {
     expect(lexer, Mark::Open)?;
     items(alloc, lexer, depth + 1)

@@ -1,21 +1,21 @@
 //! Instances, read from tokens (ISO 10303-21, 11).
 
 ghost use Rattle.std.specs.Prelude.{◌≡◌, false, [], ◌∷◌, ◌++◌, MatchResult, OnOk, map, codes};
-ghost use Rattle.step_lexis.specs.declared.token.Mark.TheVariants.{Close};
-ghost use Rattle.step_exchange.specs.Words.{located};
+ghost use Rattle.step_lexis.specs.declared.token.Mark.TheVariants.{Close, Equals, Semicolon};
+ghost use Rattle.step_exchange.specs.Words.{mark, located};
+ghost use Rattle.step_exchange.specs.Trees.{this, says, items_of_record, items_of_form};
+ghost use Rattle.step_exchange.specs.Trees.{items_of_partial_records, items_of_rows};
 ghost use Rattle.step_exchange.specs.Fits;
+ghost use Rattle.step_exchange.specs.Fits.{the_rules, FitsForm, FitsRows};
 ghost use Rattle.step_exchange.specs.Predict;
+ghost use Rattle.step_exchange.specs.Predict.{Body, PartialRecords, Rows, row_symbols};
 ghost use Rattle.step_exchange.specs.Views.{record_of, form_of, row_of};
-ghost use Rattle.step_exchange.specs.Predict.{
-  Body,
-  Parts,
-  Rows,
+ghost use Rattle.step_exchange.specs.Steps.{
   StopsIn,
-  TakesPartial,
-  TakesPartialRecords,
-  TakesForm,
-  TakesRow,
-  TakesRows,
+  Passes,
+  ParsesWhere,
+  FitsBehind,
+  FitsPartials,
   IsNextName,
   IsNoName,
   AtMost,
@@ -23,7 +23,6 @@ ghost use Rattle.step_exchange.specs.Predict.{
   keywords_of,
   further_keywords,
   names_of,
-  row_symbols,
 };
 
 use crate::fault::{FaultKind, LeftOut, TextFault};
@@ -49,62 +48,65 @@ const LOOKED_THROUGH: usize = 8;
 type Keywords<'a> = IndexSet<Word<'a>, RandomState>;
 
 /// Whether one of these partial records has this keyword, whatever the case of its letters.
-fn is_among(parts: &[Record<'_>], keyword: Word<'_>) -> bool
-    ensures { result ≡ any_has_keyword keyword.entry.text.now parts.now }
+fn is_among(partials: &[Record<'_>], keyword: Word<'_>) -> bool
+    ensures { result ≡ any_has_keyword keyword.entry.text.now partials.now }
 {
-    parts
+    partials
         .iter()
-        .any(|part| is_said(keyword, part.keyword.spelling()))
+        .any(|partial| is_said(keyword, partial.keyword.spelling()))
 }
 
 /// The same, where the keywords behind those that are looked through are in a set.
-fn has_keyword(parts: &[Record<'_>], further: &Keywords<'_>, keyword: Word<'_>) -> bool
-    requires { further.now.keys ≡ further_keywords parts.now }
-    ensures { result ≡ any_has_keyword keyword.entry.text.now parts.now }
+fn has_keyword(partials: &[Record<'_>], further: &Keywords<'_>, keyword: Word<'_>) -> bool
+    requires { further.now.keys ≡ further_keywords partials.now }
+    ensures { result ≡ any_has_keyword keyword.entry.text.now partials.now }
 {
-    if parts.len() <= LOOKED_THROUGH {
-        return is_among(parts, keyword);
+    if partials.len() <= LOOKED_THROUGH {
+        return is_among(partials, keyword);
     }
-    is_among(&parts[..LOOKED_THROUGH], keyword) || further.contains(&keyword)
+    is_among(&partials[..LOOKED_THROUGH], keyword) || further.contains(&keyword)
 }
 
 /// Keeps the keyword of one more partial record behind these, which none of them has.
 fn keep_keyword<'a>(
     further: &mut Keywords<'a>,
-    parts: &[Record<'a>],
-    part: &Record<'a>,
+    partials: &[Record<'a>],
+    partial: &Record<'a>,
 ) -> Result<(), AllocFailed<Word<'a>>>
-    requires kept { further.old.keys ≡ further_keywords parts.now }
-    requires alone { any_has_keyword part.now.keyword.text.now parts.now ≡ false }
-    ensures { OnOk result (further.new.keys ≡ further_keywords (parts.now ++ part.now ∷ [])) }
+    requires kept { further.old.keys ≡ further_keywords partials.now }
+    requires alone { any_has_keyword partial.now.keyword.text.now partials.now ≡ false }
+    ensures { OnOk result (further.new.keys ≡ further_keywords (partials.now ++ partial.now ∷ [])) }
 {
-    if parts.len() < LOOKED_THROUGH {
+    if partials.len() < LOOKED_THROUGH {
         return Ok(());
     }
-    further.insert(part.keyword)?;
+    further.insert(partial.keyword)?;
     Ok(())
 }
 
 /// The partial record that begins with this token, behind others.
-fn partial<'a>(
+fn partial_record<'a>(
     alloc: Global,
     lexer: &mut Lexer<'a>,
     first: Token<'a>,
-    parts: &[Record<'a>],
+    partials: &[Record<'a>],
     further: &Keywords<'a>,
 ) -> Result<Record<'a>, TextFault>
     requires open { Predict.is_mark Close (located first).lookahead ≡ false }
-    requires kept { further.now.keys ≡ further_keywords parts.now }
+    requires kept { further.now.keys ≡ further_keywords partials.now }
     ensures { MatchResult result
-        (λ p. TakesPartial (keywords_of (map record_of parts.now)) (located first.entry)
-        lexer.old (record_of p) lexer.new)
-        (λ e. StopsIn e (Parts (keywords_of (map record_of parts.now)) ∷ [])
+        (λ p. FitsBehind (keywords_of (map record_of partials.now)) (record_of p)
+        × Passes (PartialRecords (keywords_of (map record_of partials.now)) ∷ [])
+        (PartialRecords (keywords_of (map record_of partials.now)
+        ++ p.keyword.text.now ∷ []) ∷ []) (located first.entry ∷ [])
+        (items_of_record (record_of p)) lexer.old lexer.new)
+        (λ e. StopsIn e (PartialRecords (keywords_of (map record_of partials.now)) ∷ [])
         (located first.entry ∷ []) lexer.old) }
 {
     let Sort::Keyword(keyword) = first.sort else {
         return Err(refuse(first));
     };
-    if has_keyword(parts, further, keyword) {
+    if has_keyword(partials, further, keyword) {
         return Err(fault_at(FaultKind::DuplicateName, first));
     }
     let params = record_params(alloc, lexer, 1)?;
@@ -112,41 +114,40 @@ fn partial<'a>(
 }
 
 /// The partial records of an external one behind its parenthesis, and the closing one.
-fn partials<'a>(
+fn partial_records<'a>(
     alloc: Global,
     keys: RandomState,
     lexer: &mut Lexer<'a>,
 ) -> Result<Vec<Record<'a>>, TextFault>
-    ensures { MatchResult result
-        (λ ps. TakesPartialRecords lexer.old (map record_of ps.items) lexer.new)
-        (λ e. StopsIn e (Parts [] ∷ []) [] lexer.old) }
+    ensures { ParsesWhere result (PartialRecords [] ∷ [])
+        (λ ps. items_of_partial_records (map record_of ps.items) ++ this (mark Close) ∷ [])
+        (λ ps. FitsPartials (map record_of ps.items)) lexer.old lexer.new }
 {
-    let mut parts: Vec<Record<'a>> = Vec::new(alloc);
+    let mut partials: Vec<Record<'a>> = Vec::new(alloc);
     let mut further: Keywords<'a> = IndexSet::with_hasher(alloc, keys);
     loop {
         let token = take(lexer)?;
         if is_mark(token, Mark::Close) {
-            if parts.is_empty() {
+            if partials.is_empty() {
                 return Err(refuse(token));
             }
-            return Ok(parts);
+            return Ok(partials);
         }
-        let part = partial(alloc, lexer, token, &parts, &further)?;
-        keep_keyword(&mut further, &parts, &part)?;
-        parts.push(part)?;
+        let partial = partial_record(alloc, lexer, token, &partials, &further)?;
+        keep_keyword(&mut further, &partials, &partial)?;
+        partials.push(partial)?;
     }
 }
 
 /// What stands for an instance behind its `=`.
 fn form<'a>(alloc: Global, keys: RandomState, lexer: &mut Lexer<'a>) -> Result<Form<'a>, TextFault>
-    ensures { MatchResult result
-        (λ f. TakesForm lexer.old (form_of f) lexer.new)
-        (λ e. StopsIn e (Body ∷ []) [] lexer.old) }
+    ensures { ParsesWhere result (Body ∷ []) (λ f. items_of_form (form_of f))
+        (λ f. FitsForm the_rules (form_of f)) lexer.old lexer.new }
 {
     let first = take(lexer)?;
     if is_mark(first, Mark::Open) {
-        let parts = partials(alloc, keys, lexer)?;
-        return Ok(Form::External(parts));
+        let partials = partial_records(alloc, keys, lexer)?;
+        return Ok(Form::External(partials));
     }
     let Sort::Keyword(keyword) = first.sort else {
         return Err(refuse(first));
@@ -157,9 +158,9 @@ fn form<'a>(alloc: Global, keys: RandomState, lexer: &mut Lexer<'a>) -> Result<F
 
 /// What stands for an instance behind its name.
 fn row<'a>(alloc: Global, keys: RandomState, lexer: &mut Lexer<'a>) -> Result<Form<'a>, TextFault>
-    ensures { MatchResult result
-        (λ f. TakesRow lexer.old (form_of f) lexer.new)
-        (λ e. StopsIn e row_symbols [] lexer.old) }
+    ensures { ParsesWhere result row_symbols
+        (λ f. this (mark Equals) ∷ (items_of_form (form_of f) ++ this (mark Semicolon) ∷ []))
+        (λ f. FitsForm the_rules (form_of f)) lexer.old lexer.new }
 {
     expect(lexer, Mark::Equals)?;
     let form = form(alloc, keys, lexer)?;
@@ -217,9 +218,9 @@ pub fn rows<'a>(
     lexer: &mut Lexer<'a>,
     expected: usize,
 ) -> Result<Instances<'a>, TextFault>
-    ensures { MatchResult result
-        (λ m. TakesRows lexer.old (map row_of m.entries) lexer.new)
-        (λ e. StopsIn e (Rows [] ∷ []) [] lexer.old) }
+    ensures { ParsesWhere result (Rows [] ∷ [])
+        (λ m. items_of_rows (map row_of m.entries) ++ says (codes "ENDSEC") ∷ [])
+        (λ m. FitsRows the_rules [] (map row_of m.entries)) lexer.old lexer.new }
 {
     let mut records = room_for(alloc, keys, expected);
     let mut greatest = 0;

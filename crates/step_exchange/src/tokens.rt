@@ -6,9 +6,9 @@ ghost use Rattle.step_exchange.specs.declared.fault.TextFault.TheVariants.{Fault
 ghost use Rattle.step_exchange.specs.Words.{mark, located};
 ghost use Rattle.step_exchange.specs.Trees;
 ghost use Rattle.step_exchange.specs.Trees.{this, says};
-ghost use Rattle.step_exchange.specs.Texts.{Reads};
 ghost use Rattle.step_exchange.specs.Predict;
-ghost use Rattle.step_exchange.specs.Predict.{Symbol, Just, Say, EndOfText, StopsIn, refused};
+ghost use Rattle.step_exchange.specs.Predict.{Symbol, Just, Say, EndOfText, refused};
+ghost use Rattle.step_exchange.specs.Steps.{Parses, StopsIn};
 
 use crate::fault::{FaultKind, LeftOut, TextFault};
 use step_lexis::lexer::Lexer;
@@ -98,9 +98,7 @@ pub fn is_word(token: Token<'_>, word: &[u8]) -> bool
 
 /// Reads this mark.
 pub fn expect(lexer: &mut Lexer<'_>, wanted: Mark) -> Result<(), TextFault>
-    ensures { MatchResult result
-        (λ _. Reads lexer.old (this (mark wanted) ∷ []) lexer.new)
-        (λ e. StopsIn e (Just wanted ∷ []) [] lexer.old) }
+    ensures { Parses result (Just wanted ∷ []) (λ _. this (mark wanted) ∷ []) lexer.old lexer.new }
 {
     let token = take(lexer)?;
     if !is_mark(token, wanted) {
@@ -111,9 +109,7 @@ pub fn expect(lexer: &mut Lexer<'_>, wanted: Mark) -> Result<(), TextFault>
 
 /// Reads this keyword.
 pub fn expect_word(lexer: &mut Lexer<'_>, word: &[u8]) -> Result<(), TextFault>
-    ensures { MatchResult result
-        (λ _. Reads lexer.old (says word.now ∷ []) lexer.new)
-        (λ e. StopsIn e (Say word.now ∷ []) [] lexer.old) }
+    ensures { Parses result (Say word.now ∷ []) (λ _. says word.now ∷ []) lexer.old lexer.new }
 {
     let token = take(lexer)?;
     if !is_word(token, word) {

@@ -117,23 +117,23 @@ fn print_params<S: Sink>(printer: &mut Printer, out: &mut S, params: &[Param<'_>
 }
 
 // A keyword and its parameters.
-fn print_record<S: Sink>(printer: &mut Printer, out: &mut S, part: &Record<'_>)
+fn print_record<S: Sink>(printer: &mut Printer, out: &mut S, simple_record: &Record<'_>)
     ensures { Prints S.held S.has_failed out.old out.new printer.old printer.new
-        (plain_record (record_of part.now)) }
+        (plain_record (record_of simple_record.now)) }
 {
-    print_upper(printer, out, part.keyword.spelling());
+    print_upper(printer, out, simple_record.keyword.spelling());
     printer.print_byte(out, b'(');
-    print_params(printer, out, &part.params);
+    print_params(printer, out, &simple_record.params);
     printer.print_byte(out, b')');
 }
 
 // Partial records, with nothing between.
-fn print_partial_records<S: Sink>(printer: &mut Printer, out: &mut S, parts: &[Record<'_>])
+fn print_partial_records<S: Sink>(printer: &mut Printer, out: &mut S, partials: &[Record<'_>])
     ensures { Prints S.held S.has_failed out.old out.new printer.old printer.new
-        (plain_partial_records (map record_of parts.now)) }
+        (plain_partial_records (map record_of partials.now)) }
 {
-    for part in parts {
-        print_record(printer, out, part);
+    for partial in partials {
+        print_record(printer, out, partial);
     }
 }
 
@@ -143,10 +143,10 @@ fn print_form<S: Sink>(printer: &mut Printer, out: &mut S, form: &Form<'_>)
         (plain_form (form_of form.now)) }
 {
     match form {
-        Form::Internal(part) => print_record(printer, out, part),
-        Form::External(parts) => {
+        Form::Internal(simple_record) => print_record(printer, out, simple_record),
+        Form::External(partials) => {
             printer.print_byte(out, b'(');
-            print_partial_records(printer, out, parts);
+            print_partial_records(printer, out, partials);
             printer.print_byte(out, b')');
         }
     }

@@ -160,7 +160,7 @@ group_enough (suc n) (suc m) w (d ∷ ds) pos hn hm =
     ap (λ l. Code (digits_value 16 (take w (d ∷ ds))) ∷ l) (group_enough n m w (drop w (d ∷ ds)) pos
     (omega (arith, less, pos, hn)) (omega (arith, less, pos, hm)))
 
-group_step : (w : ℕ) (ds : List ℕ) → 1 ≤ w → 0 < length ds → group_items w ds ≡ Code (digits_value 16 (take w ds))
+pub group_step : (w : ℕ) (ds : List ℕ) → 1 ≤ w → 0 < length ds → group_items w ds ≡ Code (digits_value 16 (take w ds))
     ∷ group_items w (drop w ds)
 group_step w [] pos some = absurd (omega (arith, some))
 group_step w (d ∷ ds) pos some =

@@ -14,9 +14,9 @@ use Rattle.std.proofs.lemmas.Bool.{cases_lt}
 use Rattle.std.proofs.Math.Bool.{beq}
 use Rattle.std.proofs.Math.Nat.{pow-suc, pow-le-pow_right, mul-le-mul_right, mul-lt-mul_of_pos_right, le_of_mul-le-mul_right}
 use Rattle.step_literals.specs.declared.literal.decimals.Digits.{Digits}
-use Rattle.step_literals.specs.Decimals.{signed, units, finest, ten_to, turned, IsWorth}
+use Rattle.step_literals.specs.Decimals.{signed, units, finest, ten_to, turned, IsWhole}
 use Rattle.step_literals.specs.DigitStrings.{is_significant, has_digit, magnitude, digit, front_value, end_of, top, significant_digits, shift_of, is_below_zero}
-use Rattle.step_literals.specs.Digits.{digits_of, magnitude_of}
+use Rattle.step_literals.specs.Digits.{digits_of, magnitude_of, worth_of}
 use Rattle.step_literals.specs.MagnitudeLemmas.{digit_small, ten_pos, magnitude_leads, magnitude_none, magnitude_below, scaled, front_below, front_whole}
 use Rattle.step_literals.specs.NormalFormLemmas.{no_tens, signed_times, signed_same, units_by_digits, magnitude_end, magnitude_some, end_value, end_within, end_last, end_some}
 use Rattle.step_literals.proofs.DecimalDigits.{matched}
@@ -196,25 +196,25 @@ exact (x ∷ xs) s f n sig hn le =
     let some : 0 < end_of (length (x ∷ xs)) (x ∷ xs) = end_some (x ∷ xs) s sig (magnitude_some x xs s sig) in
     exact_of (x ∷ xs) s f n sig (omega arith) (omega (arith, hn, le, some)) le (cases_lt n (length (x ∷ xs)))
 
--- what is cut from a text that is worth no whole number within 64 bits
-module _ (d : Digits) (t : List ℕ) (len : ℕ) (worth : units t ≡ signed d.below_zero (magnitude_of d))
-    (hl : len ≡ top (digits_of d) d.shift - 1000400) where
+-- digits that are no whole number within 64 bits
+module _ (d : Digits) (len : ℕ) (hl : len ≡ top (digits_of d) d.shift - 1000400) where
   len_is : len ≡ top (digits_of d) d.shift - finest
   len_is = hl ∙ ap (λ k. top (digits_of d) d.shift - k) (sym finest_is)
 
-  pub long_is_none : 19 < len → (n : ℤ) → FitsSigned w64 n → IsWorth t n → ⊥
+  pub long_is_none : 19 < len → (n : ℤ) → FitsSigned w64 n → IsWhole (worth_of d) n → ⊥
   long_is_none h n fits w = too_long (digits_of d) d.shift finest d.below_zero n d.significant
-      (omega (arith, len_is, h)) fits (sym worth ∙ w)
+      (omega (arith, len_is, h)) fits w
 
-  pub fine_is_none : len < end_of (length (digits_of d)) (digits_of d) → (n : ℤ) → FitsSigned w64 n → IsWorth t n → ⊥
+  pub fine_is_none : len < end_of (length (digits_of d)) (digits_of d) → (n : ℤ) → FitsSigned w64 n
+      → IsWhole (worth_of d) n → ⊥
   fine_is_none h n fits w = too_fine (digits_of d) d.shift finest d.below_zero n d.significant
-      (omega (arith, len_is, h)) (sym worth ∙ w)
+      (omega (arith, len_is, h)) w
 
-  -- what is cut from one that is worth a whole number of at most 19 digits
-  pub whole_units : end_of (length (digits_of d)) (digits_of d) ≤ len → units t ≡ signed d.below_zero
+  -- those that are a whole number of at most 19 digits
+  pub whole_units : end_of (length (digits_of d)) (digits_of d) ≤ len → worth_of d ≡ signed d.below_zero
       (front_value len (digits_of d)) *ℤ pos (10 ^ finest)
   whole_units le =
-      worth ∙ ap (signed d.below_zero) (exact (digits_of d) d.shift finest len d.significant len_is le)
+      ap (signed d.below_zero) (exact (digits_of d) d.shift finest len d.significant len_is le)
       ∙ sym (signed_times d.below_zero (front_value len (digits_of d)) (10 ^ finest))
 
   pub whole_small : len ≤ 19 → front_value len (digits_of d) < 2 ^ 64
@@ -325,12 +325,20 @@ pub not_negated : (z m : ℤ) (v w : ℕ) → m ≡ pos v → v ≡ w % 2 ^ 64 �
 not_negated z m v w hm hv hw e = omega (arith, ints, hm, hv, hw, e)
 
 -- the whole number, where it is within 64 bits
-pub whole_told : {E : Type 0} (t : List ℕ) (b : Bool) (w : ℕ) (z : ℤ) (r : Result ℤ E) (o : Option ℤ)
-    → units t ≡ signed b w *ℤ pos (10 ^ finest) → z ≡ signed b w → OkIff r (FitsSigned w64 z) z → o ≡ result_ok r
-    → MatchOption o ((n : ℤ) → FitsSigned w64 n → IsWorth t n → ⊥) (λ n. IsWorth t n)
-whole_told t b w z (Ok x) (Some y) u e h s = let q : y ≡ x = cc in u ∙ ap (λ k. k *ℤ pos (10 ^ finest))
-    (sym (q ∙ h.1 ∙ e))
-whole_told t b w z (Ok x) None u e h s = absurd (cc)
-whole_told t b w z (Err x) (Some y) u e h s = absurd (cc)
-whole_told t b w z (Err x) None u e h s = λ n fits worth.
-    h (subst (FitsSigned w64) (times_cancel n (signed b w) (10 ^ finest) (ten_pos finest) (sym worth ∙ u) ∙ sym e) fits)
+pub whole_told : {E : Type 0} (u : ℤ) (b : Bool) (w : ℕ) (z : ℤ) (r : Result ℤ E) (o : Option ℤ)
+    → u ≡ signed b w *ℤ pos (10 ^ finest) → z ≡ signed b w → OkIff r (FitsSigned w64 z) z → o ≡ result_ok r
+    → MatchOption o ((n : ℤ) → FitsSigned w64 n → IsWhole u n → ⊥) (λ n. IsWhole u n)
+whole_told u b w z (Ok x) (Some y) h e fits s = let q : y ≡ x = cc in h ∙ ap (λ k. k *ℤ pos (10 ^ finest))
+    (sym (q ∙ fits.1 ∙ e))
+whole_told u b w z (Ok x) None h e fits s = absurd (cc)
+whole_told u b w z (Err x) (Some y) h e fits s = absurd (cc)
+whole_told u b w z (Err x) None h e fits s = λ n small worth.
+    fits (subst (FitsSigned w64) (times_cancel n (signed b w) (10 ^ finest) (ten_pos finest) (sym worth ∙ h) ∙ sym e)
+    small)
+
+-- .. of units that are the same
+pub whole_same : (u v : ℤ) (o : Option ℤ) → v ≡ u
+    → MatchOption o ((n : ℤ) → FitsSigned w64 n → IsWhole u n → ⊥) (λ n. IsWhole u n)
+    → MatchOption o ((n : ℤ) → FitsSigned w64 n → IsWhole v n → ⊥) (λ n. IsWhole v n)
+whole_same u v o e h =
+    subst (λ z. MatchOption o ((n : ℤ) → FitsSigned w64 n → IsWhole z n → ⊥) (λ n. IsWhole z n)) (sym e) h

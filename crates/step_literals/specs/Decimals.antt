@@ -57,9 +57,13 @@ units t = mantissa t *ℤ ten_to (exponent t +ℤ pos finest)
 abbrev pub turned : Bool → ℤ → ℤ
 turned is_turned z = if is_turned then neg_ℤ z else z
 
+-- so many units are the whole number n
+abbrev pub IsWhole : ℤ → ℤ → Type 0
+IsWhole u n = u ≡ n *ℤ ten_to (pos finest)
+
 -- a number is worth the whole number n
 abbrev pub IsWorth : List ℕ → ℤ → Type 0
-IsWorth t n = units t ≡ n *ℤ ten_to (pos finest)
+IsWorth t n = IsWhole (units t) n
 
 -- two numbers compare as their whole numbers do, both brought to the lesser exponent
 abbrev pub ComparedAtLesserExponent : Type 0

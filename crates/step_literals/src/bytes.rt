@@ -1,5 +1,6 @@
-//! Classes of bytes, and runs of them.
-ghost use Rattle.std.specs.Prelude.{◌≡◌, ◌≤◌, ◌↔◌, IsTrue, length};
+//! Classes of bytes, runs of them, and the values of digits.
+ghost use Rattle.std.specs.Prelude.{◌≡◌, ◌≤◌, ◌<◌, ◌↔◌, IsTrue, true, length};
+ghost use Rattle.std.specs.Char.{digit_value};
 ghost use Rattle.std.specs.List.{prefix_len};
 ghost use Rattle.step_literals.specs.Bytes.{is_digit, is_letter, is_word_byte, is_hex};
 ghost use Rattle.step_literals.specs.Tokens.{IsKeyword};
@@ -60,4 +61,17 @@ pub fn hex_len(bytes: &[u8]) -> usize
     ensures len { result ≡ prefix_len is_hex bytes.now }
 {
     bytes.iter().take_while(|b| is_hex(**b)).count()
+}
+
+/// The value of a hexadecimal digit.
+pub fn hex_value(digit: u8) -> u8
+    requires { is_hex digit ≡ true }
+    ensures value { result ≡ digit_value digit }
+    ensures bound { result < 16 }
+{
+    match digit {
+        b'0'..=b'9' => digit - b'0',
+        b'A'..=b'F' => digit - b'A' + 10,
+        _ => digit - b'a' + 10,
+    }
 }

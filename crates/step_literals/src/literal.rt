@@ -24,7 +24,7 @@ const APOSTROPHE: u8 = b'\'';
 const QUOTE: u8 = b'"';
 
 /// A keyword, or the name of an element (ISO 10303-21, 5.2): a letter or `_`, then letters, digits
-/// and `_`.
+/// and `_`. A word of EXPRESS (ISO 10303-11, 7.2 and 7.4) is one that begins with a letter.
 #[derive(Clone, Copy)]
 pub struct Word<'a> {
     text: &'a [u8],

@@ -1,6 +1,6 @@
 -- The test of agreement by name decides it.
 use Rattle.std.proofs.Common.{◌≡◌, ◌<◌, ℕ, suc, Bool, true, false, cond, List, [], ◌∷◌, Decides, refl, sym, ◌∙◌, ap, subst, ◌⊎◌, inl, inr, eqb-true, eq-eqb, arith}
-use Rattle.std.specs.Prelude.{◌==◌, ◌&&◌}
+use Rattle.std.specs.Prelude.{◌==◌}
 use Rattle.std.specs.Str.{bytes_eq}
 use Rattle.std.proofs.lemmas.Bool.{and_parts, and_from}
 use Rattle.std.proofs.lemmas.Slice.Eq.{bytes_eq-Decides}
@@ -10,7 +10,7 @@ use Rattle.step_literals.specs.declared.literal.items.Item.{Item}
 use Rattle.step_literals.specs.declared.literal.items.Item.TheVariants.{Code, Page, Raw}
 use Rattle.step_values.specs.Leaves.{Leaf, unset, derived, number, text, bits, element}
 use Rattle.step_values.specs.Values.{Value, leaf, reference, typed, sequence, bag, Values, none, more, IsReordering, unchanged, kept, swapped, joined, Agree, AgreeEach}
-use Rattle.step_values.specs.ComputedAgreement.{item_test, each_test, leaf_test, count_in, size, same_test, same_each_test, counts_test}
+use Rattle.step_values.specs.ComputedAgreement.{item_test, each_test, leaf_test, count_in, size, same_test, same_each_test, counts_test, agree_by, agree_each_by}
 use Rattle.step_values.proofs.Agreement.{same_refl, agree_back, agree_trans, eqb_sym, eqb_trans}
 
 module _ {A : Type 0} (test : A → A → Bool) (decides : (a b : A) → Decides (test a b) (a ≡ b)) where
@@ -233,53 +233,40 @@ mutual
   all_decided none = tt
   all_decided (more v vs) = (record { sound = test_sound v; complete = test_complete v }, all_decided vs)
 
--- Agreement under a test of references, as a test that computes.
+-- The test of agreement under a test of references decides it.
 
 module _ (test : ℕ → ℕ → Bool) where
-  abbrev mutual
-    pub agree_by : Value → Value → Bool
-    agree_by (leaf a) (leaf b) = leaf_test a b
-    agree_by (reference y) (reference z) = test y z
-    agree_by (typed n v) (typed m w) = bytes_eq n m && agree_by v w
-    agree_by (sequence vs) (sequence ws) = agree_each_by vs ws
-    agree_by (bag vs) (bag ws) = same_test (bag vs) (bag ws)
-    agree_by _ _ = false
-
-    pub agree_each_by : Values → Values → Bool
-    agree_each_by none none = true
-    agree_each_by (more v vs) (more w ws) = agree_by v w && agree_each_by vs ws
-    agree_each_by _ _ = false
-
   mutual
-    by_sound : (v w : Value) → agree_by v w ≡ true → Agree test v w
+    pub by_sound : (v w : Value) → agree_by test v w ≡ true → Agree test v w
     by_sound (leaf a) (leaf b) h = (leaf_decides a b).0 h
     by_sound (reference y) (reference z) h = h
     by_sound (typed n v) (typed m w) h =
-        let parts = and_parts (bytes_eq n m) (agree_by v w) h in
+        let parts = and_parts (bytes_eq n m) (agree_by test v w) h in
         ((bytes_eq-Decides n m).0 parts.0, by_sound v w parts.1)
     by_sound (sequence vs) (sequence ws) h = each_by_sound vs ws h
     by_sound (bag vs) (bag ws) h = test_sound (bag vs) (bag ws) h
     by_sound _ _ h = absurd (cc)
 
-    pub each_by_sound : (vs ws : Values) → agree_each_by vs ws ≡ true → AgreeEach test vs ws
+    pub each_by_sound : (vs ws : Values) → agree_each_by test vs ws ≡ true → AgreeEach test vs ws
     each_by_sound none none h = tt
     each_by_sound (more v vs) (more w ws) h =
-        let parts = and_parts (agree_by v w) (agree_each_by vs ws) h in
+        let parts = and_parts (agree_by test v w) (agree_each_by test vs ws) h in
         (by_sound v w parts.0, each_by_sound vs ws parts.1)
     each_by_sound _ _ h = absurd (cc)
 
   mutual
-    by_complete : (v w : Value) → Agree test v w → agree_by v w ≡ true
+    pub by_complete : (v w : Value) → Agree test v w → agree_by test v w ≡ true
     by_complete (leaf a) (leaf b) h = (leaf_decides a b).1 h
     by_complete (reference y) (reference z) h = h
-    by_complete (typed n v) (typed m w) h = and_from (bytes_eq n m) (agree_by v w) ((bytes_eq-Decides n m).1 h.0)
+    by_complete (typed n v) (typed m w) h = and_from (bytes_eq n m) (agree_by test v w) ((bytes_eq-Decides n m).1 h.0)
         (by_complete v w h.1)
     by_complete (sequence vs) (sequence ws) h = each_by_complete vs ws h
     by_complete (bag vs) (bag ws) h = test_complete (bag vs) (bag ws) h
     by_complete _ _ h = absurd h
 
-    pub each_by_complete : (vs ws : Values) → AgreeEach test vs ws → agree_each_by vs ws ≡ true
+    pub each_by_complete : (vs ws : Values) → AgreeEach test vs ws → agree_each_by test vs ws ≡ true
     each_by_complete none none h = refl
-    each_by_complete (more v vs) (more w ws) h = and_from (agree_by v w) (agree_each_by vs ws) (by_complete v w h.0)
+    each_by_complete (more v vs) (more w ws) h =
+        and_from (agree_by test v w) (agree_each_by test vs ws) (by_complete v w h.0)
         (each_by_complete vs ws h.1)
     each_by_complete _ _ h = absurd h

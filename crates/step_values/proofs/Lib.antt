@@ -2,6 +2,9 @@ pub mod References
 pub mod Agreement
 pub mod Renaming
 pub mod Deciding
+pub mod Labelled
 pub mod Sorting
 pub mod NormalForms
+pub mod Trees
+pub mod Weights
 pub mod Walks

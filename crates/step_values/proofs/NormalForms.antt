@@ -14,18 +14,19 @@ use Rattle.step_literals.specs.ItemKeyLemmas.{texts_are_their_items}
 use Rattle.step_literals.specs.declared.literal.Text.{Text}
 use Rattle.step_values.specs.declared.normal.Normal.{Normal, out-Normal}
 use Rattle.step_values.specs.declared.normal.Normal.TheVariants as variant
-use Rattle.step_values.specs.contracts.normal.NormalPartialEq.TheImpl.{ghosts}
 use Rattle.step_values.specs.contracts.normal.NormalPartialEq.TheImpl.Laws as equals
 use Rattle.step_values.specs.contracts.normal.NormalOrd.TheImpl.Laws as orders
+use Rattle.step_values.specs.declared.labels.Label.{Label}
+use Rattle.step_values.specs.declared.labels.Label.TheVariants.{Name, Class}
+use Rattle.step_values.specs.contracts.labels.LabelPartialEq.TheImpl.{ghosts as labels}
+use Rattle.step_values.specs.ComputedLabels.{code}
 use Rattle.step_values.specs.Leaves.{text}
 use Rattle.step_values.specs.Values.{Value, leaf, reference, typed, sequence, bag, Values, none, more, IsReordering, unchanged, kept, swapped, joined, AgreeEach}
 use Rattle.step_values.specs.ComputedAgreement.{leaf_test, count_in, size, same_test, same_each_test, counts_test}
-use Rattle.step_values.specs.ComputedForms.{Form, plain, to, called, listed, bagged, form, normal_cmp, IsNormal, AreNormal, AreSorted}
+use Rattle.step_values.specs.ComputedForms.{Form, plain, to, called, listed, bagged, form, normal_cmp, normal_eq, IsNormal, AreNormal, AreSorted}
 use Rattle.step_values.proofs.Deciding.{leaf_decides, same_bool, Member, counts_from, count_swap, test_sound, test_complete}
+use Rattle.step_values.proofs.Labelled.{one_code}
 use Rattle.step_values.proofs.Sorting.{often, ascend, places_same, same_often, often_moved}
-
-abbrev pub normal_eq : Normal → Normal → Bool
-normal_eq m n = ghosts.eq m n
 
 order : IsTotalOrder normal_cmp
 order = orders.total-law
@@ -34,6 +35,9 @@ ties : (m n : Normal) → normal_eq m n ≡ is_eq (normal_cmp m n)
 ties = orders.matches_eq-law
 
 -- Equality, one layer deep
+
+abbrev label_eq : Label → Label → Bool
+label_eq a b = labels.eq a b
 
 abbrev form_test : Form → Form → Bool
 form_test (plain a) (plain b) = leaf_test a b
@@ -50,6 +54,12 @@ texts_same s t =
     same_bool _ _ (λ e. leaves.1 (ap text (texts.0 e)))
     (λ e. texts.1 (let same : text (text_items s) ≡ text (text_items t) = leaves.0 e in cc))
 
+labels_same : (a b : Label) → label_eq a b ≡ (code a == code b)
+labels_same (Name y) (Name z) = sym (one_code (Name y) (Name z))
+labels_same (Name y) (Class c) = sym (one_code (Name y) (Class c))
+labels_same (Class c) (Name y) = sym (one_code (Class c) (Name y))
+labels_same (Class c) (Class d) = sym (one_code (Class c) (Class d))
+
 unrolled : (m n : Normal) → equals.unfolded m n ≡ form_test (form m) (form n)
 unfolding out-Normal Carrier.out
 unrolled variant.Unset variant.Unset = refl
@@ -58,7 +68,7 @@ unrolled (variant.Number a) (variant.Number b) = refl
 unrolled (variant.Text s) (variant.Text t) = texts_same s t
 unrolled (variant.Bits a) (variant.Bits b) = refl
 unrolled (variant.Element a) (variant.Element b) = refl
-unrolled (variant.Reference y) (variant.Reference z) = refl
+unrolled (variant.Reference a) (variant.Reference b) = labels_same a b
 unrolled (variant.Typed' a m p) (variant.Typed' b n q) = refl
 unrolled (variant.Sequence' k ms) (variant.Sequence' l ns) = refl
 unrolled (variant.Bag' k ms) (variant.Bag' l ns) = refl
@@ -230,7 +240,7 @@ mutual
       ∙ bags_same vs ws (all_faithful vs) p.0 q.0 p.2 q.2
   forms_same v w m n p q = apart v w m n p q (λ e. absurd (omega (arith, e)))
 
-  lists_same : (vs ws : Values) (ms ns : List Normal) → AreNormal vs ms → AreNormal ws ns
+  pub lists_same : (vs ws : Values) (ms ns : List Normal) → AreNormal vs ms → AreNormal ws ns
       → pointwise normal_eq ms ns ≡ same_each_test vs ws
   lists_same none none [] [] p q = refl
   lists_same none (more w ws) [] (n ∷ ns) p q = refl

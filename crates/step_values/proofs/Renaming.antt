@@ -12,6 +12,19 @@ renamed_reordering h (kept v r) = kept (renamed h v) (renamed_reordering h r)
 renamed_reordering h (swapped v w vs) = swapped (renamed h v) (renamed h w) (renamed_each h vs)
 renamed_reordering h (joined r s) = joined (renamed_reordering h r) (renamed_reordering h s)
 
+-- renamed by what leaves each name, a value stays
+mutual
+  pub renamed_itself : (h : ℕ → ℕ) → ((y : ℕ) → h y ≡ y) → (v : Value) → renamed h v ≡ v
+  renamed_itself h f (leaf a) = refl
+  renamed_itself h f (reference y) = ap reference (f y)
+  renamed_itself h f (typed n v) = ap (typed n) (renamed_itself h f v)
+  renamed_itself h f (sequence vs) = ap sequence (each_renamed_itself h f vs)
+  renamed_itself h f (bag vs) = ap bag (each_renamed_itself h f vs)
+
+  pub each_renamed_itself : (h : ℕ → ℕ) → ((y : ℕ) → h y ≡ y) → (vs : Values) → renamed_each h vs ≡ vs
+  each_renamed_itself h f none = refl
+  each_renamed_itself h f (more v vs) = let first = renamed_itself h f v in let rest = each_renamed_itself h f vs in cc
+
 -- values that agree are renamed to values that agree by name, where names that the test passes are renamed alike
 mutual
   pub agree_renamed : (h : ℕ → ℕ) (l : ℕ → ℕ → Bool) → ((y z : ℕ) → l y z ≡ true → h y ≡ h z) → (v w : Value)

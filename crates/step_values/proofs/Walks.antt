@@ -1,26 +1,39 @@
--- Steps over slices of values.
-use Rattle.std.proofs.Common.{◌≡◌, ◌≢◌, ◌<◌, ℕ, suc, ◌+◌, Bool, true, false, List, [], ◌∷◌, length, get_or, drop, refl, sym, ◌∙◌, ap, eqb-true, add-one, drop-cons, ◌≤◌, ◌++◌, subst, append_assoc, append-nil}
+-- Steps over lists of values.
+use Rattle.std.proofs.Common.{◌≡◌, ◌≢◌, ℕ, zero, suc, ◌+◌, Bool, true, false, Some, List, [], ◌∷◌, refl, sym, ◌∙◌, ap, eqb-true, add-one, ◌≤◌, ◌++◌, subst, append_assoc, append-nil, arith}
 use Rattle.std.specs.Prelude.{◌==◌, ◌&&◌}
-use Rattle.std.proofs.lemmas.List.{drop_all}
-use Rattle.step_values.specs.declared.value.PlainValue.{PlainValue}
-use Rattle.step_values.specs.Values.{bag, Values, none, more}
-use Rattle.step_values.specs.ComputedRenamings.{value_by, values_by}
-use Rattle.step_values.specs.declared.agree.Renaming.{Renaming}
-use Rattle.step_values.specs.ComputedAgreement.{same_test, same_each_test, counts_test, size}
 use Rattle.step_values.specs.declared.normal.Normal.{Normal}
+use Rattle.step_values.specs.References.{renamed_each}
+use Rattle.step_values.specs.Values.{Value, bag, Values, none, more}
+use Rattle.step_values.specs.Labels.{Labelling}
+use Rattle.step_values.specs.Slots.{nth}
+use Rattle.step_values.specs.ComputedAgreement.{counts_test, size}
 use Rattle.step_values.specs.ComputedForms.{IsNormal, AreNormal}
+use Rattle.step_values.specs.ComputedLabels.{labelled, each_labelled, same_by, same_each_by}
+
+-- what is left at a place
+abbrev pub after : ℕ → Values → Values
+after zero vs = vs
+after (suc i) none = none
+after (suc i) (more v vs) = after i vs
+
+after_suc : (vs : Values) (i : ℕ) (v : Value) → nth vs i ≡ Some v → after i vs ≡ more v (after (suc i) vs)
+after_suc none i v e = absurd (cc)
+after_suc (more u vs) zero v e = let same : u ≡ v = cc in ap (λ x. more x vs) same
+after_suc (more u vs) (suc i) v e = after_suc vs i v e
 
 -- what is left at i is its value and what is left after it
-pub values_at : (f : Renaming) (vs : List PlainValue) (i : ℕ) (v : PlainValue) → i < length vs → v ≡ get_or vs i v
-    → values_by f (drop i vs) ≡ more (value_by f v) (values_by f (drop (i + 1) vs))
-values_at f vs i v h e =
-    ap (values_by f) (drop-cons vs i v h)
-    ∙ ap (λ u. more (value_by f u) (values_by f (drop (suc i) vs))) (sym e)
-    ∙ ap (λ n. more (value_by f v) (values_by f (drop n vs))) (sym (add-one i))
+pub after_at : (vs : Values) (i : ℕ) (v : Value) → nth vs i ≡ Some v → after i vs ≡ more v (after (i + 1) vs)
+after_at vs i v e = after_suc vs i v e ∙ ap (λ n. more v (after n vs)) (sym (add-one i))
 
-pub size_by : (f : Renaming) (vs : List PlainValue) → size (values_by f vs) ≡ length vs
-size_by f [] = refl
-size_by f (v ∷ vs) = ap suc (size_by f vs)
+pub after_all : (vs : Values) (i : ℕ) → size vs ≤ i → after i vs ≡ none
+after_all none zero h = refl
+after_all none (suc i) h = refl
+after_all (more v vs) zero h = absurd (omega (arith, h))
+after_all (more v vs) (suc i) h = after_all vs i (omega (arith, h))
+
+size_renamed : (h : ℕ → ℕ) (vs : Values) → size (renamed_each h vs) ≡ size vs
+size_renamed h none = refl
+size_renamed h (more v vs) = ap suc (size_renamed h vs)
 
 pub not_equal : (m n : ℕ) → m ≢ n → (m == n) ≡ false
 not_equal m n h = go (m == n) refl
@@ -29,42 +42,67 @@ not_equal m n h = go (m == n) refl
     go true e = absurd (h (eqb-true m n e))
     go false e = e
 
-pub bags_of_two_sizes : (f g : Renaming) (vs ws : List PlainValue) → length vs ≢ length ws
-    → same_test (bag (values_by f vs)) (bag (values_by g ws)) ≡ false
+pub bags_of_two_sizes : (f g : Labelling) (vs ws : Values) → size vs ≢ size ws → same_by f g (bag vs) (bag ws) ≡ false
 bags_of_two_sizes f g vs ws n =
-    ap (λ b. b && counts_test (values_by f vs) (values_by f vs) (values_by g ws))
-    (not_equal _ _ (λ e. n (sym (size_by f vs) ∙ e ∙ size_by g ws)))
+    ap (λ b. b && counts_test (renamed_each f.inside vs) (renamed_each f.inside vs) (renamed_each g.inside ws))
+    (not_equal _ _ (λ e. n (sym (size_renamed f.inside vs) ∙ e ∙ size_renamed g.inside ws)))
 
-pub lists_of_two_sizes : (vs ws : Values) → size vs ≢ size ws → same_each_test vs ws ≡ false
-lists_of_two_sizes none none n = absurd (n refl)
-lists_of_two_sizes none (more w ws) n = refl
-lists_of_two_sizes (more v vs) none n = refl
-lists_of_two_sizes (more v vs) (more w ws) n = ap (λ b. same_test v w && b)
-    (lists_of_two_sizes vs ws (λ e. n (ap suc e))) ∙ and_false (same_test v w)
-  where
-    and_false : (b : Bool) → (b && false) ≡ false
-    and_false true = refl
-    and_false false = refl
+and_false : (b : Bool) → (b && false) ≡ false
+and_false true = refl
+and_false false = refl
+
+pub lists_of_two_sizes : (f g : Labelling) (vs ws : Values) → size vs ≢ size ws → same_each_by f g vs ws ≡ false
+lists_of_two_sizes f g none none n = absurd (n refl)
+lists_of_two_sizes f g none (more w ws) n = refl
+lists_of_two_sizes f g (more v vs) none n = refl
+lists_of_two_sizes f g (more v vs) (more w ws) n = ap (λ b. same_by f g v w && b)
+    (lists_of_two_sizes f g vs ws (λ e. n (ap suc e))) ∙ and_false (same_by f g v w)
+
+-- Two lists, place by place.
+
+module _ (f g : Labelling) (vs ws : Values) where
+  pub each_at : (i : ℕ) (v w : Value) → nth vs i ≡ Some v → nth ws i ≡ Some w
+      → same_each_by f g (after i vs) (after i ws)
+      ≡ (same_by f g v w && same_each_by f g (after (i + 1) vs) (after (i + 1) ws))
+  each_at i v w e k =
+      ap (λ us. same_each_by f g us (after i ws)) (after_at vs i v e)
+      ∙ ap (same_each_by f g (more v (after (i + 1) vs))) (after_at ws i w k)
+
+  pub each_stops : (i : ℕ) (v w : Value) → nth vs i ≡ Some v → nth ws i ≡ Some w → same_by f g v w ≡ false
+      → same_each_by f g (after i vs) (after i ws) ≡ false
+  each_stops i v w e k h = each_at i v w e k
+      ∙ ap (λ b. b && same_each_by f g (after (i + 1) vs) (after (i + 1) ws)) h
+
+  pub each_goes_on : (i : ℕ) (v w : Value) → nth vs i ≡ Some v → nth ws i ≡ Some w → same_by f g v w ≡ true
+      → same_each_by f g (after i vs) (after i ws) ≡ same_each_by f g (after (i + 1) vs) (after (i + 1) ws)
+  each_goes_on i v w e k h = each_at i v w e k
+      ∙ ap (λ b. b && same_each_by f g (after (i + 1) vs) (after (i + 1) ws)) h
+
+  pub each_ends : (i : ℕ) → size vs ≡ size ws → size vs ≤ i → same_each_by f g (after i vs) (after i ws) ≡ true
+  each_ends i e l =
+      let m : size ws ≤ i = omega (arith, e, l) in
+      ap (λ us. same_each_by f g us (after i ws)) (after_all vs i l)
+      ∙ ap (same_each_by f g none) (after_all ws i m)
 
 -- Normal forms, collected value by value.
 
 -- with normal forms of what is left they are those of all
-abbrev pub Collects : Renaming → List PlainValue → ℕ → List Normal → Type 0
-Collects f vs i ms = (ns : List Normal) → AreNormal (values_by f (drop i vs)) ns → AreNormal (values_by f vs) (ms ++ ns)
+abbrev pub Collects : Labelling → Values → ℕ → List Normal → Type 0
+Collects f vs i ms = (ns : List Normal) → AreNormal (each_labelled f (after i vs)) ns
+    → AreNormal (each_labelled f vs) (ms ++ ns)
 
-pub collected_none : (f : Renaming) (vs : List PlainValue) → Collects f vs 0 []
+pub collected_none : (f : Labelling) (vs : Values) → Collects f vs 0 []
 collected_none f vs ns p = p
 
-pub collected_more : (f : Renaming) (vs : List PlainValue) (i : ℕ) (v : PlainValue) (n : Normal) (ms : List Normal)
-    → i < length vs → v ≡ get_or vs i v → IsNormal (value_by f v) n → Collects f vs i ms
-    → Collects f vs (i + 1) (ms ++ n ∷ [])
-collected_more f vs i v n ms h e form c ns p =
-    let all : AreNormal (values_by f vs) (ms ++ n ∷ ns) =
-    c (n ∷ ns) (subst (λ us. AreNormal us (n ∷ ns)) (sym (values_at f vs i v h e)) (form, p)) in
-    subst (AreNormal (values_by f vs)) (sym (append_assoc ms (n ∷ []) ns)) all
+pub collected_more : (f : Labelling) (vs : Values) (i : ℕ) (v : Value) (n : Normal) (ms : List Normal)
+    → nth vs i ≡ Some v → IsNormal (labelled f v) n → Collects f vs i ms → Collects f vs (i + 1) (ms ++ n ∷ [])
+collected_more f vs i v n ms e form c ns p =
+    let all : AreNormal (each_labelled f vs) (ms ++ n ∷ ns) =
+    c (n ∷ ns) (subst (λ us. AreNormal (each_labelled f us) (n ∷ ns)) (sym (after_at vs i v e)) (form, p)) in
+    subst (AreNormal (each_labelled f vs)) (sym (append_assoc ms (n ∷ []) ns)) all
 
-pub collected_all : (f : Renaming) (vs : List PlainValue) (i : ℕ) (ms : List Normal) → length vs ≤ i
-    → Collects f vs i ms → AreNormal (values_by f vs) ms
+pub collected_all : (f : Labelling) (vs : Values) (i : ℕ) (ms : List Normal) → size vs ≤ i → Collects f vs i ms
+    → AreNormal (each_labelled f vs) ms
 collected_all f vs i ms h c =
-    subst (AreNormal (values_by f vs)) (append-nil ms)
-    (c [] (subst (λ us. AreNormal (values_by f us) []) (sym (drop_all i vs h)) tt))
+    subst (AreNormal (each_labelled f vs)) (append-nil ms)
+    (c [] (subst (λ us. AreNormal (each_labelled f us) []) (sym (after_all vs i h)) tt))

@@ -56,3 +56,18 @@ abbrev mutual
   pub counts_test : Values → Values → Values → Bool
   counts_test none vs ws = true
   counts_test (more v rest) vs ws = (count_in (same_test v) vs == count_in (same_test v) ws) && counts_test rest vs ws
+
+-- agreement under a test of references, as a test
+abbrev mutual
+  pub agree_by : (ℕ → ℕ → Bool) → Value → Value → Bool
+  agree_by test (leaf a) (leaf b) = leaf_test a b
+  agree_by test (reference y) (reference z) = test y z
+  agree_by test (typed n v) (typed m w) = bytes_eq n m && agree_by test v w
+  agree_by test (sequence vs) (sequence ws) = agree_each_by test vs ws
+  agree_by test (bag vs) (bag ws) = same_test (bag vs) (bag ws)
+  agree_by test _ _ = false
+
+  pub agree_each_by : (ℕ → ℕ → Bool) → Values → Values → Bool
+  agree_each_by test none none = true
+  agree_each_by test (more v vs) (more w ws) = agree_by test v w && agree_each_by test vs ws
+  agree_each_by test _ _ = false

@@ -78,5 +78,8 @@ mutual
       values_inj vs ws (cc) in cc
   values_inj _ _ e = absurd (cc)
 
-abbrev pub values : Coded Values
-values = record { code = values_code; inj = values_inj }
+abbrev pub coded_value : Coded Value
+coded_value = record { code = value_code; inj = value_inj }
+
+abbrev pub coded_values : Coded Values
+coded_values = record { code = values_code; inj = values_inj }

@@ -1,12 +1,14 @@
--- What the code computes; no promise stands here. Normal forms: values whose references are
--- renamed already, and whose bags have their members in order.
-use Rattle.std.specs.Prelude.{◌≡◌, ℕ, List, [], ◌∷◌}
+-- What the code computes; no promise stands here. Normal forms: values whose references are numbers of labels already,
+-- and whose bags have their members in order.
+use Rattle.std.specs.Prelude.{◌≡◌, ℕ, Bool, List, [], ◌∷◌}
 use Rattle.std.specs.List.Sorted.{IsPermutation, IsSorted}
 use Rattle.std.specs.declared.cmp.Ordering.{Ordering}
 use Rattle.step_values.specs.declared.normal.Normal.{Normal, out-Normal}
 use Rattle.step_values.specs.declared.normal.Normal.TheOpen.{Normal-F}
 use Rattle.step_values.specs.declared.normal.Normal.TheOpen as layer
 use Rattle.step_values.specs.contracts.normal.NormalOrd.TheImpl.{ghosts}
+use Rattle.step_values.specs.contracts.normal.NormalPartialEq.TheImpl.{ghosts as equals}
+use Rattle.step_values.specs.ComputedLabels.{code}
 use Rattle.step_values.specs.Leaves.{Leaf, unset, derived, element}
 use Rattle.step_values.specs.Values.{Value, leaf, reference, typed, sequence, bag, Values, none, more}
 use Rattle.step_values.specs.Views.{word_of, number_leaf, text_leaf, bits_leaf}
@@ -26,7 +28,7 @@ form_of (layer.Number d) = plain (number_leaf d)
 form_of (layer.Text t) = plain (text_leaf t)
 form_of (layer.Bits b) = plain (bits_leaf b)
 form_of (layer.Element w) = plain (element (word_of w))
-form_of (layer.Reference y) = to y
+form_of (layer.Reference l) = to (code l)
 form_of (layer.Typed w n) = called (word_of w) n.value
 form_of (layer.Sequence ns) = listed ns.items
 form_of (layer.Bag ns) = bagged ns.items
@@ -34,7 +36,10 @@ form_of (layer.Bag ns) = bagged ns.items
 abbrev pub form : Normal → Form
 form n = form_of (out-Normal n)
 
--- the derived order
+-- the derived equality and order
+abbrev pub normal_eq : Normal → Normal → Bool
+normal_eq m n = equals.eq m n
+
 abbrev pub normal_cmp : Normal → Normal → Ordering
 normal_cmp m n = ghosts.cmp m n
 

@@ -2,9 +2,11 @@ pub mod Leaves
 pub mod Values
 pub mod References
 pub mod Maps
+pub mod Labels
 pub mod Views
 pub mod ComputedCodes
 pub mod ComputedAgreement
-pub mod ComputedRenamings
+pub mod Slots
+pub mod ComputedLabels
 pub mod ComputedForms
 pub mod Laws

@@ -1,98 +1,111 @@
-//! Agreement of values, each reference with itself alone, with the references of each side renamed.
+//! Agreement of values, by what stands for the references of each side.
 
-ghost use Rattle.std.specs.Prelude.{◌≡◌, IfOk};
-ghost use Rattle.step_values.specs.Maps.{led_by};
-ghost use Rattle.step_values.specs.ComputedRenamings.{name_by, same_by, same_each_by, same_bags_by};
+ghost use Rattle.std.specs.Prelude.{◌≡◌, ◌↔◌, IfOk, IsTrue};
+ghost use Rattle.step_values.specs.ComputedLabels.{same_by, same_each_by};
+ghost use Rattle.step_values.specs.Labels.{AgreeBy, AgreeEachBy};
+ghost use Rattle.step_values.specs.Slots.{node_value};
+ghost use Rattle.step_values.specs.Values.{bag};
 
+use crate::labels::{Labels, same_label};
 use crate::literals::{same_bits, same_number, same_text, same_word};
 use crate::normal::sorted_forms;
-use crate::value::PlainValue;
+use crate::slot::{Node, Slot, Slots};
 use std::alloc::{AllocError, Global};
-use std::collections::BTreeMap;
 
-/// A finite map from names to names.
-pub type Map = BTreeMap<u64, u64>;
-
-/// Where the map leads a name; a name that it lacks stays.
-pub fn lead(map: &Map, name: u64) -> u64
-    ensures { result ≡ led_by map.now name }
-{
-    map.get(&name).copied().unwrap_or(name)
-}
-
-/// A renaming of references.
-#[derive(Clone, Copy)]
-pub enum Renaming<'m> {
-    /// Each name stays.
-    Itself,
-    /// Each name that the map has becomes what it leads to.
-    By(&'m Map),
-}
-
-impl<'m> Renaming<'m> {
-    pub(crate) fn name(&self, name: u64) -> u64
-        ensures { result ≡ name_by self.now name }
-    {
-        match *self {
-            Renaming::Itself => name,
-            Renaming::By(map) => lead(map, name),
-        }
-    }
-}
-
-/// Whether two values agree: literals by value, references where they have one name after renaming, sequences place
-/// by place, bags whatever the order of their members.
+/// Whether two values agree: literals by value, references where what stands for them is one, sequences place by
+/// place, bags whatever the order of their members.
 ///
 /// `AllocError` comes where memory runs out, which only bags take.
-#[cycle(agree)]
-pub fn same_value<'m, 'a, 'b>(
+pub fn same_value<'p, 'a, 'q, 'b, F: Labels, G: Labels>(
     alloc: Global,
-    f: &Renaming<'m>,
-    g: &Renaming<'m>,
-    v: &PlainValue<'a>,
-    w: &PlainValue<'b>,
+    f: &F,
+    g: &G,
+    v: &Slot<'p, 'a>,
+    w: &Slot<'q, 'b>,
 ) -> Result<bool, AllocError>
-    ensures { IfOk result (λ b. b ≡ same_by f.now v.now g.now w.now) }
+    ensures { IfOk result (λ b. IsTrue b ↔
+        AgreeBy (F.labelling f.now) (G.labelling g.now) v.now w.now) }
 {
-    match (v, w) {
-        (PlainValue::Unset, PlainValue::Unset) => Ok(true),
-        (PlainValue::Derived, PlainValue::Derived) => Ok(true),
-        (PlainValue::Number(a), PlainValue::Number(b)) => Ok(same_number(a, b)),
-        (PlainValue::Text(a), PlainValue::Text(b)) => Ok(same_text(a, b)),
-        (PlainValue::Bits(a), PlainValue::Bits(b)) => Ok(same_bits(a, b)),
-        (PlainValue::Element(a), PlainValue::Element(b)) => Ok(same_word(a, b)),
-        (PlainValue::Reference(y), PlainValue::Reference(z)) => Ok(f.name(*y) == g.name(*z)),
-        (PlainValue::Typed(n, a), PlainValue::Typed(m, b)) => {
-            if same_word(n, m) {
-                same_value(alloc, f, g, a, b)
-            } else {
-                Ok(false)
-            }
-        }
-        (PlainValue::Sequence(vs), PlainValue::Sequence(ws)) => same_each(alloc, f, g, vs, ws),
-        (PlainValue::Bag(vs), PlainValue::Bag(ws)) => same_bags(alloc, f, g, vs, ws),
-        _ => Ok(false),
-    }
+    values_agree(alloc, f, g, v, w)
 }
 
 /// Whether two lists of values agree place by place; lists of different length don't.
 ///
 /// `AllocError` comes where memory runs out.
-#[cycle(agree)]
-pub fn same_each<'m, 'a, 'b>(
+pub fn same_each<'p, 'a, 'q, 'b, F: Labels, G: Labels>(
     alloc: Global,
-    f: &Renaming<'m>,
-    g: &Renaming<'m>,
-    vs: &[PlainValue<'a>],
-    ws: &[PlainValue<'b>],
+    f: &F,
+    g: &G,
+    vs: &Slots<'p, 'a>,
+    ws: &Slots<'q, 'b>,
 ) -> Result<bool, AllocError>
-    ensures { IfOk result (λ b. b ≡ same_each_by f.now vs.now g.now ws.now) }
+    ensures { IfOk result (λ b. IsTrue b ↔
+        AgreeEachBy (F.labelling f.now) (G.labelling g.now) vs.now ws.now) }
+{
+    lists_agree(alloc, f, g, vs, ws)
+}
+
+#[cycle(agree)]
+fn values_agree<'p, 'a, 'q, 'b, F: Labels, G: Labels>(
+    alloc: Global,
+    f: &F,
+    g: &G,
+    v: &Slot<'p, 'a>,
+    w: &Slot<'q, 'b>,
+) -> Result<bool, AllocError>
+    ensures { IfOk result (λ b. b ≡ same_by (F.labelling f.now) (G.labelling g.now) v.now w.now) }
+{
+    nodes_agree(alloc, f, g, &v.node(), &w.node())
+}
+
+#[cycle(agree)]
+fn nodes_agree<'p, 'a, 'q, 'b, F: Labels, G: Labels>(
+    alloc: Global,
+    f: &F,
+    g: &G,
+    v: &Node<'p, 'a>,
+    w: &Node<'q, 'b>,
+) -> Result<bool, AllocError>
+    ensures { IfOk result (λ b. b ≡
+        same_by (F.labelling f.now) (G.labelling g.now) (node_value v.now) (node_value w.now)) }
+{
+    match (v, w) {
+        (Node::Unset, Node::Unset) => Ok(true),
+        (Node::Derived, Node::Derived) => Ok(true),
+        (Node::Number(a), Node::Number(b)) => Ok(same_number(a, b)),
+        (Node::Text(a), Node::Text(b)) => Ok(same_text(a, b)),
+        (Node::Bits(a), Node::Bits(b)) => Ok(same_bits(a, b)),
+        (Node::Element(a), Node::Element(b)) => Ok(same_word(a, b)),
+        (Node::Reference(y), Node::Reference(z)) => { Ok(same_label(f.outside(*y), g.outside(*z))) }
+        (Node::Typed(n, a), Node::Typed(m, b)) => {
+            if same_word(n, m) {
+                values_agree(alloc, f, g, a, b)
+            } else {
+                Ok(false)
+            }
+        }
+        (Node::Sequence(vs), Node::Sequence(ws)) => lists_agree(alloc, f, g, vs, ws),
+        (Node::Bag(vs), Node::Bag(ws)) => bags_agree(alloc, f, g, vs, ws),
+        _ => Ok(false),
+    }
+}
+
+#[cycle(agree)]
+fn lists_agree<'p, 'a, 'q, 'b, F: Labels, G: Labels>(
+    alloc: Global,
+    f: &F,
+    g: &G,
+    vs: &Slots<'p, 'a>,
+    ws: &Slots<'q, 'b>,
+) -> Result<bool, AllocError>
+    ensures { IfOk result (λ b. b ≡
+        same_each_by (F.labelling f.now) (G.labelling g.now) vs.now ws.now) }
 {
     if vs.len() != ws.len() {
         return Ok(false);
     }
     for i in 0..vs.len() {
-        if !same_value(alloc, f, g, &vs[i], &ws[i])? {
+        if !values_agree(alloc, f, g, &vs.at(i), &ws.at(i))? {
             return Ok(false);
         }
     }
@@ -100,14 +113,15 @@ pub fn same_each<'m, 'a, 'b>(
 }
 
 /// Whether two bags agree.
-fn same_bags<'m, 'a, 'b>(
+fn bags_agree<'p, 'a, 'q, 'b, F: Labels, G: Labels>(
     alloc: Global,
-    f: &Renaming<'m>,
-    g: &Renaming<'m>,
-    vs: &[PlainValue<'a>],
-    ws: &[PlainValue<'b>],
+    f: &F,
+    g: &G,
+    vs: &Slots<'p, 'a>,
+    ws: &Slots<'q, 'b>,
 ) -> Result<bool, AllocError>
-    ensures { IfOk result (λ b. b ≡ same_bags_by f.now vs.now g.now ws.now) }
+    ensures { IfOk result (λ b. b ≡
+        same_by (F.labelling f.now) (G.labelling g.now) (bag vs.now) (bag ws.now)) }
 {
     if vs.len() != ws.len() {
         return Ok(false);

@@ -5,7 +5,9 @@
 #![tactic(auto)]
 
 pub mod agree;
+pub mod labels;
 pub mod laws;
 pub mod literals;
 pub mod normal;
+pub mod slot;
 pub mod value;

@@ -1,13 +1,14 @@
-//! Normal forms of values: each reference renamed, the members of each bag in order.
+//! Normal forms of values: the label of each reference in its place, the members of each bag in order.
 //!
-//! Two values agree, each reference with itself alone, exactly where their normal forms are equal.
+//! Two values agree, by what stands for their references, exactly where their normal forms are equal.
 
-ghost use Rattle.std.specs.Prelude.{IfOk};
+ghost use Rattle.std.specs.Prelude.{◌≡◌, IfOk};
 ghost use Rattle.step_values.specs.ComputedForms.{IsNormal, AreNormal, AreSorted};
-ghost use Rattle.step_values.specs.ComputedRenamings.{value_by, values_by};
+ghost use Rattle.step_values.specs.ComputedLabels.{labelled, each_labelled, placed, within};
+ghost use Rattle.step_values.specs.Slots.{node_value};
 
-use crate::agree::Renaming;
-use crate::value::PlainValue;
+use crate::labels::{Label, Labels};
+use crate::slot::{Node, Slot, Slots};
 use std::alloc::{AllocError, Global};
 use step_literals::literal::{Bits, Decimal, Text, Word};
 
@@ -20,7 +21,8 @@ pub enum Normal<'a> {
     Text(Text<'a>),
     Bits(Bits<'a>),
     Element(Word<'a>),
-    Reference(u64),
+    /// What stands for the reference; in a bag a name.
+    Reference(Label),
     Typed(Word<'a>, Box<Normal<'a>>),
     Sequence(Vec<Normal<'a>>),
     /// The members, in order.
@@ -30,61 +32,111 @@ pub enum Normal<'a> {
 /// The normal form of a value.
 ///
 /// `AllocError` comes where memory runs out.
-#[cycle(normal)]
-pub fn normal_form<'m, 'a: 'c, 'c>(
+pub fn normal_form<'p, 'a: 'c, 'c, F: Labels>(
     alloc: Global,
-    f: &Renaming<'m>,
-    value: &PlainValue<'a>,
+    f: &F,
+    value: &Slot<'p, 'a>,
 ) -> Result<Normal<'c>, AllocError>
-    ensures { IfOk result (λ n. IsNormal (value_by f.now value.now) n) }
+    ensures { IfOk result (λ n. IsNormal (labelled (F.labelling f.now) value.now) n) }
 {
-    match value {
-        PlainValue::Unset => Ok(Normal::Unset),
-        PlainValue::Derived => Ok(Normal::Derived),
-        PlainValue::Number(number) => Ok(Normal::Number(*number)),
-        PlainValue::Text(text) => Ok(Normal::Text(*text)),
-        PlainValue::Bits(bits) => Ok(Normal::Bits(*bits)),
-        PlainValue::Element(word) => Ok(Normal::Element(*word)),
-        PlainValue::Reference(name) => Ok(Normal::Reference(f.name(*name))),
-        PlainValue::Typed(word, inner) => {
-            let inner = normal_form(alloc, f, inner)?;
-            Ok(Normal::Typed(*word, Box::new(alloc, inner)?))
-        }
-        PlainValue::Sequence(values) => Ok(Normal::Sequence(normal_forms(alloc, f, values)?)),
-        PlainValue::Bag(values) => Ok(Normal::Bag(sorted_forms(alloc, f, values)?)),
-    }
+    form(alloc, f, false, value)
 }
 
-/// The normal forms of some values.
+/// The normal forms of some values: those of two lists are equal exactly where the lists agree place by place.
+///
+/// `AllocError` comes where memory runs out.
+pub fn normal_forms<'p, 'a: 'c, 'c, F: Labels>(
+    alloc: Global,
+    f: &F,
+    values: &Slots<'p, 'a>,
+) -> Result<Vec<Normal<'c>>, AllocError>
+    ensures { IfOk result
+        (λ ns. AreNormal (each_labelled (F.labelling f.now) values.now) ns.items) }
+{
+    forms(alloc, f, false, values)
+}
+
+/// The normal forms of the members of a bag, sorted: those of two bags are equal exactly where the bags agree.
 ///
 /// `AllocError` comes where memory runs out.
 #[cycle(normal)]
-pub fn normal_forms<'m, 'a: 'c, 'c>(
+pub fn sorted_forms<'p, 'a: 'c, 'c, F: Labels>(
     alloc: Global,
-    f: &Renaming<'m>,
-    values: &[PlainValue<'a>],
+    f: &F,
+    values: &Slots<'p, 'a>,
 ) -> Result<Vec<Normal<'c>>, AllocError>
-    ensures { IfOk result (λ ns. AreNormal (values_by f.now values.now) ns.items) }
+    ensures { IfOk result
+        (λ ns. AreSorted (each_labelled (within (F.labelling f.now)) values.now) ns.items) }
 {
-    let mut forms = Vec::with_capacity(alloc, values.len())?;
-    for value in values {
-        forms.push(normal_form(alloc, f, value)?)?;
-    }
+    let mut forms = forms(alloc, f, true, values)?;
+    forms.sort_unstable();
     Ok(forms)
 }
 
-/// The normal forms of some values, sorted: those of two bags are equal exactly where the bags agree.
-///
-/// `AllocError` comes where memory runs out.
-#[cycle(normal)]
-pub fn sorted_forms<'m, 'a: 'c, 'c>(
-    alloc: Global,
-    f: &Renaming<'m>,
-    values: &[PlainValue<'a>],
-) -> Result<Vec<Normal<'c>>, AllocError>
-    ensures { IfOk result (λ ns. AreSorted (values_by f.now values.now) ns.items) }
+/// What stands for a reference, in a bag or outside.
+fn label<F: Labels>(f: &F, in_bag: bool, name: u64) -> Label
+    ensures { result ≡ (placed in_bag (F.labelling f.now)).outside name }
 {
-    let mut forms = normal_forms(alloc, f, values)?;
-    forms.sort_unstable();
+    if in_bag {
+        Label::Name(f.inside(name))
+    } else {
+        f.outside(name)
+    }
+}
+
+#[cycle(normal)]
+fn form<'p, 'a: 'c, 'c, F: Labels>(
+    alloc: Global,
+    f: &F,
+    in_bag: bool,
+    value: &Slot<'p, 'a>,
+) -> Result<Normal<'c>, AllocError>
+    ensures { IfOk result
+        (λ n. IsNormal (labelled (placed in_bag (F.labelling f.now)) value.now) n) }
+{
+    node_form(alloc, f, in_bag, &value.node())
+}
+
+#[cycle(normal)]
+fn node_form<'p, 'a: 'c, 'c, F: Labels>(
+    alloc: Global,
+    f: &F,
+    in_bag: bool,
+    node: &Node<'p, 'a>,
+) -> Result<Normal<'c>, AllocError>
+    ensures { IfOk result
+        (λ n. IsNormal (labelled (placed in_bag (F.labelling f.now)) (node_value node.now)) n) }
+{
+    match node {
+        Node::Unset => Ok(Normal::Unset),
+        Node::Derived => Ok(Normal::Derived),
+        Node::Number(number) => Ok(Normal::Number(*number)),
+        Node::Text(text) => Ok(Normal::Text(*text)),
+        Node::Bits(bits) => Ok(Normal::Bits(*bits)),
+        Node::Element(word) => Ok(Normal::Element(*word)),
+        Node::Reference(name) => Ok(Normal::Reference(label(f, in_bag, *name))),
+        Node::Typed(word, inner) => {
+            let inner = form(alloc, f, in_bag, inner)?;
+            Ok(Normal::Typed(*word, Box::new(alloc, inner)?))
+        }
+        Node::Sequence(values) => Ok(Normal::Sequence(forms(alloc, f, in_bag, values)?)),
+        Node::Bag(values) => Ok(Normal::Bag(sorted_forms(alloc, f, values)?)),
+    }
+}
+
+#[cycle(normal)]
+fn forms<'p, 'a: 'c, 'c, F: Labels>(
+    alloc: Global,
+    f: &F,
+    in_bag: bool,
+    values: &Slots<'p, 'a>,
+) -> Result<Vec<Normal<'c>>, AllocError>
+    ensures { IfOk result
+        (λ ns. AreNormal (each_labelled (placed in_bag (F.labelling f.now)) values.now) ns.items) }
+{
+    let mut forms = Vec::with_capacity(alloc, values.len())?;
+    for i in 0..values.len() {
+        forms.push(form(alloc, f, in_bag, &values.at(i))?)?;
+    }
     Ok(forms)
 }

@@ -2,9 +2,9 @@
 use Rattle.std.proofs.Common.{◌≡◌, ◌⊎◌, ◌==◌, ◌||◌, ℕ, List, [], ◌∷◌, ◌++◌, Option, Some, None, Bool, true, false, refl, sym, ap, ap₂, ◌∙◌, inl, inr, codes, arith, rules, option_map, true≢false, append-nil, append_assoc, subst}
 use Rattle.std.specs.List.{fold}
 use Rattle.std.specs.Str.{bytes_eq, chars}
-use Rattle.clap.specs.Kinds.{HasKind, IsAmong, Kinds, or_else}
-use Rattle.clap.specs.Walk.{after_step, Step, value, subcommand_met, idle, word_met, arg_by_short, reacted, finished, settled, Held, Names, Rule, Row, Text, Walk, arg_by_long, first_of, nothing_held, walk, walk_from, walked}
-use Rattle.clap.specs.Simple.{HasMatchesOf, subcommand_rows, subcommand_rows_of, entered, help_rule, filled, with_index, App, Shape, built, built_leaf, inherited, names_of, subcommand_of, is_simple}
+use Rattle.clap.specs.Kinds.{HasKind, Kinds, or_else}
+use Rattle.clap.specs.Walk.{after_step, Step, value, subcommand_met, idle, word_met, arg_by_short, reacted, finished, settled, Held, Names, Rule, Row, Text, Walk, arg_by_long, first_of, nothing_held, takes_values, walk, walk_from, walked}
+use Rattle.clap.specs.Simple.{HasMatchesOf, subcommand_rows, subcommand_rows_of, entered, help_rule, version_rule, filled, with_index, App, Shape, built, built_leaf, inherited, names_of, subcommand_of, is_simple}
 use Rattle.std.specs.Str.{IsUtf8}
 use Rattle.std.proofs.lemmas.Str.{encodes-IsAscii, IsUtf8-string_bytes, encodes-chars}
 use Rattle.std.proofs.Math.Utf8.{encodes}
@@ -24,9 +24,9 @@ use Rattle.clap.specs.Values.{kind_of}
 use Rattle.std.specs.Box.{box_value}
 use Rattle.clap.proofs.OnLiterals.{clap_on_literals}
 use Rattle.stepmin.specs.Clap.{file_in, plain_app, stepmin_app}
-use Rattle.stepmin.specs.Requests.{CallFor, CallsFor}
+use Rattle.stepmin.specs.Requests.{CallFor, CallsFor, is_shown}
 use Rattle.stepmin.specs.declared.usage.Refusal.{Refusal}
-use Rattle.stepmin.specs.declared.usage.Refusal.TheVariants.{Help, Usage, Memory}
+use Rattle.stepmin.specs.declared.usage.Refusal.TheVariants.{Shown, Usage, Memory}
 use Rattle.stepmin.specs.Commands.{AsksPlain, AreOperand, IsOperand, dashes}
 
 abbrev top : Shape
@@ -149,61 +149,78 @@ no_option (x ∷ []) is = elim (eqb_tells x 45) [
 ]
 no_option (x ∷ y ∷ ys) is = rw (ne_eqb x 45 is) (refl, refl, refl)
 
--- ---- the flag for help
+-- ---- the flags, which ask for a text
 
-abbrev help : Rule
-help = with_index 1 (filled help_rule)
+-- the flag ends the reading of the words
+record Asks (flag : Rule) : Type 0 where
+  pub alone : takes_values flag ≡ false
+  pub used : (again : Bool) (rows : List Row) → use_fault again flag [] rows ≡ [] → ⊥
 
--- the flag for help is the only one
-pub record HelpOnly (c : List Rule) : Type 0 where
-  pub long : (name : Text) → arg_by_long c name ≡ (if bytes_eq (codes "help") name then Some help else None)
-  pub short : (x : ℕ) → arg_by_short c x ≡ (if 104 == x then Some help else None)
+-- if a flag was found, it is one of these
+abbrev AsksIf : Option Rule → Type 0
+AsksIf None = Unit {0}
+AsksIf (Some flag) = Asks flag
 
-top_help : HelpOnly top.rules
-top_help = record {
-  long = λ name. or_nothing (bytes_eq (codes "help") name);
-  short = λ x. or_nothing (104 == x);
+-- each flag asks for a text
+record AsksOnly (c : List Rule) : Type 0 where
+  pub long : (name : Text) → AsksIf (arg_by_long c name)
+  pub short : (x : ℕ) → AsksIf (arg_by_short c x)
+
+help_asks : Asks (with_index 1 (filled help_rule))
+help_asks = record { alone = refl; used = λ again rows e. some_kind _ _ e }
+
+version_asks : Asks (with_index 1 (filled version_rule))
+version_asks = record { alone = refl; used = λ again rows e. some_kind _ _ e }
+
+top_asks : AsksOnly top.rules
+top_asks = record {
+  long = λ name. either (bytes_eq (codes "help") name) (bytes_eq (codes "version") name);
+  short = λ x. either (104 == x) (86 == x);
 }
   where
-    or_nothing : (b : Bool) → (if b || false then Some help else None) ≡ (if b then Some help else None)
-    or_nothing true = refl
-    or_nothing false = refl
+    either : (h v : Bool) → AsksIf (if h || false then Some (with_index 1 (filled help_rule))
+        else (if v || false then Some (with_index 1 (filled version_rule)) else None))
+    either true v = help_asks
+    either false true = version_asks
+    either false false = tt
 
-sub_help : HelpOnly sub.rules
-sub_help = record { long = top_help.long; short = top_help.short }
-
-helps : (c : List Rule) (again : Bool) (h : Held) → react_fault c again help [] h ≡ [] → ⊥
-helps c again h e = some_kind _ _ (none_second (settle_fault c again h) (use_fault again help [] (settled c h).rows) e)
-
-long_refused : (c : List Rule) (again : Bool) (name : Text) (v : Option Text) (h : Held) → HelpOnly c
-    → long_fault c again (arg_by_long c name) v h ≡ [] → ⊥
-long_refused c again name v h only e = go (bytes_eq (codes "help") name) v (subst (λ a. long_fault c again a v h ≡ [])
-    (only.long name) e)
+sub_asks : AsksOnly sub.rules
+sub_asks = record {
+  long = λ name. help_alone (bytes_eq (codes "help") name);
+  short = λ x. help_alone (104 == x);
+}
   where
-    go : (b : Bool) (v : Option Text) → long_fault c again (if b then Some help else None) v h ≡ [] → ⊥
-    go false v e = some_kind _ _ e
-    go true (Some x) e = some_kind _ _ e
-    go true None e = helps c again h e
+    help_alone : (h : Bool) → AsksIf (if h || false then Some (with_index 1 (filled help_rule)) else None)
+    help_alone true = help_asks
+    help_alone false = tt
 
-short_refused : (c : List Rule) (again : Bool) (x : ℕ) (rest : Text) (h : Held) (next : Held → Kinds) → HelpOnly c
-    → short_fault c again (arg_by_short c x) rest h next ≡ [] → ⊥
-short_refused c again x rest h next only e = go (104 == x) (subst (λ a. short_fault c again a rest h next ≡ [])
-    (only.short x) e)
-  where
-    go : (b : Bool) → short_fault c again (if b then Some help else None) rest h next ≡ [] → ⊥
-    go false e = some_kind _ _ e
-    go true e = helps c again h (none_first (react_fault c again help [] h) (next (reacted c help [] h)) e)
+asks_refused : (c : List Rule) (again : Bool) (flag : Rule) (h : Held) → Asks flag
+    → react_fault c again flag [] h ≡ [] → ⊥
+asks_refused c again flag h asks e = asks.used again (settled c h).rows (none_second (settle_fault c again h)
+    (use_fault again flag [] (settled c h).rows) e)
+
+long_refused : (c : List Rule) (again : Bool) (found : Option Rule) (v : Option Text) (h : Held) → AsksIf found
+    → long_fault c again found v h ≡ [] → ⊥
+long_refused c again None v h asks e = some_kind _ _ e
+long_refused c again (Some flag) (Some x) h asks e = some_kind _ _ (rw asks.alone at e)
+long_refused c again (Some flag) None h asks e = asks_refused c again flag h asks (rw asks.alone at e)
+
+short_refused : (c : List Rule) (again : Bool) (found : Option Rule) (rest : Text) (h : Held) (next : Held → Kinds)
+    → AsksIf found → short_fault c again found rest h next ≡ [] → ⊥
+short_refused c again None rest h next asks e = some_kind _ _ e
+short_refused c again (Some flag) rest h next asks e = asks_refused c again flag h asks
+    (none_first (react_fault c again flag [] h) (next (reacted c flag [] h)) (rw asks.alone at e))
 
 -- one hyphen begins no option only where no character follows it
-flags_refused : (c : List Rule) (again : Bool) (k : ℕ) (flags : Text) (h : Held) → HelpOnly c
+flags_refused : (c : List Rule) (again : Bool) (k : ℕ) (flags : Text) (h : Held) → AsksOnly c
     → flags_fault c again (suc k) flags 0 h ≡ [] → slice_get (chars flags) 0 ≡ None
 unfolding flags_fault
 flags_refused c again k flags h only e = go (slice_get (chars flags) 0) e
   where
     go : (o : Option ℕ) → bundle_step_fault c again o flags 0 h (flags_fault c again k) ≡ [] → o ≡ None
     go None e = refl
-    go (Some x) e = absurd (short_refused c again x (drop (length (encode_utf8 x)) flags) h
-        (flags_fault c again k (drop (length (encode_utf8 x)) flags) 0) only e)
+    go (Some x) e = absurd (short_refused c again (arg_by_short c x) (drop (length (encode_utf8 x)) flags) h
+        (flags_fault c again k (drop (length (encode_utf8 x)) flags) 0) (only.short x) e)
 
 -- ---- a word that is no option
 
@@ -244,7 +261,7 @@ cut_text y ys text e =
     absurd (omega (arith, lengths))
 
 is_value : (s : Shape) (ns : Names) (rows : List Row) (pending : Option (Text × List Text)) (p : ℕ) (w : Text)
-    → HelpOnly s.rules → IsUtf8 w → subcommand_met ns idle w ≡ None
+    → AsksOnly s.rules → IsUtf8 w → subcommand_met ns idle w ≡ None
     → turn_fault s ns (at (waits rows pending) p) w ≡ [] → (w ≡ dashes) ⊎ IsValue s ns (waits rows pending) p w
 is_value s ns rows pending p w only text none e = elim (begins w) [
   | inl is ↦ inr (operand is)
@@ -276,7 +293,8 @@ is_value s ns rows pending p w only text none e = elim (begins w) [
         let q = name_and_value (z ∷ zs) in
         let l : long_of w ≡ Some q = ap long_of is in
         let d : bytes_eq w dashes ≡ false = ap (λ v. bytes_eq v dashes) is in
-        long_refused s.rules s.args_override_self q.0 q.1 (waits rows pending) only (rw (none, d, l) at word_fits)
+        long_refused s.rules s.args_override_self (arg_by_long s.rules q.0) q.1 (waits rows pending) (only.long q.0)
+        (rw (none, d, l) at word_fits)
 
     short : (y : ℕ) (ys : List ℕ) → IsUtf8 (45 ∷ y ∷ ys) → LooksShort w (y ∷ ys) → ⊥
     short y ys text looks =
@@ -321,7 +339,7 @@ is_plain program w rest text e = go (bytes_eq (codes "plain") w) (bytes_eq (code
         ∙ e))).0
 
     other : subcommand_met names idle w ≡ None → ⊥
-    other none = elim (is_value top names [] None 1 w top_help text none turn) [
+    other none = elim (is_value top names [] None 1 w top_asks text none turn) [
       | inl is ↦ not_dashes program rest (subst (λ v. fault_of stepmin_app (program ∷ v ∷ rest) ≡ []) is e)
       | inr is ↦ some_kind _ _ is.fits
     ]
@@ -370,7 +388,7 @@ behind_file : (path : Text) (rest : List Text) → IsOperand path → AreTexts r
 behind_file path [] is texts e = (path, inl (refl, is))
 behind_file path (w ∷ rest) is texts e =
     let turn = first_turn sub [] (held path) w rest e in
-    elim (is_value sub [] [] (Some (codes "FILE", path ∷ [])) 2 w sub_help texts.0 refl turn.0) [
+    elim (is_value sub [] [] (Some (codes "FILE", path ∷ [])) 2 w sub_asks texts.0 refl turn.0) [
       | inl dash ↦ last rest refl dash
       | inr stray ↦ absurd (some_kind _ _ stray.fits)
     ]
@@ -385,7 +403,7 @@ operands [] texts e = absurd (not_nothing e)
 operands (w ∷ rest) texts e =
     let walk = none_first (walk_fault sub [] (walk_from nothing_held) (w ∷ rest)) _ e in
     let turn = first_turn sub [] (walk_from nothing_held) w rest walk in
-    elim (is_value sub [] [] None 1 w sub_help texts.0 refl turn.0) [
+    elim (is_value sub [] [] None 1 w sub_asks texts.0 refl turn.0) [
       | inl dash ↦ subst (λ v. (path : Text) × AreOperand (v ∷ rest) path) (sym dash)
           (behind_dashes rest (subst (λ v. below (v ∷ rest) ≡ []) dash e))
       | inr file ↦ behind_file w rest file.operand texts.1 (subst (λ before. walk_fault sub [] before rest ≡ [])
@@ -497,11 +515,6 @@ failed app words path e is due asks = memory (subst (λ ks. HasKind ks e) (asked
     memory (inl m) = m
     memory (inr never) = absurd never
 
-help_is_no_memory : kind.DisplayHelp ≡ kind.OutOfMemory → ⊥
-help_is_no_memory e =
-    let is_help : ErrorKind → Bool = λ k. elim k [ kind.DisplayHelp ↦ true | _ ↦ false ] in
-    true≢false (ap is_help e)
-
 -- the refusal is the one that the words call for
 pub refused_calls : (app : App) (words : List Text) (e : Error) (refusal : Refusal) → app ≡ stepmin_app
     → (is_simple_and_free app ≡ true → HasKind (fault_of app words) e)
@@ -509,8 +522,8 @@ pub refused_calls : (app : App) (words : List Text) (e : Error) (refusal : Refus
 refused_calls app words e refusal is due = calls refusal (fails app words e is due)
   where
     calls : (r : Refusal) → HasKind (fault_of stepmin_app words) e → CallsFor (kind_of e) r → CallFor words r
-    calls (Help text) (inl memory) is_help = absurd (help_is_no_memory (sym is_help ∙ memory))
-    calls (Help text) (inr among) is_help = subst (λ k. IsAmong k (fault_of stepmin_app words)) is_help among
+    calls (Shown text) (inl memory) shown = absurd (true≢false (sym shown ∙ ap is_shown memory))
+    calls (Shown text) (inr among) shown = (kind_of e, among, shown)
     calls (Usage text) (inl memory) other = absurd (other.1 memory)
     calls (Usage text) (inr among) other = (kind_of e, among, other.0)
     calls Memory among other = tt

@@ -33,6 +33,15 @@ flag_for_help : fault_of stepmin_app (program ∷ codes "--help" ∷ []) ≡ kin
 unfolding clap_on_literals
 flag_for_help = refl
 
+flag_for_version : fault_of stepmin_app (program ∷ codes "-V" ∷ []) ≡ kind.DisplayVersion ∷ []
+unfolding clap_on_literals
+flag_for_version = refl
+
+-- the version is the program's, no command's
+version_below : fault_of stepmin_app (program ∷ codes "plain" ∷ codes "--version" ∷ []) ≡ kind.UnknownArgument ∷ []
+unfolding clap_on_literals
+version_below = refl
+
 help_below : fault_of stepmin_app (program ∷ codes "plain" ∷ codes "F" ∷ codes "-h" ∷ []) ≡ kind.DisplayHelp ∷ []
 unfolding clap_on_literals
 help_below = refl

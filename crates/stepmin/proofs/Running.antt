@@ -15,7 +15,7 @@ use Rattle.stepmin.specs.declared.fault.Fault.TheVariants as faults
 use Rattle.stepmin.specs.declared.usage.Request.{Request}
 use Rattle.stepmin.specs.declared.usage.Request.TheVariants as requests
 use Rattle.stepmin.specs.declared.usage.Refusal.{Refusal}
-use Rattle.stepmin.specs.declared.usage.Refusal.TheVariants.{Help, Usage, Memory}
+use Rattle.stepmin.specs.declared.usage.Refusal.TheVariants.{Shown, Usage, Memory}
 use Rattle.stepmin.proofs.Asking.{asked_once}
 
 -- ---- one output
@@ -205,7 +205,7 @@ runs_asked words (requests.Plain found) files out out' err err' status path asks
 pub refused_device : (words : List (List ℕ)) (files : List ℕ → Stored) (refusal : Refusal)
     (out out' err err' : Output) (status : ℕ) → Refuses refusal out out' err err' status → status ≡ 4
     → IsDevices words files out out' err err'
-refused_device words files (Help text) out out' err err' status r is = λ fresh clean. inl (device_printed out out'
+refused_device words files (Shown text) out out' err err' status r is = λ fresh clean. inl (device_printed out out'
     (string_bytes text) 0 status r.0 (λ no. omega (arith, no)) is fresh)
 refused_device words files (Usage text) out out' err err' status r is = λ fresh clean. inr (inl (device_printed err
     err' (string_bytes text) 3 status r.1 (λ no. omega (arith, no)) is clean))

@@ -12,10 +12,10 @@ file_rule = record (new_rule (codes "FILE")) { required = true; action = Some Se
 abbrev pub plain_app : App
 plain_app = with_rule (new_app (codes "plain")) file_rule
 
--- the program, which wants a command
+-- the program, which has a version and wants a command
 abbrev pub stepmin_app : App
-stepmin_app = with_subcommand (on_top (λ s. record s { subcommand_required = true }) (new_app (codes "stepmin")))
-    plain_app.top
+stepmin_app = with_subcommand (on_top (λ s. record s { has_version = true; subcommand_required = true })
+    (new_app (codes "stepmin"))) plain_app.top
 
 -- the name of the command that was met, and what its FILE is
 abbrev pub file_in : Option (Text × List Row) → Option (Text × Option Text)

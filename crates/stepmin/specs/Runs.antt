@@ -12,7 +12,7 @@ use Rattle.stepmin.specs.declared.fault.Fault.TheVariants as faults
 use Rattle.stepmin.specs.declared.usage.Request.{Request}
 use Rattle.stepmin.specs.declared.usage.Request.TheVariants as requests
 use Rattle.stepmin.specs.declared.usage.Refusal.{Refusal}
-use Rattle.stepmin.specs.declared.usage.Refusal.TheVariants.{Help, Usage, Memory}
+use Rattle.stepmin.specs.declared.usage.Refusal.TheVariants.{Shown, Usage, Memory}
 
 -- An output as a run finds it or leaves it: what it holds, where that is told, and whether it has failed.
 pub record Output : Type 0 where
@@ -41,7 +41,7 @@ Ends (Err fault) err err' status = Prints err err' (line_of fault) (fault_status
 
 -- What goes out where nothing is done: `out` and `err` are the outputs before and behind it.
 abbrev pub Refuses : Refusal → Output → Output → Output → Output → ℕ → Type 0
-Refuses (Help text) out out' err err' status = Prints out out' (string_bytes text) 0 status × (err' ≡ err)
+Refuses (Shown text) out out' err err' status = Prints out out' (string_bytes text) 0 status × (err' ≡ err)
 Refuses (Usage text) out out' err err' status = (out' ≡ out) × Prints err err' (string_bytes text) 3 status
 Refuses Memory out out' err err' status = (out' ≡ out) × Ends (Err faults.Memory) err err' status
 

@@ -117,21 +117,21 @@ fn finish<E: Sink>(outcome: Result<(), Fault>, err: &mut E) -> u8
     }
 }
 
-/// Prints why nothing is done, and answers the status: a help text on `out`, and everything else
-/// on `err`.
+/// Prints why nothing is done, and answers the status: a text that was asked for on `out`, and
+/// everything else on `err`.
 pub fn refuse<O: Sink, E: Sink>(refusal: Refusal, out: &mut O, err: &mut E) -> u8
     ensures status { IsStatus result }
     ensures refuses { Refuses refusal
         (output O.held O.has_failed out.old) (output O.held O.has_failed out.new)
         (output E.held E.has_failed err.old) (output E.held E.has_failed err.new) result }
-    // Nothing goes out but for a help text, and where a device fails.
+    // Nothing goes out but where a text was asked for, and where a device fails.
     ensures unwritten { (result ≡ 0) ⊎ (result ≡ 4) ⊎ Keeps (O.held out.old) (O.held out.new) }
     // Where an output fails, the status says so.
     ensures out_failed { O.has_failed out.old ≡ false → O.has_failed out.new ≡ true → result ≡ 4 }
     ensures err_failed { E.has_failed err.old ≡ false → E.has_failed err.new ≡ true → result ≡ 4 }
 {
     match refusal {
-        Refusal::Help(text) => print(out, text.as_str(), DONE),
+        Refusal::Shown(text) => print(out, text.as_str(), DONE),
         Refusal::Usage(text) => print(err, text.as_str(), USAGE),
         Refusal::Memory => finish(Err(Fault::Memory), err),
     }
@@ -179,7 +179,8 @@ fn run<'p, S: Store<'p>, O: Sink, E: Sink>(
 /// 0 where all is done, 2 where the text of a file can't be read, 3 where the words are wrong, 4
 /// where a device fails, and 5 where memory runs out.
 ///
-/// A fault is a line on `err`. Where that can't be printed, or a help text can't, nothing more is.
+/// A fault is a line on `err`. Where that can't be printed, or the text of `--help` or `--version`
+/// can't, nothing more is.
 /// Names of instances are hashed by these keys.
 pub fn run_command<'p, S: Store<'p>, O: Sink, E: Sink>(
     alloc: Global,

@@ -49,6 +49,30 @@ const TYPED_TOO_DEEP: &str = "DATA;\n#1=A\
     ))))))))))))))))))))))))))))))))\
     ))))))))))))))))))))))))))))))));\n";
 
+// What `--help` prints.
+const HELP: &str = "Reads STEP files (ISO 10303-21)\n\n\
+    Usage: stepmin <COMMAND>\n\n\
+    Commands:\n  \
+    plain  Writes the normal text of a STEP file\n  \
+    help   Print this message or the help of the given subcommand(s)\n\n\
+    Options:\n  \
+    -h, --help     Print help\n  \
+    -V, --version  Print version\n\n\
+    Exit status:\n  \
+    0  all is done\n  \
+    2  the text of a file can't be read\n  \
+    3  the words of the command line are wrong\n  \
+    4  a device fails\n  \
+    5  memory runs out\n";
+
+// What `plain --help` prints.
+const PLAIN_HELP: &str = "Writes the normal text of a STEP file\n\n\
+    Usage: stepmin plain <FILE>\n\n\
+    Arguments:\n  \
+    <FILE>  The file that is read\n\n\
+    Options:\n  \
+    -h, --help  Print help\n";
+
 // What comes of a file: none where it isn't there, and a failure where it should end.
 #[derive(Drop)]
 struct Book<'b> {
@@ -583,13 +607,13 @@ fn said_by(status: u8, run: &Ending) -> (&[u8], usize) {
     }
 }
 
-// Wrong words are said on the error output, and a call for help on the output, and where there is room
-// for three bytes alone the status is a device's.
+// Wrong words are said on the error output by a text that begins so, and a text that is asked for goes to
+// the output, just this one. Where there is room for three bytes alone the status is a device's.
 #[test]
 fn words_that_ask_for_no_file_are_answered(rt: HostRuntime) -> Result<(), Fail> {
     let alloc = rt.alloc();
     let keys = RandomState::new(&rt)?;
-    for (words, status, begins) in [
+    for (words, status, text) in [
         (["stepmin"].as_slice(), 3, "error: "),
         (&["stepmin", "check", "GEO"], 3, "error: "),
         (&["stepmin", "shrink", "GEO", "F", "X", "X"], 3, "error: "),
@@ -598,9 +622,13 @@ fn words_that_ask_for_no_file_are_answered(rt: HostRuntime) -> Result<(), Fail> 
         (&["stepmin", "plain", "--strict", "F"], 3, "error: "),
         (&["stepmin", "plain", "-F"], 3, "error: "),
         (&["stepmin", "--", "plain", "F"], 3, "error: "),
-        (&["stepmin", "--help"], 0, "Reads STEP files"),
-        (&["stepmin", "help"], 0, "Reads STEP files"),
-        (&["stepmin", "plain", "--help"], 0, "Writes the normal text"),
+        (&["stepmin", "plain", "--version"], 3, "error: "),
+        (&["stepmin", "--help"], 0, HELP),
+        (&["stepmin", "-h"], 0, HELP),
+        (&["stepmin", "help"], 0, HELP),
+        (&["stepmin", "--version"], 0, "stepmin 0.1.0\n"),
+        (&["stepmin", "-V"], 0, "stepmin 0.1.0\n"),
+        (&["stepmin", "plain", "--help"], 0, PLAIN_HELP),
     ] {
         let whole = run(alloc, keys, words, "", false, usize::MAX, usize::MAX)?;
         let cut = run(alloc, keys, words, "", false, 3, 3)?;
@@ -610,7 +638,8 @@ fn words_that_ask_for_no_file_are_answered(rt: HostRuntime) -> Result<(), Fail> 
             (status, 4, 0, 0),
             "{words:?}"
         );
-        assert!(rt; said.starts_with(begins.as_bytes()), "{words:?}");
+        assert!(rt; said.starts_with(text.as_bytes()), "{words:?}");
+        assert!(rt; status != 0 || said.len() == text.len(), "{words:?}");
         assert_eq!(rt; cut.out.len() + cut.err.len(), 3, "{words:?}");
     }
     Ok(())

@@ -7,13 +7,24 @@ ghost use Rattle.clap.specs.Values.{kind_of};
 ghost use Rattle.std.specs.declared.io.ErrorKind.TheVariants.{OutOfMemory};
 ghost use Rattle.stepmin.specs.Clap.{HasFile, stepmin_app};
 ghost use Rattle.stepmin.specs.Commands.{AsksPlain, texts};
-ghost use Rattle.stepmin.specs.Requests.{AskFor, CallFor, CallsFor, SaysUsage};
+ghost use Rattle.stepmin.specs.Requests.{AskFor, CallFor, CallsFor, SaysUsage, is_shown};
 ghost use Rattle.stepmin.specs.declared.usage.Refusal.TheVariants.{Memory};
 
 use clap::error::ErrorKind;
 use clap::{Arg, ArgAction, ArgMatches, Command, Error};
 use std::alloc::{AllocError, Global};
 use std::io;
+
+// The version of the program, which `--version` shows.
+const VERSION: &str = "0.1.0";
+
+// What each exit status says, at the end of the help text.
+const STATUSES: &str = "Exit status:\n  \
+    0  all is done\n  \
+    2  the text of a file can't be read\n  \
+    3  the words of the command line are wrong\n  \
+    4  a device fails\n  \
+    5  memory runs out";
 
 /// What is asked for.
 #[derive(Clone, Copy, Debug, PartialEq, Eq)]
@@ -25,8 +36,8 @@ pub enum Request<'p> {
 /// Why nothing is done.
 #[derive(Drop)]
 pub enum Refusal {
-    /// Help was asked for: this is it.
-    Help(String),
+    /// Help or the version was asked for: this is the text.
+    Shown(String),
     /// The words ask for nothing that there is: a text that says so, and how to ask.
     Usage(String),
     /// Memory ran out.
@@ -54,6 +65,8 @@ fn stepmin<'a>(alloc: Global) -> Result<Command<'a>, AllocError>
         .arg(file)?;
     Command::new(alloc, "stepmin")
         .about("Reads STEP files (ISO 10303-21)")
+        .version(VERSION)
+        .after_help(STATUSES)
         .subcommand_required(true)
         .subcommand(plain)
 }
@@ -64,6 +77,13 @@ fn path_in<'p>(matches: &ArgMatches<'p>) -> Option<&'p str>
         → option_map (λ text. text.now) result ≡ Some path }
 {
     matches.subcommand_matches("plain")?.get_str("FILE")
+}
+
+// Whether clap's error is no mistake, but a text that was asked for.
+fn is_shown(kind: ErrorKind) -> bool
+    ensures { result ≡ is_shown kind }
+{
+    matches!(kind, ErrorKind::DisplayHelp | ErrorKind::DisplayVersion)
 }
 
 // Why clap takes the words for no command.
@@ -77,7 +97,7 @@ fn refused(alloc: Global, error: Error) -> Refusal
     }
     match error.to_string(alloc) {
         Err(_) => Refusal::Memory,
-        Ok(text) if kind == ErrorKind::DisplayHelp => Refusal::Help(text),
+        Ok(text) if is_shown(kind) => Refusal::Shown(text),
         Ok(text) => Refusal::Usage(text),
     }
 }
@@ -104,8 +124,8 @@ pub fn unread_words(alloc: Global, error: &io::Error) -> Refusal
     usage(alloc, "error: an argument is not text\n")
 }
 
-/// What the words ask for, the program's own name first. `Help` comes for `--help` and `help`,
-/// `Usage` where the words are no command, and `Memory` where memory runs out.
+/// What the words ask for, the program's own name first. `Shown` comes for `--help`, `help` and
+/// `--version`, `Usage` where the words are no command, and `Memory` where memory runs out.
 pub fn read_words<'p>(alloc: Global, words: &'p [String]) -> Result<Request<'p>, Refusal>
     ensures asked { IfOk result (AskFor (texts words.now)) }
     ensures refused { IfErr result (CallFor (texts words.now)) }

@@ -1,7 +1,6 @@
 //! The bits of binaries: how many there are and which, equality, order and hash.
 ghost use Rattle.std.specs.Prelude.{◌≡◌, ◌<◌, true, length};
 ghost use Rattle.std.specs.List.{list_all, slice_get};
-ghost use Rattle.std.specs.Char.{digit_value};
 ghost use Rattle.std.specs.Iterator.{YieldsFirst, item_count};
 ghost use Rattle.std.specs.Ordering.{bool_cmp, on, as_partial_cmp};
 ghost use Rattle.std.specs.Cmp.Lexicographic.{slice_cmp, pointwise};
@@ -10,24 +9,13 @@ ghost use Rattle.std.proofs.Common.{rules};
 ghost use Rattle.step_literals.specs.Bytes.{is_hex};
 ghost use Rattle.step_literals.specs.Bits.{digit_bit, unused_bits, hex_digits, bits_of};
 
+use crate::bytes::hex_value;
 use crate::literal::Bits;
 use std::cmp::Ordering;
 use std::hash::{Hash, Hasher};
 
 /// Fed behind the bits: it is none, so that no binary's feed begins another's.
 const END: u8 = 0xFF;
-
-fn hex_value(digit: u8) -> u8
-    requires { is_hex digit ≡ true }
-    ensures value { result ≡ digit_value digit }
-    ensures bound { result < 16 }
-{
-    match digit {
-        b'0'..=b'9' => digit - b'0',
-        b'A'..=b'F' => digit - b'A' + 10,
-        _ => digit - b'a' + 10,
-    }
-}
 
 /// The bit of a hexadecimal digit at this place, the greatest at 0.
 fn digit_bit(digit: u8, place: usize) -> bool

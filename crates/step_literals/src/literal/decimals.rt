@@ -31,6 +31,7 @@ ghost use Rattle.step_literals.specs.Decimals.{
   part_digits,
   signed,
   units,
+  IsWhole,
   IsWorth,
   finest,
   ten_to,
@@ -145,6 +146,25 @@ impl<'a> Digits<'a> {
             part: self.part,
             shift: self.shift,
         }
+    }
+
+    /// The whole number that it is; none where it isn't whole, or not within the range of `i64`.
+    fn whole(&self) -> Option<i64>
+        ensures { MatchOption result
+            ((n : ℤ) → FitsSigned w64 n → IsWhole (worth_of self.now) n → ⊥)
+            (λ n. IsWhole (worth_of self.now) n) }
+    {
+        let len = self.top().saturating_sub(FINEST as usize);
+        if len > LONGEST_WHOLE || self.end() > len {
+            return None;
+        }
+        let magnitude = i128::from(self.front_value(len));
+        i64::try_from(if self.below_zero {
+            -magnitude
+        } else {
+            magnitude
+        })
+        .ok()
     }
 
     /// Compares the numbers.
@@ -272,18 +292,18 @@ impl<'a> Decimal<'a> {
             ((n : ℤ) → FitsSigned w64 n → IsWorth self.now.text.now n → ⊥)
             (λ n. IsWorth self.now.text.now n) }
     {
-        let digits = self.digits();
-        let len = digits.top().saturating_sub(FINEST as usize);
-        if len > LONGEST_WHOLE || digits.end() > len {
-            return None;
-        }
-        let magnitude = i128::from(digits.front_value(len));
-        i64::try_from(if digits.below_zero {
-            -magnitude
-        } else {
-            magnitude
-        })
-        .ok()
+        self.digits().whole()
+    }
+
+    /// The whole number that it is worth with its sign turned where that is asked for; none where that
+    /// isn't whole, or not within the range of `i64`.
+    pub fn whole_turned(&self, is_turned: bool) -> Option<i64>
+        ensures { MatchOption result
+            ((n : ℤ) → FitsSigned w64 n → IsWhole (turned is_turned (units self.now.text.now)) n
+            → ⊥)
+            (λ n. IsWhole (turned is_turned (units self.now.text.now)) n) }
+    {
+        self.digits().turned(is_turned).whole()
     }
 
     /// Compares what the two are worth, each with its sign turned where that is asked for.

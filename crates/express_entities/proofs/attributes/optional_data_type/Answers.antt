@@ -6,35 +6,45 @@ use Rattle.express_runs.specs.Items.{located_of}
 use Rattle.express_schemas.specs.Views.{data_type_of}
 use Rattle.express_schemas.specs.Written.{words_of_data_type}
 use Rattle.express_entities.proofs.AttributeSteps.{optional_passes, optional_stops, data_type_passes, data_type_stops}
+use Rattle.express_schemas.proofs.SameText.{shows_text, kept}
+use Rattle.express_schemas.specs.Sources.{IsDataTypeOf}
 use Rattle.express_entities.proofs.attributes.optional_data_type.Goals as goal
 
-pub returns-in_err-data_type : goal.returns-in_err-data_type
-returns-in_err-data_type c =
+pub returns-in_err-data_type-clause-read : goal.returns-in_err-data_type-clause-read
+returns-in_err-data_type-clause-read c =
     let p = err_from_is_err_and c.from_residual-in_err-data_type.result c.from_residual-in_err-data_type.ensures.1 in
     rw (p.1, p.2) (optional_stops _ (located_of c.in_ok-item.item) c.args.reader.now c.take.new.self
-    c.in_ok-item.ensures (sym c.is_keyword.ensures ∙ c.if-is_keyword.true) c.in_err-data_type.ensures)
+    c.in_ok-item.ensures (sym c.is_keyword.ensures ∙ c.if-is_keyword.true) c.in_err-data_type.ensures.read)
 
-pub returns-then-is_keyword : goal.returns-then-is_keyword
-returns-then-is_keyword c = (
-  c.in_ok-data_type.ensures.0,
+pub returns-then-is_keyword-clause-read : goal.returns-then-is_keyword-clause-read
+returns-then-is_keyword-clause-read c = (
+  c.in_ok-data_type.ensures.read.0,
   optional_passes (located_of c.in_ok-item.item) c.args.reader.now c.take.new.self
       (words_of_data_type (data_type_of c.in_ok-data_type.data_type) ++ mark marks.Semicolon ∷ [])
       c.data_type.new.reader c.in_ok-item.ensures (sym c.is_keyword.ensures ∙ c.if-is_keyword.true)
-      c.in_ok-data_type.ensures.1,
+      c.in_ok-data_type.ensures.read.1,
 )
 
-pub returns-in_err-data_type-2 : goal.returns-in_err-data_type-2
-returns-in_err-data_type-2 c =
+pub returns-in_err-data_type-2-clause-read : goal.returns-in_err-data_type-2-clause-read
+returns-in_err-data_type-2-clause-read c =
     let p = err_from_is_err_and c.from_residual-in_err-data_type-2.result c.from_residual-in_err-data_type-2.ensures.1
     in
     rw (p.1, p.2) (data_type_stops _ (located_of c.in_ok-item.item) c.args.reader.now c.take.new.self
-    c.in_ok-item.ensures (sym c.is_keyword.ensures ∙ c.if-is_keyword.false) c.in_err-data_type-2.ensures)
+    c.in_ok-item.ensures (sym c.is_keyword.ensures ∙ c.if-is_keyword.false) c.in_err-data_type-2.ensures.read)
 
-pub returns : goal.returns
-returns c = (
-  c.in_ok-data_type-2.ensures.0,
+pub returns-clause-read : goal.returns-clause-read
+returns-clause-read c = (
+  c.in_ok-data_type-2.ensures.read.0,
   data_type_passes (located_of c.in_ok-item.item) c.args.reader.now c.take.new.self
       (words_of_data_type (data_type_of c.in_ok-data_type-2.data_type) ++ mark marks.Semicolon ∷ [])
       c.data_type_from.new.reader c.in_ok-item.ensures (sym c.is_keyword.ensures ∙ c.if-is_keyword.false)
-      c.in_ok-data_type-2.ensures.1,
+      c.in_ok-data_type-2.ensures.read.1,
 )
+
+pub returns-then-is_keyword-clause-text : goal.returns-then-is_keyword-clause-text
+returns-then-is_keyword-clause-text c = kept IsDataTypeOf c.in_ok-data_type.data_type
+    (shows_text _ _ _ c.in_ok-item.ensures) c.in_ok-data_type.ensures.text
+
+pub returns-clause-text : goal.returns-clause-text
+returns-clause-text c = kept IsDataTypeOf c.in_ok-data_type-2.data_type (shows_text _ _ _ c.in_ok-item.ensures)
+    c.in_ok-data_type-2.ensures.text

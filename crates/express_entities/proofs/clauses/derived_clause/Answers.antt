@@ -1,4 +1,4 @@
-use Rattle.std.proofs.Common.{map, refl}
+use Rattle.std.proofs.Common.{◌∙◌, map, refl}
 use Rattle.std.proofs.lemmas.Result.{err_from_is_err_and}
 use Rattle.express_trees.specs.Grammar.{depth_limit}
 use Rattle.express_entities.specs.declared.clauses.ClauseStart.TheVariants as starts
@@ -7,17 +7,20 @@ use Rattle.express_schemas.specs.Written.{words_of_derived}
 use Rattle.express_schemas.specs.Profile.{FitsDerived}
 use Rattle.express_schemas.specs.Predict.{derived, behind_attribute}
 use Rattle.express_entities.proofs.ClauseSteps.{begins_as, first_same, item_less, stand_push, stand_stops_front, stand_stops_item, stand_ended}
+use Rattle.express_schemas.proofs.SameText.{passes_text, kept}
+use Rattle.express_schemas.proofs.Lists.{every_push}
+use Rattle.express_schemas.specs.Sources.{IsDerivedOf}
 use Rattle.express_entities.proofs.clauses.derived_clause.Goals as goal
 
-pub returns-in_err-attribute : goal.returns-in_err-attribute
-returns-in_err-attribute c =
+pub returns-in_err-attribute-clause-read : goal.returns-in_err-attribute-clause-read
+returns-in_err-attribute-clause-read c =
     let p = err_from_is_err_and c.from_residual.result c.from_residual.ensures.1 in
     rw (p.1, p.2) (stand_stops_front _ derived (FitsDerived depth_limit) words_of_derived
-    (map derived_of c.loop-list.list.items) c.args.reader.now c.loop-list.reader c.loop-list.invariant
+    (map derived_of c.loop-list.list.items) c.args.reader.now c.loop-list.reader c.loop-list.invariant.0
     c.in_err-attribute.ensures)
 
-pub returns-in_err-item-in-Attribute : goal.returns-in_err-item-in-Attribute
-returns-in_err-item-in-Attribute c =
+pub returns-in_err-item-in-Attribute-clause-read : goal.returns-in_err-item-in-Attribute-clause-read
+returns-in_err-item-in-Attribute-clause-read c =
     let p = err_from_is_err_and c.from_residual-in_err-item-in-Attribute.result
     c.from_residual-in_err-item-in-Attribute.ensures.1 in
     let begins = begins_as derived c.in_ok-attribute.field-0 (starts.Attribute c.in-Attribute.attribute)
@@ -25,29 +28,37 @@ returns-in_err-item-in-Attribute c =
     rw (p.1, p.2) (stand_stops_item _ derived (FitsDerived depth_limit) words_of_derived
     (map derived_of c.loop-list.list.items) c.in-Attribute.attribute (behind_attribute derived) c.args.reader.now
     c.loop-list.reader c.take_start.new.reader (first_same derived c.in-Attribute.attribute refl)
-    c.loop-list.invariant begins c.in_err-item-in-Attribute.ensures)
+    c.loop-list.invariant.0 begins c.in_err-item-in-Attribute.ensures.read)
 
 pub loop-list-smaller : goal.loop-list-smaller
 loop-list-smaller c =
     let begins = begins_as derived c.in_ok-attribute.field-0 (starts.Attribute c.in-Attribute.attribute)
     c.loop-list.reader c.take_start.new.reader c.in-Attribute.is c.in_ok-attribute.ensures in
-    item_less derived c.in-Attribute.attribute (behind_attribute derived) c.in_ok-item-in-Attribute.ensures.1
-    c.loop-list.reader c.take_start.new.reader c.derived.new.reader begins c.in_ok-item-in-Attribute.ensures.3
+    item_less derived c.in-Attribute.attribute (behind_attribute derived) c.in_ok-item-in-Attribute.ensures.read.1
+    c.loop-list.reader c.take_start.new.reader c.derived.new.reader begins c.in_ok-item-in-Attribute.ensures.read.3
 
 pub loop-list-preserved : goal.loop-list-preserved
 loop-list-preserved c =
     let begins = begins_as derived c.in_ok-attribute.field-0 (starts.Attribute c.in-Attribute.attribute)
     c.loop-list.reader c.take_start.new.reader c.in-Attribute.is c.in_ok-attribute.ensures in
-    stand_push derived_of derived (FitsDerived depth_limit) words_of_derived c.loop-list.list.items
-    c.push.new.self.items c.in_ok-item-in-Attribute.item c.in-Attribute.attribute (behind_attribute derived)
-    c.args.reader.now c.loop-list.reader c.take_start.new.reader c.derived.new.reader
-    c.in_ok-push-in-Attribute.ensures.items (first_same derived c.in-Attribute.attribute refl) c.loop-list.invariant
-    begins c.in_ok-item-in-Attribute.ensures
+    let e = passes_text begins ∙ passes_text c.loop-list.invariant.0.passes in (
+      stand_push derived_of derived (FitsDerived depth_limit) words_of_derived c.loop-list.list.items
+          c.push.new.self.items c.in_ok-item-in-Attribute.item c.in-Attribute.attribute (behind_attribute derived)
+          c.args.reader.now c.loop-list.reader c.take_start.new.reader c.derived.new.reader
+          c.in_ok-push-in-Attribute.ensures.items (first_same derived c.in-Attribute.attribute refl) c.loop-list.invariant.0
+          begins c.in_ok-item-in-Attribute.ensures.read,
+      rw c.in_ok-push-in-Attribute.ensures.items (every_push (IsDerivedOf c.args.reader.now.text) c.loop-list.list.items
+          c.in_ok-item-in-Attribute.item c.loop-list.invariant.1 (kept IsDerivedOf c.in_ok-item-in-Attribute.item e
+          c.in_ok-item-in-Attribute.ensures.text)),
+    )
 
-pub returns-in-Boundary : goal.returns-in-Boundary
-returns-in-Boundary c =
+pub returns-in-Boundary-clause-read : goal.returns-in-Boundary-clause-read
+returns-in-Boundary-clause-read c =
     let begins = begins_as derived c.in_ok-attribute.field-0 (starts.Boundary c.in-Boundary.boundary) c.loop-list.reader
     c.take_start.new.reader c.in-Boundary.is c.in_ok-attribute.ensures in
     rw c.shrink_to_fit.ensures.items (stand_ended derived (FitsDerived depth_limit) words_of_derived
     (map derived_of c.loop-list.list.items) c.in-Boundary.boundary c.args.reader.now c.loop-list.reader
-    c.take_start.new.reader c.loop-list.invariant begins)
+    c.take_start.new.reader c.loop-list.invariant.0 begins)
+
+pub returns-in-Boundary-clause-text : goal.returns-in-Boundary-clause-text
+returns-in-Boundary-clause-text c = rw c.shrink_to_fit.ensures.items c.loop-list.invariant.1

@@ -3,14 +3,15 @@ use Rattle.express_lexis.specs.Reading.{left}
 use Rattle.express_trees.specs.Grammar.{depth_limit}
 use Rattle.express_schemas.specs.Views.{derived_of}
 use Rattle.express_schemas.specs.Written.{words_of_derived}
-use Rattle.express_schemas.specs.Profile.{FitsDerived}
+use Rattle.express_schemas.specs.Profile.{Every, FitsDerived}
+use Rattle.express_schemas.specs.Sources.{IsDerivedOf}
 use Rattle.express_schemas.specs.Predict.{derived}
 use Rattle.express_entities.specs.EntityParts.{Stand}
 use Rattle.express_entities.proofs.clauses.derived_clause.Given as goal
 
 abbrev pub invariant-loop-list : goal.invariant-loop-list
 invariant-loop-list l = Stand derived (FitsDerived depth_limit) words_of_derived (map derived_of l.list.items)
-    l.fn.reader l.reader
+    l.fn.reader l.reader × Every (IsDerivedOf l.fn.reader.text) l.list.items
 
 abbrev pub decreases-loop-list : goal.decreases-loop-list
 decreases-loop-list l = length (left l.reader)

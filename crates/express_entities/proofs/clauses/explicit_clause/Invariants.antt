@@ -3,14 +3,15 @@ use Rattle.express_lexis.specs.Reading.{left}
 use Rattle.express_trees.specs.Grammar.{depth_limit}
 use Rattle.express_schemas.specs.Views.{explicit_of}
 use Rattle.express_schemas.specs.Written.{words_of_explicit}
-use Rattle.express_schemas.specs.Profile.{FitsExplicit}
+use Rattle.express_schemas.specs.Profile.{Every, FitsExplicit}
+use Rattle.express_schemas.specs.Sources.{IsExplicitOf}
 use Rattle.express_schemas.specs.Predict.{explicits}
 use Rattle.express_entities.specs.EntityParts.{Stand}
 use Rattle.express_entities.proofs.clauses.explicit_clause.Given as goal
 
 abbrev pub invariant-loop-list : goal.invariant-loop-list
 invariant-loop-list l = Stand explicits (FitsExplicit depth_limit) words_of_explicit (map explicit_of l.list.items)
-    l.fn.reader l.reader
+    l.fn.reader l.reader × Every (IsExplicitOf l.fn.reader.text) l.list.items
 
 abbrev pub decreases-loop-list : goal.decreases-loop-list
 decreases-loop-list l = length (left l.reader)

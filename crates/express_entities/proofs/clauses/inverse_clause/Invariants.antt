@@ -3,14 +3,15 @@ use Rattle.express_lexis.specs.Reading.{left}
 use Rattle.express_trees.specs.Grammar.{depth_limit}
 use Rattle.express_schemas.specs.Views.{inverse_of}
 use Rattle.express_schemas.specs.Written.{words_of_inverse}
-use Rattle.express_schemas.specs.Profile.{FitsInverse}
+use Rattle.express_schemas.specs.Profile.{Every, FitsInverse}
+use Rattle.express_schemas.specs.Sources.{IsInverseOf}
 use Rattle.express_schemas.specs.Predict.{inverses}
 use Rattle.express_entities.specs.EntityParts.{Stand}
 use Rattle.express_entities.proofs.clauses.inverse_clause.Given as goal
 
 abbrev pub invariant-loop-list : goal.invariant-loop-list
 invariant-loop-list l = Stand inverses (FitsInverse depth_limit) words_of_inverse (map inverse_of l.list.items)
-    l.fn.reader l.reader
+    l.fn.reader l.reader × Every (IsInverseOf l.fn.reader.text) l.list.items
 
 abbrev pub decreases-loop-list : goal.decreases-loop-list
 decreases-loop-list l = length (left l.reader)

@@ -5,32 +5,34 @@ use Rattle.express_runs.specs.Items.{located_of}
 use Rattle.express_parts.specs.Endings.{ending_of}
 use Rattle.express_schemas.specs.Views.{width_of}
 use Rattle.express_parts.proofs.DataTypeSteps.{not_over, width_deep, width_stopped, width_some, width_refused, width_none}
+use Rattle.express_schemas.proofs.SameText.{shows_text, kept}
+use Rattle.express_schemas.specs.Sources.{IsWidthOf}
 use Rattle.express_parts.proofs.data_types.width_or_end.Goals as goal
 
-pub returns-in_err-first : goal.returns-in_err-first
-returns-in_err-first c =
+pub returns-in_err-first-clause-read : goal.returns-in_err-first-clause-read
+returns-in_err-first-clause-read c =
     let p = err_from_is_err_and c.from_residual.result c.from_residual.ensures.1 in
     rw (p.1, p.2) (λ y us t. c.in_err-first.ensures y (not_over y us c.args.depth (ending_of c.args.end) t))
 
-pub returns-then-depth-ge-LEVELS : goal.returns-then-depth-ge-LEVELS
-returns-then-depth-ge-LEVELS c =
+pub returns-then-depth-ge-LEVELS-clause-read : goal.returns-then-depth-ge-LEVELS-clause-read
+returns-then-depth-ge-LEVELS-clause-read c =
     let h : depth_limit ≤ c.args.depth = search rules in
     λ y us t. width_deep c.fault_at.result y us c.args.depth (ending_of c.args.end) (located_of c.in_ok-first.first)
     c.args.reader.now c.take.new.self t c.in_ok-first.ensures (sym c.is_mark.ensures ∙ c.if-is_mark.true) h
     c.fault_at.ensures
 
-pub returns-in_err-width : goal.returns-in_err-width
-returns-in_err-width c =
+pub returns-in_err-width-clause-read : goal.returns-in_err-width-clause-read
+returns-in_err-width-clause-read c =
     let h : c.args.depth < depth_limit = search rules in
     let p = err_from_is_err_and c.from_residual-in_err-width.result c.from_residual-in_err-width.ensures.1 in
     rw (p.1, p.2) (λ y us t. width_stopped _ y us c.args.depth (ending_of c.args.end) (located_of c.in_ok-first.first)
     c.args.reader.now c.take.new.self t c.in_ok-first.ensures (sym c.is_mark.ensures ∙ c.if-is_mark.true) h
-    c.in_err-width.ensures)
+    c.in_err-width.ensures.read)
 
-pub returns-then-is_mark : goal.returns-then-is_mark
-returns-then-is_mark c =
+pub returns-then-is_mark-clause-read : goal.returns-then-is_mark-clause-read
+returns-then-is_mark-clause-read c =
     let h : c.args.depth < depth_limit = search rules in
-    let w = c.in_ok-width.ensures in
+    let w = c.in_ok-width.ensures.read in
     λ y us t. (
       w.0,
       width_some y us c.args.depth (ending_of c.args.end) (located_of c.in_ok-first.first)
@@ -39,12 +41,16 @@ returns-then-is_mark c =
           (sym c.is_mark.ensures ∙ c.if-is_mark.true) h w.2 w.3,
     )
 
-pub returns-then-not-is_end : goal.returns-then-not-is_end
-returns-then-not-is_end c =
+pub returns-then-not-is_end-clause-read : goal.returns-then-not-is_end-clause-read
+returns-then-not-is_end-clause-read c =
     λ y us t. width_refused c.refuse.result y us c.args.depth (ending_of c.args.end) (located_of c.in_ok-first.first)
     c.args.reader.now c.take.new.self t c.in_ok-first.ensures (sym c.is_mark.ensures ∙ c.if-is_mark.false)
     (sym c.is_end.ensures ∙ c.if-not-is_end.true) c.refuse.ensures
 
-pub returns : goal.returns
-returns c = λ y us t. width_none y us c.args.depth (ending_of c.args.end) (located_of c.in_ok-first.first)
+pub returns-clause-read : goal.returns-clause-read
+returns-clause-read c = λ y us t. width_none y us c.args.depth (ending_of c.args.end) (located_of c.in_ok-first.first)
     c.args.reader.now c.take.new.self t c.in_ok-first.ensures (sym c.is_end.ensures ∙ c.if-not-is_end.false)
+
+pub returns-then-is_mark-clause-text : goal.returns-then-is_mark-clause-text
+returns-then-is_mark-clause-text c = kept IsWidthOf c.in_ok-width.width (shows_text _ _ _ c.in_ok-first.ensures)
+    c.in_ok-width.ensures.text

@@ -5,25 +5,27 @@ use Rattle.express_runs.specs.Items.{located_of}
 use Rattle.express_schemas.specs.Predict.{Labelled, EndOfText, in_rule}
 use Rattle.express_schemas.specs.Views.{body_of}
 use Rattle.express_parts.proofs.RuleSteps.{behind_name, behind_label, labelled_read, second_read, second_stops}
+use Rattle.express_schemas.proofs.SameText.{shows_text, kept}
+use Rattle.express_schemas.specs.Sources.{IsBodyOf}
 use Rattle.express_parts.proofs.rules.named_rule.Goals as goal
 
-pub returns-in_err-next : goal.returns-in_err-next
-returns-in_err-next c = λ end.
+pub returns-in_err-next-clause-read : goal.returns-in_err-next-clause-read
+returns-in_err-next-clause-read c = λ end.
     let p = err_from_is_err_and c.from_residual.result c.from_residual.ensures.1 in
     rw (p.1, p.2) (behind_name _ end c.args.word c.args.place c.args.reader.now
     (c.in_err-next.ensures (Labelled end) (λ (e : Labelled end ≡ EndOfText). cc)))
 
-pub returns-in_err-body : goal.returns-in_err-body
-returns-in_err-body c = λ end.
+pub returns-in_err-body-clause-read : goal.returns-in_err-body-clause-read
+returns-in_err-body-clause-read c = λ end.
     let p = err_from_is_err_and c.from_residual-in_err-body.result c.from_residual-in_err-body.ensures.1 in
     rw (p.1, p.2) (behind_label _ end c.args.word c.args.place (located_of c.in_ok-next.next) c.args.reader.now
-    c.take.new.self c.in_ok-next.ensures (sym c.is_mark.ensures ∙ c.if-is_mark.true) c.in_err-body.ensures)
+    c.take.new.self c.in_ok-next.ensures (sym c.is_mark.ensures ∙ c.if-is_mark.true) c.in_err-body.ensures.read)
 
-pub returns-then-is_mark : goal.returns-then-is_mark
-returns-then-is_mark c = λ end.
+pub returns-then-is_mark-clause-read : goal.returns-then-is_mark-clause-read
+returns-then-is_mark-clause-read c = λ end.
     labelled_read end c.args.word c.args.place (located_of c.in_ok-next.next) (body_of c.in_ok-body.body)
     c.args.reader.now c.take.new.self c.body.new.reader c.in_ok-next.ensures (sym c.is_mark.ensures
-    ∙ c.if-is_mark.true) c.in_ok-body.ensures
+    ∙ c.if-is_mark.true) c.in_ok-body.ensures.read
 
 pub gathered_body-requires : goal.gathered_body-requires
 gathered_body-requires c = record {
@@ -35,16 +37,24 @@ gathered_body-requires c = record {
   );
 }
 
-pub returns-in_err-body-2 : goal.returns-in_err-body-2
-returns-in_err-body-2 c = λ end.
+pub returns-in_err-body-2-clause-read : goal.returns-in_err-body-2-clause-read
+returns-in_err-body-2-clause-read c = λ end.
     let p = err_from_is_err_and c.from_residual-in_err-body-2.result c.from_residual-in_err-body-2.ensures.1 in
     rw (p.1, p.2) (second_stops end c.args.word c.args.place (word_of c.in_ok-next.next.lexeme) c.in_ok-next.next.place
     c.begin.new.self c.args.reader.now c.reader.inside.lexer _ c.in_ok-begin.ensures.0 c.in_ok-begin.ensures.1
-    (sym c.is_mark.ensures ∙ c.if-is_mark.false) (rw c.reader.view_is c.in_ok-next.ensures) c.in_err-body-2.ensures)
+    (sym c.is_mark.ensures ∙ c.if-is_mark.false) (rw c.reader.view_is c.in_ok-next.ensures) c.in_err-body-2.ensures.read)
 
-pub returns : goal.returns
-returns c = λ end.
+pub returns-clause-read : goal.returns-clause-read
+returns-clause-read c = λ end.
     second_read end c.args.word c.args.place (word_of c.in_ok-next.next.lexeme) c.in_ok-next.next.place c.begin.new.self
     c.args.reader.now c.reader.inside.lexer (body_of c.in_ok-body-2.body) c.gathered_body.new.lexer
     c.in_ok-begin.ensures.0 c.in_ok-begin.ensures.1 (sym c.is_mark.ensures ∙ c.if-is_mark.false)
-    (rw c.reader.view_is c.in_ok-next.ensures) c.in_ok-body-2.ensures
+    (rw c.reader.view_is c.in_ok-next.ensures) c.in_ok-body-2.ensures.read
+
+pub returns-then-is_mark-clause-text : goal.returns-then-is_mark-clause-text
+returns-then-is_mark-clause-text c = kept IsBodyOf c.in_ok-body.body (shows_text _ _ _ c.in_ok-next.ensures)
+    c.in_ok-body.ensures.text
+
+pub returns-clause-text : goal.returns-clause-text
+returns-clause-text c = kept IsBodyOf c.in_ok-body-2.body (shows_text c.args.reader.now
+    (located_of c.in_ok-next.next) c.reader.inside.lexer (rw c.reader.view_is c.in_ok-next.ensures)) c.in_ok-body-2.ensures.text

@@ -8,18 +8,18 @@ use Rattle.express_schemas.specs.Predict.{Id, Just, Underlying, TypeEnd, Head, B
 use Rattle.express_text.proofs.SchemaSteps.{declared}
 use Rattle.express_text.proofs.schema.declaration.Goals as goal
 
-pub returns-then-is_keyword : goal.returns-then-is_keyword
-returns-then-is_keyword c = (
-  c.in_ok-declared.ensures.0,
+pub returns-then-is_keyword-clause-read : goal.returns-then-is_keyword-clause-read
+returns-then-is_keyword-clause-read c = (
+  c.in_ok-declared.ensures.read.0,
   declared keywords.Type (Id ∷ Just marks.Equal ∷ Underlying ∷ TypeEnd ∷ [])
       (words_of_type (type_of c.in_ok-declared.declared)) (located_of c.args.first) (sym c.is_keyword.ensures
-      ∙ c.if-is_keyword.true) refl c.in_ok-declared.ensures.2 c.in_ok-declared.ensures.3,
+      ∙ c.if-is_keyword.true) refl c.in_ok-declared.ensures.read.2 c.in_ok-declared.ensures.read.3,
 )
 
-pub returns-then-is_keyword-2 : goal.returns-then-is_keyword-2
-returns-then-is_keyword-2 c = (
-  c.in_ok-declared-2.ensures.0,
+pub returns-then-is_keyword-2-clause-read : goal.returns-then-is_keyword-2-clause-read
+returns-then-is_keyword-2-clause-read c = (
+  c.in_ok-declared-2.ensures.read.0,
   declared keywords.Entity (Id ∷ Head ∷ Body explicits ∷ []) (words_of_entity (entity_of c.in_ok-declared-2.declared))
-      (located_of c.args.first) (sym c.is_keyword-2.ensures ∙ c.if-is_keyword-2.true) refl c.in_ok-declared-2.ensures.2
-      c.in_ok-declared-2.ensures.3,
+      (located_of c.args.first) (sym c.is_keyword-2.ensures ∙ c.if-is_keyword-2.true) refl c.in_ok-declared-2.ensures.read.2
+      c.in_ok-declared-2.ensures.read.3,
 )

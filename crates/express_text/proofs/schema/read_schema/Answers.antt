@@ -1,14 +1,36 @@
-use Rattle.express_text.proofs.SchemaSteps.{all_read, fault_read}
+use Rattle.std.proofs.lemmas.Result.{err_from_is_err_and}
+use Rattle.express_schemas.specs.SchemaViews.{schema_of}
 use Rattle.express_schemas.proofs.Unique.{one_schema}
 use Rattle.express_schemas.proofs.FirstFault.{stop_is_fault, reads_never_stops}
+use Rattle.express_schemas.proofs.SameText.{kept}
+use Rattle.express_schemas.specs.Sources.{IsSchemaOf}
+use Rattle.std.proofs.Common.{ap}
+use Rattle.express_lexis.specs.Reading.{Reading}
+use Rattle.express_text.proofs.SchemaSteps.{reads_as, stops_at_start}
 use Rattle.express_text.proofs.schema.read_schema.Goals as goal
 
-pub returns-clause-all : goal.returns-clause-all
-returns-clause-all c =
-    λ x h. all_read c.args.text.now c.new-reader.result c.whole_schema.new.reader c.whole_schema.result
-    c.new-reader.ensures c.whole_schema.ensures x
-    (λ y g. one_schema c.args.text.now y x g h) (λ e s. reads_never_stops e c.args.text.now x h s)
+pub whole_schema-requires : goal.whole_schema-requires
+whole_schema-requires c = (c.args.text.now, c.new-reader.ensures)
 
-pub returns-clause-fault : goal.returns-clause-fault
-returns-clause-fault c = fault_read c.args.text.now c.new-reader.result c.whole_schema.new.reader c.whole_schema.result
-    c.new-reader.ensures c.whole_schema.ensures (λ e s. stop_is_fault e c.args.text.now s)
+pub returns-in_err-schema-clause-all : goal.returns-in_err-schema-clause-all
+returns-in_err-schema-clause-all c = λ x h.
+    let p = err_from_is_err_and c.from_residual.result c.from_residual.ensures.1 in
+    rw (p.1, p.2) (reads_never_stops _ c.args.text.now x h (stops_at_start _ c.args.text.now c.new-reader.result
+    c.new-reader.ensures c.in_err-schema.ensures.read))
+
+pub returns-in_err-schema-clause-fault : goal.returns-in_err-schema-clause-fault
+returns-in_err-schema-clause-fault c =
+    let p = err_from_is_err_and c.from_residual.result c.from_residual.ensures.1 in
+    rw (p.1, p.2) (stop_is_fault _ c.args.text.now (stops_at_start _ c.args.text.now c.new-reader.result
+    c.new-reader.ensures c.in_err-schema.ensures.read))
+
+pub returns-clause-all : goal.returns-clause-all
+returns-clause-all c = λ x h.
+    let t = schema_of c.in_ok-schema.schema in
+    let e = c.in_ok-schema.ensures.read in
+    one_schema c.args.text.now t x (reads_as c.args.text.now c.new-reader.result c.whole_schema.new.reader t
+    c.new-reader.ensures e.0 e.1 e.2 e.3) h
+
+pub returns-clause-text : goal.returns-clause-text
+returns-clause-text c = kept IsSchemaOf c.in_ok-schema.schema (ap (λ (r : Reading). r.text) c.new-reader.ensures)
+    c.in_ok-schema.ensures.text

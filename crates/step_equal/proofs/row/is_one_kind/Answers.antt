@@ -1,6 +1,6 @@
 use Rattle.std.proofs.Common.{sym, ◌∙◌, ap}
 use Rattle.step_equal.specs.Rows.{Kind, kind_of}
-use Rattle.step_equal.specs.Views.{row_of}
+use Rattle.step_equal.specs.Views.{row_seen}
 use Rattle.step_equal.proofs.OneKind.{kinds_decide, two_sections, one_section}
 use Rattle.step_equal.proofs.row.is_one_kind.Goals as goal
 
@@ -10,18 +10,16 @@ returns-then-row-other-clause-kinds c =
 
 pub returns-then-row-other-clause-test : goal.returns-then-row-other-clause-test
 returns-then-row-other-clause-test c =
-    two_sections (kind_of (row_of c.args.row.now)) (kind_of (row_of c.args.other.now)) c.if-row-other.true
+    two_sections (kind_of (row_seen c.args.row.now)) (kind_of (row_seen c.args.other.now)) c.if-row-other.true
 
 pub returns-clause-kinds : goal.returns-clause-kinds
 returns-clause-kinds c =
-    let a = kind_of (row_of c.args.row.now) in
-    let b = kind_of (row_of c.args.other.now) in
-    let words = rw (c.deref.ensures.value, c.deref-2.ensures.value) at c.same_words.ensures in
-    let test = one_section a b c.same_words.result c.if-row-other.false words in
+    let a = kind_of (row_seen c.args.row.now) in
+    let b = kind_of (row_seen c.args.other.now) in
+    let test = one_section a b c.same_words.result c.if-row-other.false c.same_words.ensures in
     (λ e. (kinds_decide a b).0 (sym test ∙ e), λ e. test ∙ (kinds_decide a b).1 e)
 
 pub returns-clause-test : goal.returns-clause-test
 returns-clause-test c =
-    let words = rw (c.deref.ensures.value, c.deref-2.ensures.value) at c.same_words.ensures in
-    one_section (kind_of (row_of c.args.row.now)) (kind_of (row_of c.args.other.now)) c.same_words.result
-    c.if-row-other.false words
+    one_section (kind_of (row_seen c.args.row.now)) (kind_of (row_seen c.args.other.now)) c.same_words.result
+    c.if-row-other.false c.same_words.ensures

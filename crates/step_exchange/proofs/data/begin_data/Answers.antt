@@ -1,7 +1,8 @@
 use Rattle.std.proofs.Common.{[], ◌∷◌, sym, ◌∙◌, ◌≡◌}
 use Rattle.std.proofs.lemmas.Result.{err_from_is_err_and}
 use Rattle.step_exchange.specs.Words.{located}
-use Rattle.step_exchange.specs.Predict.{Data, Behind, EndOfText, section_refused, refused}
+use Rattle.step_exchange.specs.Predict.{Data, Behind, EndOfText, refused}
+use Rattle.step_exchange.specs.Steps.{section_refused}
 use Rattle.step_exchange.specs.declared.fault.FaultKind.TheVariants as kinds
 use Rattle.step_exchange.specs.declared.fault.LeftOut.TheVariants as left_out
 use Rattle.step_exchange.proofs.DataSteps.{stops_first, stops_at, data_refused, behind_open, behind_refused, begin_err_behind, begin_err_token, begin_done}

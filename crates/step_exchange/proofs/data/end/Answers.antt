@@ -2,7 +2,8 @@ use Rattle.std.proofs.Common.{[], ◌∷◌, sym, ◌∙◌, ◌≡◌}
 use Rattle.std.proofs.lemmas.Result.{err_from_is_err_and}
 use Rattle.step_lexis.specs.declared.token.Mark.TheVariants.{Semicolon}
 use Rattle.step_exchange.specs.Words.{located}
-use Rattle.step_exchange.specs.Predict.{Just, Finish, EndOfText, section_refused}
+use Rattle.step_exchange.specs.Predict.{Just, Finish, EndOfText}
+use Rattle.step_exchange.specs.Steps.{section_refused}
 use Rattle.step_exchange.specs.declared.fault.FaultKind.TheVariants as kinds
 use Rattle.step_exchange.specs.declared.fault.LeftOut.TheVariants as left_out
 use Rattle.step_exchange.proofs.DataSteps.{stops_first, stops_at, finish_data, finish_refused, is_end, end_err_mark, end_done}

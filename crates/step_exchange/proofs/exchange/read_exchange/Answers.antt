@@ -2,7 +2,7 @@ use Rattle.std.proofs.Common.{map, subst, arith}
 use Rattle.std.proofs.lemmas.Result.{err_from_is_err_and}
 use Rattle.step_lexis.specs.Reading.{Reading}
 use Rattle.step_exchange.specs.Views.{record_of, row_of, file_of}
-use Rattle.step_exchange.specs.Predict.{TakesHeader, StopsInHeader}
+use Rattle.step_exchange.specs.Steps.{TakesHeader, StopsInHeader}
 use Rattle.step_exchange.proofs.Outcome.{header_is_fault, data_is_fault, is_read, found_all, fault_all}
 use Rattle.step_exchange.proofs.Places.{header_bounds}
 use Rattle.step_exchange.proofs.exchange.read_exchange.Goals as goal

@@ -1,9 +1,10 @@
-use Rattle.std.proofs.Common.{refl, sym, ap, ◌∙◌}
+use Rattle.std.proofs.Common.{sym, ap, ◌∙◌}
 use Rattle.std.proofs.lemmas.Result.{err_from_is_err_and}
 use Rattle.step_exchange.specs.Words.{token, word_of}
 use Rattle.step_exchange.specs.Predict.{Head}
+use Rattle.step_exchange.specs.Views.{record_of}
 use Rattle.step_exchange.proofs.Looking.{stops_refused}
-use Rattle.step_exchange.proofs.HeadSteps.{head_refused, head_fault, head_err}
+use Rattle.step_exchange.proofs.HeadSteps.{head_refused, head_fault, head_err, head_done}
 use Rattle.step_exchange.proofs.header.head.Goals as goal
 
 pub returns-in_default : goal.returns-in_default
@@ -25,12 +26,10 @@ returns-in_err-params c =
     (sym c.is_said.ensures ∙ c.if-not-is_said.false) c.in_err-params.ensures)
 
 pub returns : goal.returns
-returns c = record {
-  said = sym c.is_said.ensures ∙ c.if-not-is_said.false;
-  key = c.in_ok-key.key;
-  inside = c.take.new.lexer;
-  taken = c.in_ok-key.ensures;
-  key_is = ap (λ s. token (word_of s c.in_ok-key.key.text.now)) c.in-Keyword.is;
-  place_is = refl;
-  params = c.in_ok-params.ensures;
-}
+returns c =
+    head_done c.args.word.now c.in_ok-key.key (record_of (record {
+      keyword = c.in-Keyword.keyword;
+      params = c.in_ok-params.params;
+    })) c.args.lexer.now c.take.new.lexer c.record_params.new.lexer c.in_ok-key.ensures
+    (ap (λ s. token (word_of s c.in_ok-key.key.text.now)) c.in-Keyword.is) (sym c.is_said.ensures
+    ∙ c.if-not-is_said.false) c.in_ok-params.ensures

@@ -1,7 +1,7 @@
 use Rattle.std.proofs.Common.{length, map}
 use Rattle.step_lexis.specs.Reading.{left}
 use Rattle.step_exchange.specs.Views.{record_of}
-use Rattle.step_exchange.specs.Predict.{HeaderSoFar}
+use Rattle.step_exchange.specs.Steps.{HeaderSoFar}
 use Rattle.step_exchange.proofs.header.header.Given as goal
 
 abbrev pub invariant-loop-records : goal.invariant-loop-records

@@ -2,9 +2,9 @@ use Rattle.std.proofs.Common.{ap}
 use Rattle.std.proofs.lemmas.Result.{err_from_is_err_and}
 use Rattle.step_exchange.specs.Words.{token, word_of}
 use Rattle.step_exchange.specs.Views.{trees_of}
-use Rattle.step_exchange.specs.Predict.{Records, TakesEnd, TakesKeyed}
+use Rattle.step_exchange.specs.Predict.{Records}
 use Rattle.step_exchange.proofs.Looking.{stops_refused}
-use Rattle.step_exchange.proofs.HeadSteps.{records_refused, more_err_keyed, more_err_mark, more_done, more_end, at_none, at_some}
+use Rattle.step_exchange.proofs.HeadSteps.{records_refused, more_err_keyed, more_err_mark, more_done, more_end, Ending, Keyed, at_none, at_some}
 use Rattle.step_exchange.proofs.header.next_record.Goals as goal
 
 pub returns-in_default : goal.returns-in_default
@@ -23,8 +23,8 @@ pub returns-in_default-2 : goal.returns-in_default-2
 returns-in_default-2 c =
     more_end c.in_ok-key.key c.in-Keyword.keyword.text.now c.args.lexer.now c.take.new.lexer c.record_or_end.new.lexer
     c.in_ok-key.ensures (ap (λ s. token (word_of s c.in_ok-key.key.text.now)) c.in-Keyword.is)
-    (at_none c.in_ok-params.field-0 (TakesEnd c.in-Keyword.keyword.text.now c.take.new.lexer c.record_or_end.new.lexer)
-    (λ v. TakesKeyed c.in-Keyword.keyword.text.now c.take.new.lexer (trees_of v.items) c.record_or_end.new.lexer)
+    (at_none c.in_ok-params.field-0 (Ending c.in-Keyword.keyword.text.now c.take.new.lexer c.record_or_end.new.lexer)
+    (λ v. Keyed c.in-Keyword.keyword.text.now c.take.new.lexer (trees_of v.items) c.record_or_end.new.lexer)
     c.in_ok-params.ensures c.in_default-2.is)
 
 pub returns-in_err-expect : goal.returns-in_err-expect
@@ -33,8 +33,8 @@ returns-in_err-expect c =
     rw (p.1, p.2) (more_err_mark _ c.in_ok-key.key c.in-Keyword.keyword.text.now c.args.lexer.now c.take.new.lexer
     (trees_of c.in-Some.params.items) c.record_or_end.new.lexer c.in_ok-key.ensures
     (ap (λ s. token (word_of s c.in_ok-key.key.text.now)) c.in-Keyword.is)
-    (at_some c.in_ok-params.field-0 c.in-Some.params (TakesEnd c.in-Keyword.keyword.text.now c.take.new.lexer
-    c.record_or_end.new.lexer) (λ v. TakesKeyed c.in-Keyword.keyword.text.now c.take.new.lexer (trees_of v.items)
+    (at_some c.in_ok-params.field-0 c.in-Some.params (Ending c.in-Keyword.keyword.text.now c.take.new.lexer
+    c.record_or_end.new.lexer) (λ v. Keyed c.in-Keyword.keyword.text.now c.take.new.lexer (trees_of v.items)
     c.record_or_end.new.lexer) c.in_ok-params.ensures c.in-Some.is) c.in_err-expect.ensures)
 
 pub returns : goal.returns
@@ -42,6 +42,6 @@ returns c =
     more_done c.in_ok-key.key c.in-Keyword.keyword.text.now c.args.lexer.now c.take.new.lexer
     (trees_of c.in-Some.params.items) c.record_or_end.new.lexer c.expect.new.lexer c.in_ok-key.ensures
     (ap (λ s. token (word_of s c.in_ok-key.key.text.now)) c.in-Keyword.is)
-    (at_some c.in_ok-params.field-0 c.in-Some.params (TakesEnd c.in-Keyword.keyword.text.now c.take.new.lexer
-    c.record_or_end.new.lexer) (λ v. TakesKeyed c.in-Keyword.keyword.text.now c.take.new.lexer (trees_of v.items)
+    (at_some c.in_ok-params.field-0 c.in-Some.params (Ending c.in-Keyword.keyword.text.now c.take.new.lexer
+    c.record_or_end.new.lexer) (λ v. Keyed c.in-Keyword.keyword.text.now c.take.new.lexer (trees_of v.items)
     c.record_or_end.new.lexer) c.in_ok-params.ensures c.in-Some.is) c.in_ok-expect.ensures

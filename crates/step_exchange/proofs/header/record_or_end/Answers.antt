@@ -1,10 +1,8 @@
 use Rattle.std.proofs.Common.{sym, ◌∙◌, ◌≡◌}
 use Rattle.std.proofs.lemmas.Result.{err_from_is_err_and}
-use Rattle.step_lexis.specs.declared.token.Mark.TheVariants.{Semicolon}
 use Rattle.step_exchange.specs.Views.{trees_of}
 use Rattle.step_exchange.specs.Predict.{Ended, EndOfText}
-use Rattle.step_exchange.proofs.Looking.{reads_mark}
-use Rattle.step_exchange.proofs.HeadSteps.{keyed_err_params, keyed_other, keyed_err_token, keyed_err_items, keyed_refused, keyed_ended}
+use Rattle.step_exchange.proofs.HeadSteps.{keyed_err_params, keyed_other, keyed_err_token, keyed_err_items, keyed_refused, keyed_ended, keyed_end}
 use Rattle.step_exchange.proofs.header.record_or_end.Goals as goal
 
 pub returns-in_err-params : goal.returns-in_err-params
@@ -24,11 +22,8 @@ returns-in_err-behind c =
     ∙ c.if-not-is_said.false) (c.in_err-behind.ensures Ended (λ (e : Ended ≡ EndOfText). cc)))
 
 pub returns-then-is_mark : goal.returns-then-is_mark
-returns-then-is_mark c = record {
-  said = sym c.is_said.ensures ∙ c.if-not-is_said.false;
-  reads = reads_mark Semicolon c.in_ok-behind.behind c.args.lexer.now c.take.new.lexer c.in_ok-behind.ensures
-      (sym c.is_mark.ensures ∙ c.if-is_mark.true);
-}
+returns-then-is_mark c = keyed_end c.args.keyword.text.now c.in_ok-behind.behind c.args.lexer.now c.take.new.lexer
+    (sym c.is_said.ensures ∙ c.if-not-is_said.false) c.in_ok-behind.ensures (sym c.is_mark.ensures ∙ c.if-is_mark.true)
 
 pub returns-then-not-is_mark : goal.returns-then-not-is_mark
 returns-then-not-is_mark c =

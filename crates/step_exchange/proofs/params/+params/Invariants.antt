@@ -1,7 +1,7 @@
 use Rattle.std.proofs.Common.{◌+◌, ◌*◌, ◌-◌, length}
 use Rattle.step_lexis.specs.Reading.{left}
 use Rattle.step_exchange.specs.Views.{trees_of}
-use Rattle.step_exchange.specs.Predict.{SoFar}
+use Rattle.step_exchange.proofs.ParamSteps.{SoFar}
 use Rattle.step_exchange.proofs.params.+params.Given as goal
 
 abbrev pub decreases-items : goal.decreases-items

@@ -1,6 +1,6 @@
 use Rattle.std.proofs.Common.{sym, ◌∙◌, map}
 use Rattle.step_exchange.specs.Views.{row_of}
-use Rattle.step_exchange.specs.Predict.{names_of}
+use Rattle.step_exchange.specs.Steps.{names_of}
 use Rattle.step_exchange.proofs.RowSteps.{has_lookup, beyond}
 use Rattle.step_exchange.proofs.records.has_name.Goals as goal
 

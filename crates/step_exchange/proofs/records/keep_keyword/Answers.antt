@@ -3,5 +3,5 @@ use Rattle.step_exchange.proofs.Keywords.{further_more}
 use Rattle.step_exchange.proofs.records.keep_keyword.Goals as goal
 
 pub returns : goal.returns
-returns c = further_more c.args.parts.now c.args.part.now c.args.further.now.keys c.insert.new.self.keys c.requires.kept
+returns c = further_more c.args.partials.now c.args.partial.now c.args.further.now.keys c.insert.new.self.keys c.requires.kept
     c.requires.alone (search rules) c.in_ok-insert.ensures.keys

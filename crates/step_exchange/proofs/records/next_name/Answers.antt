@@ -1,6 +1,6 @@
 use Rattle.std.proofs.Common.{sym, ◌∙◌, map, arith}
 use Rattle.step_exchange.specs.Views.{row_of}
-use Rattle.step_exchange.specs.Predict.{names_of}
+use Rattle.step_exchange.specs.Steps.{names_of}
 use Rattle.step_exchange.proofs.RowSteps.{names_len, name_refused, name_twice, name_too_many, name_fits}
 use Rattle.step_exchange.proofs.records.next_name.Goals as goal
 

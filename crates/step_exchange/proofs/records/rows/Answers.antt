@@ -1,7 +1,8 @@
 use Rattle.std.proofs.Common.{rules, sym, ap, ◌∙◌, ◌≡◌, map, ◌++◌, ◌∷◌, [], List, ℕ, subst}
 use Rattle.std.proofs.lemmas.Result.{err_from_is_err_and}
 use Rattle.step_exchange.specs.Views.{row_of, form_of}
-use Rattle.step_exchange.specs.Predict.{Rows, EndOfText, names_of, AtMost}
+use Rattle.step_exchange.specs.Predict.{Rows, EndOfText}
+use Rattle.step_exchange.specs.Steps.{names_of, AtMost}
 use Rattle.step_exchange.proofs.RowSteps.{rows_start, rows_err_token, rows_err_name, rows_err_row, rows_next, rows_done, rows_smaller, rows_push, insert_absent, at_most_next}
 use Rattle.step_exchange.proofs.records.rows.Goals as goal
 

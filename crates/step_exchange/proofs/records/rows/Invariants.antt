@@ -1,7 +1,8 @@
 use Rattle.std.proofs.Common.{length, map}
 use Rattle.step_lexis.specs.Reading.{left}
 use Rattle.step_exchange.specs.Views.{row_of}
-use Rattle.step_exchange.specs.Predict.{RowsSoFar, AtMost, names_of}
+use Rattle.step_exchange.specs.Steps.{AtMost, names_of}
+use Rattle.step_exchange.proofs.RowSteps.{RowsSoFar}
 use Rattle.step_exchange.proofs.records.rows.Given as goal
 
 abbrev pub invariant-loop-records : goal.invariant-loop-records

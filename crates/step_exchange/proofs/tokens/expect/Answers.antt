@@ -1,7 +1,7 @@
 use Rattle.std.proofs.Common.{sym, ◌∙◌}
 use Rattle.step_exchange.specs.Predict.{Just}
 use Rattle.step_exchange.specs.Words.{located}
-use Rattle.step_exchange.proofs.Looking.{mark_refused, reads_mark, stops_refused}
+use Rattle.step_exchange.proofs.Looking.{mark_refused, passes_mark, stops_refused}
 use Rattle.step_exchange.proofs.tokens.expect.Goals as goal
 
 pub returns-then-not-is_mark : goal.returns-then-not-is_mark
@@ -12,5 +12,5 @@ returns-then-not-is_mark c =
     c.refuse.ensures
 
 pub returns : goal.returns
-returns c = reads_mark c.args.wanted c.in_ok-token.token c.args.lexer.now c.take.new.lexer c.in_ok-token.ensures
+returns c = passes_mark c.args.wanted c.in_ok-token.token c.args.lexer.now c.take.new.lexer c.in_ok-token.ensures
     (sym c.is_mark.ensures ∙ c.if-not-is_mark.false)

@@ -1,7 +1,7 @@
 use Rattle.std.proofs.Common.{sym, ◌∙◌}
 use Rattle.step_exchange.specs.Predict.{Say}
 use Rattle.step_exchange.specs.Words.{located}
-use Rattle.step_exchange.proofs.Looking.{word_refused, reads_word, stops_refused}
+use Rattle.step_exchange.proofs.Looking.{word_refused, passes_word, stops_refused}
 use Rattle.step_exchange.proofs.tokens.expect_word.Goals as goal
 
 pub returns-then-not-is_word : goal.returns-then-not-is_word
@@ -12,5 +12,5 @@ returns-then-not-is_word c =
     ∙ c.if-not-is_word.true)) c.refuse.ensures
 
 pub returns : goal.returns
-returns c = reads_word c.args.word.now c.in_ok-token.token c.args.lexer.now c.take.new.lexer c.in_ok-token.ensures
+returns c = passes_word c.args.word.now c.in_ok-token.token c.args.lexer.now c.take.new.lexer c.in_ok-token.ensures
     (sym c.is_word.ensures ∙ c.if-not-is_word.false)

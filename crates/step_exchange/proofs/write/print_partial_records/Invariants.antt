@@ -4,6 +4,6 @@ use Rattle.step_exchange.specs.Views.{record_of}
 use Rattle.step_exchange.specs.Normal.{plain_partial_records}
 use Rattle.step_exchange.proofs.write.print_partial_records.Given as goal
 
-abbrev pub invariant-loop-part : goal.invariant-loop-part
-invariant-loop-part g l = Prints g.S.Sink.held g.S.Sink.has_failed l.fn.out l.out l.fn.printer l.printer
-    (plain_partial_records (map record_of (take l.part-index l.parts)))
+abbrev pub invariant-loop-partial : goal.invariant-loop-partial
+invariant-loop-partial g l = Prints g.S.Sink.held g.S.Sink.has_failed l.fn.out l.out l.fn.printer l.printer
+    (plain_partial_records (map record_of (take l.partial-index l.partials)))

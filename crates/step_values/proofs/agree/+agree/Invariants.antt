@@ -1,12 +1,24 @@
-use Rattle.std.proofs.Common.{◌≡◌, length, drop}
-use Rattle.step_values.specs.ComputedRenamings.{values_by}
-use Rattle.step_values.specs.ComputedAgreement.{same_each_test}
+use Rattle.std.proofs.Common.{◌≡◌, suc}
+use Rattle.step_values.specs.ComputedAgreement.{size}
+use Rattle.step_values.specs.ComputedLabels.{same_each_by}
+use Rattle.step_values.specs.Slots.{node_value}
+use Rattle.step_values.proofs.Walks.{after}
+use Rattle.step_values.proofs.Weights.{weight, weight_of}
 use Rattle.step_values.proofs.agree.+agree.Given as goal
 
+abbrev pub decreases-values_agree : goal.decreases-values_agree
+decreases-values_agree g l = suc (weight l.v.now)
+
+abbrev pub decreases-nodes_agree : goal.decreases-nodes_agree
+decreases-nodes_agree g l = weight (node_value l.v.now)
+
+abbrev pub decreases-lists_agree : goal.decreases-lists_agree
+decreases-lists_agree g l = weight_of l.vs.now
+
 -- what is left decides
-abbrev pub invariant-same_each-loop-i : goal.invariant-same_each-loop-i
-invariant-same_each-loop-i l = record {
-  alike : length l.vs ≡ length l.ws;
-  rest : same_each_test (values_by l.f (drop l.i l.vs)) (values_by l.g (drop l.i l.ws)) ≡ same_each_test
-      (values_by l.f l.vs) (values_by l.g l.ws);
+abbrev pub invariant-lists_agree-loop-i : goal.invariant-lists_agree-loop-i
+invariant-lists_agree-loop-i g l = record {
+  alike : size l.vs ≡ size l.ws;
+  rest : same_each_by (g.F.Labels.labelling l.f) (g.G.Labels.labelling l.g) (after l.i l.vs) (after l.i l.ws)
+      ≡ same_each_by (g.F.Labels.labelling l.f) (g.G.Labels.labelling l.g) l.vs l.ws;
 }

@@ -12,9 +12,12 @@ returns c =
     let plain_is : app_of c.in_ok-plain.plain ≡ plain_app = c.in_ok-plain.ensures.shape (search rules)
     ∙ ap₂ with_rule (ap app_of_fields c.about.ensures ∙ c.new-2.ensures.app) file_is in
     let needs : App → App = on_top (λ s. record s { subcommand_required = true }) in
-    let top_is : app_of c.subcommand_required.result ≡ needs (new_app (codes "stepmin")) =
-    ap app_of_fields c.subcommand_required.ensures ∙ ap needs (ap app_of_fields c.about-2.ensures ∙ c.new-3.ensures.app)
-    in
+    let shows : App → App = on_top (λ s. record s { has_version = true }) in
+    let named : app_of c.about-2.result ≡ new_app (codes "stepmin") = ap app_of_fields c.about-2.ensures
+    ∙ c.new-3.ensures.app in
+    let top_is : app_of c.subcommand_required.result ≡ needs (shows (new_app (codes "stepmin"))) =
+    ap app_of_fields c.subcommand_required.ensures
+    ∙ ap needs (ap app_of_fields c.after_help.ensures ∙ ap app_of_fields c.version.ensures ∙ ap shows named) in
     let file_local : c.help-file.result.global ≡ false = search rules in
     let about_local : (out-Command c.about.result).has_globals ≡ false = ap (λ f. f.has_globals) c.about.ensures
     ∙ c.new-2.ensures.local in

@@ -1,38 +1,7 @@
-use Rattle.std.proofs.Common.{arith, ◌≡◌, ◌∙◌, ◌-◌, sym, ap, to_z}
-use Rattle.std.specs.Int.{w128}
-use Rattle.step_literals.specs.Decimals.{signed}
-use Rattle.step_literals.specs.DigitStrings.{top, front_value}
-use Rattle.step_literals.specs.Digits.{digits_of}
-use Rattle.step_literals.proofs.UnitLemmas.{units_by_cut, long_is_none, fine_is_none, whole_units, whole_small, negated, not_negated, whole_told}
+use Rattle.step_literals.proofs.UnitLemmas.{units_by_cut, whole_same}
 use Rattle.step_literals.proofs.literal.Decimal.whole.Goals as goal
-use Rattle.step_literals.proofs.literal.Decimal.whole.Goals.{then-digits, else-digits, then-len-gt-LONGEST_WHOLE-via-then-len-gt-LONGEST_WHOLE, then-len-gt-LONGEST_WHOLE-via-else-len-gt-LONGEST_WHOLE+then-end-len}
-
-pub returns-then-len-gt-LONGEST_WHOLE : goal.returns-then-len-gt-LONGEST_WHOLE
-returns-then-len-gt-LONGEST_WHOLE c =
-    let t = c.args.self.now.text.now in let d = c.digits-digits.result in
-    let worth = units_by_cut d t c.digits-digits.ensures.digits c.digits-digits.ensures.shift
-    c.digits-digits.ensures.sign in
-    let len : c.saturating_sub-len.result ≡ top (digits_of d) d.shift - 1000400 = omega arith in
-    elim c.then-len-gt-LONGEST_WHOLE.branch [
-      | then-len-gt-LONGEST_WHOLE-via-then-len-gt-LONGEST_WHOLE w ↦ long_is_none d t _ worth len (omega arith)
-      | then-len-gt-LONGEST_WHOLE-via-else-len-gt-LONGEST_WHOLE+then-end-len w ↦ fine_is_none d t _ worth len
-          (omega arith)
-    ]
 
 pub returns : goal.returns
 returns c =
-    let t = c.args.self.now.text.now in let d = c.digits-digits.result in
-    let worth = units_by_cut d t c.digits-digits.ensures.digits c.digits-digits.ensures.shift
-    c.digits-digits.ensures.sign in
-    let len : c.saturating_sub-len.result ≡ top (digits_of d) d.shift - 1000400 = omega arith in
-    let small = whole_small d t _ worth len (omega arith) in
-    let z : to_z w128 c.if-digits.try_from-bits ≡ signed d.below_zero (front_value c.saturating_sub-len.result
-    (digits_of d)) =
-    elim c.if-digits.branch [
-      | then-digits w ↦ negated _ _ _ _ c.from-magnitude.ensures c.front_value.ensures small w.try_from-is
-          ∙ ap (λ b. signed b (front_value c.saturating_sub-len.result (digits_of d))) (sym w.if-digits.true)
-      | else-digits w ↦ not_negated _ _ _ _ c.from-magnitude.ensures c.front_value.ensures small w.try_from-is
-          ∙ ap (λ b. signed b (front_value c.saturating_sub-len.result (digits_of d))) (sym w.if-digits.false)
-    ] in
-    whole_told t d.below_zero _ _ _ _ (whole_units d t _ worth len (omega arith)) z c.try_from.ensures
-    c.ok.ensures.value
+    let d = c.digits.ensures in
+    whole_same _ _ _ (units_by_cut c.digits.result c.args.self.now.text.now d.digits d.shift d.sign) c.whole.ensures
