@@ -2,8 +2,12 @@
 #![tactic(auto)]
 
 #[cfg(test)]
+mod cells;
+#[cfg(test)]
 mod counted;
 #[cfg(test)]
 mod literals;
+#[cfg(test)]
+mod prefixes;
 #[cfg(test)]
 mod printer;

@@ -3,6 +3,7 @@
 use crate::populations::{Sketch, Sketches, Words, population};
 use std::alloc::Global;
 use std::collections::{BTreeMap, BTreeSet};
+use std::hash::RandomState;
 use std::test::Fail;
 use step_equal::image::is_image;
 use step_equal::plain::Plain;
@@ -152,33 +153,35 @@ fn set_of(alloc: Global, names: &[u64]) -> Result<BTreeSet<u64>, Fail> {
 /// Whether these pairs are an image of one population on the other.
 pub(crate) fn is_map_image<'p, 'q>(
     alloc: Global,
+    keys: RandomState,
     populations: (&Plain<'p>, &Plain<'q>),
     pairs: &[(u64, u64)],
     pinned: &[u64],
 ) -> Result<bool, Fail> {
     let map = map_of(alloc, pairs)?;
     let pinned = set_of(alloc, pinned)?;
-    Ok(is_image(alloc, populations.0, populations.1, &map, &pinned)?)
+    Ok(is_image(alloc, keys, populations.0, populations.1, &map, &pinned)?)
 }
 
 type Pairs = &'static [(u64, u64)];
 
 fn answer(
     alloc: Global,
+    keys: RandomState,
     from: Sketches,
     to: Sketches,
     map: Pairs,
     pins: &[u64],
 ) -> Result<bool, Fail> {
-    let from = population(alloc, from)?;
-    let to = population(alloc, to)?;
-    is_map_image(alloc, (&from, &to), map, pins)
+    let from = population(alloc, keys, from)?;
+    let to = population(alloc, keys, to)?;
+    is_map_image(alloc, keys, (&from, &to), map, pins)
 }
 
 /// What is tested by the first case that isn't answered so.
-fn wrong_case(alloc: Global) -> Result<Option<&'static str>, Fail> {
+fn wrong_case(alloc: Global, keys: RandomState) -> Result<Option<&'static str>, Fail> {
     for (what, from, to, map, pins, want) in CASES {
-        if answer(alloc, *from, *to, *map, *pins)? != *want {
+        if answer(alloc, keys, *from, *to, *map, *pins)? != *want {
             return Ok(Some(*what));
         }
     }
@@ -187,6 +190,7 @@ fn wrong_case(alloc: Global) -> Result<Option<&'static str>, Fail> {
 
 #[test]
 fn images_are_told(rt: HostRuntime) -> Result<(), Fail> {
-    assert_eq!(rt; wrong_case(rt.alloc())?, None);
+    let keys = RandomState::new(&rt)?;
+    assert_eq!(rt; wrong_case(rt.alloc(), keys)?, None);
     Ok(())
 }

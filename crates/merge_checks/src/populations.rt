@@ -1,6 +1,7 @@
 //! Small populations, written by hand, and rows that are no population.
 
 use std::alloc::Global;
+use std::hash::RandomState;
 use std::test::Fail;
 use step_equal::fault::PlainFault;
 use step_equal::plain::Plain;
@@ -119,9 +120,13 @@ pub(crate) fn rows(alloc: Global, sketches: Sketches) -> Result<Vec<PlainRow<'st
     Ok(rows)
 }
 
-pub(crate) fn population(alloc: Global, sketches: Sketches) -> Result<Plain<'static>, Fail> {
+pub(crate) fn population(
+    alloc: Global,
+    keys: RandomState,
+    sketches: Sketches,
+) -> Result<Plain<'static>, Fail> {
     let rows = rows(alloc, sketches)?;
-    Ok(Plain::from_rows(alloc, rows)?)
+    Ok(Plain::from_rows(alloc, keys, rows)?)
 }
 
 const FAULTS: [(Sketches, PlainFault); 2] = [
@@ -140,10 +145,11 @@ const FAULTS: [(Sketches, PlainFault); 2] = [
 
 #[test]
 fn rows_are_checked(rt: HostRuntime) -> Result<(), Fail> {
+    let keys = RandomState::new(&rt)?;
     let alloc = rt.alloc();
     for (sketches, fault) in FAULTS {
         let rows = rows(alloc, sketches)?;
-        assert_eq!(rt; Plain::from_rows(alloc, rows).err(), Some(fault));
+        assert_eq!(rt; Plain::from_rows(alloc, keys, rows).err(), Some(fault));
     }
     Ok(())
 }

@@ -3,6 +3,7 @@
 use crate::images::is_map_image;
 use crate::populations::row;
 use std::alloc::Global;
+use std::hash::RandomState;
 use std::test::Fail;
 use step_equal::plain::Plain;
 use step_values::value::PlainValue;
@@ -26,13 +27,13 @@ fn next(name: u64, length: u64) -> u64 {
 }
 
 /// `#1=NODE(#2);` `#2=NODE(#3);` and so on, the last one back to `#1`.
-fn ring(alloc: Global, length: u64) -> Result<Plain<'static>, Fail> {
+fn ring(alloc: Global, keys: RandomState, length: u64) -> Result<Plain<'static>, Fail> {
     let mut rows = Vec::new(alloc);
     for name in 1..=length {
         let value = PlainValue::Reference(next(name, length));
         rows.push(row(alloc, name, 0, &[b"NODE"], value)?)?;
     }
-    Ok(Plain::from_rows(alloc, rows)?)
+    Ok(Plain::from_rows(alloc, keys, rows)?)
 }
 
 /// Each name of the long ring with one of a ring of this length.
@@ -46,17 +47,22 @@ fn turns(alloc: Global, length: u64) -> Result<Vec<(u64, u64)>, Fail> {
     Ok(pairs)
 }
 
-fn is_ring_image(alloc: Global, length: u64, pinned: &[u64]) -> Result<bool, Fail> {
+fn is_ring_image(
+    alloc: Global,
+    keys: RandomState,
+    length: u64,
+    pinned: &[u64],
+) -> Result<bool, Fail> {
     let pairs = turns(alloc, length)?;
-    let from = ring(alloc, ROWS)?;
-    let to = ring(alloc, length)?;
-    is_map_image(alloc, (&from, &to), &pairs, pinned)
+    let from = ring(alloc, keys, ROWS)?;
+    let to = ring(alloc, keys, length)?;
+    is_map_image(alloc, keys, (&from, &to), &pairs, pinned)
 }
 
 /// The length of the first ring that isn't told.
-fn wrong_ring(alloc: Global) -> Result<Option<u64>, Fail> {
+fn wrong_ring(alloc: Global, keys: RandomState) -> Result<Option<u64>, Fail> {
     for (length, pinned, want) in RINGS {
-        if is_ring_image(alloc, length, pinned)? != want {
+        if is_ring_image(alloc, keys, length, pinned)? != want {
             return Ok(Some(length));
         }
     }
@@ -65,6 +71,7 @@ fn wrong_ring(alloc: Global) -> Result<Option<u64>, Fail> {
 
 #[test]
 fn rings_are_images_of_longer_ones(rt: HostRuntime) -> Result<(), Fail> {
-    assert_eq!(rt; wrong_ring(rt.alloc())?, None);
+    let keys = RandomState::new(&rt)?;
+    assert_eq!(rt; wrong_ring(rt.alloc(), keys)?, None);
     Ok(())
 }

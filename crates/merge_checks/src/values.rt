@@ -3,6 +3,7 @@
 use crate::images::is_map_image;
 use crate::populations::{Sketch, Sketches, row, rows, typed, value};
 use std::alloc::Global;
+use std::hash::RandomState;
 use std::test::Fail;
 use step_equal::plain::Plain;
 use step_values::value::PlainValue;
@@ -180,6 +181,7 @@ fn held(
 /// The nodes, and a third row with the value.
 fn holder(
     alloc: Global,
+    keys: RandomState,
     sketch: Sketch,
     place: Place,
     first: bool,
@@ -188,19 +190,31 @@ fn holder(
     let value = value(alloc, sketch)?;
     let value = held(alloc, value, place, first)?;
     rows.push(row(alloc, 3, 0, &[b"HOLDER"], value)?)?;
-    Ok(Plain::from_rows(alloc, rows)?)
+    Ok(Plain::from_rows(alloc, keys, rows)?)
 }
 
-fn agree(alloc: Global, first: Sketch, second: Sketch, place: Place) -> Result<bool, Fail> {
-    let from = holder(alloc, first, place, true)?;
-    let to = holder(alloc, second, place, false)?;
-    is_map_image(alloc, (&from, &to), &[(1, 1), (2, 2), (3, 3)], &[])
+fn agree(
+    alloc: Global,
+    keys: RandomState,
+    first: Sketch,
+    second: Sketch,
+    place: Place,
+) -> Result<bool, Fail> {
+    let from = holder(alloc, keys, first, place, true)?;
+    let to = holder(alloc, keys, second, place, false)?;
+    is_map_image(alloc, keys, (&from, &to), &[(1, 1), (2, 2), (3, 3)], &[])
 }
 
 /// Whether this is the answer, wherever the values stand.
-fn is_told(alloc: Global, first: Sketch, second: Sketch, want: bool) -> Result<bool, Fail> {
+fn is_told(
+    alloc: Global,
+    keys: RandomState,
+    first: Sketch,
+    second: Sketch,
+    want: bool,
+) -> Result<bool, Fail> {
     for place in PLACES {
-        if agree(alloc, first, second, place)? != want {
+        if agree(alloc, keys, first, second, place)? != want {
             return Ok(false);
         }
     }
@@ -208,9 +222,9 @@ fn is_told(alloc: Global, first: Sketch, second: Sketch, want: bool) -> Result<b
 }
 
 /// What is tested by the first pair that isn't told so.
-fn wrong_pair(alloc: Global) -> Result<Option<&'static str>, Fail> {
+fn wrong_pair(alloc: Global, keys: RandomState) -> Result<Option<&'static str>, Fail> {
     for (what, first, second, want) in PAIRS {
-        if !is_told(alloc, *first, *second, *want)? {
+        if !is_told(alloc, keys, *first, *second, *want)? {
             return Ok(Some(*what));
         }
     }
@@ -218,9 +232,9 @@ fn wrong_pair(alloc: Global) -> Result<Option<&'static str>, Fail> {
 }
 
 /// Whether a kind is told from each: it agrees with itself alone.
-fn is_apart(alloc: Global, kind: usize, first: Sketch) -> Result<bool, Fail> {
+fn is_apart(alloc: Global, keys: RandomState, kind: usize, first: Sketch) -> Result<bool, Fail> {
     for (i, second) in KINDS.iter().enumerate() {
-        if !is_told(alloc, first, *second, i == kind)? {
+        if !is_told(alloc, keys, first, *second, i == kind)? {
             return Ok(false);
         }
     }
@@ -228,9 +242,9 @@ fn is_apart(alloc: Global, kind: usize, first: Sketch) -> Result<bool, Fail> {
 }
 
 /// The first kind that isn't told from each.
-fn wrong_kind(alloc: Global) -> Result<Option<usize>, Fail> {
+fn wrong_kind(alloc: Global, keys: RandomState) -> Result<Option<usize>, Fail> {
     for (i, first) in KINDS.iter().enumerate() {
-        if !is_apart(alloc, i, *first)? {
+        if !is_apart(alloc, keys, i, *first)? {
             return Ok(Some(i));
         }
     }
@@ -239,7 +253,8 @@ fn wrong_kind(alloc: Global) -> Result<Option<usize>, Fail> {
 
 #[test]
 fn values_agree_by_value(rt: HostRuntime) -> Result<(), Fail> {
-    assert_eq!(rt; wrong_pair(rt.alloc())?, None);
-    assert_eq!(rt; wrong_kind(rt.alloc())?, None);
+    let keys = RandomState::new(&rt)?;
+    assert_eq!(rt; wrong_pair(rt.alloc(), keys)?, None);
+    assert_eq!(rt; wrong_kind(rt.alloc(), keys)?, None);
     Ok(())
 }

@@ -23,6 +23,7 @@ use crate::plain::Plain;
 use crate::row::{PlainRow, RowSlot, is_one_kind};
 use std::alloc::{AllocError, Global};
 use std::collections::{BTreeSet, HashMap, HashSet};
+use std::hash::RandomState;
 use step_values::agree::same_each;
 use step_values::labels::{Itself, Map, lead};
 
@@ -30,9 +31,10 @@ use step_values::labels::{Itself, Map, lead};
 ///
 /// It is one where it leads each name of the first, and no other, so that sections, types, values and references are
 /// kept, each name of the second is reached, and nothing else is led to where a pinned instance is. `AllocError`
-/// comes where memory runs out.
+/// comes where memory runs out. Names are hashed by these keys.
 pub fn is_image<'p, 'q>(
     alloc: Global,
+    keys: RandomState,
     p: &Plain<'p>,
     q: &Plain<'q>,
     map: &Map,
@@ -46,10 +48,10 @@ pub fn is_image<'p, 'q>(
     if !rows_land(alloc, map, p.rows(), q)? {
         return Ok(false);
     }
-    if !is_onto(alloc, map, p.rows(), q.rows())? {
+    if !is_onto(alloc, keys, map, p.rows(), q.rows())? {
         return Ok(false);
     }
-    leaves_alone(alloc, map, p.rows(), pinned)
+    leaves_alone(alloc, keys, map, p.rows(), pinned)
 }
 
 /// Whether the map has the names of the rows, and no other.
@@ -122,6 +124,7 @@ fn row_lands<'p, 'a, 'q>(
 /// Whether each of the others is reached.
 fn is_onto<'p, 'q>(
     alloc: Global,
+    keys: RandomState,
     map: &Map,
     rows: &[PlainRow<'p>],
     others: &[PlainRow<'q>],
@@ -129,16 +132,21 @@ fn is_onto<'p, 'q>(
     ensures { IfOk result
         (λ b. IsTrue b ↔ IsOnto (rows_of rows.now) (rows_of others.now) (led_by map.now)) }
 {
-    let reached = reached(alloc, map, rows)?;
+    let reached = reached(alloc, keys, map, rows)?;
     Ok(are_reached(&reached, others))
 }
 
 /// The names to which the rows are led.
-fn reached<'a>(alloc: Global, map: &Map, rows: &[PlainRow<'a>]) -> Result<HashSet<u64>, AllocError>
+fn reached<'a>(
+    alloc: Global,
+    keys: RandomState,
+    map: &Map,
+    rows: &[PlainRow<'a>],
+) -> Result<HashSet<u64, RandomState>, AllocError>
     ensures { IfOk result
         (λ s. (y : ℕ) → hash_contains nat_eq s y ≡ is_reached map.now (rows_of rows.now) y) }
 {
-    let mut reached = HashSet::new(alloc);
+    let mut reached = HashSet::with_hasher(alloc, keys);
     for row in rows {
         reached.insert(lead(map, row.name))?;
     }
@@ -146,7 +154,7 @@ fn reached<'a>(alloc: Global, map: &Map, rows: &[PlainRow<'a>]) -> Result<HashSe
 }
 
 /// Whether each row's name is one of them.
-fn are_reached<'a>(reached: &HashSet<u64>, rows: &[PlainRow<'a>]) -> bool
+fn are_reached<'a>(reached: &HashSet<u64, RandomState>, rows: &[PlainRow<'a>]) -> bool
     ensures { result ≡ list_all (λ q. hash_contains nat_eq reached.now q.name) (rows_of rows.now) }
 {
     for row in rows {
@@ -160,6 +168,7 @@ fn are_reached<'a>(reached: &HashSet<u64>, rows: &[PlainRow<'a>]) -> bool
 /// Whether nothing else is led to where a pinned row is.
 fn leaves_alone<'a>(
     alloc: Global,
+    keys: RandomState,
     map: &Map,
     rows: &[PlainRow<'a>],
     pinned: &BTreeSet<u64>,
@@ -167,21 +176,22 @@ fn leaves_alone<'a>(
     ensures { IfOk result
         (λ b. IsTrue b ↔ LeavesAlone (rows_of rows.now) (led_by map.now) (is_pinned pinned.now)) }
 {
-    let sources = pinned_sources(alloc, map, rows, pinned)?;
+    let sources = pinned_sources(alloc, keys, map, rows, pinned)?;
     Ok(are_sources(&sources, map, rows))
 }
 
 /// By the name to which it is led, the last pinned row that is led there.
 fn pinned_sources<'a>(
     alloc: Global,
+    keys: RandomState,
     map: &Map,
     rows: &[PlainRow<'a>],
     pinned: &BTreeSet<u64>,
-) -> Result<HashMap<u64, u64>, AllocError>
+) -> Result<HashMap<u64, u64, RandomState>, AllocError>
     ensures { IfOk result
         (λ s. (y : ℕ) → hash_get nat_eq s y ≡ source_by map.now pinned.now (rows_of rows.now) y) }
 {
-    let mut sources = HashMap::new(alloc);
+    let mut sources = HashMap::with_hasher(alloc, keys);
     for row in rows {
         if pinned.contains(&row.name) {
             sources.insert(lead(map, row.name), row.name)?;
@@ -191,7 +201,11 @@ fn pinned_sources<'a>(
 }
 
 /// Whether each row that is led to where a pinned one is, is that one.
-fn are_sources<'a>(sources: &HashMap<u64, u64>, map: &Map, rows: &[PlainRow<'a>]) -> bool
+fn are_sources<'a>(
+    sources: &HashMap<u64, u64, RandomState>,
+    map: &Map,
+    rows: &[PlainRow<'a>],
+) -> bool
     ensures { result ≡ list_all (is_source_by sources.now map.now) (rows_of rows.now) }
 {
     for row in rows {
@@ -203,7 +217,7 @@ fn are_sources<'a>(sources: &HashMap<u64, u64>, map: &Map, rows: &[PlainRow<'a>]
 }
 
 /// Whether a row is.
-fn is_source<'a>(sources: &HashMap<u64, u64>, map: &Map, row: &PlainRow<'a>) -> bool
+fn is_source<'a>(sources: &HashMap<u64, u64, RandomState>, map: &Map, row: &PlainRow<'a>) -> bool
     ensures { result ≡ is_source_by sources.now map.now (row_of row.now) }
 {
     match sources.get(&lead(map, row.name)) {

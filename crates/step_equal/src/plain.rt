@@ -30,17 +30,22 @@ use crate::row::{PlainRow, RowSlot};
 use crate::settled::settle_rows;
 use indexmap::IndexSet;
 use std::alloc::Global;
+use std::hash::RandomState;
 use std::marker::Model;
 use step_values::value::PlainValue;
 
 /// As many rows as a population has at most, so that the classes of its instances have numbers of 32 bits.
 const MOST_ROWS: usize = 4_294_967_295;
 
+/// The names of rows, in order. They are hashed by keys that the author of a text doesn't know, so that nobody can
+/// choose names that are slow to find.
+type Names = IndexSet<u64, RandomState>;
+
 /// A population: at most 2^32 - 1 rows, no name stands twice, and each reference names a row.
 #[derive(Drop)]
 pub struct Plain<'a> {
     rows: Vec<PlainRow<'a>>,
-    places: IndexSet<u64>,
+    places: Names,
 }
 
 impl<'a> Model for Plain<'a> {
@@ -58,13 +63,19 @@ impl<'a> Plain<'a> {
     ///
     /// Where there are more than 2^32 - 1 rows the fault is `TooManyRows`, else where a name stands twice
     /// `DuplicateRow`, else where a reference names no row `UnknownReference`; where memory runs out it is `Memory`.
-    pub fn from_rows(alloc: Global, rows: Vec<PlainRow<'a>>) -> Result<Plain<'a>, PlainFault>
+    ///
+    /// Names are hashed by these keys.
+    pub fn from_rows(
+        alloc: Global,
+        keys: RandomState,
+        rows: Vec<PlainRow<'a>>,
+    ) -> Result<Plain<'a>, PlainFault>
         ensures rows { IfOk result (λ p. AllZip IsSettled (rows_of rows.entry.items) p) }
         ensures population { IfOk result (λ p. IsPopulation p) }
         ensures few { IfOk result (λ p. AreFew p) }
         ensures fault { IfErr result (λ e. IsFaultOf (rows_of rows.entry.items) e) }
     {
-        let places = places_of(alloc, &rows)?;
+        let places = places_of(alloc, keys, &rows)?;
         if !refer_within(&places, &rows) {
             return Err(PlainFault::UnknownReference);
         }
@@ -130,7 +141,11 @@ fn row_in<'p, 'a>(rows: &'p [PlainRow<'a>], place: usize) -> RowSlot<'p, 'a>
 }
 
 /// The names of the rows, in order.
-fn places_of<'a>(alloc: Global, rows: &[PlainRow<'a>]) -> Result<IndexSet<u64>, PlainFault>
+fn places_of<'a>(
+    alloc: Global,
+    keys: RandomState,
+    rows: &[PlainRow<'a>],
+) -> Result<Names, PlainFault>
     ensures places { IfOk result (λ s. s.keys ≡ names (rows_of rows.now)) }
     ensures few { IfOk result (λ _. AreFew (rows_of rows.now)) }
     ensures distinct { IfOk result (λ _. IsDistinct nat_eq (names (rows_of rows.now))) }
@@ -139,7 +154,7 @@ fn places_of<'a>(alloc: Global, rows: &[PlainRow<'a>]) -> Result<IndexSet<u64>, 
     if rows.len() > MOST_ROWS {
         return Err(PlainFault::TooManyRows);
     }
-    let mut places = IndexSet::with_capacity(alloc, rows.len())?;
+    let mut places = IndexSet::with_capacity_and_hasher(alloc, rows.len(), keys)?;
     for row in rows {
         if !places.insert(row.name)? {
             return Err(PlainFault::DuplicateRow);
@@ -149,7 +164,7 @@ fn places_of<'a>(alloc: Global, rows: &[PlainRow<'a>]) -> Result<IndexSet<u64>, 
 }
 
 /// Whether each reference of each row is one of the names.
-fn refer_within<'a>(names: &IndexSet<u64>, rows: &[PlainRow<'a>]) -> bool
+fn refer_within<'a>(names: &Names, rows: &[PlainRow<'a>]) -> bool
     ensures { result ≡ rows_pass (contains nat_eq names.now) (rows_of rows.now) }
 {
     for row in rows {
@@ -162,7 +177,7 @@ fn refer_within<'a>(names: &IndexSet<u64>, rows: &[PlainRow<'a>]) -> bool
 
 /// Whether each reference of a value is.
 #[cycle(refer)]
-fn refers_within<'a>(names: &IndexSet<u64>, value: &PlainValue<'a>) -> bool
+fn refers_within<'a>(names: &Names, value: &PlainValue<'a>) -> bool
     ensures { result ≡ references_pass (contains nat_eq names.now) (value_of value.now) }
 {
     match value {
@@ -180,7 +195,7 @@ fn refers_within<'a>(names: &IndexSet<u64>, value: &PlainValue<'a>) -> bool
 
 /// Whether each reference of some values is.
 #[cycle(refer)]
-fn all_refer_within<'a>(names: &IndexSet<u64>, values: &[PlainValue<'a>]) -> bool
+fn all_refer_within<'a>(names: &Names, values: &[PlainValue<'a>]) -> bool
     ensures { result ≡ all_references_pass (contains nat_eq names.now) (values_of values.now) }
 {
     for value in values {

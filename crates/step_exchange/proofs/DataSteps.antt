@@ -1,26 +1,31 @@
--- The data section and the end of the file, token by token.
-use Rattle.std.proofs.Common.{◌≡◌, ℕ, true, false, List, [], ◌∷◌, ◌++◌, Result, Ok, Err, MatchResult, refl, sym, ap, ◌∙◌, append_assoc, codes}
+-- The data sections and the end of the file, token by token.
+use Rattle.std.proofs.Common.{◌≡◌, ℕ, zero, suc, ◌+◌, ◌<◌, ◌≤◌, nat_lt, Bool, true, false, ◌==◌, List, [], ◌∷◌, ◌++◌, length, Option, Result, Ok, Err, MatchResult, refl, sym, ap, ◌∙◌, subst, append_assoc, append-nil, length-append, arith, codes}
 use Rattle.std.proofs.lemmas.Bool.{false≢true}
+use Rattle.std.proofs.lemmas.Bool.Decides.{nat_tests}
 use Rattle.predictive.proofs.Taking as taking
+use Rattle.step_literals.specs.declared.literal.Text as literal
 use Rattle.step_lexis.specs.declared.token.Mark.TheVariants.{Open, Semicolon}
 use Rattle.step_lexis.specs.declared.token.Sort.{Sort}
 use Rattle.step_lexis.specs.declared.token.Sort.TheVariants as sorts
 use Rattle.step_lexis.specs.declared.token.Token.{Token}
-use Rattle.step_lexis.specs.Reading.{Reading, Takes, IsAtEnd}
-use Rattle.step_exchange.specs.declared.fault.FaultKind.{FaultKind}
-use Rattle.step_exchange.specs.declared.fault.FaultKind.TheVariants as kinds
-use Rattle.step_exchange.specs.declared.fault.LeftOut.TheVariants as left_out
-use Rattle.step_exchange.specs.declared.fault.TextFault.{TextFault}
-use Rattle.step_exchange.specs.declared.fault.TextFault.TheVariants as faults
-use Rattle.step_exchange.specs.Words.{Word, ends, keyword, mark, Lookahead, token, located, located_end, word_of, Shows, shows_end}
-use Rattle.step_exchange.specs.Trees.{Row, Item, this, says, finish, MeetAll, section, items_of_rows, items_of_data, items_of_end}
-use Rattle.step_exchange.specs.Fits.{the_rules, FitsRows}
-use Rattle.step_exchange.specs.Predict.{Symbol, Just, Data, Behind, Rows, Finish, EndOfText, refused, is_mark, is_word, data_symbols}
-use Rattle.step_exchange.specs.Steps.{table, StopsIn, Passes, section_refused}
-use Rattle.step_exchange.proofs.Meeting.{meets_is}
-use Rattle.step_exchange.proofs.Passing.{end_symbols}
-use Rattle.step_exchange.proofs.Taking.{passes_as, passes_more, passes_then, passes_token, stops_behind, stops_all, stops_token}
-use Rattle.step_exchange.proofs.Looking.{mark_met, meets_mark, passes_other_word}
+use Rattle.step_lexis.specs.Reading.{Reading, Takes, IsAtEnd, left}
+use Rattle.step_lexis.proofs.ReadingLemmas.{takes_less}
+use Rattle.step_structures.specs.declared.fault.FaultKind.{FaultKind}
+use Rattle.step_structures.specs.declared.fault.FaultKind.TheVariants as kinds
+use Rattle.step_structures.specs.declared.fault.LeftOut.TheVariants as left_out
+use Rattle.step_structures.specs.declared.fault.TextFault.{TextFault}
+use Rattle.step_structures.specs.declared.fault.TextFault.TheVariants as faults
+use Rattle.step_structures.specs.Words.{Word, ends, keyword, string, mark, Lookahead, token, located, located_end, word_of, Shows, shows_end}
+use Rattle.step_structures.specs.Trees.{Row, Section, rows_of, this, says, finish, MeetAll, section, items_of_rows, items_of_heading, items_of_section, items_of_sections, items_of_end}
+use Rattle.step_structures.specs.Fits.{the_rules, FitsRows}
+use Rattle.step_structures.specs.Predict.{Symbol, Just, Sections, Behind, Quoted, Rows, EndOfText, refused, is_mark, is_word, heading_symbols, data_symbols, table}
+use Rattle.step_exchange.specs.declared.section.Section as code
+use Rattle.step_exchange.specs.Sections.{CountsTo, heading_of, sections_of}
+use Rattle.step_exchange.specs.Steps.{StopsIn, StopsInRows, Passes, Parses, TakesRows, TakesData, BeginsSection, section_refused, names_of}
+use Rattle.step_structures.proofs.Meeting.{meets_is}
+use Rattle.step_exchange.proofs.Taking.{passes_here, passes_as, passes_join, passes_more, passes_then, passes_token, passes_taken, passes_first, passes_within, stops_behind, stops_behind_taken, stops_all, stops_token}
+use Rattle.step_exchange.proofs.Looking.{mark_met, meets_mark, word_met}
+use Rattle.step_exchange.proofs.Cuts.{Cut, cut_is, cut_counts, cut_push, rows_more}
 
 -- what stops at the first of what is to come stops it all
 pub stops_first : (e : TextFault) (y : Symbol) (ys : List Symbol) (old : Reading) → StopsIn e (y ∷ []) [] old
@@ -32,16 +37,25 @@ pub stops_at : (e : TextFault) (k : FaultKind) (y : Symbol) (ys : List Symbol) (
     → Takes old t new → table y (located t).lookahead ≡ Err k → e ≡ faults.Fault k t.place → StopsIn e (y ∷ ys) [] old
 stops_at e k y ys t old new h n q = stops_first e y ys old (stops_token e k y t old new h n q)
 
--- what begins the data section
-data_said : (s : Lookahead) → is_word (codes "DATA") s ≡ true → table Data s ≡ Ok []
-data_said (token (keyword text)) e = rw e refl
-data_said _ e = absurd (false≢true e)
+-- a string
+pub string_at : (t : Token) (w : literal.Text) → t.sort ≡ sorts.String w → (located t).lookahead ≡ token
+    (string w.text.now)
+string_at t w e = ap (λ s. token (word_of s t.text.now)) e
 
-pub data_refused : (s : Lookahead) → is_word (codes "DATA") s ≡ false → table Data s ≡ Err (section_refused s)
-data_refused (token (keyword text)) e = rw e refl
-data_refused _ e = refl
+pub string_refused : (sort : Sort) (text : List ℕ) → ((w : literal.Text) → sort ≡ sorts.String w → ⊥)
+    → table Quoted (token (word_of sort text)) ≡ Err (refused (token (word_of sort text)))
+string_refused (sorts.String w) text h = absurd (h w refl)
+string_refused _ text h = refl
 
-pub behind_open : (s : Lookahead) → is_mark Open s ≡ true → table Behind s ≡ Err (kinds.LeftOut left_out.Sections)
+pub passes_string : (t : Token) (w : literal.Text) (old new : Reading) → Takes old t new → t.sort ≡ sorts.String w
+    → Passes (Quoted ∷ []) [] [] (this (string w.text.now) ∷ []) old new
+passes_string t w old new h e =
+    let is = string_at t w e in
+    passes_token Quoted [] (this (string w.text.now)) t old new h (meets_is (string w.text.now) (located t).lookahead is)
+    (ap (table Quoted) is)
+
+-- the heading of a section
+pub behind_open : (s : Lookahead) → is_mark Open s ≡ true → table Behind s ≡ Ok heading_symbols
 behind_open s e = ap (table Behind) (mark_met Open s e)
 
 pub behind_refused : (s : Lookahead) → is_mark Semicolon s ≡ false → is_mark Open s ≡ false → table Behind s ≡ Err
@@ -50,30 +64,56 @@ behind_refused (token (mark Open)) e g = absurd (false≢true (sym g))
 behind_refused (token (mark Semicolon)) e g = absurd (false≢true (sym e))
 behind_refused _ e g = refl
 
-passes_data : (t : Token) (old a : Reading) → Takes old t a → is_word (codes "DATA") (located t).lookahead ≡ true
-    → Passes (Data ∷ []) [] [] (says (codes "DATA") ∷ []) old a
-passes_data t old a h w = passes_other_word Data (codes "DATA") t old a h w (data_said (located t).lookahead w)
+pub passes_behind : (t : Token) (old new : Reading) → Takes old t new → is_mark Semicolon (located t).lookahead ≡ true
+    → Passes (Behind ∷ []) [] [] (this (mark Semicolon) ∷ []) old new
+passes_behind t old new h m =
+    let s = (located t).lookahead in
+    passes_token Behind [] (this (mark Semicolon)) t old new h (meets_mark Semicolon s m) (ap (table Behind)
+    (mark_met Semicolon s m))
 
-pub begin_err_behind : (e : TextFault) (t : Token) (old a : Reading) → Takes old t a
-    → is_word (codes "DATA") (located t).lookahead ≡ true → StopsIn e (Behind ∷ []) [] a
-    → StopsIn e (Data ∷ Behind ∷ []) [] old
-begin_err_behind e t old a h w g = stops_behind e (Behind ∷ []) [] (passes_more (Behind ∷ []) (passes_data t old a h w))
-    g
+pub passes_opened : (t : Token) (old new : Reading) → Takes old t new → is_mark Open (located t).lookahead ≡ true
+    → Passes (Behind ∷ []) heading_symbols [] (this (mark Open) ∷ []) old new
+passes_opened t old new h m =
+    let s = (located t).lookahead in
+    passes_token Behind heading_symbols (this (mark Open)) t old new h (meets_mark Open s m) (behind_open s m)
 
-pub begin_err_token : (e : TextFault) (k : FaultKind) (t u : Token) (old a b : Reading) → Takes old t a
-    → is_word (codes "DATA") (located t).lookahead ≡ true → Takes a u b → table Behind (located u).lookahead ≡ Err k
-    → e ≡ faults.Fault k u.place → StopsIn e (Data ∷ Behind ∷ []) [] old
-begin_err_token e k t u old a b h w i n q = begin_err_behind e t old a h w (stops_at e k Behind [] u a b i n q)
+-- the word of a section
+data_said : (n : ℕ) (names : List ℕ) (s : Lookahead) → is_word (codes "DATA") s ≡ true → n < the_rules.sections
+    → table (Sections n names) s ≡ Ok (Behind ∷ Rows (suc n) names ∷ [])
+data_said n names (token (keyword text)) e h = let l : nat_lt n the_rules.sections ≡ true = grind (arith, nat_tests) in
+    rw (e, l) refl
+data_said n names _ e h = absurd (false≢true e)
 
-abbrev Begun : Reading → Reading → Type 0
-Begun old new = Passes (Data ∷ Behind ∷ []) [] [] (section (codes "DATA")) old new
+pub data_too_many : (n : ℕ) (names : List ℕ) (s : Lookahead) → is_word (codes "DATA") s ≡ true
+    → the_rules.sections ≤ n → table (Sections n names) s ≡ Err (kinds.LeftOut left_out.TooMany)
+data_too_many n names (token (keyword text)) e h =
+    let l : nat_lt n the_rules.sections ≡ false = grind (arith, nat_tests) in rw (e, l) refl
+data_too_many n names _ e h = absurd (false≢true e)
 
-pub begin_done : (t u : Token) (old a b : Reading) → Takes old t a → is_word (codes "DATA") (located t).lookahead ≡ true
-    → Takes a u b → is_mark Semicolon (located u).lookahead ≡ true → Begun old b
-begin_done t u old a b h w i m =
-    let s = (located u).lookahead in
-    passes_then (passes_data t old a h w) (passes_token Behind [] (this (mark Semicolon)) u a b i
-    (meets_mark Semicolon s m) (ap (table Behind) (mark_met Semicolon s m)))
+pub data_refused : (n : ℕ) (names : List ℕ) (s : Lookahead) → is_word (codes "DATA") s ≡ false → (s ≡ token ends → ⊥)
+    → table (Sections n names) s ≡ Err (section_refused s)
+data_refused n names (token (keyword text)) e h = rw e refl
+data_refused n names (token ends) e h = absurd (h refl)
+data_refused n names _ e h = refl
+
+passes_data : (n : ℕ) (names : List ℕ) (t : Token) (here : Reading) → is_word (codes "DATA") (located t).lookahead
+    ≡ true → n < the_rules.sections → Passes (Sections n names ∷ []) (Behind ∷ Rows (suc n) names ∷ []) (located t ∷ [])
+    (says (codes "DATA") ∷ []) here here
+passes_data n names t here w h = passes_taken (Sections n names) (Behind ∷ Rows (suc n) names ∷ [])
+    (says (codes "DATA")) t here (word_met (codes "DATA") (located t).lookahead w) (data_said n names
+    (located t).lookahead w h)
+
+pub begun : (r : Result (Option (literal.Text × literal.Text)) TextFault) (n : ℕ) (names : List ℕ) (t : Token)
+    (old new : Reading) → is_word (codes "DATA") (located t).lookahead ≡ true → n < the_rules.sections
+    → Parses r (Behind ∷ []) (λ h. items_of_heading (heading_of h) ++ this (mark Semicolon) ∷ []) old new
+    → MatchResult r (λ h. BeginsSection (located t) n names (heading_of h) old new)
+    (λ e. StopsIn e (Sections n names ∷ []) (located t ∷ []) old)
+begun (Ok h) n names t old new w few p = (
+  few,
+  passes_join (passes_data n names t old w few) (passes_more (Rows (suc n) names ∷ []) p),
+)
+begun (Err e) n names t old new w few p = stops_behind e (Behind ∷ []) (Rows (suc n) names ∷ [])
+    (passes_data n names t old w few) p
 
 -- the end of the text
 pub over_signature : (s : Lookahead) → is_word (codes "SIGNATURE") s ≡ true → table EndOfText s ≡ Err
@@ -91,71 +131,230 @@ over_done old new h = taking.passes_token table Shows MeetAll EndOfText [] finis
     (shows_end h refl) (tt, tt) refl
 
 -- the end of the file
-pub finish_data : (s : Lookahead) → is_word (codes "DATA") s ≡ true → table Finish s ≡ Err
-    (kinds.LeftOut left_out.Sections)
-finish_data (token (keyword text)) e = rw e refl
-finish_data _ e = absurd (false≢true e)
-
-pub finish_refused : (sort : Sort) (text : List ℕ) → (sort ≡ sorts.End → ⊥)
-    → is_word (codes "DATA") (token (word_of sort text)) ≡ false
-    → table Finish (token (word_of sort text)) ≡ Err (section_refused (token (word_of sort text)))
-finish_refused sorts.End text h e = absurd (h refl)
-finish_refused (sorts.Keyword w) text h e = rw e refl
-finish_refused _ text h e = refl
-
 pub is_end : (t : Token) → t.sort ≡ sorts.End → (located t).lookahead ≡ token ends
 is_end t e = ap (λ s. token (word_of s t.text.now)) e
 
-passes_ends : (t : Token) (old a : Reading) → Takes old t a → (located t).lookahead ≡ token ends
-    → Passes (Finish ∷ []) [] [] (this ends ∷ []) old a
-passes_ends t old a h e = passes_token Finish [] (this ends) t old a h (meets_is ends (located t).lookahead e)
-    (ap (table Finish) e)
+pub isnt_end : (t : Token) → (t.sort ≡ sorts.End → ⊥) → (located t).lookahead ≡ token ends → ⊥
+isnt_end t h e = by t.sort t.text.now h e
+  where
+    by : (sort : Sort) (text : List ℕ) → (sort ≡ sorts.End → ⊥) → (let l : Lookahead = token (word_of sort text) in l)
+        ≡ token ends → ⊥
+    by sorts.End text h e = h refl
+    by sorts.Begin text h e = cc
+    by (sorts.Keyword w) text h e = cc
+    by (sorts.UserDefined w) text h e = cc
+    by sorts.Scope text h e = cc
+    by (sorts.Name n) text h e = cc
+    by (sorts.Integer d) text h e = cc
+    by (sorts.Real d) text h e = cc
+    by (sorts.Element w) text h e = cc
+    by (sorts.String w) text h e = cc
+    by (sorts.Binary b) text h e = cc
+    by (sorts.Mark m) text h e = cc
 
-pub end_err_mark : (e : TextFault) (t : Token) (old a : Reading) → Takes old t a → (located t).lookahead ≡ token ends
-    → StopsIn e (Just Semicolon ∷ []) [] a → StopsIn e end_symbols [] old
-end_err_mark e t old a h is g = stops_behind e (Just Semicolon ∷ []) (EndOfText ∷ [])
-    (passes_more (Just Semicolon ∷ EndOfText ∷ []) (passes_ends t old a h is)) g
+passes_ends : (n : ℕ) (names : List ℕ) (t : Token) (old a : Reading) → Takes old t a
+    → (located t).lookahead ≡ token ends
+    → Passes (Sections (suc n) names ∷ []) (Just Semicolon ∷ EndOfText ∷ []) [] (this ends ∷ []) old a
+passes_ends n names t old a h e = passes_token (Sections (suc n) names) (Just Semicolon ∷ EndOfText ∷ []) (this ends) t
+    old a h (meets_is ends (located t).lookahead e) (ap (table (Sections (suc n) names)) e)
 
-pub end_done : (r : Result Unit TextFault) (t : Token) (old a b c : Reading) → Takes old t a
-    → (located t).lookahead ≡ token ends → Passes (Just Semicolon ∷ []) [] [] (this (mark Semicolon) ∷ []) a b
+no_more : (n : ℕ) → (n == 0) ≡ true → n ≡ 0
+no_more n e = grind (arith, nat_tests)
+
+some_at_least : (n : ℕ) → (n == 0) ≡ false → n ≡ 0 → ⊥
+some_at_least n e d = let z : (n == 0) ≡ true = grind (arith, nat_tests) in false≢true (sym e ∙ z)
+
+-- there are none, or some
+pub no_sections : (ss : List code.Section) (n : ℕ) (b : Bool) → b ≡ (n == 0) → length ss ≡ n → b ≡ true → length ss ≡ 0
+no_sections ss n b e l t = l ∙ no_more n (sym e ∙ t)
+
+pub some_sections : (ss : List code.Section) (n : ℕ) (b : Bool) → b ≡ (n == 0) → length ss ≡ n → b ≡ false
+    → length ss ≡ 0 → ⊥
+some_sections ss n b e l t d = some_at_least n (sym e ∙ t) (sym l ∙ d)
+
+pub end_done : (r : Result Unit TextFault) (a b c : Reading)
+    → Passes (Just Semicolon ∷ []) [] [] (this (mark Semicolon) ∷ []) a b
     → MatchResult r (λ _. Passes (EndOfText ∷ []) [] [] (finish ∷ []) b c) (λ e. StopsIn e (EndOfText ∷ []) [] b)
-    → MatchResult r (λ _. Passes end_symbols [] [] items_of_end old c) (λ e. StopsIn e end_symbols [] old)
-end_done (Ok u) t old a b c h is m g = passes_then (passes_ends t old a h is) (passes_then m g)
-end_done (Err e) t old a b c h is m g = stops_behind e (EndOfText ∷ []) []
-    (passes_then (passes_ends t old a h is) (passes_more (EndOfText ∷ []) m)) g
+    → MatchResult r (λ _. Passes (Just Semicolon ∷ EndOfText ∷ []) [] [] (this (mark Semicolon) ∷ finish ∷ []) a c)
+    (λ e. StopsIn e (Just Semicolon ∷ EndOfText ∷ []) [] a)
+end_done (Ok u) a b c m g = passes_then m g
+end_done (Err e) a b c m g = stops_behind e (EndOfText ∷ []) [] (passes_more (EndOfText ∷ []) m) g
 
--- the data section and the end
-abbrev Listed : Reading → List Row → Reading → Type 0
-Listed old rs new = FitsRows the_rules [] rs × Passes (Rows [] ∷ []) [] [] (items_of_rows rs ++ says (codes "ENDSEC")
-    ∷ []) old new
+-- the sections so far, with these instances, and others and the end of the file behind
+pub record SectionsSoFar (old : Reading) (ss : List code.Section) (rows : List Row) (here : Reading) : Type 0 where
+  pub sections : List Section
+  pub cut : Cut 0 ss sections
+  pub are : rows ≡ rows_of sections
+  pub fits : FitsRows the_rules [] rows
+  pub few : length ss ≤ the_rules.sections
+  pub count : length ss ≡ length sections
+  pub passes : Passes (Sections 0 [] ∷ []) (Sections (length ss) (names_of rows) ∷ []) [] (items_of_sections sections)
+      old here
 
-pub data_err_rows : (e : TextFault) (old a : Reading) → Begun old a → StopsIn e (Rows [] ∷ []) [] a
+pub sections_start : (r : Reading) → SectionsSoFar r [] [] r
+sections_start r = record {
+  sections = [];
+  cut = tt;
+  are = refl;
+  fits = tt;
+  few = omega arith;
+  count = refl;
+  passes = passes_here (Sections 0 [] ∷ []) r;
+}
+
+pub sections_err_token : (e : TextFault) (old : Reading) (ss : List code.Section) (rows : List Row) (here : Reading)
+    → SectionsSoFar old ss rows here → StopsIn e (Sections (length ss) (names_of rows) ∷ []) [] here
     → StopsIn e data_symbols [] old
-data_err_rows e old a h g = stops_behind e (Rows [] ∷ []) (Just Semicolon ∷ end_symbols)
-    (passes_more (Rows [] ∷ Just Semicolon ∷ end_symbols) h) g
+sections_err_token e old ss rows here so g = stops_behind e (Sections (length ss) (names_of rows) ∷ []) [] so.passes g
 
-pub data_err_mark : (e : TextFault) (rs : List Row) (old a b : Reading) → Begun old a → Listed a rs b
-    → StopsIn e (Just Semicolon ∷ []) [] b → StopsIn e data_symbols [] old
-data_err_mark e rs old a b h g stop = stops_behind e (Just Semicolon ∷ []) end_symbols
-    (passes_then h (passes_more (Just Semicolon ∷ end_symbols) g.1)) stop
+-- there is none yet
+pub sections_err_none : (e : TextFault) (old : Reading) (ss : List code.Section) (rows : List Row) (here : Reading)
+    (t : Token) (a : Reading) → SectionsSoFar old ss rows here → Takes here t a → (located t).lookahead ≡ token ends
+    → length ss ≡ 0 → e ≡ faults.Fault (refused (located t).lookahead) t.place → StopsIn e data_symbols [] old
+sections_err_none e old ss rows here t a so h is none q =
+    let k : refused (located t).lookahead ≡ kinds.Expected = ap refused is in
+    sections_err_token e old ss rows here so (stops_token e kinds.Expected (Sections (length ss) (names_of rows)) t here
+    a h (ap (λ n. table (Sections n (names_of rows)) (located t).lookahead) none ∙ ap (table (Sections 0 (names_of rows)))
+    is) (q ∙ ap (λ v. faults.Fault v t.place) k))
 
-pub data_err_end : (e : TextFault) (rs : List Row) (old a b c : Reading) → Begun old a → Listed a rs b
-    → Passes (Just Semicolon ∷ []) [] [] (this (mark Semicolon) ∷ []) b c → StopsIn e end_symbols [] c
+one_less : (n : ℕ) → (n ≡ 0 → ⊥) → (m : ℕ) × (n ≡ suc m)
+one_less zero h = absurd (h refl)
+one_less (suc n) h = (n, refl)
+
+ends_here : (old : Reading) (ss : List code.Section) (rows : List Row) (here : Reading) (t : Token) (a : Reading)
+    → (so : SectionsSoFar old ss rows here) → Takes here t a → (located t).lookahead ≡ token ends → (length ss ≡ 0 → ⊥)
+    → Passes data_symbols (Just Semicolon ∷ EndOfText ∷ []) [] (items_of_sections so.sections ++ this ends ∷ []) old a
+ends_here old ss rows here t a so h is some =
+    let m = one_less (length ss) some in
+    let P : ℕ → Type 0 = λ n. Passes (Sections n (names_of rows) ∷ []) (Just Semicolon ∷ EndOfText ∷ []) []
+    (this ends ∷ []) here a in
+    passes_join so.passes (subst P (sym m.1) (passes_ends m.0 (names_of rows) t here a h is))
+
+pub sections_err_end : (e : TextFault) (old : Reading) (ss : List code.Section) (rows : List Row) (here : Reading)
+    (t : Token) (a : Reading) → SectionsSoFar old ss rows here → Takes here t a → (located t).lookahead ≡ token ends
+    → (length ss ≡ 0 → ⊥) → StopsIn e (Just Semicolon ∷ EndOfText ∷ []) [] a → StopsIn e data_symbols [] old
+sections_err_end e old ss rows here t a so h is some g = stops_behind e (Just Semicolon ∷ EndOfText ∷ []) []
+    (ends_here old ss rows here t a so h is some) g
+
+pub sections_done : (old : Reading) (ss : List code.Section) (rows : List Row) (here : Reading) (t : Token)
+    (a b : Reading) → SectionsSoFar old ss rows here → Takes here t a → (located t).lookahead ≡ token ends
+    → (length ss ≡ 0 → ⊥) → Passes (Just Semicolon ∷ EndOfText ∷ []) [] [] (this (mark Semicolon) ∷ finish ∷ []) a b
+    → TakesData (sections_of 0 ss rows) old b × CountsTo 0 ss (length rows)
+sections_done old ss rows here t a b so h is some m =
+    let e : sections_of 0 ss rows ≡ so.sections = ap (sections_of 0 ss) so.are ∙ cut_is 0 ss so.sections so.cut in
+    let P : List Section → Type 0 = λ xs. TakesData xs old b in
+    let all : 0 + length (rows_of so.sections) ≡ length rows = omega (arith, ap length so.are) in (
+      subst P (sym e) (record {
+        fits = (
+          omega (arith, so.count, some_more (length ss) some),
+          omega (arith, so.count, so.few),
+          subst (FitsRows the_rules []) so.are so.fits,
+        );
+        passes = passes_as (items_of_sections so.sections ++ items_of_end) (append_assoc (items_of_sections so.sections)
+            (this ends ∷ []) (this (mark Semicolon) ∷ finish ∷ [])) (passes_join (ends_here old ss rows here t a so h is
+            some) m);
+      }),
+      subst (CountsTo 0 ss) all (cut_counts 0 ss so.sections so.cut),
+    )
+  where
+    some_more : (n : ℕ) → (n ≡ 0 → ⊥) → 0 < n
+    some_more zero g = absurd (g refl)
+    some_more (suc n) g = omega arith
+
+pub sections_err_begin : (e : TextFault) (old : Reading) (ss : List code.Section) (rows : List Row) (here : Reading)
+    (t : Token) (a : Reading) → SectionsSoFar old ss rows here → Takes here t a
+    → StopsIn e (Sections (length ss) (names_of rows) ∷ []) (located t ∷ []) a → StopsIn e data_symbols [] old
+sections_err_begin e old ss rows here t a so h g = stops_behind_taken e (Sections (length ss) (names_of rows) ∷ []) [] t
+    so.passes h g
+
+begins_here : (old : Reading) (ss : List code.Section) (rows : List Row) (here : Reading) (t : Token) (a b : Reading)
+    (heading : Option (List ℕ × List ℕ)) → (so : SectionsSoFar old ss rows here) → Takes here t a
+    → BeginsSection (located t) (length ss) (names_of rows) heading a b
+    → Passes data_symbols (Rows (suc (length ss)) (names_of rows) ∷ []) [] (items_of_sections so.sections
+    ++ (says (codes "DATA") ∷ (items_of_heading heading ++ this (mark Semicolon) ∷ []))) old b
+begins_here old ss rows here t a b heading so h g = passes_join so.passes (passes_first t here h g.1)
+
+pub sections_err_rows : (e : TextFault) (old : Reading) (ss : List code.Section) (rows : List Row) (here : Reading)
+    (t : Token) (a b : Reading) (heading : Option (List ℕ × List ℕ)) → SectionsSoFar old ss rows here → Takes here t a
+    → BeginsSection (located t) (length ss) (names_of rows) heading a b → StopsInRows e (names_of rows) b
     → StopsIn e data_symbols [] old
-data_err_end e rs old a b c h g m stop = stops_behind e end_symbols []
-    (passes_then h (passes_then g.1 (passes_more end_symbols m))) stop
+sections_err_rows e old ss rows here t a b heading so h g stop = stops_behind e (Rows (suc (length ss)) (names_of rows)
+    ∷ []) [] (begins_here old ss rows here t a b heading so h g) (stop (suc (length ss)))
 
-regroup : (d r w m e : List Item) → d ++ ((r ++ w) ++ (m ++ e)) ≡ (d ++ r ++ (w ++ m)) ++ e
-regroup d r w m e =
-    ap (λ l. d ++ l) (append_assoc r w (m ++ e) ∙ ap (λ l. r ++ l) (sym (append_assoc w m e)))
-    ∙ sym (append_assoc d r ((w ++ m) ++ e)) ∙ sym (append_assoc (d ++ r) (w ++ m) e)
+items_more : (xs : List Section) (x : Section) → items_of_sections (xs ++ x ∷ []) ≡ items_of_sections xs
+    ++ items_of_section x
+items_more [] x = append-nil (items_of_section x)
+items_more (y ∷ xs) x = ap (λ l. items_of_section y ++ l) (items_more xs x)
+    ∙ sym (append_assoc (items_of_section y) (items_of_sections xs) (items_of_section x))
 
-pub data_done : (rs : List Row) (old a b c d : Reading) → Begun old a → Listed a rs b
-    → Passes (Just Semicolon ∷ []) [] [] (this (mark Semicolon) ∷ []) b c → Passes end_symbols [] [] items_of_end c d
-    → FitsRows the_rules [] rs × Passes data_symbols [] [] (items_of_data rs ++ items_of_end) old d
-data_done rs old a b c d h g m i = (
-  g.0,
-  passes_as (items_of_data rs ++ items_of_end) (regroup (section (codes "DATA")) (items_of_rows rs)
-      (says (codes "ENDSEC") ∷ []) (this (mark Semicolon) ∷ []) items_of_end) (passes_then h (passes_then g.1
-      (passes_then m i))),
+-- instances that fit behind others fit with them
+fits_join : (rs ts : List Row) (before : List ℕ) → FitsRows the_rules before rs
+    → FitsRows the_rules (before ++ names_of rs) ts → FitsRows the_rules before (rs ++ ts)
+fits_join [] ts before f g = subst (λ l. FitsRows the_rules l ts) (append-nil before) g
+fits_join (r ∷ rs) ts before f g = (
+  f.0,
+  f.1,
+  f.2,
+  fits_join rs ts (before ++ r.name ∷ []) f.3 (subst (λ l. FitsRows the_rules l ts)
+      (sym (append_assoc before (r.name ∷ []) (names_of rs))) g),
+)
+
+-- no more instances fit than may stand
+pub fits_few : (rs : List Row) (before : List ℕ) → length before ≤ the_rules.instances → FitsRows the_rules before rs
+    → length before + length rs ≤ the_rules.instances
+fits_few [] before h f = omega (arith, h)
+fits_few (r ∷ rs) before h f =
+    let l = length-append before (r.name ∷ []) in
+    let g = fits_few rs (before ++ r.name ∷ []) (omega (arith, l, f.1)) f.3 in
+    omega (arith, l, g)
+
+pub rows_few : {greatest : ℕ} {after : List Row} {b c old here : Reading} {ss : List code.Section} (rows : List Row)
+    → TakesRows greatest rows after b c → SectionsSoFar old ss rows here → length after ≤ the_rules.instances
+rows_few {greatest} {after} {b} {c} {old} {here} {ss} rows lines so =
+    let all = subst (FitsRows the_rules []) (sym lines.are) (fits_join rows lines.rows [] so.fits lines.fits) in
+    omega (arith, fits_few after [] (omega arith) all)
+
+pub sections_next : (old : Reading) (ss : List code.Section) (rows : List Row) (here : Reading) (t : Token)
+    (a b c : Reading) (s : code.Section) (greatest : ℕ) (after : List Row) → SectionsSoFar old ss rows here
+    → Takes here t a → BeginsSection (located t) (length ss) (names_of rows) (heading_of s.heading) a b
+    → TakesRows greatest rows after b c → s.past ≡ length after → SectionsSoFar old (ss ++ s ∷ []) after c
+sections_next old ss rows here t a b c s greatest after so h g lines past =
+    let heading = heading_of s.heading in
+    let x : Section = record { heading = heading; rows = lines.rows } in
+    let head = says (codes "DATA") ∷ (items_of_heading heading ++ this (mark Semicolon) ∷ []) in
+    let body = items_of_rows lines.rows ++ section (codes "ENDSEC") in
+    let count : length (ss ++ s ∷ []) ≡ suc (length ss) = length-append ss (s ∷ []) ∙ omega arith in
+    let P : ℕ → Type 0 = λ n. Passes data_symbols (Sections n (names_of after) ∷ []) [] (items_of_sections (so.sections
+    ++ x ∷ [])) old c in
+    let items : (items_of_sections so.sections ++ head) ++ body ≡ items_of_sections (so.sections ++ x ∷ []) =
+    append_assoc (items_of_sections so.sections) head body ∙ ap (λ l. items_of_sections so.sections ++ says
+    (codes "DATA") ∷ l) (append_assoc (items_of_heading heading) (this (mark Semicolon) ∷ []) body)
+    ∙ sym (items_more so.sections x) in
+    record {
+      sections = so.sections ++ x ∷ [];
+      cut = cut_push 0 ss so.sections s x so.cut refl (omega (
+        arith,
+        past,
+        ap length (lines.are ∙ ap (λ l. l
+            ++ lines.rows) so.are),
+        length-append (rows_of so.sections) lines.rows,
+      ));
+      are = lines.are ∙ ap (λ l. l ++ lines.rows) so.are ∙ sym (rows_more so.sections x);
+      fits = subst (FitsRows the_rules []) (sym lines.are) (fits_join rows lines.rows [] so.fits lines.fits);
+      few = omega (arith, count, g.0);
+      count = count ∙ ap (λ n. suc n) so.count ∙ sym (length-append so.sections (x ∷ []) ∙ omega arith);
+      passes = subst P (sym count) (passes_as (items_of_sections (so.sections ++ x ∷ [])) items
+          (passes_join (begins_here old ss rows here t a b heading so h g) (lines.passes (suc (length ss)))));
+    }
+
+-- a section leaves less of the text
+pub sections_smaller : (here : Reading) (t : Token) (n : ℕ) (names : List ℕ) (heading : Option (List ℕ × List ℕ))
+    (a b c : Reading) (greatest : ℕ) (before after : List Row) → Takes here t a
+    → BeginsSection (located t) n names heading a b → TakesRows greatest before after b c
+    → length (left c) < length (left here)
+sections_smaller here t n names heading a b c greatest before after h g lines = omega (
+  arith,
+  takes_less here a t h,
+  passes_within g.1,
+  passes_within (lines.passes 0),
 )

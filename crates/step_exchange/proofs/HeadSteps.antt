@@ -10,17 +10,17 @@ use Rattle.step_lexis.specs.declared.token.Token.{Token}
 use Rattle.step_lexis.proofs.ReadingLemmas.{takes_less}
 use Rattle.step_exchange.specs.declared.tree.Record as code
 use Rattle.step_exchange.specs.Views.{record_of}
-use Rattle.step_exchange.specs.declared.fault.FaultKind.TheVariants as kinds
-use Rattle.step_exchange.specs.declared.fault.TextFault.{TextFault}
-use Rattle.step_exchange.specs.declared.fault.TextFault.TheVariants as faults
-use Rattle.step_exchange.specs.Words.{Lookahead, token, mark, begins, keyword, LocatedToken, located, word_of, Shows, shows_token, shows_fault, shows_end, ShowsAll}
-use Rattle.step_exchange.specs.Trees.{Record, Trees, Item, this, says, Meets, MeetAll, is_said, items_of_start, items_of_record, items_of_records, items_of_header, items_of_list, section}
-use Rattle.step_exchange.specs.Fits.{the_rules, FitsTrees, FitsRecord, FitsRecords, NamesSchema}
-use Rattle.step_exchange.specs.Texts.{items_of_opening}
-use Rattle.step_exchange.specs.Predict.{Symbol, Just, Start, Say, Head, Records, Ended, Items, refused, is_mark, opening_symbols}
-use Rattle.step_exchange.specs.Steps.{table, StopsIn, Passes, Starts, IsHead, TakesHead, StopsAtSchema, stops_before, stops_unnamed, HeaderSoFar, TakesHeader, StopsInHeader, in_opening, unnamed, in_records, start_symbols, params_symbols, after_keyword}
-use Rattle.step_exchange.proofs.Meeting.{meets_is}
-use Rattle.step_exchange.proofs.Passing.{header_items}
+use Rattle.step_structures.specs.declared.fault.FaultKind.TheVariants as kinds
+use Rattle.step_structures.specs.declared.fault.TextFault.{TextFault}
+use Rattle.step_structures.specs.declared.fault.TextFault.TheVariants as faults
+use Rattle.step_structures.specs.Words.{Lookahead, token, mark, begins, keyword, LocatedToken, located, word_of, Shows, shows_token, shows_fault, shows_end, ShowsAll}
+use Rattle.step_structures.specs.Trees.{Record, Trees, Item, this, says, Meets, MeetAll, is_said, items_of_start, items_of_record, items_of_records, items_of_header, items_of_list, section}
+use Rattle.step_structures.specs.Fits.{the_rules, FitsTrees, FitsRecord, FitsRecords, NamesSchema}
+use Rattle.step_structures.specs.Texts.{items_of_opening}
+use Rattle.step_structures.specs.Predict.{Symbol, Just, Start, Say, Head, Records, Ended, Items, refused, is_mark, opening_symbols, table, start_symbols, params_symbols}
+use Rattle.step_exchange.specs.Steps.{StopsIn, Passes, Starts, IsHead, TakesHead, StopsAtSchema, stops_before, stops_unnamed, HeaderSoFar, TakesHeader, StopsInHeader, in_opening, unnamed, in_records, after_keyword}
+use Rattle.step_structures.proofs.Meeting.{meets_is}
+use Rattle.step_structures.proofs.Passing.{header_items}
 use Rattle.step_exchange.proofs.Taking.{reads_of, passes_here, passes_as, passes_join, passes_more, passes_then, passes_token, shown_within, stops_behind, stops_all, stops_token}
 use Rattle.step_exchange.proofs.Looking.{stops_refused, mark_met, meets_mark, passes_mark}
 use Rattle.step_exchange.proofs.ParamSteps.{Params, Listed}

@@ -13,7 +13,7 @@ use Rattle.step_literals.specs.Words.{upper}
 use Rattle.step_literals.specs.Values.{word_value}
 use Rattle.step_literals.proofs.CaseLemmas.{same_without_case}
 use Rattle.step_exchange.specs.declared.tree.Record.{Record}
-use Rattle.step_exchange.specs.Trees.{is_said}
+use Rattle.step_structures.specs.Trees.{is_said}
 use Rattle.step_exchange.specs.Steps.{further_keywords}
 
 abbrev pub says : Word → Record → Bool

@@ -5,18 +5,18 @@ use Rattle.step_lexis.specs.declared.token.Mark.{Mark}
 use Rattle.step_literals.specs.declared.fault.TextFault as lexis
 use Rattle.step_lexis.specs.Reading.{Reading, Takes, IsAtEnd, IsFaulty}
 use Rattle.step_lexis.specs.declared.token.Token.{Token}
-use Rattle.step_exchange.specs.declared.fault.FaultKind.TheVariants as kinds
-use Rattle.step_exchange.specs.declared.fault.TextFault.{TextFault}
-use Rattle.step_exchange.specs.declared.fault.TextFault.TheVariants as faults
-use Rattle.step_exchange.specs.Words.{mark, keyword, Lookahead, token, flawed, end_of_text, located, located_fault, located_end, shows_fault, shows_end}
-use Rattle.step_exchange.specs.Trees.{this, says, Meets}
-use Rattle.step_exchange.specs.Fits.{the_rules}
-use Rattle.step_exchange.specs.Predict.{Symbol, Just, Say, EndOfText, refused, is_mark, is_word}
-use Rattle.step_exchange.specs.Steps.{table, StopsIn, Passes}
-use Rattle.step_exchange.proofs.Meeting.{meets_is}
-use Rattle.step_exchange.proofs.Passing.{next_mark}
-use Rattle.step_exchange.proofs.Sound.{same_mark}
-use Rattle.step_exchange.proofs.FaultKinds.{odd_refused}
+use Rattle.step_structures.specs.declared.fault.FaultKind.TheVariants as kinds
+use Rattle.step_structures.specs.declared.fault.TextFault.{TextFault}
+use Rattle.step_structures.specs.declared.fault.TextFault.TheVariants as faults
+use Rattle.step_structures.specs.Words.{mark, keyword, Lookahead, token, flawed, end_of_text, located, located_fault, located_end, shows_fault, shows_end}
+use Rattle.step_structures.specs.Trees.{this, says, Meets}
+use Rattle.step_structures.specs.Fits.{the_rules}
+use Rattle.step_structures.specs.Predict.{Symbol, Just, Say, EndOfText, refused, is_mark, is_word, table}
+use Rattle.step_exchange.specs.Steps.{StopsIn, Passes}
+use Rattle.step_structures.proofs.Meeting.{meets_is}
+use Rattle.step_structures.proofs.Passing.{next_mark}
+use Rattle.step_structures.proofs.Sound.{same_mark}
+use Rattle.step_structures.proofs.FaultKinds.{odd_refused}
 use Rattle.step_exchange.proofs.Taking.{passes_token, stops_shown, stops_token}
 
 at_end : (y : Symbol) → (y ≡ EndOfText → ⊥) → table y end_of_text ≡ Err kinds.Expected
@@ -46,7 +46,7 @@ meets_mark m s e = meets_is (mark m) s (mark_met m s e)
 pub mark_refused : (m : Mark) (s : Lookahead) → is_mark m s ≡ false → table (Just m) s ≡ Err (refused s)
 mark_refused m s e = rw e refl
 
-word_met : (word : List ℕ) (s : Lookahead) → is_word word s ≡ true → Meets s (says word)
+pub word_met : (word : List ℕ) (s : Lookahead) → is_word word s ≡ true → Meets s (says word)
 word_met word (token (keyword text)) e = e
 word_met word _ e = absurd (false≢true e)
 
@@ -71,13 +71,6 @@ pub passes_word : (word : List ℕ) (t : Token) (old new : Reading) → Takes ol
 passes_word word t old new h e =
     let s = (located t).lookahead in
     passes_token (Say word) [] (says word) t old new h (word_met word s e) (word_next word s e)
-
--- .. where another symbol takes it
-pub passes_other_word : (y : Symbol) (word : List ℕ) (t : Token) (old new : Reading) → Takes old t new
-    → is_word word (located t).lookahead ≡ true → table y (located t).lookahead ≡ Ok []
-    → Passes (y ∷ []) [] [] (says word ∷ []) old new
-passes_other_word y word t old new h e n = passes_token y [] (says word) t old new h
-    (word_met word (located t).lookahead e) n
 
 -- a token that can't stand there is refused
 pub stops_refused : (e : TextFault) (y : Symbol) (t : Token) (old new : Reading) → Takes old t new

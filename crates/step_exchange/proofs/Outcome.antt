@@ -8,22 +8,22 @@ use Rattle.predictive.proofs.Running.{reaches_run}
 use Rattle.predictive.proofs.Shown.{shows_join}
 use Rattle.step_lexis.specs.declared.token.Mark.TheVariants.{Semicolon}
 use Rattle.step_lexis.specs.Reading.{Reading, start}
-use Rattle.step_exchange.specs.declared.fault.FaultKind.{FaultKind}
-use Rattle.step_exchange.specs.declared.fault.FaultKind.TheVariants as kinds
-use Rattle.step_exchange.specs.declared.fault.TextFault.{TextFault}
-use Rattle.step_exchange.specs.declared.fault.TextFault.TheVariants as faults
-use Rattle.step_exchange.specs.Words.{mark, keyword, Lookahead, LocatedToken, located, Shows, shows_token}
-use Rattle.step_exchange.specs.Trees.{Record, Row, File, Item, this, MeetAll, items_of_records, items_of_header, items_of_data, items_of_end, section}
-use Rattle.step_exchange.specs.Fits.{the_rules, FitsRecords, FitsRows, FitsHeader, IsHeader, HasSchema, NamesSchema}
-use Rattle.step_exchange.specs.Texts.{ReadsAs, items_of_opening, HoldsSchema, IsFirstFault, IsFaultOf, IsMemory}
-use Rattle.step_exchange.specs.Predict.{Just, Records, opening_symbols, data_symbols}
-use Rattle.step_exchange.specs.Steps.{table, StopsIn, Passes, TakesHeader, StopsInHeader, in_opening, unnamed, in_records}
-use Rattle.step_exchange.proofs.Meeting.{meet_as, meet_split, meets_is}
-use Rattle.step_exchange.proofs.Passing.{pass_opened, header_items}
-use Rattle.step_exchange.proofs.Schemas.{holds_named}
-use Rattle.step_exchange.proofs.Once.{reads_once, reads_no_fault}
+use Rattle.step_structures.specs.declared.fault.FaultKind.{FaultKind}
+use Rattle.step_structures.specs.declared.fault.FaultKind.TheVariants as kinds
+use Rattle.step_structures.specs.declared.fault.TextFault.{TextFault}
+use Rattle.step_structures.specs.declared.fault.TextFault.TheVariants as faults
+use Rattle.step_structures.specs.Words.{mark, keyword, Lookahead, LocatedToken, located, Shows, shows_token}
+use Rattle.step_structures.specs.Trees.{Record, Section, File, Item, this, MeetAll, items_of_records, items_of_header, section}
+use Rattle.step_structures.specs.Fits.{the_rules, FitsRecords, FitsHeader, IsHeader, HasSchema, NamesSchema}
+use Rattle.step_structures.specs.Texts.{ReadsAs, items_of_opening, HoldsSchema, IsFirstFault, IsFaultOf, IsMemory}
+use Rattle.step_structures.specs.Predict.{Just, Records, opening_symbols, data_symbols, table}
+use Rattle.step_exchange.specs.Steps.{StopsIn, TakesHeader, TakesData, StopsInHeader, in_opening, unnamed, in_records}
+use Rattle.step_structures.proofs.Meeting.{meet_as, meet_split, meets_is}
+use Rattle.step_structures.proofs.Passing.{pass_opened, header_items}
+use Rattle.step_structures.proofs.Schemas.{holds_named}
+use Rattle.step_structures.proofs.Once.{reads_once, reads_no_fault}
 use Rattle.step_exchange.proofs.Taking.{reads_of}
-use Rattle.step_exchange.proofs.FirstFault.{first_fault, schema_fault}
+use Rattle.step_structures.proofs.FirstFault.{first_fault, schema_fault}
 use Rattle.step_exchange.proofs.Places.{header_bounds}
 
 -- tokens that stop in the opening hold no opening
@@ -102,18 +102,17 @@ between text first end h =
     let e : end ≡ first + (end - first) = omega (arith, h) in
     ap (λ n. drop first (take n text)) e ∙ drop-take first (end - first) text
 
-pub is_read : (text header_bytes opened : List ℕ) (first place : ℕ) (header : List Record) (rows : List Row)
-    (mid end : Reading) → TakesHeader (start text) first header mid → FitsRows the_rules [] rows
-    × Passes data_symbols [] [] (items_of_data rows ++ items_of_end) mid end → place ≡ mid.place
-    → opened ≡ take place text → header_bytes ≡ drop first opened
-    → ReadsAs text header_bytes (record { header = header; rows = rows })
-is_read text header_bytes opened first place header rows mid end h d p o f = record {
-  fits = (h.fits, d.0);
+pub is_read : (text header_bytes opened : List ℕ) (first place : ℕ) (header : List Record) (sections : List Section)
+    (mid end : Reading) → TakesHeader (start text) first header mid → TakesData sections mid end
+    → place ≡ mid.place → opened ≡ take place text → header_bytes ≡ drop first opened
+    → ReadsAs text header_bytes (record { header = header; sections = sections })
+is_read text header_bytes opened first place header sections mid end h d p o f = record {
+  fits = (h.fits, d.fits);
   schema = h.schema;
   headed = mid;
   end = end;
   header = reads_of h.passes;
-  rows = reads_of d.1;
+  sections = reads_of d.passes;
   first = first;
   begins = h.first;
   header_bytes_are = f ∙ ap (drop first) (o ∙ ap (λ n. take n text) p) ∙ between text first mid.place

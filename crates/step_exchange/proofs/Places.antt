@@ -4,8 +4,8 @@ use Rattle.std.specs.List.{starts_with}
 use Rattle.predictive.specs.Tables.{lookaheads}
 use Rattle.step_lexis.specs.Reading.{Reading, start, start_of}
 use Rattle.step_lexis.proofs.Determined.{same_place, places_rise}
-use Rattle.step_exchange.specs.Words.{LocatedToken, Shows, shows_token, shows_fault, shows_end, ShowsAll, begins}
-use Rattle.step_exchange.specs.Trees.{Record, this, Meets, MeetAll, items_of_header}
+use Rattle.step_structures.specs.Words.{LocatedToken, Shows, shows_token, shows_fault, shows_end, ShowsAll, begins}
+use Rattle.step_structures.specs.Trees.{Record, this, Meets, MeetAll, items_of_header}
 use Rattle.step_exchange.specs.Steps.{TakesHeader}
 
 pub record Bounds (old new : Reading) : Type 0 where

@@ -10,17 +10,17 @@ use Rattle.step_lexis.specs.declared.token.Token.{Token}
 use Rattle.step_lexis.specs.declared.token.Sort.{Sort}
 use Rattle.step_lexis.specs.declared.token.Sort.TheVariants as sorts
 use Rattle.step_lexis.proofs.ReadingLemmas.{takes_less}
-use Rattle.step_exchange.specs.declared.fault.FaultKind.TheVariants as kinds
-use Rattle.step_exchange.specs.declared.fault.TextFault.{TextFault}
-use Rattle.step_exchange.specs.declared.fault.TextFault.TheVariants as faults
+use Rattle.step_structures.specs.declared.fault.FaultKind.TheVariants as kinds
+use Rattle.step_structures.specs.declared.fault.TextFault.{TextFault}
+use Rattle.step_structures.specs.declared.fault.TextFault.TheVariants as faults
 use Rattle.step_exchange.specs.declared.tree.Record as code
-use Rattle.step_exchange.specs.Words.{Lookahead, token, mark, keyword, located, word_of}
-use Rattle.step_exchange.specs.Trees.{Record, Form, internal, external, this, is_said, items_of_record, items_of_partial_records, items_of_form}
-use Rattle.step_exchange.specs.Fits.{the_rules, FitsRecord, FitsPartialRecords, FitsForm, has_keyword}
+use Rattle.step_structures.specs.Words.{Lookahead, token, mark, keyword, located, word_of}
+use Rattle.step_structures.specs.Trees.{Record, Form, internal, external, this, is_said, items_of_record, items_of_partial_records, items_of_form}
+use Rattle.step_structures.specs.Fits.{the_rules, FitsRecord, FitsPartialRecords, FitsForm, has_keyword}
 use Rattle.step_exchange.specs.Views.{record_of}
-use Rattle.step_exchange.specs.Predict.{Just, Body, PartialRecords, refused, is_mark, row_symbols}
-use Rattle.step_exchange.specs.Steps.{table, StopsIn, Passes, FitsBehind, FitsPartials, params_symbols, keywords_of}
-use Rattle.step_exchange.proofs.Meeting.{meets_is}
+use Rattle.step_structures.specs.Predict.{Just, Body, PartialRecords, refused, is_mark, row_symbols, table, params_symbols}
+use Rattle.step_exchange.specs.Steps.{StopsIn, Passes, FitsBehind, FitsPartials, keywords_of}
+use Rattle.step_structures.proofs.Meeting.{meets_is}
 use Rattle.step_exchange.proofs.Taking.{passes_here, passes_as, passes_join, passes_more, passes_then, passes_token, passes_taken, passes_first, passes_within, stops_behind, stops_behind_taken, stops_all, stops_taken}
 use Rattle.step_exchange.proofs.Looking.{stops_refused, mark_met, meets_mark}
 use Rattle.step_exchange.proofs.ParamSteps.{Params}

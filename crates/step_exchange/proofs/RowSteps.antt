@@ -4,26 +4,27 @@ use Rattle.std.specs.Map.{lookup}
 use Rattle.indexmap.specs.IndexMap.{insert_entry}
 use Rattle.std.proofs.lemmas.Bool.{false≢true}
 use Rattle.std.proofs.lemmas.Bool.Decides.{nat_tests}
-use Rattle.std.proofs.lemmas.List.{length-map}
+use Rattle.std.proofs.lemmas.List.{length-map, map-append}
+use Rattle.step_lexis.specs.declared.token.Mark.TheVariants.{Semicolon}
 use Rattle.step_lexis.specs.declared.token.Sort.{Sort}
 use Rattle.step_lexis.specs.declared.token.Sort.TheVariants as sorts
 use Rattle.step_lexis.specs.Reading.{Reading, Takes, left}
 use Rattle.step_lexis.specs.declared.token.Token.{Token}
 use Rattle.step_lexis.proofs.ReadingLemmas.{takes_less}
-use Rattle.step_exchange.specs.declared.fault.FaultKind.TheVariants as kinds
-use Rattle.step_exchange.specs.declared.fault.LeftOut.TheVariants as left_out
-use Rattle.step_exchange.specs.declared.fault.TextFault.{TextFault}
-use Rattle.step_exchange.specs.declared.fault.TextFault.TheVariants as faults
+use Rattle.step_structures.specs.declared.fault.FaultKind.TheVariants as kinds
+use Rattle.step_structures.specs.declared.fault.LeftOut.TheVariants as left_out
+use Rattle.step_structures.specs.declared.fault.TextFault.{TextFault}
+use Rattle.step_structures.specs.declared.fault.TextFault.TheVariants as faults
 use Rattle.step_exchange.specs.declared.tree.Form as code
-use Rattle.step_exchange.specs.Words.{Lookahead, token, keyword, name, located, word_of}
-use Rattle.step_exchange.specs.Trees.{Row, Form, named, says, items_of_row, items_of_rows}
-use Rattle.step_exchange.specs.Fits.{the_rules, FitsForm, FitsRows, has_name}
+use Rattle.step_structures.specs.Words.{Lookahead, token, keyword, name, mark, located, word_of}
+use Rattle.step_structures.specs.Trees.{Row, Form, this, named, says, items_of_row, items_of_rows}
+use Rattle.step_structures.specs.Fits.{the_rules, FitsForm, FitsRows, has_name}
 use Rattle.step_exchange.specs.Views.{row_of}
-use Rattle.step_exchange.specs.Predict.{Rows, refused, is_word, row_symbols}
-use Rattle.step_exchange.specs.Steps.{table, StopsIn, Passes, IsNextName, IsNoName, names_of, AtMost}
-use Rattle.step_exchange.proofs.Meeting.{meets_named}
+use Rattle.step_structures.specs.Predict.{Just, Rows, Sections, refused, is_word, row_symbols, table}
+use Rattle.step_exchange.specs.Steps.{StopsIn, StopsInRows, Passes, TakesRows, IsNextName, IsNoName, names_of, AtMost}
+use Rattle.step_structures.proofs.Meeting.{meets_named}
 use Rattle.step_exchange.proofs.Taking.{passes_here, passes_as, passes_join, passes_more, passes_token, passes_within, stops_behind, stops_token}
-use Rattle.step_exchange.proofs.Looking.{passes_other_word}
+use Rattle.step_exchange.proofs.Looking.{word_met}
 use Rattle.step_exchange.proofs.RecordSteps.{Lined}
 
 -- the names in the map
@@ -62,40 +63,41 @@ pub name_refused : (names : List ℕ) (t : Token) (e : TextFault) → ((n : ℕ)
     → IsNoName names (located t) e
 name_refused names t e h c q = record {
   kind = refused (located t).lookahead;
-  refused = by t.sort t.text.now h c;
+  refused = λ k. by k t.sort t.text.now h c;
   fault_is = q;
 }
   where
-    by : (sort : Sort) (text : List ℕ) → ((n : ℕ) → sort ≡ sorts.Name n → ⊥) → is_word (codes "ENDSEC")
-        (token (word_of sort text)) ≡ false → table (Rows names) (token (word_of sort text)) ≡ Err
+    by : (k : ℕ) (sort : Sort) (text : List ℕ) → ((n : ℕ) → sort ≡ sorts.Name n → ⊥) → is_word (codes "ENDSEC")
+        (token (word_of sort text)) ≡ false → table (Rows k names) (token (word_of sort text)) ≡ Err
         (refused (token (word_of sort text)))
-    by (sorts.Name n) text h c = absurd (h n refl)
-    by (sorts.Keyword w) text h c = rw c refl
-    by _ text h c = refl
+    by k (sorts.Name n) text h c = absurd (h n refl)
+    by k (sorts.Keyword w) text h c = rw c refl
+    by k _ text h c = refl
 
 name_at : (t : Token) (n : ℕ) → t.sort ≡ sorts.Name n → (located t).lookahead ≡ token (name n t.text.now)
 name_at t n e = ap (λ s. token (word_of s t.text.now)) e
 
-twice_next : (names : List ℕ) (n : ℕ) (text : List ℕ) → has_name n names ≡ true → table (Rows names)
+twice_next : (k : ℕ) (names : List ℕ) (n : ℕ) (text : List ℕ) → has_name n names ≡ true → table (Rows k names)
     (token (name n text)) ≡ Err kinds.DuplicateName
-twice_next names n text h = rw h refl
+twice_next k names n text h = rw h refl
 
-many_next : (names : List ℕ) (n : ℕ) (text : List ℕ) → has_name n names ≡ false → the_rules.instances ≤ length names
-    → table (Rows names) (token (name n text)) ≡ Err (kinds.LeftOut left_out.TooMany)
-many_next names n text h m = let e : nat_lt (length names) the_rules.instances ≡ false = grind (arith, nat_tests) in
+many_next : (k : ℕ) (names : List ℕ) (n : ℕ) (text : List ℕ) → has_name n names ≡ false
+    → the_rules.instances ≤ length names → table (Rows k names) (token (name n text)) ≡ Err
+    (kinds.LeftOut left_out.TooMany)
+many_next k names n text h m = let e : nat_lt (length names) the_rules.instances ≡ false = grind (arith, nat_tests) in
     rw (h, e) refl
 
-name_next : (names : List ℕ) (n : ℕ) (text : List ℕ) → has_name n names ≡ false → length names < the_rules.instances
-    → table (Rows names) (token (name n text)) ≡ Ok (row_symbols ++ Rows (names ++ n ∷ []) ∷ [])
-name_next names n text h m = let e : nat_lt (length names) the_rules.instances ≡ true = grind (arith, nat_tests) in
+name_next : (k : ℕ) (names : List ℕ) (n : ℕ) (text : List ℕ) → has_name n names ≡ false
+    → length names < the_rules.instances → table (Rows k names) (token (name n text)) ≡ Ok (row_symbols
+    ++ Rows k (names ++ n ∷ []) ∷ [])
+name_next k names n text h m = let e : nat_lt (length names) the_rules.instances ≡ true = grind (arith, nat_tests) in
     rw (h, e) refl
 
 pub name_twice : (names : List ℕ) (t : Token) (n : ℕ) (e : TextFault) → t.sort ≡ sorts.Name n → has_name n names ≡ true
     → e ≡ faults.Fault kinds.DuplicateName t.place → IsNoName names (located t) e
 name_twice names t n e is h q = record {
   kind = kinds.DuplicateName;
-  refused = ap (table (Rows names)) (name_at t n is)
-      ∙ twice_next names n t.text.now h;
+  refused = λ k. ap (table (Rows k names)) (name_at t n is) ∙ twice_next k names n t.text.now h;
   fault_is = q;
 }
 
@@ -104,8 +106,7 @@ pub name_too_many : (names : List ℕ) (t : Token) (n : ℕ) (e : TextFault) →
     t.place → IsNoName names (located t) e
 name_too_many names t n e is h m q = record {
   kind = kinds.LeftOut left_out.TooMany;
-  refused = ap (table (Rows names)) (name_at t n is)
-      ∙ many_next names n t.text.now h m;
+  refused = λ k. ap (table (Rows k names)) (name_at t n is) ∙ many_next k names n t.text.now h m;
   fault_is = q;
 }
 
@@ -113,35 +114,44 @@ pub name_fits : (names : List ℕ) (t : Token) (n : ℕ) → t.sort ≡ sorts.Na
     → length names < the_rules.instances → IsNextName names (located t) n
 name_fits names t n is h m = record { text = t.text.now; is = name_at t n is; alone = h; few = m }
 
--- the loop
--- the instances so far, with the others and the word that ends them behind
-pub record RowsSoFar (old : Reading) (rs : List Row) (here : Reading) : Type 0 where
-  pub fits : FitsRows the_rules [] rs
-  pub passes : Passes (Rows [] ∷ []) (Rows (names_of rs) ∷ []) [] (items_of_rows rs) old here
+-- the instances of a section behind those of others so far, with the others and the end of the section behind
+pub record RowsSoFar (before : List Row) (old : Reading) (now : List Row) (here : Reading) : Type 0 where
+  pub rows : List Row
+  pub are : now ≡ before ++ rows
+  pub fits : FitsRows the_rules (names_of before) rows
+  pub passes : (k : ℕ) → Passes (Rows k (names_of before) ∷ []) (Rows k (names_of now) ∷ []) [] (items_of_rows rows) old
+      here
 
-pub rows_start : (r : Reading) → RowsSoFar r [] r
-rows_start r = record { fits = tt; passes = passes_here (Rows [] ∷ []) r }
+pub rows_start : (before : List Row) (r : Reading) → RowsSoFar before r before r
+rows_start before r = record {
+  rows = [];
+  are = sym (append-nil before);
+  fits = tt;
+  passes = λ k. passes_here (Rows k (names_of before) ∷ []) r;
+}
 
-pub rows_err_token : (e : TextFault) (old : Reading) (rs : List Row) (here : Reading) → RowsSoFar old rs here
-    → StopsIn e (Rows (names_of rs) ∷ []) [] here → StopsIn e (Rows [] ∷ []) [] old
-rows_err_token e old rs here so g = stops_behind e (Rows (names_of rs) ∷ []) [] so.passes g
+pub rows_err_token : (e : TextFault) (before : List Row) (old : Reading) (now : List Row) (here : Reading)
+    → RowsSoFar before old now here → StopsInRows e (names_of now) here → StopsInRows e (names_of before) old
+rows_err_token e before old now here so g k = stops_behind e (Rows k (names_of now) ∷ []) [] (so.passes k) (g k)
 
-pub rows_err_name : (e : TextFault) (old : Reading) (rs : List Row) (here : Reading) (t : Token) (a : Reading)
-    → RowsSoFar old rs here → Takes here t a → IsNoName (names_of rs) (located t) e → StopsIn e (Rows [] ∷ []) [] old
-rows_err_name e old rs here t a so h g = rows_err_token e old rs here so
-    (stops_token e g.kind (Rows (names_of rs)) t here a h g.refused g.fault_is)
+pub rows_err_name : (e : TextFault) (before : List Row) (old : Reading) (now : List Row) (here : Reading) (t : Token)
+    (a : Reading) → RowsSoFar before old now here → Takes here t a → IsNoName (names_of now) (located t) e
+    → StopsInRows e (names_of before) old
+rows_err_name e before old now here t a so h g = rows_err_token e before old now here so
+    (λ k. stops_token e g.kind (Rows k (names_of now)) t here a h (g.refused k) g.fault_is)
 
-passes_name : (names : List ℕ) (t : Token) (n : ℕ) (here a : Reading) → Takes here t a → IsNextName names (located t) n
-    → Passes (Rows names ∷ []) (row_symbols ++ Rows (names ++ n ∷ []) ∷ []) [] (named n ∷ []) here a
-passes_name names t n here a h is = passes_token (Rows names) (row_symbols ++ Rows (names ++ n ∷ []) ∷ []) (named n) t
-    here a h (meets_named (located t).lookahead n is.text is.is) (ap (table (Rows names)) is.is ∙ name_next names n
-    is.text is.alone is.few)
+passes_name : (k : ℕ) (names : List ℕ) (t : Token) (n : ℕ) (here a : Reading) → Takes here t a
+    → IsNextName names (located t) n
+    → Passes (Rows k names ∷ []) (row_symbols ++ Rows k (names ++ n ∷ []) ∷ []) [] (named n ∷ []) here a
+passes_name k names t n here a h is = passes_token (Rows k names) (row_symbols ++ Rows k (names ++ n ∷ []) ∷ [])
+    (named n) t here a h (meets_named (located t).lookahead n is.text is.is) (ap (table (Rows k names)) is.is
+    ∙ name_next k names n is.text is.alone is.few)
 
-pub rows_err_row : (e : TextFault) (old : Reading) (rs : List Row) (here : Reading) (t : Token) (n : ℕ) (a : Reading)
-    → RowsSoFar old rs here → Takes here t a → IsNextName (names_of rs) (located t) n → StopsIn e row_symbols [] a
-    → StopsIn e (Rows [] ∷ []) [] old
-rows_err_row e old rs here t n a so h is g = stops_behind e row_symbols (Rows (names_of rs ++ n ∷ []) ∷ [])
-    (passes_join so.passes (passes_name (names_of rs) t n here a h is)) g
+pub rows_err_row : (e : TextFault) (before : List Row) (old : Reading) (now : List Row) (here : Reading) (t : Token)
+    (n : ℕ) (a : Reading) → RowsSoFar before old now here → Takes here t a → IsNextName (names_of now) (located t) n
+    → StopsIn e row_symbols [] a → StopsInRows e (names_of before) old
+rows_err_row e before old now here t n a so h is g k = stops_behind e row_symbols (Rows k (names_of now ++ n ∷ []) ∷ [])
+    (passes_join (so.passes k) (passes_name k (names_of now) t n here a h is)) g
 
 fits_push : (before : List ℕ) (rs : List Row) (r : Row) → FitsRows the_rules before rs
     → has_name r.name (before ++ names_of rs) ≡ false → length (before ++ names_of rs) < the_rules.instances
@@ -170,32 +180,57 @@ names_push : (rs : List Row) (r : Row) → names_of (rs ++ r ∷ []) ≡ names_o
 names_push [] r = refl
 names_push (q ∷ rs) r = ap (λ l. q.name ∷ l) (names_push rs r)
 
-pub rows_next : (old : Reading) (rs : List Row) (here : Reading) (t : Token) (n : ℕ) (a : Reading) (f : Form)
-    (b : Reading) → RowsSoFar old rs here → Takes here t a → IsNextName (names_of rs) (located t) n → Lined a f b
-    → RowsSoFar old (rs ++ (record { name = n; form = f }) ∷ []) b
-rows_next old rs here t n a f b so h is g =
+pub rows_next : (before : List Row) (old : Reading) (now : List Row) (here : Reading) (t : Token) (n : ℕ) (a : Reading)
+    (f : Form) (b : Reading) → RowsSoFar before old now here → Takes here t a → IsNextName (names_of now) (located t) n
+    → Lined a f b → RowsSoFar before old (now ++ (record { name = n; form = f }) ∷ []) b
+rows_next before old now here t n a f b so h is g =
     let r : Row = record { name = n; form = f } in
+    let all : names_of now ≡ names_of before ++ names_of so.rows = ap names_of so.are ∙ map-append (λ (q : Row). q.name)
+    before so.rows in
     record {
-      fits = fits_push [] rs r so.fits is.alone is.few g.0;
-      passes =
-          let P : List ℕ → Type 0 = λ l. Passes (Rows [] ∷ []) (Rows l ∷ []) [] (items_of_rows (rs ++ r ∷ [])) old b in
-          subst P (sym (names_push rs r)) (passes_as (items_of_rows (rs ++ r ∷ [])) (sym (items_push rs r))
-          (passes_join so.passes (passes_join (passes_name (names_of rs) t n here a h is)
-          (passes_more (Rows (names_of rs ++ n ∷ []) ∷ []) g.1))));
+      rows = so.rows ++ r ∷ [];
+      are = ap (λ l. l ++ r ∷ []) so.are ∙ append_assoc before so.rows (r ∷ []);
+      fits = fits_push (names_of before) so.rows r so.fits (subst (λ l. has_name n l ≡ false) all is.alone)
+          (subst (λ l. length l < the_rules.instances) all is.few) g.0;
+      passes = λ k.
+          let P : List ℕ → Type 0 = λ l. Passes (Rows k (names_of before) ∷ []) (Rows k l ∷ []) []
+          (items_of_rows (so.rows ++ r ∷ [])) old b in
+          subst P (sym (names_push now r)) (passes_as (items_of_rows (so.rows ++ r ∷ [])) (sym (items_push so.rows r))
+          (passes_join (so.passes k) (passes_join (passes_name k (names_of now) t n here a h is)
+          (passes_more (Rows k (names_of now ++ n ∷ []) ∷ []) g.1))));
     }
 
-end_next : (names : List ℕ) (s : Lookahead) → is_word (codes "ENDSEC") s ≡ true → table (Rows names) s ≡ Ok []
-end_next names (token (keyword text)) e = rw e refl
-end_next names _ e = absurd (false≢true e)
+end_next : (k : ℕ) (names : List ℕ) (s : Lookahead) → is_word (codes "ENDSEC") s ≡ true → table (Rows k names) s ≡ Ok
+    (Just Semicolon ∷ Sections k names ∷ [])
+end_next k names (token (keyword text)) e = rw e refl
+end_next k names _ e = absurd (false≢true e)
 
-pub rows_done : (old : Reading) (rs : List Row) (here : Reading) (t : Token) (a : Reading) → RowsSoFar old rs here
-    → Takes here t a → is_word (codes "ENDSEC") (located t).lookahead ≡ true → FitsRows the_rules [] rs
-    × Passes (Rows [] ∷ []) [] [] (items_of_rows rs ++ says (codes "ENDSEC") ∷ []) old a
-rows_done old rs here t a so h c = (
-  so.fits,
-  passes_join so.passes (passes_other_word (Rows (names_of rs)) (codes "ENDSEC") t here a h c (end_next (names_of rs)
-      (located t).lookahead c)),
-)
+passes_end : (k : ℕ) (names : List ℕ) (t : Token) (here a : Reading) → Takes here t a
+    → is_word (codes "ENDSEC") (located t).lookahead ≡ true
+    → Passes (Rows k names ∷ []) (Just Semicolon ∷ Sections k names ∷ []) [] (says (codes "ENDSEC") ∷ []) here a
+passes_end k names t here a h c = passes_token (Rows k names) (Just Semicolon ∷ Sections k names ∷ [])
+    (says (codes "ENDSEC")) t here a h (word_met (codes "ENDSEC") (located t).lookahead c) (end_next k names
+    (located t).lookahead c)
+
+pub rows_err_end : (e : TextFault) (before : List Row) (old : Reading) (now : List Row) (here : Reading) (t : Token)
+    (a : Reading) → RowsSoFar before old now here → Takes here t a
+    → is_word (codes "ENDSEC") (located t).lookahead ≡ true → StopsIn e (Just Semicolon ∷ []) [] a
+    → StopsInRows e (names_of before) old
+rows_err_end e before old now here t a so h c g k = stops_behind e (Just Semicolon ∷ []) (Sections k (names_of now)
+    ∷ []) (passes_join (so.passes k) (passes_end k (names_of now) t here a h c)) g
+
+pub rows_done : (greatest : ℕ) (before : List Row) (old : Reading) (now : List Row) (here : Reading) (t : Token)
+    (a b : Reading) → RowsSoFar before old now here → AtMost greatest (names_of now) → Takes here t a
+    → is_word (codes "ENDSEC") (located t).lookahead ≡ true
+    → Passes (Just Semicolon ∷ []) [] [] (this (mark Semicolon) ∷ []) a b → TakesRows greatest before now old b
+rows_done greatest before old now here t a b so most h c m = record {
+  rows = so.rows;
+  are = so.are;
+  bound = most;
+  fits = so.fits;
+  passes = λ k. passes_join (so.passes k) (passes_join (passes_end k (names_of now) t here a h c)
+      (passes_more (Sections k (names_of now) ∷ []) m));
+}
 
 pub rows_smaller : (here : Reading) (t : Token) (a : Reading) (f : Form) (b : Reading) → Takes here t a → Lined a f b
     → length (left b) < length (left here)

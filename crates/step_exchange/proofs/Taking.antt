@@ -7,15 +7,15 @@ use Rattle.predictive.proofs.Turning as turning
 use Rattle.step_lexis.specs.Reading.{Reading, Takes, left}
 use Rattle.step_lexis.specs.declared.token.Token.{Token}
 use Rattle.step_lexis.proofs.ReadingLemmas.{takes_less}
-use Rattle.step_exchange.specs.declared.fault.FaultKind.{FaultKind}
-use Rattle.step_exchange.specs.declared.fault.TextFault.{TextFault}
-use Rattle.step_exchange.specs.declared.fault.TextFault.TheVariants as faults
-use Rattle.step_exchange.specs.Words.{LocatedToken, located, Shows, shows_token, shows_fault, shows_end, ShowsAll}
-use Rattle.step_exchange.specs.Trees.{Item, Meets, MeetAll}
-use Rattle.step_exchange.specs.Texts.{Reads}
-use Rattle.step_exchange.specs.Predict.{Symbol}
-use Rattle.step_exchange.specs.Steps.{table, fault_at, StopsIn, Passes}
-use Rattle.step_exchange.proofs.Meeting.{meet_join}
+use Rattle.step_structures.specs.declared.fault.FaultKind.{FaultKind}
+use Rattle.step_structures.specs.declared.fault.TextFault.{TextFault}
+use Rattle.step_structures.specs.declared.fault.TextFault.TheVariants as faults
+use Rattle.step_structures.specs.Words.{LocatedToken, located, Shows, shows_token, shows_fault, shows_end, ShowsAll}
+use Rattle.step_structures.specs.Trees.{Item, Meets, MeetAll}
+use Rattle.step_structures.specs.Texts.{Reads}
+use Rattle.step_structures.specs.Predict.{Symbol, table}
+use Rattle.step_exchange.specs.Steps.{fault_at, StopsIn, Passes}
+use Rattle.step_structures.proofs.Meeting.{meet_join}
 
 joins : Joins MeetAll
 joins u v i j h k = meet_join u v i j h k

@@ -10,10 +10,10 @@ use Rattle.step_exchange.specs.declared.tree.Param.TheFolds.{fold-roll-Param}
 use Rattle.step_exchange.specs.declared.tree.Record.{Record}
 use Rattle.step_exchange.specs.declared.tree.Form.{Form}
 use Rattle.devices.specs.Prints.{Printing, Prints}
-use Rattle.step_exchange.specs.Trees.{Tree, typed, group}
+use Rattle.step_structures.specs.Trees.{Tree, typed, group}
 use Rattle.step_exchange.specs.Views.{tree_step, tree_of, trees_of, record_of, row_of}
 use Rattle.step_literals.specs.Words.{upper}
-use Rattle.step_exchange.specs.Normal.{plain_tree, plain_more, plain_record, plain_partial_records, plain_row, plain_rows}
+use Rattle.step_structures.specs.Normal.{plain_tree, plain_more, plain_record, plain_partial_records, plain_row, plain_rows}
 use Rattle.devices.proofs.Printing.{then_print, prints_as}
 
 -- in a loop over a list: what the first elements come to is printed, and then what one more comes to

@@ -1,17 +1,18 @@
 -- The exchange structure that a program's value is, and its normal text.
 use Rattle.std.specs.Prelude.{◌≡◌, ℕ, List, map}
 use Rattle.step_exchange.specs.declared.structure.Exchange.{Exchange}
-use Rattle.step_exchange.specs.Trees.{File}
-use Rattle.step_exchange.specs.Views.{row_of, file_of}
-use Rattle.step_exchange.specs.Normal.{plain_text}
+use Rattle.step_structures.specs.Trees.{File}
+use Rattle.step_structures.specs.Normal.{plain_text}
+use Rattle.step_exchange.specs.Views.{row_of}
+use Rattle.step_exchange.specs.Sections.{file_of}
 
 -- the structure that was read
 abbrev pub structure : Exchange → File
-structure x = file_of x.header.items x.records.entries
+structure x = file_of x.header.items x.sections.items (map row_of x.records.entries)
 
 -- the normal text of it
 abbrev pub normal_text : Exchange → List ℕ
-normal_text x = plain_text x.header_bytes.now (map row_of x.records.entries)
+normal_text x = plain_text x.header_bytes.now (structure x).sections
 
 -- what was read is this structure, with these header bytes
 abbrev pub IsExchange : List ℕ → File → Exchange → Type 0

@@ -1,10 +1,4 @@
-pub mod Words
-pub mod Trees
-pub mod Fits
-pub mod Texts
 pub mod Views
-pub mod Predict
+pub mod Sections
 pub mod Steps
-pub mod Normal
 pub mod Exchanges
-pub mod FaultTexts

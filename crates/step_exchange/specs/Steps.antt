@@ -1,7 +1,6 @@
 -- Reading an exchange structure by the table, from one place to another.
-use Rattle.std.specs.Prelude.{◌≡◌, ℕ, ◌+◌, ◌<◌, ◌≤◌, Bool, true, false, if◌then◌else◌, List, [], ◌∷◌, ◌++◌, length, drop, map, Option, Some, None, Result, Err, codes}
+use Rattle.std.specs.Prelude.{◌≡◌, ℕ, ◌+◌, suc, ◌<◌, ◌≤◌, Bool, true, false, if◌then◌else◌, List, [], ◌∷◌, ◌++◌, length, drop, map, Option, Some, None, Result, Err, codes}
 use Rattle.std.specs.List.{list_any}
-use Rattle.predictive.specs.Tables.{Table}
 use Rattle.predictive.specs.Lexers as lexers
 use Rattle.predictive.specs.Steps as steps
 use Rattle.step_lexis.specs.declared.token.Mark.TheVariants.{Open, Semicolon, Close}
@@ -9,23 +8,15 @@ use Rattle.step_lexis.specs.declared.token.Token.{Token}
 use Rattle.step_lexis.specs.Reading.{Reading, Reaches, Takes}
 use Rattle.step_literals.specs.declared.literal.Word as literal
 use Rattle.step_exchange.specs.declared.tree.Record as tree
-use Rattle.step_exchange.specs.declared.fault.FaultKind.{FaultKind}
-use Rattle.step_exchange.specs.declared.fault.FaultKind.TheVariants as kinds
-use Rattle.step_exchange.specs.declared.fault.TextFault.{TextFault}
-use Rattle.step_exchange.specs.declared.fault.TextFault.TheVariants as faults
-use Rattle.step_exchange.specs.Words.{keyword, name, mark, Lookahead, token, LocatedToken, located, Shows}
-use Rattle.step_exchange.specs.Trees.{Record, Row, File, Item, this, MeetAll, is_said, items_of_list, items_of_records, items_of_start, items_of_header, items_of_file}
-use Rattle.step_exchange.specs.Fits.{Rules, the_rules, FitsRecord, FitsPartialRecords, FitsRecords, FitsHeader, FitsFile, IsHeader, HasSchema, NamesSchema, has_name, has_keyword}
-use Rattle.step_exchange.specs.Texts.{Reads, items_of_opening}
-use Rattle.step_exchange.specs.Predict.{Symbol, Just, Start, Say, Head, Records, Ended, Rows, Value, Items, refused, section_kind, next, opening_symbols, header_symbols}
-
--- the table for what is asked of a structure
-abbrev pub table : Table Symbol Lookahead FaultKind
-table = next the_rules
-
--- these are the tokens of a structure that fits the rules, and the end of the text
-abbrev pub IsFile : Rules → List Lookahead → Type 0
-IsFile rules s = (x : File) × FitsFile rules x × MeetAll s (items_of_file x)
+use Rattle.step_structures.specs.declared.fault.FaultKind.{FaultKind}
+use Rattle.step_structures.specs.declared.fault.FaultKind.TheVariants as kinds
+use Rattle.step_structures.specs.declared.fault.TextFault.{TextFault}
+use Rattle.step_structures.specs.declared.fault.TextFault.TheVariants as faults
+use Rattle.step_structures.specs.Words.{keyword, name, mark, Lookahead, token, LocatedToken, located, Shows}
+use Rattle.step_structures.specs.Trees.{Record, Row, Section, Item, this, says, MeetAll, is_said, items_of_list, items_of_rows, items_of_records, items_of_start, items_of_header, items_of_heading, items_of_sections, items_of_end, section}
+use Rattle.step_structures.specs.Fits.{the_rules, FitsRecord, FitsPartialRecords, FitsRows, FitsSections, FitsRecords, FitsHeader, IsHeader, HasSchema, NamesSchema, has_name, has_keyword}
+use Rattle.step_structures.specs.Texts.{Reads, items_of_opening}
+use Rattle.step_structures.specs.Predict.{Symbol, Just, Head, Records, Ended, Sections, Rows, Value, Items, refused, section_kind, opening_symbols, header_symbols, data_symbols, start_symbols, params_symbols, table}
 
 -- a fault's kind and place; where memory ran out there is none
 abbrev pub fault_at : TextFault → Option (FaultKind × ℕ)
@@ -61,10 +52,6 @@ ParsesFrom first result ys items Holds old new = steps.ParsesFrom table Shows Me
 abbrev pub inner_symbols : ℕ → List Symbol
 inner_symbols n = Just Open ∷ Value (n + 1) ∷ Just Close ∷ []
 
--- behind the keyword of a record
-abbrev pub params_symbols : ℕ → List Symbol
-params_symbols n = Just Open ∷ Items (n + 1) ∷ []
-
 abbrev pub keywords_of : List Record → List (List ℕ)
 keywords_of ps = map (λ (p : Record). p.keyword) ps
 
@@ -97,7 +84,7 @@ pub record IsNextName (names : List ℕ) (s : LocatedToken) (n : ℕ) : Type 0 w
 -- behind these names what stands there is no name of an instance, and this is its fault
 pub record IsNoName (names : List ℕ) (s : LocatedToken) (e : TextFault) : Type 0 where
   pub kind : FaultKind
-  pub refused : table (Rows names) s.lookahead ≡ Err kind
+  pub refused : (n : ℕ) → table (Rows n names) s.lookahead ≡ Err kind
   pub fault_is : e ≡ faults.Fault kind s.place
 
 -- none of the names is greater
@@ -105,8 +92,29 @@ abbrev pub AtMost : ℕ → List ℕ → Type 0
 AtMost greatest [] = Unit {0}
 AtMost greatest (n ∷ ns) = (n ≤ greatest) × AtMost greatest ns
 
-abbrev pub start_symbols : List Symbol
-start_symbols = Start ∷ Just Semicolon ∷ Say (codes "HEADER") ∷ Just Semicolon ∷ []
+-- instances behind others, and the end of the section that they stand in, whatever its number
+pub record TakesRows (greatest : ℕ) (before after : List Row) (old new : Reading) : Type 0 where
+  pub rows : List Row
+  pub are : after ≡ before ++ rows
+  pub bound : AtMost greatest (names_of after)
+  pub fits : FitsRows the_rules (names_of before) rows
+  pub passes : (n : ℕ) → Passes (Rows n (names_of before) ∷ [])
+      (Sections n (names_of after) ∷ []) [] (items_of_rows rows ++ section (codes "ENDSEC")) old new
+
+-- .. or why they aren't there
+abbrev pub StopsInRows : TextFault → List ℕ → Reading → Type 0
+StopsInRows e names old = (n : ℕ) → StopsIn e (Rows n names ∷ []) [] old
+
+-- behind so many sections with these names, the beginning of one more, of which this token is taken already
+abbrev pub BeginsSection : LocatedToken → ℕ → List ℕ → Option (List ℕ × List ℕ) → Reading → Reading → Type 0
+BeginsSection first n names heading old new = (n < the_rules.sections) × Passes (Sections n names ∷ [])
+    (Rows (suc n) names ∷ []) (first ∷ []) (says (codes "DATA") ∷ (items_of_heading heading ++ this (mark Semicolon)
+    ∷ [])) old new
+
+-- the data sections and the end of the file
+pub record TakesData (sections : List Section) (old new : Reading) : Type 0 where
+  pub fits : FitsSections the_rules sections
+  pub passes : Passes data_symbols [] [] (items_of_sections sections ++ items_of_end) old new
 
 -- the text begins at this place, and its header behind some tokens
 pub record Starts (old : Reading) (place : ℕ) (new : Reading) : Type 0 where

@@ -8,9 +8,9 @@ use Rattle.step_exchange.specs.declared.tree.Param.TheFolds.{fold-Param}
 use Rattle.step_exchange.specs.declared.tree.Record.{Record}
 use Rattle.step_exchange.specs.declared.tree.Form.{Form}
 use Rattle.step_exchange.specs.declared.tree.Form.TheVariants as forms
-use Rattle.step_exchange.specs.Words.{name, number, element, string, binary, mark}
-use Rattle.step_exchange.specs.Trees.{Tree, leaf, typed, group, Trees, none, one}
-use Rattle.step_exchange.specs.Trees as trees
+use Rattle.step_structures.specs.Words.{name, number, element, string, binary, mark}
+use Rattle.step_structures.specs.Trees.{Tree, leaf, typed, group, Trees, none, one}
+use Rattle.step_structures.specs.Trees as trees
 
 abbrev pub all_of : List Tree → Trees
 all_of [] = none
@@ -44,7 +44,3 @@ form_of (forms.External ps) = trees.external (map record_of ps.items)
 
 abbrev pub row_of : (ℕ × Form) → trees.Row
 row_of e = record { name = e.0; form = form_of e.1 }
-
--- the structure that a header's records and the instances are
-abbrev pub file_of : List Record → List (ℕ × Form) → trees.File
-file_of header rows = record { header = map record_of header; rows = map row_of rows }

@@ -1,25 +1,39 @@
-//! The data section and the end of the file, read from tokens (ISO 10303-21, 5.3 and 11).
+//! The data sections and the end of the file, read from tokens (ISO 10303-21, 5.3 and 11).
 
-ghost use Rattle.std.specs.Prelude.{◌≡◌, [], ◌∷◌, ◌++◌, map, codes};
-ghost use Rattle.step_lexis.specs.declared.token.Mark.TheVariants.{Semicolon};
-ghost use Rattle.step_exchange.specs.declared.fault.TextFault.TheVariants.{Fault};
-ghost use Rattle.step_exchange.specs.Words.{located};
-ghost use Rattle.step_exchange.specs.Trees.{items_of_data, items_of_end, section, finish};
-ghost use Rattle.step_exchange.specs.Fits.{the_rules, FitsRows};
+ghost use Rattle.std.specs.Prelude.{◌≡◌, ℕ, List, Some, [], ◌∷◌, ◌++◌, length, MatchResult};
+ghost use Rattle.std.specs.Prelude.{map, codes};
+ghost use Rattle.step_lexis.specs.declared.token.Mark.TheVariants as marks;
+ghost use Rattle.step_structures.specs.declared.fault.TextFault.TheVariants.{Fault};
+ghost use Rattle.step_structures.specs.Words.{string, mark, ends, token, located};
+ghost use Rattle.step_structures.specs.Trees.{this, finish, items_of_heading};
+ghost use Rattle.step_structures.specs.Predict.{Quoted, Behind, Sections, Just, EndOfText};
+ghost use Rattle.step_structures.specs.Predict.{heading_symbols, data_symbols};
 ghost use Rattle.step_exchange.specs.Views.{row_of};
-ghost use Rattle.step_exchange.specs.Predict.{Data, Behind, Finish, Just, EndOfText, data_symbols};
-ghost use Rattle.step_exchange.specs.Steps.{Parses, ParsesWhere, section_refused};
+ghost use Rattle.step_exchange.specs.Sections.{CountsTo, heading_of, sections_of};
+ghost use Rattle.step_exchange.specs.Steps.{
+  Parses,
+  StopsIn,
+  BeginsSection,
+  TakesData,
+  section_refused,
+};
 
-use crate::fault::{FaultKind, LeftOut, TextFault};
 use crate::records::rows;
+use crate::section::Section;
 use crate::structure::Instances;
 use crate::tokens::{expect, fault_at, is_mark, is_said, is_word, refuse, take};
+use indexmap::IndexMap;
 use std::alloc::Global;
 use std::hash::RandomState;
 use step_lexis::lexer::Lexer;
 use step_lexis::token::{Mark, Sort, Token};
+use step_literals::literal::Text;
+use step_structures::fault::{FaultKind, LeftOut, TextFault};
 
-/// The fault at a token where a section may begin or the file end.
+/// So many data sections may stand.
+const SECTIONS: usize = 0xFFFF_FFFF;
+
+/// The fault at a token that is neither DATA nor the end of the file, where one of them is due.
 fn refuse_section(token: Token<'_>) -> TextFault
     ensures { result ≡ Fault (section_refused (located token.entry).lookahead) token.entry.place }
 {
@@ -38,23 +52,68 @@ fn refuse_section(token: Token<'_>) -> TextFault
     fault_at(FaultKind::Expected, token)
 }
 
-/// Reads what begins the data section.
-fn begin_data(lexer: &mut Lexer<'_>) -> Result<(), TextFault>
-    ensures { Parses result (Data ∷ Behind ∷ []) (λ _. section (codes "DATA"))
-        lexer.old lexer.new }
+/// Reads a string.
+fn string<'a>(lexer: &mut Lexer<'a>) -> Result<Text<'a>, TextFault>
+    ensures { Parses result (Quoted ∷ []) (λ t. this (string t.text.now) ∷ []) lexer.old lexer.new }
 {
     let token = take(lexer)?;
-    if !is_word(token, b"DATA") {
-        return Err(refuse_section(token));
-    }
+    let Sort::String(text) = token.sort else {
+        return Err(refuse(token));
+    };
+    Ok(text)
+}
+
+/// The name of a section and that of its schema, behind the parenthesis, and the semicolon.
+fn names<'a>(lexer: &mut Lexer<'a>) -> Result<(Text<'a>, Text<'a>), TextFault>
+    ensures { Parses result heading_symbols (λ h. this (string h.0.text.now)
+        ∷ this (mark marks.Comma) ∷ this (mark marks.Open) ∷ this (string h.1.text.now)
+        ∷ this (mark marks.Close) ∷ this (mark marks.Close) ∷ this (mark marks.Semicolon) ∷ [])
+        lexer.old lexer.new }
+{
+    let name = string(lexer)?;
+    expect(lexer, Mark::Comma)?;
+    expect(lexer, Mark::Open)?;
+    let schema = string(lexer)?;
+    expect(lexer, Mark::Close)?;
+    expect(lexer, Mark::Close)?;
+    expect(lexer, Mark::Semicolon)?;
+    Ok((name, schema))
+}
+
+/// What stands behind the word of a data section, through its semicolon.
+fn heading<'a>(lexer: &mut Lexer<'a>) -> Result<Option<(Text<'a>, Text<'a>)>, TextFault>
+    ensures { Parses result (Behind ∷ []) (λ h. items_of_heading (heading_of h)
+        ++ this (mark marks.Semicolon) ∷ []) lexer.old lexer.new }
+{
     let behind = take(lexer)?;
     if is_mark(behind, Mark::Semicolon) {
-        return Ok(());
+        return Ok(None);
     }
-    if is_mark(behind, Mark::Open) {
-        return Err(fault_at(FaultKind::LeftOut(LeftOut::Sections), behind));
+    if !is_mark(behind, Mark::Open) {
+        return Err(refuse(behind));
     }
-    Err(refuse(behind))
+    let names = names(lexer)?;
+    Ok(Some(names))
+}
+
+/// The heading of one more data section, behind so many others. Its first token is taken already.
+fn begin_section<'a>(
+    lexer: &mut Lexer<'a>,
+    first: Token<'a>,
+    sections: usize,
+) -> Result<Option<(Text<'a>, Text<'a>)>, TextFault>
+    requires { (located first).lookahead ≡ token ends → ⊥ }
+    ensures { (names : List ℕ) → MatchResult result
+        (λ h. BeginsSection (located first.entry) sections names (heading_of h) lexer.old lexer.new)
+        (λ e. StopsIn e (Sections sections names ∷ []) (located first.entry ∷ []) lexer.old) }
+{
+    if !is_word(first, b"DATA") {
+        return Err(refuse_section(first));
+    }
+    if sections >= SECTIONS {
+        return Err(fault_at(FaultKind::LeftOut(LeftOut::TooMany), first));
+    }
+    heading(lexer)
 }
 
 /// Reads the end of the text.
@@ -76,37 +135,53 @@ fn end_of_text(lexer: &mut Lexer<'_>) -> Result<(), TextFault>
     }
 }
 
-/// Reads the end of the file.
+/// Reads what stands behind the word that ends the file.
 fn end(lexer: &mut Lexer<'_>) -> Result<(), TextFault>
-    ensures { Parses result (Finish ∷ Just Semicolon ∷ EndOfText ∷ []) (λ _. items_of_end)
-        lexer.old lexer.new }
+    ensures { Parses result (Just marks.Semicolon ∷ EndOfText ∷ [])
+        (λ _. this (mark marks.Semicolon) ∷ finish ∷ []) lexer.old lexer.new }
 {
-    let token = take(lexer)?;
-    if is_word(token, b"DATA") {
-        return Err(fault_at(FaultKind::LeftOut(LeftOut::Sections), token));
-    }
-    let Sort::End = token.sort else {
-        return Err(refuse_section(token));
-    };
     expect(lexer, Mark::Semicolon)?;
     end_of_text(lexer)
 }
 
-/// The instances of the data section, read to the end of the text, with room for so many of them
-/// from the start where memory allows that.
+/// No instances, with room for so many where memory allows that, and else with none.
+fn room_for<'a>(alloc: Global, keys: RandomState, expected: usize) -> Instances<'a>
+    ensures { result.entries ≡ [] }
+{
+    match IndexMap::with_capacity_and_hasher(alloc, expected, keys) {
+        Ok(records) => records,
+        Err(_) => IndexMap::with_hasher(alloc, keys),
+    }
+}
+
+/// The data sections and their instances, read to the end of the text, with room for so many
+/// instances from the start where memory allows that.
 pub fn data<'a>(
     alloc: Global,
     keys: RandomState,
     lexer: &mut Lexer<'a>,
     expected: usize,
-) -> Result<Instances<'a>, TextFault>
-    ensures { ParsesWhere result data_symbols
-        (λ m. items_of_data (map row_of m.entries) ++ items_of_end)
-        (λ m. FitsRows the_rules [] (map row_of m.entries)) lexer.old lexer.new }
+) -> Result<(Vec<Section<'a>>, Instances<'a>), TextFault>
+    ensures { MatchResult result
+        (λ d. TakesData (sections_of 0 d.0.items (map row_of d.1.entries)) lexer.old lexer.new
+        × CountsTo 0 d.0.items (length d.1.entries))
+        (λ e. StopsIn e data_symbols [] lexer.old) }
 {
-    begin_data(lexer)?;
-    let records = rows(alloc, keys, lexer, expected)?;
-    expect(lexer, Mark::Semicolon)?;
-    end(lexer)?;
-    Ok(records)
+    let mut records = room_for(alloc, keys, expected);
+    let mut greatest = 0;
+    let mut sections: Vec<Section<'a>> = Vec::new(alloc);
+    loop {
+        let token = take(lexer)?;
+        if let Sort::End = token.sort {
+            if sections.is_empty() {
+                return Err(refuse(token));
+            }
+            end(lexer)?;
+            return Ok((sections, records));
+        }
+        let heading = begin_section(lexer, token, sections.len())?;
+        greatest = rows(alloc, keys, lexer, &mut records, greatest)?;
+        let past = records.len() as u32;
+        sections.push(Section { heading, past })?;
+    }
 }

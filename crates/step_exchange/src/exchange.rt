@@ -1,17 +1,17 @@
 //! The exchange structure of a text.
 
 ghost use Rattle.std.specs.Prelude.{List, ℕ, IfOk, IfErr, MatchResult};
-ghost use Rattle.step_exchange.specs.Trees.{File};
-ghost use Rattle.step_exchange.specs.Texts.{ReadsAs, IsFaultOf, IsMemory};
+ghost use Rattle.step_structures.specs.Trees.{File};
+ghost use Rattle.step_structures.specs.Texts.{ReadsAs, IsFaultOf, IsMemory};
 ghost use Rattle.step_exchange.specs.Exchanges.{structure, IsExchange};
 
 use crate::data::data;
-use crate::fault::TextFault;
 use crate::header::header;
 use crate::structure::Exchange;
 use std::alloc::Global;
 use std::hash::RandomState;
 use step_lexis::lexer::Lexer;
+use step_structures::fault::TextFault;
 
 /// So many bytes an instance has in most files.
 const BYTES_AN_INSTANCE: usize = 64;
@@ -21,7 +21,7 @@ const BYTES_AN_INSTANCE: usize = 64;
 /// Where it reads as none the fault is the one that shows first, E1 to E10, with its place; where
 /// memory runs out it is `Memory`. The limit of 2^40 bytes is the caller's to test.
 ///
-/// Names are hashed by these keys.
+/// Names, and keywords of long external records, are hashed by these keys.
 pub fn read_exchange<'a>(
     alloc: Global,
     keys: RandomState,
@@ -38,12 +38,13 @@ pub fn read_exchange<'a>(
     let mut lexer = Lexer::new(text);
     let (first, header) = header(alloc, &mut lexer)?;
     let end = lexer.place();
-    let records = data(alloc, keys, &mut lexer, text.len() / BYTES_AN_INSTANCE)?;
+    let (sections, records) = data(alloc, keys, &mut lexer, text.len() / BYTES_AN_INSTANCE)?;
     let (header_bytes, _) = text.split_at(end as usize);
     let (_, header_bytes) = header_bytes.split_at(first as usize);
     Ok(Exchange {
         header_bytes,
         header,
+        sections,
         records,
     })
 }

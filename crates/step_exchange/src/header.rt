@@ -1,14 +1,14 @@
 //! The header, read from tokens (ISO 10303-21, 8).
 
-ghost use Rattle.std.specs.Prelude.{◌≡◌, true, [], ◌∷◌, ◌++◌, MatchResult, MatchOption, IsTrue, ◌↔◌};
-ghost use Rattle.std.specs.Prelude.{map, codes};
+ghost use Rattle.std.specs.Prelude.{◌≡◌, ◌↔◌, true, [], ◌∷◌, ◌++◌, map, codes, IsTrue};
+ghost use Rattle.std.specs.Prelude.{MatchResult, MatchOption};
 ghost use Rattle.step_lexis.specs.declared.token.Mark.TheVariants.{Open, Semicolon};
-ghost use Rattle.step_exchange.specs.Words.{mark};
-ghost use Rattle.step_exchange.specs.Trees;
-ghost use Rattle.step_exchange.specs.Trees.{this, section, items_of_list, items_of_record};
-ghost use Rattle.step_exchange.specs.Fits.{the_rules, FitsTrees, FitsRecord, NamesSchema};
+ghost use Rattle.step_structures.specs.Words.{mark};
+ghost use Rattle.step_structures.specs.Trees;
+ghost use Rattle.step_structures.specs.Trees.{this, section, items_of_list, items_of_record};
+ghost use Rattle.step_structures.specs.Fits.{the_rules, FitsTrees, FitsRecord, NamesSchema};
 ghost use Rattle.step_exchange.specs.Views.{record_of, trees_of};
-ghost use Rattle.step_exchange.specs.Predict.{Head, Just, Records};
+ghost use Rattle.step_structures.specs.Predict.{Head, Just, Records, start_symbols};
 ghost use Rattle.step_exchange.specs.Steps.{
   StopsIn,
   Passes,
@@ -20,11 +20,9 @@ ghost use Rattle.step_exchange.specs.Steps.{
   HeaderSoFar,
   TakesHeader,
   StopsInHeader,
-  start_symbols,
   after_keyword,
 };
 
-use crate::fault::{FaultKind, TextFault};
 use crate::params::{items, record_params};
 use crate::tokens::{expect, expect_word, fault_at, is_mark, is_said, refuse, take};
 use crate::tree::{Param, Record};
@@ -32,6 +30,7 @@ use std::alloc::Global;
 use step_lexis::lexer::Lexer;
 use step_lexis::token::{Mark, Sort};
 use step_literals::literal::Word;
+use step_structures::fault::{FaultKind, TextFault};
 
 /// Reads up to the first record, and answers the place of the first token.
 fn start(lexer: &mut Lexer<'_>) -> Result<u64, TextFault>

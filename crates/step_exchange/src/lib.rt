@@ -3,12 +3,13 @@
 
 mod data;
 pub mod exchange;
-pub mod fault;
 mod header;
-pub mod laws;
 mod params;
 mod records;
+pub mod section;
 pub mod structure;
 mod tokens;
 pub mod tree;
 pub mod write;
+
+pub use step_structures::fault;

@@ -2,21 +2,21 @@
 
 ghost use Rattle.std.specs.Prelude.{◌≡◌, ◌≤◌, ◌<◌, ◌+◌, [], ◌∷◌, ◌++◌};
 ghost use Rattle.step_lexis.specs.declared.token.Mark.TheVariants as marks;
-ghost use Rattle.step_exchange.specs.Words.{mark, located};
-ghost use Rattle.step_exchange.specs.Trees;
-ghost use Rattle.step_exchange.specs.Trees.{this, items_of_tree, items_of_list};
-ghost use Rattle.step_exchange.specs.Fits.{the_rules, FitsTree, FitsTrees};
+ghost use Rattle.step_structures.specs.Words.{mark, located};
+ghost use Rattle.step_structures.specs.Trees;
+ghost use Rattle.step_structures.specs.Trees.{this, items_of_tree, items_of_list};
+ghost use Rattle.step_structures.specs.Fits.{the_rules, FitsTree, FitsTrees};
 ghost use Rattle.step_exchange.specs.Views.{tree_of, trees_of};
-ghost use Rattle.step_exchange.specs.Predict.{Value, Items};
-ghost use Rattle.step_exchange.specs.Steps.{ParsesWhere, ParsesFrom, inner_symbols, params_symbols};
+ghost use Rattle.step_structures.specs.Predict.{Value, Items, params_symbols};
+ghost use Rattle.step_exchange.specs.Steps.{ParsesWhere, ParsesFrom, inner_symbols};
 
-use crate::fault::{FaultKind, TextFault};
 use crate::tokens::{expect, fault_at, is_mark, refuse, take};
 use crate::tree::Param;
 use std::alloc::Global;
 use step_lexis::lexer::Lexer;
 use step_lexis::token::{Mark, Sort, Token};
 use step_literals::literal::Word;
+use step_structures::fault::{FaultKind, TextFault};
 
 /// So many parentheses may be open at once.
 const LEVELS: u32 = 64;

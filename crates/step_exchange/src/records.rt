@@ -2,13 +2,13 @@
 
 ghost use Rattle.std.specs.Prelude.{◌≡◌, false, [], ◌∷◌, ◌++◌, MatchResult, OnOk, map, codes};
 ghost use Rattle.step_lexis.specs.declared.token.Mark.TheVariants.{Close, Equals, Semicolon};
-ghost use Rattle.step_exchange.specs.Words.{mark, located};
-ghost use Rattle.step_exchange.specs.Trees.{this, says, items_of_record, items_of_form};
-ghost use Rattle.step_exchange.specs.Trees.{items_of_partial_records, items_of_rows};
-ghost use Rattle.step_exchange.specs.Fits;
-ghost use Rattle.step_exchange.specs.Fits.{the_rules, FitsForm, FitsRows};
-ghost use Rattle.step_exchange.specs.Predict;
-ghost use Rattle.step_exchange.specs.Predict.{Body, PartialRecords, Rows, row_symbols};
+ghost use Rattle.step_structures.specs.Words.{mark, located};
+ghost use Rattle.step_structures.specs.Trees.{this, items_of_record, items_of_form};
+ghost use Rattle.step_structures.specs.Trees.{items_of_partial_records};
+ghost use Rattle.step_structures.specs.Fits;
+ghost use Rattle.step_structures.specs.Fits.{the_rules, FitsForm};
+ghost use Rattle.step_structures.specs.Predict;
+ghost use Rattle.step_structures.specs.Predict.{Body, PartialRecords, row_symbols};
 ghost use Rattle.step_exchange.specs.Views.{record_of, form_of, row_of};
 ghost use Rattle.step_exchange.specs.Steps.{
   StopsIn,
@@ -18,6 +18,8 @@ ghost use Rattle.step_exchange.specs.Steps.{
   FitsPartials,
   IsNextName,
   IsNoName,
+  TakesRows,
+  StopsInRows,
   AtMost,
   any_has_keyword,
   keywords_of,
@@ -25,17 +27,17 @@ ghost use Rattle.step_exchange.specs.Steps.{
   names_of,
 };
 
-use crate::fault::{FaultKind, LeftOut, TextFault};
 use crate::params::record_params;
 use crate::structure::Instances;
 use crate::tokens::{expect, fault_at, is_mark, is_said, is_word, refuse, take};
 use crate::tree::{Form, Record};
-use indexmap::{IndexMap, IndexSet};
+use indexmap::IndexSet;
 use std::alloc::{AllocFailed, Global};
 use std::hash::RandomState;
 use step_lexis::lexer::Lexer;
 use step_lexis::token::{Mark, Sort, Token};
 use step_literals::literal::Word;
+use step_structures::fault::{FaultKind, LeftOut, TextFault};
 
 /// So many instances may stand.
 const INSTANCES: usize = 0xFFFF_FFFF;
@@ -200,36 +202,28 @@ fn next_name(records: &Instances<'_>, greatest: u64, token: Token<'_>) -> Result
     Ok(name)
 }
 
-/// No instances, with room for so many where memory allows that, and else with none.
-fn room_for<'a>(alloc: Global, keys: RandomState, expected: usize) -> Instances<'a>
-    ensures { result.entries ≡ [] }
-{
-    match IndexMap::with_capacity_and_hasher(alloc, expected, keys) {
-        Ok(records) => records,
-        Err(_) => IndexMap::with_hasher(alloc, keys),
-    }
-}
-
-/// The instances up to the word that ends them, with room for so many of them from the start where
-/// memory allows that.
+/// The instances of a section behind those of others, up to its end. It answers the greatest name.
 pub fn rows<'a>(
     alloc: Global,
     keys: RandomState,
     lexer: &mut Lexer<'a>,
-    expected: usize,
-) -> Result<Instances<'a>, TextFault>
-    ensures { ParsesWhere result (Rows [] ∷ [])
-        (λ m. items_of_rows (map row_of m.entries) ++ says (codes "ENDSEC") ∷ [])
-        (λ m. FitsRows the_rules [] (map row_of m.entries)) lexer.old lexer.new }
+    records: &mut Instances<'a>,
+    greatest: u64,
+) -> Result<u64, TextFault>
+    requires { AtMost greatest (names_of (map row_of records.old.entries)) }
+    ensures { MatchResult result
+        (λ g. TakesRows g (map row_of records.old.entries) (map row_of records.new.entries)
+        lexer.old lexer.new)
+        (λ e. StopsInRows e (names_of (map row_of records.old.entries)) lexer.old) }
 {
-    let mut records = room_for(alloc, keys, expected);
-    let mut greatest = 0;
+    let mut greatest = greatest;
     loop {
         let token = take(lexer)?;
         if is_word(token, b"ENDSEC") {
-            return Ok(records);
+            expect(lexer, Mark::Semicolon)?;
+            return Ok(greatest);
         }
-        let name = next_name(&records, greatest, token)?;
+        let name = next_name(records, greatest, token)?;
         let form = row(alloc, keys, lexer)?;
         records.insert(name, form)?;
         greatest = greatest.max(name);

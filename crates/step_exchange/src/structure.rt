@@ -1,8 +1,11 @@
 //! An exchange structure (ISO 10303-21, 5 to 11).
 
-ghost use Rattle.step_exchange.specs.Texts.{IsRead};
-ghost use Rattle.step_exchange.specs.Views.{file_of};
+ghost use Rattle.std.specs.Prelude.{length, map};
+ghost use Rattle.step_structures.specs.Texts.{IsRead};
+ghost use Rattle.step_exchange.specs.Views.{row_of};
+ghost use Rattle.step_exchange.specs.Sections.{CountsTo, file_of};
 
+use crate::section::Section;
 use crate::tree::{Form, Record};
 use indexmap::IndexMap;
 use std::hash::RandomState;
@@ -18,7 +21,12 @@ pub struct Exchange<'a> {
     pub header_bytes: &'a [u8],
     /// The records of the header.
     pub header: Vec<Record<'a>>,
-    /// The instances by their names, in the order of the file.
+    /// The data sections, in the order of the file; there is one at least.
+    pub sections: Vec<Section<'a>>,
+    /// The instances of all data sections by their names, in the order of the file.
     pub records: Instances<'a>,
-    pub ghost read: { ∥ IsRead header_bytes.now (file_of header.items records.entries) ∥₁ },
+    pub ghost read: { ∥ IsRead header_bytes.now
+        (file_of header.items sections.items (map row_of records.entries)) ∥₁ },
+    // The sections' counts rise, and the last is that of all instances.
+    pub ghost counted: { ∥ CountsTo 0 sections.items (length records.entries) ∥₁ },
 }

@@ -2,18 +2,18 @@
 
 ghost use Rattle.std.specs.Prelude.{◌≡◌, ◌+◌, [], ◌∷◌, MatchResult};
 ghost use Rattle.step_lexis.specs.Reading.{Takes};
-ghost use Rattle.step_exchange.specs.declared.fault.TextFault.TheVariants.{Fault};
-ghost use Rattle.step_exchange.specs.Words.{mark, located};
-ghost use Rattle.step_exchange.specs.Trees;
-ghost use Rattle.step_exchange.specs.Trees.{this, says};
-ghost use Rattle.step_exchange.specs.Predict;
-ghost use Rattle.step_exchange.specs.Predict.{Symbol, Just, Say, EndOfText, refused};
+ghost use Rattle.step_structures.specs.declared.fault.TextFault.TheVariants.{Fault};
+ghost use Rattle.step_structures.specs.Words.{mark, located};
+ghost use Rattle.step_structures.specs.Trees;
+ghost use Rattle.step_structures.specs.Trees.{this, says};
+ghost use Rattle.step_structures.specs.Predict;
+ghost use Rattle.step_structures.specs.Predict.{Symbol, Just, Say, EndOfText, refused};
 ghost use Rattle.step_exchange.specs.Steps.{Parses, StopsIn};
 
-use crate::fault::{FaultKind, LeftOut, TextFault};
 use step_lexis::lexer::Lexer;
 use step_lexis::token::{Mark, Sort, Token};
 use step_literals::literal::Word;
+use step_structures::fault::{FaultKind, LeftOut, TextFault};
 
 /// The next token, where the text doesn't end.
 pub fn take<'a>(lexer: &mut Lexer<'a>) -> Result<Token<'a>, TextFault>

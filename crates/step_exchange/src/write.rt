@@ -1,13 +1,13 @@
 //! The normal text of an exchange structure.
 
-ghost use Rattle.std.specs.Prelude.{◌≡◌, ◌++◌, false, map, codes, is_err};
+ghost use Rattle.std.specs.Prelude.{◌≡◌, ◌++◌, false, take, drop, map, codes, is_err};
 ghost use Rattle.std.specs.Char.{is_ascii_lowercase};
 ghost use Rattle.std.specs.List.{list_any};
 ghost use Rattle.devices.specs.Prints.{Prints};
 ghost use Rattle.devices.specs.Emits.{Emits};
 ghost use Rattle.step_exchange.specs.Views.{tree_of, trees_of, record_of, form_of, row_of};
 ghost use Rattle.step_literals.specs.Words.{upper};
-ghost use Rattle.step_exchange.specs.Normal.{
+ghost use Rattle.step_structures.specs.Normal.{
   plain_name,
   plain_tree,
   plain_trees,
@@ -16,15 +16,25 @@ ghost use Rattle.step_exchange.specs.Normal.{
   plain_form,
   plain_row,
   plain_rows,
+  plain_heading,
+  plain_section,
+  plain_sections,
   normal_file,
 };
+ghost use Rattle.step_exchange.specs.Sections.{heading_of, sections_of};
 ghost use Rattle.step_exchange.specs.Exchanges.{structure, normal_text};
-ghost use Rattle.step_exchange.specs.Texts.{ReadsAs};
+ghost use Rattle.step_structures.specs.Texts.{ReadsAs};
 
-use crate::structure::{Exchange, Instances};
+use crate::section::Section;
+use crate::structure::Exchange;
 use crate::tree::{Form, Param, Record};
 use devices::device::{Sink, WriteFault};
 use devices::printer::Printer;
+use indexmap::map::Slice;
+use step_literals::literal::Text;
+
+/// Instances beside one another.
+type Rows<'r, 'a> = Slice<'r, u64, Form<'a>>;
 
 // Whether a byte of the word is a letter in lower case.
 fn has_lowercase(word: &[u8]) -> bool
@@ -164,20 +174,85 @@ fn print_row<S: Sink>(printer: &mut Printer, out: &mut S, name: u64, form: &Form
 }
 
 // A line for each instance, in order.
-fn print_rows<S: Sink>(printer: &mut Printer, out: &mut S, records: &Instances<'_>)
+fn print_rows<S: Sink>(printer: &mut Printer, out: &mut S, rows: Rows<'_, '_>)
     ensures { Prints S.held S.has_failed out.old out.new printer.old printer.new
-        (plain_rows (map row_of records.now.entries)) }
+        (plain_rows (map row_of rows.entry)) }
 {
-    for (name, form) in records.iter() {
+    for (name, form) in rows.iter() {
         print_row(printer, out, *name, form);
     }
 }
 
-/// Writes the normal text of an exchange structure: its header bytes as they stand, and then a line
-/// for each instance, in the order of the file.
+// The name of a section and that of its schema, where it says them.
+fn print_heading<S: Sink>(printer: &mut Printer, out: &mut S, heading: Option<(Text<'_>, Text<'_>)>)
+    ensures { Prints S.held S.has_failed out.old out.new printer.old printer.new
+        (plain_heading (heading_of heading.entry)) }
+{
+    if let Some((name, schema)) = heading {
+        printer.print(out, b"(");
+        printer.print(out, name.spelling());
+        printer.print(out, b",(");
+        printer.print(out, schema.spelling());
+        printer.print(out, b"))");
+    }
+}
+
+// A data section with these instances.
+fn print_section<S: Sink>(
+    printer: &mut Printer,
+    out: &mut S,
+    section: Section<'_>,
+    rows: Rows<'_, '_>,
+)
+    ensures { Prints S.held S.has_failed out.old out.new printer.old printer.new
+        (plain_section (record {
+          heading = heading_of section.entry.heading;
+          rows = map row_of rows.entry;
+        })) }
+{
+    printer.print(out, b"DATA");
+    print_heading(printer, out, section.heading);
+    printer.print(out, b";\n");
+    print_rows(printer, out, rows);
+    printer.print(out, b"ENDSEC;\n");
+}
+
+// The first so many instances, or all, and the others.
+fn cut<'r, 'a>(rows: Rows<'r, 'a>, count: usize) -> (Rows<'r, 'a>, Rows<'r, 'a>)
+    ensures front { result.0 ≡ take count rows.entry }
+    ensures back { result.1 ≡ drop count rows.entry }
+{
+    match rows.split_at_checked(count) {
+        Some(parts) => parts,
+        None => (rows, Slice::new()),
+    }
+}
+
+// Data sections, whose instances these are, one after another.
+fn print_sections<S: Sink>(
+    printer: &mut Printer,
+    out: &mut S,
+    sections: &[Section<'_>],
+    rows: Rows<'_, '_>,
+)
+    ensures { Prints S.held S.has_failed out.old out.new printer.old printer.new
+        (plain_sections (sections_of 0 sections.now (map row_of rows.entry))) }
+{
+    let mut from: u32 = 0;
+    let mut rest = rows;
+    for section in sections {
+        let (own, behind) = cut(rest, section.past.saturating_sub(from) as usize);
+        print_section(printer, out, *section, own);
+        rest = behind;
+        from = section.past;
+    }
+}
+
+/// Writes the normal text of an exchange structure: its header bytes as they stand, and then its
+/// data sections, with a line for each instance, in the order of the file.
 ///
-/// That text reads as the same header and instances, but for the case of words and the spelling of
-/// names. Where the sink fails, a front of it went out, and the fault has its length.
+/// That text reads as the same header and the same sections, with their headings and the instances
+/// of each, but for the case of words and the spelling of names. Where the sink fails, a front of it went out, and the fault has its length.
 pub fn write_plain<S: Sink>(exchange: &Exchange<'_>, out: &mut S) -> Result<(), WriteFault>
     ensures emits { Emits (S.held out.old) (S.held out.new) (normal_text exchange.now) result }
     ensures failed { S.has_failed out.old ≡ false → S.has_failed out.new ≡ is_err result }
@@ -186,8 +261,13 @@ pub fn write_plain<S: Sink>(exchange: &Exchange<'_>, out: &mut S) -> Result<(), 
 {
     let mut printer = Printer::new();
     printer.print(out, exchange.header_bytes);
-    printer.print(out, b"\nDATA;\n");
-    print_rows(&mut printer, out, &exchange.records);
-    printer.print(out, b"ENDSEC;\nEND-ISO-10303-21;\n");
+    printer.print(out, b"\n");
+    print_sections(
+        &mut printer,
+        out,
+        &exchange.sections,
+        exchange.records.as_slice(),
+    );
+    printer.print(out, b"END-ISO-10303-21;\n");
     printer.finish(out)
 }

@@ -4,9 +4,9 @@ use Rattle.std.proofs.KnownBytes.{Consumes-whole}
 use Rattle.std.specs.Io.KnownBytes.{Consumes, IsAtEnd}
 use Rattle.devices.specs.declared.device.WriteFault.{WriteFault}
 use Rattle.devices.specs.Emits.{EmitsFront}
-use Rattle.step_exchange.specs.Normal.{plain_text}
-use Rattle.step_exchange.specs.Texts.{ReadsAs}
-use Rattle.step_exchange.specs.Trees.{File}
+use Rattle.step_structures.specs.Normal.{plain_text}
+use Rattle.step_structures.specs.Texts.{ReadsAs}
+use Rattle.step_structures.specs.Trees.{File}
 use Rattle.stepmin.specs.declared.fault.Role.TheVariants as roles
 use Rattle.stepmin.specs.declared.fault.Fault.{Fault}
 use Rattle.stepmin.specs.Faults.{write_fault}
@@ -15,9 +15,9 @@ use Rattle.stepmin.specs.Plain.{HasPlain, Plain}
 -- they read as a structure
 pub gave_plain : (coming left : Option (List ℕ)) (bytes header_bytes : List ℕ) (file : File)
     → Consumes coming left bytes → IsAtEnd left → length bytes ≤ 2 ^ 40
-    → ReadsAs bytes header_bytes file → IfSome coming (HasPlain (plain_text header_bytes file.rows))
+    → ReadsAs bytes header_bytes file → IfSome coming (HasPlain (plain_text header_bytes file.sections))
 gave_plain coming left bytes header_bytes file gave end within reads =
-    Consumes-whole coming left bytes (HasPlain (plain_text header_bytes file.rows)) gave end (record {
+    Consumes-whole coming left bytes (HasPlain (plain_text header_bytes file.sections)) gave end (record {
       within = within;
       header_bytes = header_bytes;
       file = file;

@@ -1,9 +1,9 @@
 -- The program's fault for each fault below it.
 use Rattle.std.specs.Prelude.{◌^◌}
-use Rattle.step_exchange.specs.declared.fault.FaultKind.TheVariants.{LeftOut}
-use Rattle.step_exchange.specs.declared.fault.LeftOut.TheVariants.{TooLarge}
-use Rattle.step_exchange.specs.declared.fault.TextFault.{TextFault}
-use Rattle.step_exchange.specs.declared.fault.TextFault.TheVariants as texts
+use Rattle.step_structures.specs.declared.fault.FaultKind.TheVariants.{LeftOut}
+use Rattle.step_structures.specs.declared.fault.LeftOut.TheVariants.{TooLarge}
+use Rattle.step_structures.specs.declared.fault.TextFault.{TextFault}
+use Rattle.step_structures.specs.declared.fault.TextFault.TheVariants as texts
 use Rattle.devices.specs.declared.device.WriteFault.{WriteFault}
 use Rattle.stepmin.specs.declared.read.ReadFault.{ReadFault}
 use Rattle.stepmin.specs.declared.read.ReadFault.TheVariants as reads

@@ -1,7 +1,7 @@
 -- The line for each fault.
 use Rattle.std.specs.Prelude.{ℕ, List, [], ◌∷◌, ◌++◌, Bool, true, false, codes, decimal}
 use Rattle.std.specs.Bool.{if◌then◌else◌}
-use Rattle.step_exchange.specs.FaultTexts.{kind_text}
+use Rattle.step_structures.specs.FaultTexts.{kind_text}
 use Rattle.stepmin.specs.declared.fault.Role.{Role}
 use Rattle.stepmin.specs.declared.fault.Role.TheVariants.{Schema, File, Output, Certificate}
 use Rattle.stepmin.specs.declared.fault.Fault.{Fault}

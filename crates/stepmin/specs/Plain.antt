@@ -1,13 +1,13 @@
 -- What `plain` answers, and what goes out.
 use Rattle.std.specs.Prelude.{◌≡◌, ◌≤◌, ◌<◌, ◌^◌, ◌⊎◌, ℕ, List, length, Option, IfSome, Bool, true, false, Result, Ok, Err}
 use Rattle.std.specs.Io.KnownBytes.{Appends, Keeps}
-use Rattle.step_exchange.specs.declared.fault.FaultKind.{FaultKind}
-use Rattle.step_exchange.specs.declared.fault.FaultKind.TheVariants.{LeftOut}
-use Rattle.step_exchange.specs.declared.fault.LeftOut.TheVariants.{TooLarge}
+use Rattle.step_structures.specs.declared.fault.FaultKind.{FaultKind}
+use Rattle.step_structures.specs.declared.fault.FaultKind.TheVariants.{LeftOut}
+use Rattle.step_structures.specs.declared.fault.LeftOut.TheVariants.{TooLarge}
 use Rattle.devices.specs.Emits.{EmitsFront}
-use Rattle.step_exchange.specs.Normal.{plain_text}
-use Rattle.step_exchange.specs.Texts.{ReadsAs, IsFirstFault}
-use Rattle.step_exchange.specs.Trees as trees
+use Rattle.step_structures.specs.Normal.{plain_text}
+use Rattle.step_structures.specs.Texts.{ReadsAs, IsFirstFault}
+use Rattle.step_structures.specs.Trees as trees
 use Rattle.stepmin.specs.declared.fault.Role.TheVariants.{File, Output}
 use Rattle.stepmin.specs.declared.fault.Fault.{Fault}
 use Rattle.stepmin.specs.declared.fault.Fault.TheVariants.{Text, Device, Memory}
@@ -18,7 +18,7 @@ pub record HasPlain (text bytes : List ℕ) : Type 0 where
   pub header_bytes : List ℕ
   pub file : trees.File
   pub reads : ReadsAs bytes header_bytes file
-  pub text_is : text ≡ plain_text header_bytes file.rows
+  pub text_is : text ≡ plain_text header_bytes file.sections
 
 -- The bytes are more than 2^40, or this is the fault in them that shows first.
 abbrev pub HasFault : FaultKind → ℕ → List ℕ → Type 0

@@ -10,7 +10,7 @@ ghost use Rattle.stepmin.specs.declared.fault.Fault.TheVariants.{Device, Text};
 use crate::read::ReadFault;
 use devices::device::{Sink, WriteFault};
 use devices::printer::Printer;
-use step_exchange::fault::{FaultKind, LeftOut, TextFault};
+use step_structures::fault::{FaultKind, LeftOut, TextFault};
 
 /// The most bytes that a file has.
 pub const LIMIT: u64 = 1 << 40;

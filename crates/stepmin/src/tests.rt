@@ -17,7 +17,7 @@ use std::hash::RandomState;
 use std::io::{Read, Write};
 use std::test::Fail;
 use std::{fs, io};
-use step_exchange::fault::{FaultKind, LeftOut};
+use step_structures::fault::{FaultKind, LeftOut};
 
 const FILE: &str = "ISO-10303-21;\n\
     HEADER;\n\
@@ -48,6 +48,15 @@ const TYPED_TOO_DEEP: &str = "DATA;\n#1=A\
     B(1)\
     ))))))))))))))))))))))))))))))))\
     ))))))))))))))))))))))))))))))));\n";
+
+// Two data sections with headings, but for the end of the second.
+const TWO_SECTIONS: &str = "DATA('a',('GEO'));\n\
+    #1=POINT((0.));\n\
+    #2=POINT((0.));\n\
+    ENDSEC;\n\
+    DATA('b',('GEO'));\n\
+    #3=POINT((0.));\n\
+    #4=PLACEMENT(#2,$);\n";
 
 // What `--help` prints.
 const HELP: &str = "Reads STEP files (ISO 10303-21)\n\n\
@@ -240,6 +249,26 @@ fn run(
     Ok(run_in(alloc, keys, &words, &mut store, out_room, err_room))
 }
 
+// `plain` over the file with `new` for `old`.
+fn run_changed(
+    alloc: Global,
+    keys: RandomState,
+    old: &str,
+    new: &str,
+) -> Result<Ending, AllocError> {
+    let file = FILE.replace(alloc, old, new)?;
+    let words = ["stepmin", "plain", "F"];
+    run(
+        alloc,
+        keys,
+        &words,
+        file.as_str(),
+        false,
+        usize::MAX,
+        usize::MAX,
+    )
+}
+
 // The file with `new` for `old` gives the file with this text for `old`, or is refused with this line.
 #[test]
 fn a_text_is_written_or_refused(rt: HostRuntime) -> Result<(), Fail> {
@@ -376,38 +405,6 @@ fn a_text_is_written_or_refused(rt: HostRuntime) -> Result<(), Fail> {
             TYPED_TOO_DEEP,
             Err("file: E9 TooDeep at byte 193"),
         ),
-        // Sections.
-        (
-            "DATA;\n",
-            "DATA;\nENDSEC;\nDATA;\n",
-            Err("file: E8 LeftOut Sections at byte 133"),
-        ),
-        (
-            "DATA;",
-            "DATA('a',('GEO'));",
-            Err("file: E8 LeftOut Sections at byte 123"),
-        ),
-        (
-            "DATA;",
-            "ANCHOR;",
-            Err("file: E8 LeftOut Anchor at byte 119"),
-        ),
-        (
-            "DATA;",
-            "REFERENCE;",
-            Err("file: E8 LeftOut Reference at byte 119"),
-        ),
-        (
-            "DATA;",
-            "signature;",
-            Err("file: E8 LeftOut Signature at byte 119"),
-        ),
-        ("DATA;", "DATE;", Err("file: E6 Expected at byte 119")),
-        (
-            "END-ISO-10303-21;\n",
-            "",
-            Err("file: E6 Expected at byte 133"),
-        ),
         // The header.
         (
             "FILE_SCHEMA(('GEO'));\n",
@@ -445,17 +442,95 @@ fn a_text_is_written_or_refused(rt: HostRuntime) -> Result<(), Fail> {
         ),
         (FILE, "", Err("file: E6 Expected at byte 0")),
     ] {
-        let file = FILE.replace(alloc, old, new)?;
-        let words = ["stepmin", "plain", "F"];
-        let run = run(
-            alloc,
-            keys,
-            &words,
-            file.as_str(),
-            false,
-            usize::MAX,
-            usize::MAX,
-        )?;
+        let run = run_changed(alloc, keys, old, new)?;
+        let (status, out, err) = match want {
+            Ok(text) => (0, FILE.replace(alloc, old, text)?, String::new(alloc)),
+            Err(line) => (2, String::new(alloc), format!(in alloc; "{line}\n")?),
+        };
+        assert_eq!(rt; (run.status, run.out.as_slice()), (status, out.as_bytes()));
+        assert_eq!(rt; run.err.as_slice(), err.as_bytes());
+    }
+    Ok(())
+}
+
+// The same of data sections and what stands between them.
+#[test]
+fn data_sections_are_written_or_refused(rt: HostRuntime) -> Result<(), Fail> {
+    let alloc = rt.alloc();
+    let keys = RandomState::new(&rt)?;
+    for (old, new, want) in [
+        (
+            "DATA;\nENDSEC;\n",
+            "DATA;\nENDSEC;\nDATA;\n",
+            Err("file: E6 Expected at byte 139"),
+        ),
+        (
+            "DATA;\n",
+            "DATA;\nENDSEC;\nDATA;\n",
+            Ok("DATA;\nENDSEC;\nDATA;\n"),
+        ),
+        (
+            "DATA;",
+            "DATA ( 'a', /* c */ ('GEO') ) ;",
+            Ok("DATA('a',('GEO'));"),
+        ),
+        ("DATA;", "DATA('a');", Err("file: E6 Expected at byte 127")),
+        (
+            "DATA;",
+            "DATA('a','GEO');",
+            Err("file: E6 Expected at byte 128"),
+        ),
+        (
+            "DATA;",
+            "DATA('a',('GEO','GEA'));",
+            Err("file: E6 Expected at byte 134"),
+        ),
+        ("DATA;\n", TWO_SECTIONS, Ok(TWO_SECTIONS)),
+        ("DATA;", "data;", Ok("DATA;")),
+        (
+            "DATA;\n",
+            "DATA;\nENDSEC;\nREFERENCE;\n",
+            Err("file: E8 LeftOut Reference at byte 133"),
+        ),
+        (
+            "END-ISO",
+            "SIGNATURE;\nEND-ISO",
+            Err("file: E8 LeftOut Signature at byte 133"),
+        ),
+        (
+            "DATA;\n",
+            "DATA;\n#1=A();\nENDSEC;\nDATA;\n#1=A();\n",
+            Err("file: E7 DuplicateName at byte 147"),
+        ),
+        ("DATA;\nENDSEC;\n", "", Err("file: E6 Expected at byte 119")),
+        (
+            "DATA;\nENDSEC;\n",
+            "DATA;\nENDSEC;\nANCHOR;\n",
+            Err("file: E8 LeftOut Anchor at byte 133"),
+        ),
+        (
+            "DATA;",
+            "ANCHOR;",
+            Err("file: E8 LeftOut Anchor at byte 119"),
+        ),
+        (
+            "DATA;",
+            "REFERENCE;",
+            Err("file: E8 LeftOut Reference at byte 119"),
+        ),
+        (
+            "DATA;",
+            "signature;",
+            Err("file: E8 LeftOut Signature at byte 119"),
+        ),
+        ("DATA;", "DATE;", Err("file: E6 Expected at byte 119")),
+        (
+            "END-ISO-10303-21;\n",
+            "",
+            Err("file: E6 Expected at byte 133"),
+        ),
+    ] {
+        let run = run_changed(alloc, keys, old, new)?;
         let (status, out, err) = match want {
             Ok(text) => (0, FILE.replace(alloc, old, text)?, String::new(alloc)),
             Err(line) => (2, String::new(alloc), format!(in alloc; "{line}\n")?),

@@ -1,7 +1,7 @@
 use Rattle.std.proofs.Common.{sym, ap, ◌∙◌}
 use Rattle.std.proofs.lemmas.Result.{err_from_is_err_and}
-use Rattle.step_exchange.specs.Words.{token, word_of}
-use Rattle.step_exchange.specs.Predict.{Head}
+use Rattle.step_structures.specs.Words.{token, word_of}
+use Rattle.step_structures.specs.Predict.{Head}
 use Rattle.step_exchange.specs.Views.{record_of}
 use Rattle.step_exchange.proofs.Looking.{stops_refused}
 use Rattle.step_exchange.proofs.HeadSteps.{head_refused, head_fault, head_err, head_done}

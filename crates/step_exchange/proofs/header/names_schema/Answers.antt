@@ -5,9 +5,9 @@ use Rattle.step_exchange.specs.declared.tree.Param.{Param, Text, List as Listed,
 use Rattle.step_exchange.specs.declared.tree.Param.TheOpen.{Param-F}
 use Rattle.step_exchange.specs.declared.tree.Param.TheOpen as layer
 use Rattle.step_exchange.specs.declared.tree.Param.TheVariants.{rolls-List, rolls-Text}
-use Rattle.step_exchange.specs.Words.{string}
-use Rattle.step_exchange.specs.Trees.{Tree, leaf, group, Trees, none, one}
-use Rattle.step_exchange.specs.Fits.{NamesSchema}
+use Rattle.step_structures.specs.Words.{string}
+use Rattle.step_structures.specs.Trees.{Tree, leaf, group, Trees, none, one}
+use Rattle.step_structures.specs.Fits.{NamesSchema}
 use Rattle.step_exchange.specs.Views.{tree_of, tree_step, trees_of}
 use Rattle.step_exchange.proofs.header.names_schema.Goals as goal
 

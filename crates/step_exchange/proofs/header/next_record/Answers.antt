@@ -1,8 +1,8 @@
 use Rattle.std.proofs.Common.{ap}
 use Rattle.std.proofs.lemmas.Result.{err_from_is_err_and}
-use Rattle.step_exchange.specs.Words.{token, word_of}
+use Rattle.step_structures.specs.Words.{token, word_of}
 use Rattle.step_exchange.specs.Views.{trees_of}
-use Rattle.step_exchange.specs.Predict.{Records}
+use Rattle.step_structures.specs.Predict.{Records}
 use Rattle.step_exchange.proofs.Looking.{stops_refused}
 use Rattle.step_exchange.proofs.HeadSteps.{records_refused, more_err_keyed, more_err_mark, more_done, more_end, Ending, Keyed, at_none, at_some}
 use Rattle.step_exchange.proofs.header.next_record.Goals as goal

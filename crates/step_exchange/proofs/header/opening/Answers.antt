@@ -1,7 +1,7 @@
 use Rattle.std.proofs.Common.{sym, ap, ◌∙◌, ◌≡◌, map, [], ◌∷◌, ◌++◌, List, subst}
 use Rattle.std.proofs.lemmas.Result.{err_from_is_err_and}
 use Rattle.step_exchange.specs.Views.{record_of}
-use Rattle.step_exchange.specs.Trees.{Record}
+use Rattle.step_structures.specs.Trees.{Record}
 use Rattle.step_exchange.specs.Steps.{HeaderSoFar}
 use Rattle.step_exchange.proofs.HeadSteps.{opening_err_start, opening_err_first, opening_err_second, opening_err_third, opening_done}
 use Rattle.step_exchange.proofs.header.opening.Goals as goal

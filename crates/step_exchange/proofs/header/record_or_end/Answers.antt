@@ -1,7 +1,7 @@
 use Rattle.std.proofs.Common.{sym, ◌∙◌, ◌≡◌}
 use Rattle.std.proofs.lemmas.Result.{err_from_is_err_and}
 use Rattle.step_exchange.specs.Views.{trees_of}
-use Rattle.step_exchange.specs.Predict.{Ended, EndOfText}
+use Rattle.step_structures.specs.Predict.{Ended, EndOfText}
 use Rattle.step_exchange.proofs.HeadSteps.{keyed_err_params, keyed_other, keyed_err_token, keyed_err_items, keyed_refused, keyed_ended, keyed_end}
 use Rattle.step_exchange.proofs.header.record_or_end.Goals as goal
 

@@ -2,11 +2,11 @@ use Rattle.std.proofs.Common.{refl, sym, ◌∙◌, ◌≡◌, false, Bool, List
 use Rattle.std.proofs.lemmas.Bool.{false≢true}
 use Rattle.std.proofs.lemmas.Result.{err_from_is_err_and}
 use Rattle.step_lexis.specs.declared.token.Mark.TheVariants.{Semicolon}
-use Rattle.step_exchange.specs.Words.{located}
+use Rattle.step_structures.specs.Words.{located}
 use Rattle.step_exchange.specs.Views.{record_of, trees_of}
-use Rattle.step_exchange.specs.Fits.{NamesSchema}
+use Rattle.step_structures.specs.Fits.{NamesSchema}
 use Rattle.step_exchange.specs.declared.tree.Param.{Param}
-use Rattle.step_exchange.specs.Predict.{Just, EndOfText}
+use Rattle.step_structures.specs.Predict.{Just, EndOfText}
 use Rattle.step_exchange.proofs.Looking.{stops_refused, mark_refused}
 use Rattle.step_exchange.proofs.HeadSteps.{schema_err, schema_err_mark, schema_unnamed, schema_done}
 use Rattle.step_exchange.proofs.header.schema.Goals as goal

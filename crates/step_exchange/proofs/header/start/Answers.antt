@@ -1,7 +1,7 @@
 use Rattle.std.proofs.Common.{ap, ◌≡◌}
 use Rattle.std.proofs.lemmas.Result.{err_from_is_err_and}
-use Rattle.step_exchange.specs.Words.{token, word_of}
-use Rattle.step_exchange.specs.Predict.{Start, EndOfText}
+use Rattle.step_structures.specs.Words.{token, word_of}
+use Rattle.step_structures.specs.Predict.{Start, EndOfText}
 use Rattle.step_exchange.proofs.Looking.{stops_refused}
 use Rattle.step_exchange.proofs.HeadSteps.{start_refused, start_err, start_err_mark, start_err_word, start_err_last, start_done}
 use Rattle.step_exchange.proofs.header.start.Goals as goal

@@ -1,10 +1,10 @@
 use Rattle.std.proofs.Common.{rules, sym, ap, ◌∙◌, [], ◌∷◌, ◌++◌, ◌+◌, ◌≡◌, arith}
 use Rattle.std.proofs.lemmas.Result.{err_from_is_err_and}
 use Rattle.step_lexis.specs.declared.token.Mark.TheVariants.{Open}
-use Rattle.step_exchange.specs.Words.{located, token, mark, word_of}
-use Rattle.step_exchange.specs.Trees.{none, one}
+use Rattle.step_structures.specs.Words.{located, token, mark, word_of}
+use Rattle.step_structures.specs.Trees.{none, one}
 use Rattle.step_exchange.specs.Views.{tree_of, trees_of}
-use Rattle.step_exchange.specs.Predict.{Value, More, EndOfText}
+use Rattle.step_structures.specs.Predict.{Value, More, EndOfText}
 use Rattle.step_exchange.proofs.ParamSteps.{inner_err_first, inner_err_value, inner_err_close, inner_done, items_none, items_err_first, items_first, items_err_token, items_err_next, items_err_value, items_err_mark, items_next, items_done, items_smaller, trees_push, typed_err, list_err, push_tree}
 use Rattle.step_exchange.proofs.params.+params.Goals as goal
 

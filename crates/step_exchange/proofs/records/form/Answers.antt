@@ -1,9 +1,9 @@
 use Rattle.std.proofs.Common.{sym, ap, ◌∙◌, map}
 use Rattle.std.proofs.lemmas.Result.{err_from_is_err_and}
 use Rattle.step_lexis.specs.declared.token.Mark.TheVariants.{Open}
-use Rattle.step_exchange.specs.Words.{located, token, word_of}
+use Rattle.step_structures.specs.Words.{located, token, word_of}
 use Rattle.step_exchange.specs.Views.{record_of}
-use Rattle.step_exchange.specs.Predict.{Body}
+use Rattle.step_structures.specs.Predict.{Body}
 use Rattle.step_exchange.proofs.RecordSteps.{form_err_params, form_err_partials, form_internal, form_external, body_refused}
 use Rattle.step_exchange.proofs.Looking.{stops_refused, mark_met}
 use Rattle.step_exchange.proofs.records.form.Goals as goal

@@ -1,8 +1,8 @@
 use Rattle.std.proofs.Common.{sym, ap, ◌∙◌, map}
 use Rattle.std.proofs.lemmas.Result.{err_from_is_err_and}
-use Rattle.step_exchange.specs.Words.{located, token, word_of}
+use Rattle.step_structures.specs.Words.{located, token, word_of}
 use Rattle.step_exchange.specs.Views.{record_of}
-use Rattle.step_exchange.specs.Predict.{PartialRecords, refused}
+use Rattle.step_structures.specs.Predict.{PartialRecords, refused}
 use Rattle.step_exchange.specs.Steps.{keywords_of}
 use Rattle.step_exchange.proofs.Taking.{stops_taken}
 use Rattle.step_exchange.proofs.RecordSteps.{has_keyword_any, partial_refused, partial_twice, partial_err, partial_done}

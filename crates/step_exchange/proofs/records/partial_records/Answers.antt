@@ -1,10 +1,10 @@
 use Rattle.std.proofs.Common.{rules, sym, ap, ◌∙◌, ◌≡◌, map, ◌++◌, ◌∷◌, [], subst, List}
 use Rattle.std.specs.List.{list_any}
 use Rattle.step_exchange.specs.declared.tree.Record.{Record}
-use Rattle.step_exchange.specs.Words.{located}
+use Rattle.step_structures.specs.Words.{located}
 use Rattle.std.proofs.lemmas.Result.{err_from_is_err_and}
 use Rattle.step_exchange.specs.Views.{record_of}
-use Rattle.step_exchange.specs.Predict.{PartialRecords, EndOfText}
+use Rattle.step_structures.specs.Predict.{PartialRecords, EndOfText}
 use Rattle.step_exchange.specs.Steps.{StopsIn, keywords_of, further_keywords}
 use Rattle.step_exchange.proofs.RecordSteps.{Added, has_keyword_any, partials_start, partials_err_token, partials_err_partial, partials_empty, partials_next, partials_done, partials_smaller, map_push, is_none, is_some}
 use Rattle.step_exchange.proofs.Keywords.{says}

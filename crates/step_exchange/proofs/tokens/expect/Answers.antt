@@ -1,6 +1,6 @@
 use Rattle.std.proofs.Common.{sym, ◌∙◌}
-use Rattle.step_exchange.specs.Predict.{Just}
-use Rattle.step_exchange.specs.Words.{located}
+use Rattle.step_structures.specs.Predict.{Just}
+use Rattle.step_structures.specs.Words.{located}
 use Rattle.step_exchange.proofs.Looking.{mark_refused, passes_mark, stops_refused}
 use Rattle.step_exchange.proofs.tokens.expect.Goals as goal
 

@@ -1,6 +1,6 @@
 use Rattle.std.proofs.Common.{sym, ◌∙◌}
-use Rattle.step_exchange.specs.Predict.{Say}
-use Rattle.step_exchange.specs.Words.{located}
+use Rattle.step_structures.specs.Predict.{Say}
+use Rattle.step_structures.specs.Words.{located}
 use Rattle.step_exchange.proofs.Looking.{word_refused, passes_word, stops_refused}
 use Rattle.step_exchange.proofs.tokens.expect_word.Goals as goal
 

@@ -1,10 +1,10 @@
 use Rattle.std.proofs.Common.{rules, take, ◌≡◌, ◌∙◌, ◌∷◌, sym, ap}
 use Rattle.std.proofs.lemmas.List.{take_all}
 use Rattle.devices.specs.Prints.{Prints}
-use Rattle.step_exchange.specs.Trees.{typed, group}
+use Rattle.step_structures.specs.Trees.{typed, group}
 use Rattle.step_exchange.specs.Views.{tree_of, trees_of}
 use Rattle.step_literals.specs.Words.{upper}
-use Rattle.step_exchange.specs.Normal.{plain_tree, plain_trees, plain_more}
+use Rattle.step_structures.specs.Normal.{plain_tree, plain_trees, plain_more}
 use Rattle.devices.proofs.Printing.{then_print, prints_as, printing}
 use Rattle.step_exchange.proofs.Writing.{tree_typed, tree_list, prints_next, more_push}
 use Rattle.step_exchange.proofs.write.+params.Goals as goal

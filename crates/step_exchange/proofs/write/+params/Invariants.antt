@@ -1,7 +1,7 @@
 use Rattle.std.proofs.Common.{take}
 use Rattle.devices.specs.Prints.{Prints}
 use Rattle.step_exchange.specs.Views.{trees_of}
-use Rattle.step_exchange.specs.Normal.{plain_more}
+use Rattle.step_structures.specs.Normal.{plain_more}
 use Rattle.step_exchange.proofs.write.+params.Given as goal
 
 abbrev pub invariant-print_params-loop-param : goal.invariant-print_params-loop-param

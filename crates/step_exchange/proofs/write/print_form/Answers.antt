@@ -1,6 +1,6 @@
 use Rattle.std.proofs.Common.{ap, map, sym}
 use Rattle.step_exchange.specs.Views.{record_of, form_of}
-use Rattle.step_exchange.specs.Normal.{plain_form, plain_partial_records}
+use Rattle.step_structures.specs.Normal.{plain_form, plain_partial_records}
 use Rattle.devices.proofs.Printing.{then_print, prints_as}
 use Rattle.step_exchange.proofs.write.print_form.Goals as goal
 

@@ -1,6 +1,6 @@
 use Rattle.std.proofs.Common.{map}
 use Rattle.step_exchange.specs.Views.{record_of}
-use Rattle.step_exchange.specs.Normal.{plain_record, plain_partial_records}
+use Rattle.step_structures.specs.Normal.{plain_record, plain_partial_records}
 use Rattle.step_exchange.proofs.Writing.{prints_next, partial_records_push}
 use Rattle.step_exchange.proofs.write.print_partial_records.Goals as goal
 

@@ -1,7 +1,7 @@
 use Rattle.std.proofs.Common.{take, map}
 use Rattle.devices.specs.Prints.{Prints}
 use Rattle.step_exchange.specs.Views.{record_of}
-use Rattle.step_exchange.specs.Normal.{plain_partial_records}
+use Rattle.step_structures.specs.Normal.{plain_partial_records}
 use Rattle.step_exchange.proofs.write.print_partial_records.Given as goal
 
 abbrev pub invariant-loop-partial : goal.invariant-loop-partial

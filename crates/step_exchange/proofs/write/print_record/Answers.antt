@@ -1,7 +1,7 @@
 use Rattle.std.proofs.Common.{ap}
 use Rattle.step_exchange.specs.Views.{trees_of}
 use Rattle.step_literals.specs.Words.{upper}
-use Rattle.step_exchange.specs.Normal.{plain_trees}
+use Rattle.step_structures.specs.Normal.{plain_trees}
 use Rattle.devices.proofs.Printing.{then_print, prints_as}
 use Rattle.step_exchange.proofs.write.print_record.Goals as goal
 

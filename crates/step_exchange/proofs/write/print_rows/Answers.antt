@@ -1,7 +1,7 @@
 use Rattle.std.proofs.Common.{ℕ, ◌++◌, ◌∷◌, [], sym, ap, ◌∙◌, append_assoc, append-nil, map}
 use Rattle.step_exchange.specs.declared.tree.Form.{Form}
 use Rattle.step_exchange.specs.Views.{row_of}
-use Rattle.step_exchange.specs.Normal.{plain_rows}
+use Rattle.step_structures.specs.Normal.{plain_rows}
 use Rattle.devices.proofs.Printing.{then_print, prints_as, prints_nothing}
 use Rattle.step_exchange.proofs.Writing.{rows_push}
 use Rattle.step_exchange.proofs.write.print_rows.Goals as goal

@@ -1,6 +1,4 @@
-use Rattle.std.specs.Prelude.{map}
-use Rattle.step_exchange.specs.Normal.{plain_text}
-use Rattle.step_exchange.specs.Views.{file_of, row_of}
+use Rattle.step_exchange.specs.Exchanges.{structure, normal_text}
 use Rattle.stepmin.proofs.Answering.{gave_plain, cut_short}
 use Rattle.stepmin.proofs.Failing.{not_written}
 use Rattle.stepmin.proofs.plain.plain.Goals as goal
@@ -9,8 +7,8 @@ pub returns-in-Ok-write_plain-clause-plain : goal.returns-in-Ok-write_plain-clau
 returns-in-Ok-write_plain-clause-plain g c =
     let x = c.in-Ok-read_exchange.exchange in
     let reads = rw c.deref.ensures.value at c.in-Ok-read_exchange.ensures.found in (
-      plain_text x.header_bytes.now (map row_of x.records.entries),
-      gave_plain _ _ _ _ (file_of x.header.items x.records.entries) c.in-Ok.ensures.all.0 c.in-Ok.ensures.all.1
+      normal_text x,
+      gave_plain _ _ _ _ (structure x) c.in-Ok.ensures.all.0 c.in-Ok.ensures.all.1
           c.in-Ok.ensures.within reads,
       c.in-Ok-write_plain.ensures.emits,
     )
@@ -19,9 +17,9 @@ pub returns-clause-plain : goal.returns-clause-plain
 returns-clause-plain g c =
     let x = c.in-Ok-read_exchange.exchange in
     let reads = rw c.deref.ensures.value at c.in-Ok-read_exchange.ensures.found in
-    let whole = gave_plain _ _ _ _ (file_of x.header.items x.records.entries) c.in-Ok.ensures.all.0
+    let whole = gave_plain _ _ _ _ (structure x) c.in-Ok.ensures.all.0
     c.in-Ok.ensures.all.1 c.in-Ok.ensures.within reads in
-    cut_short _ _ _ (plain_text x.header_bytes.now (map row_of x.records.entries)) _ _ c.of_write.ensures whole
+    cut_short _ _ _ (normal_text x) _ _ c.of_write.ensures whole
     c.in-Err-write_plain.ensures.emits
 
 pub returns-clause-told : goal.returns-clause-told

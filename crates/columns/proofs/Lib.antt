@@ -1,0 +1,3 @@
+mod Buffers
+mod Levels
+mod Grown

@@ -1,0 +1,7 @@
+pub mod Found
+pub mod Searching
+pub mod RowLists
+pub mod Ordering
+pub mod Gathered
+pub mod Ranks
+pub mod Placed

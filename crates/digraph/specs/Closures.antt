@@ -1,0 +1,25 @@
+-- What is reached, as a graph; edges turned round; the first vertex on a cycle.
+use Rattle.std.specs.Prelude.{◌≡◌, ℕ, ◌<◌, length, eqb, ◌↔◌, Option, Some, None}
+use Rattle.std.specs.List.{IsDistinct}
+use Rattle.digraph.specs.Graphs.{Graph, has, next, Step, Reaches, IsCyclic, IsAcyclic}
+
+-- Its edges lead from each vertex to what is reached, each one time.
+pub record IsClosure (g t : Graph) : Type 0 where
+  pub same : length t ≡ length g
+  pub reached : (a b : ℕ) → Step t a b ↔ Reaches g a b
+  pub once : (a : ℕ) → IsDistinct eqb (next t a)
+
+-- Its edges are those of g, turned round.
+pub record IsReversal (g t : Graph) : Type 0 where
+  pub same : length t ≡ length g
+  pub turned : (a b : ℕ) → has (next t b) a ≡ has (next g a) b
+
+-- the first vertex with an edge to itself, if there is one
+abbrev pub IsFirstLoop : Graph → Option ℕ → Type 0
+IsFirstLoop g None = (a : ℕ) → Step g a a → ⊥
+IsFirstLoop g (Some a) = Step g a a × ((b : ℕ) → b < a → Step g b b → ⊥)
+
+-- the first vertex on a cycle, if there is one
+abbrev pub IsFirstCyclic : Graph → Option ℕ → Type 0
+IsFirstCyclic g None = IsAcyclic g
+IsFirstCyclic g (Some a) = IsCyclic g a × ((b : ℕ) → b < a → IsCyclic g b → ⊥)

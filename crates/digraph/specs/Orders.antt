@@ -1,0 +1,44 @@
+-- Topological orders, in which each vertex stands behind those that its edges lead to, and what is made along them.
+use Rattle.std.specs.Prelude.{◌≡◌, ℕ, suc, ◌<◌, true, false, List, [], ◌∷◌, ◌++◌, length, map, max, get_or, eqb, ◌⊎◌}
+use Rattle.std.specs.List.{IsDistinct, concat}
+use Rattle.digraph.specs.Graphs.{Graph, has, next, Step, Chain, LeadsToCycle}
+use Rattle.digraph.specs.Rounds.{added}
+
+-- what each vertex leads to was seen, or stands before it
+abbrev pub Follows : Graph → List ℕ → List ℕ → Type 0
+Follows g seen [] = Unit {0}
+Follows g seen (a ∷ more) = ((b : ℕ) → Step g a b → has seen b ≡ true) × Follows g (a ∷ seen) more
+
+pub record IsOrder (g : Graph) (xs : List ℕ) : Type 0 where
+  pub follows : Follows g [] xs
+  pub once : IsDistinct eqb xs
+  pub within : (a : ℕ) → has xs a ≡ true → a < length g
+
+-- .. in which no vertex is missing, but those that lead to a cycle
+pub record IsTopologicalOrder (g : Graph) (xs : List ℕ) : Type 0 where
+  pub order : IsOrder g xs
+  pub rest : (a : ℕ) → a < length g → has xs a ≡ false → LeadsToCycle g a
+
+-- a table that at each of these vertices is what F makes of its values where the edges lead
+abbrev pub Solves : {X : Type 0} → Graph → List ℕ → (ℕ → List X → X) → (ℕ → X) → Type 0
+Solves g xs F t = (a : ℕ) → has xs a ≡ true → t a ≡ F a (map t (next g a))
+
+-- the lists of where the edges lead in turn, then one's own, without repeats
+abbrev pub joined : Graph → ℕ → List (List ℕ) → List ℕ
+joined own a rows = added [] (concat rows ++ next own a)
+
+abbrev pub AreJoined : Graph → List ℕ → Graph → Graph → Type 0
+AreJoined g xs own t = Solves g xs (joined own) (next t)
+
+-- one more than the greatest of these, 0 for none
+abbrev pub above : List ℕ → ℕ
+above [] = 0
+above (r ∷ rs) = max (suc r) (above rs)
+
+abbrev pub AreRanks : Graph → List ℕ → List ℕ → Type 0
+AreRanks g xs ranks = Solves g xs (λ a rs. above rs) (λ a. get_or ranks a 0)
+
+-- the longest chain from a has r steps
+pub record IsLongest (g : Graph) (a r : ℕ) : Type 0 where
+  pub most : (ms : List ℕ) (b : ℕ) → Chain (Step g) a ms b → length ms < r
+  pub some : (r ≡ 0) ⊎ ((ms : List ℕ) × (b : ℕ) × Chain (Step g) a ms b × (suc (length ms) ≡ r))

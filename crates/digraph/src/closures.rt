@@ -1,0 +1,53 @@
+//! What is reached from each vertex, edges turned round, and the first vertex on a cycle.
+ghost use Rattle.std.specs.Prelude.{◌≡◌, ℕ, ◌<◌, ◌^◌, length, IfOk};
+ghost use Rattle.digraph.specs.Graphs.{IsGraph, graph_of};
+ghost use Rattle.digraph.specs.Closures.{IsClosure, IsReversal, IsFirstLoop};
+
+use crate::rows::{add_to_rows, empty_rows};
+use crate::search::reached;
+use std::alloc::{AllocError, Global};
+
+/// What is reached from each vertex by one edge or more, each vertex once. The graph may have
+/// cycles.
+///
+/// It takes time for the edges of all that is reached from each, and memory for the answer.
+pub fn closure(alloc: Global, edges: &[Vec<u32>]) -> Result<Vec<Vec<u32>>, AllocError>
+    requires graph { IsGraph (graph_of edges.now) }
+    requires few { length edges.now < 2 ^ 32 }
+    ensures { IfOk result (λ t. IsClosure (graph_of edges.now) (graph_of t.items)) }
+{
+    let mut marks = vec![in alloc; false; edges.len()]?;
+    let mut rows = Vec::new(alloc);
+    for from in 0..edges.len() {
+        let row = reached(alloc, edges, &mut marks, from as u32)?;
+        rows.push(row)?;
+    }
+    Ok(rows)
+}
+
+/// The edges turned round: for each vertex those whose edges lead to it.
+pub fn reversal(alloc: Global, edges: &[Vec<u32>]) -> Result<Vec<Vec<u32>>, AllocError>
+    requires graph { IsGraph (graph_of edges.now) }
+    requires few { length edges.now < 2 ^ 32 }
+    ensures { IfOk result (λ t. IsReversal (graph_of edges.now) (graph_of t.items)) }
+{
+    let mut rows = empty_rows(alloc, edges.len())?;
+    for from in 0..edges.len() {
+        add_to_rows(&mut rows, &edges[from], from as u32)?;
+    }
+    Ok(rows)
+}
+
+/// The first vertex with an edge to itself. In a closure that is the first on a cycle.
+pub fn first_loop(edges: &[Vec<u32>]) -> Option<u32>
+    requires few { length edges.now < 2 ^ 32 }
+    ensures { IsFirstLoop (graph_of edges.now) result }
+{
+    for a in 0..edges.len() {
+        let row = &edges[a];
+        if row.contains(&(a as u32)) {
+            return Some(a as u32);
+        }
+    }
+    None
+}

@@ -1,0 +1,43 @@
+//! Ranks: the longest chains of edges.
+ghost use Rattle.std.specs.Prelude.{◌≡◌, ℕ, ◌+◌, ◌<◌, ◌^◌, map, length, get_or, IfOk, All, max};
+ghost use Rattle.digraph.specs.Graphs.{IsGraph, graph_of};
+ghost use Rattle.digraph.specs.Orders.{IsOrder, above, AreRanks};
+
+use std::alloc::{AllocError, Global};
+
+fn greater(a: u32, b: u32) -> u32
+    ensures { result ≡ max a b }
+{
+    if a < b { b } else { a }
+}
+
+/// One more than the greatest rank of these, 0 for none.
+fn rank_above(ranks: &[u32], after: &[u32]) -> u32
+    requires within { All (λ b. b < length ranks.now) after.now }
+    requires room { All (λ r. r + 1 < 2 ^ 32) ranks.now }
+    ensures { result ≡ above (map (λ b. get_or ranks.now b 0) after.now) }
+{
+    let mut rank: u32 = 0;
+    for b in after {
+        let other = ranks[*b as usize];
+        rank = greater(other + 1, rank);
+    }
+    rank
+}
+
+/// The rank of each vertex of an order: how many edges the longest chain from it has. Nothing is
+/// said of the ranks of other vertices.
+pub fn ranks(alloc: Global, edges: &[Vec<u32>], order: &[u32]) -> Result<Vec<u32>, AllocError>
+    requires graph { IsGraph (graph_of edges.now) }
+    requires order { IsOrder (graph_of edges.now) order.now }
+    requires few { length order.now < 2 ^ 32 }
+    ensures length { IfOk result (λ t. length t.items ≡ length edges.now) }
+    ensures ranks { IfOk result (λ t. AreRanks (graph_of edges.now) order.now t.items) }
+{
+    let mut ranks = vec![in alloc; 0; edges.len()]?;
+    for a in order {
+        let rank = rank_above(&ranks, &edges[*a as usize]);
+        ranks[*a as usize] = rank;
+    }
+    Ok(ranks)
+}

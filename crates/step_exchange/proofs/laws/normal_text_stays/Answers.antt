@@ -1,5 +1,0 @@
-use Rattle.step_exchange.proofs.NormalLemmas.{normal_stays}
-use Rattle.step_exchange.proofs.laws.normal_text_stays.Goals as goal
-
-pub returns : goal.returns
-returns c = normal_stays

@@ -1,0 +1,28 @@
+-- The data sections that a program's values are.
+use Rattle.std.specs.Prelude.{◌≡◌, ℕ, ◌-◌, ◌≤◌, List, [], ◌∷◌, Option, Some, None, take, drop, map}
+use Rattle.step_literals.specs.declared.literal.Text.{Text}
+use Rattle.step_exchange.specs.declared.section.Section.{Section}
+use Rattle.step_exchange.specs.declared.tree.Record.{Record}
+use Rattle.step_structures.specs.Trees.{Row, File}
+use Rattle.step_structures.specs.Trees as trees
+use Rattle.step_exchange.specs.Views.{record_of}
+
+-- a section's name and that of its schema
+abbrev pub heading_of : Option (Text × Text) → Option (List ℕ × List ℕ)
+heading_of None = None
+heading_of (Some h) = Some (h.0.text.now, h.1.text.now)
+
+-- these instances cut into sections, behind so many that stand in the sections before
+abbrev pub sections_of : ℕ → List Section → List Row → List trees.Section
+sections_of from [] rows = []
+sections_of from (s ∷ ss) rows = record { heading = heading_of s.heading; rows = take (s.past - from) rows }
+    ∷ sections_of s.past ss (drop (s.past - from) rows)
+
+-- the counts rise from section to section, up to that of all instances
+abbrev pub CountsTo : ℕ → List Section → ℕ → Type 0
+CountsTo from [] n = from ≡ n
+CountsTo from (s ∷ ss) n = (from ≤ s.past) × CountsTo s.past ss n
+
+-- the structure that a header's records and sections with these instances are
+abbrev pub file_of : List Record → List Section → List Row → File
+file_of header sections rows = record { header = map record_of header; sections = sections_of 0 sections rows }
