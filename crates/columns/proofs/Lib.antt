@@ -1,3 +1,3 @@
 mod Buffers
 mod Levels
-mod Grown
+pub mod Grown

@@ -5,7 +5,7 @@ use Rattle.std.proofs.lemmas.Bool.Decides.{nat_tests}
 use Rattle.std.proofs.lemmas.List.{length-map}
 use Rattle.std.proofs.lemmas.List.Folds.{list_any-append}
 use Rattle.digraph.specs.Graphs.{Graph, has, next, Step, StaysBelow}
-use Rattle.digraph.specs.Orders.{Follows, IsOrder, Solves}
+use Rattle.digraph.specs.Orders.{Follows, IsOrder, IsElsewhere, Solves}
 use Rattle.digraph.specs.Rounds.{added}
 use Rattle.digraph.proofs.Found.{has-more, has-added, at-member, taken}
 use Rattle.digraph.proofs.RowLists.{next-written, next-unwritten}
@@ -76,6 +76,30 @@ solves-next {X} g F t u order i x f lt at done made others b m = which (either (
     which (inr new) =
         let same : b ≡ x = grind (arith, nat_tests) in
         subst (λ (y : ℕ). u y ≡ F y (map u (next g y))) (sym same) (made ∙ anew x (λ c e. follows-at g [] order i 0 f lt c (subst (λ (y : ℕ). Step g y c) at e)))
+
+-- one vertex more is done, and the others have what they had
+pub elsewhere-next : {X : Type 0} (t u : ℕ → X) (d : X) (order : List ℕ) (i x : ℕ) → i < length order
+    → x ≡ get_or order i 0 → IsElsewhere (take i order) d t → ((b : ℕ) → (b ≡ x → ⊥) → u b ≡ t b)
+    → IsElsewhere (take (i + 1) order) d u
+elsewhere-next t u d order i x lt at bare others b out =
+    others b (λ (same : b ≡ x). (let here : eqb b x ≡ true = grind (arith, nat_tests) in absurd (none-of here))) ∙ bare b (left-out (has (take i order) b) (eqb b x) split)
+  where
+    more : take (i + 1) order ≡ take i order ++ x ∷ []
+    more = taken order i lt ∙ ap (λ (y : ℕ). take i order ++ y ∷ []) (sym at)
+
+    split : (has (take i order) b || eqb b x) ≡ false
+    split = sym (has-more (take i order) x b) ∙ ap (λ (xs : List ℕ). has xs b) (sym more) ∙ out
+
+    left-out : (p q : Bool) → (p || q) ≡ false → p ≡ false
+    left-out true q e = absurd (cc)
+    left-out false q e = refl
+
+    right-out : (p q : Bool) → (p || q) ≡ false → q ≡ false
+    right-out true q e = absurd (cc)
+    right-out false q e = e
+
+    none-of : eqb b x ≡ true → ⊥
+    none-of here = let other = right-out (has (take i order) b) (eqb b x) split in cc
 
 pub solves-none : {X : Type 0} (g : Graph) (F : ℕ → List X → X) (t : ℕ → X) → Solves g [] F t
 solves-none g F t a m = absurd (cc)

@@ -23,6 +23,10 @@ pub record IsTopologicalOrder (g : Graph) (xs : List ℕ) : Type 0 where
 abbrev pub Solves : {X : Type 0} → Graph → List ℕ → (ℕ → List X → X) → (ℕ → X) → Type 0
 Solves g xs F t = (a : ℕ) → has xs a ≡ true → t a ≡ F a (map t (next g a))
 
+-- a table that has d wherever none of these vertices is
+abbrev pub IsElsewhere : {X : Type 0} → List ℕ → X → (ℕ → X) → Type 0
+IsElsewhere xs d t = (a : ℕ) → has xs a ≡ false → t a ≡ d
+
 -- the lists of where the edges lead in turn, then one's own, without repeats
 abbrev pub joined : Graph → ℕ → List (List ℕ) → List ℕ
 joined own a rows = added [] (concat rows ++ next own a)

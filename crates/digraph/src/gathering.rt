@@ -2,7 +2,7 @@
 ghost use Rattle.std.specs.Prelude.{◌≡◌, ℕ, ◌<◌, ◌++◌, [], All, map, length, IfOk, OnOk};
 ghost use Rattle.std.specs.List.{concat};
 ghost use Rattle.digraph.specs.Graphs.{IsGraph, StaysBelow, next, graph_of};
-ghost use Rattle.digraph.specs.Orders.{IsOrder, AreJoined};
+ghost use Rattle.digraph.specs.Orders.{IsOrder, IsElsewhere, AreJoined};
 ghost use Rattle.digraph.specs.Rounds.{added, AreMarks};
 
 use crate::rows::{add_new, empty_rows, unmark};
@@ -50,6 +50,7 @@ fn gather_all(
     ensures length { IfOk result (λ t. length t.items ≡ length edges.now) }
     ensures joined { IfOk result (λ t. AreJoined (graph_of edges.now) order.now (graph_of own.now)
         (graph_of t.items)) }
+    ensures others { IfOk result (λ t. IsElsewhere order.now [] (next (graph_of t.items))) }
 {
     let mut table = empty_rows(alloc, edges.len())?;
     for a in order {
@@ -60,7 +61,7 @@ fn gather_all(
 }
 
 /// For each vertex of an order: the lists of where its edges lead in turn, then its own, without
-/// what comes again. Nothing is said of the lists of other vertices.
+/// what comes again. The list of another vertex is empty.
 ///
 /// The lists have numbers below `count`. It takes time for all that is joined: for each edge the
 /// list that it leads to.
@@ -78,6 +79,7 @@ pub fn tables(
     ensures length { IfOk result (λ t. length t.items ≡ length edges.now) }
     ensures joined { IfOk result (λ t. AreJoined (graph_of edges.now) order.now (graph_of own.now)
         (graph_of t.items)) }
+    ensures others { IfOk result (λ t. IsElsewhere order.now [] (next (graph_of t.items))) }
 {
     let mut marks = vec![in alloc; false; count]?;
     gather_all(alloc, edges, order, own, &mut marks)

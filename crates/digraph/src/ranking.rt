@@ -1,7 +1,7 @@
 //! Ranks: the longest chains of edges.
 ghost use Rattle.std.specs.Prelude.{◌≡◌, ℕ, ◌+◌, ◌<◌, ◌^◌, map, length, get_or, IfOk, All, max};
 ghost use Rattle.digraph.specs.Graphs.{IsGraph, graph_of};
-ghost use Rattle.digraph.specs.Orders.{IsOrder, above, AreRanks};
+ghost use Rattle.digraph.specs.Orders.{IsOrder, IsElsewhere, above, AreRanks};
 
 use std::alloc::{AllocError, Global};
 
@@ -25,14 +25,15 @@ fn rank_above(ranks: &[u32], after: &[u32]) -> u32
     rank
 }
 
-/// The rank of each vertex of an order: how many edges the longest chain from it has. Nothing is
-/// said of the ranks of other vertices.
+/// The rank of each vertex of an order: how many edges the longest chain from it has. That of
+/// another vertex is 0.
 pub fn ranks(alloc: Global, edges: &[Vec<u32>], order: &[u32]) -> Result<Vec<u32>, AllocError>
     requires graph { IsGraph (graph_of edges.now) }
     requires order { IsOrder (graph_of edges.now) order.now }
     requires few { length order.now < 2 ^ 32 }
     ensures length { IfOk result (λ t. length t.items ≡ length edges.now) }
     ensures ranks { IfOk result (λ t. AreRanks (graph_of edges.now) order.now t.items) }
+    ensures others { IfOk result (λ t. IsElsewhere order.now 0 (λ a. get_or t.items a 0)) }
 {
     let mut ranks = vec![in alloc; 0; edges.len()]?;
     for a in order {

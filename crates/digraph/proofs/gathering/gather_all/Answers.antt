@@ -1,9 +1,9 @@
-use Rattle.std.proofs.Common.{◌≡◌, ◌<◌, length, arith, map, get_or, set, sym, ◌∙◌, ap, refl}
+use Rattle.std.proofs.Common.{◌≡◌, ◌<◌, length, arith, map, get_or, set, sym, ◌∙◌, ap, refl, []}
 use Rattle.std.proofs.lemmas.List.{length-set}
 use Rattle.digraph.specs.Graphs.{next}
 use Rattle.digraph.specs.Orders.{joined}
 use Rattle.digraph.proofs.RowLists.{row-is, row-within, row-stays, next-written, next-unwritten}
-use Rattle.digraph.proofs.Gathered.{order-inside, solves-next, joined-so, joined-below}
+use Rattle.digraph.proofs.Gathered.{order-inside, solves-next, joined-so, joined-below, elsewhere-next}
 use Rattle.digraph.proofs.gathering.gather_all.Goals as goal
 
 pub bounds-edges-a : goal.bounds-edges-a
@@ -46,6 +46,7 @@ loop-a-preserved c =
     record {
       long = length-set c.loop-a.table.items x c.in_ok-row.row ∙ long;
       done = solves-next (map (λ v. v.items) c.args.edges.now) (joined (map (λ v. v.items) c.args.own.now)) (next (map (λ v. v.items) c.loop-a.table.items)) (next (map (λ v. v.items) (set c.loop-a.table.items x c.in_ok-row.row))) c.args.order.now c.loop-a.a-index x c.requires.order.follows here refl c.loop-a.invariant.done (written ∙ made) (λ b ne. next-unwritten (λ v. v.items) c.loop-a.table.items x c.in_ok-row.row b ne);
+      others = elsewhere-next (next (map (λ v. v.items) c.loop-a.table.items)) (next (map (λ v. v.items) (set c.loop-a.table.items x c.in_ok-row.row))) [] c.args.order.now c.loop-a.a-index x here refl c.loop-a.invariant.others (λ b ne. next-unwritten (λ v. v.items) c.loop-a.table.items x c.in_ok-row.row b ne);
       below = joined-below (λ v. v.items) c.loop-a.table.items c.args.own.now x c.in_ok-row.row (next (map (λ v. v.items) c.args.edges.now) x) (length c.args.marks.now) (length c.loop-a.marks) (length c.gather.new.marks) c.loop-a.invariant.below c.requires.below (sym c.loop-a.invariant.marks) c.in_ok-row.ensures.length (omega (arith, lt, long)) made;
       clean = c.in_ok-row.ensures.clean;
       marks = c.in_ok-row.ensures.length ∙ c.loop-a.invariant.marks;

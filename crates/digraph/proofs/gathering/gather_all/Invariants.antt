@@ -1,6 +1,6 @@
 use Rattle.std.proofs.Common.{◌≡◌, [], map, take, length}
 use Rattle.digraph.specs.Graphs.{next, StaysBelow}
-use Rattle.digraph.specs.Orders.{Solves, joined}
+use Rattle.digraph.specs.Orders.{Solves, IsElsewhere, joined}
 use Rattle.digraph.specs.Rounds.{AreMarks}
 use Rattle.digraph.proofs.gathering.gather_all.Given as goal
 
@@ -9,6 +9,7 @@ invariant-loop-a l =
     record {
       long : length l.table.items ≡ length l.edges;
       done : Solves (map (λ v. v.items) l.edges) (take l.a-index l.order) (joined (map (λ v. v.items) l.own)) (next (map (λ v. v.items) l.table.items));
+      others : IsElsewhere (take l.a-index l.order) [] (next (map (λ v. v.items) l.table.items));
       below : StaysBelow (length l.marks) (map (λ v. v.items) l.table.items);
       clean : AreMarks l.marks [];
       marks : length l.marks ≡ length l.fn.marks;

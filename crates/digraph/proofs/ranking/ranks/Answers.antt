@@ -1,7 +1,7 @@
-use Rattle.std.proofs.Common.{◌≡◌, ◌<◌, ◌≤◌, ◌+◌, ◌∙◌, length, map, get_or, ap, refl, arith}
+use Rattle.std.proofs.Common.{◌≡◌, ◌<◌, ◌≤◌, ◌+◌, ◌∙◌, length, map, get_or, set, ap, refl, arith}
 use Rattle.std.proofs.lemmas.List.{length-set}
 use Rattle.digraph.specs.Orders.{above}
-use Rattle.digraph.proofs.Gathered.{order-inside}
+use Rattle.digraph.proofs.Gathered.{order-inside, elsewhere-next, set-elsewhere}
 use Rattle.digraph.proofs.Ranks.{above-bounded, low-next, ranks-next}
 use Rattle.digraph.proofs.RowLists.{row-is, row-within}
 use Rattle.digraph.proofs.ranking.ranks.Goals as goal
@@ -37,5 +37,6 @@ loop-a-preserved c =
     record {
       long = length-set c.loop-a.ranks.items x c.rank_above-rank.result ∙ long;
       done = ranks-next (map (λ v. v.items) c.args.edges.now) c.args.order.now c.loop-a.ranks.items c.deref.result.now c.deref-in-loop-a.result.now c.loop-a.a-index x c.rank_above-rank.result c.requires.order.follows here refl (omega (arith, lt, long)) c.loop-a.invariant.done is same edge;
+      others = elsewhere-next (λ b. get_or c.loop-a.ranks.items b 0) (λ b. get_or (set c.loop-a.ranks.items x c.rank_above-rank.result) b 0) 0 c.args.order.now c.loop-a.a-index x here refl c.loop-a.invariant.others (λ b ne. set-elsewhere c.loop-a.ranks.items x c.rank_above-rank.result b 0 ne);
       low = low-next c.loop-a.ranks.items x c.rank_above-rank.result c.loop-a.a-index c.loop-a.invariant.low (omega (arith, is, bound, turn));
     }

@@ -1,5 +1,5 @@
 use Rattle.std.proofs.Common.{◌≡◌, ℕ, ◌≤◌, map, take, length, get_or}
-use Rattle.digraph.specs.Orders.{Solves, above}
+use Rattle.digraph.specs.Orders.{Solves, IsElsewhere, above}
 use Rattle.digraph.proofs.ranking.ranks.Given as goal
 
 abbrev pub invariant-loop-a : goal.invariant-loop-a
@@ -7,5 +7,6 @@ invariant-loop-a l =
     record {
       long : length l.ranks.items ≡ length l.edges;
       done : Solves (map (λ v. v.items) l.edges) (take l.a-index l.order) (λ a rs. above rs) (λ b. get_or l.ranks.items b 0);
+      others : IsElsewhere (take l.a-index l.order) 0 (λ b. get_or l.ranks.items b 0);
       low : (b : ℕ) → get_or l.ranks.items b 0 ≤ l.a-index;
     }

@@ -1,0 +1,9 @@
+pub mod Taking
+pub mod Looking
+pub mod ParamSteps
+pub mod Pushing
+pub mod Keywords
+pub mod RecordSteps
+pub mod Recording
+pub mod RowSteps
+pub mod Instancing

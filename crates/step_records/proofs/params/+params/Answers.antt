@@ -1,0 +1,119 @@
+use Rattle.std.proofs.Common.{sym, ap, ◌∙◌, ◌+◌, ◌≡◌}
+use Rattle.std.proofs.lemmas.Result.{err_from_is_err_and}
+use Rattle.step_structures.specs.Words.{token}
+use Rattle.step_structures.specs.Predict.{Value, More, EndOfText}
+use Rattle.step_parameters.specs.Cells.{all_of}
+use Rattle.step_records.specs.Readers.{reading}
+use Rattle.step_records.proofs.ParamSteps.{inner_err_first, inner_err_value, inner_err_close, items_err_first, items_err_token, items_err_next, items_err_value, items_err_mark, items_smaller, typed_err}
+use Rattle.step_records.proofs.Pushing.{items_empty, items_begin, items_go_on, items_end, inner_whole, typed_whole, keyword_leaf}
+use Rattle.step_records.proofs.params.+params.Goals as goal
+
+pub inner-returns-in_err-first : goal.inner-returns-in_err-first
+inner-returns-in_err-first t c =
+    let p = err_from_is_err_and c.from_residual-in_err-first.result c.from_residual-in_err-first.ensures.1 in
+    rw (p.1, p.2) (inner_err_first _ c.args.depth (reading c.args.reader.now) (reading c.expect.new.reader)
+    c.in_ok-expect.ensures.1 (c.in_err-first.ensures (Value (c.args.depth + 1))
+    (λ (e : Value (c.args.depth + 1) ≡ EndOfText). cc)))
+
+pub inner-returns-in_err-value : goal.inner-returns-in_err-value
+inner-returns-in_err-value t c =
+    let p = err_from_is_err_and c.from_residual-in_err-value.result c.from_residual-in_err-value.ensures.1 in
+    rw (p.1, p.2) (inner_err_value _ c.args.depth (reading c.args.reader.now) (reading c.expect.new.reader)
+    c.in_ok-first.first (reading c.take.new.reader) c.in_ok-expect.ensures.1 c.in_ok-first.ensures.0
+    c.in_err-value.ensures)
+
+pub inner-returns-in_err-expect-2 : goal.inner-returns-in_err-expect-2
+inner-returns-in_err-expect-2 t c =
+    let p = err_from_is_err_and c.from_residual-in_err-expect-2.result c.from_residual-in_err-expect-2.ensures.1 in
+    let v = c.in_ok-value.ensures in
+    rw (p.1, p.2) (inner_err_close _ c.args.depth (reading c.args.reader.now) (reading c.expect.new.reader)
+    c.in_ok-first.first (reading c.take.new.reader) v.tree (reading c.value.new.reader) c.in_ok-expect.ensures.1
+    c.in_ok-first.ensures.0 (v.fits, v.passes) c.in_err-expect-2.ensures)
+
+pub inner-returns : goal.inner-returns
+inner-returns t c = inner_whole c.args.depth c.args.reader.now c.expect.new.reader c.take.new.reader
+    c.value.new.reader c.expect-2.new.reader c.in_ok-first.first c.in_ok-expect.ensures.0 c.in_ok-expect.ensures.1
+    c.in_ok-first.ensures.0 c.in_ok-first.ensures.1 c.in_ok-value.ensures c.in_ok-expect-2.ensures.0
+    c.in_ok-expect-2.ensures.1
+
+pub items-returns-then-is_mark : goal.items-returns-then-is_mark
+items-returns-then-is_mark t c = items_empty c.args.depth c.args.reader.now c.take.new.reader c.in_ok-first.first
+    c.in_ok-first.ensures.0 c.in_ok-first.ensures.1 (sym c.is_mark.ensures ∙ c.if-is_mark.true)
+
+pub items-returns-in_err-value : goal.items-returns-in_err-value
+items-returns-in_err-value t c =
+    let p = err_from_is_err_and c.from_residual-in_err-value.result c.from_residual-in_err-value.ensures.1 in
+    rw (p.1, p.2) (items_err_first _ c.args.depth c.in_ok-first.first (reading c.args.reader.now)
+    (reading c.take.new.reader) c.in_ok-first.ensures.0 (sym c.is_mark.ensures ∙ c.if-is_mark.false)
+    c.in_err-value.ensures)
+
+pub items-loop-token-init : goal.items-loop-token-init
+items-loop-token-init t c = items_begin c.args.depth c.args.reader.now c.take.new.reader c.value.new.reader
+    c.in_ok-first.first c.in_ok-first.ensures.0 c.in_ok-first.ensures.1
+    (sym c.is_mark.ensures ∙ c.if-is_mark.false) c.in_ok-value.ensures
+
+pub items-returns-in_err-token : goal.items-returns-in_err-token
+items-returns-in_err-token t c =
+    let p = err_from_is_err_and c.from_residual-in_err-token.result c.from_residual-in_err-token.ensures.1 in
+    let s = c.loop-token.invariant in
+    rw (p.1, p.2) (items_err_token _ c.args.depth (reading c.args.reader.now) (all_of s.trees)
+    (reading c.loop-token.reader) s.so (c.in_err-token.ensures (More c.args.depth)
+    (λ (e : More c.args.depth ≡ EndOfText). cc)))
+
+pub items-returns-then-is_mark-2 : goal.items-returns-then-is_mark-2
+items-returns-then-is_mark-2 t c = items_end c.args.depth c.args.reader.now c.loop-token.reader
+    c.take-in-loop-token.new.reader c.in_ok-token.token c.loop-token.invariant c.in_ok-token.ensures.0
+    c.in_ok-token.ensures.1 (sym c.is_mark-in-loop-token.ensures ∙ c.if-is_mark-2.true)
+
+pub items-returns-then-not-is_mark : goal.items-returns-then-not-is_mark
+items-returns-then-not-is_mark t c =
+    let s = c.loop-token.invariant in
+    items_err_mark c.refuse.result c.args.depth (reading c.args.reader.now) (all_of s.trees)
+    (reading c.loop-token.reader) c.in_ok-token.token (reading c.take-in-loop-token.new.reader) s.so
+    c.in_ok-token.ensures.0 (sym c.is_mark-in-loop-token.ensures ∙ c.if-is_mark-2.false)
+    (sym c.is_mark-in-loop-token-2.ensures ∙ c.if-not-is_mark.true) c.refuse.ensures
+
+pub items-returns-in_err-start : goal.items-returns-in_err-start
+items-returns-in_err-start t c =
+    let p = err_from_is_err_and c.from_residual-in_err-start.result c.from_residual-in_err-start.ensures.1 in
+    let s = c.loop-token.invariant in
+    rw (p.1, p.2) (items_err_next _ c.args.depth (reading c.args.reader.now) (all_of s.trees)
+    (reading c.loop-token.reader) c.in_ok-token.token (reading c.take-in-loop-token.new.reader) s.so
+    c.in_ok-token.ensures.0 (sym c.is_mark-in-loop-token-2.ensures ∙ c.if-not-is_mark.false)
+    (c.in_err-start.ensures (Value c.args.depth) (λ (e : Value c.args.depth ≡ EndOfText). cc)))
+
+pub items-returns-in_err-value-2 : goal.items-returns-in_err-value-2
+items-returns-in_err-value-2 t c =
+    let p = err_from_is_err_and c.from_residual-in_err-value-2.result c.from_residual-in_err-value-2.ensures.1 in
+    let s = c.loop-token.invariant in
+    rw (p.1, p.2) (items_err_value _ c.args.depth (reading c.args.reader.now) (all_of s.trees)
+    (reading c.loop-token.reader) c.in_ok-token.token (reading c.take-in-loop-token.new.reader) c.in_ok-start.start
+    (reading c.take-in-loop-token-2.new.reader) s.so c.in_ok-token.ensures.0
+    (sym c.is_mark-in-loop-token-2.ensures ∙ c.if-not-is_mark.false) c.in_ok-start.ensures.0
+    c.in_err-value-2.ensures)
+
+pub items-loop-token-smaller : goal.items-loop-token-smaller
+items-loop-token-smaller t c =
+    let v = c.in_ok-value-2.ensures in
+    items_smaller (reading c.loop-token.reader) c.in_ok-token.token (reading c.take-in-loop-token.new.reader)
+    c.in_ok-start.start (reading c.take-in-loop-token-2.new.reader) c.args.depth v.tree
+    (reading c.value-in-loop-token.new.reader) c.in_ok-token.ensures.0 c.in_ok-start.ensures.0 (v.fits, v.passes)
+
+pub items-loop-token-preserved : goal.items-loop-token-preserved
+items-loop-token-preserved t c = items_go_on c.args.depth c.args.reader.now c.loop-token.reader
+    c.take-in-loop-token.new.reader c.take-in-loop-token-2.new.reader c.value-in-loop-token.new.reader
+    c.in_ok-token.token c.in_ok-start.start c.loop-token.invariant c.in_ok-token.ensures.0 c.in_ok-token.ensures.1
+    (sym c.is_mark-in-loop-token-2.ensures ∙ c.if-not-is_mark.false) c.in_ok-start.ensures.0 c.in_ok-start.ensures.1
+    c.in_ok-value-2.ensures
+
+pub typed-returns-in_err-inner : goal.typed-returns-in_err-inner
+typed-returns-in_err-inner t c =
+    let p = err_from_is_err_and c.from_residual-in_err-inner.result c.from_residual-in_err-inner.ensures.1 in
+    let key = keyword_leaf c.args.first.sort c.args.first.text.now c.requires.keyword in
+    rw (p.1, p.2) (typed_err _ c.args.depth c.args.first key.0 (reading c.args.reader.now) c.requires.depth
+    (ap token key.1) (rw (← ap reading c.in_ok-push_leaf.ensures) c.in_err-inner.ensures))
+
+pub typed-returns : goal.typed-returns
+typed-returns t c = typed_whole c.args.depth c.args.first c.pending_len-mark.result c.args.reader.now
+    c.push_leaf.new.self c.inner.new.reader c.close_typed.new.self c.requires.depth c.requires.keyword
+    c.pending_len-mark.ensures c.in_ok-push_leaf.ensures c.in_ok-inner.ensures c.in_ok-close_typed.ensures

@@ -1,0 +1,26 @@
+use Rattle.std.proofs.Common.{◌+◌, ◌*◌, ◌-◌, length}
+use Rattle.step_lexis.specs.Reading.{left}
+use Rattle.step_records.specs.Readers.{reading}
+use Rattle.step_records.proofs.Pushing.{ItemsSoFar}
+use Rattle.step_records.proofs.params.+params.Given as goal
+
+abbrev pub decreases-items : goal.decreases-items
+decreases-items l = 5 * (64 - l.depth) + 4
+
+abbrev pub decreases-value : goal.decreases-value
+decreases-value l = 5 * (64 - l.depth) + 3
+
+abbrev pub decreases-typed : goal.decreases-typed
+decreases-typed l = 5 * (64 - l.depth) + 2
+
+abbrev pub decreases-list : goal.decreases-list
+decreases-list l = 5 * (64 - l.depth) + 1
+
+abbrev pub decreases-inner : goal.decreases-inner
+decreases-inner l = 5 * (64 - l.depth) + 1
+
+abbrev pub invariant-items-loop-token : goal.invariant-items-loop-token
+invariant-items-loop-token l = ItemsSoFar l.depth l.fn.reader l.reader
+
+abbrev pub decreases-items-loop-token : goal.decreases-items-loop-token
+decreases-items-loop-token l = length (left (reading l.reader))

@@ -1,0 +1,4 @@
+pub mod Readers
+pub mod Steps
+pub mod Records
+pub mod Instances

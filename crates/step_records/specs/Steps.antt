@@ -1,0 +1,87 @@
+-- Reading parameters, records and instances by the table, from one place to another.
+use Rattle.std.specs.Prelude.{◌≡◌, ℕ, ◌+◌, List, [], ◌∷◌, ◌++◌, Option, Some, None, Result}
+use Rattle.predictive.specs.Lexers as lexers
+use Rattle.predictive.specs.Steps as steps
+use Rattle.step_lexis.specs.declared.token.Mark.TheVariants.{Open, Close}
+use Rattle.step_lexis.specs.Reading.{Reading}
+use Rattle.step_parameters.specs.Cells.{all_of}
+use Rattle.step_records.specs.Readers.{Progress, reading}
+use Rattle.step_structures.specs.declared.fault.FaultKind.{FaultKind}
+use Rattle.step_structures.specs.declared.fault.TextFault.{TextFault}
+use Rattle.step_structures.specs.declared.fault.TextFault.TheVariants as faults
+use Rattle.step_structures.specs.Words.{mark, LocatedToken, Shows}
+use Rattle.step_structures.specs.Trees.{Tree, Item, this, MeetAll, items_of_tree, items_of_list}
+use Rattle.step_structures.specs.Fits.{the_rules, FitsTree, FitsTrees}
+use Rattle.step_structures.specs.Predict.{Symbol, Just, Value, Items, table, params_symbols}
+
+-- a fault's kind and place; where memory ran out there is none
+abbrev pub fault_at : TextFault → Option (FaultKind × ℕ)
+fault_at faults.Memory = None
+fault_at (faults.Fault kind place) = Some (kind, place)
+
+-- what was to come first, or first behind these, isn't there: a fault whatever follows it
+abbrev pub StopsIn : TextFault → List Symbol → List LocatedToken → Reading → Type 0
+StopsIn e ys before old = lexers.StopsIn table Shows (fault_at e) ys before old
+
+-- what the items ask for, of which some is taken already, stands from one place to another, and turns what is to
+-- come into something else
+abbrev pub Passes : List Symbol → List Symbol → List LocatedToken → List Item → Reading → Reading → Type 0
+Passes ys zs before items old new = steps.Passes table Shows MeetAll ys zs before items old new
+
+-- A parser of these symbols: what it gives stands from one place to another, and is what the symbols derive. Where it
+-- gives nothing, what the symbols want isn't there.
+abbrev pub Parses : {A : Type 0} → Result A TextFault → List Symbol → (A → List Item) → Reading → Reading → Type 0
+Parses result ys items old new = steps.Parses table Shows MeetAll fault_at result ys items old new
+
+-- .. and this holds of what it gives
+abbrev pub ParsesWhere : {A : Type 0} → Result A TextFault → List Symbol → (A → List Item) → (A → Type 0) → Reading
+    → Reading → Type 0
+ParsesWhere result ys items Holds old new = steps.ParsesWhere table Shows MeetAll fault_at result ys items Holds old new
+
+-- .. where this token, the first, is taken already
+abbrev pub ParsesFrom : {A : Type 0} → LocatedToken → Result A TextFault → List Symbol → (A → List Item)
+    → (A → Type 0) → Reading → Reading → Type 0
+ParsesFrom first result ys items Holds old new = steps.ParsesFrom table Shows MeetAll fault_at first result ys items
+    Holds old new
+
+-- behind the keyword of a typed parameter
+abbrev pub inner_symbols : ℕ → List Symbol
+inner_symbols n = Just Open ∷ Value (n + 1) ∷ Just Close ∷ []
+
+-- one more tree is pending
+abbrev pub Pushes : Progress → Tree → Progress → Type 0
+Pushes old x new = new.built ≡ record old.built { pending = old.built.pending ++ x ∷ [] }
+
+-- these are pending besides
+abbrev pub PushesAll : Progress → List Tree → Progress → Type 0
+PushesAll old xs new = new.built ≡ record old.built { pending = old.built.pending ++ xs }
+
+-- the parameter in parentheses behind the keyword of a typed one
+pub record TakesInner (depth : ℕ) (old new : Progress) : Type 0 where
+  pub tree : Tree
+  pub pushes : Pushes old tree new
+  pub fits : FitsTree the_rules (depth + 1) tree
+  pub passes : Passes (inner_symbols depth) [] [] (this (mark Open) ∷ (items_of_tree tree ++ this (mark Close) ∷ []))
+      (reading old) (reading new)
+
+-- the parameter that begins with this token
+pub record TakesValue (depth : ℕ) (first : LocatedToken) (old new : Progress) : Type 0 where
+  pub tree : Tree
+  pub pushes : Pushes old tree new
+  pub fits : FitsTree the_rules depth tree
+  pub passes : Passes (Value depth ∷ []) [] (first ∷ []) (items_of_tree tree) (reading old) (reading new)
+
+-- the parameters of a list, and the closing parenthesis
+pub record TakesItems (depth : ℕ) (old new : Progress) : Type 0 where
+  pub trees : List Tree
+  pub pushes : PushesAll old trees new
+  pub fits : FitsTrees the_rules depth (all_of trees)
+  pub passes : Passes (Items depth ∷ []) [] [] (items_of_list (all_of trees)) (reading old) (reading new)
+
+-- .. and the opening one
+pub record TakesParams (depth : ℕ) (old new : Progress) : Type 0 where
+  pub trees : List Tree
+  pub pushes : PushesAll old trees new
+  pub fits : FitsTrees the_rules (depth + 1) (all_of trees)
+  pub passes : Passes (params_symbols depth) [] [] (this (mark Open) ∷ items_of_list (all_of trees)) (reading old)
+      (reading new)

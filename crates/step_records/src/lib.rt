@@ -1,0 +1,8 @@
+//! Records and instances of an exchange structure (ISO 10303-21), read from tokens.
+#![tactic(auto)]
+
+pub mod instances;
+pub mod params;
+pub mod reader;
+pub mod records;
+pub mod tokens;

@@ -1,0 +1,153 @@
+//! Parameters, read from tokens (ISO 10303-21, 11).
+
+ghost use Rattle.std.specs.Prelude.{◌≡◌, ◌≤◌, ◌<◌, true, false, [], ◌∷◌, Some, MatchResult};
+ghost use Rattle.step_lexis.specs.declared.token.Mark.TheVariants.{Open};
+ghost use Rattle.step_parameters.specs.declared.cell.Leaf.TheVariants.{Keyword};
+ghost use Rattle.step_structures.specs.Predict;
+ghost use Rattle.step_structures.specs.Words.{located};
+ghost use Rattle.step_structures.specs.Predict.{Value, Items, params_symbols};
+ghost use Rattle.step_parameters.specs.Tokens.{StandsIn, leaf_of};
+ghost use Rattle.step_records.specs.Readers.{reading};
+ghost use Rattle.step_records.specs.Steps.{
+  StopsIn,
+  TakesInner,
+  TakesValue,
+  TakesItems,
+  TakesParams,
+  inner_symbols,
+};
+
+use crate::reader::Reader;
+use crate::tokens::{expect, fault_at, is_mark, refuse, take};
+use step_lexis::token::{Mark, Sort, Token};
+use step_parameters::cell::Leaf;
+use step_structures::fault::{FaultKind, TextFault};
+
+/// So many parentheses may be open at once.
+const LEVELS: u32 = 64;
+
+/// The parameter that is this token by itself.
+fn leaf<'a>(reader: &mut Reader<'a>, first: Token<'a>, depth: u32) -> Result<(), TextFault>
+    requires stands { StandsIn reader.old.built.text first }
+    requires keyword { leaf_of first.sort ≡ Some Keyword → ⊥ }
+    requires open { Predict.is_mark Open (located first).lookahead ≡ false }
+    ensures { MatchResult result
+        (λ _. TakesValue depth (located first.entry) reader.old reader.new)
+        (λ e. StopsIn e (Value depth ∷ []) (located first.entry ∷ []) (reading reader.old)) }
+{
+    let Some(leaf) = Leaf::of(first) else {
+        return Err(refuse(first));
+    };
+    reader.push_leaf(leaf, first)?;
+    Ok(())
+}
+
+/// The parameter in parentheses behind the keyword of a typed one.
+#[cycle(params)]
+fn inner(reader: &mut Reader<'_>, depth: u32) -> Result<(), TextFault>
+    requires { depth < 64 }
+    ensures { MatchResult result
+        (λ _. TakesInner depth reader.old reader.new)
+        (λ e. StopsIn e (inner_symbols depth) [] (reading reader.old)) }
+{
+    expect(reader, Mark::Open)?;
+    let first = take(reader)?;
+    value(reader, first, depth + 1)?;
+    expect(reader, Mark::Close)?;
+    Ok(())
+}
+
+/// The typed parameter that begins with this token, its keyword.
+#[cycle(params)]
+fn typed<'a>(reader: &mut Reader<'a>, first: Token<'a>, depth: u32) -> Result<(), TextFault>
+    requires depth { depth < 64 }
+    requires keyword { leaf_of first.sort ≡ Some Keyword }
+    requires stands { StandsIn reader.old.built.text first }
+    ensures { MatchResult result
+        (λ _. TakesValue depth (located first.entry) reader.old reader.new)
+        (λ e. StopsIn e (Value depth ∷ []) (located first.entry ∷ []) (reading reader.old)) }
+{
+    let mark = reader.pending_len();
+    reader.push_leaf(Leaf::Keyword, first)?;
+    inner(reader, depth)?;
+    reader.close_typed(mark)?;
+    Ok(())
+}
+
+/// The list that begins with this token, its parenthesis.
+#[cycle(params)]
+fn list<'a>(reader: &mut Reader<'a>, first: Token<'a>, depth: u32) -> Result<(), TextFault>
+    requires depth { depth < 64 }
+    requires open { Predict.is_mark Open (located first).lookahead ≡ true }
+    ensures { MatchResult result
+        (λ _. TakesValue depth (located first.entry) reader.old reader.new)
+        (λ e. StopsIn e (Value depth ∷ []) (located first.entry ∷ []) (reading reader.old)) }
+{
+    let mark = reader.pending_len();
+    items(reader, depth + 1)?;
+    reader.close_list(mark)?;
+    Ok(())
+}
+
+/// The parameter that begins with this token, with so many parentheses depth around it.
+#[cycle(params)]
+fn value<'a>(reader: &mut Reader<'a>, first: Token<'a>, depth: u32) -> Result<(), TextFault>
+    requires depth { depth ≤ 64 }
+    requires stands { StandsIn reader.old.built.text first }
+    ensures { MatchResult result
+        (λ _. TakesValue depth (located first.entry) reader.old reader.new)
+        (λ e. StopsIn e (Value depth ∷ []) (located first.entry ∷ []) (reading reader.old)) }
+{
+    match first.sort {
+        Sort::Keyword(_) => {
+            if depth >= LEVELS {
+                return Err(fault_at(FaultKind::TooDeep, first));
+            }
+            typed(reader, first, depth)
+        }
+        Sort::Mark(Mark::Open) => {
+            if depth >= LEVELS {
+                return Err(fault_at(FaultKind::TooDeep, first));
+            }
+            list(reader, first, depth)
+        }
+        _ => leaf(reader, first, depth),
+    }
+}
+
+/// The parameters of a list behind its parenthesis, and the closing one.
+#[cycle(params)]
+pub fn items(reader: &mut Reader<'_>, depth: u32) -> Result<(), TextFault>
+    requires { depth ≤ 64 }
+    ensures { MatchResult result
+        (λ _. TakesItems depth reader.old reader.new)
+        (λ e. StopsIn e (Items depth ∷ []) [] (reading reader.old)) }
+{
+    let first = take(reader)?;
+    if is_mark(first, Mark::Close) {
+        return Ok(());
+    }
+    value(reader, first, depth)?;
+    loop {
+        let token = take(reader)?;
+        if is_mark(token, Mark::Close) {
+            return Ok(());
+        }
+        if !is_mark(token, Mark::Comma) {
+            return Err(refuse(token));
+        }
+        let start = take(reader)?;
+        value(reader, start, depth)?;
+    }
+}
+
+/// The parameters of a record, in their parentheses, with so many open around it.
+pub fn record_params(reader: &mut Reader<'_>, depth: u32) -> Result<(), TextFault>
+    requires { depth < 64 }
+    ensures { MatchResult result
+        (λ _. TakesParams depth reader.old reader.new)
+        (λ e. StopsIn e (params_symbols depth) [] (reading reader.old)) }
+{
+    expect(reader, Mark::Open)?;
+    items(reader, depth + 1)
+}

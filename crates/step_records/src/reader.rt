@@ -1,0 +1,160 @@
+//! A text that is read token by token, and what is built of it.
+
+ghost use Rattle.std.specs.Prelude.{◌≡◌, ◌≤◌, ◌+◌, ◌++◌, [], ◌∷◌, Some, length, take, drop, IfOk};
+ghost use Rattle.step_lexis.specs.Reading.{Answers, start_of};
+ghost use Rattle.step_parameters.specs.Building.{list_of};
+ghost use Rattle.step_parameters.specs.Cells.{typed_of};
+ghost use Rattle.step_parameters.specs.Tokens.{StandsIn, leaf_of, leaf_tree};
+ghost use Rattle.step_records.specs.Readers.{reading};
+
+use std::alloc::{AllocError, Global};
+use std::marker::Model;
+use step_lexis::lexer::Lexer;
+use step_lexis::token::Token;
+use step_literals::fault::TextFault;
+use step_parameters::builder::Builder;
+use step_parameters::cell::Leaf;
+use step_parameters::forest::Forest;
+use step_parameters::param::Params;
+
+/// The lexer of a text, and the trees that are built of its tokens.
+#[derive(Drop)]
+pub struct Reader<'a> {
+    lexer: Lexer<'a>,
+    builder: Builder<'a>,
+}
+
+impl<'a> Model for Reader<'a> {
+    ghost use Rattle.std.specs.Prelude.{◌≡◌};
+    ghost use Rattle.step_records.specs.Readers.{Progress, coded_progress};
+
+    ghost Value = { Progress };
+
+    ghost coded = { coded_progress };
+
+    ghost view = { λ r. record { place = r.lexer.place; built = r.builder } };
+
+    ghost invariant = { λ r. r.lexer.text ≡ r.builder.text };
+}
+
+impl<'a> Reader<'a> {
+    /// Nothing is read of a text yet.
+    pub fn new(alloc: Global, text: &'a [u8]) -> Self
+        ensures { result ≡ record {
+          place = start_of text.now;
+          built = record { text = text.now; kept = []; pending = [] };
+        } }
+    {
+        Reader {
+            lexer: Lexer::new(text),
+            builder: Builder::new(alloc, text),
+        }
+    }
+
+    /// How many bytes of the text are read.
+    pub fn place(&self) -> u64
+        ensures { result ≡ self.now.place }
+    {
+        self.lexer.place()
+    }
+
+    /// Asks for room for so many more cells and trees. `Err` says that memory has no such room;
+    /// nothing else changes either way, and what is read later asks for as much as it needs.
+    pub fn reserve(&mut self, cells: usize, trees: usize) -> Result<(), AllocError>
+        ensures { self.new ≡ self.old }
+    {
+        self.builder.reserve(cells, trees)
+    }
+
+    /// The next token, as the lexer answers it.
+    pub fn next_token(&mut self) -> Result<Option<Token<'a>>, TextFault>
+        ensures answers { Answers (reading self.old) result (reading self.new) }
+        ensures built { self.new.built ≡ self.old.built }
+    {
+        self.lexer.next_token()
+    }
+
+    /// How many trees are pending.
+    pub fn pending_len(&self) -> usize
+        ensures { result ≡ length self.now.built.pending }
+    {
+        self.builder.pending_len()
+    }
+
+    /// One more leaf is pending, a token of this kind.
+    pub fn push_leaf(&mut self, leaf: Leaf, token: Token<'a>) -> Result<(), AllocError>
+        requires kind { leaf_of token.sort ≡ Some leaf }
+        requires stands { StandsIn self.old.built.text token }
+        ensures { IfOk result (λ _. self.new ≡ record self.old {
+          built = record self.old.built {
+            pending = self.old.built.pending ++ leaf_tree token.entry ∷ [];
+          };
+        }) }
+    {
+        self.builder.push_leaf(leaf, token)?;
+        Ok(())
+    }
+
+    /// The trees that are pending behind a mark become one list, which is pending in their place.
+    pub fn close_list(&mut self, mark: usize) -> Result<(), AllocError>
+        requires { mark ≤ length self.old.built.pending }
+        ensures { IfOk result (λ _. self.new ≡ record self.old {
+          built = record self.old.built {
+            pending = take mark self.old.built.pending
+                ++ list_of (drop mark self.old.built.pending) ∷ [];
+          };
+        }) }
+    {
+        self.builder.close_list(mark)?;
+        Ok(())
+    }
+
+    /// The keyword and the parameter that are pending behind a mark become a typed parameter.
+    pub fn close_typed(&mut self, mark: usize) -> Result<(), AllocError>
+        requires { mark + 2 ≡ length self.old.built.pending }
+        ensures { IfOk result (λ _. self.new ≡ record self.old {
+          built = record self.old.built {
+            pending = take mark self.old.built.pending
+                ++ typed_of (drop mark self.old.built.pending) ∷ [];
+          };
+        }) }
+    {
+        self.builder.close_typed(mark)?;
+        Ok(())
+    }
+
+    /// The trees that are pending behind a mark become one list, which is kept.
+    pub fn keep_list(&mut self, mark: usize) -> Result<(), AllocError>
+        requires { mark ≤ length self.old.built.pending }
+        ensures { IfOk result (λ _. self.new ≡ record self.old {
+          built = record self.old.built {
+            kept = self.old.built.kept ++ list_of (drop mark self.old.built.pending) ∷ [];
+            pending = take mark self.old.built.pending;
+          };
+        }) }
+    {
+        self.builder.keep_list(mark)?;
+        Ok(())
+    }
+
+    /// How many trees are kept.
+    pub fn kept_len(&self) -> usize
+        ensures { result ≡ length self.now.built.kept }
+    {
+        self.builder.kept_len()
+    }
+
+    /// The trees that are kept.
+    pub fn kept(&self) -> Params<'_>
+        ensures { result ≡ self.now.built.kept }
+    {
+        self.builder.kept()
+    }
+
+    /// The trees that are kept; what is still pending is dropped.
+    pub fn finish(self) -> Forest<'a>
+        ensures { result ≡ self.entry.built.kept }
+    {
+        self.builder.finish()
+    }
+}

@@ -1,0 +1,171 @@
+//! What stands for an instance, read from tokens (ISO 10303-21, 11).
+
+ghost use Rattle.std.specs.Prelude.{◌≡◌, ◌<◌, false, [], ◌∷◌, ◌++◌, Some, MatchResult, OnOk, drop};
+ghost use Rattle.step_lexis.specs.declared.token.Mark.TheVariants.{Close};
+ghost use Rattle.step_parameters.specs.Tokens.{StandsIn, leaf_of};
+ghost use Rattle.step_parameters.specs.declared.cell.Leaf.TheVariants.{Keyword};
+ghost use Rattle.step_structures.specs.Words.{located};
+ghost use Rattle.step_structures.specs.Predict;
+ghost use Rattle.step_structures.specs.Predict.{Body, PartialRecords, params_symbols, row_symbols};
+ghost use Rattle.step_records.specs.Readers.{reading};
+ghost use Rattle.step_records.specs.Steps.{StopsIn};
+ghost use Rattle.step_records.specs.Records.{
+  any_is,
+  texts_of,
+  TakesRecord,
+  TakesPartial,
+  TakesPartials,
+  TakesForm,
+  TakesRow,
+};
+
+use crate::params::record_params;
+use crate::reader::Reader;
+use crate::tokens::{expect, fault_at, is_mark, is_said, refuse, take};
+use indexmap::IndexSet;
+use std::alloc::{AllocFailed, Global};
+use std::hash::RandomState;
+use step_lexis::token::{Mark, Sort, Token};
+use step_literals::literal::Word;
+use step_parameters::cell::Leaf;
+use step_structures::fault::{FaultKind, TextFault};
+
+/// So many partial records are looked through one by one; most external records have no more. The
+/// keywords of those behind them are in a set.
+const LOOKED_THROUGH: usize = 8;
+
+/// Keywords of partial records, hashed as names are.
+type Keywords<'a> = IndexSet<Word<'a>, RandomState>;
+
+/// Whether one of these is this keyword, whatever the case of its letters.
+fn is_among(words: &[Word<'_>], keyword: Word<'_>) -> bool
+    ensures { result ≡ any_is keyword.entry.text.now words.now }
+{
+    words.iter().any(|word| is_said(keyword, word.spelling()))
+}
+
+/// The same, where those behind the ones that are looked through are in a set.
+fn has_keyword(words: &[Word<'_>], further: &Keywords<'_>, keyword: Word<'_>) -> bool
+    requires { further.now.keys ≡ drop 8 words.now }
+    ensures { result ≡ any_is keyword.entry.text.now words.now }
+{
+    if words.len() <= LOOKED_THROUGH {
+        return is_among(words, keyword);
+    }
+    is_among(&words[..LOOKED_THROUGH], keyword) || further.contains(&keyword)
+}
+
+/// Keeps one more keyword behind these, which is none of them.
+fn keep_keyword<'a>(
+    further: &mut Keywords<'a>,
+    words: &[Word<'a>],
+    keyword: Word<'a>,
+) -> Result<(), AllocFailed<Word<'a>>>
+    requires kept { further.old.keys ≡ drop 8 words.now }
+    requires alone { any_is keyword.text.now words.now ≡ false }
+    ensures { OnOk result (further.new.keys ≡ drop 8 (words.now ++ keyword.entry ∷ [])) }
+{
+    if words.len() < LOOKED_THROUGH {
+        return Ok(());
+    }
+    further.insert(keyword)?;
+    Ok(())
+}
+
+/// The record that begins with this keyword, with so many parentheses open around it.
+pub fn record<'a>(reader: &mut Reader<'a>, first: Token<'a>, depth: u32) -> Result<(), TextFault>
+    requires depth { depth < 64 }
+    requires keyword { leaf_of first.sort ≡ Some Keyword }
+    requires stands { StandsIn reader.old.built.text first }
+    ensures { MatchResult result
+        (λ _. TakesRecord depth first.entry reader.old reader.new)
+        (λ e. StopsIn e (params_symbols depth) [] (reading reader.old)) }
+{
+    reader.push_leaf(Leaf::Keyword, first)?;
+    record_params(reader, depth)?;
+    Ok(())
+}
+
+/// The partial record that begins with this token, behind others with these keywords. It answers
+/// its own.
+fn partial_record<'a>(
+    reader: &mut Reader<'a>,
+    first: Token<'a>,
+    words: &[Word<'a>],
+    further: &Keywords<'a>,
+) -> Result<Word<'a>, TextFault>
+    requires open { Predict.is_mark Close (located first).lookahead ≡ false }
+    requires stands { StandsIn reader.old.built.text first }
+    requires kept { further.now.keys ≡ drop 8 words.now }
+    ensures { MatchResult result
+        (λ w. TakesPartial (texts_of words.now) (located first.entry) w reader.old reader.new)
+        (λ e. StopsIn e (PartialRecords (texts_of words.now) ∷ []) (located first.entry ∷ [])
+        (reading reader.old)) }
+{
+    let Sort::Keyword(keyword) = first.sort else {
+        return Err(refuse(first));
+    };
+    if has_keyword(words, further, keyword) {
+        return Err(fault_at(FaultKind::DuplicateName, first));
+    }
+    let mark = reader.pending_len();
+    record(reader, first, 1)?;
+    reader.close_list(mark)?;
+    Ok(keyword)
+}
+
+/// The partial records of an external one behind its parenthesis, and the closing one.
+fn partial_records<'a>(
+    alloc: Global,
+    keys: RandomState,
+    reader: &mut Reader<'a>,
+) -> Result<(), TextFault>
+    ensures { MatchResult result
+        (λ _. TakesPartials reader.old reader.new)
+        (λ e. StopsIn e (PartialRecords [] ∷ []) [] (reading reader.old)) }
+{
+    let mut words: Vec<Word<'a>> = Vec::new(alloc);
+    let mut further: Keywords<'a> = IndexSet::with_hasher(alloc, keys);
+    loop {
+        let token = take(reader)?;
+        if is_mark(token, Mark::Close) {
+            if words.is_empty() {
+                return Err(refuse(token));
+            }
+            return Ok(());
+        }
+        let keyword = partial_record(reader, token, &words, &further)?;
+        keep_keyword(&mut further, &words, keyword)?;
+        words.push(keyword)?;
+    }
+}
+
+/// What stands for an instance behind its `=`.
+fn form(alloc: Global, keys: RandomState, reader: &mut Reader<'_>) -> Result<(), TextFault>
+    ensures { MatchResult result
+        (λ _. TakesForm reader.old reader.new)
+        (λ e. StopsIn e (Body ∷ []) [] (reading reader.old)) }
+{
+    let first = take(reader)?;
+    if is_mark(first, Mark::Open) {
+        return partial_records(alloc, keys, reader);
+    }
+    let Sort::Keyword(_) = first.sort else {
+        return Err(refuse(first));
+    };
+    record(reader, first, 0)
+}
+
+/// What stands for an instance behind its name; its tree is kept.
+pub fn row(alloc: Global, keys: RandomState, reader: &mut Reader<'_>) -> Result<(), TextFault>
+    ensures { MatchResult result
+        (λ _. TakesRow reader.old reader.new)
+        (λ e. StopsIn e row_symbols [] (reading reader.old)) }
+{
+    let mark = reader.pending_len();
+    expect(reader, Mark::Equals)?;
+    form(alloc, keys, reader)?;
+    expect(reader, Mark::Semicolon)?;
+    reader.keep_list(mark)?;
+    Ok(())
+}

@@ -1,0 +1,139 @@
+-- What stands in lists, and chains of steps.
+use Rattle.std.specs.Prelude.{◌≡◌, List, [], ◌∷◌, ◌++◌, map, flat_map, ◌⊎◌}
+use Rattle.std.proofs.Common.{refl, inl, inr, ap, sym, subst}
+use Rattle.digraph.specs.Graphs.{Chain, Leads}
+use Rattle.express_schemas.specs.Profile.{Every}
+use Rattle.type_graphs.specs.Names.{Among}
+use Rattle.type_graphs.specs.Faults.{IsFirst, IsFirstRepeat}
+
+-- in joined lists
+pub among-left : {A : Type 0} (x : A) (xs ys : List A) → Among x xs → Among x (xs ++ ys)
+among-left x [] ys h = elim h [ ]
+among-left x (y ∷ xs) ys (inl e) = inl e
+among-left x (y ∷ xs) ys (inr h) = inr (among-left x xs ys h)
+
+pub among-right : {A : Type 0} (x : A) (xs ys : List A) → Among x ys → Among x (xs ++ ys)
+among-right x [] ys h = h
+among-right x (y ∷ xs) ys h = inr (among-right x xs ys h)
+
+pub among-either : {A : Type 0} (x : A) (xs ys : List A) → Among x (xs ++ ys) → Among x xs ⊎ Among x ys
+among-either x [] ys h = inr h
+among-either x (y ∷ xs) ys (inl e) = inl (inl e)
+among-either {A} x (y ∷ xs) ys (inr h) = put (among-either x xs ys h)
+  where
+    put : Among x xs ⊎ Among x ys → Among x (y ∷ xs) ⊎ Among x ys
+    put (inl m) = inl (inr m)
+    put (inr m) = inr m
+
+-- in mapped lists
+pub among-map : {A B : Type 0} (f : A → B) (x : A) (xs : List A) → Among x xs → Among (f x) (map f xs)
+among-map f x [] h = elim h [ ]
+among-map f x (y ∷ xs) (inl e) = inl (ap f e)
+among-map f x (y ∷ xs) (inr h) = inr (among-map f x xs h)
+
+pub among-flat : {A B : Type 0} (f : A → List B) (x : A) (b : B) (xs : List A) → Among x xs → Among b (f x)
+    → Among b (flat_map f xs)
+among-flat f x b [] h m = elim h [ ]
+among-flat f x b (y ∷ xs) (inl e) m = among-left b (f y) (flat_map f xs) (subst (λ z. Among b (f z)) (sym e) m)
+among-flat f x b (y ∷ xs) (inr h) m = among-right b (f y) (flat_map f xs) (among-flat f x b xs h m)
+
+-- what is in a flattened list is in one of them
+one-more : {A B : Type 0} (f : A → List B) (b : B) (y : A) (xs : List A) → Among b (f y)
+    ⊎ ((x : A) × Among x xs × Among b (f x)) → (x : A) × Among x (y ∷ xs) × Among b (f x)
+one-more f b y xs (inl m) = (y, inl refl, m)
+one-more f b y xs (inr (x, m, n)) = (x, inr m, n)
+
+right-part : {P Q R : Type 0} → P ⊎ Q → (Q → R) → P ⊎ R
+right-part (inl p) f = inl p
+right-part (inr q) f = inr (f q)
+
+pub from-flat : {A B : Type 0} (f : A → List B) (b : B) (xs : List A) → Among b (flat_map f xs) → (x : A)
+    × Among x xs × Among b (f x)
+from-flat f b [] h = elim h [ ]
+from-flat f b (y ∷ xs) h = one-more f b y xs (right-part (among-either b (f y) (flat_map f xs) h) (from-flat f b xs))
+
+-- what holds of each holds of one
+pub every-at : {A : Type 0} (P : A → Type 0) (x : A) (xs : List A) → Every P xs → Among x xs → P x
+every-at P x [] h m = elim m [ ]
+every-at P x (y ∷ xs) h (inl e) = subst P e h.0
+every-at P x (y ∷ xs) h (inr m) = every-at P x xs h.1 m
+
+-- P holds of none where it holds of no first one
+pub none-holds : {A : Type 0} (P : A → Type 0) (xs : List A) → ((x : A) → IsFirst P xs x → ⊥) → (x : A) → Among x xs
+    → P x → ⊥
+none-holds P [] h x m p = elim m [ ]
+none-holds P (y ∷ ys) h x (inl e) p = h y (inl (subst P (sym e) p, refl))
+none-holds P (y ∷ ys) h x (inr m) p = none-holds P ys (λ z f. h z (inr ((λ q. h y (inl (q, refl))), f))) x m p
+
+-- one is the first
+pub first-is-one : {A : Type 0} (P : A → Type 0) (xs : List A) (x y : A) → IsFirst P xs x → IsFirst P xs y → x ≡ y
+first-is-one P [] x y h k = elim h [ ]
+first-is-one P (z ∷ zs) x y (inl h) (inl k) = subst (λ w. w ≡ y) h.1 k.1
+first-is-one P (z ∷ zs) x y (inl h) (inr k) = absurd (k.0 h.0)
+first-is-one P (z ∷ zs) x y (inr h) (inl k) = absurd (h.0 k.0)
+first-is-one P (z ∷ zs) x y (inr h) (inr k) = first-is-one P zs x y h.1 k.1
+
+pub first-repeat-is-one : {A : Type 0} (before xs : List A) (x y : A) → IsFirstRepeat before xs x
+    → IsFirstRepeat before xs y → x ≡ y
+first-repeat-is-one before [] x y h k = elim h [ ]
+first-repeat-is-one before (z ∷ zs) x y (inl h) (inl k) = subst (λ w. w ≡ y) h.1 k.1
+first-repeat-is-one before (z ∷ zs) x y (inl h) (inr k) = absurd (k.0 h.0)
+first-repeat-is-one before (z ∷ zs) x y (inr h) (inl k) = absurd (h.0 k.0)
+first-repeat-is-one before (z ∷ zs) x y (inr h) (inr k) = first-repeat-is-one (z ∷ before) zs x y h.1 k.1
+
+-- no item comes again
+abbrev pub AreFresh : {A : Type 0} → List A → Type 0
+AreFresh [] = Unit {0}
+AreFresh (x ∷ xs) = (Among x xs → ⊥) × AreFresh xs
+
+pub not-before : {A : Type 0} (before xs : List A) → ((x : A) → IsFirstRepeat before xs x → ⊥) → (x : A)
+    → Among x before → Among x xs → ⊥
+not-before before [] h x b m = elim m [ ]
+not-before before (y ∷ ys) h x b (inl e) = h y (inl (subst (λ z. Among z before) (sym e) b, refl))
+not-before before (y ∷ ys) h x b (inr m) =
+    not-before (y ∷ before) ys (λ z f. h z (inr ((λ k. h y (inl (k, refl))), f))) x (inr b) m
+
+pub are-fresh : {A : Type 0} (before xs : List A) → ((x : A) → IsFirstRepeat before xs x → ⊥) → AreFresh xs
+are-fresh before [] h = tt
+are-fresh {A} before (y ∷ ys) h = (not-before (y ∷ before) ys rest y (inl refl), are-fresh (y ∷ before) ys rest)
+  where
+    rest : (z : A) → IsFirstRepeat (y ∷ before) ys z → ⊥
+    rest z f = h z (inr ((λ k. h y (inl (k, refl))), f))
+
+pub fresh-right : {A : Type 0} (xs ys : List A) → AreFresh (xs ++ ys) → AreFresh ys
+fresh-right [] ys h = h
+fresh-right (x ∷ xs) ys h = fresh-right xs ys h.1
+
+-- chains, of other steps and one behind the other
+pub chain-kept : {A : Type 0} (S T : A → A → Type 0) → ((a b : A) → S a b → T a b) → (a : A) (ms : List A) (b : A)
+    → Chain S a ms b → Chain T a ms b
+chain-kept S T k a [] b c = k a b c
+chain-kept S T k a (m ∷ ms) b c = (k a m c.0, chain-kept S T k m ms b c.1)
+
+pub chain-joined : {A : Type 0} (S : A → A → Type 0) (a : A) (ms : List A) (b : A) (ns : List A) (c : A)
+    → Chain S a ms b → Chain S b ns c → Chain S a (ms ++ b ∷ ns) c
+chain-joined S a [] b ns c h k = (h, k)
+chain-joined S a (m ∷ ms) b ns c h k = (h.0, chain-joined S m ms b ns c h.1 k)
+
+pub leads-kept : {A : Type 0} (S T : A → A → Type 0) → ((a b : A) → S a b → T a b) → (a b : A) → Leads S a b
+    → Leads T a b
+leads-kept S T k a b h = (h.0, chain-kept S T k a h.0 b h.1)
+
+pub leads-joined : {A : Type 0} (S : A → A → Type 0) (a b c : A) → Leads S a b → Leads S b c → Leads S a c
+leads-joined S a b c h k = (h.0 ++ b ∷ k.0, chain-joined S a h.0 b k.0 c h.1 k.1)
+
+pub leads-on : {A : Type 0} (S : A → A → Type 0) (a b c : A) → Leads S a b → S b c → Leads S a c
+leads-on S a b c h k = leads-joined S a b c h ([], k)
+
+-- the first step of a chain
+pub first-step : {A : Type 0} (S : A → A → Type 0) (a b : A) → Leads S a b → (m : A) × S a m
+first-step S a b ([], h) = (b, h)
+first-step S a b (m ∷ ms, h) = (m, h.0)
+
+-- the last one
+last : {A : Type 0} (S : A → A → Type 0) (a : A) (ms : List A) (b : A) → Chain S a ms b → (m : A) × S m b
+last S a [] b h = (a, h)
+last S a (m ∷ ms) b h = last S m ms b h.1
+
+pub last-step : {A : Type 0} (S : A → A → Type 0) (a b : A) → Leads S a b → (m : A) × S m b
+last-step S a b (ms, h) = last S a ms b h

@@ -1,0 +1,9 @@
+pub mod Names
+pub mod Faults
+pub mod Shapes
+pub mod Attributes
+pub mod Sets
+pub mod Reasons
+pub mod Ranks
+pub mod Parts
+pub mod Laws
