@@ -23,8 +23,8 @@ ghost use Rattle.columns.specs.Gaps.{Frees};
 use std::alloc::{AllocError, Global};
 use std::marker::Model;
 
-/// How many free cells a buffer that grows gets at least.
-const LEAST: usize = 16;
+/// So many free cells are made at once, or more.
+const STEP: usize = 256;
 
 /// So many cells of a column, one behind another.
 #[derive(Clone, Copy, Debug, PartialEq, Eq)]
@@ -65,14 +65,15 @@ impl<C: Copy> Model for Column<C> {
     ghost invariant = { λ c. (c.len ≤ c.top) × (c.top ≤ length c.cells.items) };
 }
 
-// How many free cells a full buffer gets: half as many as it has, so that all moves together cost
-// no more than a constant for each push, and no more than fit the block that it has already.
-fn free_cells<C: Copy>(cells: &Vec<C>) -> usize
+// How many free cells a full buffer gets, with so many cells that have to be moved for them: as many
+// of its block as are soon used, so that no more is touched, and enough for all moves together to
+// cost no more than a constant for each push. A block that is full grows by its own rule.
+fn free_cells<C: Copy>(cells: &Vec<C>, moved: usize) -> usize
     ensures positive { 0 < result }
     ensures small { result < 2 ^ 63 }
 {
     let spare = cells.capacity() - cells.len();
-    let wanted = (cells.len() / 2).max(LEAST);
+    let wanted = (moved / 8).max(STEP);
     if spare == 0 {
         wanted
     } else {
@@ -90,7 +91,7 @@ fn widen<C: Copy>(cells: &mut Vec<C>, top: usize, filler: C) -> Result<usize, Al
         (λ _. cells.new.items ≡ cells.old.items) }
 {
     let end = cells.len();
-    let free = free_cells(cells);
+    let free = free_cells(cells, end - top);
     cells.resize(end + free, filler)?;
     cells.copy_within(top..end, top + free);
     Ok(top + free)

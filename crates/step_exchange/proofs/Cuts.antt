@@ -1,10 +1,9 @@
 -- Instances cut into data sections.
-use Rattle.std.proofs.Common.{◌≡◌, ℕ, ◌+◌, ◌-◌, ◌<◌, zero, suc, add-one, get_or, List, [], ◌∷◌, ◌++◌, length, map, take, drop, refl, sym, ap, ◌∙◌, subst, append_assoc, append-nil, length-append, arith}
+use Rattle.std.proofs.Common.{◌≡◌, ℕ, ◌+◌, ◌-◌, ◌<◌, zero, suc, add-one, get_or, List, [], ◌∷◌, ◌++◌, length, take, drop, refl, sym, ap, ◌∙◌, subst, append_assoc, append-nil, length-append, arith}
 use Rattle.step_exchange.specs.declared.section.Section as code
-use Rattle.step_structures.specs.Trees.{Row, Section, rows_of}
+use Rattle.step_structures.specs.Trees.{Tree, Row, Section, rows_of}
 use Rattle.step_structures.specs.Normal.{plain_section, plain_sections}
-use Rattle.step_exchange.specs.declared.tree.Form.{Form}
-use Rattle.step_exchange.specs.Views.{row_of}
+use Rattle.step_exchange.specs.Views.{form_in, rows_with}
 use Rattle.step_exchange.specs.Sections.{CountsTo, heading_of, sections_of}
 
 -- behind so many instances these sections say where those are cut
@@ -68,29 +67,39 @@ pub rows_more : (xs : List Section) (x : Section) → rows_of (xs ++ x ∷ []) �
 rows_more [] x = append-nil x.rows
 rows_more (y ∷ xs) x = ap (λ l. y.rows ++ l) (rows_more xs x) ∙ sym (append_assoc y.rows (rows_of xs) x.rows)
 
--- the text of the first section, with so many of the instances as there are
-taken_rows : (n : ℕ) (es : List (ℕ × Form)) → map row_of (take n es) ≡ take n (map row_of es)
-taken_rows zero es = refl
-taken_rows (suc n) [] = refl
-taken_rows (suc n) (e ∷ es) = ap (λ l. row_of e ∷ l) (taken_rows n es)
+-- so many of the instances are of so many names and trees
+pub rows_taken : (k : ℕ) (ns : List ℕ) (xs : List Tree) → take k (rows_with ns xs) ≡ rows_with (take k ns) (take k xs)
+rows_taken zero ns xs = none_of ns xs
+  where
+    none_of : (ns : List ℕ) (xs : List Tree) → take 0 (rows_with ns xs) ≡ []
+    none_of ns xs = refl
+rows_taken (suc k) [] xs = refl
+rows_taken (suc k) (n ∷ ns) [] = refl
+rows_taken (suc k) (n ∷ ns) (x ∷ xs) = ap (λ l. record { name = n; form = form_in x } ∷ l) (rows_taken k ns xs)
 
-dropped_rows : (n : ℕ) (es : List (ℕ × Form)) → map row_of (drop n es) ≡ drop n (map row_of es)
-dropped_rows zero es = refl
-dropped_rows (suc n) [] = refl
-dropped_rows (suc n) (e ∷ es) = dropped_rows n es
+no_rows : (ns : List ℕ) → rows_with ns [] ≡ []
+no_rows [] = refl
+no_rows (n ∷ ns) = refl
+
+pub rows_dropped : (k : ℕ) (ns : List ℕ) (xs : List Tree) → drop k (rows_with ns xs) ≡ rows_with (drop k ns) (drop k xs)
+rows_dropped zero ns xs = refl
+rows_dropped (suc k) [] xs = refl
+rows_dropped (suc k) (n ∷ ns) [] = sym (no_rows (drop k ns))
+rows_dropped (suc k) (n ∷ ns) (x ∷ xs) = rows_dropped k ns xs
 
 -- the first section is printed, and then the others
-pub sections_printed : (from : ℕ) (s : code.Section) (ss : List code.Section) (rest own behind : List (ℕ × Form)) (n : ℕ)
-    → n ≡ s.past - from → own ≡ take n rest → behind ≡ drop n rest
-    → plain_sections (sections_of from (s ∷ ss) (map row_of rest)) ≡ plain_section (record {
+pub sections_printed : (from : ℕ) (s : code.Section) (ss : List code.Section) (ns own_ns ns_behind : List ℕ)
+    (xs own behind : List Tree) (n : ℕ) → n ≡ s.past - from → own_ns ≡ take n ns → ns_behind ≡ drop n ns
+    → own ≡ take n xs → behind ≡ drop n xs
+    → plain_sections (sections_of from (s ∷ ss) (rows_with ns xs)) ≡ plain_section (record {
       heading = heading_of s.heading;
-      rows = map row_of own;
-    }) ++ plain_sections (sections_of s.past ss (map row_of behind))
-sections_printed from s ss rest own behind n e f b =
-    let front : take (s.past - from) (map row_of rest) ≡ map row_of own = ap (λ k. take k (map row_of rest)) (sym e)
-    ∙ sym (taken_rows n rest) ∙ ap (map row_of) (sym f) in
-    let back : drop (s.past - from) (map row_of rest) ≡ map row_of behind = ap (λ k. drop k (map row_of rest)) (sym e)
-    ∙ sym (dropped_rows n rest) ∙ ap (map row_of) (sym b) in
+      rows = rows_with own_ns own;
+    }) ++ plain_sections (sections_of s.past ss (rows_with ns_behind behind))
+sections_printed from s ss ns own_ns ns_behind xs own behind n e f g h k =
+    let front : take (s.past - from) (rows_with ns xs) ≡ rows_with own_ns own = ap (λ i. take i (rows_with ns xs)) (sym e)
+    ∙ rows_taken n ns xs ∙ (λ i. rows_with (sym f i) (sym h i)) in
+    let back : drop (s.past - from) (rows_with ns xs) ≡ rows_with ns_behind behind = ap (λ i. drop i (rows_with ns xs))
+    (sym e) ∙ rows_dropped n ns xs ∙ (λ i. rows_with (sym g i) (sym k i)) in
     λ i. plain_section (record { heading = heading_of s.heading; rows = front i }) ++ plain_sections
     (sections_of s.past ss (back i))
 

@@ -1,5 +1,5 @@
 -- The data sections and the end of the file, token by token.
-use Rattle.std.proofs.Common.{◌≡◌, ℕ, zero, suc, ◌+◌, ◌<◌, ◌≤◌, nat_lt, Bool, true, false, ◌==◌, List, [], ◌∷◌, ◌++◌, length, Option, Result, Ok, Err, MatchResult, refl, sym, ap, ◌∙◌, subst, append_assoc, append-nil, length-append, arith, codes}
+use Rattle.std.proofs.Common.{◌≡◌, ℕ, zero, suc, ◌+◌, ◌<◌, ◌≤◌, nat_lt, Bool, true, false, ◌==◌, List, [], ◌∷◌, ◌++◌, length, Option, Result, Ok, Err, MatchResult, IfOk, refl, sym, ap, ◌∙◌, subst, append_assoc, append-nil, length-append, arith, codes}
 use Rattle.std.proofs.lemmas.Bool.{false≢true}
 use Rattle.std.proofs.lemmas.Bool.Decides.{nat_tests}
 use Rattle.predictive.proofs.Taking as taking
@@ -16,15 +16,18 @@ use Rattle.step_structures.specs.declared.fault.LeftOut.TheVariants as left_out
 use Rattle.step_structures.specs.declared.fault.TextFault.{TextFault}
 use Rattle.step_structures.specs.declared.fault.TextFault.TheVariants as faults
 use Rattle.step_structures.specs.Words.{Word, ends, keyword, string, mark, Lookahead, token, located, located_end, word_of, Shows, shows_end}
-use Rattle.step_structures.specs.Trees.{Row, Section, rows_of, this, says, finish, MeetAll, section, items_of_rows, items_of_heading, items_of_section, items_of_sections, items_of_end}
+use Rattle.step_structures.specs.Trees.{Row, Section, rows_of, Item, this, says, finish, MeetAll, section, items_of_rows, items_of_heading, items_of_section, items_of_sections, items_of_end}
 use Rattle.step_structures.specs.Fits.{the_rules, FitsRows}
 use Rattle.step_structures.specs.Predict.{Symbol, Just, Sections, Behind, Quoted, Rows, EndOfText, refused, is_mark, is_word, heading_symbols, data_symbols, table}
 use Rattle.step_exchange.specs.declared.section.Section as code
 use Rattle.step_exchange.specs.Sections.{CountsTo, heading_of, sections_of}
-use Rattle.step_exchange.specs.Steps.{StopsIn, StopsInRows, Passes, Parses, TakesRows, TakesData, BeginsSection, section_refused, names_of}
+use Rattle.step_records.specs.Readers.{Progress, reading}
+use Rattle.step_records.specs.Steps.{StopsIn, Passes, ParsesWhere}
+use Rattle.step_records.specs.Instances.{StopsInRows, names_of}
+use Rattle.step_exchange.specs.Steps.{TakesData, BeginsSection, section_refused}
 use Rattle.step_structures.proofs.Meeting.{meets_is}
-use Rattle.step_exchange.proofs.Taking.{passes_here, passes_as, passes_join, passes_more, passes_then, passes_token, passes_taken, passes_first, passes_within, stops_behind, stops_behind_taken, stops_all, stops_token}
-use Rattle.step_exchange.proofs.Looking.{mark_met, meets_mark, word_met}
+use Rattle.step_records.proofs.Taking.{passes_here, passes_as, passes_join, passes_more, passes_then, passes_token, passes_taken, passes_first, passes_within, stops_behind, stops_behind_taken, stops_all, stops_token}
+use Rattle.step_records.proofs.Looking.{mark_met, meets_mark, word_met}
 use Rattle.step_exchange.proofs.Cuts.{Cut, cut_is, cut_counts, cut_push, rows_more}
 
 -- what stops at the first of what is to come stops it all
@@ -104,16 +107,24 @@ passes_data n names t here w h = passes_taken (Sections n names) (Behind ∷ Row
     (located t).lookahead w h)
 
 pub begun : (r : Result (Option (literal.Text × literal.Text)) TextFault) (n : ℕ) (names : List ℕ) (t : Token)
-    (old new : Reading) → is_word (codes "DATA") (located t).lookahead ≡ true → n < the_rules.sections
-    → Parses r (Behind ∷ []) (λ h. items_of_heading (heading_of h) ++ this (mark Semicolon) ∷ []) old new
-    → MatchResult r (λ h. BeginsSection (located t) n names (heading_of h) old new)
-    (λ e. StopsIn e (Sections n names ∷ []) (located t ∷ []) old)
+    (old new : Progress) → is_word (codes "DATA") (located t).lookahead ≡ true → n < the_rules.sections
+    → ParsesWhere r (Behind ∷ []) (λ h. items_of_heading (heading_of h) ++ this (mark Semicolon) ∷ [])
+    (λ _. new.built ≡ old.built) (reading old) (reading new)
+    → MatchResult r (λ h. BeginsSection (located t) n names (heading_of h) (reading old) (reading new))
+    (λ e. StopsIn e (Sections n names ∷ []) (located t ∷ []) (reading old))
 begun (Ok h) n names t old new w few p = (
   few,
-  passes_join (passes_data n names t old w few) (passes_more (Rows (suc n) names ∷ []) p),
+  passes_join (passes_data n names t (reading old) w few) (passes_more (Rows (suc n) names ∷ []) p.1),
 )
 begun (Err e) n names t old new w few p = stops_behind e (Behind ∷ []) (Rows (suc n) names ∷ [])
-    (passes_data n names t old w few) p
+    (passes_data n names t (reading old) w few) p
+
+-- what a parser leaves built
+pub left_built : {A : Type 0} (r : Result A TextFault) (ys : List Symbol) (items : A → List Item) (old new : Progress)
+    → ParsesWhere r ys items (λ _. new.built ≡ old.built) (reading old) (reading new)
+    → IfOk r (λ _. new.built ≡ old.built)
+left_built (Ok h) ys items old new p = p.0
+left_built (Err e) ys items old new p = tt
 
 -- the end of the text
 pub over_signature : (s : Lookahead) → is_word (codes "SIGNATURE") s ≡ true → table EndOfText s ≡ Err
@@ -172,13 +183,13 @@ pub some_sections : (ss : List code.Section) (n : ℕ) (b : Bool) → b ≡ (n =
     → length ss ≡ 0 → ⊥
 some_sections ss n b e l t d = some_at_least n (sym e ∙ t) (sym l ∙ d)
 
-pub end_done : (r : Result Unit TextFault) (a b c : Reading)
-    → Passes (Just Semicolon ∷ []) [] [] (this (mark Semicolon) ∷ []) a b
-    → MatchResult r (λ _. Passes (EndOfText ∷ []) [] [] (finish ∷ []) b c) (λ e. StopsIn e (EndOfText ∷ []) [] b)
-    → MatchResult r (λ _. Passes (Just Semicolon ∷ EndOfText ∷ []) [] [] (this (mark Semicolon) ∷ finish ∷ []) a c)
-    (λ e. StopsIn e (Just Semicolon ∷ EndOfText ∷ []) [] a)
-end_done (Ok u) a b c m g = passes_then m g
-end_done (Err e) a b c m g = stops_behind e (EndOfText ∷ []) [] (passes_more (EndOfText ∷ []) m) g
+pub end_done : (r : Result Unit TextFault) (a b c : Progress) → b.built ≡ a.built
+    → Passes (Just Semicolon ∷ []) [] [] (this (mark Semicolon) ∷ []) (reading a) (reading b)
+    → ParsesWhere r (EndOfText ∷ []) (λ _. finish ∷ []) (λ _. c.built ≡ b.built) (reading b) (reading c)
+    → ParsesWhere r (Just Semicolon ∷ EndOfText ∷ []) (λ _. this (mark Semicolon) ∷ finish ∷ [])
+    (λ _. c.built ≡ a.built) (reading a) (reading c)
+end_done (Ok u) a b c e m g = (g.0 ∙ e, passes_then m g.1)
+end_done (Err f) a b c e m g = stops_behind f (EndOfText ∷ []) [] (passes_more (EndOfText ∷ []) m) g
 
 -- the sections so far, with these instances, and others and the end of the file behind
 pub record SectionsSoFar (old : Reading) (ss : List code.Section) (rows : List Row) (here : Reading) : Type 0 where
@@ -308,24 +319,30 @@ fits_few (r ∷ rs) before h f =
     let g = fits_few rs (before ++ r.name ∷ []) (omega (arith, l, f.1)) f.3 in
     omega (arith, l, g)
 
-pub rows_few : {greatest : ℕ} {after : List Row} {b c old here : Reading} {ss : List code.Section} (rows : List Row)
-    → TakesRows greatest rows after b c → SectionsSoFar old ss rows here → length after ≤ the_rules.instances
-rows_few {greatest} {after} {b} {c} {old} {here} {ss} rows lines so =
-    let all = subst (FitsRows the_rules []) (sym lines.are) (fits_join rows lines.rows [] so.fits lines.fits) in
-    omega (arith, fits_few after [] (omega arith) all)
+-- instances behind others, and the end of their section, whatever its number
+pub record RowsRead (before more : List Row) (old new : Reading) : Type 0 where
+  pub fits : FitsRows the_rules (names_of before) more
+  pub passes : (n : ℕ) → Passes (Rows n (names_of before) ∷ []) (Sections n (names_of (before ++ more)) ∷ []) []
+      (items_of_rows more ++ section (codes "ENDSEC")) old new
+
+pub rows_few : (old : Reading) (ss : List code.Section) (rows : List Row) (here : Reading) (more : List Row)
+    (b c : Reading) → SectionsSoFar old ss rows here → RowsRead rows more b c
+    → length (rows ++ more) ≤ the_rules.instances
+rows_few old ss rows here more b c so read =
+    let all = fits_few (rows ++ more) [] (omega arith) (fits_join rows more [] so.fits read.fits) in omega (arith, all)
 
 pub sections_next : (old : Reading) (ss : List code.Section) (rows : List Row) (here : Reading) (t : Token)
-    (a b c : Reading) (s : code.Section) (greatest : ℕ) (after : List Row) → SectionsSoFar old ss rows here
-    → Takes here t a → BeginsSection (located t) (length ss) (names_of rows) (heading_of s.heading) a b
-    → TakesRows greatest rows after b c → s.past ≡ length after → SectionsSoFar old (ss ++ s ∷ []) after c
-sections_next old ss rows here t a b c s greatest after so h g lines past =
+    (a b c : Reading) (s : code.Section) (more : List Row) → SectionsSoFar old ss rows here → Takes here t a
+    → BeginsSection (located t) (length ss) (names_of rows) (heading_of s.heading) a b → RowsRead rows more b c
+    → s.past ≡ length (rows ++ more) → SectionsSoFar old (ss ++ s ∷ []) (rows ++ more) c
+sections_next old ss rows here t a b c s more so h g read past =
     let heading = heading_of s.heading in
-    let x : Section = record { heading = heading; rows = lines.rows } in
+    let x : Section = record { heading = heading; rows = more } in
     let head = says (codes "DATA") ∷ (items_of_heading heading ++ this (mark Semicolon) ∷ []) in
-    let body = items_of_rows lines.rows ++ section (codes "ENDSEC") in
+    let body = items_of_rows more ++ section (codes "ENDSEC") in
     let count : length (ss ++ s ∷ []) ≡ suc (length ss) = length-append ss (s ∷ []) ∙ omega arith in
-    let P : ℕ → Type 0 = λ n. Passes data_symbols (Sections n (names_of after) ∷ []) [] (items_of_sections (so.sections
-    ++ x ∷ [])) old c in
+    let P : ℕ → Type 0 = λ n. Passes data_symbols (Sections n (names_of (rows ++ more)) ∷ []) [] (items_of_sections
+    (so.sections ++ x ∷ [])) old c in
     let items : (items_of_sections so.sections ++ head) ++ body ≡ items_of_sections (so.sections ++ x ∷ []) =
     append_assoc (items_of_sections so.sections) head body ∙ ap (λ l. items_of_sections so.sections ++ says
     (codes "DATA") ∷ l) (append_assoc (items_of_heading heading) (this (mark Semicolon) ∷ []) body)
@@ -335,26 +352,24 @@ sections_next old ss rows here t a b c s greatest after so h g lines past =
       cut = cut_push 0 ss so.sections s x so.cut refl (omega (
         arith,
         past,
-        ap length (lines.are ∙ ap (λ l. l
-            ++ lines.rows) so.are),
-        length-append (rows_of so.sections) lines.rows,
+        ap length (ap (λ l. l ++ more) so.are),
+        length-append (rows_of so.sections) more,
       ));
-      are = lines.are ∙ ap (λ l. l ++ lines.rows) so.are ∙ sym (rows_more so.sections x);
-      fits = subst (FitsRows the_rules []) (sym lines.are) (fits_join rows lines.rows [] so.fits lines.fits);
+      are = ap (λ l. l ++ more) so.are ∙ sym (rows_more so.sections x);
+      fits = fits_join rows more [] so.fits read.fits;
       few = omega (arith, count, g.0);
       count = count ∙ ap (λ n. suc n) so.count ∙ sym (length-append so.sections (x ∷ []) ∙ omega arith);
       passes = subst P (sym count) (passes_as (items_of_sections (so.sections ++ x ∷ [])) items
-          (passes_join (begins_here old ss rows here t a b heading so h g) (lines.passes (suc (length ss)))));
+          (passes_join (begins_here old ss rows here t a b heading so h g) (read.passes (suc (length ss)))));
     }
 
 -- a section leaves less of the text
 pub sections_smaller : (here : Reading) (t : Token) (n : ℕ) (names : List ℕ) (heading : Option (List ℕ × List ℕ))
-    (a b c : Reading) (greatest : ℕ) (before after : List Row) → Takes here t a
-    → BeginsSection (located t) n names heading a b → TakesRows greatest before after b c
-    → length (left c) < length (left here)
-sections_smaller here t n names heading a b c greatest before after h g lines = omega (
+    (a b c : Reading) (before more : List Row) → Takes here t a → BeginsSection (located t) n names heading a b
+    → RowsRead before more b c → length (left c) < length (left here)
+sections_smaller here t n names heading a b c before more h g read = omega (
   arith,
   takes_less here a t h,
   passes_within g.1,
-  passes_within (lines.passes 0),
+  passes_within (read.passes 0),
 )

@@ -1,5 +1,5 @@
 -- The header, token by token.
-use Rattle.std.proofs.Common.{◌≡◌, ℕ, ◌<◌, Bool, true, false, List, [], ◌∷◌, ◌++◌, length, map, Ok, Err, Option, Some, None, MatchOption, refl, sym, ap, ◌∙◌, subst, append_assoc, append-nil, arith, codes}
+use Rattle.std.proofs.Common.{◌≡◌, ℕ, ◌<◌, Bool, true, false, List, [], ◌∷◌, ◌++◌, length, Ok, Err, refl, sym, ap, ◌∙◌, subst, append_assoc, append-nil, arith, codes}
 use Rattle.std.proofs.lemmas.Bool.{false≢true}
 use Rattle.predictive.specs.Tables.{lookaheads}
 use Rattle.step_lexis.specs.declared.token.Mark.TheVariants.{Open, Semicolon}
@@ -8,8 +8,6 @@ use Rattle.step_lexis.specs.declared.token.Sort.TheVariants as sorts
 use Rattle.step_lexis.specs.Reading.{Reading, Takes, left}
 use Rattle.step_lexis.specs.declared.token.Token.{Token}
 use Rattle.step_lexis.proofs.ReadingLemmas.{takes_less}
-use Rattle.step_exchange.specs.declared.tree.Record as code
-use Rattle.step_exchange.specs.Views.{record_of}
 use Rattle.step_structures.specs.declared.fault.FaultKind.TheVariants as kinds
 use Rattle.step_structures.specs.declared.fault.TextFault.{TextFault}
 use Rattle.step_structures.specs.declared.fault.TextFault.TheVariants as faults
@@ -18,14 +16,15 @@ use Rattle.step_structures.specs.Trees.{Record, Trees, Item, this, says, Meets, 
 use Rattle.step_structures.specs.Fits.{the_rules, FitsTrees, FitsRecord, FitsRecords, NamesSchema}
 use Rattle.step_structures.specs.Texts.{items_of_opening}
 use Rattle.step_structures.specs.Predict.{Symbol, Just, Start, Say, Head, Records, Ended, Items, refused, is_mark, opening_symbols, table, start_symbols, params_symbols}
-use Rattle.step_exchange.specs.Steps.{StopsIn, Passes, Starts, IsHead, TakesHead, StopsAtSchema, stops_before, stops_unnamed, HeaderSoFar, TakesHeader, StopsInHeader, in_opening, unnamed, in_records, after_keyword}
+use Rattle.step_records.specs.Steps.{StopsIn, Passes}
+use Rattle.step_exchange.specs.Steps.{Starts, IsHead, TakesHead, StopsAtSchema, stops_before, stops_unnamed, HeaderSoFar, TakesHeader, StopsInHeader, in_opening, unnamed, in_records, after_keyword}
 use Rattle.step_structures.proofs.Meeting.{meets_is}
 use Rattle.step_structures.proofs.Passing.{header_items}
-use Rattle.step_exchange.proofs.Taking.{reads_of, passes_here, passes_as, passes_join, passes_more, passes_then, passes_token, shown_within, stops_behind, stops_all, stops_token}
-use Rattle.step_exchange.proofs.Looking.{stops_refused, mark_met, meets_mark, passes_mark}
-use Rattle.step_exchange.proofs.ParamSteps.{Params, Listed}
+use Rattle.step_records.proofs.Taking.{reads_of, passes_here, passes_as, passes_join, passes_more, passes_then, passes_token, shown_within, stops_behind, stops_all, stops_token}
+use Rattle.step_records.proofs.Looking.{stops_refused, mark_met, meets_mark, passes_mark}
+use Rattle.step_records.proofs.ParamSteps.{Params, Listed}
 
-abbrev Ends : Reading → Reading → Type 0
+abbrev pub Ends : Reading → Reading → Type 0
 Ends old new = Passes (Just Semicolon ∷ []) [] [] (this (mark Semicolon) ∷ []) old new
 
 -- up to the first record
@@ -137,7 +136,7 @@ pub record_err_mark : (e : TextFault) (word : List ℕ) (old : Reading) (p : Rec
 record_err_mark e word old p place a h g = stops_behind e (Just Semicolon ∷ []) [] (passes_more (Just Semicolon ∷ [])
     (passes_head word old p place a h)) g
 
-abbrev Line : List ℕ → Reading → Record → Reading → Type 0
+abbrev pub Line : List ℕ → Reading → Record → Reading → Type 0
 Line word old p new = Passes (Head word ∷ Just Semicolon ∷ []) [] [] (items_of_record p ++ this (mark Semicolon) ∷ [])
     old new
 
@@ -160,7 +159,7 @@ pub schema_unnamed : (e : TextFault) (old : Reading) (p : Record) (place : ℕ) 
 schema_unnamed e old p place a t b h g m n q = stops_unnamed p place a b t h g (mark_met Semicolon (located t).lookahead
     m) n q
 
-abbrev Schema : Reading → Record → Reading → Type 0
+abbrev pub Schema : Reading → Record → Reading → Type 0
 Schema old p new = (IsHead (codes "FILE_SCHEMA") p × NamesSchema p.values) × Line (codes "FILE_SCHEMA") old p new
 
 pub schema_done : (old : Reading) (p : Record) (place : ℕ) (a : Reading) (t : Token) (b : Reading)
@@ -315,14 +314,6 @@ pub records_refused : (sort : Sort) (text : List ℕ) → ((w : _) → sort ≡ 
 records_refused (sorts.Keyword w) text h = absurd (h w refl)
 records_refused _ text h = refl
 
-pub at_none : {A : Type 0} (o : Option A) (P : Type 0) (Q : A → Type 0) → MatchOption o P Q → o ≡ None → P
-at_none None P Q h e = h
-at_none (Some x) P Q h e = absurd (cc)
-
-pub at_some : {A : Type 0} (o : Option A) (x : A) (P : Type 0) (Q : A → Type 0) → MatchOption o P Q → o ≡ Some x → Q x
-at_some None x P Q h e = absurd (cc)
-at_some (Some y) x P Q h e = subst Q (let q : y ≡ x = cc in q) h
-
 -- the opening of the header
 abbrev heads : List Symbol
 heads = Head (codes "FILE_DESCRIPTION") ∷ Just Semicolon ∷ Head (codes "FILE_NAME") ∷ Just Semicolon
@@ -394,9 +385,6 @@ opening_done old place a p b q d r f h g i s = record {
   passes = passes_here (Records ∷ []) f;
 }
 
-pub opening_memory : (e : TextFault) (old : Reading) → e ≡ faults.Memory → StopsInHeader e old
-opening_memory e old q = let P : TextFault → Type 0 = λ x. StopsInHeader x old in subst P (sym q) (in_opening tt)
-
 -- the other records
 fits_push : (ps : List Record) (p : Record) → FitsRecords the_rules ps → FitsRecord the_rules 0 p
     → FitsRecords the_rules (ps ++ p ∷ [])
@@ -467,6 +455,3 @@ header_smaller here p new g = by g.1.shown g.1.shown_all g.1.words
         ++ this (mark Semicolon) ∷ []) → length (left new) < length (left here)
     by [] h m = absurd m
     by (t ∷ s) h m = omega (arith, keyword_less here t h.0 p.keyword h.1 m.0, shown_within s h.0 new h.2)
-
-pub map_three : (p q r : code.Record) → map record_of (p ∷ q ∷ r ∷ []) ≡ record_of p ∷ record_of q ∷ record_of r ∷ []
-map_three p q r = refl

@@ -1,12 +1,11 @@
-pub mod Taking
-pub mod Looking
-pub mod ParamSteps
-pub mod Keywords
-pub mod RecordSteps
-pub mod RowSteps
 pub mod Cuts
 pub mod DataSteps
 pub mod HeadSteps
+pub mod HeadKeeping
+pub mod SchemaNames
+pub mod DataKeeping
+pub mod Again
 pub mod Places
 pub mod Outcome
+pub mod Whole
 pub mod Writing

@@ -17,12 +17,13 @@ use Rattle.step_structures.specs.Trees.{Record, Section, File, Item, this, MeetA
 use Rattle.step_structures.specs.Fits.{the_rules, FitsRecords, FitsHeader, IsHeader, HasSchema, NamesSchema}
 use Rattle.step_structures.specs.Texts.{ReadsAs, items_of_opening, HoldsSchema, IsFirstFault, IsFaultOf, IsMemory}
 use Rattle.step_structures.specs.Predict.{Just, Records, opening_symbols, data_symbols, table}
-use Rattle.step_exchange.specs.Steps.{StopsIn, TakesHeader, TakesData, StopsInHeader, in_opening, unnamed, in_records}
+use Rattle.step_records.specs.Steps.{StopsIn}
+use Rattle.step_exchange.specs.Steps.{TakesHeader, TakesData, StopsInHeader, in_opening, unnamed, in_records}
 use Rattle.step_structures.proofs.Meeting.{meet_as, meet_split, meets_is}
 use Rattle.step_structures.proofs.Passing.{pass_opened, header_items}
 use Rattle.step_structures.proofs.Schemas.{holds_named}
 use Rattle.step_structures.proofs.Once.{reads_once, reads_no_fault}
-use Rattle.step_exchange.proofs.Taking.{reads_of}
+use Rattle.step_records.proofs.Taking.{reads_of}
 use Rattle.step_structures.proofs.FirstFault.{first_fault, schema_fault}
 use Rattle.step_exchange.proofs.Places.{header_bounds}
 

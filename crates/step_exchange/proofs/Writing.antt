@@ -1,19 +1,15 @@
 -- The prints of a normal text.
-use Rattle.std.proofs.Common.{◌≡◌, ℕ, ◌+◌, ◌<◌, Bool, true, false, List, [], ◌∷◌, ◌++◌, Option, length, map, take, get_or, refl, sym, ap, ◌∙◌, append_assoc, append-nil, add-one, ◌||◌, arith}
+use Rattle.std.proofs.Common.{◌≡◌, ℕ, zero, suc, ◌+◌, ◌<◌, ◌≤◌, Bool, true, false, List, [], ◌∷◌, ◌++◌, Option, Some, None, length, map, take, drop, get_or, slice_get, refl, sym, ap, ◌∙◌, append_assoc, append-nil, add-one, ◌||◌, arith}
 use Rattle.std.proofs.Math.Seq.{take-suc}
 use Rattle.std.specs.Char.{to_ascii_uppercase, is_ascii_lowercase}
 use Rattle.std.specs.List.{list_any}
-use Rattle.step_exchange.specs.declared.tree.Param.{Param}
-use Rattle.step_exchange.specs.declared.tree.Param.TheViews as views
-use Rattle.step_exchange.specs.declared.tree.Param.TheOpen as layer
-use Rattle.step_exchange.specs.declared.tree.Param.TheFolds.{fold-roll-Param}
-use Rattle.step_exchange.specs.declared.tree.Record.{Record}
-use Rattle.step_exchange.specs.declared.tree.Form.{Form}
+use Rattle.step_parameters.specs.Cells.{all_of}
+use Rattle.step_parameters.proofs.Weights.{weight, weights, lighter}
 use Rattle.devices.specs.Prints.{Printing, Prints}
-use Rattle.step_structures.specs.Trees.{Tree, typed, group}
-use Rattle.step_exchange.specs.Views.{tree_step, tree_of, trees_of, record_of, row_of}
+use Rattle.step_structures.specs.Trees.{Tree}
+use Rattle.step_exchange.specs.Views.{record_in, form_in, rows_with}
 use Rattle.step_literals.specs.Words.{upper}
-use Rattle.step_structures.specs.Normal.{plain_tree, plain_more, plain_record, plain_partial_records, plain_row, plain_rows}
+use Rattle.step_structures.specs.Normal.{plain_tree, plain_trees, plain_more, plain_record, plain_partial_records, plain_row, plain_rows}
 use Rattle.devices.proofs.Printing.{then_print, prints_as}
 
 -- in a loop over a list: what the first elements come to is printed, and then what one more comes to
@@ -30,33 +26,93 @@ pub upper_push : (xs : List ℕ) (y : ℕ) → upper (xs ++ y ∷ []) ≡ upper 
 upper_push [] y = refl
 upper_push (x ∷ xs) y = ap (λ l. to_ascii_uppercase x ∷ l) (upper_push xs y)
 
-pub more_push : (xs : List Param) (y : Param) → plain_more (trees_of (xs ++ y ∷ [])) ≡ plain_more (trees_of xs)
-    ++ (44 ∷ plain_tree (tree_of y))
-more_push [] y = append-nil (44 ∷ plain_tree (tree_of y))
-more_push (x ∷ xs) y = ap (λ l. (44 ∷ plain_tree (tree_of x)) ++ l) (more_push xs y)
-    ∙ sym (append_assoc (44 ∷ plain_tree (tree_of x)) (plain_more (trees_of xs)) (44 ∷ plain_tree (tree_of y)))
+pub more_push : (xs : List Tree) (y : Tree) → plain_more (all_of (xs ++ y ∷ [])) ≡ plain_more (all_of xs)
+    ++ (44 ∷ plain_tree y)
+more_push [] y = append-nil (44 ∷ plain_tree y)
+more_push (x ∷ xs) y = ap (λ l. (44 ∷ plain_tree x) ++ l) (more_push xs y)
+    ∙ sym (append_assoc (44 ∷ plain_tree x) (plain_more (all_of xs)) (44 ∷ plain_tree y))
 
-pub partial_records_push : (xs : List Record) (y : Record)
-    → plain_partial_records (map record_of (xs ++ y ∷ [])) ≡ plain_partial_records (map record_of xs)
-    ++ plain_record (record_of y)
-partial_records_push [] y = append-nil (plain_record (record_of y))
-partial_records_push (x ∷ xs) y = ap (λ l. plain_record (record_of x) ++ l) (partial_records_push xs y)
-    ∙ sym (append_assoc (plain_record (record_of x)) (plain_partial_records (map record_of xs))
-    (plain_record (record_of y)))
+pub partial_records_push : (xs : List Tree) (y : Tree)
+    → plain_partial_records (map record_in (xs ++ y ∷ [])) ≡ plain_partial_records (map record_in xs)
+    ++ plain_record (record_in y)
+partial_records_push [] y = append-nil (plain_record (record_in y))
+partial_records_push (x ∷ xs) y = ap (λ l. plain_record (record_in x) ++ l) (partial_records_push xs y)
+    ∙ sym (append_assoc (plain_record (record_in x)) (plain_partial_records (map record_in xs))
+    (plain_record (record_in y)))
 
-pub rows_push : (xs : List (ℕ × Form)) (y : ℕ × Form) → plain_rows (map row_of (xs ++ y ∷ [])) ≡ plain_rows
-    (map row_of xs) ++ plain_row (row_of y)
-rows_push [] y = append-nil (plain_row (row_of y))
-rows_push (x ∷ xs) y = ap (λ l. plain_row (row_of x) ++ l) (rows_push xs y)
-    ∙ sym (append_assoc (plain_row (row_of x)) (plain_rows (map row_of xs)) (plain_row (row_of y)))
+-- the first so many elements, and one more
+pub take_next : {A : Type 0} → (xs : List A) (i : ℕ) (x : A) → slice_get xs i ≡ Some x → take (suc i) xs
+    ≡ take i xs ++ x ∷ []
+take_next [] i x e = absurd (cc)
+take_next (y ∷ xs) zero x e = let same : y ≡ x = cc in ap (λ z. z ∷ []) same
+take_next (y ∷ xs) (suc i) x e = ap (λ l. y ∷ l) (take_next xs i x e)
 
-pub tree_typed : (keyword : _) (inner : _) → tree_of (views.Typed keyword inner) ≡ typed keyword.text.now
-    (tree_of inner.value)
-tree_typed keyword inner = ap tree_of (sym (views.rolls-Typed keyword inner)) ∙ fold-roll-Param Tree tree_step
-    (layer.Typed keyword inner)
+-- in a loop over a list: what the first elements come to is printed, and then what one more comes to
+pub prints_at : {A S : Type 0} {held : S → Option (List ℕ)} {failed : S → Bool} {a b c : S} {p q r : Printing}
+    (f : List A → List ℕ) (g : A → List ℕ) → ((xs : List A) (y : A) → f (xs ++ y ∷ []) ≡ f xs ++ g y)
+    → (xs : List A) (i : ℕ) (x : A) → slice_get xs i ≡ Some x → Prints held failed a b p q (f (take i xs))
+    → Prints held failed b c q r (g x) → Prints held failed a c p r (f (take (i + 1) xs))
+prints_at f g push xs i x e done next =
+    let t : take (i + 1) xs ≡ take i xs ++ x ∷ [] = rw add-one (take_next xs i x e) in
+    prints_as (sym (ap f t ∙ push (take i xs) x)) (then_print done next)
 
-pub tree_list : (params : _) → tree_of (views.List params) ≡ group (trees_of params.items)
-tree_list params = ap tree_of (sym (views.rolls-List params)) ∙ fold-roll-Param Tree tree_step (layer.List params)
+-- parameters begin with the first, and commas stand before the others
+pub params_first : (xs further : List Tree) (x : Tree) → slice_get xs 0 ≡ Some x → further ≡ drop 1 xs
+    → plain_tree x ++ plain_more (all_of further) ≡ plain_trees (all_of xs)
+params_first [] further x e f = absurd (cc)
+params_first (y ∷ ys) further x e f = let same : y ≡ x = cc in
+    λ i. plain_tree (sym same i) ++ plain_more (all_of (f i))
+
+pub no_params : (xs : List Tree) → slice_get xs 0 ≡ None → [] ≡ plain_trees (all_of xs)
+no_params [] e = refl
+no_params (x ∷ xs) e = absurd (cc)
+
+-- those behind the first weigh less as well
+pub lighter_behind : (xs further : List Tree) (i : ℕ) (x : Tree) → further ≡ drop 1 xs → slice_get further i ≡ Some x
+    → suc (weight x) < weights xs
+lighter_behind [] further i x f e = none_at i (ap (λ l. slice_get l i) (sym f) ∙ e)
+  where
+    none_at : (i : ℕ) → (let l : List Tree = [] in slice_get l i) ≡ Some x → suc (weight x) < weights []
+    none_at i h = absurd (cc)
+lighter_behind (y ∷ ys) further i x f e = lighter (y ∷ ys) (suc i) x (ap (λ l. slice_get l i) (sym f) ∙ e)
+
+-- instances with so many names
+pub rows_push : (ns : List ℕ) (xs : List Tree) (i n : ℕ) (x : Tree) → slice_get ns i ≡ Some n → slice_get xs i ≡ Some x
+    → plain_rows (rows_with (take (suc i) ns) (take (suc i) xs)) ≡ plain_rows (rows_with (take i ns) (take i xs))
+    ++ plain_row (record { name = n; form = form_in x })
+rows_push [] xs i n x e f = absurd (cc)
+rows_push (m ∷ ns) [] i n x e f = absurd (cc)
+rows_push (m ∷ ns) (y ∷ xs) zero n x e f =
+    let k : m ≡ n = cc in
+    let l : y ≡ x = cc in
+    append-nil (plain_row (record { name = m; form = form_in y }))
+    ∙ (λ j. plain_row (record { name = k j; form = form_in (l j) }))
+rows_push (m ∷ ns) (y ∷ xs) (suc i) n x e f =
+    let r = plain_row (record { name = m; form = form_in y }) in
+    ap (λ l. r ++ l) (rows_push ns xs i n x e f)
+    ∙ sym (append_assoc r (plain_rows (rows_with (take i ns) (take i xs))) (plain_row (record {
+      name = n;
+      form = form_in x;
+    })))
+
+-- all of them, where no name or no tree is left
+pub rows_all : (ns : List ℕ) (xs : List Tree) (i : ℕ) → length ns ≤ i → rows_with (take i ns) (take i xs)
+    ≡ rows_with ns xs
+rows_all [] xs zero h = refl
+rows_all [] xs (suc i) h = refl
+rows_all (n ∷ ns) xs zero h = absurd (omega (arith, h))
+rows_all (n ∷ ns) [] (suc i) h = refl
+rows_all (n ∷ ns) (x ∷ xs) (suc i) h = ap (λ l. record { name = n; form = form_in x } ∷ l)
+    (rows_all ns xs i (omega (arith, h)))
+
+pub rows_short : (ns : List ℕ) (xs : List Tree) (i : ℕ) → slice_get xs i ≡ None → rows_with (take i ns) (take i xs)
+    ≡ rows_with ns xs
+rows_short [] xs zero h = refl
+rows_short [] xs (suc i) h = refl
+rows_short (n ∷ ns) [] zero h = refl
+rows_short (n ∷ ns) (x ∷ xs) zero h = absurd (cc)
+rows_short (n ∷ ns) [] (suc i) h = refl
+rows_short (n ∷ ns) (x ∷ xs) (suc i) h = ap (λ l. record { name = n; form = form_in x } ∷ l) (rows_short ns xs i h)
 
 byte_kept : (x : ℕ) → is_ascii_lowercase x ≡ false → to_ascii_uppercase x ≡ x
 byte_kept x e = grind arith

@@ -1,14 +1,13 @@
 -- The exchange structure that a program's value is, and its normal text.
-use Rattle.std.specs.Prelude.{◌≡◌, ℕ, List, map}
+use Rattle.std.specs.Prelude.{◌≡◌, ℕ, List}
 use Rattle.step_exchange.specs.declared.structure.Exchange.{Exchange}
 use Rattle.step_structures.specs.Trees.{File}
 use Rattle.step_structures.specs.Normal.{plain_text}
-use Rattle.step_exchange.specs.Views.{row_of}
 use Rattle.step_exchange.specs.Sections.{file_of}
 
 -- the structure that was read
 abbrev pub structure : Exchange → File
-structure x = file_of x.header.items x.sections.items (map row_of x.records.entries)
+structure x = file_of x.header_len x.trees x.names.keys x.sections.items
 
 -- the normal text of it
 abbrev pub normal_text : Exchange → List ℕ

@@ -1,4 +1,5 @@
 pub mod Views
 pub mod Sections
 pub mod Steps
+pub mod Keeping
 pub mod Exchanges

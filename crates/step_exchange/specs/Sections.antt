@@ -2,10 +2,9 @@
 use Rattle.std.specs.Prelude.{◌≡◌, ℕ, ◌-◌, ◌≤◌, List, [], ◌∷◌, Option, Some, None, take, drop, map}
 use Rattle.step_literals.specs.declared.literal.Text.{Text}
 use Rattle.step_exchange.specs.declared.section.Section.{Section}
-use Rattle.step_exchange.specs.declared.tree.Record.{Record}
-use Rattle.step_structures.specs.Trees.{Row, File}
+use Rattle.step_structures.specs.Trees.{Tree, Row, File}
 use Rattle.step_structures.specs.Trees as trees
-use Rattle.step_exchange.specs.Views.{record_of}
+use Rattle.step_exchange.specs.Views.{record_in, rows_with}
 
 -- a section's name and that of its schema
 abbrev pub heading_of : Option (Text × Text) → Option (List ℕ × List ℕ)
@@ -23,6 +22,9 @@ abbrev pub CountsTo : ℕ → List Section → ℕ → Type 0
 CountsTo from [] n = from ≡ n
 CountsTo from (s ∷ ss) n = (from ≤ s.past) × CountsTo s.past ss n
 
--- the structure that a header's records and sections with these instances are
-abbrev pub file_of : List Record → List Section → List Row → File
-file_of header sections rows = record { header = map record_of header; sections = sections_of 0 sections rows }
+-- the structure that these trees are: so many records of the header, and then an instance for each name
+abbrev pub file_of : ℕ → List Tree → List ℕ → List Section → File
+file_of header_len xs names sections = record {
+  header = map record_in (take header_len xs);
+  sections = sections_of 0 sections (rows_with names (drop header_len xs));
+}

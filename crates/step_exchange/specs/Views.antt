@@ -1,46 +1,30 @@
--- The trees that the program's values are.
-use Rattle.std.specs.Prelude.{ℕ, List, [], ◌∷◌, map}
-use Rattle.step_lexis.specs.declared.token.Mark.TheVariants.{Dollar, Asterisk}
-use Rattle.step_exchange.specs.declared.tree.Param.{Param}
-use Rattle.step_exchange.specs.declared.tree.Param.TheOpen.{Param-F}
-use Rattle.step_exchange.specs.declared.tree.Param.TheOpen as layer
-use Rattle.step_exchange.specs.declared.tree.Param.TheFolds.{fold-Param}
-use Rattle.step_exchange.specs.declared.tree.Record.{Record}
-use Rattle.step_exchange.specs.declared.tree.Form.{Form}
-use Rattle.step_exchange.specs.declared.tree.Form.TheVariants as forms
-use Rattle.step_structures.specs.Words.{name, number, element, string, binary, mark}
-use Rattle.step_structures.specs.Trees.{Tree, leaf, typed, group, Trees, none, one}
-use Rattle.step_structures.specs.Trees as trees
+-- The records and instances that trees are (ISO 10303-21, 8 and 11).
+use Rattle.std.specs.Prelude.{ℕ, Bool, true, false, if◌then◌else◌, List, [], ◌∷◌, map}
+use Rattle.step_structures.specs.Words.{keyword}
+use Rattle.step_structures.specs.Trees.{Tree, leaf, none, Record, Form, internal, external, Row}
+use Rattle.step_parameters.specs.Cells.{all_of}
+use Rattle.step_parameters.specs.Params.{parts_of, keyword_of}
 
-abbrev pub all_of : List Tree → Trees
-all_of [] = none
-all_of (x ∷ xs) = one x (all_of xs)
+-- a keyword, and then parameters
+abbrev pub record_of : List Tree → Record
+record_of [] = record { keyword = []; values = none }
+record_of (k ∷ xs) = record { keyword = keyword_of k; values = all_of xs }
 
--- one parameter, with the tree of each inner one in its place
-abbrev pub tree_step : Param-F Tree → Tree
-tree_step layer.Unset = leaf (mark Dollar)
-tree_step layer.Star = leaf (mark Asterisk)
-tree_step (layer.Number d) = leaf (number d.text.now)
-tree_step (layer.Text t) = leaf (string t.text.now)
-tree_step (layer.Bits b) = leaf (binary b.text.now)
-tree_step (layer.Element w) = leaf (element w.text.now)
-tree_step (layer.Reference n text) = leaf (name n text.now)
-tree_step (layer.Typed w x) = typed w.text.now x.value
-tree_step (layer.List xs) = group (all_of xs.items)
+abbrev pub record_in : Tree → Record
+record_in x = record_of (parts_of x)
 
--- the tree that a parameter is
-abbrev pub tree_of : Param → Tree
-tree_of = fold-Param Tree tree_step
+abbrev pub begins_with_keyword : List Tree → Bool
+begins_with_keyword (leaf (keyword text) ∷ xs) = true
+begins_with_keyword _ = false
 
-abbrev pub trees_of : List Param → Trees
-trees_of ps = all_of (map tree_of ps)
+-- a record, or partial records
+abbrev pub form_of : List Tree → Form
+form_of xs = if begins_with_keyword xs then internal (record_of xs) else external (map record_in xs)
 
-abbrev pub record_of : Record → trees.Record
-record_of p = record { keyword = p.keyword.text.now; values = trees_of p.params.items }
+abbrev pub form_in : Tree → Form
+form_in x = form_of (parts_of x)
 
-abbrev pub form_of : Form → trees.Form
-form_of (forms.Internal p) = trees.internal (record_of p)
-form_of (forms.External ps) = trees.external (map record_of ps.items)
-
-abbrev pub row_of : (ℕ × Form) → trees.Row
-row_of e = record { name = e.0; form = form_of e.1 }
+-- instances with these names, each of its tree
+abbrev pub rows_with : List ℕ → List Tree → List Row
+rows_with (n ∷ ns) (x ∷ xs) = record { name = n; form = form_in x } ∷ rows_with ns xs
+rows_with _ _ = []

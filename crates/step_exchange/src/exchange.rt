@@ -1,6 +1,6 @@
 //! The exchange structure of a text.
 
-ghost use Rattle.std.specs.Prelude.{List, ℕ, IfOk, IfErr, MatchResult};
+ghost use Rattle.std.specs.Prelude.{◌≡◌, List, ℕ, IfOk, IfErr, MatchResult};
 ghost use Rattle.step_structures.specs.Trees.{File};
 ghost use Rattle.step_structures.specs.Texts.{ReadsAs, IsFaultOf, IsMemory};
 ghost use Rattle.step_exchange.specs.Exchanges.{structure, IsExchange};
@@ -8,13 +8,38 @@ ghost use Rattle.step_exchange.specs.Exchanges.{structure, IsExchange};
 use crate::data::data;
 use crate::header::header;
 use crate::structure::Exchange;
+use memchr::memchr_iter;
 use std::alloc::Global;
 use std::hash::RandomState;
-use step_lexis::lexer::Lexer;
+use step_records::reader::Reader;
 use step_structures::fault::TextFault;
 
-/// So many bytes an instance has in most files.
-const BYTES_AN_INSTANCE: usize = 64;
+/// An instance has so many cells in most files, or a few more.
+const CELLS: usize = 6;
+
+/// Few files have instances of fewer bytes.
+const BYTES: usize = 16;
+
+/// How many instances a text seems to have, by its semicolons.
+fn expected(text: &[u8]) -> usize {
+    memchr_iter(b';', text).count().min(text.len() / BYTES)
+}
+
+/// Asks for room for so many cells and trees, or half as many and so on where memory has no such
+/// room.
+fn reserve(reader: &mut Reader<'_>, cells: usize, trees: usize)
+    ensures { reader.new ≡ reader.old }
+{
+    let mut more_cells = cells;
+    let mut more_trees = trees;
+    while more_cells > 0 {
+        if reader.reserve(more_cells, more_trees).is_ok() {
+            return;
+        }
+        more_cells /= 2;
+        more_trees /= 2;
+    }
+}
 
 /// The exchange structure that a text reads as (ISO 10303-21, 5 to 11).
 ///
@@ -35,16 +60,20 @@ pub fn read_exchange<'a>(
     // A fault is the text's first one.
     ensures fault { IfErr result (λ e. IsFaultOf text.now e) }
 {
-    let mut lexer = Lexer::new(text);
-    let (first, header) = header(alloc, &mut lexer)?;
-    let end = lexer.place();
-    let (sections, records) = data(alloc, keys, &mut lexer, text.len() / BYTES_AN_INSTANCE)?;
-    let (header_bytes, _) = text.split_at(end as usize);
-    let (_, header_bytes) = header_bytes.split_at(first as usize);
+    let rows = expected(text);
+    let mut reader = Reader::new(alloc, text);
+    reserve(&mut reader, rows.saturating_mul(CELLS), rows);
+    let first = header(&mut reader)?;
+    let end = reader.place();
+    let header_len = reader.kept_len();
+    let (sections, names) = data(alloc, keys, &mut reader, rows)?;
+    let (front, _) = text.split_at(end as usize);
+    let (_, header_bytes) = front.split_at(first as usize);
     Ok(Exchange {
         header_bytes,
-        header,
+        trees: reader.finish(),
+        header_len,
+        names,
         sections,
-        records,
     })
 }

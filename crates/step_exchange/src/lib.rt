@@ -4,12 +4,9 @@
 mod data;
 pub mod exchange;
 mod header;
-mod params;
-mod records;
+mod schema;
 pub mod section;
 pub mod structure;
-mod tokens;
-pub mod tree;
 pub mod write;
 
 pub use step_structures::fault;

@@ -5,7 +5,16 @@ ghost use Rattle.std.specs.Char.{is_ascii_lowercase};
 ghost use Rattle.std.specs.List.{list_any};
 ghost use Rattle.devices.specs.Prints.{Prints};
 ghost use Rattle.devices.specs.Emits.{Emits};
-ghost use Rattle.step_exchange.specs.Views.{tree_of, trees_of, record_of, form_of, row_of};
+ghost use Rattle.step_parameters.specs.Cells.{all_of};
+ghost use Rattle.step_parameters.specs.Params.{node_value};
+ghost use Rattle.step_exchange.specs.Views.{
+  record_of,
+  record_in,
+  begins_with_keyword,
+  form_of,
+  form_in,
+  rows_with,
+};
 ghost use Rattle.step_literals.specs.Words.{upper};
 ghost use Rattle.step_structures.specs.Normal.{
   plain_name,
@@ -27,14 +36,10 @@ ghost use Rattle.step_structures.specs.Texts.{ReadsAs};
 
 use crate::section::Section;
 use crate::structure::Exchange;
-use crate::tree::{Form, Param, Record};
 use devices::device::{Sink, WriteFault};
 use devices::printer::Printer;
-use indexmap::map::Slice;
 use step_literals::literal::Text;
-
-/// Instances beside one another.
-type Rows<'r, 'a> = Slice<'r, u64, Form<'a>>;
+use step_parameters::param::{Node, Param, Params, cut};
 
 // Whether a byte of the word is a letter in lower case.
 fn has_lowercase(word: &[u8]) -> bool
@@ -86,23 +91,33 @@ fn print_name<S: Sink>(printer: &mut Printer, out: &mut S, name: u64)
 #[cycle(params)]
 fn print_param<S: Sink>(printer: &mut Printer, out: &mut S, param: &Param<'_>)
     ensures { Prints S.held S.has_failed out.old out.new printer.old printer.new
-        (plain_tree (tree_of param.now)) }
+        (plain_tree param.now) }
 {
-    match param {
-        Param::Unset => printer.print_byte(out, b'$'),
-        Param::Star => printer.print_byte(out, b'*'),
-        Param::Number(number) => printer.print(out, number.spelling()),
-        Param::Text(text) => printer.print(out, text.spelling()),
-        Param::Bits(bits) => printer.print(out, bits.spelling()),
-        Param::Element(word) => print_element(printer, out, word.spelling()),
-        Param::Reference(name, _) => print_name(printer, out, *name),
-        Param::Typed(keyword, inner) => {
+    print_node(printer, out, &param.node());
+}
+
+// The outermost part of a parameter, and what is inside it.
+#[cycle(params)]
+fn print_node<S: Sink>(printer: &mut Printer, out: &mut S, node: &Node<'_>)
+    ensures { Prints S.held S.has_failed out.old out.new printer.old printer.new
+        (plain_tree (node_value node.now)) }
+{
+    match node {
+        Node::Unset => printer.print_byte(out, b'$'),
+        Node::Star => printer.print_byte(out, b'*'),
+        Node::Number(number) => printer.print(out, number.spelling()),
+        Node::Text(text) => printer.print(out, text.spelling()),
+        Node::Bits(bits) => printer.print(out, bits.spelling()),
+        Node::Element(word) => print_element(printer, out, word.spelling()),
+        Node::Reference(name, _) => print_name(printer, out, *name),
+        Node::Keyword(word) => print_upper(printer, out, word.spelling()),
+        Node::Typed(keyword, inner) => {
             print_upper(printer, out, keyword.spelling());
             printer.print_byte(out, b'(');
             print_param(printer, out, inner);
             printer.print_byte(out, b')');
         }
-        Param::List(params) => {
+        Node::List(params) => {
             printer.print_byte(out, b'(');
             print_params(printer, out, params);
             printer.print_byte(out, b')');
@@ -112,74 +127,98 @@ fn print_param<S: Sink>(printer: &mut Printer, out: &mut S, param: &Param<'_>)
 
 // Parameters, with commas between.
 #[cycle(params)]
-fn print_params<S: Sink>(printer: &mut Printer, out: &mut S, params: &[Param<'_>])
+fn print_params<S: Sink>(printer: &mut Printer, out: &mut S, params: &Params<'_>)
     ensures { Prints S.held S.has_failed out.old out.new printer.old printer.new
-        (plain_trees (trees_of params.now)) }
+        (plain_trees (all_of params.now)) }
 {
-    let Some((first, further)) = params.split_first() else {
+    let Some(first) = params.item(0) else {
         return;
     };
-    print_param(printer, out, first);
-    for param in further {
+    let (_, further) = params.split(1);
+    print_param(printer, out, &first);
+    for i in 0..further.len() {
         printer.print_byte(out, b',');
-        print_param(printer, out, param);
+        print_param(printer, out, &further.at(i));
+    }
+}
+
+// The keyword that stands first.
+fn first_keyword<'t>(parts: &Params<'t>) -> &'t [u8]
+    ensures { result.now ≡ (record_of parts.now).keyword }
+{
+    match parts.item(0) {
+        Some(first) => first.keyword(),
+        None => &[],
     }
 }
 
 // A keyword and its parameters.
-fn print_record<S: Sink>(printer: &mut Printer, out: &mut S, simple_record: &Record<'_>)
+fn print_parts<S: Sink>(printer: &mut Printer, out: &mut S, parts: &Params<'_>)
     ensures { Prints S.held S.has_failed out.old out.new printer.old printer.new
-        (plain_record (record_of simple_record.now)) }
+        (plain_record (record_of parts.now)) }
 {
-    print_upper(printer, out, simple_record.keyword.spelling());
+    print_upper(printer, out, first_keyword(parts));
     printer.print_byte(out, b'(');
-    print_params(printer, out, &simple_record.params);
+    let (_, values) = parts.split(1);
+    print_params(printer, out, &values);
     printer.print_byte(out, b')');
 }
 
 // Partial records, with nothing between.
-fn print_partial_records<S: Sink>(printer: &mut Printer, out: &mut S, partials: &[Record<'_>])
+fn print_partial_records<S: Sink>(printer: &mut Printer, out: &mut S, partials: &Params<'_>)
     ensures { Prints S.held S.has_failed out.old out.new printer.old printer.new
-        (plain_partial_records (map record_of partials.now)) }
+        (plain_partial_records (map record_in partials.now)) }
 {
-    for partial in partials {
-        print_record(printer, out, partial);
+    for i in 0..partials.len() {
+        print_parts(printer, out, &partials.at(i).parts());
+    }
+}
+
+// Whether an instance is mapped internally: a keyword stands first.
+fn is_internal(parts: &Params<'_>) -> bool
+    ensures { result ≡ begins_with_keyword parts.now }
+{
+    match parts.item(0) {
+        Some(first) => matches!(first.node(), Node::Keyword(_)),
+        None => false,
     }
 }
 
 // What stands for an instance behind its `=`.
-fn print_form<S: Sink>(printer: &mut Printer, out: &mut S, form: &Form<'_>)
+fn print_form<S: Sink>(printer: &mut Printer, out: &mut S, parts: &Params<'_>)
     ensures { Prints S.held S.has_failed out.old out.new printer.old printer.new
-        (plain_form (form_of form.now)) }
+        (plain_form (form_of parts.now)) }
 {
-    match form {
-        Form::Internal(simple_record) => print_record(printer, out, simple_record),
-        Form::External(partials) => {
-            printer.print_byte(out, b'(');
-            print_partial_records(printer, out, partials);
-            printer.print_byte(out, b')');
-        }
+    if is_internal(parts) {
+        print_parts(printer, out, parts);
+    } else {
+        printer.print_byte(out, b'(');
+        print_partial_records(printer, out, parts);
+        printer.print_byte(out, b')');
     }
 }
 
 // The line of an instance.
-fn print_row<S: Sink>(printer: &mut Printer, out: &mut S, name: u64, form: &Form<'_>)
+fn print_row<S: Sink>(printer: &mut Printer, out: &mut S, name: u64, form: &Param<'_>)
     ensures { Prints S.held S.has_failed out.old out.new printer.old printer.new
-        (plain_row (row_of (name, form.now))) }
+        (plain_row (record { name = name; form = form_in form.now })) }
 {
     print_name(printer, out, name);
     printer.print_byte(out, b'=');
-    print_form(printer, out, form);
+    print_form(printer, out, &form.parts());
     printer.print(out, b";\n");
 }
 
 // A line for each instance, in order.
-fn print_rows<S: Sink>(printer: &mut Printer, out: &mut S, rows: Rows<'_, '_>)
+fn print_rows<S: Sink>(printer: &mut Printer, out: &mut S, names: &[u64], forms: &Params<'_>)
     ensures { Prints S.held S.has_failed out.old out.new printer.old printer.new
-        (plain_rows (map row_of rows.entry)) }
+        (plain_rows (rows_with names.now forms.now)) }
 {
-    for (name, form) in rows.iter() {
-        print_row(printer, out, *name, form);
+    for i in 0..names.len() {
+        let Some(form) = forms.item(i) else {
+            return;
+        };
+        print_row(printer, out, names[i], &form);
     }
 }
 
@@ -202,30 +241,20 @@ fn print_section<S: Sink>(
     printer: &mut Printer,
     out: &mut S,
     section: Section<'_>,
-    rows: Rows<'_, '_>,
+    names: &[u64],
+    forms: &Params<'_>,
 )
     ensures { Prints S.held S.has_failed out.old out.new printer.old printer.new
         (plain_section (record {
           heading = heading_of section.entry.heading;
-          rows = map row_of rows.entry;
+          rows = rows_with names.now forms.now;
         })) }
 {
     printer.print(out, b"DATA");
     print_heading(printer, out, section.heading);
     printer.print(out, b";\n");
-    print_rows(printer, out, rows);
+    print_rows(printer, out, names, forms);
     printer.print(out, b"ENDSEC;\n");
-}
-
-// The first so many instances, or all, and the others.
-fn cut<'r, 'a>(rows: Rows<'r, 'a>, count: usize) -> (Rows<'r, 'a>, Rows<'r, 'a>)
-    ensures front { result.0 ≡ take count rows.entry }
-    ensures back { result.1 ≡ drop count rows.entry }
-{
-    match rows.split_at_checked(count) {
-        Some(parts) => parts,
-        None => (rows, Slice::new()),
-    }
 }
 
 // Data sections, whose instances these are, one after another.
@@ -233,17 +262,22 @@ fn print_sections<S: Sink>(
     printer: &mut Printer,
     out: &mut S,
     sections: &[Section<'_>],
-    rows: Rows<'_, '_>,
+    names: &[u64],
+    forms: Params<'_>,
 )
     ensures { Prints S.held S.has_failed out.old out.new printer.old printer.new
-        (plain_sections (sections_of 0 sections.now (map row_of rows.entry))) }
+        (plain_sections (sections_of 0 sections.now (rows_with names.now forms.entry))) }
 {
     let mut from: u32 = 0;
-    let mut rest = rows;
+    let mut names = names;
+    let mut forms = forms;
     for section in sections {
-        let (own, behind) = cut(rest, section.past.saturating_sub(from) as usize);
-        print_section(printer, out, *section, own);
-        rest = behind;
+        let count = section.past.saturating_sub(from) as usize;
+        let (own_names, names_behind) = cut(names, count);
+        let (own_forms, forms_behind) = forms.split(count);
+        print_section(printer, out, *section, own_names, &own_forms);
+        names = names_behind;
+        forms = forms_behind;
         from = section.past;
     }
 }
@@ -252,7 +286,8 @@ fn print_sections<S: Sink>(
 /// data sections, with a line for each instance, in the order of the file.
 ///
 /// That text reads as the same header and the same sections, with their headings and the instances
-/// of each, but for the case of words and the spelling of names. Where the sink fails, a front of it went out, and the fault has its length.
+/// of each, but for the case of words and the spelling of names. Where the sink fails, a front of
+/// it went out, and the fault has its length.
 pub fn write_plain<S: Sink>(exchange: &Exchange<'_>, out: &mut S) -> Result<(), WriteFault>
     ensures emits { Emits (S.held out.old) (S.held out.new) (normal_text exchange.now) result }
     ensures failed { S.has_failed out.old ≡ false → S.has_failed out.new ≡ is_err result }
@@ -262,11 +297,13 @@ pub fn write_plain<S: Sink>(exchange: &Exchange<'_>, out: &mut S) -> Result<(), 
     let mut printer = Printer::new();
     printer.print(out, exchange.header_bytes);
     printer.print(out, b"\n");
+    let (_, forms) = exchange.trees.trees().split(exchange.header_len);
     print_sections(
         &mut printer,
         out,
         &exchange.sections,
-        exchange.records.as_slice(),
+        exchange.names.as_slice(),
+        forms,
     );
     printer.print(out, b"END-ISO-10303-21;\n");
     printer.finish(out)

@@ -11,3 +11,4 @@ pub mod LayoutFound
 pub mod StringFound
 pub mod FrontFound
 pub mod Answered
+pub mod MarkFound

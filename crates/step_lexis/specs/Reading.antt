@@ -1,5 +1,6 @@
 -- How far a text is read, and what its next token is.
-use Rattle.std.specs.Prelude.{◌≡◌, ℕ, ◌+◌, length, Option, Result}
+use Rattle.std.specs.Prelude.{◌≡◌, ℕ, ◌+◌, Bool, true, false, length, Option, Result}
+use Rattle.step_lexis.specs.declared.token.Mark.{Mark}
 use Rattle.step_lexis.specs.declared.token.Token.{Token}
 use Rattle.step_lexis.specs.declared.token.Sort.{Sort}
 use Rattle.step_lexis.specs.declared.token.Sort.TheVariants as sorts
@@ -46,6 +47,11 @@ Reaches = lexing.Reaches lexis
 -- after layout the token stands, and the text is read up to its end
 abbrev pub Takes : Reading → Token → Reading → Type 0
 Takes = lexing.Takes lexis
+
+-- this mark is taken, or nothing is read
+abbrev pub SkipsMark : Mark → Bool → Reading → Reading → Type 0
+SkipsMark m true old new = (t : Token) × (t.sort ≡ sorts.Mark m) × Takes old t new
+SkipsMark m false old new = new ≡ old
 
 -- only layout is left of the text
 abbrev pub IsAtEnd : Reading → Reading → Type 0

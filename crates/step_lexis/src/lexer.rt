@@ -1,9 +1,10 @@
 //! The lexer.
 ghost use Rattle.std.specs.Prelude.{◌≡◌};
+ghost use Rattle.step_lexis.specs.Front.{mark_byte};
 
 use crate::fronts::front_at;
 use crate::layout::layout_len;
-use crate::token::Token;
+use crate::token::{Mark, Token};
 use std::marker::Model;
 use step_literals::fault::TextFault;
 
@@ -27,8 +28,24 @@ impl<'a> Model for Lexer<'a> {
     ghost invariant = { λ l. l.place ≤ length l.text.now };
 }
 
+/// The byte that a mark is.
+#[inline(always)]
+fn byte_of(mark: Mark) -> u8
+    ensures { result ≡ mark_byte mark }
+{
+    match mark {
+        Mark::Open => b'(',
+        Mark::Close => b')',
+        Mark::Comma => b',',
+        Mark::Semicolon => b';',
+        Mark::Equals => b'=',
+        Mark::Dollar => b'$',
+        Mark::Asterisk => b'*',
+    }
+}
+
 impl<'a> Lexer<'a> {
-    ghost use Rattle.step_lexis.specs.Reading.{Answers, start};
+    ghost use Rattle.step_lexis.specs.Reading.{Answers, SkipsMark, start};
 
     /// A lexer at the start of a text, behind a byte order mark if there is one.
     pub fn new(text: &'a [u8]) -> Self
@@ -46,6 +63,20 @@ impl<'a> Lexer<'a> {
         ensures { result ≡ self.now.place }
     {
         self.place as u64
+    }
+
+    /// Reads this mark where it stands next and no layout before it; whether it does. Else nothing
+    /// is read.
+    #[inline(always)]
+    pub fn skip_mark(&mut self, wanted: Mark) -> bool
+        ensures { SkipsMark wanted result self.old self.new }
+    {
+        let place = self.place;
+        if place >= self.text.len() || self.text[place] != byte_of(wanted) {
+            return false;
+        }
+        self.place = place + 1;
+        true
     }
 
     /// The next token, the longest that stands behind the layout; `None` at the end of the text.

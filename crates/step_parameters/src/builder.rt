@@ -19,7 +19,8 @@ use step_lexis::token::{Mark, Sort, Token};
 ///
 /// Each parameter is pending until the list that it stands in is closed, and the list is then
 /// pending in its place; a tree that is whole is kept. A cell has 32 bits for a length: where a
-/// literal has 4 GiB or more, or a list 2^32 parameters or more, the answer is want of memory.
+/// literal has 4 GiB or more, or a list 2^32 parts or more, the answer is want of memory. Behind want
+/// of memory the trees that were pending or kept may be lost; the text stays.
 #[derive(Drop)]
 pub struct Builder<'a> {
     text: &'a [u8],
@@ -142,7 +143,8 @@ impl<'a> Builder<'a> {
     }
 
     /// The keyword and the parameter that are pending behind a mark become a typed parameter, which
-    /// is pending in their place.
+    /// is pending in their place. Where the first of these two is no keyword they become an empty
+    /// list.
     pub fn close_typed(&mut self, mark: usize) -> Result<(), AllocError>
         requires { mark + 2 ≡ length self.old.pending }
         ensures { MatchResult result

@@ -11,8 +11,11 @@ pub enum Leaf {
     Unset,
     /// `*`, a value that is derived
     Star,
+    /// An integer or a real number.
     Number,
+    /// A string.
     Text,
+    /// A binary.
     Bits,
     /// An element of an enumeration.
     Element,
@@ -25,6 +28,7 @@ pub enum Leaf {
 /// What a cell is.
 #[derive(Clone, Copy, Debug, PartialEq, Eq)]
 pub enum Kind {
+    /// What has nothing inside.
     Leaf(Leaf),
     /// A typed parameter: its keyword and the parameter inside.
     Typed,
@@ -35,6 +39,7 @@ pub enum Kind {
 /// One node of a parameter. Those inside it stand before it in its column, side by side.
 #[derive(Clone, Copy)]
 pub struct Cell {
+    /// Which parameter, or part of one, it is.
     pub kind: Kind,
     /// How many bytes a leaf has, or how many cells are inside a list.
     pub len: u32,

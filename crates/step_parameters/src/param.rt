@@ -87,8 +87,11 @@ pub enum Node<'t> {
     Unset,
     /// `*`, a value that is derived
     Star,
+    /// An integer or a real number.
     Number(Decimal<'t>),
+    /// A string.
     Text(Text<'t>),
+    /// A binary.
     Bits(Bits<'t>),
     /// An element of an enumeration, without its dots.
     Element(Word<'t>),
@@ -210,8 +213,8 @@ fn part<'t, T>(items: &'t [T], at: u64, len: u32) -> &'t [T]
     part
 }
 
-// The first so many items, or all, and the others.
-fn cut<'t, T>(items: &'t [T], count: usize) -> (&'t [T], &'t [T])
+/// The first so many items, or all, and the others.
+pub fn cut<'t, T>(items: &'t [T], count: usize) -> (&'t [T], &'t [T])
     ensures front { result.0.now ≡ take count items.now }
     ensures back { result.1.now ≡ drop count items.now }
 {

@@ -2,13 +2,15 @@
 use Rattle.std.proofs.Common.{◌≡◌, ℕ, true, false, List, [], ◌∷◌, Ok, Err, refl, ap, ◌∙◌}
 use Rattle.std.proofs.lemmas.Bool.{false≢true}
 use Rattle.step_lexis.specs.declared.token.Mark.{Mark}
+use Rattle.step_lexis.specs.declared.token.Mark.TheVariants.{Open, Close, Comma, Semicolon, Equals, Dollar, Asterisk}
+use Rattle.step_lexis.specs.declared.token.Sort.TheVariants as sorts
 use Rattle.step_literals.specs.declared.fault.TextFault as lexis
 use Rattle.step_lexis.specs.Reading.{Reading, Takes, IsAtEnd, IsFaulty}
 use Rattle.step_lexis.specs.declared.token.Token.{Token}
 use Rattle.step_structures.specs.declared.fault.FaultKind.TheVariants as kinds
 use Rattle.step_structures.specs.declared.fault.TextFault.{TextFault}
 use Rattle.step_structures.specs.declared.fault.TextFault.TheVariants as faults
-use Rattle.step_structures.specs.Words.{mark, keyword, Lookahead, token, flawed, end_of_text, located, located_fault, located_end, shows_fault, shows_end}
+use Rattle.step_structures.specs.Words.{mark, keyword, Lookahead, token, flawed, end_of_text, located, located_fault, located_end, word_of, shows_fault, shows_end}
 use Rattle.step_structures.specs.Trees.{this, says, Meets}
 use Rattle.step_structures.specs.Fits.{the_rules}
 use Rattle.step_structures.specs.Predict.{Symbol, Just, Say, EndOfText, refused, is_mark, is_word, table}
@@ -39,6 +41,18 @@ stops_flaw f old new h y = stops_shown (faults.Fault (kinds.Token f.flaw) f.plac
 pub mark_met : (m : Mark) (s : Lookahead) → is_mark m s ≡ true → s ≡ token (mark m)
 mark_met m (token (mark k)) e = ap (λ x. token (mark x)) (same_mark m k e)
 mark_met m _ e = absurd (false≢true e)
+
+mark_itself : (m : Mark) → is_mark m (token (mark m)) ≡ true
+mark_itself Open = refl
+mark_itself Close = refl
+mark_itself Comma = refl
+mark_itself Semicolon = refl
+mark_itself Equals = refl
+mark_itself Dollar = refl
+mark_itself Asterisk = refl
+
+pub mark_shown : (t : Token) (m : Mark) → t.sort ≡ sorts.Mark m → is_mark m (located t).lookahead ≡ true
+mark_shown t m e = ap (λ s. is_mark m (token (word_of s t.text.now))) e ∙ mark_itself m
 
 pub meets_mark : (m : Mark) (s : Lookahead) → is_mark m s ≡ true → Meets s (this (mark m))
 meets_mark m s e = meets_is (mark m) s (mark_met m s e)

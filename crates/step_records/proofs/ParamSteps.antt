@@ -192,18 +192,11 @@ pub items_err_value : (e : TextFault) (n : ℕ) (old : Reading) (xs : Trees) (he
 items_err_value e n old xs here t a u b so h c k g = stops_behind_taken e (Value n ∷ []) (More n ∷ []) u
     (passes_comma n old xs here t a so h c) k g
 
-more_refused : (n : ℕ) (s : Lookahead) → is_mark Close s ≡ false → is_mark Comma s ≡ false → table (More n) s ≡ Err
+pub more_refused : (n : ℕ) (s : Lookahead) → is_mark Close s ≡ false → is_mark Comma s ≡ false → table (More n) s ≡ Err
     (refused s)
 more_refused n (token (mark Comma)) c d = absurd (false≢true (sym d))
 more_refused n (token (mark Close)) c d = absurd (false≢true (sym c))
 more_refused n _ c d = refl
-
-pub items_err_mark : (e : TextFault) (n : ℕ) (old : Reading) (xs : Trees) (here : Reading) (t : Token) (a : Reading)
-    → SoFar n old xs here → Takes here t a → is_mark Close (located t).lookahead ≡ false
-    → is_mark Comma (located t).lookahead ≡ false → e ≡ faults.Fault (refused (located t).lookahead) t.place
-    → StopsIn e (Items n ∷ []) [] old
-items_err_mark e n old xs here t a so h c d q = items_err_token e n old xs here so
-    (stops_refused e (More n) t here a h (more_refused n (located t).lookahead c d) q)
 
 -- one more parameter at the end
 pub push_tree : Trees → Tree → Trees

@@ -1,5 +1,5 @@
 -- Parameters that are read and built.
-use Rattle.std.proofs.Common.{◌≡◌, ℕ, ◌+◌, ◌<◌, true, false, List, [], ◌∷◌, ◌++◌, length, take, drop, Some, Result, Ok, Err, MatchResult, refl, sym, ap, ◌∙◌, subst, append_assoc, append-nil, arith, length-append}
+use Rattle.std.proofs.Common.{◌≡◌, ℕ, ◌+◌, ◌<◌, Bool, true, false, List, [], ◌∷◌, ◌++◌, length, take, drop, Some, Result, Ok, Err, MatchResult, refl, sym, ap, ◌∙◌, subst, append_assoc, append-nil, arith, length-append}
 use Rattle.std.proofs.lemmas.List.{take_at, drop_at}
 use Rattle.step_lexis.specs.declared.token.Mark.TheVariants.{Open, Close, Comma, Semicolon, Equals, Dollar, Asterisk}
 use Rattle.step_lexis.specs.declared.token.Sort.{Sort}
@@ -16,7 +16,7 @@ use Rattle.step_structures.specs.Trees.{Tree, leaf, typed, this, items_of_tree}
 use Rattle.step_structures.specs.Predict.{Just, is_mark}
 use Rattle.step_structures.specs.Predict as predict
 use Rattle.step_records.specs.Readers.{Progress, reading}
-use Rattle.step_records.specs.Steps.{StopsIn, Passes, PushesAll, TakesInner, TakesValue, TakesItems, TakesParams, inner_symbols}
+use Rattle.step_records.specs.Steps.{StopsIn, Passes, PushesAll, TakesInner, TakesValue, TakesItems, TakesParams, GoesOn, inner_symbols}
 use Rattle.step_records.proofs.ParamSteps.{SoFar, items_none, items_first, items_next, items_done, all_push, inner_done, typed_done, params_done, params_err_items}
 
 -- a token that is taken stands in the text
@@ -76,6 +76,17 @@ pub items_end : (n : ℕ) (old here a : Progress) (t : Token) → ItemsSoFar n o
 items_end n old here a t s h e c =
     let listed = items_done n (reading old) (all_of s.trees) (reading here) t (reading a) s.so h c in
     record { trees = s.trees; pushes = e ∙ s.pushes; fits = listed.0; passes = listed.1 }
+
+-- a comma, or a parenthesis
+pub a_comma : (b : Bool) (old new : Progress) → b ≡ true → (g : GoesOn b old new)
+    → is_mark Comma (located g.token).lookahead ≡ true
+a_comma true old new e g = g.is
+a_comma false old new e g = absurd (cc)
+
+pub a_close : (b : Bool) (old new : Progress) → b ≡ false → (g : GoesOn b old new)
+    → is_mark Close (located g.token).lookahead ≡ true
+a_close false old new e g = g.is
+a_close true old new e g = absurd (cc)
 
 pub inner_whole : (n : ℕ) (old a b c d : Progress) (t : Token) → a.built ≡ old.built
     → Passes (Just Open ∷ []) [] [] (this (mark Open) ∷ []) (reading old) (reading a)

@@ -1,18 +1,19 @@
 -- Reading parameters, records and instances by the table, from one place to another.
-use Rattle.std.specs.Prelude.{◌≡◌, ℕ, ◌+◌, List, [], ◌∷◌, ◌++◌, Option, Some, None, Result}
+use Rattle.std.specs.Prelude.{◌≡◌, ℕ, ◌+◌, List, [], ◌∷◌, ◌++◌, Option, Some, None, Result, Bool, true, if◌then◌else◌}
 use Rattle.predictive.specs.Lexers as lexers
 use Rattle.predictive.specs.Steps as steps
-use Rattle.step_lexis.specs.declared.token.Mark.TheVariants.{Open, Close}
-use Rattle.step_lexis.specs.Reading.{Reading}
+use Rattle.step_lexis.specs.declared.token.Mark.TheVariants.{Open, Close, Comma}
+use Rattle.step_lexis.specs.declared.token.Token.{Token}
+use Rattle.step_lexis.specs.Reading.{Reading, Takes}
 use Rattle.step_parameters.specs.Cells.{all_of}
 use Rattle.step_records.specs.Readers.{Progress, reading}
 use Rattle.step_structures.specs.declared.fault.FaultKind.{FaultKind}
 use Rattle.step_structures.specs.declared.fault.TextFault.{TextFault}
 use Rattle.step_structures.specs.declared.fault.TextFault.TheVariants as faults
-use Rattle.step_structures.specs.Words.{mark, LocatedToken, Shows}
+use Rattle.step_structures.specs.Words.{mark, LocatedToken, located, Shows}
 use Rattle.step_structures.specs.Trees.{Tree, Item, this, MeetAll, items_of_tree, items_of_list}
 use Rattle.step_structures.specs.Fits.{the_rules, FitsTree, FitsTrees}
-use Rattle.step_structures.specs.Predict.{Symbol, Just, Value, Items, table, params_symbols}
+use Rattle.step_structures.specs.Predict.{Symbol, Just, Value, Items, is_mark, table, params_symbols}
 
 -- a fault's kind and place; where memory ran out there is none
 abbrev pub fault_at : TextFault → Option (FaultKind × ℕ)
@@ -28,21 +29,11 @@ StopsIn e ys before old = lexers.StopsIn table Shows (fault_at e) ys before old
 abbrev pub Passes : List Symbol → List Symbol → List LocatedToken → List Item → Reading → Reading → Type 0
 Passes ys zs before items old new = steps.Passes table Shows MeetAll ys zs before items old new
 
--- A parser of these symbols: what it gives stands from one place to another, and is what the symbols derive. Where it
--- gives nothing, what the symbols want isn't there.
-abbrev pub Parses : {A : Type 0} → Result A TextFault → List Symbol → (A → List Item) → Reading → Reading → Type 0
-Parses result ys items old new = steps.Parses table Shows MeetAll fault_at result ys items old new
-
--- .. and this holds of what it gives
+-- A parser of these symbols: what it gives stands from one place to another, is what the symbols derive, and this
+-- holds of it. Where it gives nothing, what the symbols want isn't there.
 abbrev pub ParsesWhere : {A : Type 0} → Result A TextFault → List Symbol → (A → List Item) → (A → Type 0) → Reading
     → Reading → Type 0
 ParsesWhere result ys items Holds old new = steps.ParsesWhere table Shows MeetAll fault_at result ys items Holds old new
-
--- .. where this token, the first, is taken already
-abbrev pub ParsesFrom : {A : Type 0} → LocatedToken → Result A TextFault → List Symbol → (A → List Item)
-    → (A → Type 0) → Reading → Reading → Type 0
-ParsesFrom first result ys items Holds old new = steps.ParsesFrom table Shows MeetAll fault_at first result ys items
-    Holds old new
 
 -- behind the keyword of a typed parameter
 abbrev pub inner_symbols : ℕ → List Symbol
@@ -70,6 +61,13 @@ pub record TakesValue (depth : ℕ) (first : LocatedToken) (old new : Progress) 
   pub pushes : Pushes old tree new
   pub fits : FitsTree the_rules depth tree
   pub passes : Passes (Value depth ∷ []) [] (first ∷ []) (items_of_tree tree) (reading old) (reading new)
+
+-- behind a parameter a comma, or the parenthesis that closes the list
+pub record GoesOn (more : Bool) (old new : Progress) : Type 0 where
+  pub token : Token
+  pub taken : Takes (reading old) token (reading new)
+  pub same : new.built ≡ old.built
+  pub is : is_mark (if more then Comma else Close) (located token).lookahead ≡ true
 
 -- the parameters of a list, and the closing parenthesis
 pub record TakesItems (depth : ℕ) (old new : Progress) : Type 0 where

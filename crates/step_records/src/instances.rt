@@ -62,7 +62,7 @@ fn next_name(names: &Names, greatest: u64, token: Token<'_>) -> Result<u64, Text
 }
 
 /// The instances of a section behind those of others, up to its end; their trees are kept. It
-/// answers the greatest name.
+/// answers a number that no name exceeds, as `greatest` is one for the names before.
 pub fn rows(
     alloc: Global,
     keys: RandomState,

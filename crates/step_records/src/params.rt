@@ -18,7 +18,7 @@ ghost use Rattle.step_records.specs.Steps.{
 };
 
 use crate::reader::Reader;
-use crate::tokens::{expect, fault_at, is_mark, refuse, take};
+use crate::tokens::{expect, fault_at, goes_on, is_mark, refuse, take};
 use step_lexis::token::{Mark, Sort, Token};
 use step_parameters::cell::Leaf;
 use step_structures::fault::{FaultKind, TextFault};
@@ -128,17 +128,11 @@ pub fn items(reader: &mut Reader<'_>, depth: u32) -> Result<(), TextFault>
         return Ok(());
     }
     value(reader, first, depth)?;
-    loop {
-        let token = take(reader)?;
-        if is_mark(token, Mark::Close) {
-            return Ok(());
-        }
-        if !is_mark(token, Mark::Comma) {
-            return Err(refuse(token));
-        }
+    while goes_on(reader)? {
         let start = take(reader)?;
         value(reader, start, depth)?;
     }
+    Ok(())
 }
 
 /// The parameters of a record, in their parentheses, with so many open around it.

@@ -1,7 +1,7 @@
 //! A text that is read token by token, and what is built of it.
 
 ghost use Rattle.std.specs.Prelude.{◌≡◌, ◌≤◌, ◌+◌, ◌++◌, [], ◌∷◌, Some, length, take, drop, IfOk};
-ghost use Rattle.step_lexis.specs.Reading.{Answers, start_of};
+ghost use Rattle.step_lexis.specs.Reading.{Answers, SkipsMark, start_of};
 ghost use Rattle.step_parameters.specs.Building.{list_of};
 ghost use Rattle.step_parameters.specs.Cells.{typed_of};
 ghost use Rattle.step_parameters.specs.Tokens.{StandsIn, leaf_of, leaf_tree};
@@ -10,7 +10,7 @@ ghost use Rattle.step_records.specs.Readers.{reading};
 use std::alloc::{AllocError, Global};
 use std::marker::Model;
 use step_lexis::lexer::Lexer;
-use step_lexis::token::Token;
+use step_lexis::token::{Mark, Token};
 use step_literals::fault::TextFault;
 use step_parameters::builder::Builder;
 use step_parameters::cell::Leaf;
@@ -64,6 +64,16 @@ impl<'a> Reader<'a> {
         ensures { self.new ≡ self.old }
     {
         self.builder.reserve(cells, trees)
+    }
+
+    /// Reads this mark where it stands next and no layout before it; whether it does. Else nothing
+    /// is read.
+    #[inline(always)]
+    pub fn skip_mark(&mut self, wanted: Mark) -> bool
+        ensures skips { SkipsMark wanted result (reading self.old) (reading self.new) }
+        ensures built { self.new.built ≡ self.old.built }
+    {
+        self.lexer.skip_mark(wanted)
     }
 
     /// The next token, as the lexer answers it.

@@ -1,15 +1,15 @@
 //! The tokens of a text, one at a time.
 
-ghost use Rattle.std.specs.Prelude.{◌≡◌, ◌+◌, [], ◌∷◌, MatchResult};
+ghost use Rattle.std.specs.Prelude.{◌≡◌, ◌+◌, ℕ, [], ◌∷◌, MatchResult};
 ghost use Rattle.step_lexis.specs.Reading.{Takes};
 ghost use Rattle.step_structures.specs.declared.fault.TextFault.TheVariants.{Fault};
 ghost use Rattle.step_structures.specs.Words.{mark, located};
 ghost use Rattle.step_structures.specs.Trees;
 ghost use Rattle.step_structures.specs.Trees.{this, says};
 ghost use Rattle.step_structures.specs.Predict;
-ghost use Rattle.step_structures.specs.Predict.{Symbol, Just, Say, EndOfText, refused};
+ghost use Rattle.step_structures.specs.Predict.{Symbol, Just, Say, More, EndOfText, refused};
 ghost use Rattle.step_records.specs.Readers.{reading};
-ghost use Rattle.step_records.specs.Steps.{ParsesWhere, StopsIn};
+ghost use Rattle.step_records.specs.Steps.{ParsesWhere, StopsIn, GoesOn};
 
 use crate::reader::Reader;
 use step_lexis::token::{Mark, Sort, Token};
@@ -64,6 +64,7 @@ pub fn is_said(keyword: Word<'_>, word: &[u8]) -> bool
     keyword.spelling().eq_ignore_ascii_case(word)
 }
 
+/// The number by which the table of what may stand next compares marks.
 fn mark_code(mark: Mark) -> u8
     ensures { result ≡ Predict.mark_code mark }
 {
@@ -98,8 +99,8 @@ pub fn is_word(token: Token<'_>, word: &[u8]) -> bool
     }
 }
 
-/// Reads this mark.
-pub fn expect(reader: &mut Reader<'_>, wanted: Mark) -> Result<(), TextFault>
+/// Reads this mark, which may stand behind layout.
+fn expect_any(reader: &mut Reader<'_>, wanted: Mark) -> Result<(), TextFault>
     ensures { ParsesWhere result (Just wanted ∷ []) (λ _. this (mark wanted) ∷ [])
         (λ _. reader.new.built ≡ reader.old.built) (reading reader.old) (reading reader.new) }
 {
@@ -108,6 +109,17 @@ pub fn expect(reader: &mut Reader<'_>, wanted: Mark) -> Result<(), TextFault>
         return Err(refuse(token));
     }
     Ok(())
+}
+
+/// Reads this mark.
+pub fn expect(reader: &mut Reader<'_>, wanted: Mark) -> Result<(), TextFault>
+    ensures { ParsesWhere result (Just wanted ∷ []) (λ _. this (mark wanted) ∷ [])
+        (λ _. reader.new.built ≡ reader.old.built) (reading reader.old) (reading reader.new) }
+{
+    if reader.skip_mark(wanted) {
+        return Ok(());
+    }
+    expect_any(reader, wanted)
 }
 
 /// Reads this keyword.
@@ -120,4 +132,36 @@ pub fn expect_word(reader: &mut Reader<'_>, word: &[u8]) -> Result<(), TextFault
         return Err(refuse(token));
     }
     Ok(())
+}
+
+/// Reads a comma, or the parenthesis that closes a list; whether it is a comma. Either may stand
+/// behind layout.
+fn goes_on_any(reader: &mut Reader<'_>) -> Result<bool, TextFault>
+    ensures { MatchResult result
+        (λ more. GoesOn more reader.old reader.new)
+        (λ e. (depth : ℕ) → StopsIn e (More depth ∷ []) [] (reading reader.old)) }
+{
+    let token = take(reader)?;
+    if is_mark(token, Mark::Close) {
+        return Ok(false);
+    }
+    if !is_mark(token, Mark::Comma) {
+        return Err(refuse(token));
+    }
+    Ok(true)
+}
+
+/// Reads a comma, or the parenthesis that closes a list; whether it is a comma.
+pub fn goes_on(reader: &mut Reader<'_>) -> Result<bool, TextFault>
+    ensures { MatchResult result
+        (λ more. GoesOn more reader.old reader.new)
+        (λ e. (depth : ℕ) → StopsIn e (More depth ∷ []) [] (reading reader.old)) }
+{
+    if reader.skip_mark(Mark::Comma) {
+        return Ok(true);
+    }
+    if reader.skip_mark(Mark::Close) {
+        return Ok(false);
+    }
+    goes_on_any(reader)
 }

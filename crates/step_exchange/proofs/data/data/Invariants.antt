@@ -1,15 +1,15 @@
-use Rattle.std.proofs.Common.{length, map}
+use Rattle.std.proofs.Common.{length}
 use Rattle.step_lexis.specs.Reading.{left}
-use Rattle.step_exchange.specs.Views.{row_of}
-use Rattle.step_exchange.specs.Steps.{AtMost, names_of}
-use Rattle.step_exchange.proofs.DataSteps.{SectionsSoFar}
+use Rattle.step_records.specs.Readers.{reading}
+use Rattle.step_records.specs.Instances.{AtMost}
+use Rattle.step_exchange.proofs.DataKeeping.{DataSoFar}
 use Rattle.step_exchange.proofs.data.data.Given as goal
 
 abbrev pub invariant-loop-sections : goal.invariant-loop-sections
 invariant-loop-sections l = record {
-  read : SectionsSoFar l.fn.lexer l.sections.items (map row_of l.records.entries) l.lexer;
-  bound : AtMost l.greatest (names_of (map row_of l.records.entries));
+  read : DataSoFar l.fn.reader l.sections.items l.names.keys l.reader;
+  bound : AtMost l.greatest l.names.keys;
 }
 
 abbrev pub decreases-loop-sections : goal.decreases-loop-sections
-decreases-loop-sections l = length (left l.lexer)
+decreases-loop-sections l = length (left (reading l.reader))

@@ -5,7 +5,8 @@ use Rattle.step_structures.specs.Words.{located, word_of}
 use Rattle.step_structures.specs.Predict.{EndOfText}
 use Rattle.step_structures.specs.declared.fault.FaultKind.TheVariants as kinds
 use Rattle.step_structures.specs.declared.fault.LeftOut.TheVariants as left_out
-use Rattle.step_exchange.proofs.Looking.{stops_flaw, stops_refused}
+use Rattle.step_records.proofs.Looking.{stops_flaw, stops_refused}
+use Rattle.step_records.specs.Readers.{reading}
 use Rattle.step_exchange.proofs.DataSteps.{stops_at, over_signature, over_refused, over_done}
 use Rattle.step_exchange.proofs.data.end_of_text.Goals as goal
 
@@ -19,22 +20,25 @@ at_some old o t new e h = let P : Option Token → Type 0 = λ x. Answers old (O
 
 pub returns-then-is_word : goal.returns-then-is_word
 returns-then-is_word c =
-    stops_at c.fault_at.result (kinds.LeftOut left_out.Signature) EndOfText [] c.in-Ok-Some.token c.args.lexer.now
-    c.next_token.new.self (at_some c.args.lexer.now c.in-Ok-Some.field-0 c.in-Ok-Some.token c.next_token.new.self
-    c.in-Ok-Some.field-0-is c.in-Ok-Some.ensures) (over_signature (located c.in-Ok-Some.token).lookahead
+    stops_at c.fault_at.result (kinds.LeftOut left_out.Signature) EndOfText [] c.in-Ok-Some.token (reading c.args.reader.now)
+    (reading c.next_token.new.self) (at_some (reading c.args.reader.now) c.in-Ok-Some.field-0 c.in-Ok-Some.token (reading c.next_token.new.self)
+    c.in-Ok-Some.field-0-is c.in-Ok-Some.ensures.answers) (over_signature (located c.in-Ok-Some.token).lookahead
     (sym c.is_word.ensures ∙ c.if-is_word.true)) c.fault_at.ensures
 
 pub returns-in-Ok-None : goal.returns-in-Ok-None
-returns-in-Ok-None c = over_done c.args.lexer.now c.next_token.new.self (at_none c.args.lexer.now c.in-Ok-None.field-0
-    c.next_token.new.self c.in-Ok-None.field-0-is c.in-Ok-None.ensures)
+returns-in-Ok-None c = (
+  c.in-Ok-None.ensures.built,
+  over_done (reading c.args.reader.now) (reading c.next_token.new.self) (at_none (reading c.args.reader.now)
+      c.in-Ok-None.field-0 (reading c.next_token.new.self) c.in-Ok-None.field-0-is c.in-Ok-None.ensures.answers),
+)
 
 pub returns-else-is_word : goal.returns-else-is_word
 returns-else-is_word c =
     let t = c.in-Ok-Some.token in
-    stops_refused c.refuse.result EndOfText t c.args.lexer.now c.next_token.new.self
-    (at_some c.args.lexer.now c.in-Ok-Some.field-0 c.in-Ok-Some.token c.next_token.new.self c.in-Ok-Some.field-0-is
-    c.in-Ok-Some.ensures) (over_refused (word_of t.sort t.text.now) (sym c.is_word.ensures ∙ c.if-is_word.false))
+    stops_refused c.refuse.result EndOfText t (reading c.args.reader.now) (reading c.next_token.new.self)
+    (at_some (reading c.args.reader.now) c.in-Ok-Some.field-0 c.in-Ok-Some.token (reading c.next_token.new.self) c.in-Ok-Some.field-0-is
+    c.in-Ok-Some.ensures.answers) (over_refused (word_of t.sort t.text.now) (sym c.is_word.ensures ∙ c.if-is_word.false))
     c.refuse.ensures
 
 pub returns-in-Err : goal.returns-in-Err
-returns-in-Err c = stops_flaw c.in-Err.fault c.args.lexer.now c.next_token.new.self c.in-Err.ensures EndOfText
+returns-in-Err c = stops_flaw c.in-Err.fault (reading c.args.reader.now) (reading c.next_token.new.self) c.in-Err.ensures.answers EndOfText

@@ -3,6 +3,7 @@ use Rattle.std.proofs.lemmas.Result.{err_from_is_err_and}
 use Rattle.step_structures.specs.Words.{located}
 use Rattle.step_structures.specs.Predict.{Quoted, EndOfText, refused}
 use Rattle.step_exchange.proofs.DataSteps.{stops_at, string_refused, passes_string}
+use Rattle.step_records.specs.Readers.{reading}
 use Rattle.step_exchange.proofs.data.string.Goals as goal
 
 pub returns-in_err-token : goal.returns-in_err-token
@@ -13,9 +14,12 @@ returns-in_err-token c =
 pub returns-in_default : goal.returns-in_default
 returns-in_default c =
     let t = c.in_ok-token.token in
-    stops_at c.refuse.result (refused (located t).lookahead) Quoted [] t c.args.lexer.now c.take.new.lexer
-    c.in_ok-token.ensures (string_refused t.sort t.text.now c.in_default.not-String) c.refuse.ensures
+    stops_at c.refuse.result (refused (located t).lookahead) Quoted [] t (reading c.args.reader.now) (reading c.take.new.reader)
+    c.in_ok-token.ensures.0 (string_refused t.sort t.text.now c.in_default.not-String) c.refuse.ensures
 
 pub returns : goal.returns
-returns c = passes_string c.in_ok-token.token c.in-String.text c.args.lexer.now c.take.new.lexer c.in_ok-token.ensures
-    c.in-String.is
+returns c = (
+  c.in_ok-token.ensures.1,
+  passes_string c.in_ok-token.token c.in-String.text (reading c.args.reader.now) (reading c.take.new.reader)
+      c.in_ok-token.ensures.0 c.in-String.is,
+)

@@ -1,9 +1,20 @@
-use Rattle.std.proofs.Common.{take}
+use Rattle.std.proofs.Common.{suc, take}
 use Rattle.devices.specs.Prints.{Prints}
-use Rattle.step_exchange.specs.Views.{trees_of}
+use Rattle.step_parameters.specs.Cells.{all_of}
+use Rattle.step_parameters.specs.Params.{node_value}
+use Rattle.step_parameters.proofs.Weights.{weight, weights}
 use Rattle.step_structures.specs.Normal.{plain_more}
 use Rattle.step_exchange.proofs.write.+params.Given as goal
 
-abbrev pub invariant-print_params-loop-param : goal.invariant-print_params-loop-param
-invariant-print_params-loop-param g l = Prints g.S.Sink.held g.S.Sink.has_failed l.initial.out l.out l.initial.printer
-    l.printer (plain_more (trees_of (take l.param-index l.further)))
+abbrev pub invariant-print_params-loop-i : goal.invariant-print_params-loop-i
+invariant-print_params-loop-i g l = Prints g.S.Sink.held g.S.Sink.has_failed l.initial.out l.out l.initial.printer
+    l.printer (plain_more (all_of (take l.i l.further)))
+
+abbrev pub decreases-print_param : goal.decreases-print_param
+decreases-print_param g a = suc (weight a.param.now)
+
+abbrev pub decreases-print_node : goal.decreases-print_node
+decreases-print_node g a = weight (node_value a.node.now)
+
+abbrev pub decreases-print_params : goal.decreases-print_params
+decreases-print_params g a = weights a.params.now

@@ -1,12 +1,14 @@
-use Rattle.std.proofs.Common.{ap, map, sym}
-use Rattle.step_exchange.specs.Views.{record_of, form_of}
-use Rattle.step_structures.specs.Normal.{plain_form, plain_partial_records}
+use Rattle.std.proofs.Common.{◌≡◌, false, List, map, refl, sym, ap, ◌∙◌}
+use Rattle.step_structures.specs.Trees.{Tree, external}
+use Rattle.step_exchange.specs.Views.{record_in, begins_with_keyword, form_of}
+use Rattle.step_structures.specs.Normal.{plain_form}
 use Rattle.devices.proofs.Printing.{then_print, prints_as}
 use Rattle.step_exchange.proofs.write.print_form.Goals as goal
 
-pub returns-in-External : goal.returns-in-External
-returns-in-External g c =
-    let partials = prints_as (ap (λ ps. plain_partial_records (map record_of ps)) c.deref.ensures.value)
-    c.print_partial_records.ensures in
-    prints_as (ap (λ x. plain_form (form_of x)) (sym c.in-External.is))
-    (then_print (then_print c.print_byte.ensures partials) c.print_byte-in-External.ensures)
+partials : (xs : List Tree) → begins_with_keyword xs ≡ false → form_of xs ≡ external (map record_in xs)
+partials xs e = rw e refl
+
+pub returns-else-is_internal : goal.returns-else-is_internal
+returns-else-is_internal g c = prints_as (ap plain_form (sym (partials c.args.parts.now (sym c.is_internal.ensures
+    ∙ c.if-is_internal.false)))) (then_print (then_print c.print_byte.ensures c.print_partial_records.ensures)
+    c.print_byte-else-is_internal.ensures)

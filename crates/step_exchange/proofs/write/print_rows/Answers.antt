@@ -1,32 +1,23 @@
-use Rattle.std.proofs.Common.{ℕ, ◌++◌, ◌∷◌, [], sym, ap, ◌∙◌, append_assoc, append-nil, map}
-use Rattle.step_exchange.specs.declared.tree.Form.{Form}
-use Rattle.step_exchange.specs.Views.{row_of}
+use Rattle.std.proofs.Common.{◌≡◌, Some, get_or, slice_get, sym, ap, ◌∙◌, add-one}
+use Rattle.std.proofs.lemmas.Option.{slice_get-get_or}
 use Rattle.step_structures.specs.Normal.{plain_rows}
-use Rattle.devices.proofs.Printing.{then_print, prints_as, prints_nothing}
-use Rattle.step_exchange.proofs.Writing.{rows_push}
+use Rattle.devices.proofs.Printing.{then_print, prints_as}
+use Rattle.step_exchange.proofs.Writing.{rows_push, rows_all, rows_short}
 use Rattle.step_exchange.proofs.write.print_rows.Goals as goal
 
-pub loop-name-init : goal.loop-name-init
-loop-name-init g c = (
-  [],
-  c.into_iter-name-iterator.ensures.into_iter_gives ∙ c.iter-name-items.ensures.rest,
-  prints_nothing g.S.Sink.held g.S.Sink.has_failed c.args.out.now c.args.printer.now,
-)
+pub returns-in_default : goal.returns-in_default
+returns-in_default g c = prints_as (ap plain_rows (rows_short c.args.names.now c.args.forms.now c.loop-i.i
+    (sym c.item.ensures ∙ c.in_default.is))) c.loop-i.invariant
 
-pub loop-name-preserved : goal.loop-name-preserved
-loop-name-preserved g c =
-    let before = c.loop-name.invariant in
-    let row : ℕ × Form = (c.in-Some.name.now, c.in-Some.form.now) in
-    let header_bytes = append_assoc before.0 (row ∷ []) c.next.new.self ∙ ap (λ l. before.0 ++ l)
-    (sym c.in-Some.ensures.steps) ∙ before.1 in (
-      before.0 ++ row ∷ [],
-      header_bytes,
-      prints_as (sym (rows_push before.0 row))
-          (then_print before.2 c.print_row.ensures),
-    )
+pub loop-i-preserved : goal.loop-i-preserved
+loop-i-preserved g c =
+    let ns = c.args.names.now in
+    let i = c.loop-i.i in
+    let name : slice_get ns i ≡ Some (get_or ns i 0) = slice_get-get_or ns i 0 c.loop-i-test.true in
+    let push = rows_push ns c.args.forms.now i (get_or ns i 0) c.in-Some.form name
+    (sym c.item.ensures ∙ c.in-Some.is) in
+    rw add-one (prints_as (sym push) (then_print c.loop-i.invariant c.print_row.ensures))
 
 pub returns : goal.returns
-returns g c =
-    let done = c.loop-name.invariant in
-    let all = sym (append-nil done.0) ∙ ap (λ l. done.0 ++ l) (sym c.in-None.ensures.steps.0) ∙ done.1 in
-    prints_as (ap (λ l. plain_rows (map row_of l)) all) done.2
+returns g c = prints_as (ap plain_rows (rows_all c.args.names.now c.args.forms.now c.loop-i.i c.loop-i-test.false))
+    c.loop-i.invariant

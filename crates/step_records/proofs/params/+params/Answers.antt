@@ -4,8 +4,8 @@ use Rattle.step_structures.specs.Words.{token}
 use Rattle.step_structures.specs.Predict.{Value, More, EndOfText}
 use Rattle.step_parameters.specs.Cells.{all_of}
 use Rattle.step_records.specs.Readers.{reading}
-use Rattle.step_records.proofs.ParamSteps.{inner_err_first, inner_err_value, inner_err_close, items_err_first, items_err_token, items_err_next, items_err_value, items_err_mark, items_smaller, typed_err}
-use Rattle.step_records.proofs.Pushing.{items_empty, items_begin, items_go_on, items_end, inner_whole, typed_whole, keyword_leaf}
+use Rattle.step_records.proofs.ParamSteps.{inner_err_first, inner_err_value, inner_err_close, items_err_first, items_err_token, items_err_next, items_err_value, items_smaller, typed_err}
+use Rattle.step_records.proofs.Pushing.{items_empty, items_begin, items_go_on, items_end, a_comma, a_close, inner_whole, typed_whole, keyword_leaf}
 use Rattle.step_records.proofs.params.+params.Goals as goal
 
 pub inner-returns-in_err-first : goal.inner-returns-in_err-first
@@ -47,64 +47,61 @@ items-returns-in_err-value t c =
     (reading c.take.new.reader) c.in_ok-first.ensures.0 (sym c.is_mark.ensures ∙ c.if-is_mark.false)
     c.in_err-value.ensures)
 
-pub items-loop-token-init : goal.items-loop-token-init
-items-loop-token-init t c = items_begin c.args.depth c.args.reader.now c.take.new.reader c.value.new.reader
+pub items-loop-reader-init : goal.items-loop-reader-init
+items-loop-reader-init t c = items_begin c.args.depth c.args.reader.now c.take.new.reader c.value.new.reader
     c.in_ok-first.first c.in_ok-first.ensures.0 c.in_ok-first.ensures.1
     (sym c.is_mark.ensures ∙ c.if-is_mark.false) c.in_ok-value.ensures
 
-pub items-returns-in_err-token : goal.items-returns-in_err-token
-items-returns-in_err-token t c =
-    let p = err_from_is_err_and c.from_residual-in_err-token.result c.from_residual-in_err-token.ensures.1 in
-    let s = c.loop-token.invariant in
+pub items-returns-in_err-goes_on : goal.items-returns-in_err-goes_on
+items-returns-in_err-goes_on t c =
+    let p = err_from_is_err_and c.from_residual-in_err-goes_on.result c.from_residual-in_err-goes_on.ensures.1 in
+    let s = c.loop-reader.invariant in
     rw (p.1, p.2) (items_err_token _ c.args.depth (reading c.args.reader.now) (all_of s.trees)
-    (reading c.loop-token.reader) s.so (c.in_err-token.ensures (More c.args.depth)
-    (λ (e : More c.args.depth ≡ EndOfText). cc)))
+    (reading c.loop-reader.reader) s.so (c.in_err-goes_on.ensures c.args.depth))
 
-pub items-returns-then-is_mark-2 : goal.items-returns-then-is_mark-2
-items-returns-then-is_mark-2 t c = items_end c.args.depth c.args.reader.now c.loop-token.reader
-    c.take-in-loop-token.new.reader c.in_ok-token.token c.loop-token.invariant c.in_ok-token.ensures.0
-    c.in_ok-token.ensures.1 (sym c.is_mark-in-loop-token.ensures ∙ c.if-is_mark-2.true)
-
-pub items-returns-then-not-is_mark : goal.items-returns-then-not-is_mark
-items-returns-then-not-is_mark t c =
-    let s = c.loop-token.invariant in
-    items_err_mark c.refuse.result c.args.depth (reading c.args.reader.now) (all_of s.trees)
-    (reading c.loop-token.reader) c.in_ok-token.token (reading c.take-in-loop-token.new.reader) s.so
-    c.in_ok-token.ensures.0 (sym c.is_mark-in-loop-token.ensures ∙ c.if-is_mark-2.false)
-    (sym c.is_mark-in-loop-token-2.ensures ∙ c.if-not-is_mark.true) c.refuse.ensures
+pub items-returns : goal.items-returns
+items-returns t c =
+    let g = c.in_ok-goes_on.ensures in
+    items_end c.args.depth c.args.reader.now c.loop-reader.reader c.goes_on.new.reader g.token c.loop-reader.invariant
+    g.taken g.same (a_close c.in_ok-goes_on.field-0 c.loop-reader.reader c.goes_on.new.reader c.if-branch.false g)
 
 pub items-returns-in_err-start : goal.items-returns-in_err-start
 items-returns-in_err-start t c =
     let p = err_from_is_err_and c.from_residual-in_err-start.result c.from_residual-in_err-start.ensures.1 in
-    let s = c.loop-token.invariant in
+    let s = c.loop-reader.invariant in
+    let g = c.in_ok-goes_on.ensures in
     rw (p.1, p.2) (items_err_next _ c.args.depth (reading c.args.reader.now) (all_of s.trees)
-    (reading c.loop-token.reader) c.in_ok-token.token (reading c.take-in-loop-token.new.reader) s.so
-    c.in_ok-token.ensures.0 (sym c.is_mark-in-loop-token-2.ensures ∙ c.if-not-is_mark.false)
+    (reading c.loop-reader.reader) g.token (reading c.goes_on.new.reader) s.so g.taken
+    (a_comma c.in_ok-goes_on.field-0 c.loop-reader.reader c.goes_on.new.reader c.if-branch.true g)
     (c.in_err-start.ensures (Value c.args.depth) (λ (e : Value c.args.depth ≡ EndOfText). cc)))
 
 pub items-returns-in_err-value-2 : goal.items-returns-in_err-value-2
 items-returns-in_err-value-2 t c =
     let p = err_from_is_err_and c.from_residual-in_err-value-2.result c.from_residual-in_err-value-2.ensures.1 in
-    let s = c.loop-token.invariant in
+    let s = c.loop-reader.invariant in
+    let g = c.in_ok-goes_on.ensures in
     rw (p.1, p.2) (items_err_value _ c.args.depth (reading c.args.reader.now) (all_of s.trees)
-    (reading c.loop-token.reader) c.in_ok-token.token (reading c.take-in-loop-token.new.reader) c.in_ok-start.start
-    (reading c.take-in-loop-token-2.new.reader) s.so c.in_ok-token.ensures.0
-    (sym c.is_mark-in-loop-token-2.ensures ∙ c.if-not-is_mark.false) c.in_ok-start.ensures.0
-    c.in_err-value-2.ensures)
+    (reading c.loop-reader.reader) g.token (reading c.goes_on.new.reader) c.in_ok-start.start
+    (reading c.take-in-loop-reader.new.reader) s.so g.taken
+    (a_comma c.in_ok-goes_on.field-0 c.loop-reader.reader c.goes_on.new.reader c.if-branch.true g)
+    c.in_ok-start.ensures.0 c.in_err-value-2.ensures)
 
-pub items-loop-token-smaller : goal.items-loop-token-smaller
-items-loop-token-smaller t c =
+pub items-loop-reader-smaller : goal.items-loop-reader-smaller
+items-loop-reader-smaller t c =
     let v = c.in_ok-value-2.ensures in
-    items_smaller (reading c.loop-token.reader) c.in_ok-token.token (reading c.take-in-loop-token.new.reader)
-    c.in_ok-start.start (reading c.take-in-loop-token-2.new.reader) c.args.depth v.tree
-    (reading c.value-in-loop-token.new.reader) c.in_ok-token.ensures.0 c.in_ok-start.ensures.0 (v.fits, v.passes)
+    let g = c.in_ok-goes_on.ensures in
+    items_smaller (reading c.loop-reader.reader) g.token (reading c.goes_on.new.reader) c.in_ok-start.start
+    (reading c.take-in-loop-reader.new.reader) c.args.depth v.tree (reading c.value-in-loop-reader.new.reader) g.taken
+    c.in_ok-start.ensures.0 (v.fits, v.passes)
 
-pub items-loop-token-preserved : goal.items-loop-token-preserved
-items-loop-token-preserved t c = items_go_on c.args.depth c.args.reader.now c.loop-token.reader
-    c.take-in-loop-token.new.reader c.take-in-loop-token-2.new.reader c.value-in-loop-token.new.reader
-    c.in_ok-token.token c.in_ok-start.start c.loop-token.invariant c.in_ok-token.ensures.0 c.in_ok-token.ensures.1
-    (sym c.is_mark-in-loop-token-2.ensures ∙ c.if-not-is_mark.false) c.in_ok-start.ensures.0 c.in_ok-start.ensures.1
-    c.in_ok-value-2.ensures
+pub items-loop-reader-preserved : goal.items-loop-reader-preserved
+items-loop-reader-preserved t c =
+    let g = c.in_ok-goes_on.ensures in
+    items_go_on c.args.depth c.args.reader.now c.loop-reader.reader c.goes_on.new.reader
+    c.take-in-loop-reader.new.reader c.value-in-loop-reader.new.reader g.token c.in_ok-start.start
+    c.loop-reader.invariant g.taken g.same
+    (a_comma c.in_ok-goes_on.field-0 c.loop-reader.reader c.goes_on.new.reader c.if-branch.true g)
+    c.in_ok-start.ensures.0 c.in_ok-start.ensures.1 c.in_ok-value-2.ensures
 
 pub typed-returns-in_err-inner : goal.typed-returns-in_err-inner
 typed-returns-in_err-inner t c =

@@ -19,8 +19,8 @@ decreases-list l = 5 * (64 - l.depth) + 1
 abbrev pub decreases-inner : goal.decreases-inner
 decreases-inner l = 5 * (64 - l.depth) + 1
 
-abbrev pub invariant-items-loop-token : goal.invariant-items-loop-token
-invariant-items-loop-token l = ItemsSoFar l.depth l.fn.reader l.reader
+abbrev pub invariant-items-loop-reader : goal.invariant-items-loop-reader
+invariant-items-loop-reader l = ItemsSoFar l.depth l.fn.reader l.reader
 
-abbrev pub decreases-items-loop-token : goal.decreases-items-loop-token
-decreases-items-loop-token l = length (left (reading l.reader))
+abbrev pub decreases-items-loop-reader : goal.decreases-items-loop-reader
+decreases-items-loop-reader l = length (left (reading l.reader))

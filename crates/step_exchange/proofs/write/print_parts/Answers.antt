@@ -1,0 +1,14 @@
+use Rattle.std.proofs.Common.{ap, sym, ◌∙◌}
+use Rattle.step_parameters.specs.Cells.{all_of}
+use Rattle.step_literals.specs.Words.{upper}
+use Rattle.step_structures.specs.Normal.{plain_trees}
+use Rattle.devices.proofs.Printing.{then_print, prints_as}
+use Rattle.step_exchange.proofs.SchemaNames.{values_behind}
+use Rattle.step_exchange.proofs.write.print_parts.Goals as goal
+
+pub returns : goal.returns
+returns g c =
+    let keyword = prints_as (ap upper c.first_keyword.ensures) c.print_upper.ensures in
+    let values = prints_as (ap (λ xs. plain_trees (all_of xs)) c.split-values.ensures.back
+    ∙ ap plain_trees (sym (values_behind c.args.parts.now))) c.print_params.ensures in
+    then_print (then_print (then_print keyword c.print_byte.ensures) values) c.print_byte-2.ensures
