@@ -96,10 +96,10 @@ data_err_rows e old ss names here t a b heading d h g stop =
     (begins_as t (length ss) names d.rows heading a b d.named g) (subst P d.named stop)
 
 -- what the reader of instances read
-rows_read : (greatest : ℕ) (names after : List ℕ) (rows : List Row) (b c : Progress) → names ≡ names_of rows
-    → (lines : TakesRows greatest names after b c)
+rows_read : (names after : List ℕ) (rows : List Row) (b c : Progress) → names ≡ names_of rows
+    → (lines : TakesRows names after b c)
     → (after ≡ names_of (rows ++ lines.rows)) × RowsRead rows lines.rows (reading b) (reading c)
-rows_read greatest names after rows b c e lines =
+rows_read names after rows b c e lines =
     let all : after ≡ names_of (rows ++ lines.rows) = lines.are ∙ ap (λ l. l ++ names_of lines.rows) e
     ∙ sym (map-append (λ (r : Row). r.name) rows lines.rows) in
     let P : List ℕ → Type 0 = λ l. FitsRows the_rules l lines.rows in
@@ -113,10 +113,10 @@ rows_read greatest names after rows b c e lines =
       },
     )
 
-pub data_few : (greatest : ℕ) (old : Progress) (ss : List code.Section) (names after : List ℕ) (here b c : Progress)
-    → DataSoFar old ss names here → TakesRows greatest names after b c → length after ≤ the_rules.instances
-data_few greatest old ss names after here b c d lines =
-    let read = rows_read greatest names after d.rows b c d.named lines in
+pub data_few : (old : Progress) (ss : List code.Section) (names after : List ℕ) (here b c : Progress)
+    → DataSoFar old ss names here → TakesRows names after b c → length after ≤ the_rules.instances
+data_few old ss names after here b c d lines =
+    let read = rows_read names after d.rows b c d.named lines in
     omega (
       arith,
       rows_few (reading old) ss d.rows (reading here) lines.rows (reading b) (reading c) d.so read.1,
@@ -124,13 +124,13 @@ data_few greatest old ss names after here b c d lines =
       length-map (d.rows ++ lines.rows) (λ (r : Row). r.name),
     )
 
-pub data_next : (greatest : ℕ) (old : Progress) (ss : List code.Section) (names after : List ℕ) (here : Progress)
+pub data_next : (old : Progress) (ss : List code.Section) (names after : List ℕ) (here : Progress)
     (t : Token) (a b c : Progress) (s : code.Section) → DataSoFar old ss names here
     → Takes (reading here) t (reading a) → a.built ≡ here.built
     → BeginsSection (located t) (length ss) names (heading_of s.heading) (reading a) (reading b) → b.built ≡ a.built
-    → TakesRows greatest names after b c → s.past ≡ length after → DataSoFar old (ss ++ s ∷ []) after c
-data_next greatest old ss names after here t a b c s d h e g f lines past =
-    let read = rows_read greatest names after d.rows b c d.named lines in
+    → TakesRows names after b c → s.past ≡ length after → DataSoFar old (ss ++ s ∷ []) after c
+data_next old ss names after here t a b c s d h e g f lines past =
+    let read = rows_read names after d.rows b c d.named lines in
     let k = old.built.kept in
     let size = ap length read.0 ∙ length-map (d.rows ++ lines.rows) (λ (r : Row). r.name) in
     let from : b.built ≡ record old.built { kept = k ++ map tree_of_row d.rows } = f ∙ e ∙ d.keeps in
@@ -146,10 +146,10 @@ data_next greatest old ss names after here t a b c s d h e g f lines past =
           (begins_as t (length ss) names d.rows (heading_of s.heading) a b d.named g) read.1 (past ∙ size);
     }
 
-pub data_less : (greatest : ℕ) (n : ℕ) (names after : List ℕ) (here : Progress) (t : Token)
+pub data_less : (n : ℕ) (names after : List ℕ) (here : Progress) (t : Token)
     (heading : Option (List ℕ × List ℕ)) (a b c : Progress) (rows : List Row) → names ≡ names_of rows
     → Takes (reading here) t (reading a) → BeginsSection (located t) n names heading (reading a) (reading b)
-    → TakesRows greatest names after b c → length (left (reading c)) < length (left (reading here))
-data_less greatest n names after here t heading a b c rows e h g lines =
-    let read = rows_read greatest names after rows b c e lines in
+    → TakesRows names after b c → length (left (reading c)) < length (left (reading here))
+data_less n names after here t heading a b c rows e h g lines =
+    let read = rows_read names after rows b c e lines in
     sections_smaller (reading here) t n names heading (reading a) (reading b) (reading c) rows lines.rows h g read.1

@@ -7,7 +7,7 @@ use Rattle.step_exchange.specs.Sections.{file_of}
 
 -- the structure that was read
 abbrev pub structure : Exchange → File
-structure x = file_of x.header_len x.trees x.names.keys x.sections.items
+structure x = file_of x.header_len x.trees x.names x.sections.items
 
 -- the normal text of it
 abbrev pub normal_text : Exchange → List ℕ

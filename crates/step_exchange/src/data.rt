@@ -14,12 +14,12 @@ ghost use Rattle.step_exchange.specs.Steps.{BeginsSection, section_refused};
 ghost use Rattle.step_exchange.specs.Keeping.{KeepsData};
 
 use crate::section::Section;
-use indexmap::IndexSet;
 use std::alloc::Global;
 use std::hash::RandomState;
 use step_lexis::token::{Mark, Sort, Token};
 use step_literals::literal::Text;
-use step_records::instances::{Names, rows};
+use step_records::instances::rows;
+use step_records::names::Names;
 use step_records::reader::Reader;
 use step_records::tokens::{expect, fault_at, is_mark, is_said, is_word, refuse, take};
 use step_structures::fault::{FaultKind, LeftOut, TextFault};
@@ -145,18 +145,13 @@ fn end(reader: &mut Reader<'_>) -> Result<(), TextFault>
     end_of_text(reader)
 }
 
-/// No names, with room for so many, or half as many and so on where memory has no such room.
+/// No names, with room for so many where memory has it.
 fn room_for(alloc: Global, keys: RandomState, expected: usize) -> Names
-    ensures { result.keys ≡ [] }
+    ensures { result ≡ [] }
 {
-    let mut room = expected;
-    while room > 0 {
-        if let Ok(names) = IndexSet::with_capacity_and_hasher(alloc, room, keys) {
-            return names;
-        }
-        room /= 2;
-    }
-    IndexSet::with_hasher(alloc, keys)
+    let mut names = Names::new(alloc, keys);
+    let _ = names.reserve(expected);
+    names
 }
 
 /// The data sections and the names of their instances, read to the end of the text, with room for
@@ -168,11 +163,10 @@ pub fn data<'a>(
     expected: usize,
 ) -> Result<(Vec<Section<'a>>, Names), TextFault>
     ensures { MatchResult result
-        (λ d. KeepsData d.0.items d.1.keys reader.old reader.new)
+        (λ d. KeepsData d.0.items d.1 reader.old reader.new)
         (λ e. StopsIn e data_symbols [] (reading reader.old)) }
 {
     let mut names = room_for(alloc, keys, expected);
-    let mut greatest = 0;
     let mut sections: Vec<Section<'a>> = Vec::new(alloc);
     loop {
         let token = take(reader)?;
@@ -184,7 +178,7 @@ pub fn data<'a>(
             return Ok((sections, names));
         }
         let heading = begin_section(reader, token, sections.len())?;
-        greatest = rows(alloc, keys, reader, &mut names, greatest)?;
+        rows(alloc, keys, reader, &mut names)?;
         let past = names.len() as u32;
         sections.push(Section { heading, past })?;
     }

@@ -11,6 +11,7 @@ use crate::structure::Exchange;
 use memchr::memchr_iter;
 use std::alloc::Global;
 use std::hash::RandomState;
+use step_parameters::param::cut;
 use step_records::reader::Reader;
 use step_structures::fault::TextFault;
 
@@ -20,9 +21,15 @@ const CELLS: usize = 6;
 /// Few files have instances of fewer bytes.
 const BYTES: usize = 16;
 
-/// How many instances a text seems to have, by its semicolons.
+/// So many bytes of a text tell how many instances stand in each so many.
+const SAMPLE: usize = 65_536;
+
+/// How many instances a text seems to have, by the semicolons at its start.
 fn expected(text: &[u8]) -> usize {
-    memchr_iter(b';', text).count().min(text.len() / BYTES)
+    let (sample, _) = cut(text, SAMPLE);
+    let found = memchr_iter(b';', sample).count();
+    let samples = text.len() / SAMPLE + 1;
+    found.saturating_mul(samples).min(text.len() / BYTES)
 }
 
 /// Asks for room for so many cells and trees, or half as many and so on where memory has no such

@@ -6,7 +6,7 @@ ghost use Rattle.step_exchange.specs.Sections.{CountsTo, file_of};
 
 use crate::section::Section;
 use step_parameters::forest::Forest;
-use step_records::instances::Names;
+use step_records::names::Names;
 
 /// An exchange structure that some text reads as. The fields are for reading.
 #[derive(Drop)]
@@ -22,9 +22,9 @@ pub struct Exchange<'a> {
     /// The data sections, in the order of the file; there is one at least.
     pub sections: Vec<Section<'a>>,
     pub ghost read: { ∥ IsRead header_bytes.now
-        (file_of header_len trees names.keys sections.items) ∥₁ },
+        (file_of header_len trees names sections.items) ∥₁ },
     // A tree stands for each record of the header and for each name, and there is no other.
-    pub ghost matched: { ∥ length trees ≡ header_len + length names.keys ∥₁ },
+    pub ghost matched: { ∥ length trees ≡ header_len + length names ∥₁ },
     // The sections' counts never fall, and the last is that of all names.
-    pub ghost counted: { ∥ CountsTo 0 sections.items (length names.keys) ∥₁ },
+    pub ghost counted: { ∥ CountsTo 0 sections.items (length names) ∥₁ },
 }

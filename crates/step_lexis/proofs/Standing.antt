@@ -1,10 +1,10 @@
 -- A token that is taken, by the bytes before and behind it alone.
-use Rattle.std.proofs.Common.{◌≡◌, ℕ, ◌+◌, ◌≤◌, List, ◌++◌, length, drop, refl, sym, ap, ◌∙◌, subst, arith, length-drop, length-append, take-append-drop}
+use Rattle.std.proofs.Common.{◌≡◌, ℕ, ◌+◌, ◌≤◌, List, [], ◌++◌, length, take, drop, refl, sym, ap, ◌∙◌, subst, arith, length-take, length-drop, length-append, take-append-drop}
 use Rattle.std.proofs.lemmas.List.{drop-drop}
 use Rattle.step_lexis.specs.declared.token.Token.{Token}
 use Rattle.step_lexis.specs.declared.token.Sort.{Sort}
 use Rattle.step_literals.specs.Tokens.{IsNext}
-use Rattle.step_lexis.specs.Front.{kind_of, HasValue}
+use Rattle.step_lexis.specs.Front.{kind_of, HasValue, IsFront}
 use Rattle.step_lexis.specs.Layout.{IsLayout, NoBlank}
 use Rattle.step_lexis.specs.Reading.{Reading, Takes, left}
 use Rattle.step_literals.proofs.Runs.{front_back}
@@ -108,3 +108,20 @@ module _ (text before t after : List ℕ) (place : ℕ) (sort : Sort) (within : 
         omega (arith, fits, at),
         ap (λ n. drop n text) sum ∙ sym (drop-drop (length t) (place + length h.gap) text) ∙ cut.2,
       )
+
+-- what stands next, with no layout before it, is taken as the token of that sort and length
+pub front_taken : (old : Reading) (sort : Sort) (n : ℕ) → old.place ≤ length old.text → IsFront (left old) sort n
+    → Takes old (token_at old.place sort (take n (left old))) (record old { place = old.place + n })
+front_taken old sort n within f =
+    let cut : length (take n (left old)) ≡ n = omega (arith, length-take n (left old), f.within) in
+    let h : Stands (left old) sort (take n (left old)) (drop n (left old)) = record {
+      gap = [];
+      layout = ([], tt, refl);
+      split = sym (take-append-drop n (left old));
+      next = f.next;
+      value = f.value;
+    } in
+    let at : old.place + 0 ≡ old.place = omega arith in
+    subst (λ p. Takes old (token_at p sort (take n (left old))) (record old { place = old.place + n })) at
+    (takes old.text (left old) (take n (left old)) (drop n (left old)) old.place sort within refl h (old.place + n)
+    (omega (arith, cut))).0

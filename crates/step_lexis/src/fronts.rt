@@ -151,6 +151,7 @@ fn other_at(bytes: &[u8]) -> Result<(Sort<'_>, usize), (Flaw, usize)>
 }
 
 /// The token at the front of the bytes and its length, or what is wrong there and at which byte.
+#[inline(always)]
 pub fn front_at(bytes: &[u8]) -> Result<(Sort<'_>, usize), (Flaw, usize)>
     requires { 0 < length bytes.now }
     ensures { FrontOrFlaw bytes.now result }

@@ -4,8 +4,9 @@ ghost use Rattle.step_lexis.specs.Front.{mark_byte};
 
 use crate::fronts::front_at;
 use crate::layout::layout_len;
-use crate::token::{Mark, Token};
+use crate::token::{Mark, Sort, Token};
 use std::marker::Model;
+use step_literals::bytes::is_letter;
 use step_literals::fault::TextFault;
 
 const BYTE_ORDER_MARK: [u8; 3] = [0xEF, 0xBB, 0xBF];
@@ -45,7 +46,9 @@ fn byte_of(mark: Mark) -> u8
 }
 
 impl<'a> Lexer<'a> {
-    ghost use Rattle.step_lexis.specs.Reading.{Answers, SkipsMark, start};
+    ghost use Rattle.std.specs.Prelude.{◌+◌, IfSome};
+    ghost use Rattle.step_lexis.specs.Front.{IsFront};
+    ghost use Rattle.step_lexis.specs.Reading.{Answers, SkipsMark, left, start};
 
     /// A lexer at the start of a text, behind a byte order mark if there is one.
     pub fn new(text: &'a [u8]) -> Self
@@ -77,6 +80,28 @@ impl<'a> Lexer<'a> {
         }
         self.place = place + 1;
         true
+    }
+
+    /// The sort and the length of the token that stands next, where it begins with no letter and no
+    /// layout comes before it. `None` says nothing.
+    #[inline(always)]
+    pub fn peek(&self) -> Option<(Sort<'a>, usize)>
+        ensures { IfSome result (λ front. IsFront (left self.now) front.0 front.1) }
+    {
+        let (_, left) = self.text.split_at(self.place);
+        if left.is_empty() || is_letter(left[0]) {
+            return None;
+        }
+        front_at(left).ok()
+    }
+
+    /// Reads the token of this sort and length, which stands next.
+    #[inline(always)]
+    pub fn skip(&mut self, sort: Sort<'a>, len: usize)
+        requires { IsFront (left self.old) sort len }
+        ensures { self.new ≡ record self.old { place = self.old.place + len } }
+    {
+        self.place += len;
     }
 
     /// The next token, the longest that stands behind the layout; `None` at the end of the text.

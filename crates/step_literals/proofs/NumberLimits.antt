@@ -1,7 +1,11 @@
 -- The digits of an exponent.
-use Rattle.std.proofs.Common.{◌≡◌, ℕ, ◌+◌, true, false, not, List, [], ◌∷◌, ◌++◌, length, drop, sym, ap, refl, ◌∙◌, arith, append_assoc, append-nil, length-append, cond, Bool, subst, inl, inr}
+use Rattle.std.proofs.Common.{◌≡◌, ℕ, ◌+◌, ◌≤◌, ◌<◌, true, false, not, List, [], ◌∷◌, ◌++◌, length, drop, sym, ap, refl, ◌∙◌, arith, append_assoc, append-nil, length-append, length-drop, cond, Bool, subst, inl, inr}
 use Rattle.std.specs.List.{prefix_len}
 use Rattle.std.proofs.lemmas.Bool.Decides.{nat_tests}
+use Rattle.std.specs.Char.{digit_value}
+use Rattle.std.specs.Str.Parse.{digits_value, AllDigits}
+use Rattle.std.proofs.lemmas.Int.Digits.{digits_value-lt}
+use Rattle.std.proofs.Math.Nat.{pow-le-pow_right}
 use Rattle.std.proofs.Math.Seq.{drop-append_seam}
 use Rattle.std.proofs.Math.ListN.{drop_of_length-le}
 use Rattle.step_literals.specs.Bytes.{is_digit, Each}
@@ -91,6 +95,25 @@ exponent_each t (inr h) =
     let each : Each no_e front = each_append no_e (h.0 ++ h.1) (46 ∷ h.2) (each_append no_e h.0 h.1 (signs_no_e h.0 h.4)
     (digits_no_e h.1 h.5.1)) (refl, digits_no_e h.2 h.6) in
     subst (λ l. Each is_digit (exponent_digits l)) (sym h.8) (exponent_behind front h.3 each h.7)
+
+digit_small : (b : ℕ) → is_digit b ≡ true → digit_value b < 10
+digit_small b h = grind (arith, nat_tests)
+
+all_decimal : (ds : List ℕ) → Each is_digit ds → AllDigits 10 ds
+all_decimal [] h = tt
+all_decimal (d ∷ ds) h = (digit_small d h.0, all_decimal ds h.1)
+
+-- the exponent of a short number has six digits at most
+pub few_digits : (t : List ℕ) → IsNumber t → length t ≤ 7 → digits_value 10 (exponent_digits t) ≤ 999999
+few_digits t h few =
+    let tail = exponent_text t in
+    let ds = exponent_digits t in
+    let size : length ds ≤ 6 = omega (arith, few, length-drop (sign_len tail) tail, length-drop (1 + prefix_len no_e t) t) in
+    omega (
+      arith,
+      digits_value-lt 10 ds (all_decimal ds (exponent_each t h)),
+      pow-le-pow_right {n = 10} (omega arith) size,
+    )
 
 -- .. as the code cuts them
 pub exponent_cut : (t x ds : List ℕ) (n : ℕ) → x ≡ exponent_text t → n ≡ sign_len x → ds ≡ drop n x

@@ -20,6 +20,10 @@ pub fn is_letter(b: u8) -> bool
 pub fn is_word_byte(b: u8) -> bool
     ensures { result ≡ is_word_byte b }
 {
+    // Most words are in capitals.
+    if matches!(b, b'A'..=b'Z') {
+        return true;
+    }
     is_letter(b) || is_digit(b)
 }
 

@@ -40,6 +40,9 @@ use crate::bytes::{digits_len, is_digit};
 
 const LONGEST: usize = 400;
 
+// A number of so few bytes has six digits at most behind its `E`.
+const SHORT: usize = 7;
+
 const LARGEST_EXPONENT: u64 = 999_999;
 
 fn is_e(b: u8) -> bool
@@ -150,6 +153,9 @@ pub fn is_short_number(number: &[u8]) -> bool
     requires { IsNumber number.now }
     ensures { IsTrue result ↔ IsShortNumber number.now }
 {
+    if number.len() <= SHORT {
+        return true;
+    }
     if number.len() > LONGEST {
         return false;
     }

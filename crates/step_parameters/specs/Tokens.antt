@@ -31,6 +31,13 @@ leaf_of (sorts.Element w) = Some leaves.Element
 leaf_of (sorts.Keyword w) = Some leaves.Keyword
 leaf_of _ = None
 
+-- a token of this kind of leaf stands in the text there, and has so many bytes
+pub record IsLeafAt (text : List ℕ) (kind : Leaf) (at len : ℕ) (t : Token) : Type 0 where
+  pub is : leaf_of t.sort ≡ Some kind
+  pub stands : StandsIn text t
+  pub place : t.place ≡ at
+  pub length : length t.text.now ≡ len
+
 -- the leaf that a token is
 abbrev pub leaf_tree : Token → Tree
 leaf_tree t = leaf (word_of t.sort t.text.now)

@@ -5,7 +5,15 @@ ghost use Rattle.std.specs.Prelude.{MatchResult, IfOk};
 ghost use Rattle.step_parameters.specs.Building.{list_of};
 ghost use Rattle.step_parameters.specs.declared.cell.Kind.TheVariants.{List};
 ghost use Rattle.step_parameters.specs.Cells.{typed_of};
-ghost use Rattle.step_parameters.specs.Tokens.{StandsIn, IsCellOf, dots_of, leaf_of, leaf_tree};
+ghost use Rattle.step_lexis.specs.declared.token.Token.{Token};
+ghost use Rattle.step_parameters.specs.Tokens.{
+  StandsIn,
+  IsLeafAt,
+  IsCellOf,
+  dots_of,
+  leaf_of,
+  leaf_tree,
+};
 
 use crate::cell::{Cell, Kind, Leaf};
 use crate::forest::Forest;
@@ -41,11 +49,11 @@ impl<'a> Model for Builder<'a> {
 }
 
 impl Leaf {
-    /// What kind of leaf a token is, if it is one.
-    pub fn of(token: Token<'_>) -> Option<Leaf>
-        ensures { result ≡ leaf_of token.entry.sort }
+    /// What kind of leaf a token of this sort is, if it is one.
+    pub fn of(sort: Sort<'_>) -> Option<Leaf>
+        ensures { result ≡ leaf_of sort.entry }
     {
-        match token.sort {
+        match sort {
             Sort::Mark(Mark::Dollar) => Some(Leaf::Unset),
             Sort::Mark(Mark::Asterisk) => Some(Leaf::Star),
             Sort::Name(_) => Some(Leaf::Reference),
@@ -122,7 +130,20 @@ impl<'a> Builder<'a> {
             })
             (λ _. self.new.text ≡ self.old.text) }
     {
-        let cell = leaf_cell(self.text, leaf, token)?;
+        self.push_leaf_at(leaf, token.place, token.text.len())
+    }
+
+    /// One more leaf is pending, the token of this kind that stands at this place of the text and
+    /// has so many bytes.
+    pub fn push_leaf_at(&mut self, leaf: Leaf, at: u64, len: usize) -> Result<(), AllocError>
+        requires { (t : Token) × IsLeafAt self.old.text leaf at len t }
+        ensures { (t : Token) → IsLeafAt self.old.text leaf at len t → MatchResult result
+            (λ _. self.new ≡ record self.old {
+              pending = self.old.pending ++ leaf_tree t ∷ [];
+            })
+            (λ _. self.new.text ≡ self.old.text) }
+    {
+        let cell = leaf_cell(self.text, leaf, at, len)?;
         self.cells.push_pending(cell)?;
         Ok(())
     }
@@ -197,18 +218,18 @@ fn dots(leaf: Leaf) -> usize
     }
 }
 
-// The cell of a leaf, a token of this kind that stands in the text.
-fn leaf_cell(text: &[u8], leaf: Leaf, token: Token<'_>) -> Result<Cell, AllocError>
-    requires kind { leaf_of token.sort ≡ Some leaf }
-    requires stands { StandsIn text.now token }
-    ensures { IfOk result (λ c. IsCellOf text.now token.entry c) }
+// The cell of a leaf, the token of this kind that stands there in the text.
+fn leaf_cell(text: &[u8], leaf: Leaf, at: u64, len: usize) -> Result<Cell, AllocError>
+    requires { (t : Token) × IsLeafAt text.now leaf at len t }
+    ensures { IfOk result (λ c. (t : Token) → IsLeafAt text.now leaf at len t
+        → IsCellOf text.now t c) }
 {
     let dots = dots(leaf);
-    let len = cell_len(token.text.len() - 2 * dots)?;
+    let len = cell_len(len - 2 * dots)?;
     Ok(Cell {
         kind: Kind::Leaf(leaf),
         len,
-        at: token.place + dots as u64,
+        at: at + dots as u64,
     })
 }
 

@@ -10,7 +10,7 @@ use Rattle.step_structures.specs.Predict.{Just, is_word}
 use Rattle.step_records.specs.Readers.{Progress, reading}
 use Rattle.step_records.specs.Steps.{Passes}
 use Rattle.step_records.specs.Records.{TakesRow}
-use Rattle.step_records.specs.Instances.{tree_of_row, IsNextName, AtMost, TakesRows}
+use Rattle.step_records.specs.Instances.{tree_of_row, IsNextName, TakesRows}
 use Rattle.step_records.proofs.RowSteps.{RowsSoFar, rows_start, rows_next, rows_end, rows_smaller}
 
 -- the instances so far, and the trees that are kept of them
@@ -43,16 +43,15 @@ instances_next before old names here a b t n s h e is v =
           ∙ (λ i. record old.built { kept = all i });
     }
 
-pub instances_end : (greatest : ℕ) (before : List ℕ) (old : Progress) (names : List ℕ) (here a b : Progress)
-    (t : Token) → InstancesSoFar before old names here → AtMost greatest names → Takes (reading here) t (reading a)
+pub instances_end : (before : List ℕ) (old : Progress) (names : List ℕ) (here a b : Progress)
+    (t : Token) → InstancesSoFar before old names here → Takes (reading here) t (reading a)
     → a.built ≡ here.built → is_word (codes "ENDSEC") (located t).lookahead ≡ true → b.built ≡ a.built
     → Passes (Just Semicolon ∷ []) [] [] (this (mark Semicolon) ∷ []) (reading a) (reading b)
-    → TakesRows greatest before names old b
-instances_end greatest before old names here a b t s most h e c f m = record {
+    → TakesRows before names old b
+instances_end before old names here a b t s h e c f m = record {
   rows = s.so.rows;
   are = s.so.are;
   keeps = f ∙ e ∙ s.keeps;
-  bound = most;
   fits = s.so.fits;
   passes = rows_end before (reading old) names (reading here) t (reading a) (reading b) s.so h c m;
 }

@@ -7,3 +7,4 @@ pub mod RecordSteps
 pub mod Recording
 pub mod RowSteps
 pub mod Instancing
+pub mod Naming

@@ -18,7 +18,7 @@ use Rattle.step_records.specs.Steps.{StopsIn, Passes, inner_symbols}
 use Rattle.step_structures.proofs.Meeting.{meet_as, meets_is}
 use Rattle.step_structures.proofs.Passing.{next_leaf, items_as_value}
 use Rattle.step_records.proofs.Taking.{passes_as, passes_join, passes_more, passes_then, passes_token, passes_taken, passes_first, passes_within, stops_behind, stops_behind_taken, stops_all}
-use Rattle.step_records.proofs.Looking.{mark_met, meets_mark, stops_refused}
+use Rattle.step_records.proofs.Looking.{mark_met, meets_mark}
 
 -- a parameter of which the first token is taken already
 abbrev Taken : ℕ → Token → Reading → Tree → Reading → Type 0

@@ -1,23 +1,29 @@
 -- Parameters that are read and built.
-use Rattle.std.proofs.Common.{◌≡◌, ℕ, ◌+◌, ◌<◌, Bool, true, false, List, [], ◌∷◌, ◌++◌, length, take, drop, Some, Result, Ok, Err, MatchResult, refl, sym, ap, ◌∙◌, subst, append_assoc, append-nil, arith, length-append}
+use Rattle.std.proofs.Common.{◌≡◌, ℕ, ◌+◌, ◌<◌, ◌≤◌, Bool, true, false, List, [], ◌∷◌, ◌++◌, length, take, drop, Some, Result, Ok, Err, MatchResult, refl, sym, ap, ◌∙◌, subst, append_assoc, append-nil, arith, length-append, length-take, length-drop}
 use Rattle.std.proofs.lemmas.List.{take_at, drop_at}
 use Rattle.step_lexis.specs.declared.token.Mark.TheVariants.{Open, Close, Comma, Semicolon, Equals, Dollar, Asterisk}
 use Rattle.step_lexis.specs.declared.token.Sort.{Sort}
 use Rattle.step_lexis.specs.declared.token.Sort.TheVariants as sorts
 use Rattle.step_lexis.specs.declared.token.Token.{Token}
-use Rattle.step_lexis.specs.Reading.{Takes}
+use Rattle.step_lexis.specs.Front.{IsFront}
+use Rattle.step_lexis.specs.Reading.{Reading, Takes, left}
+use Rattle.step_lexis.proofs.ReadingLemmas.{some_bytes}
+use Rattle.step_lexis.proofs.Standing.{token_at, front_taken}
 use Rattle.step_parameters.specs.Building.{Building}
 use Rattle.step_parameters.specs.Cells.{all_of, typed_of}
-use Rattle.step_parameters.specs.Tokens.{StandsIn, leaf_of, leaf_tree}
+use Rattle.step_parameters.specs.Tokens.{StandsIn, IsLeafAt, leaf_of, leaf_tree}
+use Rattle.step_parameters.specs.declared.cell.Leaf.{Leaf}
 use Rattle.step_parameters.specs.declared.cell.Leaf.TheVariants.{Keyword}
 use Rattle.step_structures.specs.declared.fault.TextFault.{TextFault}
 use Rattle.step_structures.specs.Words.{keyword, mark, token, located, word_of}
 use Rattle.step_structures.specs.Trees.{Tree, leaf, typed, this, items_of_tree}
+use Rattle.step_structures.specs.Fits.{IsLeaf}
 use Rattle.step_structures.specs.Predict.{Just, is_mark}
 use Rattle.step_structures.specs.Predict as predict
 use Rattle.step_records.specs.Readers.{Progress, reading}
-use Rattle.step_records.specs.Steps.{StopsIn, Passes, PushesAll, TakesInner, TakesValue, TakesItems, TakesParams, GoesOn, inner_symbols}
-use Rattle.step_records.proofs.ParamSteps.{SoFar, items_none, items_first, items_next, items_done, all_push, inner_done, typed_done, params_done, params_err_items}
+use Rattle.step_records.specs.Steps.{StopsIn, Passes, IsParameter, PushesAll, PushesLeaf, PushesNext, TakesInner, TakesValue, TakesItem, BeginsItems, TakesItems, TakesParams, GoesOn, inner_symbols}
+use Rattle.step_records.proofs.Taking.{passes_here, stops_behind_taken}
+use Rattle.step_records.proofs.ParamSteps.{leaf_done, SoFar, items_none, items_first, items_next, items_done, all_push, inner_done, typed_done, params_done, params_err_items}
 
 -- a token that is taken stands in the text
 pub takes_stands : (old a : Progress) (t : Token) → Takes (reading old) t (reading a) → a.built ≡ old.built
@@ -25,10 +31,142 @@ pub takes_stands : (old a : Progress) (t : Token) → Takes (reading old) t (rea
 takes_stands old a t h e = subst (λ b. StandsIn b.text t) (sym e)
     (record { within = h.reaches.within; front = h.front; is = h.text })
 
+-- the token of this sort and length that stands next
+abbrev pub next_token : Reading → Sort → ℕ → Token
+next_token r sort n = token_at r.place sort (take n (left r))
+
+some_left : (r : Reading) (sort : Sort) (n : ℕ) → IsFront (left r) sort n → r.place ≤ length r.text
+some_left r sort n f = omega (arith, some_bytes (left r) sort n f, f.within, length-drop r.place r.text)
+
+pub next_taken : (r : Reading) (sort : Sort) (n : ℕ) → IsFront (left r) sort n
+    → Takes r (next_token r sort n) (record r { place = r.place + n })
+next_taken r sort n f = front_taken r sort n (some_left r sort n f) f
+
+pub leaf_next : (r : Reading) (text : List ℕ) (at : ℕ) (sort : Sort) (n : ℕ) (k : Leaf) → r.text ≡ text
+    → at ≡ r.place → IsFront (left r) sort n → leaf_of sort ≡ Some k → IsLeafAt text k at n (next_token r sort n)
+leaf_next r text at sort n k e p f is =
+    let h = next_taken r sort n f in
+    let here : IsLeafAt r.text k r.place n (next_token r sort n) = record {
+      is = is;
+      stands = record { within = some_left r sort n f; front = h.front; is = h.text };
+      place = refl;
+      length = omega (arith, length-take n (left r), f.within);
+    } in
+    subst (λ (x : List ℕ × ℕ). IsLeafAt x.0 k x.1 n (next_token r sort n)) (λ i. (e i, sym p i)) here
+
+-- .. which is pushed and skipped
+pub leaf_pushed : (r s : Reading) (b c : Building) (sort : Sort) (n : ℕ) (k : Leaf) → r.text ≡ b.text
+    → IsFront (left r) sort n → IsParameter k sort
+    → c ≡ record b { pending = b.pending ++ leaf_tree (next_token r sort n) ∷ [] } → s ≡ record r { place = r.place + n }
+    → PushesLeaf (record { place = r.place; built = b }) (record { place = s.place; built = c })
+leaf_pushed r s b c sort n k e f is ec es =
+    let text : r.text ≡ c.text = e ∙ sym (ap (λ (x : Building). x.text) ec) in
+    let place : r.place + n ≡ s.place = sym (ap (λ (x : Reading). x.place) es) in
+    let from : r ≡ record { text = b.text; place = r.place } = λ i. record { text = e i; place = r.place } in
+    let to : record r { place = r.place + n } ≡ record { text = c.text; place = s.place } =
+    λ i. record { text = text i; place = place i } in
+    record {
+      token = next_token r sort n;
+      taken = subst (λ (x : Reading × Reading). Takes x.0 (next_token r sort n) x.1) (λ i. (from i, to i))
+          (next_taken r sort n f);
+      kind = k;
+      is = is;
+      pushes = ec;
+    }
+
 -- what is pending behind what is pending
 pub pushes_over : (a b : Building) (xs : List Tree) → a ≡ b
     → record a { pending = a.pending ++ xs } ≡ record b { pending = b.pending ++ xs }
 pushes_over a b xs e = λ i. record (e i) { pending = (e i).pending ++ xs }
+
+-- a token that is a parameter by itself
+parameter_is : (sort : Sort) (s : List ℕ) (k : Leaf) → leaf_of sort ≡ Some k → (k ≡ Keyword → ⊥)
+    → IsLeaf (word_of sort s) × (is_mark Close (token (word_of sort s)) ≡ false)
+parameter_is sorts.Begin s k e d = absurd (cc)
+parameter_is sorts.End s k e d = absurd (cc)
+parameter_is (sorts.Keyword w) s k e d = let is : k ≡ Keyword = cc in absurd (d is)
+parameter_is (sorts.UserDefined w) s k e d = absurd (cc)
+parameter_is sorts.Scope s k e d = absurd (cc)
+parameter_is (sorts.Name n) s k e d = (tt, refl)
+parameter_is (sorts.Integer n) s k e d = (tt, refl)
+parameter_is (sorts.Real n) s k e d = (tt, refl)
+parameter_is (sorts.Element w) s k e d = (tt, refl)
+parameter_is (sorts.String t) s k e d = (tt, refl)
+parameter_is (sorts.Binary b) s k e d = (tt, refl)
+parameter_is (sorts.Mark Open) s k e d = absurd (cc)
+parameter_is (sorts.Mark Close) s k e d = absurd (cc)
+parameter_is (sorts.Mark Comma) s k e d = absurd (cc)
+parameter_is (sorts.Mark Semicolon) s k e d = absurd (cc)
+parameter_is (sorts.Mark Equals) s k e d = absurd (cc)
+parameter_is (sorts.Mark Dollar) s k e d = (tt, refl)
+parameter_is (sorts.Mark Asterisk) s k e d = (tt, refl)
+
+-- .. and is pending
+leaf_item : (n : ℕ) (old new : Progress) → PushesLeaf old new → BeginsItems true n old new
+leaf_item n old new h =
+    let mid : Progress = record old { place = new.place } in
+    let same : reading new ≡ reading mid =
+    ap (λ (b : Building). reading (record { place = new.place; built = b })) h.pushes in
+    let w = word_of h.token.sort h.token.text.now in
+    let is = parameter_is h.token.sort h.token.text.now h.kind h.is.0 h.is.1 in
+    let done = leaf_done n w h.token (reading mid) is.0 refl in (
+      record {
+        token = h.token;
+        mid = mid;
+        taken = subst (λ r. Takes (reading old) h.token r) same h.taken;
+        same = refl;
+        value = record {
+          tree = leaf_tree h.token;
+          pushes = h.pushes;
+          fits = done.0;
+          passes = subst (λ r. Passes (predict.Value n ∷ []) [] (located h.token ∷ []) (items_of_tree
+              (leaf_tree h.token)) (reading mid) r) (sym same) done.1;
+        };
+      },
+      is.1,
+    )
+
+-- a token is pushed, or the next one is taken
+pub pushed_item : (b : Bool) (n : ℕ) (old new : Progress) → b ≡ true → PushesNext b old new
+    → BeginsItems true n old new
+pushed_item true n old new e h = leaf_item n old new h
+pushed_item false n old new e h = absurd (cc)
+
+pub not_pushed : (b : Bool) (old new : Progress) → b ≡ false → PushesNext b old new → new ≡ old
+not_pushed false old new e h = h
+not_pushed true old new e h = absurd (cc)
+
+pub item_taken : (n : ℕ) (old a b c : Progress) (t : Token) → a ≡ old → Takes (reading a) t (reading b)
+    → b.built ≡ a.built → TakesValue n (located t) b c → TakesItem n old c
+item_taken n old a b c t e h f v = record {
+  token = t;
+  mid = b;
+  taken = subst (λ (r : Progress). Takes (reading r) t (reading b)) e h;
+  same = f ∙ ap (λ (r : Progress). r.built) e;
+  value = v;
+}
+
+pub first_taken : (n : ℕ) (old a b c : Progress) (t : Token) → a ≡ old → Takes (reading a) t (reading b)
+    → b.built ≡ a.built → is_mark Close (located t).lookahead ≡ false → TakesValue n (located t) b c
+    → BeginsItems true n old c
+unfolding item_taken
+first_taken n old a b c t e h f m v = (item_taken n old a b c t e h f v, m)
+
+pub item_err_value : (e : TextFault) (n : ℕ) (old a b : Progress) (t : Token) → a ≡ old
+    → Takes (reading a) t (reading b) → StopsIn e (predict.Value n ∷ []) (located t ∷ []) (reading b)
+    → StopsIn e (predict.Value n ∷ []) [] (reading old)
+item_err_value e n old a b t same h g =
+    subst (λ (r : Progress). StopsIn e (predict.Value n ∷ []) [] (reading r)) same
+    (stops_behind_taken e (predict.Value n ∷ []) [] t (passes_here (predict.Value n ∷ []) (reading a)) h g)
+
+pub begins_some : (b : Bool) (n : ℕ) (old new : Progress) → b ≡ true → BeginsItems b n old new
+    → BeginsItems true n old new
+begins_some true n old new e h = h
+begins_some false n old new e h = absurd (cc)
+
+pub begins_none : (b : Bool) (n : ℕ) (old new : Progress) → b ≡ false → BeginsItems b n old new → TakesItems n old new
+begins_none false n old new e h = h
+begins_none true n old new e h = absurd (cc)
 
 -- the parameters so far, of which there are some
 pub record ItemsSoFar (n : ℕ) (old now : Progress) : Type 0 where

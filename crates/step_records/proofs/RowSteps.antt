@@ -1,7 +1,5 @@
 -- The instances, one after another.
-use Rattle.std.proofs.Common.{◌≡◌, ℕ, ◌<◌, ◌≤◌, ◌||◌, ◌==◌, true, false, List, [], ◌∷◌, ◌++◌, length, nat_eq, if◌then◌else◌, Ok, Err, refl, sym, ap, ◌∙◌, subst, append_assoc, append-nil, arith, nat_lt, codes}
-use Rattle.std.specs.List.{list_any}
-use Rattle.indexmap.specs.IndexSet.{insert_key}
+use Rattle.std.proofs.Common.{◌≡◌, ℕ, ◌<◌, ◌≤◌, true, false, List, [], ◌∷◌, ◌++◌, length, Ok, Err, refl, sym, ap, ◌∙◌, subst, append_assoc, append-nil, arith, nat_lt, codes, inl, inr}
 use Rattle.std.proofs.lemmas.Bool.{false≢true}
 use Rattle.std.proofs.lemmas.Bool.Decides.{nat_tests}
 use Rattle.step_lexis.specs.declared.token.Mark.TheVariants.{Semicolon}
@@ -19,20 +17,11 @@ use Rattle.step_structures.specs.Trees.{Row, Form, this, named, says, section, i
 use Rattle.step_structures.specs.Fits.{the_rules, FitsForm, FitsRows, has_name}
 use Rattle.step_structures.specs.Predict.{Just, Rows, Sections, refused, is_word, row_symbols, table}
 use Rattle.step_records.specs.Steps.{StopsIn, Passes}
-use Rattle.step_records.specs.Instances.{StopsInRows, IsNextName, IsNoName, names_of, AtMost}
+use Rattle.step_records.specs.Instances.{StopsInRows, IsNextName, IsNoName, HasNoName, names_of}
 use Rattle.step_structures.proofs.Meeting.{meets_named}
 use Rattle.step_records.proofs.Taking.{passes_here, passes_as, passes_join, passes_more, passes_token, passes_within, stops_behind, stops_token}
 use Rattle.step_records.proofs.Looking.{word_met}
 use Rattle.step_records.proofs.RecordSteps.{Lined}
-
--- the names in the set
-pub has_key : (k : ℕ) (names : List ℕ) → has_name k names ≡ list_any (nat_eq k) names
-has_key k [] = refl
-has_key k (n ∷ ns) = ap (λ b. nat_eq k n || b) (has_key k ns)
-
-pub insert_absent : (k : ℕ) (names : List ℕ) → has_name k names ≡ false
-    → insert_key nat_eq names k ≡ names ++ k ∷ []
-insert_absent k names h = ap (λ b. if b then names else names ++ k ∷ []) (sym (has_key k names) ∙ h)
 
 -- a name that may stand, or its fault
 pub name_refused : (names : List ℕ) (t : Token) (e : TextFault) → ((n : ℕ) → t.sort ≡ sorts.Name n → ⊥)
@@ -112,10 +101,11 @@ pub rows_err_token : (e : TextFault) (before : List ℕ) (old : Reading) (now : 
 rows_err_token e before old now here so g k = stops_behind e (Rows k (now) ∷ []) [] (so.passes k) (g k)
 
 pub rows_err_name : (e : TextFault) (before : List ℕ) (old : Reading) (now : List ℕ) (here : Reading) (t : Token)
-    (a : Reading) → RowsSoFar before old now here → Takes here t a → IsNoName (now) (located t) e
-    → StopsInRows e (before) old
-rows_err_name e before old now here t a so h g = rows_err_token e before old now here so
-    (λ k. stops_token e g.kind (Rows k (now)) t here a h (g.refused k) g.fault_is)
+    (a : Reading) → RowsSoFar before old now here → Takes here t a → HasNoName now (located t) e → StopsInRows e before old
+rows_err_name faults.Memory before old now here t a so h g k = tt
+rows_err_name (faults.Fault kind place) before old now here t a so h (inl g) k = elim g [ ]
+rows_err_name e before old now here t a so h (inr g) k = rows_err_token e before old now here so
+    (λ j. stops_token e g.kind (Rows j now) t here a h (g.refused j) g.fault_is) k
 
 pub passes_name : (k : ℕ) (names : List ℕ) (t : Token) (n : ℕ) (here a : Reading) → Takes here t a
     → IsNextName names (located t) n
@@ -203,22 +193,3 @@ rows_end before old now here t a b so h c m k = passes_join (so.passes k) (passe
 pub rows_smaller : (here : Reading) (t : Token) (a : Reading) (f : Form) (b : Reading) → Takes here t a → Lined a f b
     → length (left b) < length (left here)
 rows_smaller here t a f b h g = omega (arith, takes_less here a t h, passes_within g.1)
-
--- names beyond the greatest
-not_same : (n m g : ℕ) → m ≤ g → g < n → (n == m) ≡ false
-not_same n m g h k = grind (arith, nat_tests)
-
-pub beyond : (n g : ℕ) (names : List ℕ) → AtMost g names → g < n → has_name n names ≡ false
-beyond n g [] h k = refl
-beyond n g (m ∷ ms) h k = rw (not_same n m g h.0 k) (beyond n g ms h.1 k)
-
-pub at_most_more : (g k : ℕ) (names : List ℕ) → AtMost g names → g ≤ k → AtMost k names
-at_most_more g k [] h e = tt
-at_most_more g k (m ∷ ms) h e = (omega (arith, h.0, e), at_most_more g k ms h.1 e)
-
-at_most_push : (g n : ℕ) (names : List ℕ) → AtMost g names → n ≤ g → AtMost g (names ++ n ∷ [])
-at_most_push g n [] h e = (e, tt)
-at_most_push g n (m ∷ ms) h e = (h.0, at_most_push g n ms h.1 e)
-
-pub at_most_next : (g k n : ℕ) (names : List ℕ) → AtMost g names → g ≤ k → n ≤ k → AtMost k (names ++ n ∷ [])
-at_most_next g k n names h e f = at_most_push k n names (at_most_more g k names h e) f

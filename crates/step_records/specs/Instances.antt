@@ -1,5 +1,5 @@
 -- The instances of a section that are read and built.
-use Rattle.std.specs.Prelude.{◌≡◌, ℕ, ◌<◌, ◌≤◌, false, List, [], ◌∷◌, ◌++◌, length, map, codes, Err}
+use Rattle.std.specs.Prelude.{◌≡◌, ℕ, ◌<◌, false, List, [], ◌∷◌, ◌++◌, ◌⊎◌, length, map, codes, Err}
 use Rattle.step_lexis.specs.Reading.{Reading}
 use Rattle.step_parameters.specs.Building.{list_of}
 use Rattle.step_records.specs.Readers.{Progress, reading}
@@ -12,6 +12,7 @@ use Rattle.step_structures.specs.Words.{name, token, LocatedToken}
 use Rattle.step_structures.specs.Trees.{Tree, Row, section, items_of_rows}
 use Rattle.step_structures.specs.Fits.{the_rules, FitsRows, has_name}
 use Rattle.step_structures.specs.Predict.{Rows, Sections, table}
+use Rattle.step_structures.specs.Texts.{IsMemory}
 
 abbrev pub names_of : List Row → List ℕ
 names_of rs = map (λ (r : Row). r.name) rs
@@ -33,17 +34,15 @@ pub record IsNoName (names : List ℕ) (s : LocatedToken) (e : TextFault) : Type
   pub refused : (n : ℕ) → table (Rows n names) s.lookahead ≡ Err kind
   pub fault_is : e ≡ faults.Fault kind s.place
 
--- none of the names is greater
-abbrev pub AtMost : ℕ → List ℕ → Type 0
-AtMost greatest [] = Unit {0}
-AtMost greatest (n ∷ ns) = (n ≤ greatest) × AtMost greatest ns
+-- .. or memory ran out
+abbrev pub HasNoName : List ℕ → LocatedToken → TextFault → Type 0
+HasNoName names s e = IsMemory e ⊎ IsNoName names s e
 
 -- instances behind others with these names, and the end of the section that they stand in, whatever its number
-pub record TakesRows (greatest : ℕ) (before after : List ℕ) (old new : Progress) : Type 0 where
+pub record TakesRows (before after : List ℕ) (old new : Progress) : Type 0 where
   pub rows : List Row
   pub are : after ≡ before ++ names_of rows
   pub keeps : new.built ≡ record old.built { kept = old.built.kept ++ map tree_of_row rows }
-  pub bound : AtMost greatest after
   pub fits : FitsRows the_rules before rows
   pub passes : (n : ℕ) → Passes (Rows n before ∷ []) (Sections n after ∷ []) [] (items_of_rows rows
       ++ section (codes "ENDSEC")) (reading old) (reading new)

@@ -1,4 +1,5 @@
 pub mod Readers
 pub mod Steps
 pub mod Records
+pub mod Names
 pub mod Instances

@@ -1,11 +1,15 @@
 -- Reading parameters, records and instances by the table, from one place to another.
-use Rattle.std.specs.Prelude.{◌≡◌, ℕ, ◌+◌, List, [], ◌∷◌, ◌++◌, Option, Some, None, Result, Bool, true, if◌then◌else◌}
+use Rattle.std.specs.Prelude.{◌≡◌, ℕ, ◌+◌, List, [], ◌∷◌, ◌++◌, Option, Some, None, Result, Bool, true, false, if◌then◌else◌}
 use Rattle.predictive.specs.Lexers as lexers
 use Rattle.predictive.specs.Steps as steps
 use Rattle.step_lexis.specs.declared.token.Mark.TheVariants.{Open, Close, Comma}
+use Rattle.step_lexis.specs.declared.token.Sort.{Sort}
 use Rattle.step_lexis.specs.declared.token.Token.{Token}
 use Rattle.step_lexis.specs.Reading.{Reading, Takes}
 use Rattle.step_parameters.specs.Cells.{all_of}
+use Rattle.step_parameters.specs.Tokens.{leaf_of, leaf_tree}
+use Rattle.step_parameters.specs.declared.cell.Leaf.{Leaf}
+use Rattle.step_parameters.specs.declared.cell.Leaf.TheVariants.{Keyword}
 use Rattle.step_records.specs.Readers.{Progress, reading}
 use Rattle.step_structures.specs.declared.fault.FaultKind.{FaultKind}
 use Rattle.step_structures.specs.declared.fault.TextFault.{TextFault}
@@ -62,12 +66,30 @@ pub record TakesValue (depth : ℕ) (first : LocatedToken) (old new : Progress) 
   pub fits : FitsTree the_rules depth tree
   pub passes : Passes (Value depth ∷ []) [] (first ∷ []) (items_of_tree tree) (reading old) (reading new)
 
--- behind a parameter a comma, or the parenthesis that closes the list
-pub record GoesOn (more : Bool) (old new : Progress) : Type 0 where
+-- a token of this sort is a parameter by itself, this kind of leaf
+abbrev pub IsParameter : Leaf → Sort → Type 0
+IsParameter kind sort = (leaf_of sort ≡ Some kind) × (kind ≡ Keyword → ⊥)
+
+-- the next token is a parameter by itself, and is taken and pending
+pub record PushesLeaf (old new : Progress) : Type 0 where
   pub token : Token
   pub taken : Takes (reading old) token (reading new)
-  pub same : new.built ≡ old.built
-  pub is : is_mark (if more then Comma else Close) (located token).lookahead ≡ true
+  pub kind : Leaf
+  pub is : IsParameter kind token.sort
+  pub pushes : Pushes old (leaf_tree token) new
+
+-- .. or nothing is read
+abbrev pub PushesNext : Bool → Progress → Progress → Type 0
+PushesNext true old new = PushesLeaf old new
+PushesNext false old new = new ≡ old
+
+-- the parameter that stands next; behind its first token the reading is at `mid`
+pub record TakesItem (depth : ℕ) (old new : Progress) : Type 0 where
+  pub token : Token
+  pub mid : Progress
+  pub taken : Takes (reading old) token (reading mid)
+  pub same : mid.built ≡ old.built
+  pub value : TakesValue depth (located token) mid new
 
 -- the parameters of a list, and the closing parenthesis
 pub record TakesItems (depth : ℕ) (old new : Progress) : Type 0 where
@@ -76,7 +98,20 @@ pub record TakesItems (depth : ℕ) (old new : Progress) : Type 0 where
   pub fits : FitsTrees the_rules depth (all_of trees)
   pub passes : Passes (Items depth ∷ []) [] [] (items_of_list (all_of trees)) (reading old) (reading new)
 
--- .. and the opening one
+-- behind the parenthesis of a list a parameter, or the parenthesis that closes it
+abbrev pub BeginsItems : Bool → ℕ → Progress → Progress → Type 0
+BeginsItems true depth old new =
+    (first : TakesItem depth old new) × (is_mark Close (located first.token).lookahead ≡ false)
+BeginsItems false depth old new = TakesItems depth old new
+
+-- behind a parameter a comma, or the parenthesis that closes the list
+pub record GoesOn (more : Bool) (old new : Progress) : Type 0 where
+  pub token : Token
+  pub taken : Takes (reading old) token (reading new)
+  pub same : new.built ≡ old.built
+  pub is : is_mark (if more then Comma else Close) (located token).lookahead ≡ true
+
+-- the parameters of a list, with both parentheses
 pub record TakesParams (depth : ℕ) (old new : Progress) : Type 0 where
   pub trees : List Tree
   pub pushes : PushesAll old trees new

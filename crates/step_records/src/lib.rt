@@ -2,6 +2,7 @@
 #![tactic(auto)]
 
 pub mod instances;
+pub mod names;
 pub mod params;
 pub mod reader;
 pub mod records;

@@ -11,6 +11,8 @@ ghost use Rattle.step_records.specs.Readers.{reading};
 ghost use Rattle.step_records.specs.Steps.{
   StopsIn,
   TakesInner,
+  TakesItem,
+  BeginsItems,
   TakesValue,
   TakesItems,
   TakesParams,
@@ -35,7 +37,7 @@ fn leaf<'a>(reader: &mut Reader<'a>, first: Token<'a>, depth: u32) -> Result<(),
         (λ _. TakesValue depth (located first.entry) reader.old reader.new)
         (λ e. StopsIn e (Value depth ∷ []) (located first.entry ∷ []) (reading reader.old)) }
 {
-    let Some(leaf) = Leaf::of(first) else {
+    let Some(leaf) = Leaf::of(first.sort) else {
         return Err(refuse(first));
     };
     reader.push_leaf(leaf, first)?;
@@ -51,8 +53,7 @@ fn inner(reader: &mut Reader<'_>, depth: u32) -> Result<(), TextFault>
         (λ e. StopsIn e (inner_symbols depth) [] (reading reader.old)) }
 {
     expect(reader, Mark::Open)?;
-    let first = take(reader)?;
-    value(reader, first, depth + 1)?;
+    item(reader, depth + 1)?;
     expect(reader, Mark::Close)?;
     Ok(())
 }
@@ -115,6 +116,41 @@ fn value<'a>(reader: &mut Reader<'a>, first: Token<'a>, depth: u32) -> Result<()
     }
 }
 
+/// The next parameter, with so many parentheses open around it.
+#[cycle(params)]
+fn item(reader: &mut Reader<'_>, depth: u32) -> Result<(), TextFault>
+    requires { depth ≤ 64 }
+    ensures { MatchResult result
+        (λ _. TakesItem depth reader.old reader.new)
+        (λ e. StopsIn e (Value depth ∷ []) [] (reading reader.old)) }
+{
+    if reader.push_next()? {
+        return Ok(());
+    }
+    let first = take(reader)?;
+    value(reader, first, depth)?;
+    Ok(())
+}
+
+/// The first parameter of a list, or the parenthesis that closes it; whether it is a parameter.
+#[cycle(params)]
+fn first_item(reader: &mut Reader<'_>, depth: u32) -> Result<bool, TextFault>
+    requires { depth ≤ 64 }
+    ensures { MatchResult result
+        (λ some. BeginsItems some depth reader.old reader.new)
+        (λ e. StopsIn e (Items depth ∷ []) [] (reading reader.old)) }
+{
+    if reader.push_next()? {
+        return Ok(true);
+    }
+    let first = take(reader)?;
+    if is_mark(first, Mark::Close) {
+        return Ok(false);
+    }
+    value(reader, first, depth)?;
+    Ok(true)
+}
+
 /// The parameters of a list behind its parenthesis, and the closing one.
 #[cycle(params)]
 pub fn items(reader: &mut Reader<'_>, depth: u32) -> Result<(), TextFault>
@@ -123,14 +159,11 @@ pub fn items(reader: &mut Reader<'_>, depth: u32) -> Result<(), TextFault>
         (λ _. TakesItems depth reader.old reader.new)
         (λ e. StopsIn e (Items depth ∷ []) [] (reading reader.old)) }
 {
-    let first = take(reader)?;
-    if is_mark(first, Mark::Close) {
+    if !first_item(reader, depth)? {
         return Ok(());
     }
-    value(reader, first, depth)?;
     while goes_on(reader)? {
-        let start = take(reader)?;
-        value(reader, start, depth)?;
+        item(reader, depth)?;
     }
     Ok(())
 }

@@ -1,16 +1,17 @@
 //! A text that is read token by token, and what is built of it.
 
-ghost use Rattle.std.specs.Prelude.{◌≡◌, ◌≤◌, ◌+◌, ◌++◌, [], ◌∷◌, Some, length, take, drop, IfOk};
+ghost use Rattle.std.specs.Prelude.{◌≡◌, ◌≤◌, ◌+◌, ◌++◌, [], ◌∷◌, Some, length, take, drop, IfOk, IfSome};
 ghost use Rattle.step_lexis.specs.Reading.{Answers, SkipsMark, start_of};
 ghost use Rattle.step_parameters.specs.Building.{list_of};
 ghost use Rattle.step_parameters.specs.Cells.{typed_of};
 ghost use Rattle.step_parameters.specs.Tokens.{StandsIn, leaf_of, leaf_tree};
 ghost use Rattle.step_records.specs.Readers.{reading};
+ghost use Rattle.step_records.specs.Steps.{IsParameter, PushesNext};
 
 use std::alloc::{AllocError, Global};
 use std::marker::Model;
 use step_lexis::lexer::Lexer;
-use step_lexis::token::{Mark, Token};
+use step_lexis::token::{Mark, Sort, Token};
 use step_literals::fault::TextFault;
 use step_parameters::builder::Builder;
 use step_parameters::cell::Leaf;
@@ -35,6 +36,17 @@ impl<'a> Model for Reader<'a> {
     ghost view = { λ r. record { place = r.lexer.place; built = r.builder } };
 
     ghost invariant = { λ r. r.lexer.text ≡ r.builder.text };
+}
+
+// What kind of leaf a token of this sort is, if it is a parameter by itself.
+fn parameter(sort: Sort<'_>) -> Option<Leaf>
+    ensures { IfSome result (λ leaf. IsParameter leaf sort.entry) }
+{
+    let leaf = Leaf::of(sort)?;
+    match leaf {
+        Leaf::Keyword => None,
+        _ => Some(leaf),
+    }
 }
 
 impl<'a> Reader<'a> {
@@ -74,6 +86,23 @@ impl<'a> Reader<'a> {
         ensures built { self.new.built ≡ self.old.built }
     {
         self.lexer.skip_mark(wanted)
+    }
+
+    /// Reads the token that stands next and makes it a pending leaf, where no layout comes before it
+    /// and it is a parameter by itself; whether it did. Else nothing is read.
+    #[inline(always)]
+    pub fn push_next(&mut self) -> Result<bool, AllocError>
+        ensures { IfOk result (λ is. PushesNext is self.old self.new) }
+    {
+        let Some((sort, len)) = self.lexer.peek() else {
+            return Ok(false);
+        };
+        let Some(leaf) = parameter(sort) else {
+            return Ok(false);
+        };
+        self.builder.push_leaf_at(leaf, self.lexer.place(), len)?;
+        self.lexer.skip(sort, len);
+        Ok(true)
     }
 
     /// The next token, as the lexer answers it.

@@ -5,7 +5,7 @@ use Rattle.std.specs.Str.{is_utf8, chars}
 use Rattle.std.proofs.Common.{refl, inl, inr, ap, sym, subst, ◌∙◌}
 use Rattle.std.proofs.lemmas.Slice.Eq.{bytes_eq-Decides}
 use Rattle.express_trees.specs.declared.tree.Relation.TheVariants as relations
-use Rattle.express_trees.specs.Trees.{Tree, reference, comparison, literal, plain, number, whole, text}
+use Rattle.express_trees.specs.Trees.{Tree, Qualifiers, reference, comparison, literal, plain, number, whole, text}
 use Rattle.express_trees.specs.Trees as trees
 use Rattle.express_schemas.specs.Runs.{ended, ending}
 use Rattle.express_trees.specs.Words.{name}
@@ -16,18 +16,19 @@ use Rattle.type_graphs.specs.declared.unchecked.PartKind.{PartKind}
 use Rattle.type_graphs.specs.declared.unchecked.Reason.{Reason}
 use Rattle.type_graphs.specs.declared.unchecked.PartKind.TheVariants as parts
 use Rattle.type_graphs.specs.declared.unchecked.Reason.TheVariants as reasons
-use Rattle.type_graphs.specs.Names.{Name, IsMadeOf, IsEntity, IsType, IsBelow, IsKindOf, IsEntityAt, IsTypeAt, IsSubtypeOf, listed, Among, entities, supertypes_of}
-use Rattle.type_graphs.specs.Faults.{Demand, IsMet, a_type, an_entity, demands, declared, Declared, IsFault, IsFirst, IsFirstRepeat, IsOwnSupertype}
+use Rattle.type_graphs.specs.Names.{Name, IsFirst, IsMadeOf, IsEntity, IsType, IsBelow, IsKindOf, IsEntityAt, IsTypeAt, IsSubtypeOf, listed, Among, entities, supertypes_of, explicit_names}
+use Rattle.type_graphs.specs.Faults.{Demand, IsMet, a_type, an_entity, inherited, inverted, demands, declared, Declared, StandsTwice, IsFault, IsOwnSupertype}
 use Rattle.type_graphs.specs.Shapes.{AreAlike, KeepsShapes, HasShape, AreOne, Shape, of_lists, an_aggregate}
 use Rattle.type_graphs.specs.Attributes.{Place, IsPlaces, Derivation, IsNth, IsOrigin}
-use Rattle.type_graphs.specs.Reasons.{SaysName, MayUse, HasBadKind, MayBeDeep, HasUnclearName, HasOwnReason}
-use Rattle.type_graphs.specs.Sets.{May, MayTake, TakesTwo}
+use Rattle.type_graphs.specs.Reasons.{SaysName, BodyMayUse, HasBadKind, MayBeDeep, HasUnclearName}
+use Rattle.type_graphs.specs.Sets.{Set, of_set, May, MayTake, TakesTwo, Variable, IsVariable, Meaning, itself, variable, attribute_of_self, item_of_type, item, Means}
 use Rattle.type_graphs.specs.Shapes as shapes
-use Rattle.type_graphs.specs.Ranks.{Self, Uses, LeadsToItself, IsRank, IsDerivedAt}
-use Rattle.type_graphs.proofs.Lists.{last-step}
+use Rattle.type_graphs.specs.Ranks.{Self, Uses, LeadsToItself, HasReason, IsRank, IsDerivedAt}
+use Rattle.type_graphs.proofs.Lists.{first-holds, fresh-once, last-step}
 use Rattle.type_graphs.proofs.Supertypes.{entity-name}
-use Rattle.type_graphs.proofs.Placed.{both-hold}
-use Rattle.type_graphs.specs.Parts.{Unchecked, AreUnchecked}
+use Rattle.type_graphs.proofs.Bools.{both-hold}
+use Rattle.type_graphs.proofs.Facts.{is-declarer, named-in}
+use Rattle.type_graphs.specs.Parts.{Unchecked, all_reasons, AreUnchecked}
 
 -- An entity with these supertypes and attributes, and nothing else.
 abbrev an : Name → List Name → List Explicit → Entity
@@ -71,6 +72,9 @@ X = codes "X"
 differ : true ≡ false → ⊥
 differ e = cc
 
+abbrev name-declared : Name → Declared
+name-declared n = (0, n)
+
 -- ENTITY a; x : b; END_ENTITY;
 abbrev first : Schema
 first = schema (entity (an A [] (with_one X (named B))) ∷ [])
@@ -88,12 +92,56 @@ unknown-name = (a_type B, inl (unmet, refl), refl)
     unmet (inl t) = lacks-type t.0 t.1
     unmet (inr e) = lacks-entity e.0 e.1
 
+-- ENTITY a; END_ENTITY; ENTITY b SUBTYPE OF (a); SELF\a.x : INTEGER; END_ENTITY;
+abbrev astray : Schema
+astray =
+    schema (entity (an A [] []) ∷ entity (an B (A ∷ []) (record {
+      attributes = redeclared A X ∷ [];
+      optional = false;
+      data_type = integer;
+    } ∷ [])) ∷ [])
+
+unknown-attribute : IsFault astray UnknownName X
+unknown-attribute = (inherited (A ∷ []) A X, inr (met, inr (met, inl (unmet, refl))), refl)
+  where
+    met : (IsEntity astray A → ⊥) → ⊥
+    met h = h (an A [] [], refl)
+
+    unmet : IsMet astray (inherited (A ∷ []) A X) → ⊥
+    unmet (some, (p, (kind, declares))) = is-declarer astray p X declares
+
+-- ENTITY a; INVERSE i : b FOR x; END_ENTITY; ENTITY b; END_ENTITY;
+abbrev lacking : Schema
+lacking =
+    schema (entity (record (an A [] []) {
+      inverses = Some (record {
+        attribute = own (codes "I");
+        collection = schemas.alone;
+        entity = B;
+        holder = None;
+        inverted = X;
+      } ∷ []);
+    }) ∷ entity (an B [] []) ∷ [])
+
+unknown-inverted : IsFault lacking UnknownName X
+unknown-inverted = (inverted B X, inr ((λ h. h (an B [] [], refl)), inl (unmet, refl)), refl)
+  where
+    unmet : IsMet lacking (inverted B X) → ⊥
+    unmet (p, kind, (e, at, m)) = named-in lacking explicit_names p X e at m
+
 -- ENTITY a; END_ENTITY; ENTITY A; END_ENTITY;
 abbrev second : Schema
 second = schema (entity (an A [] []) ∷ entity (an A [] []) ∷ [])
 
 duplicate-name : IsFault second DuplicateName A
-duplicate-name = ((λ n h. h.1), (0, inr ((λ h. h), inl (inl refl, refl))))
+duplicate-name = ((λ n h. h.1), (0, inl (inl (refl, inl refl), refl)))
+
+-- of a, b, b, a the first is answered, though b comes again before it
+abbrev nested : Schema
+nested = schema (entity (an A [] []) ∷ entity (an B [] []) ∷ entity (an B [] []) ∷ entity (an A [] []) ∷ [])
+
+first-of-duplicates : IsFault nested DuplicateName A
+first-of-duplicates = ((λ n h. h.1), (0, inl (inl (refl, inr (inr (inl refl))), refl)))
 
 -- ENTITY a; END_ENTITY; ENTITY a; x : b; END_ENTITY; shows two faults, and the least is answered
 abbrev both : Schema
@@ -134,11 +182,12 @@ cycle-of-supertypes = (
     known (inr (_, inl h)) = h.0 (an A (B ∷ []) [], refl)
     known (inr (_, inr (_, h))) = h
 
-    apart : {x : Declared} → IsFirstRepeat [] (declared third) x → ⊥
-    apart (inl h) = h.0
-    apart (inr (_, inl (inl e, _))) = differ (ap (λ (p : Declared). bytes_eq p.1 A) e)
-    apart (inr (_, inl (inr h, _))) = h
-    apart (inr (_, inr (_, h))) = h
+    apart : {x : Declared} → IsFirst (StandsTwice (declared third)) (declared third) x → ⊥
+    apart {x} h = fresh-once (declared third) (fresh, ((λ k. k), tt)) x (first-holds (StandsTwice (declared third)) (declared third) x h)
+      where
+        fresh : Among (name-declared A) (name-declared B ∷ []) → ⊥
+        fresh (inl e) = differ (ap (λ (p : Declared). bytes_eq p.1 B) e)
+        fresh (inr k) = k
 
 -- TYPE a = SELECT (b); END_TYPE; TYPE b = SELECT (a); END_TYPE;
 abbrev fourth : Schema
@@ -146,10 +195,10 @@ fourth = schema (a_type_of A (select (B ∷ [])) ∷ a_type_of B (select (A ∷ 
 
 cycle-of-types : IsFault fourth TypeCycle A
 cycle-of-types =
-    ((λ n h. known h.1), (λ n h. apart h.1), (λ n h. h), inl ((B ∷ [], (made A B refl, made B A refl)), refl))
+    ((λ n h. known h.1), (λ n h. apart h.1), (λ n h. h), inl ((named B ∷ [], (made A B refl, made B A refl)), refl))
   where
     made : (m n : Name) → IsTypeAt fourth m (record { name = m; underlying = select (n ∷ []); rules = None })
-        → IsMadeOf fourth m n
+        → IsMadeOf fourth (named m) (named n)
     made m n at = inr (n ∷ [], (record { name = m; underlying = select (n ∷ []); rules = None }, at, refl), inl refl)
 
     known : {d : Demand} → IsFirst (λ (d : Demand). IsMet fourth d → ⊥) (demands fourth) d → ⊥
@@ -157,11 +206,12 @@ cycle-of-types =
     known (inr (_, inl h)) = h.0 (inl (record { name = A; underlying = select (B ∷ []); rules = None }, refl))
     known (inr (_, inr (_, h))) = h
 
-    apart : {x : Declared} → IsFirstRepeat [] (declared fourth) x → ⊥
-    apart (inl h) = h.0
-    apart (inr (_, inl (inl e, _))) = differ (ap (λ (p : Declared). bytes_eq p.1 A) e)
-    apart (inr (_, inl (inr h, _))) = h
-    apart (inr (_, inr (_, h))) = h
+    apart : {x : Declared} → IsFirst (StandsTwice (declared fourth)) (declared fourth) x → ⊥
+    apart {x} h = fresh-once (declared fourth) (fresh, ((λ k. k), tt)) x (first-holds (StandsTwice (declared fourth)) (declared fourth) x h)
+      where
+        fresh : Among (name-declared A) (name-declared B ∷ []) → ⊥
+        fresh (inl e) = differ (ap (λ (p : Declared). bytes_eq p.1 B) e)
+        fresh (inr k) = k
 
 -- b and c are subtypes of a, d is one of both
 abbrev diamond : Schema
@@ -187,7 +237,8 @@ places n =
     ((A, X) ∷ (B, codes "Y") ∷ (C, codes "Z") ∷ (D, codes "W") ∷ [])))
 
 places-of-d : IsPlaces diamond D ((A, X) ∷ (B, codes "Y") ∷ (C, codes "Z") ∷ (D, codes "W") ∷ [])
-places-of-d = (places, (refl, (refl, (refl, (refl, tt)))), refl)
+places-of-d =
+    ((an D (B ∷ C ∷ []) (with_one (codes "W") integer), refl), places, (refl, (refl, (refl, (refl, tt)))), refl)
 
 -- ENTITY a SUBTYPE OF (b); END_ENTITY; ENTITY b SUBTYPE OF (c); END_ENTITY; ENTITY c SUBTYPE OF (b); END_ENTITY;
 -- a isn't on the cycle
@@ -245,6 +296,13 @@ a-and-b-are-alike = (relates, refl, keeps)
         subst (λ x. alike x l) (sym same.0) (subst (λ y. alike (named A) y) (sym same.1)
         (of_lists (named A), of_lists (named B), a-is-a-list A refl, a-is-a-list B refl, refl))
 
+-- the reason is Profile, whatever the others
+because-profile : IsFirst (λ (q : Reason). (q ≡ reasons.Profile) × Unit {0}) all_reasons reasons.Profile
+because-profile = inr ((λ h. unlike h.0), inl ((refl, tt), refl))
+  where
+    unlike : reasons.Skipped ≡ reasons.Profile → ⊥
+    unlike e = cc
+
 -- a skipped declaration, a rule that is no expression and has no label, a bound that is no number
 abbrev aside : Schema
 aside =
@@ -276,15 +334,15 @@ unfolding digits
 unchecked-parts =
     inl (
       reasons.Skipped,
-      (refl, tt),
+      inl ((refl, tt), refl),
       part parts.Bound (codes "A.X") reasons.Profile ∷ part parts.Where (codes "A.?1") reasons.Profile ∷ [],
       refl,
       inl (
         reasons.Profile,
-        (refl, tt),
+        because-profile,
         part parts.Where (codes "A.?1") reasons.Profile ∷ [],
         refl,
-        inl (reasons.Profile, tt, [], refl, refl),
+        inl (reasons.Profile, inr ((λ h. h), inl (tt, refl)), [], refl, refl),
       ),
     )
 
@@ -318,24 +376,31 @@ looping =
 abbrev loop : Schema
 loop = schema (entity looping ∷ [])
 
-leads-to-itself : LeadsToItself loop (A, 0)
-leads-to-itself = (
-  [],
-  (
-    x,
-    (looping, refl, refl),
-    inl (inr (
-      ((λ h. h), (A, taken)),
-      inl (A, taken, (x, (looping, refl, refl), inl (refl, refl))),
-    )),
+-- a bare name that is no variable and that an entity of SELF has
+is-attribute : (s : Schema) (self : Set) (vs : List Variable) (n p : Name) (qs : Qualifiers)
+    → (IsVariable vs n → ⊥) → MayTake s (of_set self n) p
+    → Means s self vs (trees.named n) qs attribute_of_self
+is-attribute s self vs n p qs free taken = inr ((λ h. h), inr (free, inl ((p, taken), refl)))
+
+takes-x : MayTake loop (of_set (Self A) X) A
+takes-x = (A, refl, (inl refl, (looping, refl, inl refl)))
+
+uses-itself : Uses loop (A, 0) (A, 0)
+uses-itself = (
+  x,
+  (looping, refl, refl),
+  inl (
+    attribute_of_self,
+    is-attribute loop (Self A) [] X A plain (λ h. h) takes-x,
+    inl (A, takes-x, (x, (looping, refl, refl), inl (refl, refl))),
   ),
 )
   where
     x : Derived
     x = record { attribute = own X; data_type = real None; body = parsed (own_name X) }
 
-    taken : MayTake loop (Self A) X A
-    taken = (A, A, refl, inl refl, inl refl, (looping, refl, inl refl))
+leads-to-itself : LeadsToItself loop (A, 0)
+leads-to-itself = ([], uses-itself)
 
 -- DERIVE y : INTEGER := 3; uses nothing
 abbrev constant : Entity
@@ -369,8 +434,8 @@ rank-of-a-constant = record { above = above; least = inl refl }
     above u (x, (e, at, nth), uses) =
         absurd (none x (subst (λ y. IsNth (listed y.derived) 0 x) (sym (same e at)) nth) uses)
       where
-        none : (x : Derived) → IsNth (listed constant.derived) 0 x → MayUse still (Self A) x.body u → ⊥
-        none x h k = subst (λ y. MayUse still (Self A) y.body u → ⊥) h (λ z. z) k
+        none : (x : Derived) → IsNth (listed constant.derived) 0 x → BodyMayUse still (Self A) x.body u → ⊥
+        none x h k = subst (λ y. BodyMayUse still (Self A) y.body u → ⊥) h (λ z. z) k
 
 -- ENTITY a; x : LIST OF REAL; WHERE x = x; END_ENTITY; compares aggregates
 abbrev compared : Tree
@@ -385,22 +450,21 @@ compares-aggregates = inl (deep, deep)
     point : Entity
     point = an A [] (with_one X (list None false (real None)))
 
+    taken : MayTake points (of_set (Self A) X) A
+    taken = (A, refl, (inl refl, (point, refl, inl refl)))
+
     atom : May points (Self A) [] (own_name X) (shapes.value (an_aggregate (real None)) false)
-    atom =
-        inr (inl (
-          ((λ h. h), (A, (A, A, refl, inl refl, inl refl, (point, refl, inl refl)))),
-          (
-            A,
-            list None false (real None),
-            (A, A, refl, inl refl, inl refl, (point, refl, inl refl)),
-            inl (point, refl, inl (inl (inl refl, refl))),
-            (
-              (list None false (real None), false),
-              inl refl,
-              (refl, refl),
-            ),
-          ),
-        ))
+    atom = (
+      attribute_of_self,
+      is-attribute points (Self A) [] X A plain (λ h. h) taken,
+      (
+        A,
+        list None false (real None),
+        taken,
+        inl (point, refl, inl (inl (inl refl, refl))),
+        (list None false (real None), inl refl, refl),
+      ),
+    )
 
     deep : MayBeDeep (May points (Self A) [] (own_name X))
     deep = inr (real None, false, atom)
@@ -433,38 +497,39 @@ is-looping p e at = by (entity-name loop p e at)
     by (inl same, told) = sym (ap (λ (x : Entity). x.name) same ∙ told)
     by (inr h, told) = elim h [ ]
 
-takes-one : TakesTwo loop (Self A) X → ⊥
-takes-one (e, x, p, q, m, k, (i, (c, at, h)), (j, (d, be, g)), apart) =
+takes-one : TakesTwo loop (of_set (Self A) X) → ⊥
+takes-one (e, p, q, m, (k, (c, at, h)), (l, (d, be, g)), apart) =
     apart (is-looping p c at ∙ sym (is-looping q d be))
 
 is-clear : HasUnclearName loop (Self A) (own_name X) → ⊥
-is-clear (inl (inl lost)) = lost.1 (A, (A, A, refl, inl refl, inl refl, (looping, refl, inl refl)))
-is-clear (inl (inr (inl h))) = h.0
-is-clear (inl (inr (inr (inl (means, inl two))))) = takes-one two
-is-clear (inl (inr (inr (inl (means, inr h))))) = h
-is-clear (inl (inr (inr (inr (inl h))))) = h.1
-is-clear (inl (inr (inr (inr (inr h))))) = h.1
+is-clear (inl (inl lost)) = lost attribute_of_self (A, takes-x)
+is-clear (inl (inr (itself, means, h))) = h
+is-clear (inl (inr (variable, means, h))) = h
+is-clear (inl (inr (attribute_of_self, means, inl (inl lost)))) = lost A takes-x
+is-clear (inl (inr (attribute_of_self, means, inl (inr two)))) = takes-one two
+is-clear (inl (inr (attribute_of_self, means, inr h))) = h
+is-clear (inl (inr (item_of_type, means, h))) = h
+is-clear (inl (inr (item, means, h))) = h
 is-clear (inr h) = h
 
-no-own-reason : HasOwnReason loop (Self A) (parsed (own_name X)) → ⊥
-no-own-reason (reasons.Skipped, h) = h
-no-own-reason (reasons.Profile, inl h) = h
-no-own-reason (reasons.Profile, inr h) = h
-no-own-reason (reasons.Name, h) = is-clear h.1
-no-own-reason (reasons.Typeof, h) = is-clear-of h.2
-  where
-    is-clear-of : ⊥ ⊎ ⊥ → ⊥
-    is-clear-of (inl k) = k
-    is-clear-of (inr k) = k
-no-own-reason (reasons.Kind, h) = is-clear-of h.3
-  where
-    is-clear-of : ⊥ ⊎ ⊥ → ⊥
-    is-clear-of (inl k) = k
-    is-clear-of (inr k) = k
-no-own-reason (reasons.Leads, h) = h
+neither : ⊥ ⊎ ⊥ → ⊥
+neither (inl h) = h
+neither (inr h) = h
 
+-- x may be used, and leads to itself
 looping-is-set-aside : AreUnchecked loop (part parts.Derive (codes "A.X") reasons.Leads ∷ [])
-looping-is-set-aside = inl (reasons.Leads, (no-own-reason, inr leads-to-itself), [], refl, refl)
+unfolding uses-itself
+looping-is-set-aside =
+    inl (
+      reasons.Leads,
+      inr ((λ h. h), inr (neither, inr (is-clear, inr (neither, inr (neither, inl (leads, refl)))))),
+      [],
+      refl,
+      refl,
+    )
+  where
+    leads : HasReason loop (Self A) (parsed (own_name X)) reasons.Leads
+    leads = ((A, 0), uses-itself.2, ((A, 0), inl refl, inr leads-to-itself))
 
 -- marks are shapes with a look; plain ones derive the label that they have as shapes, which has its place still
 abbrev SHAPE : Name
@@ -504,7 +569,7 @@ places_of_marks n =
     cond (bytes_eq n SHAPE) ((SHAPE, codes "LABEL") ∷ []) ((SHAPE, codes "LABEL") ∷ (MARKED, codes "LOOK") ∷ [])
 
 places-of-plain-marks : IsPlaces marks PLAIN_MARK ((SHAPE, codes "LABEL") ∷ (MARKED, codes "LOOK") ∷ [])
-places-of-plain-marks = (places_of_marks, (refl, (refl, (refl, tt))), refl)
+places-of-plain-marks = ((plain_mark, refl), places_of_marks, (refl, (refl, (refl, tt))), refl)
 
 -- `SELF\shape.label` means the label that shape declares, and its derivation stands under plain_mark
 abbrev lines_of_marks : Name → List Name
@@ -514,6 +579,7 @@ lines_of_marks n =
 
 label-is-of-shape : IsOrigin marks SHAPE (codes "LABEL") SHAPE
 label-is-of-shape = (
+  (an SHAPE [] (with_one (codes "LABEL") (schemas.string None)), refl),
   lines_of_marks,
   (refl, (refl, (refl, tt))),
   inl (

@@ -1,8 +1,15 @@
 pub mod Lists
+pub mod Bools
 pub mod Supertypes
 pub mod Faults
+pub mod Recursion
 pub mod Placed
 pub mod Climbing
+pub mod Nearest
+pub mod Facts
+pub mod Geo
+pub mod GeoListed
 pub mod Examples
+pub mod PartExamples
 pub mod Ranking
 pub mod Listed

@@ -3,8 +3,8 @@ use Rattle.std.specs.Prelude.{◌≡◌, List, [], ◌∷◌, ◌++◌, map, fla
 use Rattle.std.proofs.Common.{refl, inl, inr, ap, sym, subst}
 use Rattle.digraph.specs.Graphs.{Chain, Leads}
 use Rattle.express_schemas.specs.Profile.{Every}
-use Rattle.type_graphs.specs.Names.{Among}
-use Rattle.type_graphs.specs.Faults.{IsFirst, IsFirstRepeat}
+use Rattle.type_graphs.specs.Names.{Among, IsFirst}
+use Rattle.type_graphs.specs.Faults.{StandsTwice}
 
 -- in joined lists
 pub among-left : {A : Type 0} (x : A) (xs ys : List A) → Among x xs → Among x (xs ++ ys)
@@ -58,6 +58,10 @@ every-at P x [] h m = elim m [ ]
 every-at P x (y ∷ xs) h (inl e) = subst P e h.0
 every-at P x (y ∷ xs) h (inr m) = every-at P x xs h.1 m
 
+pub every-of : {A : Type 0} (P : A → Type 0) (xs : List A) → ((x : A) → Among x xs → P x) → Every P xs
+every-of P [] h = tt
+every-of P (x ∷ xs) h = (h x (inl refl), every-of P xs (λ y m. h y (inr m)))
+
 -- P holds of none where it holds of no first one
 pub none-holds : {A : Type 0} (P : A → Type 0) (xs : List A) → ((x : A) → IsFirst P xs x → ⊥) → (x : A) → Among x xs
     → P x → ⊥
@@ -73,32 +77,61 @@ first-is-one P (z ∷ zs) x y (inl h) (inr k) = absurd (k.0 h.0)
 first-is-one P (z ∷ zs) x y (inr h) (inl k) = absurd (h.0 k.0)
 first-is-one P (z ∷ zs) x y (inr h) (inr k) = first-is-one P zs x y h.1 k.1
 
-pub first-repeat-is-one : {A : Type 0} (before xs : List A) (x y : A) → IsFirstRepeat before xs x
-    → IsFirstRepeat before xs y → x ≡ y
-first-repeat-is-one before [] x y h k = elim h [ ]
-first-repeat-is-one before (z ∷ zs) x y (inl h) (inl k) = subst (λ w. w ≡ y) h.1 k.1
-first-repeat-is-one before (z ∷ zs) x y (inl h) (inr k) = absurd (k.0 h.0)
-first-repeat-is-one before (z ∷ zs) x y (inr h) (inl k) = absurd (h.0 k.0)
-first-repeat-is-one before (z ∷ zs) x y (inr h) (inr k) = first-repeat-is-one (z ∷ before) zs x y h.1 k.1
+pub first-holds : {A : Type 0} (P : A → Type 0) (xs : List A) (x : A) → IsFirst P xs x → P x
+first-holds P [] x h = elim h [ ]
+first-holds P (y ∷ ys) x (inl h) = subst P h.1 h.0
+first-holds P (y ∷ ys) x (inr h) = first-holds P ys x h.1
+
+pub first-among : {A : Type 0} (P : A → Type 0) (xs : List A) (x : A) → IsFirst P xs x → Among x xs
+first-among P [] x h = elim h [ ]
+first-among P (y ∷ ys) x (inl h) = inl h.1
+first-among P (y ∷ ys) x (inr h) = inr (first-among P ys x h.1)
+
+-- there is a first one where P is decided
+pub first-exists : {A : Type 0} (P : A → Type 0) → ((x : A) → P x ⊎ (P x → ⊥)) → (xs : List A) (x : A)
+    → Among x xs → P x → (y : A) × IsFirst P xs y
+first-exists P decide [] x m p = elim m [ ]
+first-exists {A} P decide (z ∷ zs) x m p = by (decide z) m (λ k. first-exists P decide zs x k p)
+  where
+    behind : (P z → ⊥) → (y : A) × IsFirst P zs y → (y : A) × IsFirst P (z ∷ zs) y
+    behind free (y, f) = (y, inr (free, f))
+
+    by : P z ⊎ (P z → ⊥) → Among x (z ∷ zs) → (Among x zs → (y : A) × IsFirst P zs y)
+        → (y : A) × IsFirst P (z ∷ zs) y
+    by (inl q) m more = (z, inl (q, refl))
+    by (inr free) (inl e) more = absurd (free (subst P (sym e) p))
+    by (inr free) (inr m) more = behind free (more m)
+
+-- what fails of none can't fail of all together
+pub every-may-hold : {A : Type 0} (P : A → Type 0) (xs : List A)
+    → ((x : A) → Among x xs → (P x → ⊥) → ⊥) → (Every P xs → ⊥) → ⊥
+every-may-hold P [] h k = k tt
+every-may-hold P (x ∷ xs) h k =
+    h x (inl refl) (λ p. every-may-hold P xs (λ y m. h y (inr m)) (λ q. k (p, q)))
 
 -- no item comes again
 abbrev pub AreFresh : {A : Type 0} → List A → Type 0
 AreFresh [] = Unit {0}
 AreFresh (x ∷ xs) = (Among x xs → ⊥) × AreFresh xs
 
-pub not-before : {A : Type 0} (before xs : List A) → ((x : A) → IsFirstRepeat before xs x → ⊥) → (x : A)
-    → Among x before → Among x xs → ⊥
-not-before before [] h x b m = elim m [ ]
-not-before before (y ∷ ys) h x b (inl e) = h y (inl (subst (λ z. Among z before) (sym e) b, refl))
-not-before before (y ∷ ys) h x b (inr m) =
-    not-before (y ∷ before) ys (λ z f. h z (inr ((λ k. h y (inl (k, refl))), f))) x (inr b) m
+twice-among : {A : Type 0} (xs : List A) (x : A) → StandsTwice xs x → Among x xs
+twice-among [] x h = elim h [ ]
+twice-among (y ∷ ys) x (inl h) = inl h.0
+twice-among (y ∷ ys) x (inr h) = inr (twice-among ys x h)
 
-pub are-fresh : {A : Type 0} (before xs : List A) → ((x : A) → IsFirstRepeat before xs x → ⊥) → AreFresh xs
-are-fresh before [] h = tt
-are-fresh {A} before (y ∷ ys) h = (not-before (y ∷ before) ys rest y (inl refl), are-fresh (y ∷ before) ys rest)
-  where
-    rest : (z : A) → IsFirstRepeat (y ∷ before) ys z → ⊥
-    rest z f = h z (inr ((λ k. h y (inl (k, refl))), f))
+-- where no item is the first that stands twice, none does
+pub none-twice : {A : Type 0} (xs : List A) → ((x : A) → IsFirst (StandsTwice xs) xs x → ⊥) → (x : A)
+    → StandsTwice xs x → ⊥
+none-twice xs h x t = none-holds (StandsTwice xs) xs h x (twice-among xs x t) t
+
+pub are-fresh : {A : Type 0} (xs : List A) → ((x : A) → StandsTwice xs x → ⊥) → AreFresh xs
+are-fresh [] h = tt
+are-fresh (y ∷ ys) h = ((λ m. h y (inl (refl, m))), are-fresh ys (λ x t. h x (inr t)))
+
+pub fresh-once : {A : Type 0} (xs : List A) → AreFresh xs → (x : A) → StandsTwice xs x → ⊥
+fresh-once [] h x t = t
+fresh-once (y ∷ ys) h x (inl t) = h.0 (subst (λ z. Among z ys) (sym t.0) t.1)
+fresh-once (y ∷ ys) h x (inr t) = fresh-once ys h.1 x t
 
 pub fresh-right : {A : Type 0} (xs ys : List A) → AreFresh (xs ++ ys) → AreFresh ys
 fresh-right [] ys h = h

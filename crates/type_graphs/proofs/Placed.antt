@@ -5,18 +5,15 @@ use Rattle.std.proofs.Common.{refl, inl, inr, ap, sym, subst, ◌∙◌}
 use Rattle.std.proofs.lemmas.Slice.Eq.{bytes_eq-Decides}
 use Rattle.digraph.specs.Graphs.{Chain}
 use Rattle.express_schemas.specs.Schemas.{Schema, Entity}
-use Rattle.type_graphs.specs.Names.{Name, Among, entities, explicit_names, supertypes_of, IsEntityAt, IsSubtypeOf, IsKindOf, DeclaresExplicit}
-use Rattle.type_graphs.specs.Attributes.{Place, same_place, without, once, own_places, ArePlaces}
-use Rattle.type_graphs.specs.Laws.{PlacesStandOnce, ExplicitHavePlaces}
-use Rattle.type_graphs.proofs.Lists.{among-left, among-right, among-map, among-flat, every-at}
+use Rattle.type_graphs.specs.Names.{Name, Among, explicit_names, supertypes_of, IsEntityAt, IsSubtypeOf, IsKindOf, DeclaresExplicit}
+use Rattle.type_graphs.specs.Attributes.{Place, same_place, without, once, own_places, ArePlaces, IsPlaces}
+use Rattle.type_graphs.specs.Laws.{PlacesStandOnce, PlacesAreOne, ExplicitHavePlaces}
+use Rattle.type_graphs.proofs.Lists.{among-left, among-right, among-map, among-flat}
+use Rattle.type_graphs.proofs.Bools.{both-hold, is-false, or-left, or-right}
 use Rattle.type_graphs.proofs.Supertypes.{entity-name}
+use Rattle.type_graphs.proofs.Recursion.{equation, make_places, Solves, solution, solutions-are-one}
 
 -- places that are told to be the same are one
-pub both-hold : (b c : Bool) → (b && c) ≡ true → (b ≡ true) × (c ≡ true)
-both-hold true true e = (refl, refl)
-both-hold true false e = absurd (cc)
-both-hold false c e = absurd (cc)
-
 pair : (a b c d : Name) → a ≡ c → b ≡ d → ◌≡◌ {A = Place} (a, b) (c, d)
 pair a b c d e f = ap left e ∙ ap right f
   where
@@ -33,18 +30,6 @@ is-same (a, b) (c, d) e =
 
 pub same-itself : (p : Place) → same_place p p ≡ true
 same-itself (a, b) = rw ((bytes_eq-Decides a a).1 refl, (bytes_eq-Decides b b).1 refl) refl
-
-pub is-false : (c : Bool) → (c ≡ true → ⊥) → c ≡ false
-is-false true h = absurd (h refl)
-is-false false h = refl
-
-pub or-left : (b c : Bool) → b ≡ true → (b || c) ≡ true
-or-left true c e = refl
-or-left false c e = absurd (cc)
-
-pub or-right : (b c : Bool) → c ≡ true → (b || c) ≡ true
-or-right true c e = refl
-or-right false c e = e
 
 -- what was there before is left out
 left-out : (p : Place) (before ps : List Place) → list_any (same_place p) before ≡ true
@@ -80,18 +65,9 @@ distinct-without before (p ∷ ps) =
     by false old new =
         (left-out p (p ∷ before) ps (or-left (same_place p p) (list_any (same_place p) before) (same-itself p)), new)
 
--- the equation of an entity's places
-pub equation : (s : Schema) (places : Name → List Place) (n : Name) (e : Entity) → ArePlaces s places
-    → IsEntityAt s n e → places n ≡ once (flat_map places (supertypes_of e) ++ own_places e)
-equation s places n e h at =
-    let known = entity-name s n e at in
-    subst (λ m. places m ≡ once (flat_map places (supertypes_of e) ++ own_places e)) known.1
-    (every-at (λ (e : Entity). places e.name ≡ once (flat_map places (supertypes_of e) ++ own_places e)) e
-    (entities s) h known.0)
-
 pub places-stand-once : PlacesStandOnce
-places-stand-once s n ps (e, at) (places, h, is) =
-    subst (λ qs. IsDistinct same_place qs) (sym (equation s places n e h at) ∙ is)
+places-stand-once s n ps ((e, at), places, h, is) =
+    subst (λ qs. IsDistinct same_place qs) (sym (equation s make_places places n e h at) ∙ is)
     (distinct-without [] (flat_map places (supertypes_of e) ++ own_places e))
 
 -- nothing else is left out
@@ -132,7 +108,7 @@ own-place : (s : Schema) (places : Name → List Place) (p a : Name) → ArePlac
 own-place s places p a h (e, at, m) =
     let known = entity-name s p e at in
     let own : Among (e.name, a) (own_places e) = among-map (λ (n : Name). (e.name, n)) a (explicit_names e) m in
-    subst (λ qs. Among (p, a) qs) (sym (equation s places p e h at))
+    subst (λ qs. Among (p, a) qs) (sym (equation s make_places places p e h at))
     (in-once (p, a) (flat_map places (supertypes_of e) ++ own_places e)
     (among-right (p, a) (flat_map places (supertypes_of e)) (own_places e)
     (subst (λ m. Among (m, a) (own_places e)) known.1 own)))
@@ -140,7 +116,7 @@ own-place s places p a h (e, at, m) =
 one-up : (s : Schema) (places : Name → List Place) (n m : Name) (x : Place) → ArePlaces s places → IsSubtypeOf s n m
     → Among x (places m) → Among x (places n)
 one-up s places n m x h (e, at, sup) k =
-    subst (λ qs. Among x qs) (sym (equation s places n e h at))
+    subst (λ qs. Among x qs) (sym (equation s make_places places n e h at))
     (in-once x (flat_map places (supertypes_of e) ++ own_places e)
     (among-left x (flat_map places (supertypes_of e)) (own_places e) (among-flat places m x (supertypes_of e) sup k)))
 
@@ -150,8 +126,16 @@ up s places n [] p x h c k = one-up s places n p x h c k
 up s places n (m ∷ ms) p x h c k = one-up s places n m x h c.0 (up s places m ms p x h c.1 k)
 
 pub explicit-have-places : ExplicitHavePlaces
-explicit-have-places s n ps p a (places, h, is) kind d = subst (λ qs. Among (p, a) qs) is (by kind)
+explicit-have-places s n ps p a (_, places, h, is) kind d = subst (λ qs. Among (p, a) qs) is (by kind)
   where
     by : IsKindOf s n p → Among (p, a) (places n)
     by (inl e) = subst (λ m. Among (p, a) (places m)) (sym e) (own-place s places p a h d)
     by (inr (ms, c)) = up s places n ms p (p, a) h c (own-place s places p a h d)
+
+pub places-are-one : PlacesAreOne
+places-are-one s n r ent =
+    let some = solution s r make_places in
+    (some.0 n, (ent, some.0, some.1, refl), (λ qs h. only some.0 some.1 qs h))
+  where
+    only : (places : Name → List Place) → ArePlaces s places → (qs : List Place) → IsPlaces s n qs → qs ≡ places n
+    only places h qs (_, others, g, is) = sym is ∙ solutions-are-one s r make_places others places g h n ent

@@ -7,7 +7,7 @@ use Rattle.type_graphs.specs.Names.{Name, Among, entities_of, entities, declarat
 use Rattle.type_graphs.specs.Faults.{IsResolved, declared_from, declared, in_scope, items_of, Declared}
 use Rattle.type_graphs.specs.Names.{attribute_names}
 use Rattle.type_graphs.specs.Laws.{KindsAreOrdered, KindsAreApart, SupertypesDecideKinds, OrderDecidesNoKinds}
-use Rattle.type_graphs.proofs.Lists.{among-map, among-right, none-holds, leads-kept, leads-joined, first-step, AreFresh, are-fresh, fresh-right}
+use Rattle.type_graphs.proofs.Lists.{among-right, leads-kept, leads-joined, AreFresh, none-twice, are-fresh, fresh-right}
 
 -- what a name stands for is declared, with that name
 abbrev pub IsDeclared : List Declaration → Name → Declaration → Type 0
@@ -50,19 +50,10 @@ kinds-are-ordered s = ((λ a. inl refl), through)
     through a b c (inr h) (inl e) = inr (subst (λ x. IsBelow s a x) e h)
     through a b c (inr h) (inr k) = inr (leads-joined (IsSubtypeOf s) a b c h k)
 
--- no entity is its own proper supertype where none is found
-pub no-cycle : (s : Schema) → IsResolved s → (a : Name) → IsBelow s a a → ⊥
-no-cycle s r a h =
-    let step = first-step (IsSubtypeOf s) a a h in
-    let at = entity-name s a step.1.0 step.1.1 in
-    none-holds (λ (m : Name). IsBelow s m m) (map (λ (e : Entity). e.name) (entities s)) (r.no_supertype_cycle) a
-    (subst (λ x. Among x (map (λ (e : Entity). e.name) (entities s))) at.1
-    (among-map (λ (e : Entity). e.name) step.1.0 (entities s) at.0)) h
-
 pub kinds-are-apart : KindsAreApart
 kinds-are-apart s r a b (inl e) k = e
 kinds-are-apart s r a b (inr h) (inl e) = sym e
-kinds-are-apart s r a b (inr h) (inr k) = absurd (no-cycle s r a (leads-joined (IsSubtypeOf s) a b a h k))
+kinds-are-apart s r a b (inr h) (inr k) = absurd (r.no_supertype_cycle a (leads-joined (IsSubtypeOf s) a b a h k))
 
 kept : (s t : Schema) → ((a b : Name) → IsSubtypeOf s a b → IsSubtypeOf t a b) → (a b : Name) → IsKindOf s a b
     → IsKindOf t a b
@@ -110,7 +101,7 @@ stands-at-front k x d m n ds named fresh (inr h) is more true q =
     (declares k ds d n h is)))
 stands-at-front k x d m n ds named fresh (inr h) is more false q = more h
 
-stands : (k : ℕ) (ds : List Declaration) (d : Declaration) (n : Name) → AreFresh (declared_from k ds) → Among d ds
+pub stands : (k : ℕ) (ds : List Declaration) (d : Declaration) (n : Name) → AreFresh (declared_from k ds) → Among d ds
     → declared_name d ≡ Some n → declaration_of ds n ≡ Some d
 stands k [] d n fresh h named = elim h [ ]
 stands k (type t ∷ ds) d n fresh h named =
@@ -160,7 +151,7 @@ pub the-order-decides-no-kinds : OrderDecidesNoKinds
 the-order-decides-no-kinds s t free same = supertypes-decide-kinds s t (λ a b. (there a b, back a b))
   where
     fresh : AreFresh (declared s)
-    fresh = are-fresh [] (declared s) (λ x f. free x.1 (x.0, f))
+    fresh = are-fresh (declared s) (none-twice (declared s) (λ x f. free x.1 (x.0, f)))
 
     there : (a b : Name) → IsSubtypeOf s a b → IsSubtypeOf t a b
     there a b (e, at, m) = (e, same-entity s t fresh (λ d. (same d).0) (λ d. (same d).1) a e at, m)

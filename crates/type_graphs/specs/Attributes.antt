@@ -4,8 +4,8 @@ use Rattle.std.specs.Prelude.{◌≡◌, ℕ, zero, suc, Bool, cond, ◌&&◌, L
 use Rattle.std.specs.List.{list_any}
 use Rattle.express_schemas.specs.Schemas.{Schema, Entity, Attribute, own, redeclared, Explicit, Derived, Inverse, Collection, alone, in_set, in_bag, DataType, named, bag, set}
 use Rattle.express_schemas.specs.Profile.{Every}
-use Rattle.type_graphs.specs.Names.{Name, OneOf, Among, listed, entities, supertypes_of, IsEntityAt, Declares, explicit_names}
-use Rattle.type_graphs.specs.Faults.{IsFirst}
+use Rattle.type_graphs.specs.Names.{Name, OneOf, Among, IsFirst, listed, entities, supertypes_of, IsEntity, IsEntityAt, Declares, DeclaresExplicit, explicit_names}
+use Rattle.type_graphs.specs.Faults.{holder_of}
 use Rattle.type_graphs.specs.Shapes.{AreAlike}
 
 -- an entity, and an attribute that it declares
@@ -34,19 +34,25 @@ abbrev pub ArePlaces : Schema → (Name → List Place) → Type 0
 ArePlaces s places =
     Every (λ (e : Entity). places e.name ≡ once (flat_map places (supertypes_of e) ++ own_places e)) (entities s)
 
--- the places of n
+-- the places of the entity n
 abbrev pub IsPlaces : Schema → Name → List Place → Type 0
-IsPlaces s n ps = (places : Name → List Place) × ArePlaces s places × (places n ≡ ps)
+IsPlaces s n ps = IsEntity s n × (places : Name → List Place) × ArePlaces s places × (places n ≡ ps)
 
 -- an entity, then its supertypes in turn, each with its own behind it
 abbrev pub AreLines : Schema → (Name → List Name) → Type 0
 AreLines s line = Every (λ (e : Entity). line e.name ≡ e.name ∷ flat_map line (supertypes_of e)) (entities s)
 
--- `SELF\q.a` means the attribute a that p declares: q itself, else the first in its line that declares one
--- (ISO 10303-11, 9.2.3.4)
+-- p is the nearest of which P holds: the entity q itself, else the first in its line
+abbrev pub IsNearest : Schema → (Name → Type 0) → Name → Name → Type 0
+IsNearest s P q p = IsEntity s q × (line : Name → List Name) × AreLines s line × IsFirst P (line q) p
+
+-- `SELF\q.a` means the attribute a that p declares (ISO 10303-11, 9.2.3.4)
 abbrev pub IsOrigin : Schema → Name → Name → Name → Type 0
-IsOrigin s q a p =
-    (line : Name → List Name) × AreLines s line × IsFirst (λ (n : Name). Declares s n a) (line q) p
+IsOrigin s q a p = IsNearest s (λ (n : Name). Declares s n a) q p
+
+-- an inverse attribute inverts the explicit attribute of this name that p declares (ISO 10303-11, 9.2.1.3)
+abbrev pub IsInverted : Schema → Inverse → Name → Type 0
+IsInverted s i p = IsNearest s (λ (n : Name). DeclaresExplicit s n i.inverted) (holder_of i.holder i.entity) p
 
 -- the data type of an inverse attribute (ISO 10303-11, 9.2.1.3)
 abbrev pub collected : Collection → Name → DataType

@@ -4,7 +4,8 @@ use Rattle.digraph.specs.Graphs.{Leads}
 use Rattle.express_schemas.specs.Schemas.{Schema, Declaration, type, entity, skipped, TypeDeclaration, Entity, Attribute, own, redeclared, Explicit, Derived, Inverse, Underlying, enumeration, select, data_type, DataType, named, array, list, bag, set, Supertype, of_one_of}
 use Rattle.express_schemas.specs.declared.fault.NameFault.{NameFault}
 use Rattle.express_schemas.specs.declared.fault.NameFault.TheVariants.{UnknownName, DuplicateName, SupertypeCycle, TypeCycle}
-use Rattle.type_graphs.specs.Names.{Name, OneOf, Among, Nowhere, listed, entities, types, IsEntity, IsType, IsBelow, IsKindOf, HasAttribute, HasExplicit, IsMadeOf, supertypes_of, attribute_names}
+use Rattle.express_schemas.specs.Profile.{Every}
+use Rattle.type_graphs.specs.Names.{Name, OneOf, Among, IsFirst, Nowhere, listed, entities, types, IsEntity, IsType, IsBelow, IsKindOf, HasAttribute, HasExplicit, IsMadeOf, supertypes_of, attribute_names}
 
 -- what a name has to be where it stands
 pub data Demand : Type 0 where
@@ -112,32 +113,34 @@ declared_from n (skipped p ∷ ds) = declared_from (n + 1) ds
 abbrev pub declared : Schema → List Declared
 declared s = declared_from 1 s.declarations
 
--- x is the first of a list of which P holds
-abbrev pub IsFirst : {A : Type 0} → (A → Type 0) → List A → A → Type 0
-IsFirst P [] x = ⊥
-IsFirst P (y ∷ ys) x = (P y × (y ≡ x)) ⊎ ((P y → ⊥) × IsFirst P ys x)
-
--- x is the first of a list that stood before, in it or among these
-abbrev pub IsFirstRepeat : {A : Type 0} → List A → List A → A → Type 0
-IsFirstRepeat before [] x = ⊥
-IsFirstRepeat before (y ∷ ys) x =
-    (Among y before × (y ≡ x)) ⊎ ((Among y before → ⊥) × IsFirstRepeat (y ∷ before) ys x)
+-- x stands in a list twice
+abbrev pub StandsTwice : {A : Type 0} → List A → A → Type 0
+StandsTwice [] x = ⊥
+StandsTwice (y ∷ ys) x = ((y ≡ x) × Among x ys) ⊎ StandsTwice ys x
 
 -- the first name that isn't what its place asks for
 abbrev pub IsUnknown : Schema → Name → Type 0
 IsUnknown s n = (d : Demand) × IsFirst (λ (d : Demand). IsMet s d → ⊥) (demands s) d × (asked d ≡ n)
 
--- the first name that is declared a second time in its scope
+-- the first name that is declared twice in its scope
 abbrev pub IsDuplicate : Schema → Name → Type 0
-IsDuplicate s n = (scope : ℕ) × IsFirstRepeat [] (declared s) (scope, n)
+IsDuplicate s n = (scope : ℕ) × IsFirst (StandsTwice (declared s)) (declared s) (scope, n)
 
--- the first entity that is its own proper supertype (ISO 10303-11, 9.2.3)
+-- an entity is a proper supertype of itself (ISO 10303-11, 9.2.3)
+abbrev pub IsAboveItself : Schema → Name → Type 0
+IsAboveItself s n = IsBelow s n n
+
+-- a defined type leads to itself through names and SELECTs, with no aggregate between (ISO 10303-11, 8.3.2 and 8.4.2)
+abbrev pub IsMadeOfItself : Schema → Name → Type 0
+IsMadeOfItself s n = Leads (IsMadeOf s) (named n) (named n)
+
+-- the first entity that is one of itself
 abbrev pub IsOwnSupertype : Schema → Name → Type 0
-IsOwnSupertype s n = IsFirst (λ (m : Name). IsBelow s m m) (map (λ (e : Entity). e.name) (entities s)) n
+IsOwnSupertype s n = IsFirst (IsAboveItself s) (map (λ (e : Entity). e.name) (entities s)) n
 
--- the first defined type that is made of itself (ISO 10303-11, 8.3)
+-- the first defined type that is made of itself
 abbrev pub IsOwnPart : Schema → Name → Type 0
-IsOwnPart s n = IsFirst (λ (m : Name). Leads (IsMadeOf s) m m) (map (λ (t : TypeDeclaration). t.name) (types s)) n
+IsOwnPart s n = IsFirst (IsMadeOfItself s) (map (λ (t : TypeDeclaration). t.name) (types s)) n
 
 -- the name at which a fault shows first, whatever the others
 abbrev pub ShowsAt : Schema → NameFault → Name → Type 0
@@ -158,9 +161,10 @@ IsFault s SupertypeCycle n = IsFreeOf s UnknownName × IsFreeOf s DuplicateName 
 IsFault s TypeCycle n =
     IsFreeOf s UnknownName × IsFreeOf s DuplicateName × IsFreeOf s SupertypeCycle × IsOwnPart s n
 
--- The names are resolved: no fault shows.
+-- The names are resolved: each is what its place asks for, none is declared twice in its scope, and no entity and no
+-- defined type leads to itself.
 pub record IsResolved (s : Schema) : Type 0 where
-  pub known : IsFreeOf s UnknownName
-  pub once : IsFreeOf s DuplicateName
-  pub no_supertype_cycle : IsFreeOf s SupertypeCycle
-  pub no_type_cycle : IsFreeOf s TypeCycle
+  pub known : Every (IsMet s) (demands s)
+  pub once : (x : Declared) → StandsTwice (declared s) x → ⊥
+  pub no_supertype_cycle : Nowhere (IsAboveItself s)
+  pub no_type_cycle : Nowhere (IsMadeOfItself s)

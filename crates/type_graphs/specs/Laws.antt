@@ -1,12 +1,12 @@
 -- Laws of the definitions, whatever the schema.
 use Rattle.std.specs.Prelude.{◌≡◌, ℕ, ◌<◌, ◌↔◌, List}
 use Rattle.std.specs.List.{IsDistinct}
-use Rattle.express_schemas.specs.Schemas.{Schema, Declaration}
+use Rattle.express_schemas.specs.Schemas.{Schema, Declaration, Entity, own, Inverse}
 use Rattle.express_schemas.specs.declared.fault.NameFault.{NameFault}
 use Rattle.express_schemas.specs.declared.fault.NameFault.TheVariants.{DuplicateName}
-use Rattle.type_graphs.specs.Names.{Name, Among, IsEntity, IsSubtypeOf, IsKindOf, DeclaresExplicit}
+use Rattle.type_graphs.specs.Names.{Name, Among, listed, entities, IsEntity, IsSubtypeOf, IsKindOf, DeclaresExplicit, HasAttribute}
 use Rattle.type_graphs.specs.Faults.{IsFault, IsFreeOf, IsResolved}
-use Rattle.type_graphs.specs.Attributes.{Place, same_place, IsPlaces, Derivation}
+use Rattle.type_graphs.specs.Attributes.{Place, same_place, IsPlaces, IsOrigin, IsInverted, Derivation}
 use Rattle.type_graphs.specs.Parts.{Unchecked, AreUnchecked}
 use Rattle.type_graphs.specs.Ranks.{Uses, IsSetAside, AreRanks}
 
@@ -33,21 +33,22 @@ OrderDecidesNoKinds =
     → ((d : Declaration) → Among d s.declarations ↔ Among d t.declarations)
     → (a b : Name) → IsKindOf s a b ↔ IsKindOf t a b
 
--- a schema has one fault at most, and none where its names are resolved
+-- a schema has one fault at most; none where its names are resolved, and never none where they aren't
 abbrev pub FaultsAreOne : Type 0
 FaultsAreOne =
     (s : Schema) → ((f g : NameFault) (m n : Name) → IsFault s f m → IsFault s g n → (f ≡ g) × (m ≡ n))
     × ((f : NameFault) (n : Name) → IsFault s f n → IsResolved s → ⊥)
+    × (((f : NameFault) (n : Name) → IsFault s f n → ⊥) → (IsResolved s → ⊥) → ⊥)
 
 -- the places of an entity name no attribute twice
 abbrev pub PlacesStandOnce : Type 0
 PlacesStandOnce =
-    (s : Schema) (n : Name) (ps : List Place) → IsEntity s n → IsPlaces s n ps → IsDistinct same_place ps
+    (s : Schema) (n : Name) (ps : List Place) → IsPlaces s n ps → IsDistinct same_place ps
 
 -- each place is an explicit attribute of the entity or of a supertype
 abbrev pub PlacesAreExplicit : Type 0
 PlacesAreExplicit =
-    (s : Schema) (n : Name) (ps : List Place) (p a : Name) → IsResolved s → IsEntity s n → IsPlaces s n ps
+    (s : Schema) (n : Name) (ps : List Place) (p a : Name) → IsResolved s → IsPlaces s n ps
     → Among (p, a) ps → IsKindOf s n p × DeclaresExplicit s p a
 
 -- each explicit attribute of the entity or of a supertype has a place
@@ -59,8 +60,21 @@ ExplicitHavePlaces =
 -- an entity has one list of places
 abbrev pub PlacesAreOne : Type 0
 PlacesAreOne =
-    (s : Schema) (n : Name) (ps qs : List Place) → IsResolved s → IsEntity s n → IsPlaces s n ps → IsPlaces s n qs
-    → ps ≡ qs
+    (s : Schema) (n : Name) → IsResolved s → IsEntity s n
+    → (ps : List Place) × IsPlaces s n ps × ((qs : List Place) → IsPlaces s n qs → qs ≡ ps)
+
+-- `SELF\q.a` means one attribute, where q has one of that name
+abbrev pub OriginsAreOne : Type 0
+OriginsAreOne =
+    (s : Schema) (q a : Name) → IsResolved s → HasAttribute s q a
+    → (p : Name) × IsOrigin s q a p × ((r : Name) → IsOrigin s q a r → r ≡ p)
+
+-- an inverse attribute that isn't redeclared inverts one attribute
+abbrev pub InvertedAreOne : Type 0
+InvertedAreOne =
+    (s : Schema) (e : Entity) (i : Inverse) (n : Name) → IsResolved s → Among e (entities s)
+    → Among i (listed e.inverses) → i.attribute ≡ own n
+    → (p : Name) × IsInverted s i p × ((q : Name) → IsInverted s i q → q ≡ p)
 
 -- ranks fall along 'may use'
 abbrev pub RanksFall : Type 0

@@ -2,20 +2,29 @@
 use Rattle.std.specs.Prelude.{◌≡◌, ℕ, List, [], ◌∷◌, ◌++◌, Option, None, Some, map, ◌⊎◌, ◌↔◌, flat_map, Bool, false, cond, bytes_eq}
 use Rattle.std.specs.List.{IsDistinct}
 use Rattle.digraph.specs.Graphs.{Leads}
-use Rattle.express_schemas.specs.Schemas.{Schema, Declaration, type, entity, skipped, TypeDeclaration, Entity, Attribute, own, redeclared, Explicit, Derived, Inverse, Underlying, select, data_type, named}
+use Rattle.express_schemas.specs.Schemas.{Schema, Declaration, type, entity, skipped, TypeDeclaration, Entity, Attribute, own, redeclared, Explicit, Derived, Inverse, Underlying, select, data_type, DataType, named}
 
 -- in capitals
 abbrev pub Name : Type 0
 Name = List ℕ
 
 -- P holds of one of a list
-abbrev pub OneOf : {A : Type 0} → (A → Type 0) → List A → Type 0
+abbrev pub OneOf {ℓ} : {A : Type ℓ} → (A → Type 0) → List A → Type 0
 OneOf P [] = ⊥
 OneOf P (x ∷ xs) = P x ⊎ OneOf P xs
 
 -- x stands in a list
 abbrev pub Among : {A : Type 0} → A → List A → Type 0
 Among x xs = OneOf (λ y. y ≡ x) xs
+
+-- x is the first of a list of which P holds
+abbrev pub IsFirst : {A : Type 0} → (A → Type 0) → List A → A → Type 0
+IsFirst P [] x = ⊥
+IsFirst P (y ∷ ys) x = (P y × (y ≡ x)) ⊎ ((P y → ⊥) × IsFirst P ys x)
+
+-- a is b, or steps of S lead from a to b: the reflexive and transitive closure
+abbrev pub IsOrLeads : {A : Type 0} → (A → A → Type 0) → A → A → Type 0
+IsOrLeads S a b = (a ≡ b) ⊎ Leads S a b
 
 -- P holds of no name
 abbrev pub Nowhere : (Name → Type 0) → Type 0
@@ -91,7 +100,7 @@ IsBelow s a b = Leads (IsSubtypeOf s) a b
 
 -- a is a kind of b: the reflexive and transitive closure
 abbrev pub IsKindOf : Schema → Name → Name → Type 0
-IsKindOf s a b = (a ≡ b) ⊎ IsBelow s a b
+IsKindOf s a b = IsOrLeads (IsSubtypeOf s) a b
 
 -- the proper supertypes of a, each once
 abbrev pub AreSupertypes : Schema → Name → List Name → Type 0
@@ -126,15 +135,26 @@ Declares s p a = (e : Entity) × IsEntityAt s p e × Among a (attribute_names e)
 abbrev pub DeclaresExplicit : Schema → Name → Name → Type 0
 DeclaresExplicit s p a = (e : Entity) × IsEntityAt s p e × Among a (explicit_names e)
 
--- q or a supertype of it declares the attribute
+-- e has the attribute a that p declares: its own, or inherited from a supertype (ISO 10303-11, 9.2.3.3)
+abbrev pub Has : Schema → Name → Name → Name → Type 0
+Has s e p a = IsKindOf s e p × Declares s p a
+
 abbrev pub HasAttribute : Schema → Name → Name → Type 0
-HasAttribute s q a = (p : Name) × IsKindOf s q p × Declares s p a
+HasAttribute s e a = (p : Name) × Has s e p a
 
 abbrev pub HasExplicit : Schema → Name → Name → Type 0
-HasExplicit s q a = (p : Name) × IsKindOf s q p × DeclaresExplicit s p a
+HasExplicit s e a = (p : Name) × IsKindOf s e p × DeclaresExplicit s p a
 
--- a is made of b: b is all that stands behind its `=`, or an item of its SELECT. No aggregate stands between
--- (ISO 10303-11, 8.3.2 and 8.4.2).
-abbrev pub IsMadeOf : Schema → Name → Name → Type 0
-IsMadeOf s a b =
-    StandsFor s a (data_type (named b)) ⊎ ((items : List Name) × StandsFor s a (select items) × Among b items)
+-- the name of a defined type, and the data type that stands behind its `=` (ISO 10303-11, 8.3.2)
+abbrev pub Renames : Schema → DataType → DataType → Type 0
+Renames s (named a) k = StandsFor s a (data_type k)
+Renames s k l = ⊥
+
+-- the name of a SELECT, and an item of it (ISO 10303-11, 8.4.2)
+abbrev pub HasItem : Schema → DataType → DataType → Type 0
+HasItem s (named a) (named b) = (items : List Name) × StandsFor s a (select items) × Among b items
+HasItem s k l = ⊥
+
+-- one step from the name of a defined type to what it is made of; an aggregate goes no further
+abbrev pub IsMadeOf : Schema → DataType → DataType → Type 0
+IsMadeOf s k l = Renames s k l ⊎ HasItem s k l

@@ -8,33 +8,37 @@ use Rattle.type_graphs.specs.declared.unchecked.PartKind.{PartKind}
 use Rattle.type_graphs.specs.declared.unchecked.PartKind.TheVariants as parts
 use Rattle.type_graphs.specs.declared.unchecked.Reason.{Reason}
 use Rattle.type_graphs.specs.declared.unchecked.Reason.TheVariants as reasons
-use Rattle.type_graphs.specs.Names.{Name, OneOf, listed, IsKindOf, Declares, DeclaresExplicit}
+use Rattle.type_graphs.specs.Names.{Name, OneOf, IsFirst, listed, IsKindOf, Has, DeclaresExplicit}
 use Rattle.type_graphs.specs.Shapes.{IsOf, IsOverSelect}
 use Rattle.type_graphs.specs.Attributes.{IsRedeclaration, HasFirstShape}
-use Rattle.type_graphs.specs.Sets.{TakesGroup}
-use Rattle.type_graphs.specs.Ranks.{Self, IsReason, IsRuleReason}
+use Rattle.type_graphs.specs.Sets.{MayTake, of_entity}
+use Rattle.type_graphs.specs.Ranks.{Self, HasReason}
 
 pub record Unchecked : Type 0 where
   pub kind : PartKind
   pub name : Name
   pub reason : Reason
 
--- a part that may be listed, and the reasons for which it is
+-- a part that may be listed, and the reasons that hold of it
 pub record Candidate : Type 1 where
   pub kind : PartKind
   pub name : Name
-  pub why : Reason → Type 0
+  pub has_reason : Reason → Type 0
 
--- the list of those that have a reason
+abbrev pub all_reasons : List Reason
+all_reasons =
+    reasons.Skipped ∷ reasons.Profile ∷ reasons.Name ∷ reasons.Typeof ∷ reasons.Kind ∷ reasons.Leads ∷ []
+
+-- the list of those that have a reason, each with the first that holds
 abbrev pub Lists : List Candidate → List Unchecked → Type 0
 Lists [] us = us ≡ []
 Lists (c ∷ cs) us =
-    ((r : Reason) × c.why r × (vs : List Unchecked)
+    ((r : Reason) × IsFirst c.has_reason all_reasons r × (vs : List Unchecked)
     × (us ≡ record { kind = c.kind; name = c.name; reason = r } ∷ vs) × Lists cs vs)
-    ⊎ (((r : Reason) → c.why r → ⊥) × Lists cs us)
+    ⊎ (((r : Reason) → c.has_reason r → ⊥) × Lists cs us)
 
 abbrev pub because : PartKind → Name → Reason → Type 0 → Candidate
-because k n r P = record { kind = k; name = n; why = λ q. (q ≡ r) × P }
+because k n r P = record { kind = k; name = n; has_reason = λ q. (q ≡ r) × P }
 
 abbrev pub always : PartKind → Name → Reason → Candidate
 always k n r = because k n r (Unit {0})
@@ -76,9 +80,10 @@ abbrev pub parts_of_width : Name → Width → List Candidate
 parts_of_width n (other_width r) = always parts.Width n reasons.Profile ∷ []
 parts_of_width n (width t) = because parts.Width n reasons.Profile ((i : ℤ) × IsWorth t i × IsBeyond i) ∷ []
 
+-- the precision of a REAL, which isn't checked (ISO 10303-11, 8.1.2)
 abbrev pub parts_of_precision : Name → Option Width → List Candidate
 parts_of_precision n None = []
-parts_of_precision n (Some w) = parts_of_width n w
+parts_of_precision n (Some w) = always parts.Width n reasons.Profile ∷ []
 
 abbrev pub parts_of_some_width : Name → Option (Width × Bool) → List Candidate
 parts_of_some_width n None = []
@@ -116,12 +121,11 @@ parts_of_explicit s h x =
     for_each (λ (a : Attribute). parts_of_redeclared s h x.data_type a
     ++ parts_of_data_type (attribute_label h a) x.data_type) x.attributes
 
--- those of DERIVE from the n-th on, counted from 0 (ISO 10303-11, 9.2.1.2)
-abbrev pub parts_of_derived : Schema → Name → ℕ → List Derived → List Candidate
-parts_of_derived s h n [] = []
-parts_of_derived s h n (d ∷ ds) =
-    record { kind = parts.Derive; name = attribute_label h d.attribute; why = IsReason s (h, n) d.body }
-    ∷ (parts_of_data_type (attribute_label h d.attribute) d.data_type ++ parts_of_derived s h (n + 1) ds)
+-- (ISO 10303-11, 9.2.1.2)
+abbrev pub parts_of_derived : Schema → Name → Derived → List Candidate
+parts_of_derived s h d =
+    record { kind = parts.Derive; name = attribute_label h d.attribute; has_reason = HasReason s (Self h) d.body }
+    ∷ parts_of_data_type (attribute_label h d.attribute) d.data_type
 
 abbrev pub parts_of_collection : Name → Collection → List Candidate
 parts_of_collection n alone = []
@@ -139,8 +143,8 @@ parts_of_inverse h i =
 
 -- a UNIQUE rule of e names the a of p (ISO 10303-11, 9.2.2.1)
 abbrev pub NamesAttribute : Schema → Name → Attribute → Name → Name → Type 0
-NamesAttribute s e (own a) p n = (a ≡ n) × IsKindOf s e p × Declares s p a
-NamesAttribute s e (redeclared q a) p n = (a ≡ n) × IsKindOf s e q × TakesGroup s q a p
+NamesAttribute s e (own a) p n = (a ≡ n) × Has s e p a
+NamesAttribute s e (redeclared q a) p n = (a ≡ n) × IsKindOf s e q × MayTake s (of_entity q a) p
 
 -- .. which is derived or inverse
 abbrev pub NamesOther : Schema → Name → Attribute → Type 0
@@ -152,24 +156,24 @@ NamesNotOne s e x =
     ((p : Name) (a : Name) → NamesAttribute s e x p a → ⊥)
     ⊎ ((p : Name) × (q : Name) × (a : Name) × NamesAttribute s e x p a × NamesAttribute s e x q a × (p ≢ q))
 
-abbrev pub IsUniqueReason : Schema → Name → List Attribute → Reason → Type 0
-IsUniqueReason s e xs reasons.Profile = OneOf (NamesOther s e) xs
-IsUniqueReason s e xs reasons.Name = (OneOf (NamesOther s e) xs → ⊥) × OneOf (NamesNotOne s e) xs
-IsUniqueReason s e xs r = ⊥
+abbrev pub UniqueHasReason : Schema → Name → List Attribute → Reason → Type 0
+UniqueHasReason s e xs reasons.Profile = OneOf (NamesOther s e) xs
+UniqueHasReason s e xs reasons.Name = OneOf (NamesNotOne s e) xs
+UniqueHasReason s e xs r = ⊥
 
 -- those of UNIQUE from the n-th on
 abbrev pub parts_of_uniques : Schema → Name → ℕ → List Unique → List Candidate
 parts_of_uniques s h n [] = []
 parts_of_uniques s h n (u ∷ us) =
-    record { kind = parts.Unique; name = dotted h (label_of n u.label); why = IsUniqueReason s h u.attributes }
+    record { kind = parts.Unique; name = dotted h (label_of n u.label); has_reason = UniqueHasReason s h u.attributes }
     ∷ parts_of_uniques s h (n + 1) us
 
 -- those of WHERE from the n-th on (ISO 10303-11, 9.2.2.2)
 abbrev pub parts_of_rules : Name → (Body → Reason → Type 0) → ℕ → List Rule → List Candidate
-parts_of_rules h why n [] = []
-parts_of_rules h why n (r ∷ rs) =
-    record { kind = parts.Where; name = dotted h (label_of n r.label); why = why r.body }
-    ∷ parts_of_rules h why (n + 1) rs
+parts_of_rules h has n [] = []
+parts_of_rules h has n (r ∷ rs) =
+    record { kind = parts.Where; name = dotted h (label_of n r.label); has_reason = has r.body }
+    ∷ parts_of_rules h has (n + 1) rs
 
 -- (ISO 10303-11, 9.2.5)
 abbrev pub parts_of_supertype : Name → Supertype → List Candidate
@@ -180,24 +184,24 @@ abbrev pub parts_of_entity : Schema → Entity → List Candidate
 parts_of_entity s e =
     parts_of_supertype e.name e.supertype
     ++ for_each (parts_of_explicit s e.name) e.explicits
-    ++ parts_of_derived s e.name 0 (listed e.derived)
+    ++ for_each (parts_of_derived s e.name) (listed e.derived)
     ++ for_each (parts_of_inverse e.name) (listed e.inverses)
     ++ parts_of_uniques s e.name 1 (listed e.uniques)
-    ++ parts_of_rules e.name (IsRuleReason s (Self e.name)) 1 (listed e.rules)
+    ++ parts_of_rules e.name (HasReason s (Self e.name)) 1 (listed e.rules)
 
 abbrev pub parts_of_underlying : Name → Underlying → List Candidate
 parts_of_underlying n (data_type k) = parts_of_data_type n k
 parts_of_underlying n u = []
 
--- the reason of a rule of a defined type, whose SELF is a value of it (ISO 10303-11, 9.1)
-abbrev pub IsTypeRuleReason : Schema → Name → Body → Reason → Type 0
-IsTypeRuleReason s n b reasons.Profile = IsOverSelect s n ⊎ IsRuleReason s (IsOf s (named n)) b reasons.Profile
-IsTypeRuleReason s n b r = (IsOverSelect s n → ⊥) × IsRuleReason s (IsOf s (named n)) b r
+-- the reasons of a rule of a defined type, whose SELF is a value of it (ISO 10303-11, 9.1)
+abbrev pub TypeRuleHasReason : Schema → DataType → Body → Reason → Type 0
+TypeRuleHasReason s k b reasons.Profile = IsOverSelect s k ⊎ HasReason s (IsOf s k) b reasons.Profile
+TypeRuleHasReason s k b r = HasReason s (IsOf s k) b r
 
 abbrev pub parts_of_type : Schema → TypeDeclaration → List Candidate
 parts_of_type s t =
     parts_of_underlying t.name t.underlying
-    ++ parts_of_rules t.name (IsTypeRuleReason s t.name) 1 (listed t.rules)
+    ++ parts_of_rules t.name (TypeRuleHasReason s (named t.name)) 1 (listed t.rules)
 
 -- (ISO 10303-11, 9.4 to 9.7)
 abbrev pub part_of_skipped : Skipped → Candidate

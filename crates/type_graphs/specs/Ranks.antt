@@ -5,11 +5,11 @@ use Rattle.digraph.specs.Graphs.{Leads}
 use Rattle.express_schemas.specs.Schemas.{Schema, Entity, Attribute, own, redeclared, Derived, Body}
 use Rattle.type_graphs.specs.declared.unchecked.Reason.{Reason}
 use Rattle.type_graphs.specs.declared.unchecked.Reason.TheVariants as reasons
-use Rattle.type_graphs.specs.Names.{Name, listed, IsEntityAt}
+use Rattle.type_graphs.specs.Names.{Name, IsOrLeads, listed, IsEntityAt}
 use Rattle.type_graphs.specs.Shapes.{instance}
 use Rattle.type_graphs.specs.Attributes.{Place, Derivation, IsDerivation}
 use Rattle.type_graphs.specs.Sets.{Set}
-use Rattle.type_graphs.specs.Reasons.{IsOwnReason, HasOwnReason, MayUse}
+use Rattle.type_graphs.specs.Reasons.{GivesReason, BodyMayUse}
 
 -- SELF in an entity
 abbrev pub Self : Name → Set
@@ -17,36 +17,23 @@ Self e x = x ≡ instance e
 
 -- one derived attribute may use another
 abbrev pub Uses : Schema → Derivation → Derivation → Type 0
-Uses s d u = (x : Derived) × IsDerivation s d x × MayUse s (Self d.0) x.body u
-
--- the closure of that
-abbrev pub LeadsTo : Schema → Derivation → Derivation → Type 0
-LeadsTo s d u = Leads (Uses s) d u
+Uses s d u = (x : Derived) × IsDerivation s d x × BodyMayUse s (Self d.0) x.body u
 
 abbrev pub LeadsToItself : Schema → Derivation → Type 0
-LeadsToItself s d = LeadsTo s d d
+LeadsToItself s d = Leads (Uses s) d d
 
+-- its body gives a reason by itself
 abbrev pub IsFaulty : Schema → Derivation → Type 0
-IsFaulty s d = (x : Derived) × IsDerivation s d x × HasOwnReason s (Self d.0) x.body
+IsFaulty s d = (x : Derived) × IsDerivation s d x × (r : Reason) × GivesReason s (Self d.0) x.body r
 
--- it, or one that it leads to, has a reason of its own or leads to itself
+-- it, or one that it leads to, is faulty or leads to itself
 abbrev pub IsSetAside : Schema → Derivation → Type 0
-IsSetAside s d = (u : Derivation) × ((d ≡ u) ⊎ LeadsTo s d u) × (IsFaulty s u ⊎ LeadsToItself s u)
+IsSetAside s d = (u : Derivation) × IsOrLeads (Uses s) d u × (IsFaulty s u ⊎ LeadsToItself s u)
 
--- one that a body may use is set aside
-abbrev pub UsesSetAside : Schema → Set → Body → Type 0
-UsesSetAside s self b = (u : Derivation) × MayUse s self b u × IsSetAside s u
-
--- the reason of a derived attribute, the first that holds
-abbrev pub IsReason : Schema → Derivation → Body → Reason → Type 0
-IsReason s d b reasons.Leads =
-    (HasOwnReason s (Self d.0) b → ⊥) × (UsesSetAside s (Self d.0) b ⊎ LeadsToItself s d)
-IsReason s d b r = IsOwnReason s (Self d.0) b r
-
--- the reason of a rule, the first that holds
-abbrev pub IsRuleReason : Schema → Set → Body → Reason → Type 0
-IsRuleReason s self b reasons.Leads = (HasOwnReason s self b → ⊥) × UsesSetAside s self b
-IsRuleReason s self b r = IsOwnReason s self b r
+-- the reasons of a body: those that it gives by itself, and that one that it may use is set aside
+abbrev pub HasReason : Schema → Set → Body → Reason → Type 0
+HasReason s self b reasons.Leads = (u : Derivation) × BodyMayUse s self b u × IsSetAside s u
+HasReason s self b r = GivesReason s self b r
 
 -- One more than the greatest rank of those that it may use, 0 for none: more than the rank of each, and 0 or one
 -- more than that of some.
@@ -69,7 +56,8 @@ IsFirstFor a [] n = ⊥
 IsFirstFor a (d ∷ ds) zero = derived_name d.attribute ≡ a
 IsFirstFor a (d ∷ ds) (suc n) = (derived_name d.attribute ≡ a → ⊥) × IsFirstFor a ds n
 
--- where a place is derived; one that is redeclared stands under the entity that redeclares it
+-- The place (e, a) is derived in e itself: an attribute that is redeclared stands here under the entity that redeclares
+-- it, not under the one that declares it.
 abbrev pub IsDerivedAt : Schema → Place → Derivation → Type 0
 IsDerivedAt s (e, a) (h, n) = (h ≡ e) × ((x : Entity) × IsEntityAt s e x × IsFirstFor a (listed x.derived) n)
 

@@ -6,13 +6,13 @@ use Rattle.express_trees.specs.declared.tree.Function.TheVariants as functions
 use Rattle.express_trees.specs.declared.tree.Relation.TheVariants as relations
 use Rattle.express_trees.specs.Trees.{Tree, Trees, Alternatives, Qualifiers, Root, Literal, literal, signed, reference, parenthesized, aggregate, interval, query, call, nvl, negation, conjunction, disjunction, comparison, none, one, finish, another, plain, attribute, group, index, text, codes_of_text}
 use Rattle.express_trees.specs.Trees as trees
-use Rattle.express_schemas.specs.Schemas.{Schema, DataType, Body, parsed, set_aside}
+use Rattle.express_schemas.specs.Schemas.{Schema, DataType, named, Body, parsed, set_aside}
 use Rattle.type_graphs.specs.declared.unchecked.Reason.{Reason}
 use Rattle.type_graphs.specs.declared.unchecked.Reason.TheVariants as reasons
 use Rattle.type_graphs.specs.Names.{Name, IsEntity, IsType}
 use Rattle.type_graphs.specs.Shapes.{value, instance, Sort, a_string, a_binary, an_item, an_aggregate, IsOverSelect}
-use Rattle.type_graphs.specs.Attributes.{Derivation, Derives}
-use Rattle.type_graphs.specs.Sets.{Set, Empty, Either, Only, Elements, MayTake, TakesTwo, OfAttribute, TakesGroup, OfGroup, Variable, OfVariable, Means, variable, attribute_of_self, item_of_type, item, nothing, May}
+use Rattle.type_graphs.specs.Attributes.{Derivation}
+use Rattle.type_graphs.specs.Sets.{Set, Empty, Either, Elements, Variable, IsUnclearReference, ReferenceMayUse, May}
 
 -- the elements of what stands on the right of IN (ISO 10303-11, 12.2.3)
 abbrev pub OfTrees : Schema → Set → List Variable → Trees → Set
@@ -79,33 +79,6 @@ abbrev pub IsLooseAggregate : Bool → List Variable → Tree → Type 0
 IsLooseAggregate false vs (aggregate xs) = Unit {0}
 IsLooseAggregate w vs x = ⊥
 
--- a name that means no attribute, or two of one entity
-abbrev pub IsUnclear : Schema → Set → Name → Type 0
-IsUnclear s M a = ((p : Name) → MayTake s M a p → ⊥) ⊎ TakesTwo s M a
-
-abbrev pub IsUnclearGroup : Schema → Name → Name → Type 0
-IsUnclearGroup s e a = (p : Name) → TakesGroup s e a p → ⊥
-
--- .. among the qualifiers behind a set
-abbrev pub HasUnclear : Schema → Set → Qualifiers → Type 0
-HasUnclear s M plain = ⊥
-HasUnclear s M (attribute a qs) = IsUnclear s M a ⊎ HasUnclear s (OfAttribute s M a) qs
-HasUnclear s M (group e a qs) = IsUnclearGroup s e a ⊎ HasUnclear s (OfGroup s e a) qs
-HasUnclear s M (index i qs) = HasUnclear s (Elements s M) qs
-
-abbrev pub HasUnclearBehindItem : Schema → Qualifiers → Type 0
-HasUnclearBehindItem s (attribute a qs) = HasUnclear s (Only an_item) qs
-HasUnclearBehindItem s qs = ⊥
-
-abbrev pub IsUnclearPath : Schema → Set → List Variable → Root → Qualifiers → Type 0
-IsUnclearPath s self vs trees.own qs = HasUnclear s self qs
-IsUnclearPath s self vs (trees.named n) qs =
-    Means s self vs n qs nothing
-    ⊎ ((Means s self vs n qs variable × HasUnclear s (OfVariable vs n) qs)
-    ⊎ ((Means s self vs n qs attribute_of_self × (TakesTwo s self n ⊎ HasUnclear s (OfAttribute s self n) qs))
-    ⊎ ((Means s self vs n qs item_of_type × HasUnclearBehindItem s qs)
-    ⊎ (Means s self vs n qs item × HasUnclear s (Only an_item) qs))))
-
 -- the string of these characters, plain or encoded (ISO 10303-11, 7.5.5)
 abbrev pub IsString : Literal → List ℕ → Type 0
 IsString (text t) cs = (content : List ℕ) × (t ≡ simple_text content) × (characters_of content ≡ map Code cs)
@@ -122,18 +95,11 @@ SaysName s x n = ⊥
 abbrev pub HasBareValue : Set → Type 0
 HasBareValue M = (x : Sort) × M (value x false)
 
--- a tree may be one; the aggregate that a QUERY makes is one
-abbrev pub MayBeBare : Schema → Set → List Variable → Tree → Type 0
-MayBeBare s self vs (parenthesized x) = MayBeBare s self vs x
-MayBeBare s self vs (nvl x y) = MayBeBare s self vs x ⊎ MayBeBare s self vs y
-MayBeBare s self vs (query v source condition) = Unit {0}
-MayBeBare s self vs x = HasBareValue (May s self vs x)
-
 -- `x IN TYPEOF(y)` has an answer: x names an entity, or a defined type over no SELECT while y tells its type
 abbrev pub IsTypeTest : Schema → Set → List Variable → Tree → Tree → Type 0
 IsTypeTest s self vs x y =
     (n : Name) × SaysName s x n
-    × (IsEntity s n ⊎ (IsType s n × (IsOverSelect s n → ⊥) × (MayBeBare s self vs y → ⊥)))
+    × (IsEntity s n ⊎ (IsType s n × (IsOverSelect s (named n) → ⊥) × (HasBareValue (May s self vs y) → ⊥)))
 
 -- what stands on the right of IN is TYPEOF(y), and x before it makes no test of it
 abbrev pub IsBadTypeTest : Schema → Set → List Variable → Tree → Tree → Type 0
@@ -172,27 +138,11 @@ IsBadKind s self w vs (interval low above x below high) =
     MayBeUnordered (May s self vs low) ⊎ (MayBeUnordered (May s self vs x) ⊎ MayBeUnordered (May s self vs high))
 IsBadKind s self w vs x = ⊥
 
--- qualifiers behind a set may use a derived attribute
-abbrev pub UsesBehind : Schema → Derivation → Set → Qualifiers → Type 0
-UsesBehind s d M plain = ⊥
-UsesBehind s d M (attribute a qs) =
-    ((p : Name) × MayTake s M a p × Derives s p a d) ⊎ UsesBehind s d (OfAttribute s M a) qs
-UsesBehind s d M (group e a qs) =
-    ((p : Name) × TakesGroup s e a p × Derives s p a d) ⊎ UsesBehind s d (OfGroup s e a) qs
-UsesBehind s d M (index i qs) = UsesBehind s d (Elements s M) qs
-
-abbrev pub UsesAtPath : Schema → Set → Derivation → List Variable → Root → Qualifiers → Type 0
-UsesAtPath s self d vs trees.own qs = UsesBehind s d self qs
-UsesAtPath s self d vs (trees.named n) qs =
-    (Means s self vs n qs variable × UsesBehind s d (OfVariable vs n) qs)
-    ⊎ (Means s self vs n qs attribute_of_self
-    × (((p : Name) × MayTake s self n p × Derives s p n d) ⊎ UsesBehind s d (OfAttribute s self n) qs))
-
 abbrev pub HasLooseAggregate : Schema → Set → Tree → Type 0
 HasLooseAggregate s self x = Somewhere s self IsLooseAggregate NoPath false [] x
 
 abbrev pub HasUnclearName : Schema → Set → Tree → Type 0
-HasUnclearName s self x = Somewhere s self NoTree (IsUnclearPath s self) false [] x
+HasUnclearName s self x = Somewhere s self NoTree (IsUnclearReference s self) false [] x
 
 abbrev pub HasBadTypeof : Schema → Set → Tree → Type 0
 HasBadTypeof s self x = Somewhere s self (IsBadTypeof s self) NoPath false [] x
@@ -200,25 +150,16 @@ HasBadTypeof s self x = Somewhere s self (IsBadTypeof s self) NoPath false [] x
 abbrev pub HasBadKind : Schema → Set → Tree → Type 0
 HasBadKind s self x = Somewhere s self (IsBadKind s self) NoPath false [] x
 
--- a derived attribute that the value of a tree may be asked of
-abbrev pub TreeMayUse : Schema → Set → Tree → Derivation → Type 0
-TreeMayUse s self x d = Somewhere s self NoTree (UsesAtPath s self d) false [] x
+-- a derived attribute that the value of a body may be asked of
+abbrev pub BodyMayUse : Schema → Set → Body → Derivation → Type 0
+BodyMayUse s self (parsed x) d = Somewhere s self NoTree (ReferenceMayUse s self d) false [] x
+BodyMayUse s self (set_aside r) d = ⊥
 
-abbrev pub MayUse : Schema → Set → Body → Derivation → Type 0
-MayUse s self (parsed x) d = TreeMayUse s self x d
-MayUse s self (set_aside r) d = ⊥
-
--- the first reason that an expression gives by itself
-abbrev pub IsOwnReason : Schema → Set → Body → Reason → Type 0
-IsOwnReason s self (set_aside r) reasons.Profile = Unit {0}
-IsOwnReason s self (parsed x) reasons.Profile = HasLooseAggregate s self x
-IsOwnReason s self (parsed x) reasons.Name = (HasLooseAggregate s self x → ⊥) × HasUnclearName s self x
-IsOwnReason s self (parsed x) reasons.Typeof =
-    (HasLooseAggregate s self x → ⊥) × (HasUnclearName s self x → ⊥) × HasBadTypeof s self x
-IsOwnReason s self (parsed x) reasons.Kind =
-    (HasLooseAggregate s self x → ⊥) × (HasUnclearName s self x → ⊥) × (HasBadTypeof s self x → ⊥)
-    × HasBadKind s self x
-IsOwnReason s self b r = ⊥
-
-abbrev pub HasOwnReason : Schema → Set → Body → Type 0
-HasOwnReason s self b = (r : Reason) × IsOwnReason s self b r
+-- the reasons that a body gives by itself
+abbrev pub GivesReason : Schema → Set → Body → Reason → Type 0
+GivesReason s self (set_aside r) reasons.Profile = Unit {0}
+GivesReason s self (parsed x) reasons.Profile = HasLooseAggregate s self x
+GivesReason s self (parsed x) reasons.Name = HasUnclearName s self x
+GivesReason s self (parsed x) reasons.Typeof = HasBadTypeof s self x
+GivesReason s self (parsed x) reasons.Kind = HasBadKind s self x
+GivesReason s self b r = ⊥

@@ -1,8 +1,7 @@
 -- What a data type is behind the names of defined types: what its values may be, and its shape (ISO 10303-11, 8).
 use Rattle.std.specs.Prelude.{◌≡◌, Bool, true, false, List, ◌⊎◌}
-use Rattle.digraph.specs.Graphs.{Leads}
-use Rattle.express_schemas.specs.Schemas.{Schema, enumeration, select, data_type, DataType, integer, number, boolean, logical, real, string, binary, named, array, list, bag, set}
-use Rattle.type_graphs.specs.Names.{Name, Among, IsEntity, StandsFor}
+use Rattle.express_schemas.specs.Schemas.{Schema, enumeration, select, DataType, integer, number, boolean, logical, real, string, binary, named, array, list, bag, set}
+use Rattle.type_graphs.specs.Names.{Name, IsOrLeads, IsEntity, StandsFor, Renames, IsMadeOf}
 
 abbrev pub IsEnumeration : Schema → Name → Type 0
 IsEnumeration s n = (items : List Name) × StandsFor s n (enumeration items)
@@ -10,24 +9,9 @@ IsEnumeration s n = (items : List Name) × StandsFor s n (enumeration items)
 abbrev pub IsSelect : Schema → Name → Type 0
 IsSelect s n = (items : List Name) × StandsFor s n (select items)
 
--- a data type, and whether it is reached through a SELECT
-abbrev pub Reached : Type 0
-Reached = DataType × Bool
-
--- One step from the name of a defined type: to what it stands for, or to an item of its SELECT.
-abbrev pub Opens : Schema → Reached → Reached → Type 0
-Opens s (named n, selected) (k, w) =
-    (StandsFor s n (data_type k) × (selected ≡ w))
-    ⊎ ((items : List Name) × (m : Name) × StandsFor s n (select items) × Among m items
-    × (k ≡ named m) × (w ≡ true))
-Opens s a b = ⊥
-
-abbrev pub OpensTo : Schema → Reached → Reached → Type 0
-OpensTo s a b = (a ≡ b) ⊎ Leads (Opens s) a b
-
 -- a SELECT, or a defined type that stands for one, under whatever names
-abbrev pub IsOverSelect : Schema → Name → Type 0
-IsOverSelect s n = (m : Name) × (w : Bool) × OpensTo s (named n, false) (named m, w) × IsSelect s m
+abbrev pub IsOverSelect : Schema → DataType → Type 0
+IsOverSelect s k = (n : Name) × IsOrLeads (Renames s) k (named n) × IsSelect s n
 
 -- the sorts of values that aren't instances
 pub data Sort : Type 0 where
@@ -61,13 +45,11 @@ IsSort s (bag b k) x = x ≡ an_aggregate k
 IsSort s (set b k) x = x ≡ an_aggregate k
 IsSort s (named n) x = IsEnumeration s n × (x ≡ an_item)
 
-abbrev pub IsAtomAt : Schema → Reached → Atom → Type 0
-IsAtomAt s (k, selected) (value x w) = IsSort s k x × (selected ≡ w)
-IsAtomAt s (k, selected) (instance n) = (k ≡ named n) × IsEntity s n
-
 -- what a value of a data type may be: SELECTs are replaced by their items (ISO 10303-11, 8.4.2)
 abbrev pub IsOf : Schema → DataType → Atom → Type 0
-IsOf s k x = (a : Reached) × OpensTo s (k, false) a × IsAtomAt s a x
+IsOf s k (value x false) = (l : DataType) × IsOrLeads (Renames s) k l × IsSort s l x
+IsOf s k (value x true) = IsOverSelect s k × ((l : DataType) × IsOrLeads (IsMadeOf s) k l × IsSort s l x)
+IsOf s k (instance n) = IsOrLeads (IsMadeOf s) k (named n) × IsEntity s n
 
 -- The shape of a data type, one level deep: one for numbers, one for logicals, one for SELECTs and entities, one
 -- for SET and BAG.
@@ -82,11 +64,6 @@ pub data Shape : Type 0 where
   of_arrays : DataType → Shape
   of_lists : DataType → Shape
   of_collections : DataType → Shape
-
--- the name of a defined type that stands for another data type
-abbrev pub Renames : Schema → DataType → DataType → Type 0
-Renames s (named n) k = StandsFor s n (data_type k)
-Renames s a k = ⊥
 
 abbrev pub IsShapeAt : Schema → DataType → Shape → Type 0
 IsShapeAt s integer f = f ≡ of_numbers
@@ -105,7 +82,7 @@ IsShapeAt s (named n) f =
 
 -- its shape, defined types followed
 abbrev pub HasShape : Schema → DataType → Shape → Type 0
-HasShape s k f = (b : DataType) × ((k ≡ b) ⊎ Leads (Renames s) k b) × IsShapeAt s b f
+HasShape s k f = (l : DataType) × IsOrLeads (Renames s) k l × IsShapeAt s l f
 
 -- two shapes are one, with elements that R relates
 abbrev pub AreOne : (DataType → DataType → Bool) → Shape → Shape → Type 0

@@ -3,9 +3,11 @@
 ghost use Rattle.type_graphs.specs.Laws.{
   ExplicitHavePlaces,
   FaultsAreOne,
+  InvertedAreOne,
   KindsAreApart,
   KindsAreOrdered,
   OrderDecidesNoKinds,
+  OriginsAreOne,
   PlacesAreExplicit,
   PlacesAreOne,
   PlacesStandOnce,
@@ -35,7 +37,7 @@ pub fn the_order_decides_no_kinds()
     ensures { OrderDecidesNoKinds }
 {}
 
-/// A schema has one fault of names at most, and none where its names are resolved.
+/// A schema has one fault of names at most, and none exactly where its names are resolved.
 pub fn faults_are_one()
     ensures { FaultsAreOne }
 {}
@@ -58,6 +60,16 @@ pub fn explicit_attributes_have_places()
 /// An entity whose names are resolved has one list of places.
 pub fn places_are_one()
     ensures { PlacesAreOne }
+{}
+
+/// Where the names are resolved, `SELF\entity.attribute` redeclares one attribute (ISO 10303-11, 9.2.3.4).
+pub fn origins_are_one()
+    ensures { OriginsAreOne }
+{}
+
+/// Where the names are resolved, an inverse attribute inverts one attribute (ISO 10303-11, 9.2.1.3).
+pub fn inverted_are_one()
+    ensures { InvertedAreOne }
 {}
 
 /// Ranks fall along what derived attributes may use.

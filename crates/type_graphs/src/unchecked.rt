@@ -14,10 +14,10 @@ pub enum PartKind {
     Unique,
     /// Of an aggregate.
     Bound,
-    /// Of a string or a binary.
+    /// Of a string or a binary, or the precision of a REAL.
     Width,
     Supertype,
-    /// An explicit attribute that is redeclared.
+    /// An explicit attribute that is redeclared with another shape.
     Redeclared,
 }
 

@@ -7,25 +7,22 @@ use Rattle.step_exchange.proofs.DataKeeping.{data_start, data_err_token, data_er
 use Rattle.step_exchange.proofs.data.data.Goals as goal
 
 pub loop-sections-init : goal.loop-sections-init
-loop-sections-init c = record {
-  read = (rw (c.room_for-names.ensures, c.new-sections.ensures.items) (data_start c.args.reader.now));
-  bound = (rw c.room_for-names.ensures tt);
-}
+loop-sections-init c = rw (c.room_for-names.ensures, c.new-sections.ensures.items) (data_start c.args.reader.now)
 
 pub returns-in_err-token : goal.returns-in_err-token
 returns-in_err-token c =
     let p = err_from_is_err_and c.from_residual.result c.from_residual.ensures.1 in
     let ss = c.loop-sections.sections.items in
-    let names = c.loop-sections.names.keys in
+    let names = c.loop-sections.names in
     let y = Sections (length ss) names in
-    rw (p.1, p.2) (data_err_token _ c.args.reader.now ss names c.loop-sections.reader c.loop-sections.invariant.read
+    rw (p.1, p.2) (data_err_token _ c.args.reader.now ss names c.loop-sections.reader c.loop-sections.invariant
     (c.in_err-token.ensures y (λ (e : y ≡ EndOfText). cc)))
 
 pub returns-then-is_empty : goal.returns-then-is_empty
 returns-then-is_empty c =
     let ss = c.loop-sections.sections.items in
-    data_err_none c.refuse.result c.args.reader.now ss c.loop-sections.names.keys c.loop-sections.reader
-    c.in_ok-token.token c.take.new.reader c.loop-sections.invariant.read c.in_ok-token.ensures.0
+    data_err_none c.refuse.result c.args.reader.now ss c.loop-sections.names c.loop-sections.reader
+    c.in_ok-token.token c.take.new.reader c.loop-sections.invariant c.in_ok-token.ensures.0
     (is_end c.in_ok-token.token c.in-End.is) (no_sections ss c.loop-sections.sections.len c.is_empty.result
     c.is_empty.ensures (search rules) c.if-is_empty.true) c.refuse.ensures
 
@@ -33,16 +30,16 @@ pub returns-in_err-end : goal.returns-in_err-end
 returns-in_err-end c =
     let p = err_from_is_err_and c.from_residual-in_err-end.result c.from_residual-in_err-end.ensures.1 in
     let ss = c.loop-sections.sections.items in
-    rw (p.1, p.2) (data_err_end _ c.args.reader.now ss c.loop-sections.names.keys c.loop-sections.reader
-    c.in_ok-token.token c.take.new.reader c.loop-sections.invariant.read c.in_ok-token.ensures.0
+    rw (p.1, p.2) (data_err_end _ c.args.reader.now ss c.loop-sections.names c.loop-sections.reader
+    c.in_ok-token.token c.take.new.reader c.loop-sections.invariant c.in_ok-token.ensures.0
     (is_end c.in_ok-token.token c.in-End.is) (some_sections ss c.loop-sections.sections.len c.is_empty.result
     c.is_empty.ensures (search rules) c.if-is_empty.false) c.in_err-end.ensures)
 
 pub returns-in-End : goal.returns-in-End
 returns-in-End c =
     let ss = c.loop-sections.sections.items in
-    data_done c.args.reader.now ss c.loop-sections.names.keys c.loop-sections.reader c.in_ok-token.token
-    c.take.new.reader c.end.new.reader c.loop-sections.invariant.read c.in_ok-token.ensures.0 c.in_ok-token.ensures.1
+    data_done c.args.reader.now ss c.loop-sections.names c.loop-sections.reader c.in_ok-token.token
+    c.take.new.reader c.end.new.reader c.loop-sections.invariant c.in_ok-token.ensures.0 c.in_ok-token.ensures.1
     (is_end c.in_ok-token.token c.in-End.is) (some_sections ss c.loop-sections.sections.len c.is_empty.result
     c.is_empty.ensures (search rules) c.if-is_empty.false) c.in_ok-end.ensures.0 c.in_ok-end.ensures.1
 
@@ -53,51 +50,47 @@ pub returns-in_err-heading : goal.returns-in_err-heading
 returns-in_err-heading c =
     let p = err_from_is_err_and c.from_residual-in_err-heading.result c.from_residual-in_err-heading.ensures.1 in
     let ss = c.loop-sections.sections.items in
-    let names = c.loop-sections.names.keys in
+    let names = c.loop-sections.names in
     let count : c.len.result ≡ length ss = search rules in
     rw (p.1, p.2) (data_err_begin _ c.args.reader.now ss names c.loop-sections.reader c.in_ok-token.token
-    c.take.new.reader c.loop-sections.invariant.read c.in_ok-token.ensures.0 (rw (sym count)
+    c.take.new.reader c.loop-sections.invariant c.in_ok-token.ensures.0 (rw (sym count)
     (c.in_err-heading.ensures.takes names)))
 
-pub returns-in_err-greatest : goal.returns-in_err-greatest
-returns-in_err-greatest c =
-    let p = err_from_is_err_and c.from_residual-in_err-greatest.result c.from_residual-in_err-greatest.ensures.1 in
+pub returns-in_err-rows : goal.returns-in_err-rows
+returns-in_err-rows c =
+    let p = err_from_is_err_and c.from_residual-in_err-rows.result c.from_residual-in_err-rows.ensures.1 in
     let ss = c.loop-sections.sections.items in
-    let names = c.loop-sections.names.keys in
+    let names = c.loop-sections.names in
     let count : c.len.result ≡ length ss = search rules in
     rw (p.1, p.2) (data_err_rows _ c.args.reader.now ss names c.loop-sections.reader c.in_ok-token.token
-    c.take.new.reader c.begin_section.new.reader (heading_of c.in_ok-heading.heading) c.loop-sections.invariant.read
-    c.in_ok-token.ensures.0 (rw (sym count) (c.in_ok-heading.ensures.takes names)) c.in_err-greatest.ensures)
+    c.take.new.reader c.begin_section.new.reader (heading_of c.in_ok-heading.heading) c.loop-sections.invariant
+    c.in_ok-token.ensures.0 (rw (sym count) (c.in_ok-heading.ensures.takes names)) c.in_err-rows.ensures)
 
 pub overflow_cast-past : goal.overflow_cast-past
 overflow_cast-past c = omega (
   arith,
-  c.len-past.ensures.len,
-  data_few c.in_ok-greatest.greatest c.args.reader.now c.loop-sections.sections.items c.loop-sections.names.keys
-      c.rows.new.names.keys c.loop-sections.reader c.begin_section.new.reader c.rows.new.reader
-      c.loop-sections.invariant.read c.in_ok-greatest.ensures,
+  c.len-past.ensures,
+  data_few c.args.reader.now c.loop-sections.sections.items c.loop-sections.names
+      c.rows.new.names c.loop-sections.reader c.begin_section.new.reader c.rows.new.reader
+      c.loop-sections.invariant c.in_ok-rows.ensures,
 )
 
 pub loop-sections-smaller : goal.loop-sections-smaller
 loop-sections-smaller c =
-    let names = c.loop-sections.names.keys in
-    let d = c.loop-sections.invariant.read in
-    data_less c.in_ok-greatest.greatest c.len.result names c.rows.new.names.keys c.loop-sections.reader
+    let names = c.loop-sections.names in
+    let d = c.loop-sections.invariant in
+    data_less c.len.result names c.rows.new.names c.loop-sections.reader
     c.in_ok-token.token (heading_of c.in_ok-heading.heading) c.take.new.reader c.begin_section.new.reader
     c.rows.new.reader d.rows d.named c.in_ok-token.ensures.0 (c.in_ok-heading.ensures.takes names)
-    c.in_ok-greatest.ensures
+    c.in_ok-rows.ensures
 
 pub loop-sections-preserved : goal.loop-sections-preserved
 loop-sections-preserved c =
     let ss = c.loop-sections.sections.items in
-    let names = c.loop-sections.names.keys in
+    let names = c.loop-sections.names in
     let count : c.len.result ≡ length ss = search rules in
-    record {
-      read = (rw c.in_ok-push.ensures.items (data_next c.in_ok-greatest.greatest c.args.reader.now ss names
-          c.rows.new.names.keys c.loop-sections.reader c.in_ok-token.token c.take.new.reader
-          c.begin_section.new.reader c.rows.new.reader
-          (record { heading = c.in_ok-heading.heading; past = c.len-past.result }) c.loop-sections.invariant.read
-          c.in_ok-token.ensures.0 c.in_ok-token.ensures.1 (rw (sym count) (c.in_ok-heading.ensures.takes names))
-          c.in_ok-heading.ensures.same c.in_ok-greatest.ensures c.len-past.ensures.len));
-      bound = c.in_ok-greatest.ensures.bound;
-    }
+    rw c.in_ok-push.ensures.items (data_next c.args.reader.now ss names c.rows.new.names c.loop-sections.reader
+    c.in_ok-token.token c.take.new.reader c.begin_section.new.reader c.rows.new.reader
+    (record { heading = c.in_ok-heading.heading; past = c.len-past.result }) c.loop-sections.invariant
+    c.in_ok-token.ensures.0 c.in_ok-token.ensures.1 (rw (sym count) (c.in_ok-heading.ensures.takes names))
+    c.in_ok-heading.ensures.same c.in_ok-rows.ensures c.len-past.ensures)

@@ -53,16 +53,16 @@ split_at-requires-2 c = omega (
 
 pub invariant_of-result : goal.invariant_of-result
 invariant_of-result c =
-    let P : List Tree → Type 0 = λ l. ReadsAs c.args.text.now c.split_at-2.result.1.now (file_of c.kept_len-header_len.result l c.in_ok-sections.names.keys
+    let P : List Tree → Type 0 = λ l. ReadsAs c.args.text.now c.split_at-2.result.1.now (file_of c.kept_len-header_len.result l c.in_ok-sections.names
     c.in_ok-sections.sections.items) in
     let found = subst P (sym c.finish.ensures) (text_reads c.args.text.now c.split_at.result.0.now c.split_at-2.result.1.now c.reserve.new.reader
     c.header.new.reader c.data.new.reader c.in_ok-first.first c.place-end.result c.kept_len-header_len.result
-    c.in_ok-sections.sections.items c.in_ok-sections.names.keys (c.reserve.ensures ∙ c.new-reader.ensures)
+    c.in_ok-sections.sections.items c.in_ok-sections.names (c.reserve.ensures ∙ c.new-reader.ensures)
     c.in_ok-first.ensures c.kept_len-header_len.ensures c.in_ok-sections.ensures c.place-end.ensures
     c.split_at.ensures.front c.split_at-2.ensures.back) in
-    let Q : List Tree → Type 0 = λ l. length l ≡ c.kept_len-header_len.result + length c.in_ok-sections.names.keys in
+    let Q : List Tree → Type 0 = λ l. length l ≡ c.kept_len-header_len.result + length c.in_ok-sections.names in
     let matched = subst Q (sym c.finish.ensures) (trees_match c.header.new.reader c.data.new.reader
-    c.kept_len-header_len.result c.in_ok-sections.sections.items c.in_ok-sections.names.keys
+    c.kept_len-header_len.result c.in_ok-sections.sections.items c.in_ok-sections.names
     c.kept_len-header_len.ensures c.in_ok-sections.ensures) in
     record {
       read = ∣ (c.args.text.now, found) ∣₁;
@@ -72,23 +72,23 @@ invariant_of-result c =
 
 pub returns-clause-found : goal.returns-clause-found
 returns-clause-found c =
-    let P : List Tree → Type 0 = λ l. ReadsAs c.args.text.now c.split_at-2.result.1.now (file_of c.kept_len-header_len.result l c.in_ok-sections.names.keys
+    let P : List Tree → Type 0 = λ l. ReadsAs c.args.text.now c.split_at-2.result.1.now (file_of c.kept_len-header_len.result l c.in_ok-sections.names
     c.in_ok-sections.sections.items) in
     let found = subst P (sym c.finish.ensures) (text_reads c.args.text.now c.split_at.result.0.now c.split_at-2.result.1.now c.reserve.new.reader
     c.header.new.reader c.data.new.reader c.in_ok-first.first c.place-end.result c.kept_len-header_len.result
-    c.in_ok-sections.sections.items c.in_ok-sections.names.keys (c.reserve.ensures ∙ c.new-reader.ensures)
+    c.in_ok-sections.sections.items c.in_ok-sections.names (c.reserve.ensures ∙ c.new-reader.ensures)
     c.in_ok-first.ensures c.kept_len-header_len.ensures c.in_ok-sections.ensures c.place-end.ensures
     c.split_at.ensures.front c.split_at-2.ensures.back) in
     found
 
 pub returns-clause-all : goal.returns-clause-all
 returns-clause-all c = λ header_bytes file h.
-    let P : List Tree → Type 0 = λ l. ReadsAs c.args.text.now c.split_at-2.result.1.now (file_of c.kept_len-header_len.result l c.in_ok-sections.names.keys
+    let P : List Tree → Type 0 = λ l. ReadsAs c.args.text.now c.split_at-2.result.1.now (file_of c.kept_len-header_len.result l c.in_ok-sections.names
     c.in_ok-sections.sections.items) in
     let found = subst P (sym c.finish.ensures) (text_reads c.args.text.now c.split_at.result.0.now c.split_at-2.result.1.now c.reserve.new.reader
     c.header.new.reader c.data.new.reader c.in_ok-first.first c.place-end.result c.kept_len-header_len.result
-    c.in_ok-sections.sections.items c.in_ok-sections.names.keys (c.reserve.ensures ∙ c.new-reader.ensures)
+    c.in_ok-sections.sections.items c.in_ok-sections.names (c.reserve.ensures ∙ c.new-reader.ensures)
     c.in_ok-first.ensures c.kept_len-header_len.ensures c.in_ok-sections.ensures c.place-end.ensures
     c.split_at.ensures.front c.split_at-2.ensures.back) in
     found_all c.args.text.now c.split_at-2.result.1.now (file_of c.kept_len-header_len.result c.finish.result
-    c.in_ok-sections.names.keys c.in_ok-sections.sections.items) found header_bytes file h
+    c.in_ok-sections.names c.in_ok-sections.sections.items) found header_bytes file h

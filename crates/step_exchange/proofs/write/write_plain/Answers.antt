@@ -13,7 +13,7 @@ returns-clause-emits g c =
     let n = c.args.exchange.now.header_len in
     let forms = c.split-forms.ensures.back ∙ ap (drop n) c.trees.ensures in
     let sections = prints_as (λ i. plain_sections (sections_of 0 (c.deref.ensures.value i) (rows_with
-    (c.as_slice.ensures.keys i) (forms i)))) c.print_sections.ensures in
+    (c.as_slice.ensures i) (forms i)))) c.print_sections.ensures in
     emits_all c.new-printer.ensures (then_print (then_print (then_print c.print.ensures c.print-2.ensures) sections)
     c.print-3.ensures) c.finish.ensures
 

@@ -1,4 +1,4 @@
-use Rattle.type_graphs.proofs.Climbing.{places-are-one}
+use Rattle.type_graphs.proofs.Placed.{places-are-one}
 use Rattle.type_graphs.proofs.laws.places_are_one.Goals as goal
 
 pub returns : goal.returns

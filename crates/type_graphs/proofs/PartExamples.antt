@@ -1,0 +1,285 @@
+-- What isn't checked of small schemas.
+use Rattle.std.specs.Prelude.{◌≡◌, Bool, true, false, cond, List, [], ◌∷◌, Option, None, Some, bytes_eq, codes, ◌⊎◌}
+use Rattle.std.specs.Str.{is_utf8, chars}
+use Rattle.std.proofs.Common.{refl, inl, inr, ap, sym, subst, ◌∙◌}
+use Rattle.digraph.specs.Graphs.{Leads}
+use Rattle.express_trees.specs.declared.tree.Relation.TheVariants as relations
+use Rattle.express_trees.specs.Trees.{Tree, reference, comparison, literal, plain, text}
+use Rattle.express_trees.specs.Trees as trees
+use Rattle.express_schemas.specs.Runs.{ended}
+use Rattle.express_schemas.specs.Schemas.{Schema, Declaration, type, entity, TypeDeclaration, Entity, own, redeclared, Explicit, Derived, Inverse, alone, Unique, parsed, DataType, named, integer, real, string, width, Underlying, enumeration, data_type, of_other}
+use Rattle.type_graphs.specs.declared.unchecked.PartKind.{PartKind}
+use Rattle.type_graphs.specs.declared.unchecked.PartKind.TheVariants as parts
+use Rattle.type_graphs.specs.declared.unchecked.Reason.{Reason}
+use Rattle.type_graphs.specs.declared.unchecked.Reason.TheVariants as reasons
+use Rattle.type_graphs.specs.Names.{Name, Among, supertypes_of, IsFirst, IsOrLeads, IsEntityAt, IsSubtypeOf, IsKindOf, Renames, DeclaresExplicit, explicit_names, attribute_names}
+use Rattle.type_graphs.specs.Shapes.{Shape, of_numbers, of_strings, IsShapeAt, HasShape, AreOne, AreAlike, Sort, Atom, an_item}
+use Rattle.type_graphs.specs.Shapes as shapes
+use Rattle.type_graphs.specs.Attributes.{AreLines, IsOrigin, DeclaresAs, IsFirstType, HasFirstShape}
+use Rattle.type_graphs.specs.Sets.{Only, of_set, MayTake, itself, variable, attribute_of_self, item_of_type, item, Means, IsUnclearReference, May, OfReference}
+use Rattle.type_graphs.specs.Reasons.{IsTypeTest, MayBeDeep, MayBeUnordered}
+use Rattle.type_graphs.specs.Ranks.{Self, derived_name}
+use Rattle.type_graphs.specs.Parts.{Unchecked, AreUnchecked, all_reasons, HasOtherShape, NamesOther, UniqueHasReason}
+use Rattle.type_graphs.proofs.Lists.{first-step}
+use Rattle.type_graphs.proofs.Facts.{neither, never, named-in, is-declarer, one-declarer, declarers, clear, uses-none, clear-reference, uses-only, may-only, means-attribute, no-reason}
+use Rattle.type_graphs.proofs.Geo.{bare, having, rule, name_tree, number_tree, POINT, point, geo, FINISH, A, B}
+
+differ : true ≡ false → ⊥
+differ e = cc
+
+abbrev part : PartKind → Name → Reason → Unchecked
+part k n r = record { kind = k; name = n; reason = r }
+
+abbrev X : Name
+X = codes "X"
+
+abbrev Y : Name
+Y = codes "Y"
+
+abbrev schema : List Declaration → Schema
+schema ds = record { name = codes "S"; version = None; declarations = ds }
+
+-- numbers and strings have different shapes
+of-integer : (s : Schema) (f : Shape) → HasShape s integer f → f ≡ of_numbers
+of-integer s f (k, inl e, at) = subst (λ l. IsShapeAt s l f) (sym e) at
+of-integer s f (k, inr way, at) = absurd ((first-step (Renames s) integer k way).1)
+
+of-string : (s : Schema) (f : Shape) → HasShape s (string None) f → f ≡ of_strings
+of-string s f (k, inl e, at) = subst (λ l. IsShapeAt s l f) (sym e) at
+of-string s f (k, inr way, at) = absurd ((first-step (Renames s) (string None) k way).1)
+
+numbers-are-no-strings : (s : Schema) → AreAlike s integer (string None) → ⊥
+numbers-are-no-strings s (R, related, keeps) = by (keeps integer (string None) related)
+  where
+    by : (f g : Shape) × HasShape s integer f × HasShape s (string None) g × AreOne R f g → ⊥
+    by (f, g, h, k, one) =
+        subst (λ x. AreOne R of_numbers x) (of-string s g k) (subst (λ x. AreOne R x g) (of-integer s f h) one)
+
+-- TYPE t = REAL(5); END_TYPE;
+-- ENTITY a SUPERTYPE OF (..); x : INTEGER; DERIVE y : INTEGER := 3; UNIQUE u : y; END_ENTITY;
+-- ENTITY b SUBTYPE OF (a); SELF\a.x : STRING; INVERSE SELF\a.i : b FOR x; END_ENTITY;
+abbrev precise : Declaration
+precise = type (record { name = codes "T"; underlying = data_type (real (Some (width (codes "5")))); rules = None })
+
+abbrev three : Derived
+three = record { attribute = own Y; data_type = integer; body = parsed (number_tree (codes "3")) }
+
+abbrev above : Entity
+above =
+    record (bare A) {
+      supertype = of_other ended;
+      explicits = having X integer ∷ [];
+      derived = Some (three ∷ []);
+      uniques = Some (record { label = Some (codes "U"); attributes = own Y ∷ [] } ∷ []);
+    }
+
+abbrev again : Inverse
+again =
+    record {
+      attribute = redeclared A (codes "I");
+      collection = alone;
+      entity = B;
+      holder = None;
+      inverted = X;
+    }
+
+abbrev below : Entity
+below =
+    record (bare B) {
+      subtype_of = Some (A ∷ []);
+      explicits = record { attributes = redeclared A X ∷ []; optional = false; data_type = string None } ∷ [];
+      inverses = Some (again ∷ []);
+    }
+
+abbrev odd : Schema
+odd = schema (precise ∷ entity above ∷ entity below ∷ [])
+
+first-profile : (P : Type 0) → P → IsFirst (λ (q : Reason). (q ≡ reasons.Profile) × P) all_reasons reasons.Profile
+first-profile P p = inr ((λ h. unlike h.0), inl ((refl, p), refl))
+  where
+    unlike : reasons.Skipped ≡ reasons.Profile → ⊥
+    unlike e = cc
+
+-- y is derived
+names-derived : NamesOther odd A (own Y)
+names-derived = (A, Y, (refl, (inl refl, (above, refl, inr (inl refl)))), other)
+  where
+    other : DeclaresExplicit odd A Y → ⊥
+    other (e, at, m) = named-in odd explicit_names A Y e at m
+
+-- x is redeclared with another shape
+abbrev lines : Name → List Name
+lines n = cond (bytes_eq n A) (A ∷ []) (B ∷ A ∷ [])
+
+x-is-of-a : IsOrigin odd A X A
+x-is-of-a = ((above, refl), lines, (refl, (refl, tt)), inl ((above, refl, inl refl), refl))
+
+type-of-x : (k : DataType) → IsFirstType odd A X k → integer ≡ k
+type-of-x k (e, at, declares) = by (subst (λ y. DeclaresAs X k y) (sym (same at)) declares)
+  where
+    same : IsEntityAt odd A e → above ≡ e
+    same h = cc
+
+    by : DeclaresAs X k above → integer ≡ k
+    by (inl (inl h)) = h.1
+    by (inl (inr h)) = elim h [ ]
+    by (inr (inl (inl h))) = absurd (differ (ap (λ x. bytes_eq (derived_name x) Y) h.0))
+    by (inr (inl (inr h))) = elim h [ ]
+    by (inr (inr h)) = elim h [ ]
+
+other-shape : HasOtherShape odd (redeclared A X) (string None)
+other-shape = (A, X, (A, refl, x-is-of-a), unlike)
+  where
+    unlike : HasFirstShape odd A X (string None) → ⊥
+    unlike (first, is, alike) =
+        numbers-are-no-strings odd (subst (λ k. AreAlike odd k (string None)) (sym (type-of-x first is)) alike)
+
+odd-lists : AreUnchecked odd (part parts.Width (codes "T") reasons.Profile
+    ∷ part parts.Supertype (codes "A") reasons.Profile ∷ part parts.Unique (codes "A.U") reasons.Profile
+    ∷ part parts.Redeclared (codes "B.X") reasons.Profile ∷ part parts.Inverse (codes "B.I") reasons.Profile ∷ [])
+odd-lists =
+    inl (
+      reasons.Profile,
+      first-profile (Unit {0}) tt,
+      _,
+      refl,
+      inl (
+        reasons.Profile,
+        first-profile (Unit {0}) tt,
+        _,
+        refl,
+        inr (
+          no-reason odd (Self A) (number_tree (codes "3")) never never never never (λ u uses aside. uses),
+          inl (
+            reasons.Profile,
+            inr (never, inl (inl names-derived, refl)),
+            _,
+            refl,
+            inl (
+              reasons.Profile,
+              first-profile (HasOtherShape odd (redeclared A X) (string None)) other-shape,
+              _,
+              refl,
+              inl (reasons.Profile, first-profile (Unit {0}) tt, [], refl, refl),
+            ),
+          ),
+        ),
+      ),
+    )
+
+-- TYPE finish = ENUMERATION OF (rough, fine); END_TYPE;
+-- ENTITY a; f : finish; WHERE wr1 : f = rough; wr2 : rough < 1; END_ENTITY;
+-- ENTITY b SUBTYPE OF (a); rough : REAL; END_ENTITY;
+abbrev F : Name
+F = codes "F"
+
+abbrev ROUGH : Name
+ROUGH = codes "ROUGH"
+
+abbrev finish : TypeDeclaration
+finish = record { name = FINISH; underlying = enumeration (ROUGH ∷ codes "FINE" ∷ []); rules = None }
+
+abbrev is_rough : Tree
+is_rough = comparison (name_tree F) relations.Equal (name_tree ROUGH)
+
+abbrev below_one : Tree
+below_one = comparison (name_tree ROUGH) relations.Less (number_tree (codes "1"))
+
+abbrev finished : Entity
+finished =
+    record (bare A) {
+      explicits = having F (named FINISH) ∷ [];
+      rules = Some (rule (codes "WR1") is_rough ∷ rule (codes "WR2") below_one ∷ []);
+    }
+
+abbrev measured : Entity
+measured = record (bare B) { subtype_of = Some (A ∷ []); explicits = having ROUGH (real None) ∷ [] }
+
+abbrev finishes : Schema
+finishes = schema (type finish ∷ entity finished ∷ entity measured ∷ [])
+
+-- a is no b
+not-above : IsKindOf finishes A B → ⊥
+not-above (inl e) = differ (sym (ap (λ n. bytes_eq n B) e))
+not-above (inr way) = by (first-step (IsSubtypeOf finishes) A B way).1
+  where
+    same : (e : Entity) → IsEntityAt finishes A e → finished ≡ e
+    same e at = cc
+
+    by : {m : Name} → IsSubtypeOf finishes A m → ⊥
+    by {m} (e, at, h) = subst (λ x. Among m (supertypes_of x)) (sym (same e at)) h
+
+-- in a, `rough` is the item, though b has an attribute of this name
+means-item : Means finishes (Self A) [] (trees.named ROUGH) plain item
+means-item = inr (never, inr (never, inr (no-attribute, inr (never, inl ((FINISH, (FINISH, ROUGH ∷ codes "FINE" ∷ [], inl refl, (finish, refl, refl), inl refl)), refl)))))
+  where
+    instance_name : Atom → Name
+    instance_name (shapes.instance n) = n
+    instance_name (shapes.value x w) = []
+
+    no-attribute : ((p : Name) × MayTake finishes (of_set (Self A) ROUGH) p) → ⊥
+    no-attribute (p, (e, is, (kind, declares))) =
+        not-above (subst (λ n. IsKindOf finishes n B) (ap instance_name is)
+        (subst (λ n. IsKindOf finishes e n) (sym (one-declarer finishes B p ROUGH refl declares)) kind))
+
+takes-f : MayTake finishes (of_set (Self A) F) A
+takes-f = (A, refl, (inl refl, (finished, refl, inl refl)))
+
+clear-f : IsUnclearReference finishes (Self A) [] (trees.named F) plain → ⊥
+clear-f =
+    clear-reference finishes (Self A) [] (trees.named F) plain attribute_of_self
+    (means-attribute finishes (Self A) [] F A plain never takes-f)
+    (neither (clear finishes (of_set (Self A) F) A refl takes-f) never)
+
+clear-rough : IsUnclearReference finishes (Self A) [] (trees.named ROUGH) plain → ⊥
+clear-rough = clear-reference finishes (Self A) [] (trees.named ROUGH) plain item means-item never
+
+not-deep : MayBeDeep (OfReference finishes (Self A) [] (trees.named ROUGH) plain) → ⊥
+not-deep (inl (e, h)) = unlike (may-only finishes (Self A) [] (trees.named ROUGH) plain item means-item (shapes.instance e) h)
+  where
+    unlike : shapes.instance e ≡ shapes.value an_item false → ⊥
+    unlike q = cc
+not-deep (inr (k, w, h)) =
+    unlike (may-only finishes (Self A) [] (trees.named ROUGH) plain item means-item
+    (shapes.value (shapes.an_aggregate k) w) h)
+  where
+    unlike : shapes.value (shapes.an_aggregate k) w ≡ shapes.value an_item false → ⊥
+    unlike q = cc
+
+finishes-list : AreUnchecked finishes (part parts.Where (codes "A.WR2") reasons.Kind ∷ [])
+finishes-list =
+    inr (
+      no-reason finishes (Self A) is_rough
+          (neither never (neither (neither never never) (neither never never)))
+          (neither never (neither (neither clear-f never) (neither clear-rough never)))
+          (neither never (neither (neither never never) (neither never never)))
+          (neither (λ h. not-deep h.1) (neither (neither never never) (neither never never)))
+          (λ u uses aside. neither never (neither (neither (λ h. neither (uses-none finishes u (of_set (Self A) F) refl) never
+          (uses-only finishes (Self A) [] (trees.named F) plain attribute_of_self
+          (means-attribute finishes (Self A) [] F A plain never takes-f) u h)) never)
+          (neither (λ h. uses-only finishes (Self A) [] (trees.named ROUGH) plain item means-item u h) never)) uses),
+      inl (
+        reasons.Kind,
+        inr (
+          never,
+          inr (
+            neither never (neither (neither never never) never),
+            inr (
+              neither never (neither (neither clear-rough never) never),
+              inr (
+                neither never (neither (neither never never) never),
+                inl (inl (inl (an_item, false, tt, (item, means-item, refl))), refl),
+              ),
+            ),
+          ),
+        ),
+        [],
+        refl,
+        refl,
+      ),
+    )
+
+-- 'GEO.POINT' IN TYPEOF(SELF) has an answer
+is-point-test : IsTypeTest geo (Self POINT) [] (literal (text (codes "'GEO.POINT'"))) (reference trees.own plain)
+unfolding is_utf8 chars
+is-point-test = (POINT, (codes "GEO.POINT", refl, refl), inl (point, refl))
