@@ -44,7 +44,8 @@ module _ (P : List Row) (pinned kept : ℕ → Bool) (E : ℕ → ℕ → Bool) 
       subst (λ a. ValueEqual (quotient P E) kept a (head z)) (sym from_x.first)
       (subst (λ b. ValueEqual (quotient P E) kept x b) (sym from_z.first) found) in
       let together : E x z ≡ true =
-      (equal x z).1 ((images_carry_value_equality P (quotient P E) pinned kept head population bags (quotient_image P pinned E by) anew
+      (equal x z).1 ((images_carry_value_equality P (quotient P E) pinned kept head population bags
+      (quotient_image P pinned E by) anew
       x z).1 ((from_x.row, from_x.row_is), (from_z.row, from_z.row_is), firsts)) in
       sym from_x.first ∙ same_head P pinned E by x z together ∙ from_z.first
 

@@ -97,7 +97,14 @@ first_of_refined = (
     (λ k. refl, (λ k. refl, (λ k. absurd (let e = one_type k in cc), (λ k. absurd (let e = one_type k in cc), tt)))),
     (
       (λ k. absurd (let e = one_type k in cc), (λ k. absurd (let e = one_type k in cc), (λ k. refl, (λ k. refl, tt)))),
-      ((λ k. absurd (let e = one_type k in cc), (λ k. absurd (let e = one_type k in cc), (λ k. refl, (λ k. refl, tt)))), tt),
+      (
+        (
+          λ k. absurd (let e = one_type k in
+              cc),
+          (λ k. absurd (let e = one_type k in cc), (λ k. refl, (λ k. refl, tt))),
+        ),
+        tt,
+      ),
     ),
   ),
 )
@@ -206,7 +213,14 @@ coarse_is_valid = valid_by twice coarse refl (
     (λ k. refl, (λ k. refl, (λ k. absurd (let e = one_type k in cc), (λ k. absurd (let e = one_type k in cc), tt)))),
     (
       (λ k. absurd (let e = one_type k in cc), (λ k. absurd (let e = one_type k in cc), (λ k. refl, (λ k. refl, tt)))),
-      ((λ k. absurd (let e = one_type k in cc), (λ k. absurd (let e = one_type k in cc), (λ k. refl, (λ k. refl, tt)))), tt),
+      (
+        (
+          λ k. absurd (let e = one_type k in
+              cc),
+          (λ k. absurd (let e = one_type k in cc), (λ k. refl, (λ k. refl, tt))),
+        ),
+        tt,
+      ),
     ),
   ),
 ) (λ round l. absurd (omega arith)) (

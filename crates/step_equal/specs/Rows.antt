@@ -1,4 +1,5 @@
--- Populations: what the data sections of a file say, whatever the order of its instances and the spelling of its literals.
+-- Populations: what the data sections of a file say, whatever the order of its instances and the spelling of its
+-- literals.
 use Rattle.std.specs.Prelude.{◌≡◌, ◌<◌, ℕ, ◌==◌, Bool, true, cond, List, [], ◌∷◌, length, map, Option, Some, None}
 use Rattle.std.specs.List.{IsDistinct}
 use Rattle.step_values.specs.Values.{Values, AgreeEach}

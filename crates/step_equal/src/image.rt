@@ -29,9 +29,9 @@ use step_values::labels::{Itself, Map, lead};
 
 /// Whether the map is an image of the first population on the second.
 ///
-/// It is one where it leads each name of the first, and no other, so that sections, types, values and references are
-/// kept, each name of the second is reached, and nothing else is led to where a pinned instance is. `AllocError`
-/// comes where memory runs out. Names are hashed by these keys.
+/// It is one where it leads each name of the first, and no other, so that sections, types, values
+/// and references are kept, each name of the second is reached, and nothing else is led to where a
+/// pinned instance is. `AllocError` comes where memory runs out. Names are hashed by these keys.
 pub fn is_image<'p, 'q>(
     alloc: Global,
     keys: RandomState,

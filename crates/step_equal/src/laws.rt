@@ -43,8 +43,8 @@ pub fn no_image_has_fewer()
     ensures { NoImageHasFewer }
 {}
 
-/// An image carries value equality over, both ways, where each reference in a bag names a pinned instance and the image
-/// of a name is pinned exactly where the name is.
+/// An image carries value equality over, both ways, where each reference in a bag names a pinned
+/// instance and the image of a name is pinned exactly where the name is.
 pub fn images_carry_value_equality()
     ensures { ImagesCarryValueEquality }
 {}
@@ -59,7 +59,8 @@ pub fn quotients_are_images()
     ensures { QuotientsAreImages }
 {}
 
-/// Value equality on the quotient by value equality is the identity, also under pins that are found anew.
+/// Value equality on the quotient by value equality is the identity, also under pins that are found
+/// anew.
 pub fn quotients_are_reduced()
     ensures { QuotientsAreReduced }
 {}
@@ -94,8 +95,8 @@ pub fn value_equality_exists()
     ensures { ValueEqualityExists }
 {}
 
-/// A valid table, and an output that is the quotient by its last partition, prove that output a least image,
-/// whoever made both.
+/// A valid table, and an output that is the quotient by its last partition, prove that output a
+/// least image, whoever made both.
 pub fn certificates_prove()
     ensures { CertificatesProve }
 {}

@@ -34,11 +34,12 @@ use std::hash::RandomState;
 use std::marker::Model;
 use step_values::value::PlainValue;
 
-/// As many rows as a population has at most, so that the classes of its instances have numbers of 32 bits.
+/// As many rows as a population has at most, so that the classes of its instances have numbers of
+/// 32 bits.
 const MOST_ROWS: usize = 4_294_967_295;
 
-/// The names of rows, in order. They are hashed by keys that the author of a text doesn't know, so that nobody can
-/// choose names that are slow to find.
+/// The names of rows, in order. They are hashed by keys that the author of a text doesn't know, so
+/// that nobody can choose names that are slow to find.
 type Names = IndexSet<u64, RandomState>;
 
 /// A population: at most 2^32 - 1 rows, no name stands twice, and each reference names a row.
@@ -61,8 +62,9 @@ impl<'a> Model for Plain<'a> {
 impl<'a> Plain<'a> {
     /// The population of these rows, in order, with the type words of each in order and none twice.
     ///
-    /// Where there are more than 2^32 - 1 rows the fault is `TooManyRows`, else where a name stands twice
-    /// `DuplicateRow`, else where a reference names no row `UnknownReference`; where memory runs out it is `Memory`.
+    /// Where there are more than 2^32 - 1 rows the fault is `TooManyRows`, else where a name stands
+    /// twice `DuplicateRow`, else where a reference names no row `UnknownReference`; where memory
+    /// runs out it is `Memory`.
     ///
     /// Names are hashed by these keys.
     pub fn from_rows(

@@ -13,7 +13,8 @@ use step_values::literals::same_word;
 use step_values::slot::Slots;
 use step_values::value::PlainValue;
 
-/// A row: an instance's name, the data section that it stands in, its types, and a value for each of its attributes.
+/// A row: an instance's name, the data section that it stands in, its types, and a value for each
+/// of its attributes.
 #[derive(Drop)]
 pub struct PlainRow<'a> {
     pub name: u64,
@@ -47,7 +48,8 @@ impl<'p, 'a> RowSlot<'p, 'a> {
     }
 }
 
-/// Whether two rows are of one kind: they stand in one section, and their type words are equal one by one.
+/// Whether two rows are of one kind: they stand in one section, and their type words are equal one
+/// by one.
 pub fn is_one_kind<'p, 'a, 'q, 'b>(row: &RowSlot<'p, 'a>, other: &RowSlot<'q, 'b>) -> bool
     ensures kinds { IsTrue result ↔ (kind_of (row_seen row.now) ≡ kind_of (row_seen other.now)) }
     ensures test { result ≡ kind_test (kind_of (row_seen row.now)) (kind_of (row_seen other.now)) }

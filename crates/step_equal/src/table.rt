@@ -28,8 +28,9 @@ pub struct Table {
 impl Table {
     /// The class of a name at a round.
     ///
-    /// It is None where the name is no member, or where the chain of parents leaves the list of classes or
-    /// doesn't fall before that class is found. A chain that is broken above it is no matter.
+    /// It is None where the name is no member, or where the chain of parents leaves the list of
+    /// classes or doesn't fall before that class is found. A chain that is broken above it is no
+    /// matter.
     pub fn class_at(&self, name: u64, round: u32) -> Option<u32>
         ensures { result ≡ tables.class_at (table_of self.now) name round }
     {
