@@ -32,7 +32,8 @@ has-added xs (y ∷ ys) b =
     case false e = has-more xs y b
 
 -- once each
-apart-more : (xs : List ℕ) (x y : ℕ) → AllByRecursion (λ (z : ℕ). eqb x z ≡ false) xs → eqb x y ≡ false → AllByRecursion (λ (z : ℕ). eqb x z ≡ false) (xs ++ y ∷ [])
+apart-more : (xs : List ℕ) (x y : ℕ) → AllByRecursion (λ (z : ℕ). eqb x z ≡ false) xs → eqb x y ≡ false
+    → AllByRecursion (λ (z : ℕ). eqb x z ≡ false) (xs ++ y ∷ [])
 apart-more [] x y h e = (e, tt)
 apart-more (z ∷ zs) x y h e = (h.0, apart-more zs x y h.1 e)
 
@@ -42,7 +43,8 @@ lacks-head x y r h = (grind (arith, nat_tests), grind (arith, nat_tests))
 pub once-more : (xs : List ℕ) (y : ℕ) → IsDistinct eqb xs → has xs y ≡ false → IsDistinct eqb (xs ++ y ∷ [])
 unfolding IsDistinct
 once-more [] y h e = (tt, tt)
-once-more (x ∷ xs) y h e = let both = lacks-head x y (has xs y) e in (apart-more xs x y h.0 both.0, once-more xs y h.1 both.1)
+once-more (x ∷ xs) y h e = let both = lacks-head x y (has xs y) e in
+    (apart-more xs x y h.0 both.0, once-more xs y h.1 both.1)
 
 pub once-added : (xs ys : List ℕ) → IsDistinct eqb xs → IsDistinct eqb (added xs ys)
 once-added xs [] h = h
@@ -69,13 +71,15 @@ kept false xs y k d h = before-more xs y k d h
 
 pub added-kept : (xs ys : List ℕ) (k d : ℕ) → k < length xs → get_or (added xs ys) k d ≡ get_or xs k d
 added-kept xs [] k d h = refl
-added-kept xs (y ∷ ys) k d h = let longer = grows (has xs y) xs y in added-kept (cond (has xs y) xs (xs ++ y ∷ [])) ys k d (omega arith) ∙ kept (has xs y) xs y k d h
+added-kept xs (y ∷ ys) k d h = let longer = grows (has xs y) xs y in
+    added-kept (cond (has xs y) xs (xs ++ y ∷ [])) ys k d (omega arith) ∙ kept (has xs y) xs y k d h
 
 pub member-at : (xs : List ℕ) (b : ℕ) → has xs b ≡ true → (k : ℕ) × (k < length xs) × (get_or xs k 0 ≡ b)
 member-at [] b h = absurd (cc)
 member-at (x ∷ xs) b h = case (eqb b x) refl (member-at xs b)
   where
-    case : (c : Bool) → eqb b x ≡ c → (has xs b ≡ true → (k : ℕ) × (k < length xs) × (get_or xs k 0 ≡ b)) → (k : ℕ) × (k < length (x ∷ xs)) × (get_or (x ∷ xs) k 0 ≡ b)
+    case : (c : Bool) → eqb b x ≡ c → (has xs b ≡ true → (k : ℕ) × (k < length xs) × (get_or xs k 0 ≡ b)) → (k : ℕ)
+        × (k < length (x ∷ xs)) × (get_or (x ∷ xs) k 0 ≡ b)
     case true e later = (0, omega arith, grind (arith, nat_tests))
     case false e later = let more = later (rw e at h) in (suc more.0, (let lt = more.1 in omega (arith, lt)), more.2)
 

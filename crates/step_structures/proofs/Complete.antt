@@ -41,7 +41,8 @@ each_rule Q false v k h = h
 level_up : (n a : ℕ) → nat_lt n a ≡ true → n + 1 ≤ a
 level_up n a e = grind arith
 
-small_value : (rules : Rules) (n : ℕ) (s : Lookahead) → n ≤ rules.levels → EachBy (AllAre (Small rules)) (next_value rules n s)
+small_value : (rules : Rules) (n : ℕ) (s : Lookahead) → n ≤ rules.levels
+    → EachBy (AllAre (Small rules)) (next_value rules n s)
 small_value rules n (token (mark Dollar)) h = tt
 small_value rules n (token (mark Asterisk)) h = tt
 small_value rules n (token (name m text)) h = tt
@@ -49,17 +50,21 @@ small_value rules n (token (number text)) h = tt
 small_value rules n (token (element text)) h = tt
 small_value rules n (token (string text)) h = tt
 small_value rules n (token (binary text)) h = tt
-small_value rules n (token (keyword text)) h = each_test (AllAre (Small rules)) (nat_lt n rules.levels) (Just Open ∷ Value (n + 1)
+small_value rules n (token (keyword text)) h =
+    each_test (AllAre (Small rules)) (nat_lt n rules.levels) (Just Open ∷ Value (n + 1)
     ∷ Just Close ∷ []) kinds.TooDeep (λ e. (tt, (level_up n rules.levels e, (tt, tt))))
-small_value rules n (token (mark Open)) h = each_test (AllAre (Small rules)) (nat_lt n rules.levels) (Items (n + 1) ∷ []) kinds.TooDeep
+small_value rules n (token (mark Open)) h =
+    each_test (AllAre (Small rules)) (nat_lt n rules.levels) (Items (n + 1) ∷ []) kinds.TooDeep
     (λ e. (level_up n rules.levels e, tt))
 small_value rules n s h = tt
 
-small_then : (rules : Rules) (n : ℕ) (v : Next) → n ≤ rules.levels → EachBy (AllAre (Small rules)) v → EachBy (AllAre (Small rules)) (then_more n v)
+small_then : (rules : Rules) (n : ℕ) (v : Next) → n ≤ rules.levels → EachBy (AllAre (Small rules)) v
+    → EachBy (AllAre (Small rules)) (then_more n v)
 small_then rules n (Ok zs) h k = all_append (Small rules) zs (More n ∷ []) k (h, tt)
 small_then rules n (Err e) h k = tt
 
-small_items : (rules : Rules) (n : ℕ) (s : Lookahead) → n ≤ rules.levels → EachBy (AllAre (Small rules)) (next_items rules n s)
+small_items : (rules : Rules) (n : ℕ) (s : Lookahead) → n ≤ rules.levels
+    → EachBy (AllAre (Small rules)) (next_items rules n s)
 small_items rules n (token (mark Close)) h = tt
 small_items rules n s h = small_then rules n (next_value rules n s) h (small_value rules n s h)
 
@@ -71,13 +76,16 @@ small_next : (rules : Rules) → 1 < rules.levels → (y : Symbol) (s : Lookahea
 small_next rules l (Just m) s h = each_test (AllAre (Small rules)) (is_mark m s) [] (refused s) (λ e. tt)
 small_next rules l Start (token begins) h = tt
 small_next rules l Start s h = tt
-small_next rules l (Say word) (token (keyword text)) h = each_test (AllAre (Small rules)) (is_said word text) [] kinds.Expected
+small_next rules l (Say word) (token (keyword text)) h =
+    each_test (AllAre (Small rules)) (is_said word text) [] kinds.Expected
     (λ e. tt)
 small_next rules l (Say word) s h = tt
-small_next rules l (Head word) (token (keyword text)) h = each_rule (AllAre (Small rules)) (rules.headed && not (is_said word text))
+small_next rules l (Head word) (token (keyword text)) h =
+    each_rule (AllAre (Small rules)) (rules.headed && not (is_said word text))
     (Ok (Just Open ∷ Items 1 ∷ [])) kinds.HeaderFault (tt, (omega arith, tt))
 small_next rules l (Head word) s h = tt
-small_next rules l Records (token (keyword text)) h = each_if (AllAre (Small rules)) (is_said (codes "ENDSEC") text) (Ended ∷ [])
+small_next rules l Records (token (keyword text)) h =
+    each_if (AllAre (Small rules)) (is_said (codes "ENDSEC") text) (Ended ∷ [])
     (Just Open ∷ Items 1 ∷ Just Semicolon ∷ Records ∷ []) (tt, tt) (tt, (omega arith, (tt, (tt, tt))))
 small_next rules l Records s h = tt
 small_next rules l Ended (token (mark Semicolon)) h = tt
@@ -112,7 +120,8 @@ small_next rules l EndOfText s h = absurd h
 
 pub small_after : (rules : Rules) → 1 < rules.levels → (y : Symbol) (s : Lookahead) (zs : List Symbol) → Small rules y
     → next rules y s ≡ Ok zs → AllAre (Small rules) zs
-small_after rules l y s zs h e = let P : Next → Type 0 = λ v. EachBy (AllAre (Small rules)) v in subst P e (small_next rules l y s h)
+small_after rules l y s zs h e = let P : Next → Type 0 = λ v. EachBy (AllAre (Small rules)) v in
+    subst P e (small_next rules l y s h)
 
 -- a section has begun
 abbrev pub Begun : Symbol → Type 0
@@ -243,7 +252,8 @@ first_data : (rules : Rules) (names : List ℕ) → 0 < rules.sections
     → next rules (Sections 0 names) (token (keyword (codes "DATA"))) ≡ Ok (Behind ∷ Rows 1 names ∷ [])
 first_data rules names m = let e : nat_lt 0 rules.sections ≡ true = grind (arith, m) in rw e refl
 
-completed_sections : (rules : Rules) → 0 < rules.sections → (k : ℕ) (names : List ℕ) → Completed rules (Sections k names)
+completed_sections : (rules : Rules) → 0 < rules.sections → (k : ℕ) (names : List ℕ)
+    → Completed rules (Sections k names)
 completed_sections rules m zero names =
     let c = ended_rows rules 1 names (ended_file rules 0 names) in (
       token (keyword (codes "DATA")) ∷ token (mark Semicolon) ∷ c.0,

@@ -129,7 +129,8 @@ whole_reads : (text : List ℕ) (x : File) (s : List LocatedToken) (new : Readin
 whole_reads text x s new shown f met holds =
     let rest = items_of_sections x.sections ++ items_of_end in
     let m = meet_split (lookaheads s) (items_of_header x.header) rest (meet_as (lookaheads s) (items_of_file x)
-    (items_of_header x.header ++ rest) (append_assoc (items_of_header x.header) (items_of_sections x.sections) items_of_end)
+    (items_of_header x.header ++ rest)
+    (append_assoc (items_of_header x.header) (items_of_sections x.sections) items_of_end)
     met) in
     let c = cut_at s m.0 m.1 m.2 in
     let P : List LocatedToken → Type 0 = λ l. ShowsAll (start text) l new in

@@ -196,13 +196,15 @@ module _ (before : List LocatedToken) (at : LocatedToken) (top : Symbol) (others
   s = at.lookahead
 
   pub reason : (k : FaultKind) → table top s ≡ Err k → Why top s k
-  reason k e = why top s k (reaches_keeps table (Little the_rules) (complete the_rules (omega arith) (omega arith)) before
+  reason k e = why top s k
+      (reaches_keeps table (Little the_rules) (complete the_rules (omega arith) (omega arith)) before
       file_symbols (top ∷ others) (starts the_rules) reached).0 e
 
   -- with it they are a front where looser rules let it stand ..
   pub can : (w : Rules) → IsLooser the_rules w → Can w top s → languages.IsViablePrefix (IsFile w) (ws ++ s ∷ [])
   can w l c = subst (languages.IsViablePrefix (IsFile w)) (one_more before at) ((goes_on_wider table (next w)
-      (wider the_rules w l) (Little w) file_symbols (IsFile w) (exact w (omega (arith, l.levels)) (omega (arith, l.sections))) before at top others
+      (wider the_rules w l) (Little w) file_symbols (IsFile w)
+      (exact w (omega (arith, l.levels)) (omega (arith, l.sections))) before at top others
       reached).0 c)
 
   -- .. and only there

@@ -49,7 +49,8 @@ first_fault text s new kind place shown e holds =
     let k = (same_stop (run table file_symbols s) t.2 kind place place t.5 e).0 in
     let cannot : table t.0 f.at.lookahead ≡ Err kind = t.4 ∙ ap (λ j. Err j) k in
     let a = texts.fault_shown Shows (IsFile the_rules) (start text) new s place shown f in
-    let viable = front_of the_rules (lookaheads f.before) f.viable (held_before f.before (f.at ∷ f.after) s f.text holds)
+    let viable = front_of the_rules (lookaheads f.before) f.viable
+    (held_before f.before (f.at ∷ f.after) s f.text holds)
     in
     record {
       before = f.before;
@@ -117,7 +118,8 @@ schema_fault text p q r earlier inner key at here new fits header read h k shown
       refused = λ v. unnamed (v.schema p q r through [] (sym (append-nil through)) fits header whole);
       kind_is = front_of unheaded (ws ++ at.lookahead ∷ []) (subst (languages.IsViablePrefix (IsFile unheaded))
           (one_more before at) (table_faults.front_from (next unheaded) (Little unheaded) file_symbols
-          (IsFile unheaded) (exact unheaded (omega arith) (omega arith)) (before ++ at ∷ []) (Records ∷ data_symbols) loose)) tt;
+          (IsFile unheaded) (exact unheaded (omega arith) (omega arith)) (before ++ at ∷ []) (Records ∷ data_symbols)
+          loose)) tt;
       place_is = place_of_schema refl semi earlier inner key p q refl (fits.0, (fits.1.0, tt)) h refl;
     }
 

@@ -127,7 +127,8 @@ module _ (text header_bytes b : List ℕ) (header : List Record) (first : ℕ) (
 
 first_again : (text header_bytes b : List ℕ) (header : List Record) (first : ℕ) (headed next : Reading)
     (x : LocatedToken) (s : List LocatedToken) → Reaches (start text) first → Shows (start text) x next
-    → Meets x.lookahead (this begins) → ShowsAll next s headed → MeetAll (lookaheads s) (inner_items header ++ semicolon)
+    → Meets x.lookahead (this begins) → ShowsAll next s headed
+    → MeetAll (lookaheads s) (inner_items header ++ semicolon)
     → header_bytes ≡ take (headed.place - first) (drop first text) → Again header_bytes header b
 first_again text header_bytes b header first headed next x s reach (shows_token t h e) m more rest is =
     again_at text header_bytes b header first headed next reach t h (kept (inner_items header) s next headed more rest)
@@ -139,7 +140,8 @@ first_again text header_bytes b header first headed next x s reach (shows_end h 
 
 split_again : (text header_bytes b : List ℕ) (header : List Record) (first : ℕ) (headed : Reading)
     (s : List LocatedToken) → Reaches (start text) first → ShowsAll (start text) s headed
-    → MeetAll (lookaheads s) (this begins ∷ (inner_items header ++ semicolon)) → header_bytes ≡ take (headed.place - first)
+    → MeetAll (lookaheads s) (this begins ∷ (inner_items header ++ semicolon))
+    → header_bytes ≡ take (headed.place - first)
     (drop first text) → Again header_bytes header b
 split_again text header_bytes b header first headed [] reach shown begun is = absurd begun
 split_again text header_bytes b header first headed (x ∷ s) reach shown begun is = first_again text header_bytes b

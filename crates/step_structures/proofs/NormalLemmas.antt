@@ -39,9 +39,11 @@ record_items : (p : Record) → items_of_record (normal_record p) ≡ normals (i
 record_items p = ap (λ l. this (keyword (upper p.keyword)) ∷ this (mark Open) ∷ l)
     (both_normal (items_of_trees p.values) (this (mark Close) ∷ []) _ _ (trees_items p.values) refl)
 
-partial_records_items : (ps : List Record) → items_of_partial_records (map normal_record ps) ≡ normals (items_of_partial_records ps)
+partial_records_items : (ps : List Record)
+    → items_of_partial_records (map normal_record ps) ≡ normals (items_of_partial_records ps)
 partial_records_items [] = refl
-partial_records_items (p ∷ ps) = both_normal (items_of_record p) (items_of_partial_records ps) _ _ (record_items p) (partial_records_items ps)
+partial_records_items (p ∷ ps) =
+    both_normal (items_of_record p) (items_of_partial_records ps) _ _ (record_items p) (partial_records_items ps)
 
 form_items : (f : Form) → items_of_form (normal_form f) ≡ normals (items_of_form f)
 form_items (internal p) = record_items p

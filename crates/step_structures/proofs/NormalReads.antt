@@ -24,8 +24,10 @@ plain_is header_bytes sections = simp append_assoc
 pub normal_reads_again : NormalReadsAgain
 normal_reads_again text header_bytes x h =
     let f = header_again text header_bytes x (behind x.sections) h in
-    let spelt = all_spelt (items_of_sections x.sections ++ items_of_end) h.sections.0 h.headed h.end h.sections.1 h.sections.2 in
-    let r = written_reads (items_of_sections x.sections ++ items_of_end) (header_bytes ++ behind x.sections) (behind x.sections)
+    let spelt = all_spelt (items_of_sections x.sections ++ items_of_end) h.sections.0 h.headed h.end h.sections.1
+    h.sections.2 in
+    let r = written_reads (items_of_sections x.sections ++ items_of_end) (header_bytes ++ behind x.sections)
+    (behind x.sections)
     (length header_bytes) f.within f.behind spelt (sections_written x.sections) in
     let again : ReadsAs (header_bytes ++ behind x.sections) header_bytes (record {
       header = x.header;

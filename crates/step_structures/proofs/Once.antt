@@ -28,8 +28,10 @@ reads_once text header_bytes other x y h k =
     k.header.0 h.header.1 k.header.1 (pass_header the_rules x.header h.fits.0 (lookaheads h.header.0) h.header.2)
     (pass_header the_rules y.header k.fits.0 (lookaheads k.header.0) k.header.2) in
     let P : Reading → Type 0 = λ a. ShowsAll a k.sections.0 k.end in
-    let sections = texts.passes_once Shows shown_once table data_symbols h.headed h.end k.end h.sections.0 k.sections.0 h.sections.1
-    (subst P (sym header.1) k.sections.1) (pass_rest the_rules x.sections h.fits.1 (lookaheads h.sections.0) h.sections.2)
+    let sections = texts.passes_once Shows shown_once table data_symbols h.headed h.end k.end h.sections.0 k.sections.0
+    h.sections.1
+    (subst P (sym header.1) k.sections.1)
+    (pass_rest the_rules x.sections h.fits.1 (lookaheads h.sections.0) h.sections.2)
     (pass_rest the_rules y.sections k.fits.1 (lookaheads k.sections.0) k.sections.2) in
     let H : List LocatedToken → Type 0 = λ s. MeetAll (lookaheads s) (items_of_header y.header) in
     let D : List LocatedToken → Type 0 = λ s. MeetAll (lookaheads s) (items_of_sections y.sections ++ items_of_end) in
@@ -53,7 +55,8 @@ reads_no_fault text header_bytes x kind place h f =
     (sym (append_assoc (items_of_header x.header) (items_of_sections x.sections) items_of_end)) (located_join h.header.0
     h.sections.0 (items_of_header x.header) (items_of_sections x.sections ++ items_of_end) h.header.2 h.sections.2) in
     let t = texts.whole_through Shows shown_once (IsFile the_rules) (table_faults.whole_ends table (Little the_rules)
-    file_symbols (IsFile the_rules) (exact the_rules (omega arith) (omega arith))) (start text) h.end f.next s f.before f.at shown
+    file_symbols (IsFile the_rules) (exact the_rules (omega arith) (omega arith))) (start text) h.end f.next s f.before
+    f.at shown
     (x, h.fits, met) (shown_up_to text kind place f) (of_front the_rules (lookaheads f.before) f.viable)
     (λ m. f.unended m.0 m.1 m.2) in
     let through = f.before ++ f.at ∷ [] in

@@ -165,7 +165,8 @@ as_first rules n s ws c h =
           (leads_more (next rules) ws (us ++ []) [] (More n ∷ []) h.2),
     )
 
-first_passes : (rules : Rules) (x : Tree) (n : ℕ) → FitsTree rules n x → Passing rules (Value n ∷ []) (items_of_tree x) []
+first_passes : (rules : Rules) (x : Tree) (n : ℕ) → FitsTree rules n x
+    → Passing rules (Value n ∷ []) (items_of_tree x) []
     → Passing rules (Items n ∷ []) (items_of_tree x) (More n ∷ [])
 first_passes rules x n f go ws h =
     let e = append-nil (items_of_tree x) in
@@ -196,7 +197,8 @@ mutual
       let tail = items_of_more xs ++ this (mark Close) ∷ [] in
       pass_as rules (Items n ∷ []) [] (items_of_tree x ++ tail) (items_of_list (one x xs))
       (sym (append_assoc (items_of_tree x) (items_of_more xs) (this (mark Close) ∷ [])))
-      (pass_join rules (Items n ∷ []) (More n ∷ []) [] (items_of_tree x) tail (first_passes rules x n f.0 (pass_tree rules x n f.0))
+      (pass_join rules (Items n ∷ []) (More n ∷ []) [] (items_of_tree x) tail
+      (first_passes rules x n f.0 (pass_tree rules x n f.0))
       (pass_further rules xs n f.1))
 
   pub pass_further : (rules : Rules) (xs : Trees) (n : ℕ) → FitsTrees rules n xs → Passing rules (More n ∷ [])
@@ -382,7 +384,8 @@ pass_head rules word p d f = pass_this rules (Head word) record_symbols [] [] (k
 pass_head_line : (rules : Rules) (word : List ℕ) (p : Record) (b : List Symbol) (items : List Item)
     → Where rules.headed (is_said word p.keyword ≡ true) → FitsRecord rules 0 p → Passing rules b items []
     → Passing rules (Head word ∷ Just Semicolon ∷ b) (items_of_record p ++ this (mark Semicolon) ∷ items) []
-pass_head_line rules word p b items d f go = pass_then rules (Head word ∷ []) (Just Semicolon ∷ b) [] (items_of_record p)
+pass_head_line rules word p b items d f go =
+    pass_then rules (Head word ∷ []) (Just Semicolon ∷ b) [] (items_of_record p)
     (this (mark Semicolon) ∷ items) (pass_head rules word p d f) (take_mark rules Semicolon b [] items go)
 
 -- up to the first record of the header

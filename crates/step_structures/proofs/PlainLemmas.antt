@@ -86,10 +86,12 @@ record_written p is t h =
     (simp append_assoc)
     (word_written (keyword p.keyword) _ _ (closed 40 _ refl) (list_from p.values (trees_written p.values) is t h))
 
-partial_records_written : (ps : List Record) (is : List Item) (t : List ℕ) → Text is t → Text (items_of_partial_records ps ++ is)
+partial_records_written : (ps : List Record) (is : List Item) (t : List ℕ) → Text is t
+    → Text (items_of_partial_records ps ++ is)
     (plain_partial_records ps ++ t)
 partial_records_written [] is t h = h
-partial_records_written (p ∷ ps) is t h = same _ (items_of_record p ++ (items_of_partial_records ps ++ is)) _ (plain_record p
+partial_records_written (p ∷ ps) is t h =
+    same _ (items_of_record p ++ (items_of_partial_records ps ++ is)) _ (plain_record p
     ++ (plain_partial_records ps ++ t)) (simp append_assoc) (simp append_assoc)
     (record_written p _ _ (partial_records_written ps is t h))
 

@@ -129,15 +129,18 @@ ended_data ws k names h =
         finish)) h)
 
 -- a section or the end of the file is to come behind the header or sections ..
-pub between_ends : (ws : List Lookahead) (top : Symbol) (others : List Symbol) → Leads table file_symbols ws (top ∷ others)
+pub between_ends : (ws : List Lookahead) (top : Symbol) (others : List Symbol)
+    → Leads table file_symbols ws (top ∷ others)
     → IsBehindSections top → EndsHeader ws ⊎ EndsData ws
 between_ends ws top others h (zero, names, e) = inl (ended_header ws names (only ws (Sections 0 names) top others h e
     (λ k. k)))
-between_ends ws top others h (suc k, names, e) = inr (ended_data ws k names (only ws (Sections (suc k) names) top others h
+between_ends ws top others h (suc k, names, e) =
+    inr (ended_data ws k names (only ws (Sections (suc k) names) top others h
     e (λ n. n)))
 
 -- .. and nothing behind a whole file
-pub ended_file : (ws : List Lookahead) (top : Symbol) (others : List Symbol) → Leads table file_symbols ws (top ∷ others)
+pub ended_file : (ws : List Lookahead) (top : Symbol) (others : List Symbol)
+    → Leads table file_symbols ws (top ∷ others)
     → top ≡ EndOfText → EndsFile ws
 ended_file ws top others h e =
     let over = only ws EndOfText top others h e (λ n. n) in

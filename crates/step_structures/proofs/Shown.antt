@@ -40,7 +40,8 @@ shown_once old a b s t h k = by h k
   where
     by : Shows old s a → Shows old t b → (s ≡ t) × (a ≡ b)
     by (shows_token x h e) (shows_token y k f) =
-        let d = determined old a b (Ok (Some x)) (Ok (Some y)) h k in (e ∙ same_located x y d.0.0 d.0.1 d.0.2 ∙ sym f, d.1)
+        let d = determined old a b (Ok (Some x)) (Ok (Some y)) h k in
+        (e ∙ same_located x y d.0.0 d.0.1 d.0.2 ∙ sym f, d.1)
     by (shows_token x h e) (shows_fault y k f) =
         absurd ((determined old a b (Ok (Some x)) (Err y) h k).0)
     by (shows_token x h e) (shows_end k f) = absurd ((determined old a b (Ok (Some x)) (Ok None) h k).0)

@@ -120,7 +120,8 @@ open_below : (n levels : ℕ) → ltb n levels ≡ true → n < levels
 open_below n levels h = grind arith
 
 -- a parameter
-leaf_held : (rules : Rules) (n : ℕ) (s : Lookahead) (x : Tree) (i : Item) → FitsTree rules n x → items_of_tree x ≡ i ∷ []
+leaf_held : (rules : Rules) (n : ℕ) (s : Lookahead) (x : Tree) (i : Item) → FitsTree rules n x
+    → items_of_tree x ≡ i ∷ []
     → MeetAll (s ∷ []) (i ∷ []) → Held rules (Value n) s []
 leaf_held rules n s x i f e m = at_end rules (Value n) s i m (λ ws h. (
   x,

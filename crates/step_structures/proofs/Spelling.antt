@@ -133,7 +133,8 @@ item_spelt x i old next (shows_fault f h e) m = absurd (no_flaw f.flaw i (subst 
 item_spelt x i old next (shows_end h e) m = end_spelt i (subst (λ y. Meets y.lookahead i) e m)
 
 -- what is read is spelt
-pub all_spelt : (items : List Item) (s : List LocatedToken) (old new : Reading) → ShowsAll old s new → MeetAll (lookaheads s) items
+pub all_spelt : (items : List Item) (s : List LocatedToken) (old new : Reading) → ShowsAll old s new
+    → MeetAll (lookaheads s) items
     → AllSpelt items
 all_spelt [] s old new h b = tt
 all_spelt (i ∷ is) [] old new h b = absurd b

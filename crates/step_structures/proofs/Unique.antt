@@ -178,7 +178,8 @@ same_rows : (xs ys : List Row) (rules : Rules) (before : List ℕ) (b d : List I
     → FitsRows rules before xs → FitsRows rules before ys → MeetAll ws (items_of_rows xs ++ says (codes "ENDSEC") ∷ b)
     → MeetAll ws (items_of_rows ys ++ says (codes "ENDSEC") ∷ d)
     → (xs ≡ ys) × (v : List Lookahead) × MeetAll v b × MeetAll v d
-same_rows [] [] rules before b d ws f g h k = let r = both_first (says (codes "ENDSEC")) (says (codes "ENDSEC")) b d ws h
+same_rows [] [] rules before b d ws f g h k = let r =
+    both_first (says (codes "ENDSEC")) (says (codes "ENDSEC")) b d ws h
     k in (refl, r.1, r.4, r.5)
 same_rows [] (y ∷ ys) rules before b d [] f g h k = absurd h
 same_rows [] (y ∷ ys) rules before b d (s ∷ ws) f g h k = absurd (name_not_word s y.name (codes "ENDSEC") k.0 h.0)
@@ -292,7 +293,8 @@ same_records (x ∷ xs) (y ∷ ys) rules (s ∷ o ∷ ws) f g h k =
     behind (s ∷ ws) h k go = go ws h.1 k.1
 
 -- the header
-pub same_header : (xs ys : List Record) (rules : Rules) (ws : List Lookahead) → FitsHeader rules xs → FitsHeader rules ys
+pub same_header : (xs ys : List Record) (rules : Rules) (ws : List Lookahead) → FitsHeader rules xs
+    → FitsHeader rules ys
     → MeetAll ws (items_of_header xs) → MeetAll ws (items_of_header ys) → xs ≡ ys
 same_header xs ys rules [] f g h k = absurd h
 same_header xs ys rules (a ∷ []) f g h k = absurd h.1

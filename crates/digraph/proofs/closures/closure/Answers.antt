@@ -17,8 +17,13 @@ loop-from-preserved c =
       clean = subst (λ (marks : List Bool). AreMarks marks []) (sym back) c.in_ok-row.ensures.clean;
       same = ap length back ∙ long ∙ c.loop-from.invariant.same;
       long = omega (arith, c.in_ok-push.ensures.len, c.loop-from.invariant.long);
-      reached = rows-more (λ v. v.items) (λ a row. (b : ℕ) → has row b ≡ true ↔ Reaches (map (λ v. v.items) c.args.edges.now) a b) c.loop-from.rows.items c.push.new.self.items c.in_ok-row.row c.loop-from.from c.loop-from.invariant.long c.in_ok-push.ensures.items c.loop-from.invariant.reached c.in_ok-row.ensures.reached;
-      once = rows-more (λ v. v.items) (λ a row. IsDistinct eqb row) c.loop-from.rows.items c.push.new.self.items c.in_ok-row.row c.loop-from.from c.loop-from.invariant.long c.in_ok-push.ensures.items c.loop-from.invariant.once c.in_ok-row.ensures.once;
+      reached = rows-more (λ v. v.items)
+          (λ a row. (b : ℕ) → has row b ≡ true ↔ Reaches (map (λ v. v.items) c.args.edges.now) a b)
+          c.loop-from.rows.items c.push.new.self.items c.in_ok-row.row c.loop-from.from c.loop-from.invariant.long
+          c.in_ok-push.ensures.items c.loop-from.invariant.reached c.in_ok-row.ensures.reached;
+      once = rows-more (λ v. v.items) (λ a row. IsDistinct eqb row) c.loop-from.rows.items c.push.new.self.items
+          c.in_ok-row.row c.loop-from.from c.loop-from.invariant.long c.in_ok-push.ensures.items
+          c.loop-from.invariant.once c.in_ok-row.ensures.once;
     }
 
 pub returns : goal.returns
@@ -26,4 +31,5 @@ returns c =
     let test = c.loop-from-test.false in
     let end = c.loop-from.auto.from-end in
     let last : c.loop-from.from ≡ length c.args.edges.now = omega (arith, test, end) in
-    closes (λ v. v.items) c.args.edges.now c.loop-from.rows.items c.loop-from.from last c.loop-from.invariant.long c.loop-from.invariant.reached c.loop-from.invariant.once
+    closes (λ v. v.items) c.args.edges.now c.loop-from.rows.items c.loop-from.from last c.loop-from.invariant.long
+    c.loop-from.invariant.reached c.loop-from.invariant.once

@@ -10,6 +10,7 @@ invariant-loop-from l =
       clean : AreMarks l.marks.items [];
       same : length l.marks.items ≡ length l.edges;
       long : length l.rows.items ≡ l.from;
-      reached : (a : ℕ) → a < l.from → (b : ℕ) → Step (map (λ v. v.items) l.rows.items) a b ↔ Reaches (map (λ v. v.items) l.edges) a b;
+      reached : (a : ℕ) → a < l.from → (b : ℕ)
+          → Step (map (λ v. v.items) l.rows.items) a b ↔ Reaches (map (λ v. v.items) l.edges) a b;
       once : (a : ℕ) → a < l.from → IsDistinct eqb (next (map (λ v. v.items) l.rows.items) a);
     }

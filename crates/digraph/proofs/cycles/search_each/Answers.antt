@@ -8,7 +8,10 @@ pub loop-vertex-preserved : goal.loop-vertex-preserved
 loop-vertex-preserved c = record {
   clean = c.in_ok-is_cyclic.ensures.clean;
   same = c.in_ok-is_cyclic.ensures.length ∙ c.loop-vertex.invariant.same;
-  none = up-to (λ b. IsCyclic (map (λ v. v.items) c.args.edges.now) b → ⊥) c.loop-vertex.vertex c.loop-vertex.invariant.none (not-so _ (IsCyclic (map (λ v. v.items) c.args.edges.now) c.loop-vertex.vertex) c.in_ok-is_cyclic.ensures.cyclic c.if-branch.false);
+  none = up-to (λ b. IsCyclic (map (λ v. v.items) c.args.edges.now) b → ⊥) c.loop-vertex.vertex
+      c.loop-vertex.invariant.none
+      (not-so _ (IsCyclic (map (λ v. v.items) c.args.edges.now) c.loop-vertex.vertex) c.in_ok-is_cyclic.ensures.cyclic
+      c.if-branch.false);
 }
 
 pub returns : goal.returns

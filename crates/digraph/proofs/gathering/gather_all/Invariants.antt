@@ -8,7 +8,8 @@ abbrev pub invariant-loop-a : goal.invariant-loop-a
 invariant-loop-a l =
     record {
       long : length l.table.items ≡ length l.edges;
-      done : Solves (map (λ v. v.items) l.edges) (take l.a-index l.order) (joined (map (λ v. v.items) l.own)) (next (map (λ v. v.items) l.table.items));
+      done : Solves (map (λ v. v.items) l.edges) (take l.a-index l.order) (joined (map (λ v. v.items) l.own))
+          (next (map (λ v. v.items) l.table.items));
       others : IsElsewhere (take l.a-index l.order) [] (next (map (λ v. v.items) l.table.items));
       below : StaysBelow (length l.marks) (map (λ v. v.items) l.table.items);
       clean : AreMarks l.marks [];

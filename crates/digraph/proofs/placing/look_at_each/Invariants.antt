@@ -11,5 +11,6 @@ invariant-loop-vertex l =
       passed : length l.passed ≡ length l.fn.passed;
       placing : IsPlacing (map (λ v. v.items) l.edges) l.order.items l.marks l.passed;
       extends : Extends l.fn.order.items l.order.items;
-      awaits : (a : ℕ) → has (take l.vertex-index l.vertices) a ≡ true → (n : ℕ) → n ≤ length l.fn.order.items → Awaits (map (λ v. v.items) l.edges) l.order.items n a;
+      awaits : (a : ℕ) → has (take l.vertex-index l.vertices) a ≡ true → (n : ℕ) → n ≤ length l.fn.order.items
+          → Awaits (map (λ v. v.items) l.edges) l.order.items n a;
     }
