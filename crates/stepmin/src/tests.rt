@@ -5,10 +5,11 @@ ghost use Rattle.std.specs.Bool.{if◌then◌else◌};
 ghost use Rattle.std.specs.Str.{bytes_eq};
 
 mod lines;
+mod sources;
 mod texts;
 
 use crate::command::run_command;
-use crate::store::Store;
+use command_line::store::Store;
 use devices::counted::Counted;
 use std::alloc::{AllocError, Global};
 use std::hash::RandomState;

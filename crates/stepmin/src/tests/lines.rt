@@ -2,9 +2,9 @@
 
 use super::{Ending, FILE, Paper, run};
 use crate::command::{refuse, refuse_to_read};
-use crate::fault::{Fault, Role, print_line};
-use crate::read::ReadFault;
-use crate::usage::unread_words;
+use command_line::fault::{Fault, Role, print_line};
+use command_line::read::ReadFault;
+use command_line::usage::unread_words;
 use devices::counted::Counted;
 use std::alloc::Global;
 use std::hash::RandomState;

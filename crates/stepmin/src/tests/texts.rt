@@ -4,7 +4,7 @@ ghost use Rattle.std.specs.Prelude.{Some, false};
 
 use super::{Ending, FILE, Paper, owned, run, run_in};
 use crate::files::Folder;
-use crate::store::Store;
+use command_line::store::Store;
 use devices::counted::Counted;
 use devices::device::Sink;
 use std::alloc::{AllocError, Global};
