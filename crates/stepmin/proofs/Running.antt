@@ -4,10 +4,7 @@ use Rattle.std.specs.Prelude.{◌⊎◌, MatchBool, string_bytes}
 use Rattle.std.specs.Io.KnownBytes.{Appends, Keeps}
 use Rattle.command_line.specs.Commands.{AsksPlain}
 use Rattle.command_line.specs.Lines.{line_of}
-use Rattle.stepmin.specs.Plain.{FailsAs, Plain, is_output_fault}
 use Rattle.command_line.specs.Requests.{AskFor}
-use Rattle.stepmin.specs.Runs.{AppendsFront, Does, Ends, IsDevices, Output, Prints, Refuses, RunsPlain}
-use Rattle.stepmin.specs.Statuses.{IsStatus, fault_status}
 use Rattle.command_line.specs.Stores.{Stored}
 use Rattle.command_line.specs.declared.fault.Role.TheVariants as roles
 use Rattle.command_line.specs.declared.fault.Fault.{Fault}
@@ -17,6 +14,9 @@ use Rattle.command_line.specs.declared.usage.Request.TheVariants as requests
 use Rattle.command_line.specs.declared.usage.Refusal.{Refusal}
 use Rattle.command_line.specs.declared.usage.Refusal.TheVariants.{Shown, Usage, Memory}
 use Rattle.command_line.proofs.Asking.{asked_once}
+use Rattle.stepmin.specs.Plain.{FailsAs, Plain, is_output_fault}
+use Rattle.stepmin.specs.Runs.{AppendsFront, Does, Ends, IsDevices, Output, Prints, Refuses, RunsPlain}
+use Rattle.stepmin.specs.Statuses.{IsStatus, fault_status}
 
 -- ---- one output
 

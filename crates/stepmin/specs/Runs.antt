@@ -3,9 +3,7 @@ use Rattle.std.specs.Prelude.{◌≡◌, ◌++◌, ◌⊎◌, ℕ, List, Option,
 use Rattle.std.specs.Io.KnownBytes.{Appends}
 use Rattle.command_line.specs.Commands.{AsksNoPlain, AsksPlain}
 use Rattle.command_line.specs.Lines.{line_of}
-use Rattle.stepmin.specs.Plain.{FailsAs, Plain, is_output_fault}
 use Rattle.command_line.specs.Requests.{CallFor}
-use Rattle.stepmin.specs.Statuses.{fault_status}
 use Rattle.command_line.specs.Stores.{Stored}
 use Rattle.command_line.specs.declared.fault.Fault.{Fault}
 use Rattle.command_line.specs.declared.fault.Fault.TheVariants as faults
@@ -13,6 +11,8 @@ use Rattle.command_line.specs.declared.usage.Request.{Request}
 use Rattle.command_line.specs.declared.usage.Request.TheVariants as requests
 use Rattle.command_line.specs.declared.usage.Refusal.{Refusal}
 use Rattle.command_line.specs.declared.usage.Refusal.TheVariants.{Shown, Usage, Memory}
+use Rattle.stepmin.specs.Plain.{FailsAs, Plain, is_output_fault}
+use Rattle.stepmin.specs.Statuses.{fault_status}
 
 -- An output as a run finds it or leaves it: what it holds, where that is told, and whether it has failed.
 pub record Output : Type 0 where

@@ -15,6 +15,7 @@ ghost use Rattle.std.specs.Prelude.{
 ghost use Rattle.std.specs.Io.KnownBytes.{Appends, Keeps};
 ghost use Rattle.command_line.specs.Commands.{AsksNoPlain, AsksPlain, texts};
 ghost use Rattle.command_line.specs.Lines.{line_of};
+ghost use Rattle.command_line.specs.Stores.{stored};
 ghost use Rattle.command_line.specs.declared.fault.Fault.TheVariants.{Device};
 ghost use Rattle.command_line.specs.declared.fault.Role.TheVariants.{File};
 ghost use Rattle.stepmin.specs.Runs.{
@@ -29,7 +30,6 @@ ghost use Rattle.stepmin.specs.Runs.{
   output,
 };
 ghost use Rattle.stepmin.specs.Statuses.{IsStatus, fault_status};
-ghost use Rattle.command_line.specs.Stores.{stored};
 
 use crate::plain::plain;
 use command_line::fault::{Fault, Role, print_line};
