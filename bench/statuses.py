@@ -16,21 +16,33 @@ import sys
 import tempfile
 from typing import NamedTuple, Optional
 
-from building import build_crate
+from building import CRATES, build_crate
+
+
+def example(name):
+    """The text of an example file."""
+    with open(os.path.join(CRATES, "stepmin", "data", name), encoding="ascii") as file:
+        return file.read()
+
 
 FRAME = """ISO-10303-21;
 HEADER;
-FILE_DESCRIPTION((''),'2;1');
-FILE_NAME('','',(''),(''),'','','');
+FILE_DESCRIPTION(('a bracket, as an example'),'2;1');
+FILE_NAME('bracket.stp','2026-11-22T00:00:00',(''),(''),'','','');
 FILE_SCHEMA(('GEO'));
 ENDSEC;
 DATA;
 %sENDSEC;
 END-ISO-10303-21;
 """
-SPELT = FRAME % "#01 = point ( ( 0., /* x */ 1. ) ) ;\n#2=POINT((0.0,1.E0));\n"
-NORMAL = FRAME % "#1=POINT((0.,1.));\n#2=POINT((0.0,1.E0));\n"
-CUT = NORMAL[:NORMAL.index("END-ISO")]
+SPELT = example("bracket.stp")
+NORMAL = FRAME % """#1=POINT((0.,1.));
+#2=POINT((0.0,1.E0));
+#3=PLACEMENT(#1,$);
+#4=(MARKED(.ROUGH.)SHAPE('it''s a
+ bracket')SOLID(LEN_M(1.)));
+"""
+CUT = example("cut.stp")
 LARGE = FRAME % "".join(f"#{name}=POINT((0.,1.));\n" for name in range(1, 1_000_000))
 
 STATUSES = """Exit status:
@@ -57,6 +69,7 @@ class Run(NamedTuple):
 RUNS = [
     Run(["plain", "spelt.stp"], 0, out=NORMAL),
     Run(["plain", "--", "spelt.stp"], 0, out=NORMAL),
+    Run(["plain", "normal.stp"], 0, out=NORMAL),
     Run(["--version"], 0, out="stepmin 0.1.0\n"),
     Run(["-V"], 0, out="stepmin 0.1.0\n"),
     Run(["--help"], 0, out="Reads STEP files...\n\n" + STATUSES),
@@ -111,7 +124,7 @@ def main(words):
         return 0 if words in (["-h"], ["--help"]) else 2
     with tempfile.TemporaryDirectory(prefix="statuses-") as folder:
         program = os.path.abspath(words[0]) if words else build_crate(os.path.join(folder, "copy"), "stepmin")
-        for name, text in (("spelt", SPELT), ("cut", CUT), ("large", LARGE)):
+        for name, text in (("spelt", SPELT), ("normal", NORMAL), ("cut", CUT), ("large", LARGE)):
             with open(os.path.join(folder, f"{name}.stp"), "w", encoding="ascii") as file:
                 file.write(text)
         wrong = 0

@@ -1,15 +1,10 @@
--- Whether a source fails, by what reading it answers.
-use Rattle.std.proofs.Common.{◌≡◌, ℕ, Bool, false, Option, None, Some, IfSome, Err, sym, subst}
-use Rattle.std.specs.Prelude.{◌⊎◌}
+-- Whether a source fails, by what `plain` answers.
+use Rattle.std.proofs.Common.{◌≡◌, Bool, false, Option, None, Some, IfSome, Err, sym, subst}
 use Rattle.devices.specs.declared.device.WriteFault.{WriteFault}
-use Rattle.stepmin.specs.declared.fault.Role.TheVariants as roles
-use Rattle.stepmin.specs.declared.fault.Fault.{Fault}
-use Rattle.stepmin.specs.Faults.{write_fault}
+use Rattle.command_line.specs.declared.fault.Role.TheVariants as roles
+use Rattle.command_line.specs.declared.fault.Fault.{Fault}
+use Rattle.command_line.specs.Faults.{write_fault}
 use Rattle.stepmin.specs.Plain.{FailsAs}
-
--- while a source is read: it isn't one each read of which fails, or no byte has come
-abbrev pub HasCome : ℕ → Option Bool → Type 0
-HasCome n told = IfSome told (λ each. (each ≡ false) ⊎ (n ≡ 0))
 
 -- all was read, and the output fails
 pub not_written : (told : Option Bool) (fault : WriteFault) (met : Fault) → met ≡ write_fault roles.Output fault

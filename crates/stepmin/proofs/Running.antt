@@ -2,21 +2,21 @@
 use Rattle.std.proofs.Common.{◌≡◌, Bool, true, false, List, ℕ, Option, None, Some, Result, Ok, Err, IfSome, inl, inr, refl, sym, ap, subst, ◌∙◌, true≢false, arith}
 use Rattle.std.specs.Prelude.{◌⊎◌, MatchBool, string_bytes}
 use Rattle.std.specs.Io.KnownBytes.{Appends, Keeps}
-use Rattle.stepmin.specs.Commands.{AsksPlain}
-use Rattle.stepmin.specs.Lines.{line_of}
+use Rattle.command_line.specs.Commands.{AsksPlain}
+use Rattle.command_line.specs.Lines.{line_of}
+use Rattle.command_line.specs.Requests.{AskFor}
+use Rattle.command_line.specs.Stores.{Stored}
+use Rattle.command_line.specs.declared.fault.Role.TheVariants as roles
+use Rattle.command_line.specs.declared.fault.Fault.{Fault}
+use Rattle.command_line.specs.declared.fault.Fault.TheVariants as faults
+use Rattle.command_line.specs.declared.usage.Request.{Request}
+use Rattle.command_line.specs.declared.usage.Request.TheVariants as requests
+use Rattle.command_line.specs.declared.usage.Refusal.{Refusal}
+use Rattle.command_line.specs.declared.usage.Refusal.TheVariants.{Shown, Usage, Memory}
+use Rattle.command_line.proofs.Asking.{asked_once}
 use Rattle.stepmin.specs.Plain.{FailsAs, Plain, is_output_fault}
-use Rattle.stepmin.specs.Requests.{AskFor}
 use Rattle.stepmin.specs.Runs.{AppendsFront, Does, Ends, IsDevices, Output, Prints, Refuses, RunsPlain}
 use Rattle.stepmin.specs.Statuses.{IsStatus, fault_status}
-use Rattle.stepmin.specs.Stores.{Stored}
-use Rattle.stepmin.specs.declared.fault.Role.TheVariants as roles
-use Rattle.stepmin.specs.declared.fault.Fault.{Fault}
-use Rattle.stepmin.specs.declared.fault.Fault.TheVariants as faults
-use Rattle.stepmin.specs.declared.usage.Request.{Request}
-use Rattle.stepmin.specs.declared.usage.Request.TheVariants as requests
-use Rattle.stepmin.specs.declared.usage.Refusal.{Refusal}
-use Rattle.stepmin.specs.declared.usage.Refusal.TheVariants.{Shown, Usage, Memory}
-use Rattle.stepmin.proofs.Asking.{asked_once}
 
 -- ---- one output
 
@@ -131,7 +131,8 @@ device_by words files path out out' err err' (Ok x) status asks plain told fails
 device_by words files path out out' err err' (Err (faults.Text role kind place)) status asks plain told fails e is =
     λ fresh clean. inr (inl (device_printed err err' (line_of (faults.Text role kind place)) 2 status e
     (λ no. omega (arith, no)) is clean))
-device_by words files path out out' err err' (Err (faults.Device roles.File written)) status asks plain told fails e is =
+device_by words files path out out' err err' (Err (faults.Device roles.File written)) status asks plain told fails e
+    is =
     λ fresh clean. inr (inr (
       path,
       asks,

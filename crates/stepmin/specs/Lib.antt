@@ -1,10 +1,3 @@
-pub mod Reads
-pub mod Faults
-pub mod Lines
 pub mod Plain
 pub mod Statuses
-pub mod Stores
-pub mod Commands
-pub mod Clap
-pub mod Requests
 pub mod Runs

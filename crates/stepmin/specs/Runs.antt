@@ -1,18 +1,18 @@
 -- What a run of the command line comes to.
 use Rattle.std.specs.Prelude.{◌≡◌, ◌++◌, ◌⊎◌, ℕ, List, Option, IfSome, Some, Bool, true, false, Result, Ok, Err, MatchBool, string_bytes}
 use Rattle.std.specs.Io.KnownBytes.{Appends}
-use Rattle.stepmin.specs.Commands.{AsksNoPlain, AsksPlain}
-use Rattle.stepmin.specs.Lines.{line_of}
+use Rattle.command_line.specs.Commands.{AsksNoPlain, AsksPlain}
+use Rattle.command_line.specs.Lines.{line_of}
+use Rattle.command_line.specs.Requests.{CallFor}
+use Rattle.command_line.specs.Stores.{Stored}
+use Rattle.command_line.specs.declared.fault.Fault.{Fault}
+use Rattle.command_line.specs.declared.fault.Fault.TheVariants as faults
+use Rattle.command_line.specs.declared.usage.Request.{Request}
+use Rattle.command_line.specs.declared.usage.Request.TheVariants as requests
+use Rattle.command_line.specs.declared.usage.Refusal.{Refusal}
+use Rattle.command_line.specs.declared.usage.Refusal.TheVariants.{Shown, Usage, Memory}
 use Rattle.stepmin.specs.Plain.{FailsAs, Plain, is_output_fault}
-use Rattle.stepmin.specs.Requests.{CallFor}
 use Rattle.stepmin.specs.Statuses.{fault_status}
-use Rattle.stepmin.specs.Stores.{Stored}
-use Rattle.stepmin.specs.declared.fault.Fault.{Fault}
-use Rattle.stepmin.specs.declared.fault.Fault.TheVariants as faults
-use Rattle.stepmin.specs.declared.usage.Request.{Request}
-use Rattle.stepmin.specs.declared.usage.Request.TheVariants as requests
-use Rattle.stepmin.specs.declared.usage.Refusal.{Refusal}
-use Rattle.stepmin.specs.declared.usage.Refusal.TheVariants.{Shown, Usage, Memory}
 
 -- An output as a run finds it or leaves it: what it holds, where that is told, and whether it has failed.
 pub record Output : Type 0 where

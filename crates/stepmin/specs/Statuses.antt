@@ -1,7 +1,7 @@
 -- The exit statuses.
 use Rattle.std.specs.Prelude.{◌≡◌, ◌⊎◌, ℕ, Result, Ok, Err}
-use Rattle.stepmin.specs.declared.fault.Fault.{Fault}
-use Rattle.stepmin.specs.declared.fault.Fault.TheVariants.{Text, Device, Memory}
+use Rattle.command_line.specs.declared.fault.Fault.{Fault}
+use Rattle.command_line.specs.declared.fault.Fault.TheVariants.{Text, Device, Memory}
 
 -- the status for a fault
 abbrev pub fault_status : Fault → ℕ

@@ -13,10 +13,11 @@ ghost use Rattle.std.specs.Prelude.{
   MatchResult,
 };
 ghost use Rattle.std.specs.Io.KnownBytes.{Appends, Keeps};
-ghost use Rattle.stepmin.specs.Commands.{AsksNoPlain, AsksPlain, texts};
-ghost use Rattle.stepmin.specs.Lines.{line_of};
-ghost use Rattle.stepmin.specs.declared.fault.Fault.TheVariants.{Device};
-ghost use Rattle.stepmin.specs.declared.fault.Role.TheVariants.{File};
+ghost use Rattle.command_line.specs.Commands.{AsksNoPlain, AsksPlain, texts};
+ghost use Rattle.command_line.specs.Lines.{line_of};
+ghost use Rattle.command_line.specs.Stores.{stored};
+ghost use Rattle.command_line.specs.declared.fault.Fault.TheVariants.{Device};
+ghost use Rattle.command_line.specs.declared.fault.Role.TheVariants.{File};
 ghost use Rattle.stepmin.specs.Runs.{
   AppendsFront,
   Does,
@@ -29,12 +30,11 @@ ghost use Rattle.stepmin.specs.Runs.{
   output,
 };
 ghost use Rattle.stepmin.specs.Statuses.{IsStatus, fault_status};
-ghost use Rattle.stepmin.specs.Stores.{stored};
 
-use crate::fault::{Fault, Role, print_line};
 use crate::plain::plain;
-use crate::store::Store;
-use crate::usage::{Refusal, Request, read_words};
+use command_line::fault::{Fault, Role, print_line};
+use command_line::store::Store;
+use command_line::usage::{Refusal, Request, read_words};
 use devices::device::{Failed, Sink};
 use std::alloc::Global;
 use std::hash::RandomState;

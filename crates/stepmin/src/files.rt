@@ -1,6 +1,6 @@
 //! The file system as a store.
 
-use crate::store::Store;
+use command_line::store::Store;
 use devices::counted::Counted;
 use std::io::{Read, Write};
 use std::rt::Files;

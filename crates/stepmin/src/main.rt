@@ -2,18 +2,14 @@
 #![tactic(auto)]
 
 mod command;
-mod fault;
 mod files;
 mod plain;
-mod read;
-mod store;
 #[cfg(test)]
 mod tests;
-mod usage;
 
 use crate::command::{refuse, refuse_to_read, run_command};
 use crate::files::Folder;
-use crate::usage::unread_words;
+use command_line::usage::unread_words;
 use devices::counted::Counted;
 use std::env::Env;
 use std::hash::RandomState;

@@ -3,8 +3,8 @@
 ghost use Rattle.std.specs.Prelude.{◌≡◌, false, IfSome};
 ghost use Rattle.stepmin.specs.Plain.{FailsAs, Plain, is_file_fault, is_output_fault};
 
-use crate::fault::{Fault, LIMIT, Role};
-use crate::read::read_whole;
+use command_line::fault::{Fault, LIMIT, Role};
+use command_line::read::read_whole;
 use devices::device::{Sink, Source};
 use std::alloc::Global;
 use std::hash::RandomState;

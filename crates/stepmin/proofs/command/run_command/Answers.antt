@@ -1,6 +1,6 @@
 use Rattle.std.proofs.Common.{inl, inr, map, string_bytes}
-use Rattle.stepmin.specs.Stores.{stored}
-use Rattle.stepmin.proofs.Asking.{are_texts, asks_or_not}
+use Rattle.command_line.specs.Stores.{stored}
+use Rattle.command_line.proofs.Asking.{are_texts, asks_or_not}
 use Rattle.stepmin.proofs.Running.{asked_runs, asked_says, file_failed, memory_runs, none_asked, refused_device, runs_asked}
 use Rattle.stepmin.proofs.command.run_command.Goals as goal
 
@@ -59,7 +59,9 @@ returns-in-Err-clause-file_failed g c = λ path asks is.
     file_failed _ _ _ _ _ _ (returns-in-Err-clause-plain g c path asks) is
 
 pub returns-in-Err-clause-device : goal.returns-in-Err-clause-device
-returns-in-Err-clause-device g c = refused_device _ (stored g.S.Store.contents g.S.Store.fails c.args.store.now) c.in-Err.refusal _ _ _ _ c.refuse.result c.refuse.ensures.refuses
+returns-in-Err-clause-device g c =
+    refused_device _ (stored g.S.Store.contents g.S.Store.fails c.args.store.now) c.in-Err.refusal _ _ _ _
+    c.refuse.result c.refuse.ensures.refuses
 
 pub returns-in-Err-clause-runs : goal.returns-in-Err-clause-runs
 returns-in-Err-clause-runs g c =

@@ -1,0 +1,5 @@
+pub mod Filling
+pub mod Reading
+pub mod Saying
+pub mod Asking
+mod Examples

@@ -1,0 +1,48 @@
+-- What the reader of the words answers.
+use Rattle.std.specs.Prelude.{◌≡◌, ℕ, List, Bool, true, false, string_bytes}
+use Rattle.clap.specs.Kinds.{IsAmong}
+use Rattle.clap.specs.Faults.{fault_of}
+use Rattle.clap.specs.declared.error.kind.ErrorKind.{ErrorKind}
+use Rattle.clap.specs.declared.error.kind.ErrorKind.TheVariants.{DisplayHelp, DisplayVersion, OutOfMemory}
+use Rattle.command_line.specs.Clap.{stepmin_app}
+use Rattle.command_line.specs.Commands.{AsksPlain}
+use Rattle.command_line.specs.declared.usage.Refusal.{Refusal}
+use Rattle.command_line.specs.declared.usage.Refusal.TheVariants.{Shown, Usage, Memory}
+use Rattle.command_line.specs.declared.usage.Request.{Request}
+use Rattle.command_line.specs.declared.usage.Request.TheVariants.{Plain}
+
+-- The words ask for this.
+abbrev pub AskFor : List (List ℕ) → Request → Type 0
+AskFor words (Plain path) = AsksPlain words path.now
+
+-- what ends the reading of the words is no mistake, but a call for a text: for help, or for the version
+abbrev pub is_shown : ErrorKind → Bool
+is_shown DisplayHelp = true
+is_shown DisplayVersion = true
+is_shown _ = false
+
+-- By the rules of clap the first thing that ends the reading of the words is a call for a text.
+abbrev pub AsksText : List (List ℕ) → Type 0
+AsksText words = (kind : ErrorKind) × IsAmong kind (fault_of stepmin_app words) × (is_shown kind ≡ true)
+
+-- By the rules of clap it is a fault.
+abbrev pub AsksWrongly : List (List ℕ) → Type 0
+AsksWrongly words = (kind : ErrorKind) × IsAmong kind (fault_of stepmin_app words) × (is_shown kind ≡ false)
+
+-- The words call for this refusal. Memory runs out with any.
+abbrev pub CallFor : List (List ℕ) → Refusal → Type 0
+CallFor words (Shown text) = AsksText words
+CallFor words (Usage text) = AsksWrongly words
+CallFor words Memory = Unit {0}
+
+-- The same, of the kind of clap's error.
+abbrev pub CallsFor : ErrorKind → Refusal → Type 0
+CallsFor kind (Shown text) = is_shown kind ≡ true
+CallsFor kind (Usage text) = (is_shown kind ≡ false) × (kind ≡ OutOfMemory → ⊥)
+CallsFor kind Memory = Unit {0}
+
+-- It says this of the words, or that memory ran out.
+abbrev pub SaysUsage : List ℕ → Refusal → Type 0
+SaysUsage said (Usage text) = string_bytes text ≡ said
+SaysUsage said Memory = Unit {0}
+SaysUsage said (Shown text) = ⊥
