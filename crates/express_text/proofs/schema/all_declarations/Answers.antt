@@ -47,7 +47,8 @@ pub loop-declarations-preserved : goal.loop-declarations-preserved
 loop-declarations-preserved c =
     let e = shows_text _ _ _ c.in_ok-first.ensures ∙ passes_text c.loop-declarations.invariant.0.passes in (
       declarations_next c.args.reader.now c.loop-declarations.reader c.take.new.self c.declaration.new.reader
-          c.loop-declarations.declarations.items c.push.new.self.items c.in_ok-next.next (located_of c.in_ok-first.first)
+          c.loop-declarations.declarations.items c.push.new.self.items c.in_ok-next.next
+          (located_of c.in_ok-first.first)
           c.loop-declarations.invariant.0 c.in_ok-first.ensures c.in_ok-push.ensures.items c.in_ok-next.ensures.read.0
           c.in_ok-next.ensures.read.1,
       rw c.in_ok-push.ensures.items (every_push (IsDeclarationOf c.args.reader.now.text)

@@ -48,7 +48,8 @@ invariant_of-result c =
     } in
     let opening = passes_opening (capitals c.in_ok-name.name) (if_some version_of c.in_ok-version.version)
     c.in_ok-expect_keyword.ensures c.in_ok-name.ensures c.in_ok-version.ensures.1 in
-    let d = schema_done x c.end_of_text.new.reader opening c.in_ok-declarations.ensures.read.1 c.in_ok-end_of_text.ensures in
+    let d = schema_done x c.end_of_text.new.reader opening c.in_ok-declarations.ensures.read.1
+    c.in_ok-end_of_text.ensures in
     record {
       read = ∣ (
         c.requires.0,
@@ -66,7 +67,8 @@ returns-clause-read c =
     } in
     let opening = passes_opening (capitals c.in_ok-name.name) (if_some version_of c.in_ok-version.version)
     c.in_ok-expect_keyword.ensures c.in_ok-name.ensures c.in_ok-version.ensures.1 in
-    let d = schema_done x c.end_of_text.new.reader opening c.in_ok-declarations.ensures.read.1 c.in_ok-end_of_text.ensures in
+    let d = schema_done x c.end_of_text.new.reader opening c.in_ok-declarations.ensures.read.1
+    c.in_ok-end_of_text.ensures in
     ((c.in_ok-version.ensures.0, c.in_ok-declarations.ensures.read.0), d.0, d.1, d.2)
 
 pub returns-clause-text : goal.returns-clause-text
