@@ -342,8 +342,8 @@ routine_next old here new from to begun n left place w so h e end at =
       passes = passes_join so.passes (passes_token (predict.Routine n) (predict.Routine left ∷ []) w s here new h.0 refl
           e);
       completes = grows.1;
-      stand = λ _. subst P (sym at) (h.1.stand so.words here new (so.stand (shown_within here new s w h.0 refl)) so.behind
-          h.0);
+      stand = λ _. subst P (sym at) (h.1.stand so.words here new
+          (so.stand (shown_within here new s w h.0 refl)) so.behind h.0);
       begins = next_begins old here new so.words w from to place begun so.begins (so.stand (shown_within here new s w
           h.0 refl)) so.behind (passes_text so.passes) h.0 h.1.place;
       behind = at;
@@ -377,7 +377,8 @@ routine_done old here new from to begun n place w so h e end at text is =
       routine = x.0;
       fits = x.1;
       stand = subst Q (sym x.2) (subst T (sym is)
-          (subst P (sym at) (h.1.stand so.words here new (so.stand (shown_within here new s w h.0 refl)) so.behind h.0)));
+          (subst P (sym at) (h.1.stand so.words here new
+          (so.stand (shown_within here new s w h.0 refl)) so.behind h.0)));
       begins = subst B (sym x.2) (next_begins old here new so.words w from to place begun so.begins
           (so.stand (shown_within here new s w h.0 refl)) so.behind (passes_text so.passes) h.0 h.1.place);
       passes = subst R (sym x.2) (passes_join so.passes (passes_token (predict.Routine n) [] w s here new h.0 refl e));
@@ -432,8 +433,8 @@ until_next end old here new from to begun place w so h e behind at =
           (until_other end w e));
       without = without_push end so.words w so.without (λ q. false≢true (sym e ∙ ap (λ v. is_name end (token v)) q
           ∙ same_bytes end end refl));
-      stand = λ _. subst P (sym at) (h.1.stand so.words here new (so.stand (shown_within here new s w h.0 refl)) so.behind
-          h.0);
+      stand = λ _. subst P (sym at) (h.1.stand so.words here new
+          (so.stand (shown_within here new s w h.0 refl)) so.behind h.0);
       begins = next_begins old here new so.words w from to place begun so.begins (so.stand (shown_within here new s w
           h.0 refl)) so.behind (passes_text so.passes) h.0 h.1.place;
       behind = at;

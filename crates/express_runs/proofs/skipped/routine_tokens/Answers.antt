@@ -102,4 +102,7 @@ loop-item-preserved c =
     let goes_on = c.left_open.ensures ∙ ap (λ o. Ok (still_open o)) c.in-Some.is in
     routine_next c.args.reader.now c.loop-item.reader c.take.new.self c.loop-item.from c.loop-item.to
     c.begun-from.result c.loop-item.others c.in-Some.left c.in_ok-item.item.place (word_of c.in_ok-item.item.lexeme)
-    c.loop-item.invariant (c.in_ok-item.ensures, record { stand = c.begun-from.ensures.stand; place = c.begun-from.ensures.place }) goes_on c.place-to.result c.place-to.ensures
+    c.loop-item.invariant (
+      c.in_ok-item.ensures,
+      record { stand = c.begun-from.ensures.stand; place = c.begun-from.ensures.place },
+    ) goes_on c.place-to.result c.place-to.ensures
