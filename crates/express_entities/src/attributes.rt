@@ -106,8 +106,8 @@ pub fn attribute<'a>(reader: &mut Reader<'a>) -> Result<Attribute<'a>, SyntaxFau
     }
 }
 
-/// Reads the attributes behind the first, each behind a comma. `next` is the token behind the first; the
-/// token behind the last is answered too.
+/// Reads the attributes behind the first, each behind a comma. `next` is the token behind the
+/// first; the token behind the last is answered too.
 fn attributes<'a>(
     reader: &mut Reader<'a>,
     first: Attribute<'a>,
@@ -155,8 +155,8 @@ pub fn explicit<'a>(
     reader: &mut Reader<'a>,
     first: Attribute<'a>,
 ) -> Result<Explicit<'a>, SyntaxFault>
-    ensures read { ParsesBehind (words_of_attribute (attribute_of first.entry)) result (Explicits ∷ [])
-        (λ x. words_of_explicit (explicit_of x))
+    ensures read { ParsesBehind (words_of_attribute (attribute_of first.entry)) result
+        (Explicits ∷ []) (λ x. words_of_explicit (explicit_of x))
         (λ x. FitsExplicit depth_limit (explicit_of x)) reader.old reader.new }
     ensures text { IfOk result (λ x. IsExplicitOf reader.old.text x) }
 {
@@ -218,8 +218,8 @@ fn collection<'a>(reader: &mut Reader<'a>) -> Result<(Collection<'a>, Word<'a>),
     }
 }
 
-/// Reads the rest of an inverse attribute behind the first name that follows FOR: the entity that declares the
-/// attribute that is inverted, or this attribute.
+/// Reads the rest of an inverse attribute behind the first name that follows FOR: the entity that
+/// declares the attribute that is inverted, or this attribute.
 fn holder<'a>(
     reader: &mut Reader<'a>,
     first: Word<'a>,
@@ -268,8 +268,8 @@ pub fn inverse<'a>(
     })
 }
 
-/// Reads the attributes of a uniqueness rule behind the first, and the semicolon. `next` is the token behind the
-/// first.
+/// Reads the attributes of a uniqueness rule behind the first, and the semicolon. `next` is the
+/// token behind the first.
 fn attributes_of_unique<'a>(
     reader: &mut Reader<'a>,
     first: Attribute<'a>,

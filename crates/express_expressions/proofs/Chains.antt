@@ -13,7 +13,7 @@ use Rattle.express_trees.specs.Views.{Selection, of_attribute, of_group, of_elem
 use Rattle.express_expressions.specs.Pieces.{Lacks, Others, OthersNone, More, MoreNone, Selects, SelectsNone, Elements, ElementsNone, Before, BeforeNone, Attribute, AttributeNone, Qualifies, QualifierNone}
 use Rattle.express_expressions.proofs.ViewLemmas.{joined, joined_alternatives, joined_qualifiers, selected, joined_none, joined_joined, joined_alternatives_finish, joined_joined_alternatives, joined_qualifiers_plain, joined_joined_qualifiers}
 use Rattle.express_trees.proofs.Stopping.{conjuncts_behind, alternatives_behind, elements_behind}
-use Rattle.express_expressions.proofs.Levels.{stands_same, stands_along, stands_behind, unary_stops, term_stops}
+use Rattle.express_expressions.proofs.Parts.{stands_same, stands_along, stands_behind, unary_stops, term_stops}
 
 -- with less behind a word, less is left
 pub shorter : (here : List Word) (w : Word) (more middle ys : List Word) → here ≡ w ∷ more → more ≡ ys ++ middle

@@ -1,4 +1,5 @@
 pub mod ViewLemmas
+pub mod Parts
 pub mod Levels
 pub mod Chains
 pub mod Primaries

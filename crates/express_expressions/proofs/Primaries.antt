@@ -15,7 +15,7 @@ use Rattle.express_trees.specs.Reads.{Stops, Stands, StandsNone}
 use Rattle.express_expressions.specs.Pieces.{Lacks, Before, BeforeNone, BoundNone, Elements, ElementsNone, Selects, SelectsNone, VariableNone, Beginning, value, parenthesis, bracket, brace, querying, calling, either, referring, beginning_word, beginning_of, NoBeginning, Heads}
 use Rattle.express_trees.proofs.Stopping.{stops_primary, limit_behind}
 use Rattle.express_trees.proofs.Unique.{one_elements, one_qualifiers}
-use Rattle.express_expressions.proofs.Levels.{stands_same, stands_along, stands_behind, primary_stops, unary_parts}
+use Rattle.express_expressions.proofs.Parts.{stands_same, stands_along, stands_behind, primary_stops, unary_parts}
 use Rattle.express_expressions.proofs.Chains.{before_same, before_along}
 
 -- the parts of an interval, behind its brace

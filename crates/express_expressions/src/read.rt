@@ -477,9 +477,9 @@ fn qualifier<'a>(
     Ok((build::index(element), end))
 }
 
-/// FindsPart the lexemes of one expression (ISO 10303-11, 12), with `depth` parentheses, brackets and
-/// braces open around it; with its own they are 64 at most. `None` where the lexemes are not those
-/// of an expression.
+/// Reads the lexemes of one expression (ISO 10303-11, 12), with `depth` parentheses, brackets
+/// and braces open around it; with its own they are 64 at most. `None` where the lexemes are not
+/// those of an expression.
 ///
 /// # Errors
 ///

@@ -49,7 +49,8 @@ ends_run run b bs h = rw h refl
 low_first : (run : List ℕ) (b : ℕ) (bs : List ℕ) → is_high b ≡ false → characters_behind run (b ∷ bs) ≡ run_items run
     ++ characters_of (b ∷ bs)
 low_first run b bs h =
-    ends_run run b bs h ∙ ap (λ l. run_items run ++ l) (sym (ends_run [] b bs h ∙ ap (λ l. l ++ Code b ∷ characters_of bs) nothing))
+    ends_run run b bs h ∙ ap (λ l. run_items run ++ l)
+    (sym (ends_run [] b bs h ∙ ap (λ l. l ++ Code b ∷ characters_of bs) nothing))
 
 high_other : (b : ℕ) → is_high b ≡ true → (b == 39) ≡ false
 high_other b h = grind (arith, nat_tests)
@@ -111,7 +112,8 @@ apostrophe_says b bs h =
     ∙ ap (λ l. l ++ Code 39 ∷ characters_of (undoubled (drop 1 bs))) nothing
     ∙ ap (λ x. Code x ∷ characters_of (undoubled (drop 1 bs))) (sym h)
 
-pub byte_says : (b : ℕ) (bs : List ℕ) → (b == 39) ≡ false → is_high b ≡ false → characters_of (undoubled (b ∷ bs)) ≡ Code b
+pub byte_says : (b : ℕ) (bs : List ℕ) → (b == 39) ≡ false → is_high b ≡ false
+    → characters_of (undoubled (b ∷ bs)) ≡ Code b
     ∷ characters_of (undoubled bs)
 byte_says b bs h low =
     ap characters_of (undoubled_other b bs h) ∙ ends_run [] b (undoubled bs) low
@@ -121,14 +123,16 @@ byte_says b bs h low =
 pub none_begun : (run raw rest : List ℕ) → run ≡ [] → raw ≡ [] → left run raw rest ≡ characters_of (undoubled rest)
 none_begun run raw rest e r = rw (e, r, chars-nil) refl
 
-pub run_begun : (run text bs rest : List ℕ) → text ≡ take (prefix_len is_high bs) bs → rest ≡ drop (prefix_len is_high bs) bs
+pub run_begun : (run text bs rest : List ℕ) → text ≡ take (prefix_len is_high bs) bs
+    → rest ≡ drop (prefix_len is_high bs) bs
     → run ≡ text → is_utf8 text ≡ true → left run [] rest ≡ characters_of (undoubled bs)
 run_begun run text bs rest et er e u =
     let says : run_items text ≡ map (λ x. Code x) (chars run) = rw u (ap (λ l. map (λ x. Code x) (chars l)) (sym e)) in
     sym (run_says bs ∙ (λ i. run_items (sym et i) ++ characters_of (undoubled (sym er i)))
     ∙ ap (λ l. l ++ characters_of (undoubled rest)) (says ∙ sym (append-nil _)))
 
-pub raw_begun : (run text bs rest : List ℕ) → text ≡ take (prefix_len is_high bs) bs → rest ≡ drop (prefix_len is_high bs) bs
+pub raw_begun : (run text bs rest : List ℕ) → text ≡ take (prefix_len is_high bs) bs
+    → rest ≡ drop (prefix_len is_high bs) bs
     → run ≡ [] → is_utf8 text ≡ false → left run text rest ≡ characters_of (undoubled bs)
 raw_begun run text bs rest et er e u =
     let says : run_items text ≡ map (λ b. Raw b) text = rw u refl in
@@ -163,7 +167,8 @@ empty [] h = refl
 empty (b ∷ bs) h = absurd (omega (arith, h))
 
 pub none_left : (run raw rest : List ℕ) → run ≡ [] → raw ≡ [] → length rest ≡ 0 → left run raw rest ≡ []
-none_left run raw rest e r f = none_begun run raw rest e r ∙ ap (λ l. characters_of (undoubled l)) (empty rest f) ∙ nothing
+none_left run raw rest e r f = none_begun run raw rest e r ∙ ap (λ l. characters_of (undoubled l)) (empty rest f)
+    ∙ nothing
 
 pub no_utf8 : (bs : List ℕ) → (IsUtf8 bs → ⊥) → is_utf8 bs ≡ false
 no_utf8 bs h = by (is_utf8 bs) refl

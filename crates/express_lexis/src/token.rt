@@ -8,8 +8,8 @@ use thiserror::Error;
 /// What kind of token it is, with its value.
 #[derive(Clone, Copy)]
 pub enum Sort<'a> {
-    /// A letter, then letters, digits and `_` (ISO 10303-11, 7.2 and 7.4). Whether it is a keyword is the
-    /// grammar's affair.
+    /// A letter, then letters, digits and `_` (ISO 10303-11, 7.2 and 7.4). Whether it is a keyword
+    /// is the grammar's affair.
     Word(Word<'a>),
     Integer(Decimal<'a>),
     Real(Decimal<'a>),

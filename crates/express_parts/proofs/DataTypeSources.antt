@@ -21,16 +21,20 @@ abbrev known : (t : List ℕ) (k : Box DataType Global) → IsDataTypeOf t k.val
 known t k h = record { ptr = k.ptr; alloc = k.alloc; value = (k.value, h) }
 
 pub integer_of : (t : List ℕ) → IsDataTypeOf t kinds.Integer
-integer_of t = subst (IsDataTypeOf t) kinds.rolls-Integer (every_made-DataType (IsLayerOf t) layer.Integer layer.Integer refl tt)
+integer_of t = subst (IsDataTypeOf t) kinds.rolls-Integer
+    (every_made-DataType (IsLayerOf t) layer.Integer layer.Integer refl tt)
 
 pub number_of : (t : List ℕ) → IsDataTypeOf t kinds.Number
-number_of t = subst (IsDataTypeOf t) kinds.rolls-Number (every_made-DataType (IsLayerOf t) layer.Number layer.Number refl tt)
+number_of t = subst (IsDataTypeOf t) kinds.rolls-Number
+    (every_made-DataType (IsLayerOf t) layer.Number layer.Number refl tt)
 
 pub boolean_of : (t : List ℕ) → IsDataTypeOf t kinds.Boolean
-boolean_of t = subst (IsDataTypeOf t) kinds.rolls-Boolean (every_made-DataType (IsLayerOf t) layer.Boolean layer.Boolean refl tt)
+boolean_of t = subst (IsDataTypeOf t) kinds.rolls-Boolean
+    (every_made-DataType (IsLayerOf t) layer.Boolean layer.Boolean refl tt)
 
 pub logical_of : (t : List ℕ) → IsDataTypeOf t kinds.Logical
-logical_of t = subst (IsDataTypeOf t) kinds.rolls-Logical (every_made-DataType (IsLayerOf t) layer.Logical layer.Logical refl tt)
+logical_of t = subst (IsDataTypeOf t) kinds.rolls-Logical
+    (every_made-DataType (IsLayerOf t) layer.Logical layer.Logical refl tt)
 
 pub real_of : (t : List ℕ) (w : Option Width) → Maybe (IsWidthOf t) w → IsDataTypeOf t (kinds.Real w)
 real_of t w h = subst (IsDataTypeOf t) (kinds.rolls-Real w) (every_made-DataType (IsLayerOf t) (layer.Real w)

@@ -1,4 +1,5 @@
-//! Bounds, widths and supertype expressions (ISO 10303-11, 8.1, 8.2 and 9.2.5): parts that stand in brackets.
+//! Bounds, widths and supertype expressions (ISO 10303-11, 8.1, 8.2 and 9.2.5): parts that stand in
+//! brackets.
 
 ghost use Rattle.std.specs.Prelude.{
   ◌≡◌,
@@ -87,7 +88,8 @@ use express_trees::tree::{LEVELS, Sign};
 use std::alloc::{AllocError, Global};
 use step_literals::literal::{Decimal, Word};
 
-/// Reads a run of tokens behind an opening bracket, or behind the colon of bounds, and what ends it.
+/// Reads a run of tokens behind an opening bracket, or behind the colon of bounds, and what ends
+/// it.
 fn next_run<'a>(
     lexer: &mut Lexer<'a>,
     part: Ends,
@@ -292,8 +294,8 @@ fn bound<'a>(reader: &mut Reader<'a>, part: Ends, around: u32) -> Result<Bound<'
     Ok(Bound::Other(tokens))
 }
 
-/// Reads the bounds of an aggregate type behind their bracket, and OF, with so many brackets and aggregate
-/// types open around it.
+/// Reads the bounds of an aggregate type behind their bracket, and OF, with so many brackets and
+/// aggregate types open around it.
 pub fn bounds<'a>(reader: &mut Reader<'a>, around: u32) -> Result<Bounds<'a>, SyntaxFault>
     requires around { around < 64 }
     ensures read { ParsesBehind (mark marks.OpenBracket ∷ []) result (bounds_symbols around)
@@ -355,7 +357,8 @@ pub fn width<'a>(reader: &mut Reader<'a>, around: u32) -> Result<Width<'a>, Synt
 
 /// Reads a supertype expression behind its parenthesis, and the closing one.
 pub fn supertype<'a>(reader: &mut Reader<'a>) -> Result<Supertype<'a>, SyntaxFault>
-    ensures read { ParsesBehind (keyword keywords.Supertype ∷ keyword keywords.Of ∷ mark marks.Open ∷ [])
+    ensures read { ParsesBehind
+        (keyword keywords.Supertype ∷ keyword keywords.Of ∷ mark marks.Open ∷ [])
         result (Running in_parentheses 1 [] false ∷ [])
         (λ s. words_of_supertype (supertype_of s))
         (λ s. FitsSupertype depth_limit (supertype_of s)) reader.old reader.new }

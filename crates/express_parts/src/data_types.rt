@@ -31,7 +31,12 @@ ghost use Rattle.express_schemas.specs.Written.{
   words_of_some_bounds,
 };
 ghost use Rattle.express_schemas.specs.Profile.{FitsDataType, FitsWidth, FitsBounds, Maybe};
-ghost use Rattle.express_schemas.specs.Sources.{IsBoundsOf, IsWidthOf, IsFixedWidthOf, IsDataTypeOf};
+ghost use Rattle.express_schemas.specs.Sources.{
+  IsBoundsOf,
+  IsWidthOf,
+  IsFixedWidthOf,
+  IsDataTypeOf,
+};
 ghost use Rattle.express_schemas.specs.Predict;
 ghost use Rattle.express_schemas.specs.Predict.{
   Symbol,
@@ -245,7 +250,8 @@ fn simple<'a>(
     }
 }
 
-/// Reads the data type of an aggregate's elements, of which the first token is taken, perhaps behind UNIQUE.
+/// Reads the data type of an aggregate's elements, of which the first token is taken, perhaps
+/// behind UNIQUE.
 #[cycle(data_types)]
 fn element_from<'a>(
     reader: &mut Reader<'a>,
@@ -290,7 +296,8 @@ fn element<'a>(
     element_from(reader, first, depth, end)
 }
 
-/// Reads the data type of an array's elements, perhaps behind UNIQUE, and whether OPTIONAL stands before it.
+/// Reads the data type of an array's elements, perhaps behind UNIQUE, and whether OPTIONAL stands
+/// before it.
 #[cycle(data_types)]
 fn optional_element<'a>(
     reader: &mut Reader<'a>,
@@ -410,8 +417,8 @@ fn aggregate<'a>(
     }
 }
 
-/// Reads a data type of which the first token is taken, and the mark behind it, with so many aggregate types
-/// around it.
+/// Reads a data type of which the first token is taken, and the mark behind it, with so many
+/// aggregate types around it.
 #[cycle(data_types)]
 pub fn data_type_from<'a>(
     reader: &mut Reader<'a>,
@@ -420,7 +427,8 @@ pub fn data_type_from<'a>(
     end: Ending,
 ) -> Result<DataType<'a>, SyntaxFault>
     requires depth { depth ≤ 64 }
-    ensures read { ParsesFrom (located_of first.entry) result (DataTypeThen depth (ending_of end) ∷ [])
+    ensures read { ParsesFrom (located_of first.entry) result
+        (DataTypeThen depth (ending_of end) ∷ [])
         (λ k. words_of_data_type (data_type_of k) ++ mark (ending_mark (ending_of end)) ∷ [])
         (λ k. FitsDataType depth_limit depth (data_type_of k)) reader.old reader.new }
     ensures text { IfOk result (λ k. IsDataTypeOf reader.old.text k) }

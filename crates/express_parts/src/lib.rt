@@ -1,4 +1,5 @@
-//! The parts of declarations of EXPRESS schemas (ISO 10303-11): bounds, data types and domain rules.
+//! The parts of declarations of EXPRESS schemas (ISO 10303-11): bounds, data types and domain
+//! rules.
 #![tactic(auto)]
 
 pub mod bounds;

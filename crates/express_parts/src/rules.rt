@@ -95,7 +95,8 @@ fn named_rule<'a>(
 /// The rule that begins with this token.
 fn rule_from<'a>(reader: &mut Reader<'a>, first: Item<'a>) -> Result<Rule<'a>, SyntaxFault>
     requires shown { (mid : Reading) × Shows mid (located_of first) reader.old }
-    ensures read { (end : Keyword) → Predict.is_keyword end (located_of first.entry).lookahead ≡ false
+    ensures read { (end : Keyword)
+        → Predict.is_keyword end (located_of first.entry).lookahead ≡ false
         → MatchResult result
         (λ r. RuleRead end (located_of first.entry) (rule_of r) reader.old reader.new)
         (λ e. StopsIn e (Rules end ∷ []) (located_of first.entry ∷ []) reader.old) }

@@ -22,7 +22,7 @@ use Rattle.express_schemas.specs.Texts.{token, LocatedToken, Shows}
 use Rattle.express_schemas.specs.Predict.{RunEnd, in_rule, in_lower, in_upper, in_parentheses, Symbol, Running, EndOfText, Next, next, opened, closed, next_outside, next_mark, next_running, same_bracket}
 use Rattle.express_schemas.specs.Passages.{Stands, IsRun}
 use Rattle.express_schemas.specs.Steps.{table, Passes, StopsIn}
-use Rattle.express_runs.specs.OpenRuns.{bracket_of, stacked, brackets_of, may_of, end_of, level, IsOpenRun, going_on, Agrees, IsBegun, IsPushed, Gathered}
+use Rattle.express_runs.specs.OpenRuns.{bracket_of, stacked, brackets_of, may_of, end_of, level, IsOpenRun, going_on, Agrees, IsBegun, IsPushed, Gathered, begin_of}
 use Rattle.express_schemas.specs.Runs.{has_some}
 use Rattle.express_schemas.proofs.Taking.{passes_as, passes_join, passes_taken, passes_first, stops_behind, stops_behind_taken}
 use Rattle.express_runs.proofs.OpenRunLemmas.{Grown, grown, level_is}
@@ -180,6 +180,7 @@ pub record SoFar (part : RunEnd) (n : ℕ) (before : Buffer) (first : LocatedTok
   pub shown : Shows last s here
   pub further : List Word
   pub words : words_of b.lexemes.items ≡ words_of before.lexemes.items ++ further
+  pub begins : begin_of b s.place ≡ begin_of before first.place
   pub passes : (zs : List Symbol) (ws : List Word) (new : Reading) → Passes (running part n b ∷ []) zs (s ∷ []) ws here
       new → Passes (running part n before ∷ []) zs (first ∷ []) (further ++ ws) old new
   pub stops : (e : SyntaxFault) → StopsIn e (running part n b ∷ []) (s ∷ []) here
@@ -193,6 +194,7 @@ so_start part n b s here last h g = record {
   shown = g;
   further = [];
   words = sym (append-nil (words_of b.lexemes.items));
+  begins = refl;
   passes = λ zs ws new p. p;
   stops = λ e p. p;
 }
@@ -273,6 +275,7 @@ so_next part n before first old b opened i here after u new so same from a pushe
       shown = h;
       further = so.further ++ w ∷ [];
       words = words ∙ ap (λ l. l ++ w ∷ []) so.words ∙ append_assoc (words_of before.lexemes.items) so.further (w ∷ []);
+      begins = ap (λ t. if t then after.from else u.place) some ∙ begins ∙ so.begins;
       passes = λ zs vs end p. passes_as ((so.further ++ w ∷ []) ++ vs) (sym (append_assoc so.further (w ∷ []) vs))
           (so.passes zs (w ∷ vs) end (passes_join taken (passes_first u here h p)));
       stops = λ e p. so.stops e (stops_behind_taken e (running part n after ∷ []) [] u taken h p);
@@ -312,6 +315,17 @@ so_done part n before first old b i here so a =
       stand = subst R r.2 (done_stand ws b.from b.to so.last here (located_of i) w so.shown refl g.2 so.begun.stand);
       ending = ap token g.1;
     }
+
+-- it begins where its first token was taken
+pub so_begins : (part : RunEnd) (n : ℕ) (before : Buffer) (first : LocatedToken) (old : Reading) (b : Buffer) (i : Item)
+    (here : Reading) → SoFar part n before first old b (located_of i) here → answer part n b (located_of i) ≡ Ok []
+    → b.from ≡ begin_of before first.place
+so_begins part n before first old b i here so a =
+    let ws = words_of b.lexemes.items in
+    let P : Next → Type 0 = Grown part n (brackets_of b.open.items) (has_some ws) ws (word_of i.lexeme) in
+    let g : (brackets_of b.open.items ≡ []) × (word_of i.lexeme ≡ mark (end_of part)) × (has_some ws ≡ true) =
+    subst P a (grown part n (brackets_of b.open.items) (has_some ws) ws (word_of i.lexeme) so.begun.run) in
+    sym (ap (λ t. if t then b.from else i.place) g.2) ∙ so.begins
 
 -- the run stands in the text
 pub so_stands : (part : RunEnd) (n : ℕ) (before : Buffer) (first : LocatedToken) (old : Reading) (b : Buffer) (i : Item)

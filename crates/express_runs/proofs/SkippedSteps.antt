@@ -1,10 +1,10 @@
 -- Skipped declarations, token by token.
-use Rattle.std.proofs.Common.{◌≡◌, ℕ, zero, suc, ◌+◌, ◌<◌, ◌≤◌, Bool, true, false, List, [], ◌∷◌, ◌++◌, length, map, Some, None, Ok, Err, codes, refl, sym, ap, ◌∙◌, subst, append_assoc, append-nil, drop, length-append, length-drop, arith, inl, inr, if◌then◌else◌}
+use Rattle.std.proofs.Common.{◌≡◌, ℕ, zero, suc, ◌+◌, ◌<◌, ◌≤◌, Bool, true, false, ◌==◌, List, [], ◌∷◌, ◌++◌, length, map, Some, None, Ok, Err, codes, refl, sym, ap, ◌∙◌, subst, append_assoc, append-nil, drop, length-append, length-drop, arith, inl, inr, if◌then◌else◌}
 use Rattle.std.specs.Bool.{Decides}
 use Rattle.std.specs.Char.{to_ascii_lowercase}
 use Rattle.std.specs.Str.{bytes_eq}
 use Rattle.std.proofs.lemmas.Bool.{false≢true}
-use Rattle.std.proofs.lemmas.Bool.Decides.{same_from_decides}
+use Rattle.std.proofs.lemmas.Bool.Decides.{nat_tests, same_from_decides}
 use Rattle.std.proofs.lemmas.Slice.Eq.{bytes_eq-Decides}
 use Rattle.step_literals.specs.Words.{upper}
 use Rattle.step_literals.proofs.CaseLemmas.{same_without_case}
@@ -22,9 +22,12 @@ use Rattle.express_trees.specs.Grammar.{depth_limit}
 use Rattle.express_schemas.specs.declared.fault.FaultKind.TheVariants as fault_kinds
 use Rattle.express_schemas.specs.declared.fault.SyntaxFault.{SyntaxFault}
 use Rattle.express_schemas.specs.declared.fault.SyntaxFault.TheVariants as faults
-use Rattle.express_schemas.specs.Texts.{token, LocatedToken, Shows}
-use Rattle.express_schemas.specs.Passages.{Stands}
+use Rattle.predictive.specs.Tables.{lookaheads}
+use Rattle.express_schemas.specs.Texts.{token, LocatedToken, Shows, ShowsAll}
+use Rattle.express_schemas.specs.Passages.{at_place, BeginsBehind, BeginsNext, Stands, StandsBehind}
 use Rattle.express_schemas.specs.PassageLemmas.{stands_within, stands_some}
+use Rattle.express_schemas.specs.declared.passage.Passage.{Passage}
+use Rattle.express_schemas.specs.Sources.{IsPassageAt}
 use Rattle.express_schemas.specs.Runs.{Routine, ending, further, nested, words_of_routine, BeginsRoutine, EndsRoutine, FitsRoutine}
 use Rattle.express_schemas.specs.Written.{joined}
 use Rattle.express_schemas.specs.Profile.{Every, IsWithout}
@@ -35,6 +38,7 @@ use Rattle.express_schemas.specs.Steps.{StopsIn, Passes}
 use Rattle.express_schemas.proofs.Passing.{same_bytes}
 use Rattle.express_schemas.proofs.Turning.{stops_shown}
 use Rattle.express_schemas.proofs.Looking.{shown_token, reads_shown}
+use Rattle.express_schemas.proofs.SameText.{passes_text}
 use Rattle.express_schemas.proofs.StandLemmas.{reads_stands, stands_join, stands_own, shown_text}
 use Rattle.express_schemas.proofs.Taking.{passes_here, passes_join, passes_more, passes_token, passes_taken, stops_behind}
 
@@ -80,7 +84,7 @@ within_before old new t h =
       length-drop old.place old.text,
     )
 
-shown_within : (old new : Reading) (s : LocatedToken) (w : Word) → Shows old s new → s.lookahead ≡ token w
+pub shown_within : (old new : Reading) (s : LocatedToken) (w : Word) → Shows old s new → s.lookahead ≡ token w
     → old.place ≤ length old.text
 shown_within old new s w h is = let t = shown_token w s old new h is in within_before old new t.0 t.1
 
@@ -111,6 +115,53 @@ begun_first from to [] w place old new e h k = let s : LocatedToken = record {
   place = place;
 } in stands_own old new s w k refl
 begun_first from to (v ∷ ws) w place old new e h k = absurd (omega (arith, e, stands_some old.text from v ws to h))
+
+-- Where tokens begin behind a place and one more is read, they begin there still, or with this one, the first.
+next_begins : (here old new : Reading) (ws : List Word) (w : Word) (from to place begun : ℕ)
+    → BeginsNext here.text here.place ws from → Stands old.text from ws to → to ≡ old.place → old.text ≡ here.text
+    → (let s : LocatedToken = record {
+      lookahead = token w;
+      place = place;
+    } in Shows old s new) → begun ≡ (if from == to then place else from)
+    → BeginsNext here.text here.place (ws ++ w ∷ []) begun
+next_begins here old new [] w from to place begun b h e same k is =
+    let s : LocatedToken = record { lookahead = token w; place = place } in
+    let t = shown_token w s old new k refl in
+    let none : (from == to) ≡ true = grind (arith, nat_tests, h.0) in
+    let first : begun ≡ place = is ∙ ap (λ b. if b then place else from) none in
+    let stood : old.place ≡ here.place = sym e ∙ sym h.0 ∙ b in
+    let next : new ≡ at_place old.text new.place = λ i. record { text = t.1.new_text i; place = new.place } in
+    let P : Reading → Type 0 = λ r. Takes old t.0 r in
+    let Q : List ℕ → ℕ → Type 0 = λ text p. BeginsBehind text p begun in
+    let own : BeginsBehind old.text old.place begun =
+    (t.0, at_place old.text new.place, subst P next t.1, sym t.3 ∙ sym first) in
+    subst (λ text. Q text here.place) same (subst (Q old.text) stood own)
+next_begins here old new (v ∷ ws) w from to place begun b h e same k is =
+    let lt = stands_some old.text from v ws to h in
+    let more : (from == to) ≡ false = grind (arith, nat_tests, lt) in
+    let kept : begun ≡ from = is ∙ ap (λ b. if b then place else from) more in
+    subst (BeginsBehind here.text here.place) (sym kept) b
+
+-- a passage that is this one, with these words from here, stands right behind the place where they begin
+pub passage_at : (text : List ℕ) (place : ℕ) (p q : Passage) (ws : List Word) (from : ℕ) → p ≡ q → p.words.0 ≡ ws
+    → p.from ≡ from → p.text.now ≡ text → BeginsNext text place ws from → IsPassageAt text place q
+passage_at text place p q ws from same is begins of next =
+    let P : List Word → ℕ → Type 0 = BeginsNext text place in
+    let next_of : BeginsNext text place p.words.0 p.from = subst (λ f. P p.words.0 f) (sym begins)
+    (subst (λ l. P l from) (sym is) next) in
+    subst (IsPassageAt text place) same (of, next_of)
+
+-- words that are read stand behind the place where the reader was
+pub words_stand : {ys zs : List Symbol} {old new : Reading} (w : Word) (ws : List Word) → Passes ys zs [] (w ∷ ws) old
+    new → StandsBehind old.text old.place (w ∷ ws) new.place
+words_stand {ys} {zs} {old} {new} w ws h = by h.shown h.shown_all h.words
+  where
+    by : (s : List LocatedToken) → ShowsAll old s new → lookaheads s ≡ token w ∷ map token ws
+        → StandsBehind old.text old.place (w ∷ ws) new.place
+    by [] all e = absurd cc
+    by (x ∷ s) all e =
+        let first : x.lookahead ≡ token w = cc in
+        reads_stands old new (w ∷ ws) (shown_within old all.0 x w all.1 first) (x ∷ s, all, e)
 
 -- what the words of a function or procedure leave to come
 abbrev chosen : Bool → Bool → ℕ → Next
@@ -244,6 +295,7 @@ pub record RoutineSoFar (old here : Reading) (from to n : ℕ) : Type 0 where
   pub passes : Passes (predict.Routine 0 ∷ []) (predict.Routine n ∷ []) [] words old here
   pub completes : Completes n words
   pub stand : here.place ≤ length here.text → Stands here.text from words to
+  pub begins : BeginsNext old.text old.place words from
   pub behind : to ≡ here.place
   pub few : n ≤ here.place
 
@@ -253,6 +305,7 @@ routine_start old place e = record {
   passes = passes_here (predict.Routine 0 ∷ []) old;
   completes = completes_none;
   stand = λ le. (refl, omega (arith, e, le));
+  begins = e;
   behind = e;
   few = omega arith;
 }
@@ -267,9 +320,10 @@ routine_few old here new from to n place w so h =
     omega (arith, so.few, rise.0, rise.1)
 
 -- what a begun passage is with one more token
-abbrev pub IsBegun : ℕ → ℕ → ℕ → LocatedToken → Word → Type 0
-IsBegun from to begun s w = (ws : List Word) (old new : Reading) → Stands old.text from ws to → to ≡ old.place
-    → Shows old s new → Stands new.text begun (ws ++ w ∷ []) new.place
+pub record IsBegun (from to begun : ℕ) (s : LocatedToken) (w : Word) : Type 0 where
+  pub stand : (ws : List Word) (old new : Reading) → Stands old.text from ws to → to ≡ old.place → Shows old s new
+      → Stands new.text begun (ws ++ w ∷ []) new.place
+  pub place : begun ≡ (if from == to then s.place else from)
 
 pub routine_next : (old here new : Reading) (from to begun n left place : ℕ) (w : Word) → RoutineSoFar old here from to
     n → (let s : LocatedToken = record {
@@ -288,8 +342,10 @@ routine_next old here new from to begun n left place w so h e end at =
       passes = passes_join so.passes (passes_token (predict.Routine n) (predict.Routine left ∷ []) w s here new h.0 refl
           e);
       completes = grows.1;
-      stand = λ _. subst P (sym at) (h.1 so.words here new (so.stand (shown_within here new s w h.0 refl)) so.behind
-          h.0);
+      stand = λ _. subst P (sym at) (h.1.stand so.words here new
+          (so.stand (shown_within here new s w h.0 refl)) so.behind h.0);
+      begins = next_begins old here new so.words w from to place begun so.begins (so.stand (shown_within here new s w
+          h.0 refl)) so.behind (passes_text so.passes) h.0 h.1.place;
       behind = at;
       few = let more = routine_few old here new from to n place w so h.0 in omega (arith, grows.0, more);
     }
@@ -299,6 +355,7 @@ pub record RoutineDone (old new : Reading) (text : List ℕ) (from to : ℕ) : T
   pub routine : Routine
   pub fits : FitsRoutine routine
   pub stand : Stands text from (words_of_routine routine) to
+  pub begins : BeginsNext old.text old.place (words_of_routine routine) from
   pub passes : Passes (predict.Routine 0 ∷ []) [] [] (words_of_routine routine) old new
 
 pub routine_done : (old here new : Reading) (from to begun n place : ℕ) (w : Word) → RoutineSoFar old here from to n
@@ -314,12 +371,16 @@ routine_done old here new from to begun n place w so h e end at text is =
     let P : ℕ → Type 0 = λ p. Stands new.text begun (so.words ++ w ∷ []) p in
     let T : List ℕ → Type 0 = λ l. Stands l begun (so.words ++ w ∷ []) end in
     let Q : List Word → Type 0 = λ ws. Stands text begun ws end in
+    let B : List Word → Type 0 = λ ws. BeginsNext old.text old.place ws begun in
     let R : List Word → Type 0 = λ ws. Passes (predict.Routine 0 ∷ []) [] [] ws old new in
     record {
       routine = x.0;
       fits = x.1;
       stand = subst Q (sym x.2) (subst T (sym is)
-          (subst P (sym at) (h.1 so.words here new (so.stand (shown_within here new s w h.0 refl)) so.behind h.0)));
+          (subst P (sym at) (h.1.stand so.words here new
+          (so.stand (shown_within here new s w h.0 refl)) so.behind h.0)));
+      begins = subst B (sym x.2) (next_begins old here new so.words w from to place begun so.begins
+          (so.stand (shown_within here new s w h.0 refl)) so.behind (passes_text so.passes) h.0 h.1.place);
       passes = subst R (sym x.2) (passes_join so.passes (passes_token (predict.Routine n) [] w s here new h.0 refl e));
     }
 
@@ -334,6 +395,7 @@ pub record UntilSoFar (end : List ℕ) (old here : Reading) (from to : ℕ) : Ty
   pub passes : Passes (Until end ∷ []) (Until end ∷ []) [] words old here
   pub without : IsWithout end words
   pub stand : here.place ≤ length here.text → Stands here.text from words to
+  pub begins : BeginsNext old.text old.place words from
   pub behind : to ≡ here.place
 
 pub until_start : (end : List ℕ) (old : Reading) (place : ℕ) → place ≡ old.place → UntilSoFar end old old place place
@@ -342,6 +404,7 @@ until_start end old place e = record {
   passes = passes_here (Until end ∷ []) old;
   without = tt;
   stand = λ le. (refl, omega (arith, e, le));
+  begins = e;
   behind = e;
 }
 
@@ -370,8 +433,10 @@ until_next end old here new from to begun place w so h e behind at =
           (until_other end w e));
       without = without_push end so.words w so.without (λ q. false≢true (sym e ∙ ap (λ v. is_name end (token v)) q
           ∙ same_bytes end end refl));
-      stand = λ _. subst P (sym at) (h.1 so.words here new (so.stand (shown_within here new s w h.0 refl)) so.behind
-          h.0);
+      stand = λ _. subst P (sym at) (h.1.stand so.words here new
+          (so.stand (shown_within here new s w h.0 refl)) so.behind h.0);
+      begins = next_begins old here new so.words w from to place begun so.begins (so.stand (shown_within here new s w
+          h.0 refl)) so.behind (passes_text so.passes) h.0 h.1.place;
       behind = at;
     }
 

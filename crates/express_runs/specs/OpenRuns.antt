@@ -89,6 +89,10 @@ pub record IsPushed (before : Buffer) (i : Item) (end : ℕ) (after : Buffer) : 
   pub from : after.from ≡ (if has_some (words_of before.lexemes.items) then before.from else i.place)
   pub to : after.to ≡ end
 
+-- where a run begins whose first tokens are in a buffer, and of which this is the place of the next
+abbrev pub begin_of : Buffer → ℕ → ℕ
+begin_of b next = if has_some (words_of b.lexemes.items) then b.from else next
+
 -- what is to come of a run whose first tokens are in a buffer
 abbrev pub more_of : RunEnd → ℕ → Buffer → Symbol
 more_of part n b = Running part n (brackets_of b.open.items) (has_some (words_of b.lexemes.items))

@@ -9,7 +9,7 @@ ghost use Rattle.express_schemas.specs.declared.fault.SyntaxFault.TheVariants.{F
 ghost use Rattle.express_runs.specs.Items.{located_of, named};
 ghost use Rattle.express_schemas.specs.Texts.{Shows};
 ghost use Rattle.express_schemas.specs.Views.{run_of};
-ghost use Rattle.express_schemas.specs.Sources.{IsRunOf};
+ghost use Rattle.express_schemas.specs.Sources.{IsRunOf, place_of_run};
 ghost use Rattle.express_schemas.specs.Runs;
 ghost use Rattle.express_schemas.specs.Runs.{words_of_run};
 ghost use Rattle.express_schemas.specs.Predict;
@@ -23,6 +23,7 @@ ghost use Rattle.express_runs.specs.OpenRuns.{
   IsBegun,
   IsPushed,
   Gathered,
+  begin_of,
   more_of,
 };
 ghost use Rattle.express_schemas.specs.Passages.{Stands, IsRun};
@@ -57,8 +58,9 @@ pub enum Bracket {
     Brace,
 }
 
-/// The tokens of a run as far as it is read, its brackets that are open, the outermost first, and how many
-/// bytes come before the first token and before the end of the last. It is used again for the next run.
+/// The tokens of a run as far as it is read, its brackets that are open, the outermost first, and
+/// how many bytes come before the first token and before the end of the last. It is used again for
+/// the next run.
 #[derive(Drop)]
 pub struct Buffer<'a> {
     pub lexemes: Vec<Lexeme<'a>>,
@@ -124,6 +126,7 @@ fn run_between(text: &[u8], from: u64, to: u64) -> Run<'_>
     ensures run { (r : Runs.Run) → IsRun r → Stands text.now from (words_of_run r) to
         → run_of result ≡ r }
     ensures text { IsRunOf text.now result }
+    ensures place { place_of_run result ≡ from }
 {
     Run::of(Passage::between(text, from as usize, to as usize))
 }
@@ -275,8 +278,8 @@ fn step(
     }
 }
 
-/// Reads a run up to what ends it, and that, behind the tokens that the buffer has already. The next token
-/// is taken; so many brackets and aggregate types are open around the run.
+/// Reads a run up to what ends it, and that, behind the tokens that the buffer has already. The
+/// next token is taken; so many brackets and aggregate types are open around the run.
 pub fn gather<'a>(
     lexer: &mut Lexer<'a>,
     part: Ends,
@@ -293,6 +296,8 @@ pub fn gather<'a>(
         (λ e. StopsIn e (more_of (part_of part) around buffer.old ∷ [])
         (located_of first.entry ∷ []) lexer.old) }
     ensures text { IfOk result (λ r. IsRunOf lexer.old.text r) }
+    ensures place { IfOk result (λ r.
+        place_of_run r ≡ begin_of buffer.old first.entry.place) }
 {
     let mut item = first;
     loop {

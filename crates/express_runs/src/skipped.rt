@@ -1,6 +1,20 @@
 //! Declarations of which only the tokens are kept (ISO 10303-11, 9.4 to 9.7).
 
-ghost use Rattle.std.specs.Prelude.{◌≡◌, ◌+◌, ◌<◌, ◌^◌, [], ◌∷◌, ◌++◌, List, Ok, IfOk, MatchResult};
+ghost use Rattle.std.specs.Prelude.{
+  ◌≡◌,
+  ◌+◌,
+  ◌<◌,
+  ◌^◌,
+  ◌==◌,
+  [],
+  ◌∷◌,
+  ◌++◌,
+  List,
+  Ok,
+  IfOk,
+  MatchResult,
+};
+ghost use Rattle.std.specs.Bool.{if◌then◌else◌};
 ghost use Rattle.std.specs.Str.{bytes_eq};
 ghost use Rattle.step_literals.specs.Words.{upper};
 ghost use Rattle.express_lexis.specs.declared.marks.Mark.TheVariants as marks;
@@ -12,7 +26,15 @@ ghost use Rattle.express_schemas.specs.Texts.{Shows};
 ghost use Rattle.express_schemas.specs.Passages.{Stands};
 ghost use Rattle.express_schemas.specs.Runs.{words_of_routine, FitsRoutine};
 ghost use Rattle.express_schemas.specs.Views.{routine_of, words_of_passage, skipped_of};
-ghost use Rattle.express_schemas.specs.Sources.{IsPassageOf, IsRoutineOf, IsSkippedOf};
+ghost use Rattle.express_schemas.specs.Sources.{
+  BehindName,
+  IsPassageAt,
+  IsPassageOf,
+  IsRoutineAt,
+  IsRoutineOf,
+  IsSkippedAt,
+  IsSkippedOf,
+};
 ghost use Rattle.express_schemas.specs.Written.{words_of_skipped};
 ghost use Rattle.express_schemas.specs.Profile.{IsWithout, FitsSkipped};
 ghost use Rattle.express_schemas.specs.Predict;
@@ -80,12 +102,13 @@ fn skipped_end(reader: &mut Reader<'_>) -> Result<(), SyntaxFault>
     Ok(())
 }
 
-/// How many bytes come before the first of some tokens, of which this one is the last; those before it stand
-/// between these places.
+/// How many bytes come before the first of some tokens, of which this one is the last; those before
+/// it stand between these places.
 fn begun(from: u64, to: u64, item: Item<'_>) -> u64
-    ensures { (ws : List Words.Word) (old new : Reading)
+    ensures stand { (ws : List Words.Word) (old new : Reading)
         → Stands old.text from ws to → to ≡ old.place → Shows old (located_of item.entry) new
         → Stands new.text result (ws ++ word_of item.entry.lexeme ∷ []) new.place }
+    ensures place { result ≡ (if from == to then item.entry.place else from) }
 {
     if from == to {
         return item.place;
@@ -107,7 +130,8 @@ fn closes(found: Word<'_>) -> bool
     spells(found, b"END_FUNCTION") || spells(found, b"END_PROCEDURE")
 }
 
-/// How many functions and procedures are open behind a token, beside the outermost; none where that is ended.
+/// How many functions and procedures are open behind a token, beside the outermost; none where that
+/// is ended.
 fn left_open(others: u64, item: Item<'_>) -> Option<u64>
     requires { others + 1 < 2 ^ 64 }
     ensures { next_routine others (located_of item.entry).lookahead ≡ Ok (still_open result) }
@@ -133,6 +157,7 @@ fn routine_tokens<'a>(reader: &mut Reader<'a>) -> Result<Routine<'a>, SyntaxFaul
         (λ r. words_of_routine (routine_of r)) (λ r. FitsRoutine (routine_of r))
         reader.old reader.new }
     ensures text { IfOk result (λ r. IsRoutineOf reader.old.text r) }
+    ensures place { IfOk result (λ r. IsRoutineAt reader.old.text reader.old.place r) }
 {
     let mut others = 0;
     let mut from = reader.place();
@@ -156,6 +181,7 @@ fn tokens_until<'a>(reader: &mut Reader<'a>, end: &[u8]) -> Result<Passage<'a>, 
         (λ p. words_of_passage p ++ name end.now ∷ []) (λ p. IsWithout end.now (words_of_passage p))
         reader.old reader.new }
     ensures text { IfOk result (λ p. IsPassageOf reader.old.text p) }
+    ensures place { IfOk result (λ p. IsPassageAt reader.old.text reader.old.place p) }
 {
     let mut from = reader.place();
     let mut to = from;
@@ -176,6 +202,8 @@ fn named_routine<'a>(reader: &mut Reader<'a>) -> Result<(Word<'a>, Routine<'a>),
         ∷ (words_of_routine (routine_of r.1) ++ mark marks.Semicolon ∷ []))
         (λ r. FitsRoutine (routine_of r.1)) reader.old reader.new }
     ensures text { IfOk result (λ r. IsRoutineOf reader.old.text r.1) }
+    ensures place { IfOk result (λ r. BehindName reader.old.text reader.old.place r.0
+        (λ mid. IsRoutineAt reader.old.text mid r.1)) }
 {
     let name = skipped_name(reader)?;
     let tokens = routine_tokens(reader)?;
@@ -190,6 +218,7 @@ fn tokens_ended<'a>(reader: &mut Reader<'a>, end: &[u8]) -> Result<Passage<'a>, 
         (λ p. words_of_passage p ++ name end.now ∷ mark marks.Semicolon ∷ [])
         (λ p. IsWithout end.now (words_of_passage p)) reader.old reader.new }
     ensures text { IfOk result (λ p. IsPassageOf reader.old.text p) }
+    ensures place { IfOk result (λ p. IsPassageAt reader.old.text reader.old.place p) }
 {
     let tokens = tokens_until(reader, end)?;
     skipped_end(reader)?;
@@ -207,6 +236,8 @@ fn named_tokens<'a>(
         ∷ (words_of_passage p.1 ++ name end.now ∷ mark marks.Semicolon ∷ []))
         (λ p. IsWithout end.now (words_of_passage p.1)) reader.old reader.new }
     ensures text { IfOk result (λ p. IsPassageOf reader.old.text p.1) }
+    ensures place { IfOk result (λ p. BehindName reader.old.text reader.old.place p.0
+        (λ mid. IsPassageAt reader.old.text mid p.1)) }
 {
     let name = skipped_name(reader)?;
     let tokens = tokens_ended(reader, end)?;
@@ -225,6 +256,7 @@ pub fn skipped<'a>(
         (words_of_skipped (skipped_of s)) reader.old reader.new)
         (λ e. StopsIn e (Declarations ∷ []) (named first.entry place ∷ []) reader.old) }
     ensures text { IfOk result (λ s. IsSkippedOf reader.old.text s) }
+    ensures place { IfOk result (λ s. IsSkippedAt reader.old.text reader.old.place s) }
 {
     if spells(first, b"FUNCTION") {
         let (name, tokens) = named_routine(reader)?;

@@ -14,9 +14,18 @@ StandsBehind text from [] to = (from ≡ to) × (to ≤ length text)
 StandsBehind text from (w ∷ ws) to = (from ≤ length text) × (t : Token) × (next : ℕ) × Takes (at_place text from) t
     (at_place text next) × (word_of_sort t.sort ≡ w) × StandsBehind text next ws to
 
+-- the token that stands behind this place, with or without layout before it, begins at another
+abbrev pub BeginsBehind : List ℕ → ℕ → ℕ → Type 0
+BeginsBehind text place from = (t : Token) × (next : Reading) × Takes (at_place text place) t next × (t.place ≡ from)
+
 -- the token that stands behind this place begins just there, with no layout before it
 abbrev pub BeginsAt : List ℕ → ℕ → Type 0
-BeginsAt text from = (t : Token) × (next : Reading) × Takes (at_place text from) t next × (t.place ≡ from)
+BeginsAt text from = BeginsBehind text from from
+
+-- Words that stand behind this place begin at another, with the first token; where there are none, they begin here.
+abbrev pub BeginsNext : List ℕ → ℕ → List Word → ℕ → Type 0
+BeginsNext text place [] from = from ≡ place
+BeginsNext text place (w ∷ ws) from = BeginsBehind text place from
 
 -- These words stand in a text from the first byte of the first to the last byte of the last.
 abbrev pub Stands : List ℕ → ℕ → List Word → ℕ → Type 0

@@ -1,5 +1,8 @@
--- The text of which the passages are that a value keeps.
-use Rattle.std.specs.Prelude.{◌≡◌, ℕ, List}
+-- The text of which the passages are that a value keeps, and where they stand in it.
+use Rattle.std.specs.Prelude.{◌≡◌, ℕ, List, [], ◌∷◌}
+use Rattle.step_literals.specs.declared.literal.Word.{Word}
+use Rattle.express_trees.specs.Words.{name}
+use Rattle.express_trees.specs.Views.{capitals}
 use Rattle.express_schemas.specs.declared.passage.Passage.{Passage}
 use Rattle.express_schemas.specs.declared.passage.Run.{Run}
 use Rattle.express_schemas.specs.declared.passage.Routine.{Routine}
@@ -32,6 +35,7 @@ use Rattle.express_schemas.specs.declared.tree.Skipped.TheVariants as skips
 use Rattle.express_schemas.specs.declared.tree.Declaration.{Declaration}
 use Rattle.express_schemas.specs.declared.tree.Declaration.TheVariants as declarations
 use Rattle.express_schemas.specs.declared.tree.SchemaTree.{SchemaTree}
+use Rattle.express_schemas.specs.Passages.{StandsBehind, BeginsNext}
 use Rattle.express_schemas.specs.Profile.{Every, Maybe}
 
 abbrev pub IsPassageOf : List ℕ → Passage → Type 0
@@ -42,6 +46,21 @@ IsRunOf text r = IsPassageOf text r.passage
 
 abbrev pub IsRoutineOf : List ℕ → Routine → Type 0
 IsRoutineOf text r = IsPassageOf text r.passage
+
+-- how many bytes of the text come before a run
+abbrev pub place_of_run : Run → ℕ
+place_of_run r = r.passage.from
+
+-- A passage stands right behind this place of its text, so it is none of those that have the same words elsewhere.
+abbrev pub IsPassageAt : List ℕ → ℕ → Passage → Type 0
+IsPassageAt text place p = IsPassageOf text p × BeginsNext text place p.words.0 p.from
+
+abbrev pub IsRoutineAt : List ℕ → ℕ → Routine → Type 0
+IsRoutineAt text place r = IsPassageAt text place r.passage
+
+-- a name stands behind this place, and this behind the name
+abbrev pub BehindName : List ℕ → ℕ → Word → (ℕ → Type 0) → Type 0
+BehindName text place w Stands = (mid : ℕ) × StandsBehind text place (name (capitals w) ∷ []) mid × Stands mid
 
 abbrev pub IsBodyOf : List ℕ → Body → Type 0
 IsBodyOf text (bodies.SetAside r) = IsRunOf text r
@@ -117,6 +136,14 @@ IsSkippedOf text (skips.Procedure w r) = IsRoutineOf text r
 IsSkippedOf text (skips.Rule w p) = IsPassageOf text p
 IsSkippedOf text (skips.Constants p) = IsPassageOf text p
 IsSkippedOf text (skips.SubtypeConstraint w p) = IsPassageOf text p
+
+-- what is kept of it stands right behind its name, and constants behind this place
+abbrev pub IsSkippedAt : List ℕ → ℕ → Skipped → Type 0
+IsSkippedAt text place (skips.Function w r) = BehindName text place w (λ mid. IsRoutineAt text mid r)
+IsSkippedAt text place (skips.Procedure w r) = BehindName text place w (λ mid. IsRoutineAt text mid r)
+IsSkippedAt text place (skips.Rule w p) = BehindName text place w (λ mid. IsPassageAt text mid p)
+IsSkippedAt text place (skips.Constants p) = IsPassageAt text place p
+IsSkippedAt text place (skips.SubtypeConstraint w p) = BehindName text place w (λ mid. IsPassageAt text mid p)
 
 abbrev pub IsDeclarationOf : List ℕ → Declaration → Type 0
 IsDeclarationOf text (declarations.Type t) = IsTypeOf text t

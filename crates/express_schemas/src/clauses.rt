@@ -1,5 +1,5 @@
-//! What stands in the clauses of declarations, of which some may be absent, the names of attributes, and the
-//! integers that bounds are.
+//! What stands in the clauses of declarations, of which some may be absent, the names of
+//! attributes, and the integers that bounds are.
 
 ghost use Rattle.std.specs.Prelude.{◌≡◌, ℤ, [], FitsSigned, MatchOption};
 ghost use Rattle.std.specs.Int.{w64};
@@ -98,8 +98,8 @@ fn is_minus(sign: Option<Sign>) -> bool
 }
 
 impl<'a> Bound<'a> {
-    /// The integer that it is, with its sign (ISO 10303-11, 8.2); none where it is beyond the range of
-    /// `i64`, for `?`, and for tokens that are no integer.
+    /// The integer that it is, with its sign (ISO 10303-11, 8.2); none where it is beyond the range
+    /// of `i64`, for `?`, and for tokens that are no integer.
     pub fn value(&self) -> Option<i64>
         ensures { MatchOption result
             ((n : ℤ) → FitsSigned w64 n → IsInteger (bound_of self.now) n → ⊥)

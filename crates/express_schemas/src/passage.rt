@@ -19,16 +19,16 @@ pub struct Passage<'a> {
     pub ghost words: { WordsBetween text.now from to } by { words_prop text.now from to },
 }
 
-/// Tokens in which brackets are closed as they are opened: a part that there is no tree for, or that is
-/// set aside.
+/// Tokens in which brackets are closed as they are opened: a part that there is no tree for, or
+/// that is set aside.
 #[derive(Clone, Copy)]
 pub struct Run<'a> {
     passage: Passage<'a>,
     pub ghost run: { RunOf passage.words.0 } by { run_prop passage.words.0 },
 }
 
-/// What stands behind the name of a function or procedure, up to the word that ends it; those in it nest
-/// (ISO 10303-11, 9.5).
+/// What stands behind the name of a function or procedure, up to the word that ends it; those in it
+/// nest (ISO 10303-11, 9.5).
 #[derive(Clone, Copy)]
 pub struct Routine<'a> {
     passage: Passage<'a>,

@@ -49,7 +49,8 @@ pub enum Width<'a> {
     Other(Run<'a>),
 }
 
-/// The width of a STRING or BINARY, and whether all its values have it (ISO 10303-11, 8.1.6 and 8.1.7).
+/// The width of a STRING or BINARY, and whether all its values have it (ISO 10303-11, 8.1.6 and
+/// 8.1.7).
 #[derive(Clone, Copy)]
 pub struct FixedWidth<'a> {
     pub width: Width<'a>,

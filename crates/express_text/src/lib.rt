@@ -1,7 +1,7 @@
 //! EXPRESS schemas (ISO 10303-11), read as trees.
 //!
-//! All that a user of trees needs is reached from here: `read_schema`, the tree of a schema and its faults, the trees
-//! of expressions, and literals with what they mean.
+//! All that a user of trees needs is reached from here: `read_schema`, the tree of a schema and its
+//! faults, the trees of expressions, and literals with what they mean.
 #![tactic(auto)]
 
 mod schema;

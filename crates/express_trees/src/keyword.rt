@@ -7,9 +7,9 @@ ghost use Rattle.express_trees.specs.Letters.{keywords_from};
 
 use step_literals::literal::Word;
 
-/// A word that is never a name (ISO 10303-11, 7.2.1): those of the declarations and expressions that are
-/// read, and those that begin what isn't read (USE, REFERENCE, RENAMED, EXTENSIBLE, BASED_ON,
-/// GENERIC_ENTITY).
+/// A word that is never a name (ISO 10303-11, 7.2.1): those of the declarations and expressions
+/// that are read, and those that begin what isn't read (USE, REFERENCE, RENAMED, EXTENSIBLE,
+/// BASED_ON, GENERIC_ENTITY).
 #[derive(Clone, Copy, Debug, PartialEq, Eq)]
 pub enum Keyword {
     Abstract,

@@ -6,7 +6,8 @@ ghost use Rattle.express_trees.specs.Laws.{
   KeywordsAreSpelt,
 };
 
-/// The words of an expression are those of one tree at most, however many brackets are open around it.
+/// The words of an expression are those of one tree at most, however many brackets are open around
+/// it.
 pub fn an_expression_is_one_tree()
     ensures { ExpressionsAreOneTree }
 {}

@@ -40,7 +40,8 @@ module _ {S W K R I : Type 0} (table : Table S W K) (shows : R → LocatedToken 
     words =
         let e : lookaheads (before ++ h.shown) ++ lookaheads g.shown ≡ lookaheads (before ++ (h.shown ++ g.shown)) =
         sym (lookaheads_append (before ++ h.shown) g.shown) ∙ ap lookaheads (append_assoc before h.shown g.shown) in
-        subst (λ l. told l (i ++ j)) e (joins (lookaheads (before ++ h.shown)) (lookaheads g.shown) i j h.words g.words);
+        subst (λ l. told l (i ++ j)) e
+        (joins (lookaheads (before ++ h.shown)) (lookaheads g.shown) i j h.words g.words);
     turned = λ more q. ap (λ l. run table (ys ++ more) (before ++ l)) (append_assoc h.shown g.shown q)
         ∙ h.turned more (g.shown ++ q) ∙ g.turned more q;
   }

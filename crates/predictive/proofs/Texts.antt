@@ -91,7 +91,8 @@ module _ {R W : Type 0} (shows : R → LocatedToken W → R → Type 0) (d : IsD
       → IsViablePrefix L (lookaheads a) → (IsViablePrefix L (lookaheads (a ++ s ∷ [])) → ⊥)
       → IsViablePrefix L (lookaheads b) → (IsViablePrefix L (lookaheads (b ++ t ∷ [])) → ⊥) → (a ≡ b) × (s ≡ t)
   same_token old x y a b s t h k viable refused viable' refused' =
-      one_stop shows d (λ l. IsViablePrefix L (lookaheads l)) (λ a b f. front_before L (a ++ b) a b refl f) old x y a b s
+      one_stop shows d (λ l. IsViablePrefix L (lookaheads l)) (λ a b f. front_before L (a ++ b) a b refl f) old x y a b
+      s
       t h k viable refused viable' refused'
 
   -- a text that is whole goes on where tokens that are a front, and not whole, are shown up to a next one

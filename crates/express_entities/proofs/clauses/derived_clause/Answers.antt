@@ -45,7 +45,8 @@ loop-list-preserved c =
       stand_push derived_of derived (FitsDerived depth_limit) words_of_derived c.loop-list.list.items
           c.push.new.self.items c.in_ok-item-in-Attribute.item c.in-Attribute.attribute (behind_attribute derived)
           c.args.reader.now c.loop-list.reader c.take_start.new.reader c.derived.new.reader
-          c.in_ok-push-in-Attribute.ensures.items (first_same derived c.in-Attribute.attribute refl) c.loop-list.invariant.0
+          c.in_ok-push-in-Attribute.ensures.items (first_same derived c.in-Attribute.attribute refl)
+          c.loop-list.invariant.0
           begins c.in_ok-item-in-Attribute.ensures.read,
       rw c.in_ok-push-in-Attribute.ensures.items (every_push (IsDerivedOf c.args.reader.now.text) c.loop-list.list.items
           c.in_ok-item-in-Attribute.item c.loop-list.invariant.1 (kept IsDerivedOf c.in_ok-item-in-Attribute.item e

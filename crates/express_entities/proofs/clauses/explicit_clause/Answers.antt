@@ -45,9 +45,11 @@ loop-list-preserved c =
       stand_push explicit_of explicits (FitsExplicit depth_limit) words_of_explicit c.loop-list.list.items
           c.push.new.self.items c.in_ok-item-in-Attribute.item c.in-Attribute.attribute (behind_attribute explicits)
           c.args.reader.now c.loop-list.reader c.take_start.new.reader c.explicit.new.reader
-          c.in_ok-push-in-Attribute.ensures.items (first_same explicits c.in-Attribute.attribute refl) c.loop-list.invariant.0
+          c.in_ok-push-in-Attribute.ensures.items (first_same explicits c.in-Attribute.attribute refl)
+          c.loop-list.invariant.0
           begins c.in_ok-item-in-Attribute.ensures.read,
-      rw c.in_ok-push-in-Attribute.ensures.items (every_push (IsExplicitOf c.args.reader.now.text) c.loop-list.list.items
+      rw c.in_ok-push-in-Attribute.ensures.items
+          (every_push (IsExplicitOf c.args.reader.now.text) c.loop-list.list.items
           c.in_ok-item-in-Attribute.item c.loop-list.invariant.1 (kept IsExplicitOf c.in_ok-item-in-Attribute.item e
           c.in_ok-item-in-Attribute.ensures.text)),
     )

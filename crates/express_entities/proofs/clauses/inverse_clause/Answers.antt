@@ -45,7 +45,8 @@ loop-list-preserved c =
       stand_push inverse_of inverses (FitsInverse depth_limit) words_of_inverse c.loop-list.list.items
           c.push.new.self.items c.in_ok-item-in-Attribute.item c.in-Attribute.attribute (behind_attribute inverses)
           c.args.reader.now c.loop-list.reader c.take_start.new.reader c.inverse.new.reader
-          c.in_ok-push-in-Attribute.ensures.items (first_same inverses c.in-Attribute.attribute refl) c.loop-list.invariant.0
+          c.in_ok-push-in-Attribute.ensures.items (first_same inverses c.in-Attribute.attribute refl)
+          c.loop-list.invariant.0
           begins c.in_ok-item-in-Attribute.ensures.read,
       rw c.in_ok-push-in-Attribute.ensures.items (every_push (IsInverseOf c.args.reader.now.text) c.loop-list.list.items
           c.in_ok-item-in-Attribute.item c.loop-list.invariant.1 (kept IsInverseOf c.in_ok-item-in-Attribute.item e

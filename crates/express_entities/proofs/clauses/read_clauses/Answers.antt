@@ -27,7 +27,8 @@ returns-in_err-uniques-clause-read c =
 pub returns-in_err-rules-clause-read : goal.returns-in_err-rules-clause-read
 returns-in_err-rules-clause-read c =
     let p = err_from_is_err_and c.from_residual-in_err-rules.result c.from_residual-in_err-rules.ensures.1 in
-    rw (p.1, p.2) (stops_end _ (after_uniques c.in_ok-explicits.ensures.read c.in_ok-derived.ensures.read c.in_ok-inverses.ensures.read
+    rw (p.1, p.2) (stops_end _
+    (after_uniques c.in_ok-explicits.ensures.read c.in_ok-derived.ensures.read c.in_ok-inverses.ensures.read
     c.in_ok-uniques.ensures) c.in_err-rules.ensures.read)
 
 pub returns-clause-read : goal.returns-clause-read
@@ -39,7 +40,8 @@ returns-clause-read c = (
     uniques = c.in_ok-uniques.ensures.fits;
     rules = c.in_ok-rules.ensures.read.0;
   },
-  after_rules (if_some (λ rs. rules_of rs.items) c.in_ok-rules.rules) c.in_ok-explicits.ensures.read c.in_ok-derived.ensures.read
+  after_rules (if_some (λ rs. rules_of rs.items) c.in_ok-rules.rules) c.in_ok-explicits.ensures.read
+      c.in_ok-derived.ensures.read
       c.in_ok-inverses.ensures.read c.in_ok-uniques.ensures (
         c.in_ok-rules.ensures.read.1,
         c.in_ok-rules.ensures.read.2,

@@ -27,5 +27,10 @@ pub returns-clause-text : goal.returns-clause-text
 returns-clause-text c =
     let e = passes_text c.in_ok-name.ensures in
     let clauses = kept AreClausesOf c.in_ok-clauses.clauses (passes_text c.in_ok-head.ensures.read.1 ∙ e)
-    c.in_ok-clauses.ensures.text in
-    (kept IsSupertypeOf c.in_ok-head.head.supertype e c.in_ok-head.ensures.text, clauses.0, clauses.1, clauses.2, clauses.3)
+    c.in_ok-clauses.ensures.text in (
+      kept IsSupertypeOf c.in_ok-head.head.supertype e c.in_ok-head.ensures.text,
+      clauses.0,
+      clauses.1,
+      clauses.2,
+      clauses.3,
+    )

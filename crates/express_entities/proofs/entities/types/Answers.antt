@@ -71,7 +71,8 @@ returns-in_err-subtype_of-3-clause-read c =
     (located_of c.in_ok-second.second) (located_of c.in_ok-behind.behind) c.args.reader.now
     (sym c.is_keyword.ensures ∙ c.if-not-is_keyword.false) c.in_ok-second.ensures (sym c.is_keyword-2.ensures
     ∙ c.if-not-is_keyword-2.false) c.in_ok-expect.ensures
-    (c.in_ok-supertype.ensures.read.1, c.in_ok-supertype.ensures.read.2, c.in_ok-supertype.ensures.read.3) c.in_ok-behind.ensures
+    (c.in_ok-supertype.ensures.read.1, c.in_ok-supertype.ensures.read.2, c.in_ok-supertype.ensures.read.3)
+    c.in_ok-behind.ensures
     c.in_err-subtype_of-3.ensures)
 
 pub returns-clause-read : goal.returns-clause-read
@@ -83,7 +84,8 @@ returns-clause-read c = (
       (located_of c.in_ok-second.second) (located_of c.in_ok-behind.behind) c.args.reader.now (sym c.is_keyword.ensures
       ∙ c.if-not-is_keyword.false) c.in_ok-second.ensures (sym c.is_keyword-2.ensures ∙ c.if-not-is_keyword-2.false)
       c.in_ok-expect.ensures
-      (c.in_ok-supertype.ensures.read.1, c.in_ok-supertype.ensures.read.2, c.in_ok-supertype.ensures.read.3) c.in_ok-behind.ensures
+      (c.in_ok-supertype.ensures.read.1, c.in_ok-supertype.ensures.read.2, c.in_ok-supertype.ensures.read.3)
+      c.in_ok-behind.ensures
       c.in_ok-subtype_of-3.ensures.1,
 )
 

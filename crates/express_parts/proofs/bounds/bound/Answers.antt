@@ -11,7 +11,8 @@ returns-in-Some-clause-read c =
     rw (← c.reader.view_is) (bound_known (part_of c.args.part) c.args.around c.next_run.new.buffer.lexemes.items
     (run_of c.in_ok-tokens.tokens) (bound_of c.in-Some.bound) c.reader.inside.lexer c.next_run.new.lexer
     c.in_ok-tokens.ensures.read
-    (c.in-Some.ensures.known.0 ∙ ap words_of c.deref.ensures.value) (c.in-Some.ensures.known.1 (may_of (part_of c.args.part))
+    (c.in-Some.ensures.known.0 ∙ ap words_of c.deref.ensures.value)
+    (c.in-Some.ensures.known.1 (may_of (part_of c.args.part))
     c.args.around))
 
 pub returns-clause-read : goal.returns-clause-read

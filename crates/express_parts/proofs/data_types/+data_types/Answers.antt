@@ -55,7 +55,8 @@ pub aggregate-returns-in_ok-bounds-in-Bag-clause-read : goal.aggregate-returns-i
 aggregate-returns-in_ok-bounds-in-Bag-clause-read t c =
     let h : c.args.depth < depth_limit = search rules in
     let x = c.in_ok-bounds-in-Bag.ensures.read in
-    rw c.bag.ensures.data_type (bag_done c.args.depth (ending_of c.args.end) (if_some bounds_of c.in_ok-bounds-in-Bag.bounds)
+    rw c.bag.ensures.data_type
+    (bag_done c.args.depth (ending_of c.args.end) (if_some bounds_of c.in_ok-bounds-in-Bag.bounds)
     (data_type_of c.in_ok-bounds-in-Bag.element.value) (located_of c.args.first) c.args.reader.now
     c.collection.new.reader (c.requires.first ∙ ap (λ k. token (keyword k)) c.in-Bag.is) h x.0 x.1)
 
@@ -63,7 +64,8 @@ pub aggregate-returns-in_ok-bounds-in_default-clause-read : goal.aggregate-retur
 aggregate-returns-in_ok-bounds-in_default-clause-read t c =
     let h : c.args.depth < depth_limit = search rules in
     let x = c.in_ok-bounds-in_default.ensures.read in
-    rw c.set.ensures.data_type (set_done c.args.depth (ending_of c.args.end) (if_some bounds_of c.in_ok-bounds-in_default.bounds)
+    rw c.set.ensures.data_type
+    (set_done c.args.depth (ending_of c.args.end) (if_some bounds_of c.in_ok-bounds-in_default.bounds)
     (data_type_of c.in_ok-bounds-in_default.element.value) (located_of c.args.first) c.args.reader.now
     c.collection-in_default.new.reader (c.requires.first ∙ ap (λ k. token (keyword k))
     (last_aggregate c.args.found c.requires.found c.in_default.not-Array c.in_default.not-List
@@ -141,7 +143,8 @@ pub list-returns-clause-read : goal.list-returns-clause-read
 list-returns-clause-read t c =
     rw c.list.ensures.data_type (list_done c.args.depth (ending_of c.args.end) (if_some bounds_of c.in_ok-bounds.bounds)
     c.in_ok-is_unique.is_unique (data_type_of c.in_ok-is_unique.element.value) c.args.reader.now
-    c.some_bounds.new.reader c.element.new.reader c.requires.depth c.in_ok-bounds.ensures.read.0 c.in_ok-bounds.ensures.read.1
+    c.some_bounds.new.reader c.element.new.reader c.requires.depth c.in_ok-bounds.ensures.read.0
+    c.in_ok-bounds.ensures.read.1
     c.in_ok-is_unique.ensures.read)
 
 pub optional_element-returns-in_err-is_unique-clause-read : goal.optional_element-returns-in_err-is_unique-clause-read

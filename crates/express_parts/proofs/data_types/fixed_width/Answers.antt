@@ -16,7 +16,8 @@ pub returns-in_default-clause-read : goal.returns-in_default-clause-read
 returns-in_default-clause-read c = (
   tt,
   rw c.in_default.is at
-      (c.in_ok-width.ensures.read (FixedWidthOr c.args.depth (ending_of c.args.end)) (FixedOr (ending_of c.args.end) ∷ [])
+      (c.in_ok-width.ensures.read (FixedWidthOr c.args.depth (ending_of c.args.end))
+      (FixedOr (ending_of c.args.end) ∷ [])
       (λ s. refl)),
 )
 

@@ -14,7 +14,8 @@ returns-in_err-width-clause-read c =
 
 pub returns-in_default-clause-read : goal.returns-in_default-clause-read
 returns-in_default-clause-read c =
-    rw c.real.ensures.data_type (real_none c.args.depth (ending_of c.args.end) c.args.reader.now c.width_or_end.new.reader
+    rw c.real.ensures.data_type
+    (real_none c.args.depth (ending_of c.args.end) c.args.reader.now c.width_or_end.new.reader
     (rw c.in_default.is at (c.in_ok-width.ensures.read (WidthOr c.args.depth (ending_of c.args.end))
     (Just (ending_mark (ending_of c.args.end)) ∷ []) (λ s. refl))))
 
@@ -29,7 +30,8 @@ pub returns-clause-read : goal.returns-clause-read
 returns-clause-read c =
     let h = rw c.in-Some.is at (c.in_ok-width.ensures.read (WidthOr c.args.depth (ending_of c.args.end))
     (Just (ending_mark (ending_of c.args.end)) ∷ []) (λ s. refl)) in
-    rw c.real-2.ensures.data_type (real_some c.args.depth (ending_of c.args.end) (width_of c.in-Some.width) c.args.reader.now
+    rw c.real-2.ensures.data_type
+    (real_some c.args.depth (ending_of c.args.end) (width_of c.in-Some.width) c.args.reader.now
     c.width_or_end.new.reader c.expect_end.new.reader h.0 h.1 c.in_ok-expect_end.ensures)
 
 pub returns-in_default-clause-text : goal.returns-in_default-clause-text

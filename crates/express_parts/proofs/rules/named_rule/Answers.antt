@@ -42,7 +42,8 @@ returns-in_err-body-2-clause-read c = λ end.
     let p = err_from_is_err_and c.from_residual-in_err-body-2.result c.from_residual-in_err-body-2.ensures.1 in
     rw (p.1, p.2) (second_stops end c.args.word c.args.place (word_of c.in_ok-next.next.lexeme) c.in_ok-next.next.place
     c.begin.new.self c.args.reader.now c.reader.inside.lexer _ c.in_ok-begin.ensures.0 c.in_ok-begin.ensures.1
-    (sym c.is_mark.ensures ∙ c.if-is_mark.false) (rw c.reader.view_is c.in_ok-next.ensures) c.in_err-body-2.ensures.read)
+    (sym c.is_mark.ensures ∙ c.if-is_mark.false) (rw c.reader.view_is c.in_ok-next.ensures)
+    c.in_err-body-2.ensures.read)
 
 pub returns-clause-read : goal.returns-clause-read
 returns-clause-read c = λ end.
@@ -57,4 +58,5 @@ returns-then-is_mark-clause-text c = kept IsBodyOf c.in_ok-body.body (shows_text
 
 pub returns-clause-text : goal.returns-clause-text
 returns-clause-text c = kept IsBodyOf c.in_ok-body-2.body (shows_text c.args.reader.now
-    (located_of c.in_ok-next.next) c.reader.inside.lexer (rw c.reader.view_is c.in_ok-next.ensures)) c.in_ok-body-2.ensures.text
+    (located_of c.in_ok-next.next) c.reader.inside.lexer (rw c.reader.view_is c.in_ok-next.ensures))
+    c.in_ok-body-2.ensures.text

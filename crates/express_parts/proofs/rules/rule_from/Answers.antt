@@ -4,7 +4,8 @@ use Rattle.express_parts.proofs.RuleSteps.{bare_read, bare_stops, named_done}
 use Rattle.express_parts.proofs.rules.rule_from.Goals as goal
 
 pub returns-in-Name-clause-read : goal.returns-in-Name-clause-read
-returns-in-Name-clause-read c = λ end _. named_done end c.args.first.lexeme c.in-Name.word c.args.first.place c.named_rule.result
+returns-in-Name-clause-read c =
+    λ end _. named_done end c.args.first.lexeme c.in-Name.word c.args.first.place c.named_rule.result
     c.args.reader.now c.named_rule.new.reader c.in-Name.is (c.named_rule.ensures.read end)
 
 pub returns-in_err-body-clause-read : goal.returns-in_err-body-clause-read

@@ -7,7 +7,7 @@ use Rattle.express_schemas.specs.Views.{run_of}
 use Rattle.express_runs.specs.OpenRuns.{part_of, brackets_of, IsPushed}
 use Rattle.express_schemas.proofs.Looking.{shown_less}
 use Rattle.express_schemas.proofs.SameText.{passes_text}
-use Rattle.express_runs.proofs.RunSteps.{brackets_length, few_open, some_is, agreed_ended, agreed_further, so_start, so_err_step, so_err_take, so_next, so_stands, so_gathered}
+use Rattle.express_runs.proofs.RunSteps.{brackets_length, few_open, some_is, agreed_ended, agreed_further, so_start, so_err_step, so_err_take, so_next, so_begins, so_stands, so_gathered}
 use Rattle.express_runs.proofs.runs.gather.Goals as goal
 
 pub loop-lexer-init : goal.loop-lexer-init
@@ -74,6 +74,18 @@ returns-then-branch-clause-text c =
     c.loop-lexer.lexer b (run_of c.run_between.result) c.text.result.now c.loop-lexer.invariant ended refl
     c.text.ensures c.run_between.ensures.run in
     c.run_between.ensures.text ∙ c.text.ensures ∙ passes_text g.passes
+
+pub returns-then-branch-clause-place : goal.returns-then-branch-clause-place
+returns-then-branch-clause-place c =
+    let part = part_of c.args.part in
+    let b = c.loop-lexer.buffer in
+    let s = located_of c.loop-lexer.item in
+    let left = brackets_of c.step.new.open.items in
+    let some = some_is b.lexemes.items b.lexemes.len c.is_empty-some.result c.is_empty-some.ensures (search rules) in
+    let ended = agreed_ended part c.args.around b left s (not c.is_empty-some.result) c.in_ok-step.field-0 some
+    c.in_ok-step.ensures c.if-branch.true in
+    c.run_between.ensures.place ∙ so_begins part c.args.around c.args.buffer.now (located_of c.args.first)
+    c.args.lexer.now b c.loop-lexer.item c.loop-lexer.lexer c.loop-lexer.invariant ended
 
 pub returns-in_err-item-clause-read : goal.returns-in_err-item-clause-read
 returns-in_err-item-clause-read c =

@@ -1,8 +1,9 @@
-use Rattle.std.proofs.Common.{[], ◌∷◌, ◌∙◌}
+use Rattle.std.proofs.Common.{[], ◌∷◌, ◌∙◌, subst}
 use Rattle.std.proofs.lemmas.Result.{err_from_is_err_and}
+use Rattle.express_schemas.specs.Sources.{IsPassageAt}
 use Rattle.express_schemas.specs.Predict.{Until, SkippedEnd}
 use Rattle.express_schemas.proofs.SameText.{passes_text}
-use Rattle.express_runs.proofs.SkippedSteps.{stops_second, passes_both}
+use Rattle.express_runs.proofs.SkippedSteps.{stops_second, passes_both, words_stand}
 use Rattle.express_runs.proofs.skipped.named_tokens.Goals as goal
 
 pub returns-in_err-tokens-clause-read : goal.returns-in_err-tokens-clause-read
@@ -16,3 +17,12 @@ returns-clause-read c = (c.in_ok-tokens.ensures.read.0, passes_both c.in_ok-name
 
 pub returns-clause-text : goal.returns-clause-text
 returns-clause-text c = c.in_ok-tokens.ensures.text ∙ passes_text c.in_ok-name.ensures
+
+pub returns-clause-place : goal.returns-clause-place
+returns-clause-place c =
+    let mid = c.skipped_name.new.reader in (
+      mid.place,
+      words_stand _ [] c.in_ok-name.ensures,
+      subst (λ text. IsPassageAt text mid.place c.in_ok-tokens.tokens) (passes_text c.in_ok-name.ensures)
+          c.in_ok-tokens.ensures.place,
+    )

@@ -10,7 +10,7 @@ use Rattle.express_schemas.specs.Predict.{Routine, EndOfText}
 use Rattle.express_schemas.proofs.Looking.{shown_less}
 use Rattle.express_schemas.proofs.Taking.{stops_behind}
 use Rattle.express_schemas.proofs.SameText.{passes_text}
-use Rattle.express_runs.proofs.SkippedSteps.{routine_start, routine_few, routine_next, routine_done, routine_is_done}
+use Rattle.express_runs.proofs.SkippedSteps.{passage_at, routine_start, routine_few, routine_next, routine_done, routine_is_done}
 use Rattle.express_runs.proofs.skipped.routine_tokens.Goals as goal
 
 pub loop-item-init : goal.loop-item-init
@@ -37,7 +37,7 @@ between-passage-requires c =
     let d = routine_done c.args.reader.now c.loop-item.reader c.take.new.self c.loop-item.from c.loop-item.to
     c.begun-from.result c.loop-item.others c.in_ok-item.item.place w c.loop-item.invariant (
       c.in_ok-item.ensures,
-      c.begun-from.ensures,
+      record { stand = c.begun-from.ensures.stand; place = c.begun-from.ensures.place },
     ) ended c.place-to.result c.place-to.ensures c.text.result.now c.text.ensures in
     (words_of_routine d.routine, d.stand)
 
@@ -48,7 +48,7 @@ of-requires c =
     let d = routine_done c.args.reader.now c.loop-item.reader c.take.new.self c.loop-item.from c.loop-item.to
     c.begun-from.result c.loop-item.others c.in_ok-item.item.place w c.loop-item.invariant (
       c.in_ok-item.ensures,
-      c.begun-from.ensures,
+      record { stand = c.begun-from.ensures.stand; place = c.begun-from.ensures.place },
     ) ended c.place-to.result c.place-to.ensures c.text.result.now c.text.ensures in
     (d.routine, d.fits, sym (c.between-passage.ensures.words (words_of_routine d.routine) d.stand))
 
@@ -59,7 +59,7 @@ returns-in_default-clause-read c =
     let d = routine_done c.args.reader.now c.loop-item.reader c.take.new.self c.loop-item.from c.loop-item.to
     c.begun-from.result c.loop-item.others c.in_ok-item.item.place w c.loop-item.invariant (
       c.in_ok-item.ensures,
-      c.begun-from.ensures,
+      record { stand = c.begun-from.ensures.stand; place = c.begun-from.ensures.place },
     ) ended c.place-to.result c.place-to.ensures c.text.result.now c.text.ensures in
     let stood = c.between-passage.ensures.words (words_of_routine d.routine) d.stand in
     let is = c.of.ensures.routine d.routine d.fits (sym stood) in
@@ -73,10 +73,25 @@ returns-in_default-clause-text c =
     let d = routine_done c.args.reader.now c.loop-item.reader c.take.new.self c.loop-item.from c.loop-item.to
     c.begun-from.result c.loop-item.others c.in_ok-item.item.place w c.loop-item.invariant (
       c.in_ok-item.ensures,
-      c.begun-from.ensures,
+      record { stand = c.begun-from.ensures.stand; place = c.begun-from.ensures.place },
     ) ended c.place-to.result c.place-to.ensures c.text.result.now c.text.ensures in
     ap (λ (p : Passage). p.text.now) c.of.ensures.kept ∙ ap (λ t. t.now) c.between-passage.ensures.kept.0
     ∙ c.text.ensures ∙ passes_text d.passes
+
+pub returns-in_default-clause-place : goal.returns-in_default-clause-place
+returns-in_default-clause-place c =
+    let w = word_of c.in_ok-item.item.lexeme in
+    let ended = c.left_open.ensures ∙ ap (λ o. Ok (still_open o)) c.in_default.is in
+    let d = routine_done c.args.reader.now c.loop-item.reader c.take.new.self c.loop-item.from c.loop-item.to
+    c.begun-from.result c.loop-item.others c.in_ok-item.item.place w c.loop-item.invariant (
+      c.in_ok-item.ensures,
+      record { stand = c.begun-from.ensures.stand; place = c.begun-from.ensures.place },
+    ) ended c.place-to.result c.place-to.ensures c.text.result.now c.text.ensures in
+    let stood = c.between-passage.ensures.words (words_of_routine d.routine) d.stand in
+    let kept = c.between-passage.ensures.kept in
+    passage_at c.args.reader.now.text c.args.reader.now.place c.between-passage.result c.of.result.passage
+    (words_of_routine d.routine) c.begun-from.result (sym c.of.ensures.kept) stood kept.1
+    (ap (λ t. t.now) kept.0 ∙ c.text.ensures ∙ passes_text d.passes) d.begins
 
 pub loop-item-smaller : goal.loop-item-smaller
 loop-item-smaller c = shown_less (word_of c.in_ok-item.item.lexeme) (located_of c.in_ok-item.item) c.loop-item.reader
@@ -87,4 +102,7 @@ loop-item-preserved c =
     let goes_on = c.left_open.ensures ∙ ap (λ o. Ok (still_open o)) c.in-Some.is in
     routine_next c.args.reader.now c.loop-item.reader c.take.new.self c.loop-item.from c.loop-item.to
     c.begun-from.result c.loop-item.others c.in-Some.left c.in_ok-item.item.place (word_of c.in_ok-item.item.lexeme)
-    c.loop-item.invariant (c.in_ok-item.ensures, c.begun-from.ensures) goes_on c.place-to.result c.place-to.ensures
+    c.loop-item.invariant (
+      c.in_ok-item.ensures,
+      record { stand = c.begun-from.ensures.stand; place = c.begun-from.ensures.place },
+    ) goes_on c.place-to.result c.place-to.ensures

@@ -6,8 +6,8 @@ use Rattle.express_schemas.specs.Views.{words_of_passage}
 use Rattle.express_schemas.specs.Predict.{Until, EndOfText}
 use Rattle.express_schemas.proofs.Looking.{shown_less}
 use Rattle.express_schemas.proofs.Taking.{stops_behind}
-use Rattle.express_schemas.proofs.SameText.{passes_text}
-use Rattle.express_runs.proofs.SkippedSteps.{until_start, until_next, until_text, until_done}
+use Rattle.express_schemas.proofs.SameText.{passes_text, shows_text}
+use Rattle.express_runs.proofs.SkippedSteps.{passage_at, until_start, until_next, until_text, until_done}
 use Rattle.express_runs.proofs.skipped.tokens_until.Goals as goal
 
 pub loop-item-init : goal.loop-item-init
@@ -54,6 +54,17 @@ returns-then-is_named-clause-text c =
     (sym c.is_named.ensures ∙ c.if-is_named.true) in
     ap (λ t. t.now) c.between.ensures.kept.0 ∙ c.text.ensures ∙ passes_text done.1
 
+pub returns-then-is_named-clause-place : goal.returns-then-is_named-clause-place
+returns-then-is_named-clause-place c =
+    let so = c.loop-item.invariant in
+    let s = located_of c.in_ok-item.item in
+    let stand = until_text c.args.end.now c.args.reader.now c.loop-item.reader c.take.new.self c.loop-item.from
+    c.loop-item.to s (word_of c.in_ok-item.item.lexeme) so c.in_ok-item.ensures refl c.text.result.now c.text.ensures in
+    let kept = c.between.ensures.kept in
+    passage_at c.args.reader.now.text c.args.reader.now.place c.between.result c.between.result so.words
+    c.loop-item.from refl (c.between.ensures.words so.words stand) kept.1
+    (ap (λ t. t.now) kept.0 ∙ c.text.ensures ∙ shows_text _ _ _ c.in_ok-item.ensures ∙ passes_text so.passes) so.begins
+
 pub loop-item-smaller : goal.loop-item-smaller
 loop-item-smaller c = shown_less (word_of c.in_ok-item.item.lexeme) (located_of c.in_ok-item.item) c.loop-item.reader
     c.take.new.self c.in_ok-item.ensures refl
@@ -62,5 +73,7 @@ pub loop-item-preserved : goal.loop-item-preserved
 loop-item-preserved c =
     until_next c.args.end.now c.args.reader.now c.loop-item.reader c.take.new.self c.loop-item.from c.loop-item.to
     c.begun-from.result c.in_ok-item.item.place (word_of c.in_ok-item.item.lexeme) c.loop-item.invariant
-    (c.in_ok-item.ensures, c.begun-from.ensures) (sym c.is_named.ensures ∙ c.if-is_named.false) c.place-to.result
-    c.place-to.ensures
+    (
+      c.in_ok-item.ensures,
+      record { stand = c.begun-from.ensures.stand; place = c.begun-from.ensures.place },
+    ) (sym c.is_named.ensures ∙ c.if-is_named.false) c.place-to.result c.place-to.ensures

@@ -20,6 +20,7 @@ pub returns-then-is_keyword-2-clause-read : goal.returns-then-is_keyword-2-claus
 returns-then-is_keyword-2-clause-read c = (
   c.in_ok-declared-2.ensures.read.0,
   declared keywords.Entity (Id ∷ Head ∷ Body explicits ∷ []) (words_of_entity (entity_of c.in_ok-declared-2.declared))
-      (located_of c.args.first) (sym c.is_keyword-2.ensures ∙ c.if-is_keyword-2.true) refl c.in_ok-declared-2.ensures.read.2
+      (located_of c.args.first) (sym c.is_keyword-2.ensures ∙ c.if-is_keyword-2.true) refl
+      c.in_ok-declared-2.ensures.read.2
       c.in_ok-declared-2.ensures.read.3,
 )

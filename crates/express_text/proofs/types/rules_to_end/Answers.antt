@@ -19,11 +19,13 @@ returns-then-is_keyword-clause-read c =
     let h = c.in_ok-rules.ensures.read in (
       h.0,
       where_done (rules_of c.in_ok-rules.rules.items) (located_of c.in_ok-first.first) c.args.reader.now
-          c.take.new.self c.rules.new.reader c.in_ok-first.ensures (sym c.is_keyword.ensures ∙ c.if-is_keyword.true) h.1,
+          c.take.new.self c.rules.new.reader c.in_ok-first.ensures (sym c.is_keyword.ensures ∙ c.if-is_keyword.true)
+          h.1,
     )
 
 pub returns-then-not-is_keyword-clause-read : goal.returns-then-not-is_keyword-clause-read
-returns-then-not-is_keyword-clause-read c = type_end_refused c.refuse.result (located_of c.in_ok-first.first) c.args.reader.now
+returns-then-not-is_keyword-clause-read c =
+    type_end_refused c.refuse.result (located_of c.in_ok-first.first) c.args.reader.now
     c.take.new.self c.in_ok-first.ensures (sym c.is_keyword.ensures ∙ c.if-is_keyword.false) (sym c.is_keyword-2.ensures
     ∙ c.if-not-is_keyword.true) c.refuse.ensures
 
