@@ -20,7 +20,9 @@ reached-are-supertypes s g h m i k = (
 pub reached-are-parts : ReachedAreParts
 reached-are-parts s g h m i k = (
   (λ n j l. (
-    (λ r. let (x, a, b) = made-of-forth s g h m i j k r in subst (λ y. Leads (IsMadeOf s) (named m) (named y)) (one-name s x n j a l) b),
+    (λ r.
+        let (x, a, b) = made-of-forth s g h m i j k r in
+        subst (λ y. Leads (IsMadeOf s) (named m) (named y)) (one-name s x n j a l) b),
     made-of-back s g h m n i j k l,
   )),
   (λ j r. let (x, a, b) = made-of-forth s g h m i j k r in (x, a)),

@@ -73,7 +73,8 @@ below-forth s g h m i j k r =
 pub below-back : (s : Schema) (g : Graph) (h : IsGraphOf s supertypes_in g) (m n : Name) (i j : ℕ) → HasNumber s m i
     → HasNumber s n j → IsBelow s m n → Reaches g i j
 below-back s g h m n i j k l c =
-    reaches-back s supertypes_in g h m n i j k l (leads-kept (IsSubtypeOf s) (Names s supertypes_in) (subtype-back s) m n c)
+    reaches-back s supertypes_in g h m n i j k l
+    (leads-kept (IsSubtypeOf s) (Names s supertypes_in) (subtype-back s) m n c)
 
 -- what a defined type is made of
 parts-forth : (s : Schema) (a b : Name) (u : Underlying) → StandsFor s a u → Among b (parts_of u)

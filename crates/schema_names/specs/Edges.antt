@@ -11,7 +11,8 @@ supertypes_in (type t) = []
 supertypes_in (entity e) = supertypes_of e
 supertypes_in (skipped p) = []
 
--- what a defined type is made of: what stands behind its `=`, or the items of its SELECT (ISO 10303-11, 8.3.2 and 8.4.2)
+-- what a defined type is made of: what stands behind its `=`, or the items of its SELECT (ISO 10303-11, 8.3.2
+-- and 8.4.2)
 abbrev pub parts_of : Underlying → List Name
 parts_of (enumeration items) = []
 parts_of (select items) = items

@@ -17,7 +17,8 @@ pub fn reached_are_supertypes()
     ensures { ReachedAreSupertypes }
 {}
 
-/// What is reached by number is what a defined type is made of by name (ISO 10303-11, 8.3.2 and 8.4.2).
+/// What is reached by number is what a defined type is made of by name
+/// (ISO 10303-11, 8.3.2 and 8.4.2).
 pub fn reached_are_parts()
     ensures { ReachedAreParts }
 {}

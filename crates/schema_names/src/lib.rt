@@ -1,4 +1,5 @@
-//! The names of a schema (ISO 10303-11, 10): a number for what each stands for, and graphs on these numbers.
+//! The names of a schema (ISO 10303-11, 10): a number for what each stands for, and graphs on these
+//! numbers.
 #![tactic(auto)]
 
 pub mod graphs;

@@ -1,6 +1,19 @@
 //! Names and the numbers of what they stand for.
 
-ghost use Rattle.std.specs.Prelude.{◌≡◌, ℕ, ◌<◌, ◌^◌, Some, None, cond, length, map, slice_get, IfOk, OnOk};
+ghost use Rattle.std.specs.Prelude.{
+  ◌≡◌,
+  ℕ,
+  ◌<◌,
+  ◌^◌,
+  Some,
+  None,
+  cond,
+  length,
+  map,
+  slice_get,
+  IfOk,
+  OnOk,
+};
 ghost use Rattle.indexmap.specs.IndexMap.{get};
 ghost use Rattle.step_literals.specs.declared.literal.Word.{Word};
 ghost use Rattle.express_trees.specs.Views.{capitals};
@@ -31,7 +44,8 @@ pub struct Names<'t, 'a> {
     pub schema: &'t SchemaTree<'a>,
     numbers: Numbers<'a>,
     pub ghost few: { length (schema_of schema.now).declarations < 2 ^ 32 },
-    pub ghost numbered: { (w : Word) → get same_word numbers w ≡ number_of (schema_of schema.now) (capitals w) },
+    pub ghost numbered: { (w : Word)
+        → get same_word numbers w ≡ number_of (schema_of schema.now) (capitals w) },
 }
 
 /// The name of a type or an entity.

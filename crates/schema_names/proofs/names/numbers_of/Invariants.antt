@@ -9,4 +9,5 @@ use Rattle.schema_names.proofs.names.numbers_of.Given as goal
 
 abbrev pub invariant-loop-i : goal.invariant-loop-i
 invariant-loop-i l =
-    (w : Word) → get same_word l.numbers w ≡ number_from l.i (map declaration_seen (drop l.i l.declarations)) (capitals w)
+    (w : Word)
+    → get same_word l.numbers w ≡ number_from l.i (map declaration_seen (drop l.i l.declarations)) (capitals w)
