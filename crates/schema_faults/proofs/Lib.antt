@@ -1,0 +1,5 @@
+pub mod Earliest
+pub mod Loops
+pub mod Turning
+pub mod Seeing
+pub mod Declaring

@@ -1,0 +1,35 @@
+use Rattle.std.proofs.Common.{sym, subst, ap, length, arith}
+use Rattle.std.proofs.lemmas.List.{length-map}
+use Rattle.digraph.specs.Graphs.{graph_of}
+use Rattle.express_schemas.specs.Views.{declaration_of as declaration_seen}
+use Rattle.express_schemas.specs.SchemaViews.{schema_of}
+use Rattle.express_schemas.specs.declared.fault.NameFault.TheVariants.{SupertypeCycle}
+use Rattle.schema_names.specs.Edges.{IsGraphOf, supertypes_in}
+use Rattle.schema_names.proofs.Edges.{is-graph}
+use Rattle.schema_faults.specs.Shown.{IsShown}
+use Rattle.schema_faults.specs.FirstNamed.{IsFirstNamed}
+use Rattle.schema_faults.proofs.Turning.{ok-also, supertypes-shown}
+use Rattle.schema_faults.proofs.cycles.first_own_supertype.Goals as goal
+
+pub first_named-requires-clause-graph : goal.first_named-requires-clause-graph
+first_named-requires-clause-graph c =
+    let s = schema_of c.args.names.now.schema.now in
+    is-graph s supertypes_in (graph_of c.deref.result.now)
+    (subst (λ rows. IsGraphOf s supertypes_in (graph_of rows)) (sym c.deref.ensures.value) c.in_ok-supertypes.ensures)
+
+pub first_named-requires-clause-same : goal.first_named-requires-clause-same
+first_named-requires-clause-same c =
+    let value = ap length c.deref.ensures.value in
+    let rows = length-map c.in_ok-supertypes.supertypes.items (λ v. v.items) in
+    let drawn = c.in_ok-supertypes.ensures.same in
+    let seen = length-map c.args.names.now.schema.now.declarations.items declaration_seen in
+    omega (arith, value, rows, drawn, seen)
+
+pub returns : goal.returns
+returns c =
+    let s = schema_of c.args.names.now.schema.now in
+    let g = graph_of c.deref.result.now in
+    let drawn =
+    subst (λ rows. IsGraphOf s supertypes_in (graph_of rows)) (sym c.deref.ensures.value) c.in_ok-supertypes.ensures in
+    ok-also (IsFirstNamed s g) (IsShown s SupertypeCycle) (supertypes-shown s g drawn) c.first_named.result
+    c.first_named.ensures

@@ -1,0 +1,17 @@
+use Rattle.std.proofs.Common.{None, refl, subst, map}
+use Rattle.express_schemas.specs.Views.{declaration_of as declaration_seen}
+use Rattle.express_schemas.specs.SchemaViews.{schema_of}
+use Rattle.type_graphs.specs.Faults.{declared_from}
+use Rattle.schema_faults.specs.Twice.{Sees}
+use Rattle.schema_faults.specs.declared.seen.Seen.{Seen}
+use Rattle.schema_faults.proofs.Seeing.{seen-nothing}
+use Rattle.schema_faults.proofs.Declaring.{duplicate-shown}
+use Rattle.schema_faults.proofs.duplicates.first_duplicate.Goals as goal
+
+pub returns : goal.returns
+returns c =
+    let nothing : Seen = record { names = c.with_hasher.result; duplicate = None } in
+    duplicate-shown (schema_of c.args.names.now.schema.now) nothing c.see_all.new.seen
+    (seen-nothing nothing c.with_hasher.ensures.empty refl)
+    (subst (λ xs. Sees nothing c.see_all.new.seen (declared_from 1 (map declaration_seen xs))) c.deref.ensures.value
+    c.in_ok-see_all.ensures)

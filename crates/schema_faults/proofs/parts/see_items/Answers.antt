@@ -1,0 +1,14 @@
+use Rattle.std.proofs.Common.{OnOk, subst, sym, ap, ◌∙◌, flat_map}
+use Rattle.express_schemas.specs.Views.{underlying_of}
+use Rattle.type_graphs.specs.Faults.{in_scope, items_of}
+use Rattle.schema_faults.specs.Twice.{Sees}
+use Rattle.schema_faults.specs.Parts.{word_in}
+use Rattle.schema_faults.proofs.Declaring.{words-are}
+use Rattle.schema_faults.proofs.parts.see_items.Goals as goal
+
+pub returns-in-Enumeration : goal.returns-in-Enumeration
+returns-in-Enumeration c =
+    let k = c.args.scope in
+    subst (λ ds. OnOk c.see_words.result (Sees c.args.seen.now c.see_words.new.seen ds))
+    (ap (flat_map (word_in k)) c.deref.ensures.value ∙ words-are k c.in-Enumeration.items.items
+    ∙ ap (λ u. in_scope k (items_of (underlying_of u))) (sym c.in-Enumeration.is)) c.see_words.ensures

@@ -1,0 +1,16 @@
+-- The name of the first declaration on a cycle of a graph.
+use Rattle.std.specs.Prelude.{◌≡◌, ℕ, Option, None, Some, ◌⊎◌}
+use Rattle.digraph.specs.Graphs.{Graph}
+use Rattle.digraph.specs.Closures.{IsFirstCyclic}
+use Rattle.step_literals.specs.declared.literal.Word.{Word}
+use Rattle.express_trees.specs.Views.{capitals}
+use Rattle.express_schemas.specs.Schemas.{Schema, Declaration}
+use Rattle.express_schemas.specs.Views.{if_some}
+use Rattle.type_graphs.specs.Names.{declared_name}
+use Rattle.schema_names.specs.Numbers.{IsAt}
+
+-- none without a cycle, else the name of what is declared at the first vertex on one
+abbrev pub IsFirstNamed : Schema → Graph → Option Word → Type 0
+IsFirstNamed s g o =
+    ((o ≡ None) × IsFirstCyclic g None)
+    ⊎ ((i : ℕ) × IsFirstCyclic g (Some i) × ((d : Declaration) → IsAt s i d → if_some capitals o ≡ declared_name d))

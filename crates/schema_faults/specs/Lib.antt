@@ -1,0 +1,4 @@
+pub mod Shown
+pub mod Twice
+pub mod Parts
+pub mod FirstNamed

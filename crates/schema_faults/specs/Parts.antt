@@ -1,0 +1,34 @@
+-- What each part of a schema declares, by the scope.
+use Rattle.std.specs.Prelude.{ℕ, List, [], ◌∷◌, flat_map}
+use Rattle.step_literals.specs.declared.literal.Word.{Word}
+use Rattle.express_trees.specs.Views.{capitals}
+use Rattle.express_schemas.specs.Schemas as trees
+use Rattle.express_schemas.specs.Views.{attribute_of}
+use Rattle.express_schemas.specs.declared.tree.Attribute.{Attribute}
+use Rattle.express_schemas.specs.declared.tree.Explicit.{Explicit}
+use Rattle.express_schemas.specs.declared.tree.Derived.{Derived}
+use Rattle.express_schemas.specs.declared.tree.Inverse.{Inverse}
+use Rattle.type_graphs.specs.Names.{own_names, attribute_names}
+use Rattle.type_graphs.specs.Faults.{Declared, in_scope, items_of}
+
+abbrev pub word_in : ℕ → Word → List Declared
+word_in k w = (k, capitals w) ∷ []
+
+-- a redeclared attribute has no name of its own
+abbrev pub own_in : ℕ → Attribute → List Declared
+own_in k a = in_scope k (own_names (attribute_of a ∷ []))
+
+abbrev pub explicit_in : ℕ → Explicit → List Declared
+explicit_in k x = flat_map (own_in k) x.attributes.items
+
+abbrev pub derived_in : ℕ → Derived → List Declared
+derived_in k d = own_in k d.attribute
+
+abbrev pub inverse_in : ℕ → Inverse → List Declared
+inverse_in k i = own_in k i.attribute
+
+-- the name is one of the schema's scope, the others are of this one
+abbrev pub declared_in : ℕ → trees.Declaration → List Declared
+declared_in k (trees.type t) = (0, t.name) ∷ in_scope k (items_of t.underlying)
+declared_in k (trees.entity e) = (0, e.name) ∷ in_scope k (attribute_names e)
+declared_in k (trees.skipped p) = []

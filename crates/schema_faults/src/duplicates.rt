@@ -1,0 +1,33 @@
+//! Names that are declared twice in their scope (ISO 10303-11, 10.1).
+
+ghost use Rattle.std.specs.Prelude.{IfOk};
+ghost use Rattle.express_schemas.specs.declared.fault.NameFault.TheVariants.{DuplicateName};
+ghost use Rattle.express_schemas.specs.SchemaViews.{schema_of};
+ghost use Rattle.schema_faults.specs.Shown.{IsShown};
+
+use crate::parts::see_all;
+use crate::seen::Seen;
+use indexmap::IndexSet;
+use schema_names::names::Names;
+use std::alloc::{AllocError, Global};
+use std::hash::RandomState;
+use step_literals::literal::Word;
+
+/// The first name, in the order of the text, that is declared twice in its scope
+/// (ISO 10303-11, 10.1).
+///
+/// It takes time for each name that is declared once. Names are hashed by these keys.
+pub fn first_duplicate<'a>(
+    alloc: Global,
+    keys: RandomState,
+    names: &Names<'_, 'a>,
+) -> Result<Option<Word<'a>>, AllocError>
+    ensures { IfOk result (IsShown (schema_of names.now.schema.now) DuplicateName) }
+{
+    let mut seen = Seen {
+        names: IndexSet::with_hasher(alloc, keys),
+        duplicate: None,
+    };
+    see_all(&mut seen, &names.schema.declarations)?;
+    Ok(seen.duplicate)
+}

@@ -1,0 +1,168 @@
+//! What each part of a schema declares, from the last name to the first.
+
+ghost use Rattle.std.specs.Prelude.{ℕ, ◌+◌, ◌<◌, ◌^◌, map, flat_map, length, OnOk};
+ghost use Rattle.express_schemas.specs.Views.{
+  entity_of,
+  underlying_of,
+  declaration_of as declaration_seen,
+};
+ghost use Rattle.type_graphs.specs.Names.{attribute_names};
+ghost use Rattle.type_graphs.specs.Faults.{in_scope, items_of, declared_from};
+ghost use Rattle.schema_faults.specs.Twice.{Sees};
+ghost use Rattle.schema_faults.specs.Parts.{
+  word_in,
+  own_in,
+  explicit_in,
+  derived_in,
+  inverse_in,
+  declared_in,
+};
+
+use crate::seen::{Seen, see};
+use express_schemas::tree::{
+    Attribute, Declaration, Derived, Entity, Explicit, Inverse, Underlying,
+};
+use std::alloc::AllocError;
+use step_literals::literal::Word;
+
+/// Names of one scope.
+fn see_words<'a>(seen: &mut Seen<'a>, scope: u32, words: &[Word<'a>]) -> Result<(), AllocError>
+    ensures { OnOk result (Sees seen.old seen.new (flat_map (word_in scope) words.now)) }
+{
+    for i in (0..words.len()).rev() {
+        see(seen, scope, words[i])?;
+    }
+    Ok(())
+}
+
+/// An attribute, unless it is redeclared.
+fn see_own<'a>(seen: &mut Seen<'a>, scope: u32, attribute: Attribute<'a>) -> Result<(), AllocError>
+    ensures { OnOk result (Sees seen.old seen.new (own_in scope attribute.entry)) }
+{
+    match attribute {
+        Attribute::Unqualified(name) => see(seen, scope, name),
+        Attribute::Redeclared(_, _) => Ok(()),
+    }
+}
+
+/// Attributes, those that are redeclared left out.
+fn see_each_own<'a>(
+    seen: &mut Seen<'a>,
+    scope: u32,
+    attributes: &[Attribute<'a>],
+) -> Result<(), AllocError>
+    ensures { OnOk result (Sees seen.old seen.new (flat_map (own_in scope) attributes.now)) }
+{
+    for i in (0..attributes.len()).rev() {
+        see_own(seen, scope, attributes[i])?;
+    }
+    Ok(())
+}
+
+/// The explicit attributes of an entity.
+fn see_explicits<'a>(
+    seen: &mut Seen<'a>,
+    scope: u32,
+    explicits: &[Explicit<'a>],
+) -> Result<(), AllocError>
+    ensures { OnOk result (Sees seen.old seen.new (flat_map (explicit_in scope) explicits.now)) }
+{
+    for i in (0..explicits.len()).rev() {
+        see_each_own(seen, scope, &explicits[i].attributes)?;
+    }
+    Ok(())
+}
+
+/// Its derived attributes.
+fn see_derived<'a>(
+    seen: &mut Seen<'a>,
+    scope: u32,
+    derived: &[Derived<'a>],
+) -> Result<(), AllocError>
+    ensures { OnOk result (Sees seen.old seen.new (flat_map (derived_in scope) derived.now)) }
+{
+    for i in (0..derived.len()).rev() {
+        see_own(seen, scope, derived[i].attribute)?;
+    }
+    Ok(())
+}
+
+/// Its inverse attributes.
+fn see_inverses<'a>(
+    seen: &mut Seen<'a>,
+    scope: u32,
+    inverses: &[Inverse<'a>],
+) -> Result<(), AllocError>
+    ensures { OnOk result (Sees seen.old seen.new (flat_map (inverse_in scope) inverses.now)) }
+{
+    for i in (0..inverses.len()).rev() {
+        see_own(seen, scope, inverses[i].attribute)?;
+    }
+    Ok(())
+}
+
+/// The attributes of an entity.
+fn see_attributes<'a>(
+    seen: &mut Seen<'a>,
+    scope: u32,
+    entity: &Entity<'a>,
+) -> Result<(), AllocError>
+    ensures { OnOk result
+        (Sees seen.old seen.new (in_scope scope (attribute_names (entity_of entity.now)))) }
+{
+    see_inverses(seen, scope, entity.inverse_attributes())?;
+    see_derived(seen, scope, entity.derived_attributes())?;
+    see_explicits(seen, scope, &entity.explicits)
+}
+
+/// The items of an enumeration; none of another type.
+fn see_items<'a>(
+    seen: &mut Seen<'a>,
+    scope: u32,
+    underlying: &Underlying<'a>,
+) -> Result<(), AllocError>
+    ensures { OnOk result
+        (Sees seen.old seen.new (in_scope scope (items_of (underlying_of underlying.now)))) }
+{
+    match underlying {
+        Underlying::Enumeration(items) => see_words(seen, scope, items),
+        Underlying::Select(_) | Underlying::DataType(_) => Ok(()),
+    }
+}
+
+/// A declaration: its name is one of the schema's scope, and the others are of its own.
+fn see_declaration<'a>(
+    seen: &mut Seen<'a>,
+    scope: u32,
+    declaration: &Declaration<'a>,
+) -> Result<(), AllocError>
+    ensures { OnOk result
+        (Sees seen.old seen.new (declared_in scope (declaration_seen declaration.now))) }
+{
+    match declaration {
+        Declaration::Type(declared) => {
+            see_items(seen, scope, &declared.underlying)?;
+            see(seen, 0, declared.name)
+        }
+        Declaration::Entity(entity) => {
+            see_attributes(seen, scope, entity)?;
+            see(seen, 0, entity.name)
+        }
+        Declaration::Skipped(_) => Ok(()),
+    }
+}
+
+/// All that a schema declares.
+pub(crate) fn see_all<'a>(
+    seen: &mut Seen<'a>,
+    declarations: &[Declaration<'a>],
+) -> Result<(), AllocError>
+    requires { length declarations.now < 2 ^ 32 }
+    ensures { OnOk result
+        (Sees seen.old seen.new (declared_from 1 (map declaration_seen declarations.now))) }
+{
+    for i in (0..declarations.len()).rev() {
+        see_declaration(seen, i as u32 + 1, &declarations[i])?;
+    }
+    Ok(())
+}
