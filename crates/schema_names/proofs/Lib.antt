@@ -1,0 +1,4 @@
+pub mod Numbers
+pub mod Edges
+pub mod Rows
+pub mod Carried

@@ -1,0 +1,5 @@
+pub mod Numbers
+pub mod Words
+pub mod Edges
+pub mod Laws
+pub mod Relations

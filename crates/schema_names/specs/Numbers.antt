@@ -1,0 +1,26 @@
+-- Numbers for what a schema declares: the places of its declarations in the text, counted from 0.
+use Rattle.std.specs.Prelude.{◌≡◌, ℕ, ◌+◌, List, [], ◌∷◌, Option, None, Some, cond, slice_get}
+use Rattle.express_schemas.specs.Schemas.{Schema, Declaration}
+use Rattle.type_graphs.specs.Names.{Name, declared_name, is_named, declaration_of}
+
+-- where the declaration is that a name stands for, the first type or entity that has it (ISO 10303-11, 10.3)
+abbrev pub number_from : ℕ → List Declaration → Name → Option ℕ
+number_from k [] n = None
+number_from k (d ∷ ds) n = cond (is_named n (declared_name d)) (Some k) (number_from (k + 1) ds n)
+
+abbrev pub number_of : Schema → Name → Option ℕ
+number_of s n = number_from 0 s.declarations n
+
+-- i is the number of what n stands for
+abbrev pub HasNumber : Schema → Name → ℕ → Type 0
+HasNumber s n i = number_of s n ≡ Some i
+
+-- what is declared at a number
+abbrev pub IsAt : Schema → ℕ → Declaration → Type 0
+IsAt s i d = slice_get s.declarations i ≡ Some d
+
+-- A number is that of one name, and of the declaration that it stands for.
+pub record NumbersStand (s : Schema) : Type 0 where
+  pub at : (n : Name) (i : ℕ) → HasNumber s n i → declaration_of s.declarations n ≡ slice_get s.declarations i
+  pub each : (n : Name) (d : Declaration) → declaration_of s.declarations n ≡ Some d → (i : ℕ) × HasNumber s n i
+  pub one : (m n : Name) (i : ℕ) → HasNumber s m i → HasNumber s n i → m ≡ n

@@ -1,0 +1,6 @@
+//! The names of a schema (ISO 10303-11, 10): a number for what each stands for, and graphs on these numbers.
+#![tactic(auto)]
+
+pub mod graphs;
+pub mod laws;
+pub mod names;

@@ -1,0 +1,123 @@
+//! Names and the numbers of what they stand for.
+
+ghost use Rattle.std.specs.Prelude.{◌≡◌, ℕ, ◌<◌, ◌^◌, Some, None, cond, length, map, slice_get, IfOk, OnOk};
+ghost use Rattle.indexmap.specs.IndexMap.{get};
+ghost use Rattle.step_literals.specs.declared.literal.Word.{Word};
+ghost use Rattle.express_trees.specs.Views.{capitals};
+ghost use Rattle.express_schemas.specs.Views.{if_some, declaration_of as declaration_seen};
+ghost use Rattle.express_schemas.specs.Schemas.{Declaration as DeclarationTree};
+ghost use Rattle.express_schemas.specs.SchemaViews.{schema_of};
+ghost use Rattle.type_graphs.specs.Names.{declared_name, is_named};
+ghost use Rattle.schema_names.specs.Words.{same_word};
+ghost use Rattle.schema_names.specs.Numbers.{number_from, number_of, IsAt};
+
+use express_schemas::tree::{Declaration, SchemaTree};
+use indexmap::IndexMap;
+use std::alloc::{AllocError, Global};
+use std::hash::RandomState;
+use step_literals::literal::Word;
+
+/// So many declarations have numbers of 32 bits, and the scopes that they make too.
+const MOST_DECLARATIONS: usize = 4_294_967_295;
+
+/// Numbers by name. Names are hashed by keys that the author of a text doesn't know, so that nobody
+/// can choose names that are slow to find.
+type Numbers<'a> = IndexMap<Word<'a>, u32, RandomState>;
+
+/// The names of the types and entities of a schema. Each stands for the first declaration that has
+/// it, and has its number, its place in the text counted from 0 (ISO 10303-11, 10.3).
+#[derive(Drop)]
+pub struct Names<'t, 'a> {
+    pub schema: &'t SchemaTree<'a>,
+    numbers: Numbers<'a>,
+    pub ghost few: { length (schema_of schema.now).declarations < 2 ^ 32 },
+    pub ghost numbered: { (w : Word) → get same_word numbers w ≡ number_of (schema_of schema.now) (capitals w) },
+}
+
+/// The name of a type or an entity.
+fn declared_word<'a>(declaration: &Declaration<'a>) -> Option<Word<'a>>
+    ensures { if_some capitals result ≡ declared_name (declaration_seen declaration.now) }
+{
+    match declaration {
+        Declaration::Type(declared) => Some(declared.name),
+        Declaration::Entity(entity) => Some(entity.name),
+        Declaration::Skipped(_) => None,
+    }
+}
+
+/// Gives the name of a declaration its number, in place of a later one of that name.
+fn number<'a>(
+    numbers: &mut Numbers<'a>,
+    declaration: &Declaration<'a>,
+    number: u32,
+) -> Result<(), AllocError>
+    ensures { OnOk result ((w : Word) → get same_word numbers.new w
+        ≡ cond (is_named (capitals w) (declared_name (declaration_seen declaration.now)))
+        (Some number) (get same_word numbers.old w)) }
+{
+    let Some(name) = declared_word(declaration) else {
+        return Ok(());
+    };
+    numbers.insert(name, number)?;
+    Ok(())
+}
+
+/// The numbers of the names of some declarations.
+fn numbers_of<'a>(
+    alloc: Global,
+    keys: RandomState,
+    declarations: &[Declaration<'a>],
+) -> Result<Numbers<'a>, AllocError>
+    requires { length declarations.now < 2 ^ 32 }
+    ensures { IfOk result (λ m. (w : Word) → get same_word m w
+        ≡ number_from 0 (map declaration_seen declarations.now) (capitals w)) }
+{
+    let mut numbers = IndexMap::with_hasher(alloc, keys);
+    for i in (0..declarations.len()).rev() {
+        number(&mut numbers, &declarations[i], i as u32)?;
+    }
+    Ok(numbers)
+}
+
+impl<'t, 'a> Names<'t, 'a> {
+    /// The names of this schema, hashed by these keys.
+    ///
+    /// Where it has more than 2^32 - 1 declarations there is no memory for it.
+    pub fn of(
+        alloc: Global,
+        keys: RandomState,
+        schema: &'t SchemaTree<'a>,
+    ) -> Result<Names<'t, 'a>, AllocError>
+        ensures { IfOk result (λ names. names.schema.now ≡ schema.entry.now) }
+    {
+        if schema.declarations.len() > MOST_DECLARATIONS {
+            return Err(AllocError);
+        }
+        let numbers = numbers_of(alloc, keys, &schema.declarations)?;
+        Ok(Names { schema, numbers })
+    }
+
+    /// The number of what a name stands for; none where no type or entity has it.
+    pub fn find(&self, name: Word<'_>) -> Option<u32>
+        ensures { result ≡ number_of (schema_of self.now.schema.now) (capitals name.entry) }
+    {
+        self.numbers.get(&name).copied()
+    }
+
+    /// The name of what is declared at a number, where that is a type or an entity.
+    pub fn name(&self, number: u32) -> Option<Word<'a>>
+        requires { number < length self.now.schema.now.declarations.items }
+        ensures { (d : DeclarationTree) → IsAt (schema_of self.now.schema.now) number d
+            → if_some capitals result ≡ declared_name d }
+    {
+        declared_word(self.declaration(number))
+    }
+
+    /// What is declared at a number.
+    pub fn declaration(&self, number: u32) -> &Declaration<'a>
+        requires { number < length self.now.schema.now.declarations.items }
+        ensures { slice_get self.now.schema.now.declarations.items number ≡ Some result.now }
+    {
+        &self.schema.declarations[number as usize]
+    }
+}
