@@ -165,15 +165,12 @@ module _ (s : Schema) (r : IsResolved s) (g : Graph) (h : IsGraphOf s supertypes
             let there = below j step x (sym (stands-at s m j k) ∙ here) in
             (j, k, subst (λ n. AreAt all (next rows j) (places n)) (entity-name s m x here).1 there)
 
-    pub have-places : HavePlaces s all rows
+    pub have-places : HavePlaces s rows
     have-places n i (e, here) k =
         let at : IsAt s i (entity e) = sym (stands-at s n i k) ∙ here in
         let bound = number-within s n i k in
         let same = h.same in
         let lt : i < length g = omega (arith, bound, same) in
-        let holds =
-        climb g Holds [] order (λ b f. absurd (cc)) o.order.follows up i (all-ordered order o i lt) e at in (
-          places n,
-          ((e, here), places, solved, refl),
-          subst (λ m. AreAt all (next rows i) (places m)) (entity-name s n e here).1 holds,
-        )
+        let holds = climb g Holds [] order (λ b f. absurd (cc)) o.order.follows up i (all-ordered order o i lt) e at in
+        let named = subst (λ m. AreAt all (next rows i) (places m)) (entity-name s n e here).1 holds in
+        (places n, ((e, here), places, solved, refl), subst (λ ps. AreAt ps (next rows i) (places n)) is named)

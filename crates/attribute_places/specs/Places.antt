@@ -42,7 +42,7 @@ abbrev pub of_explicit : Name → Explicit → List Place
 of_explicit e x = map (λ (n : Name). (e, n)) (own_names x.attributes)
 
 -- The row of each entity has the numbers of its places.
-abbrev pub HavePlaces : Schema → List Place → Graph → Type 0
-HavePlaces s all rows =
+abbrev pub HavePlaces : Schema → Graph → Type 0
+HavePlaces s rows =
     (n : Name) (i : ℕ) → IsEntity s n → HasNumber s n i
-    → (ps : List Place) × IsPlaces s n ps × AreAt all (next rows i) ps
+    → (ps : List Place) × IsPlaces s n ps × AreAt (all_places s) (next rows i) ps

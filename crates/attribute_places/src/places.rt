@@ -1,11 +1,11 @@
 //! The places of attributes in the instances of each entity.
 
-ghost use Rattle.std.specs.Prelude.{IfOk};
+ghost use Rattle.std.specs.Prelude.{◌≡◌, length, IfOk};
 ghost use Rattle.digraph.specs.Graphs.{graph_of};
 ghost use Rattle.express_schemas.specs.SchemaViews.{schema_of};
 ghost use Rattle.type_graphs.specs.Faults.{IsResolved};
 ghost use Rattle.schema_names.specs.Edges.{IsGraphOf, supertypes_in};
-ghost use Rattle.attribute_places.specs.Places.{places_of, HavePlaces};
+ghost use Rattle.attribute_places.specs.Places.{places_of, all_places, HavePlaces};
 
 use crate::attributes::{ExplicitAttributes, Place, explicit_attributes};
 use digraph::gathering::tables;
@@ -35,8 +35,12 @@ pub fn attribute_places<'a>(
     requires resolved { IsResolved (schema_of names.now.schema.now) }
     requires graph { IsGraphOf (schema_of names.now.schema.now) supertypes_in
         (graph_of supertypes.now) }
-    ensures { IfOk result (λ p. HavePlaces (schema_of names.now.schema.now)
-        (places_of p.attributes.items) (graph_of p.rows.items)) }
+    ensures attributes { IfOk result (λ p. places_of p.attributes.items
+        ≡ all_places (schema_of names.now.schema.now)) }
+    ensures rows { IfOk result (λ p. HavePlaces (schema_of names.now.schema.now)
+        (graph_of p.rows.items)) }
+    ensures each { IfOk result (λ p. length p.rows.items
+        ≡ length names.now.schema.now.declarations.items) }
 {
     let ExplicitAttributes { places, own } = explicit_attributes(alloc, names.schema)?;
     let order = order(alloc, supertypes)?;

@@ -26,8 +26,8 @@ tables-requires-clause-below c a b step =
     (subst (λ rows. AreRows (places_of places) (schema_of c.args.names.now.schema.now).declarations (graph_of rows))
     (sym c.deref-2.ensures.value) c.in_ok-places.ensures.own) a b step)
 
-pub returns : goal.returns
-returns c =
+pub returns-clause-rows : goal.returns-clause-rows
+returns-clause-rows c =
     let s = schema_of c.args.names.now.schema.now in
     let places = places_of c.in_ok-places.field-0.places.items in
     have-places s c.requires.resolved (graph_of c.args.supertypes.now) c.requires.graph places
