@@ -188,6 +188,12 @@ module _ (F : Declaration → List ℕ) where
   in-row (x ∷ ds) zero j d e h = let same : x ≡ d = cc in subst (λ y. has (F y) j ≡ true) (sym same) h
   in-row (x ∷ ds) (suc i) j d e h = in-row ds i j d e h
 
+row-is : (F : Declaration → List ℕ) (ds : List Declaration) (i : ℕ) (d : Declaration) → slice_get ds i ≡ Some d
+    → get_or (map F ds) i [] ≡ F d
+row-is F [] i d at = absurd (cc)
+row-is F (x ∷ ds) zero d at = let same : x ≡ d = cc in ap F same
+row-is F (x ∷ ds) (suc i) d at = row-is F ds i d at
+
 pub within : {A : Type 0} (xs : List A) (i : ℕ) (x : A) → slice_get xs i ≡ Some x → i < length xs
 within [] i x e = absurd (cc)
 within (y ∷ ys) zero x e = omega arith
@@ -198,6 +204,7 @@ pub graph-of : (s : Schema) (names : Declaration → List Name) (g : Graph)
     → g ≡ map (λ (d : Declaration). filter_map (number_of s) (names d)) s.declarations → IsGraphOf s names g
 graph-of s names g e = record {
   same = ap length e ∙ length-map s.declarations F;
+  rows = λ i d at. ap (λ (rows : Graph). get_or rows i []) e ∙ row-is F s.declarations i d at;
   edges = λ i j. (
     (λ step.
         let (d, at, h) = from-row F s.declarations i j (subst (λ (rows : Graph). Step rows i j) e step) in

@@ -1,9 +1,9 @@
 -- Graphs on the numbers of a schema.
-use Rattle.std.specs.Prelude.{◌≡◌, ℕ, List, [], ◌∷◌, length, ◌↔◌}
-use Rattle.digraph.specs.Graphs.{Graph, Step}
+use Rattle.std.specs.Prelude.{◌≡◌, ℕ, List, [], ◌∷◌, length, ◌↔◌, filter_map}
+use Rattle.digraph.specs.Graphs.{Graph, next, Step}
 use Rattle.express_schemas.specs.Schemas.{Schema, Declaration, type, entity, skipped, Underlying, enumeration, select, data_type, named}
 use Rattle.type_graphs.specs.Names.{Name, Among, supertypes_of}
-use Rattle.schema_names.specs.Numbers.{HasNumber, IsAt}
+use Rattle.schema_names.specs.Numbers.{number_of, HasNumber, IsAt}
 
 -- the names behind SUBTYPE OF; none in what is no entity (ISO 10303-11, 9.2.3)
 abbrev pub supertypes_in : Declaration → List Name
@@ -28,7 +28,8 @@ parts_in (skipped p) = []
 abbrev pub Refers : Schema → (Declaration → List Name) → ℕ → ℕ → Type 0
 Refers s names i j = (d : Declaration) × IsAt s i d × (n : Name) × Among n (names d) × HasNumber s n j
 
--- The edges lead from each declaration to what these names of it stand for, where they stand for something.
+-- The edges lead from each declaration to what these names of it stand for, where they stand for something, in turn.
 pub record IsGraphOf (s : Schema) (names : Declaration → List Name) (g : Graph) : Type 0 where
   pub same : length g ≡ length s.declarations
+  pub rows : (i : ℕ) (d : Declaration) → IsAt s i d → next g i ≡ filter_map (number_of s) (names d)
   pub edges : (i j : ℕ) → Step g i j ↔ Refers s names i j

@@ -1,0 +1,8 @@
+pub mod Rows
+pub mod Adding
+pub mod Whole
+pub mod Repeats
+pub mod Distinct
+pub mod OwnNumbers
+pub mod Along
+pub mod Below

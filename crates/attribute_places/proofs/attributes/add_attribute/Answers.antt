@@ -1,0 +1,15 @@
+use Rattle.std.proofs.Common.{rules, subst, sym}
+use Rattle.express_trees.specs.Views.{capitals}
+use Rattle.express_schemas.specs.Views.{attribute_of}
+use Rattle.attribute_places.specs.Places.{places_of, Adds, of_attribute}
+use Rattle.attribute_places.proofs.Adding.{adds-place}
+use Rattle.attribute_places.proofs.attributes.add_attribute.Goals as goal
+
+pub returns : goal.returns
+returns c =
+    subst (λ x. Adds (places_of c.args.places.now.items) c.args.row.now.items
+    (of_attribute (capitals c.args.entity) (attribute_of x)) (places_of c.push.new.self.items) c.push-2.new.self.items)
+    (sym c.in-Unqualified.is)
+    (adds-place c.args.places.now.items c.push.new.self.items c.args.row.now.items c.push-2.new.self.items
+    record { entity = c.args.entity; attribute = c.in-Unqualified.name } c.in-Ok.number c.in_ok-push.ensures.items
+    c.in_ok-push-2.ensures.items (search rules))
