@@ -116,6 +116,22 @@ fn with_room<C: Copy>(
     widen(cells, top, filler)
 }
 
+// Copies the cells from one place up to another down to a third place, in reversed order, where
+// those that are written over end before the first that is copied.
+fn copy_reversed<C: Copy>(cells: &mut [C], from: usize, end: usize, to: usize)
+    requires start { from ≤ end }
+    requires end { end ≤ length cells.old }
+    requires apart { to + (end - from) ≤ from }
+    ensures len { length cells.new ≡ length cells.old }
+    ensures front { take (to + (end - from)) cells.new
+        ≡ take to cells.old ++ reverse (take (end - from) (drop from cells.old)) }
+    ensures behind { drop end cells.new ≡ drop end cells.old }
+{
+    for i in 0..end - from {
+        cells[to + i] = cells[end - 1 - i];
+    }
+}
+
 // Moves the cells from one place up to another down to a third place, in reversed order.
 fn move_reversed<C: Copy>(cells: &mut [C], from: usize, end: usize, to: usize)
     requires start { from ≤ end }
@@ -126,6 +142,10 @@ fn move_reversed<C: Copy>(cells: &mut [C], from: usize, end: usize, to: usize)
         ≡ take to cells.old ++ reverse (take (end - from) (drop from cells.old)) }
     ensures behind { drop end cells.new ≡ drop end cells.old }
 {
+    if end - from <= from - to {
+        copy_reversed(cells, from, end, to);
+        return;
+    }
     cells[from..end].reverse();
     cells.copy_within(from..end, to);
 }
