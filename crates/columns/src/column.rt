@@ -16,6 +16,7 @@ ghost use Rattle.std.specs.Prelude.{
   reverse,
   MatchResult,
 };
+ghost use Rattle.std.specs.List.{copy_within};
 ghost use Rattle.columns.specs.Cells.{Cells};
 ghost use Rattle.columns.specs.Closing.{Closes};
 ghost use Rattle.columns.specs.Gaps.{Frees};
@@ -81,6 +82,35 @@ fn free_cells<C: Copy>(cells: &Vec<C>, moved: usize) -> usize
     }
 }
 
+// Copies the cells from one place up to another to a third place behind them.
+fn copy_apart<C: Copy>(cells: &mut [C], from: usize, end: usize, to: usize)
+    requires start { from ≤ end }
+    requires apart { end ≤ to }
+    requires within { to + (end - from) ≤ length cells.old }
+    ensures { cells.new ≡ copy_within cells.old from end to }
+{
+    let (low, high) = cells.split_at_mut(to);
+    high[..end - from].copy_from_slice(&low[from..end]);
+}
+
+// Moves the cells from one place on up by so many places, as many as stand free at the end: from
+// the last ones down, as many at a time as are copied at once.
+fn move_up<C: Copy>(cells: &mut [C], top: usize, by: usize)
+    requires some { 0 < by }
+    requires within { top + by ≤ length cells.old }
+    ensures len { length cells.new ≡ length cells.old }
+    ensures front { take top cells.new ≡ take top cells.old }
+    ensures behind { drop (top + by) cells.new
+        ≡ take (length cells.old - by - top) (drop top cells.old) }
+{
+    let mut end = cells.len() - by;
+    while top < end {
+        let from = end - by.min(end - top);
+        copy_apart(cells, from, end, from + by);
+        end = from;
+    }
+}
+
 // Puts free cells before the place `top`, and answers where the cell that stood there stands then.
 #[cold]
 #[inline(never)]
@@ -93,7 +123,7 @@ fn widen<C: Copy>(cells: &mut Vec<C>, top: usize, filler: C) -> Result<usize, Al
     let end = cells.len();
     let free = free_cells(cells, end - top);
     cells.resize(end + free, filler)?;
-    cells.copy_within(top..end, top + free);
+    move_up(cells.as_mut_slice(), top, free);
     Ok(top + free)
 }
 
