@@ -56,12 +56,16 @@ module _ {C : Type 0} where
       let ends : length ((take to now ++ take n (drop from now)) ++ drop (to + n) now)
       ≡ length (take to now ++ take n (drop from now)) + length (drop (to + n) now) =
       length-append (take to now ++ take n (drop from now)) (drop (to + n) now) in
-      let begins : length (take to now ++ take n (drop from now)) ≡ length (take to now) + length (take n (drop from now))
-      = length-append (take to now) (take n (drop from now)) in
+      let begins : length (take to now ++ take n (drop from now))
+      ≡ length (take to now) + length (take n (drop from now)) =
+      length-append (take to now) (take n (drop from now)) in
       let grouped = append_assoc (take to now) (take n (drop from now)) (drop (to + n) now) in
       let moved : take n (drop from now) ≡ take n (drop from old) =
-      sym (drop-take from n now) ∙ ap (drop from) (ap (λ k. take k now) up_to ∙ h.front ∙ sym (ap (λ k. take k old) up_to))
+      sym (drop-take from n now)
+      ∙ ap (drop from) (ap (λ k. take k now) up_to ∙ h.front ∙ sym (ap (λ k. take k old) up_to))
       ∙ drop-take from n old in
+      let further : drop (to + n) now ≡ take (length old - by - end) (drop (from + n) old) =
+      ap (λ k. drop k now) last ∙ h.behind ∙ ap (λ k. take (length old - by - end) (drop k old)) (sym up_to) in
       let more : n + (length old - by - end) ≡ length old - by - from = omega (arith, up, within) in
       record {
         size = ends ∙ omega (arith, begins, low, piece, tail, same, last, within);
@@ -70,7 +74,7 @@ module _ {C : Type 0} where
             ∙ take-take from to now (omega arith) ∙ sym (take-take from end now up) ∙ ap (take from) h.front
             ∙ take-take from end old up;
         behind = ap (drop to) grouped ∙ drop_at (take to now) (take n (drop from now) ++ drop (to + n) now) to low
-            ∙ (λ i. moved i ++ (ap (λ k. drop k now) last ∙ h.behind ∙ ap (λ k. take (length old - by - end) (drop k old)) (sym up_to)) i)
+            ∙ (λ i. moved i ++ further i)
             ∙ two_parts n (length old - by - end) from old ∙ ap (λ k. take k (drop from old)) more;
       }
 
@@ -144,7 +148,8 @@ module _ {C : Type 0} where
       let there : x ≡ get_or (drop from old) (end - 1 - i - from) d =
       ap (λ k. get_or now k d) (sym at) ∙ sym (get_or-drop from now (end - 1 - i - from) d)
       ∙ ap (λ l. get_or l (end - 1 - i - from) d) h.rest in
-      let last : length (take (end - from) (drop from old)) - 1 - i ≡ end - 1 - i - from = omega (arith, count, less, up) in
+      let last : length (take (end - from) (drop from old)) - 1 - i ≡ end - 1 - i - from =
+      omega (arith, count, less, up) in
       let is : get_or turned i d ≡ x =
       get_or-reverse (take (end - from) (drop from old)) i d (omega (arith, count, less))
       ∙ ap (λ k. get_or (take (end - from) (drop from old)) k d) last
@@ -154,7 +159,8 @@ module _ {C : Type 0} where
       record {
         size = length-set now (to + i) x ∙ same;
         front = ap (λ k. take k (set now (to + i) x)) next
-            ∙ take_more_set now (to + i) x (omega (arith, same, less, apart, up, within)) ∙ ap (λ l. l ++ x ∷ []) h.front
+            ∙ take_more_set now (to + i) x (omega (arith, same, less, apart, up, within))
+            ∙ ap (λ l. l ++ x ∷ []) h.front
             ∙ append_assoc (take to old) (take i turned) (x ∷ [])
             ∙ ap (λ l. take to old ++ l) (ap (λ y. take i turned ++ y ∷ []) (sym is)
             ∙ sym (take_more turned i d (omega (arith, size, less))));

@@ -27,6 +27,9 @@ use std::marker::Model;
 /// So many free cells are made at once, or more.
 const STEP: usize = 256;
 
+/// So many cells are moved at a time, at most: few enough to be copied by vectors.
+const PIECE: usize = 64;
+
 /// So many cells of a column, one behind another.
 #[derive(Clone, Copy, Debug, PartialEq, Eq)]
 pub struct Run {
@@ -66,9 +69,9 @@ impl<C: Copy> Model for Column<C> {
     ghost invariant = { λ c. (c.len ≤ c.top) × (c.top ≤ length c.cells.items) };
 }
 
-// How many free cells a full buffer gets, with so many cells that have to be moved for them: as many
-// of its block as are soon used, so that no more is touched, and enough for all moves together to
-// cost no more than a constant for each push. A block that is full grows by its own rule.
+// How many free cells a full buffer gets, with so many cells that have to be moved for them: as
+// many of its block as are soon used, so that no more is touched, and enough for all moves together
+// to cost no more than a constant for each push. A block that is full grows by its own rule.
 fn free_cells<C: Copy>(cells: &Vec<C>, moved: usize) -> usize
     ensures positive { 0 < result }
     ensures small { result < 2 ^ 63 }
@@ -94,7 +97,7 @@ fn copy_apart<C: Copy>(cells: &mut [C], from: usize, end: usize, to: usize)
 }
 
 // Moves the cells from one place on up by so many places, as many as stand free at the end: from
-// the last ones down, as many at a time as are copied at once.
+// the last ones down, in pieces that don't overlap their new places.
 fn move_up<C: Copy>(cells: &mut [C], top: usize, by: usize)
     requires some { 0 < by }
     requires within { top + by ≤ length cells.old }
@@ -103,9 +106,10 @@ fn move_up<C: Copy>(cells: &mut [C], top: usize, by: usize)
     ensures behind { drop (top + by) cells.new
         ≡ take (length cells.old - by - top) (drop top cells.old) }
 {
+    let piece = by.min(PIECE);
     let mut end = cells.len() - by;
     while top < end {
-        let from = end - by.min(end - top);
+        let from = end - piece.min(end - top);
         copy_apart(cells, from, end, from + by);
         end = from;
     }

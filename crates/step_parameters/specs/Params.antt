@@ -35,7 +35,7 @@ abbrev pub keyword_of : Tree → List ℕ
 keyword_of (leaf (keyword text)) = text
 keyword_of _ = []
 
--- the normal text has a tree as it is spelt: a number, a string, a binary, or a reference with no zero before its number
+-- the normal text has a tree as it is spelt: a number, a string, a binary, a reference with no zero before its number
 abbrev pub stays_as_spelt : Tree → Bool
 stays_as_spelt (leaf (number text)) = true
 stays_as_spelt (leaf (string text)) = true
