@@ -16,6 +16,7 @@ ghost use Rattle.std.specs.Prelude.{
   reverse,
   MatchResult,
 };
+ghost use Rattle.std.specs.List.{copy_within};
 ghost use Rattle.columns.specs.Cells.{Cells};
 ghost use Rattle.columns.specs.Closing.{Closes};
 ghost use Rattle.columns.specs.Gaps.{Frees};
@@ -25,6 +26,9 @@ use std::marker::Model;
 
 /// So many free cells are made at once, or more.
 const STEP: usize = 256;
+
+/// So many cells are moved at a time, at most: few enough to be copied by vectors.
+const PIECE: usize = 64;
 
 /// So many cells of a column, one behind another.
 #[derive(Clone, Copy, Debug, PartialEq, Eq)]
@@ -65,9 +69,9 @@ impl<C: Copy> Model for Column<C> {
     ghost invariant = { λ c. (c.len ≤ c.top) × (c.top ≤ length c.cells.items) };
 }
 
-// How many free cells a full buffer gets, with so many cells that have to be moved for them: as many
-// of its block as are soon used, so that no more is touched, and enough for all moves together to
-// cost no more than a constant for each push. A block that is full grows by its own rule.
+// How many free cells a full buffer gets, with so many cells that have to be moved for them: as
+// many of its block as are soon used, so that no more is touched, and enough for all moves together
+// to cost no more than a constant for each push. A block that is full grows by its own rule.
 fn free_cells<C: Copy>(cells: &Vec<C>, moved: usize) -> usize
     ensures positive { 0 < result }
     ensures small { result < 2 ^ 63 }
@@ -78,6 +82,36 @@ fn free_cells<C: Copy>(cells: &Vec<C>, moved: usize) -> usize
         wanted
     } else {
         wanted.min(spare)
+    }
+}
+
+// Copies the cells from one place up to another to a third place behind them.
+fn copy_apart<C: Copy>(cells: &mut [C], from: usize, end: usize, to: usize)
+    requires start { from ≤ end }
+    requires apart { end ≤ to }
+    requires within { to + (end - from) ≤ length cells.old }
+    ensures { cells.new ≡ copy_within cells.old from end to }
+{
+    let (low, high) = cells.split_at_mut(to);
+    high[..end - from].copy_from_slice(&low[from..end]);
+}
+
+// Moves the cells from one place on up by so many places, as many as stand free at the end: from
+// the last ones down, in pieces that don't overlap their new places.
+fn move_up<C: Copy>(cells: &mut [C], top: usize, by: usize)
+    requires some { 0 < by }
+    requires within { top + by ≤ length cells.old }
+    ensures len { length cells.new ≡ length cells.old }
+    ensures front { take top cells.new ≡ take top cells.old }
+    ensures behind { drop (top + by) cells.new
+        ≡ take (length cells.old - by - top) (drop top cells.old) }
+{
+    let piece = by.min(PIECE);
+    let mut end = cells.len() - by;
+    while top < end {
+        let from = end - piece.min(end - top);
+        copy_apart(cells, from, end, from + by);
+        end = from;
     }
 }
 
@@ -93,7 +127,7 @@ fn widen<C: Copy>(cells: &mut Vec<C>, top: usize, filler: C) -> Result<usize, Al
     let end = cells.len();
     let free = free_cells(cells, end - top);
     cells.resize(end + free, filler)?;
-    cells.copy_within(top..end, top + free);
+    move_up(cells.as_mut_slice(), top, free);
     Ok(top + free)
 }
 
@@ -116,6 +150,22 @@ fn with_room<C: Copy>(
     widen(cells, top, filler)
 }
 
+// Copies the cells from one place up to another down to a third place, in reversed order, where
+// those that are written over end before the first that is copied.
+fn copy_reversed<C: Copy>(cells: &mut [C], from: usize, end: usize, to: usize)
+    requires start { from ≤ end }
+    requires end { end ≤ length cells.old }
+    requires apart { to + (end - from) ≤ from }
+    ensures len { length cells.new ≡ length cells.old }
+    ensures front { take (to + (end - from)) cells.new
+        ≡ take to cells.old ++ reverse (take (end - from) (drop from cells.old)) }
+    ensures behind { drop end cells.new ≡ drop end cells.old }
+{
+    for i in 0..end - from {
+        cells[to + i] = cells[end - 1 - i];
+    }
+}
+
 // Moves the cells from one place up to another down to a third place, in reversed order.
 fn move_reversed<C: Copy>(cells: &mut [C], from: usize, end: usize, to: usize)
     requires start { from ≤ end }
@@ -126,6 +176,10 @@ fn move_reversed<C: Copy>(cells: &mut [C], from: usize, end: usize, to: usize)
         ≡ take to cells.old ++ reverse (take (end - from) (drop from cells.old)) }
     ensures behind { drop end cells.new ≡ drop end cells.old }
 {
+    if end - from <= from - to {
+        copy_reversed(cells, from, end, to);
+        return;
+    }
     cells[from..end].reverse();
     cells.copy_within(from..end, to);
 }

@@ -1,8 +1,7 @@
 -- The prints of a normal text.
-use Rattle.std.proofs.Common.{◌≡◌, ℕ, zero, suc, ◌+◌, ◌<◌, ◌≤◌, Bool, true, false, List, [], ◌∷◌, ◌++◌, Option, Some, None, length, map, take, drop, get_or, slice_get, refl, sym, ap, ◌∙◌, append_assoc, append-nil, add-one, ◌||◌, arith}
+use Rattle.std.proofs.Common.{◌≡◌, ℕ, zero, suc, ◌+◌, ◌<◌, ◌≤◌, Bool, true, false, List, [], ◌∷◌, ◌++◌, Option, Some, None, length, map, take, drop, get_or, slice_get, refl, sym, ap, ◌∙◌, append_assoc, append-nil, add-one, arith}
 use Rattle.std.proofs.Math.Seq.{take-suc}
-use Rattle.std.specs.Char.{to_ascii_uppercase, is_ascii_lowercase}
-use Rattle.std.specs.List.{list_any}
+use Rattle.std.specs.Char.{to_ascii_uppercase}
 use Rattle.step_parameters.specs.Cells.{all_of}
 use Rattle.step_parameters.proofs.Weights.{weight, weights, lighter}
 use Rattle.devices.specs.Prints.{Printing, Prints}
@@ -114,15 +113,10 @@ rows_short (n ∷ ns) (x ∷ xs) zero h = absurd (cc)
 rows_short (n ∷ ns) [] (suc i) h = refl
 rows_short (n ∷ ns) (x ∷ xs) (suc i) h = ap (λ l. record { name = n; form = form_in x } ∷ l) (rows_short ns xs i h)
 
-byte_kept : (x : ℕ) → is_ascii_lowercase x ≡ false → to_ascii_uppercase x ≡ x
-byte_kept x e = grind arith
+byte_kept : (x : ℕ) → x < 97 → to_ascii_uppercase x ≡ x
+byte_kept x less = grind arith
 
--- what has no letter in lower case stands in upper case
-pub upper_kept : (w : List ℕ) → list_any is_ascii_lowercase w ≡ false → upper w ≡ w
-upper_kept [] e = refl
-upper_kept (x ∷ xs) e = let k = or_false (is_ascii_lowercase x) (list_any is_ascii_lowercase xs) e in
-    λ i. byte_kept x k.0 i ∷ upper_kept xs k.1 i
-  where
-    or_false : (a b : Bool) → (a || b) ≡ false → (a ≡ false) × (b ≡ false)
-    or_false true b h = let bad : true ≡ false = h in absurd cc
-    or_false false b h = (refl, h)
+-- what stands in upper case, and one byte more before the letters in lower case
+pub raised_push : (w : List ℕ) (y : ℕ) → upper w ≡ w → y < 97 → upper (w ++ y ∷ []) ≡ w ++ y ∷ []
+raised_push w y e less = upper_push w y ∙ ap (λ l. l ++ to_ascii_uppercase y ∷ []) e
+    ∙ ap (λ b. w ++ b ∷ []) (byte_kept y less)

@@ -1,8 +1,6 @@
 //! The normal text of an exchange structure.
 
-ghost use Rattle.std.specs.Prelude.{◌≡◌, ◌++◌, false, take, drop, map, codes, is_err};
-ghost use Rattle.std.specs.Char.{is_ascii_lowercase};
-ghost use Rattle.std.specs.List.{list_any};
+ghost use Rattle.std.specs.Prelude.{◌≡◌, ◌++◌, false, take, drop, map, codes, is_err, IsTrue};
 ghost use Rattle.devices.specs.Prints.{Prints};
 ghost use Rattle.devices.specs.Emits.{Emits};
 ghost use Rattle.step_parameters.specs.Cells.{all_of};
@@ -41,11 +39,16 @@ use devices::printer::Printer;
 use step_literals::literal::Text;
 use step_parameters::param::{Node, Param, Params, cut};
 
-// Whether a byte of the word is a letter in lower case.
-fn has_lowercase(word: &[u8]) -> bool
-    ensures { result ≡ list_any is_ascii_lowercase word.now }
+// Whether each byte of the word stands before the letters in lower case. It looks at all of them,
+// several at a time.
+fn stands_raised(word: &[u8]) -> bool
+    ensures { IsTrue result → upper word.now ≡ word.now }
 {
-    word.iter().any(|byte| byte.is_ascii_lowercase())
+    let mut most = 0;
+    for byte in word {
+        most = most.max(*byte);
+    }
+    most < b'a'
 }
 
 // A word in upper case, byte by byte.
@@ -61,10 +64,10 @@ fn print_raised<S: Sink>(printer: &mut Printer, out: &mut S, word: &[u8])
 fn print_upper<S: Sink>(printer: &mut Printer, out: &mut S, word: &[u8])
     ensures { Prints S.held S.has_failed out.old out.new printer.old printer.new (upper word.now) }
 {
-    if has_lowercase(word) {
-        print_raised(printer, out, word);
-    } else {
+    if stands_raised(word) {
         printer.print(out, word);
+    } else {
+        print_raised(printer, out, word);
     }
 }
 
@@ -93,7 +96,10 @@ fn print_param<S: Sink>(printer: &mut Printer, out: &mut S, param: &Param<'_>)
     ensures { Prints S.held S.has_failed out.old out.new printer.old printer.new
         (plain_tree param.now) }
 {
-    print_node(printer, out, &param.node());
+    match param.literal() {
+        Some(spelling) => printer.print(out, spelling),
+        None => print_node(printer, out, &param.node()),
+    }
 }
 
 // The outermost part of a parameter, and what is inside it.

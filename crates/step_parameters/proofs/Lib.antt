@@ -3,5 +3,6 @@ mod Leaves
 mod Built
 mod Runs
 mod Keywords
+mod Spellings
 pub mod Weights
 pub mod Parts

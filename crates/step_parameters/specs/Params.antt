@@ -1,5 +1,5 @@
 -- Parameters by their outermost parts (ISO 10303-21, 11).
-use Rattle.std.specs.Prelude.{ℕ, List, [], ◌∷◌}
+use Rattle.std.specs.Prelude.{ℕ, ◌==◌, Bool, true, false, not, List, [], ◌∷◌, get_or}
 use Rattle.step_lexis.specs.declared.token.Mark.TheVariants.{Dollar, Asterisk}
 use Rattle.step_structures.specs.Words.{keyword, name, number, element, string, binary, mark}
 use Rattle.step_structures.specs.Trees.{Tree, leaf, typed, group, Trees, none, one}
@@ -34,3 +34,11 @@ parts_of _ = []
 abbrev pub keyword_of : Tree → List ℕ
 keyword_of (leaf (keyword text)) = text
 keyword_of _ = []
+
+-- the normal text has a tree as it is spelt: a number, a string, a binary, a reference with no zero before its number
+abbrev pub stays_as_spelt : Tree → Bool
+stays_as_spelt (leaf (number text)) = true
+stays_as_spelt (leaf (string text)) = true
+stays_as_spelt (leaf (binary text)) = true
+stays_as_spelt (leaf (name n text)) = not (get_or text 1 0 == 48)
+stays_as_spelt _ = false

@@ -13,6 +13,11 @@ ghost use Rattle.std.specs.Prelude.{
   take,
   drop,
   slice_get,
+  get_or,
+  ◌==◌,
+  not,
+  is_some,
+  IfSome,
 };
 ghost use Rattle.columns.specs.Nodes.{run, said_at};
 ghost use Rattle.step_literals.specs.Tokens as token_kinds;
@@ -26,7 +31,8 @@ ghost use Rattle.step_parameters.specs.Cells.{
   parameters,
   typed_of,
 };
-ghost use Rattle.step_parameters.specs.Params.{node_value, parts_of, keyword_of};
+ghost use Rattle.step_parameters.specs.Params.{node_value, parts_of, keyword_of, stays_as_spelt};
+ghost use Rattle.step_structures.specs.Normal.{plain_tree};
 
 use crate::cell::{Cell, Kind, Leaf};
 use std::marker::Model;
@@ -126,6 +132,18 @@ impl<'t> Param<'t> {
                 let cells = part(column, cell.at, cell.len);
                 Node::List(Params::of(text, column, cells))
             }
+        }
+    }
+
+    /// Its spelling, where the normal text has it as it stands: that of a number, a string, a
+    /// binary, or a reference with no zero before its number.
+    pub fn literal(&self) -> Option<&'t [u8]>
+        ensures says { IfSome result (λ s. plain_tree self.now ≡ s.now) }
+        ensures which { is_some result ≡ stays_as_spelt self.now }
+    {
+        match self.cell.kind {
+            Kind::Leaf(leaf) => leaf_literal(leaf, part(self.text, self.cell.at, self.cell.len)),
+            _ => None,
         }
     }
 
@@ -249,6 +267,27 @@ fn leaf_node<'t>(leaf: Leaf, spelling: &'t [u8]) -> Node<'t>
         Leaf::Element => Node::Element(Word::from_keyword(spelling)),
         Leaf::Reference => Node::Reference(name_of(spelling), spelling),
         Leaf::Keyword => Node::Keyword(Word::from_keyword(spelling)),
+    }
+}
+
+// Whether no zero stands before the number of a reference.
+fn is_shortest(spelling: &[u8]) -> bool
+    requires { Spells token_kinds.name spelling.now }
+    ensures { result ≡ not (get_or spelling.now 1 0 == 48) }
+{
+    spelling[1] != b'0'
+}
+
+// A leaf that is spelt like this, where the normal text has it so.
+fn leaf_literal<'t>(leaf: Leaf, spelling: &'t [u8]) -> Option<&'t [u8]>
+    requires { IsSpelt leaf spelling.now }
+    ensures says { IfSome result (λ s. plain_tree (leaf_as leaf spelling.now) ≡ s.now) }
+    ensures which { is_some result ≡ stays_as_spelt (leaf_as leaf spelling.now) }
+{
+    match leaf {
+        Leaf::Number | Leaf::Text | Leaf::Bits => Some(spelling),
+        Leaf::Reference if is_shortest(spelling) => Some(spelling),
+        _ => None,
     }
 }
 

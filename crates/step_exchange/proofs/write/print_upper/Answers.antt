@@ -1,8 +1,6 @@
-use Rattle.std.proofs.Common.{sym, ◌∙◌}
+use Rattle.std.proofs.Common.{sym}
 use Rattle.devices.proofs.Printing.{prints_as}
-use Rattle.step_exchange.proofs.Writing.{upper_kept}
 use Rattle.step_exchange.proofs.write.print_upper.Goals as goal
 
-pub returns-else-has_lowercase : goal.returns-else-has_lowercase
-returns-else-has_lowercase g c = prints_as
-    (sym (upper_kept c.args.word.now (sym c.has_lowercase.ensures ∙ c.if-has_lowercase.false))) c.print.ensures
+pub returns-then-stands_raised : goal.returns-then-stands_raised
+returns-then-stands_raised g c = prints_as (sym (c.stands_raised.ensures c.if-stands_raised.true)) c.print.ensures
