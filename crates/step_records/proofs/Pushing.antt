@@ -6,7 +6,7 @@ use Rattle.step_lexis.specs.declared.token.Sort.{Sort}
 use Rattle.step_lexis.specs.declared.token.Sort.TheVariants as sorts
 use Rattle.step_lexis.specs.declared.token.Token.{Token}
 use Rattle.step_lexis.specs.Front.{IsFront}
-use Rattle.step_lexis.specs.Reading.{Reading, Takes, left}
+use Rattle.step_lexis.specs.Reading.{Reading, SkipsMark, Takes, left}
 use Rattle.step_lexis.proofs.ReadingLemmas.{some_bytes}
 use Rattle.step_lexis.proofs.Standing.{token_at, front_taken}
 use Rattle.step_parameters.specs.Building.{Building}
@@ -21,9 +21,10 @@ use Rattle.step_structures.specs.Fits.{IsLeaf}
 use Rattle.step_structures.specs.Predict.{Just, is_mark}
 use Rattle.step_structures.specs.Predict as predict
 use Rattle.step_records.specs.Readers.{Progress, reading}
-use Rattle.step_records.specs.Steps.{StopsIn, Passes, IsParameter, PushesAll, PushesLeaf, PushesNext, TakesInner, TakesValue, TakesItem, BeginsItems, TakesItems, TakesParams, GoesOn, inner_symbols}
+use Rattle.step_records.specs.Steps.{StopsIn, StopsAnyway, TakesNext, Passes, IsParameter, PushesAll, PushesLeaf, PushesNext, TakesInner, TakesValue, TakesItem, BeginsItems, TakesItems, TakesParams, GoesOn, inner_symbols}
+use Rattle.step_records.proofs.Looking.{mark_met, mark_shown}
 use Rattle.step_records.proofs.Taking.{passes_here, stops_behind_taken}
-use Rattle.step_records.proofs.ParamSteps.{leaf_done, SoFar, items_none, items_first, items_next, items_done, all_push, inner_done, typed_done, params_done, params_err_items}
+use Rattle.step_records.proofs.ParamSteps.{leaf_done, SoFar, items_none, items_err_first, items_first, items_next, items_done, all_push, inner_done, typed_done, params_done, params_err_items}
 
 -- a token that is taken stands in the text
 pub takes_stands : (old a : Progress) (t : Token) → Takes (reading old) t (reading a) → a.built ≡ old.built
@@ -126,7 +127,7 @@ leaf_item n old new h =
       is.1,
     )
 
--- a token is pushed, or the next one is taken
+-- the next parameter is read, or nothing is
 pub pushed_item : (b : Bool) (n : ℕ) (old new : Progress) → b ≡ true → PushesNext b old new
     → BeginsItems true n old new
 pushed_item true n old new e h = leaf_item n old new h
@@ -135,6 +136,15 @@ pushed_item false n old new e h = absurd (cc)
 pub not_pushed : (b : Bool) (old new : Progress) → b ≡ false → PushesNext b old new → new ≡ old
 not_pushed false old new e h = h
 not_pushed true old new e h = absurd (cc)
+
+pub next_begins : (b : Bool) (n : ℕ) (old new : Progress) → b ≡ true → TakesNext b n old new
+    → BeginsItems true n old new
+next_begins true n old new e h = h
+next_begins false n old new e h = absurd (cc)
+
+pub not_begun : (b : Bool) (n : ℕ) (old new : Progress) → b ≡ false → TakesNext b n old new → new ≡ old
+not_begun false n old new e h = h
+not_begun true n old new e h = absurd (cc)
 
 pub item_taken : (n : ℕ) (old a b c : Progress) (t : Token) → a ≡ old → Takes (reading a) t (reading b)
     → b.built ≡ a.built → TakesValue n (located t) b c → TakesItem n old c
@@ -158,6 +168,30 @@ pub item_err_value : (e : TextFault) (n : ℕ) (old a b : Progress) (t : Token) 
 item_err_value e n old a b t same h g =
     subst (λ (r : Progress). StopsIn e (predict.Value n ∷ []) [] (reading r)) same
     (stops_behind_taken e (predict.Value n ∷ []) [] t (passes_here (predict.Value n ∷ []) (reading a)) h g)
+
+-- a list of which the parenthesis is read
+module _ (n : ℕ) (old a b : Progress) (same : a ≡ old) (skips : Bool) (is : skips ≡ true)
+    (skip : SkipsMark Open skips (reading a) (reading b)) (built : b.built ≡ a.built) where
+  skipped : SkipsMark Open true (reading a) (reading b)
+  skipped = subst (λ s. SkipsMark Open s (reading a) (reading b)) is skip
+
+  opened : is_mark Open (located skipped.0).lookahead ≡ true
+  opened = mark_shown skipped.0 Open skipped.1
+
+  closes_none : is_mark Close (located skipped.0).lookahead ≡ false
+  closes_none = ap (is_mark Close) (mark_met Open (located skipped.0).lookahead opened)
+
+  pub list_taken : (c : Progress) → ((t : Token) → is_mark Open (located t).lookahead ≡ true
+      → TakesValue n (located t) b c) → BeginsItems true n old c
+  list_taken c h = first_taken n old a b c skipped.0 same skipped.2 built closes_none (h skipped.0 opened)
+
+  pub list_stops : (e : TextFault) → ((t : Token) → is_mark Open (located t).lookahead ≡ true
+      → StopsIn e (predict.Value n ∷ []) (located t ∷ []) (reading b)) → StopsAnyway e n (reading old)
+  list_stops e h = (
+    item_err_value e n old a b skipped.0 same skipped.2 (h skipped.0 opened),
+    subst (λ (r : Progress). StopsIn e (predict.Items n ∷ []) [] (reading r)) same
+        (items_err_first e n skipped.0 (reading a) (reading b) skipped.2 closes_none (h skipped.0 opened)),
+  )
 
 pub begins_some : (b : Bool) (n : ℕ) (old new : Progress) → b ≡ true → BeginsItems b n old new
     → BeginsItems true n old new

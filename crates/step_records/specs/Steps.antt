@@ -104,6 +104,15 @@ BeginsItems true depth old new =
     (first : TakesItem depth old new) × (is_mark Close (located first.token).lookahead ≡ false)
 BeginsItems false depth old new = TakesItems depth old new
 
+-- the parameter that stands next and closes no list, or nothing is read
+abbrev pub TakesNext : Bool → ℕ → Progress → Progress → Type 0
+TakesNext true depth old new = BeginsItems true depth old new
+TakesNext false depth old new = new ≡ old
+
+-- what stands next is no parameter, nor what begins those of a list
+abbrev pub StopsAnyway : TextFault → ℕ → Reading → Type 0
+StopsAnyway e depth old = StopsIn e (Value depth ∷ []) [] old × StopsIn e (Items depth ∷ []) [] old
+
 -- behind a parameter a comma, or the parenthesis that closes the list
 pub record GoesOn (more : Bool) (old new : Progress) : Type 0 where
   pub token : Token

@@ -13,6 +13,9 @@ decreases-first_item l = 6 * (64 - l.depth) + 4
 abbrev pub decreases-item : goal.decreases-item
 decreases-item l = 6 * (64 - l.depth) + 4
 
+abbrev pub decreases-next_item : goal.decreases-next_item
+decreases-next_item l = 6 * (64 - l.depth) + 2
+
 abbrev pub decreases-value : goal.decreases-value
 decreases-value l = 6 * (64 - l.depth) + 3
 
