@@ -33,6 +33,7 @@ use step_literals::numbers::{is_short_number, number_len, starts_number};
 use step_literals::strings::{content_of, string_len};
 
 /// The number at the front of the bytes.
+#[inline(always)]
 fn number_at(bytes: &[u8]) -> Result<(Sort<'_>, usize), (Flaw, usize)>
     requires { StartsNumber bytes.now }
     ensures { FrontOrFlaw bytes.now result }
@@ -132,6 +133,7 @@ fn mark_of(byte: u8) -> Option<Mark>
 }
 
 /// The token at the front of the bytes that begins with no mark, letter, digit or sign.
+#[inline(always)]
 fn other_at(bytes: &[u8]) -> Result<(Sort<'_>, usize), (Flaw, usize)>
     requires some { 0 < length bytes.now }
     requires no_mark { is_mark (slice_index bytes.now 0) ≡ false }

@@ -21,7 +21,7 @@ use Rattle.step_structures.specs.Fits.{IsLeaf}
 use Rattle.step_structures.specs.Predict.{Just, is_mark}
 use Rattle.step_structures.specs.Predict as predict
 use Rattle.step_records.specs.Readers.{Progress, reading}
-use Rattle.step_records.specs.Steps.{StopsIn, StopsAnyway, TakesNext, Passes, IsParameter, PushesAll, PushesLeaf, PushesNext, TakesInner, TakesValue, TakesItem, BeginsItems, TakesItems, TakesParams, GoesOn, inner_symbols}
+use Rattle.step_records.specs.Steps.{StopsIn, StopsAnyway, TakesNext, Passes, IsParameter, PushesAll, PushesLeaf, PushesNext, PushesKeyword, TakesInner, TakesValue, TakesItem, BeginsItems, TakesItems, TakesParams, GoesOn, inner_symbols}
 use Rattle.step_records.proofs.Looking.{mark_met, mark_shown}
 use Rattle.step_records.proofs.Taking.{passes_here, stops_behind_taken}
 use Rattle.step_records.proofs.ParamSteps.{leaf_done, SoFar, items_none, items_err_first, items_first, items_next, items_done, all_push, inner_done, typed_done, params_done, params_err_items}
@@ -56,24 +56,27 @@ leaf_next r text at sort n k e p f is =
     subst (λ (x : List ℕ × ℕ). IsLeafAt x.0 k x.1 n (next_token r sort n)) (λ i. (e i, sym p i)) here
 
 -- .. which is pushed and skipped
-pub leaf_pushed : (r s : Reading) (b c : Building) (sort : Sort) (n : ℕ) (k : Leaf) → r.text ≡ b.text
-    → IsFront (left r) sort n → IsParameter k sort
-    → c ≡ record b { pending = b.pending ++ leaf_tree (next_token r sort n) ∷ [] } → s ≡ record r { place = r.place + n }
-    → PushesLeaf (record { place = r.place; built = b }) (record { place = s.place; built = c })
-leaf_pushed r s b c sort n k e f is ec es =
-    let text : r.text ≡ c.text = e ∙ sym (ap (λ (x : Building). x.text) ec) in
-    let place : r.place + n ≡ s.place = sym (ap (λ (x : Reading). x.place) es) in
-    let from : r ≡ record { text = b.text; place = r.place } = λ i. record { text = e i; place = r.place } in
-    let to : record r { place = r.place + n } ≡ record { text = c.text; place = s.place } =
-    λ i. record { text = text i; place = place i } in
-    record {
-      token = next_token r sort n;
-      taken = subst (λ (x : Reading × Reading). Takes x.0 (next_token r sort n) x.1) (λ i. (from i, to i))
-          (next_taken r sort n f);
-      kind = k;
-      is = is;
-      pushes = ec;
-    }
+module _ (r s : Reading) (b c : Building) (sort : Sort) (n : ℕ) (e : r.text ≡ b.text) (f : IsFront (left r) sort n)
+    (pushed : c ≡ record b { pending = b.pending ++ leaf_tree (next_token r sort n) ∷ [] })
+    (skipped : s ≡ record r { place = r.place + n }) where
+  taken_next : Takes (record { text = b.text; place = r.place }) (next_token r sort n)
+      (record { text = c.text; place = s.place })
+  taken_next =
+      let text : r.text ≡ c.text = e ∙ sym (ap (λ (x : Building). x.text) pushed) in
+      let place : r.place + n ≡ s.place = sym (ap (λ (x : Reading). x.place) skipped) in
+      let from : r ≡ record { text = b.text; place = r.place } = λ i. record { text = e i; place = r.place } in
+      let to : record r { place = r.place + n } ≡ record { text = c.text; place = s.place } =
+      λ i. record { text = text i; place = place i } in
+      subst (λ (x : Reading × Reading). Takes x.0 (next_token r sort n) x.1) (λ i. (from i, to i))
+      (next_taken r sort n f)
+
+  pub leaf_pushed : (k : Leaf) → IsParameter k sort
+      → PushesLeaf (record { place = r.place; built = b }) (record { place = s.place; built = c })
+  leaf_pushed k is = record { token = next_token r sort n; taken = taken_next; kind = k; is = is; pushes = pushed }
+
+  pub keyword_pushed : leaf_of sort ≡ Some Keyword
+      → PushesKeyword (record { place = r.place; built = b }) (record { place = s.place; built = c })
+  keyword_pushed is = record { token = next_token r sort n; taken = taken_next; is = is; pushes = pushed }
 
 -- what is pending behind what is pending
 pub pushes_over : (a b : Building) (xs : List Tree) → a ≡ b

@@ -83,6 +83,18 @@ abbrev pub PushesNext : Bool → Progress → Progress → Type 0
 PushesNext true old new = PushesLeaf old new
 PushesNext false old new = new ≡ old
 
+-- the next token is a keyword, and is taken and pending
+pub record PushesKeyword (old new : Progress) : Type 0 where
+  pub token : Token
+  pub taken : Takes (reading old) token (reading new)
+  pub is : leaf_of token.sort ≡ Some Keyword
+  pub pushes : Pushes old (leaf_tree token) new
+
+-- .. or nothing is read
+abbrev pub PushesWord : Bool → Progress → Progress → Type 0
+PushesWord true old new = PushesKeyword old new
+PushesWord false old new = new ≡ old
+
 -- the parameter that stands next; behind its first token the reading is at `mid`
 pub record TakesItem (depth : ℕ) (old new : Progress) : Type 0 where
   pub token : Token

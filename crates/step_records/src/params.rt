@@ -140,8 +140,23 @@ fn next_item(reader: &mut Reader<'_>, depth: u32) -> Result<bool, TextFault>
     Ok(true)
 }
 
+/// The next parameter, with so many parentheses open around it. It may stand behind layout and
+/// begin with a keyword.
+#[cycle(params)]
+fn item_any(reader: &mut Reader<'_>, depth: u32) -> Result<(), TextFault>
+    requires { depth ≤ 64 }
+    ensures { MatchResult result
+        (λ _. TakesItem depth reader.old reader.new)
+        (λ e. StopsIn e (Value depth ∷ []) [] (reading reader.old)) }
+{
+    let first = take(reader)?;
+    value(reader, first, depth)?;
+    Ok(())
+}
+
 /// The next parameter, with so many parentheses open around it.
 #[cycle(params)]
+#[inline(always)]
 fn item(reader: &mut Reader<'_>, depth: u32) -> Result<(), TextFault>
     requires { depth ≤ 64 }
     ensures { MatchResult result
@@ -151,13 +166,29 @@ fn item(reader: &mut Reader<'_>, depth: u32) -> Result<(), TextFault>
     if next_item(reader, depth)? {
         return Ok(());
     }
+    item_any(reader, depth)
+}
+
+/// The first parameter of a list, or the parenthesis that closes it; whether it is a parameter.
+/// Either may stand behind layout, and the parameter begin with a keyword.
+#[cycle(params)]
+fn first_item_any(reader: &mut Reader<'_>, depth: u32) -> Result<bool, TextFault>
+    requires { depth ≤ 64 }
+    ensures { MatchResult result
+        (λ some. BeginsItems some depth reader.old reader.new)
+        (λ e. StopsIn e (Items depth ∷ []) [] (reading reader.old)) }
+{
     let first = take(reader)?;
+    if is_mark(first, Mark::Close) {
+        return Ok(false);
+    }
     value(reader, first, depth)?;
-    Ok(())
+    Ok(true)
 }
 
 /// The first parameter of a list, or the parenthesis that closes it; whether it is a parameter.
 #[cycle(params)]
+#[inline(always)]
 fn first_item(reader: &mut Reader<'_>, depth: u32) -> Result<bool, TextFault>
     requires { depth ≤ 64 }
     ensures { MatchResult result
@@ -167,12 +198,7 @@ fn first_item(reader: &mut Reader<'_>, depth: u32) -> Result<bool, TextFault>
     if next_item(reader, depth)? {
         return Ok(true);
     }
-    let first = take(reader)?;
-    if is_mark(first, Mark::Close) {
-        return Ok(false);
-    }
-    value(reader, first, depth)?;
-    Ok(true)
+    first_item_any(reader, depth)
 }
 
 /// The parameters of a list behind its parenthesis, and the closing one.

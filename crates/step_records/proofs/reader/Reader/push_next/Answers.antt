@@ -36,5 +36,5 @@ returns c =
     let pushed = c.in_ok-push_leaf_at.ensures (next_token r c.in-Some.sort c.in-Some.len) h in
     let new : Progress = record { place = c.skip.new.self.place; built = c.push_leaf_at.new.self } in
     subst (λ (p : Progress). PushesLeaf p new) c.self.view_is (leaf_pushed r c.skip.new.self c.self.inside.builder
-    c.push_leaf_at.new.self c.in-Some.sort c.in-Some.len c.in-Some-parameter.leaf c.self.invariant c.in-Some.ensures
-    c.in-Some-parameter.ensures pushed c.skip.ensures)
+    c.push_leaf_at.new.self c.in-Some.sort c.in-Some.len c.self.invariant c.in-Some.ensures pushed c.skip.ensures
+    c.in-Some-parameter.leaf c.in-Some-parameter.ensures)
