@@ -125,7 +125,8 @@ impl<'a> Reader<'a> {
         if !is_keyword(sort) {
             return Ok(false);
         }
-        self.builder.push_leaf_at(Leaf::Keyword, self.lexer.place(), len)?;
+        self.builder
+            .push_leaf_at(Leaf::Keyword, self.lexer.place(), len)?;
         self.lexer.skip(sort, len);
         Ok(true)
     }
