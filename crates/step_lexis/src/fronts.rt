@@ -34,7 +34,7 @@ use step_literals::strings::{content_of, string_len};
 
 /// The number at the front of the bytes.
 #[inline(always)]
-fn number_at(bytes: &[u8]) -> Result<(Sort<'_>, usize), (Flaw, usize)>
+pub fn number_at(bytes: &[u8]) -> Result<(Sort<'_>, usize), (Flaw, usize)>
     requires { StartsNumber bytes.now }
     ensures { FrontOrFlaw bytes.now result }
 {

@@ -32,6 +32,13 @@ pub takes_stands : (old a : Progress) (t : Token) → Takes (reading old) t (rea
 takes_stands old a t h e = subst (λ b. StandsIn b.text t) (sym e)
     (record { within = h.reaches.within; front = h.front; is = h.text })
 
+-- what stands next for the lexer of a reader stands next for the reader
+pub front_of : (r : Reading) (b : Building) (p : Progress) (sort : Sort) (n : ℕ)
+    → record { place = r.place; built = b } ≡ p → r.text ≡ b.text → IsFront (left (reading p)) sort n
+    → IsFront (left r) sort n
+front_of r b p sort n v e f = subst (λ l. IsFront l sort n)
+    (ap (λ (x : Progress). left (reading x)) (sym v) ∙ ap (drop r.place) (sym e)) f
+
 -- the token of this sort and length that stands next
 abbrev pub next_token : Reading → Sort → ℕ → Token
 next_token r sort n = token_at r.place sort (take n (left r))

@@ -2,7 +2,8 @@
 
 ghost use Rattle.std.specs.Prelude.{◌≡◌, ◌≤◌, ◌+◌, ◌++◌, [], ◌∷◌, Some, length, take, drop, IfOk, IfSome, IsTrue};
 ghost use Rattle.step_parameters.specs.declared.cell.Leaf.TheVariants.{Keyword};
-ghost use Rattle.step_lexis.specs.Reading.{Answers, SkipsMark, start_of};
+ghost use Rattle.step_lexis.specs.Front.{IsFront};
+ghost use Rattle.step_lexis.specs.Reading.{Answers, SkipsMark, left, start_of};
 ghost use Rattle.step_parameters.specs.Building.{list_of};
 ghost use Rattle.step_parameters.specs.Cells.{typed_of};
 ghost use Rattle.step_parameters.specs.Tokens.{StandsIn, leaf_of, leaf_tree};
@@ -96,21 +97,35 @@ impl<'a> Reader<'a> {
         self.lexer.skip_mark(wanted)
     }
 
-    /// Reads the token that stands next and makes it a pending leaf, where no layout comes before it
-    /// and it is a parameter by itself; whether it did. Else nothing is read.
+    /// Reads the token of this sort and length, which stands next, and makes it a pending leaf,
+    /// where it is a parameter by itself; whether it did. Else nothing is read.
     #[inline(always)]
-    pub fn push_next(&mut self) -> Result<bool, AllocError>
+    fn push_front(&mut self, sort: Sort<'a>, len: usize) -> Result<bool, AllocError>
+        requires { IsFront (left (reading self.old)) sort len }
         ensures { IfOk result (λ is. PushesNext is self.old self.new) }
     {
-        let Some((sort, len)) = self.lexer.peek() else {
-            return Ok(false);
-        };
         let Some(leaf) = parameter(sort) else {
             return Ok(false);
         };
         self.builder.push_leaf_at(leaf, self.lexer.place(), len)?;
         self.lexer.skip(sort, len);
         Ok(true)
+    }
+
+    /// Reads the token that stands next and makes it a pending leaf, where no layout comes before it
+    /// and it is a parameter by itself; whether it did. Else nothing is read.
+    #[inline(always)]
+    pub fn push_next(&mut self) -> Result<bool, AllocError>
+        ensures { IfOk result (λ is. PushesNext is self.old self.new) }
+    {
+        // Most parameters are numbers.
+        if let Some((sort, len)) = self.lexer.peek_number() {
+            return self.push_front(sort, len);
+        }
+        let Some((sort, len)) = self.lexer.peek() else {
+            return Ok(false);
+        };
+        self.push_front(sort, len)
     }
 
     /// Reads the keyword that stands next and makes it a pending leaf, where no layout comes before
