@@ -1,4 +1,5 @@
 pub mod WordLemmas
+pub mod DigitsRead
 pub mod FrontLemmas
 pub mod LeftOutLemmas
 pub mod LayoutLemmas

@@ -1,5 +1,5 @@
 -- A mark before which no layout stands.
-use Rattle.std.proofs.Common.{◌≡◌, ℕ, zero, suc, ◌+◌, ◌≤◌, ◌<◌, List, [], ◌∷◌, ◌++◌, length, get_or, take, drop, refl, sym, ap, ◌∙◌, subst, arith, length-drop}
+use Rattle.std.proofs.Common.{◌≡◌, ℕ, zero, suc, ◌+◌, ◌≤◌, ◌<◌, List, [], ◌∷◌, length, get_or, take, drop, refl, sym, ap, ◌∙◌, subst, arith}
 use Rattle.std.specs.Char.{to_ascii_lowercase}
 use Rattle.step_lexis.specs.declared.token.Mark.{Mark}
 use Rattle.step_lexis.specs.declared.token.Mark.TheVariants.{Open, Close, Comma, Semicolon, Equals, Dollar, Asterisk}
@@ -7,7 +7,7 @@ use Rattle.step_lexis.specs.declared.token.Sort.{Sort}
 use Rattle.step_lexis.specs.declared.token.Sort.TheVariants as sorts
 use Rattle.step_lexis.specs.declared.token.Token.{Token}
 use Rattle.step_lexis.specs.Front.{mark_byte, IsFront}
-use Rattle.step_lexis.specs.Layout.{NoBlank, SkipsLayout}
+use Rattle.step_lexis.specs.Layout.{NoBlank}
 use Rattle.step_lexis.specs.Reading.{Reading, Takes}
 use Rattle.step_lexis.proofs.FrontLemmas.{mark_front}
 use Rattle.step_lexis.proofs.LayoutLemmas.{no_blank}

@@ -21,18 +21,20 @@ ghost use Rattle.step_literals.specs.Tokens.{is_mark, is_sign};
 ghost use Rattle.step_literals.specs.Numbers.{StartsNumber};
 ghost use Rattle.step_lexis.specs.Front.{FrontOrFlaw, IsFront, IsFlawed, begins_number, mark_byte};
 
+use crate::digits::digits_number;
 use crate::token::{Mark, Sort};
 use crate::words::{scope_at, user_defined_at, word_at};
 use step_literals::binaries::binary_len;
-use step_literals::bytes::{digits_len, is_letter, word_len};
+use step_literals::bytes::{is_letter, word_len};
 use step_literals::directives::broken_directive;
 use step_literals::fault::Flaw;
 use step_literals::literal::{Bits, Decimal, Text, Word};
-use step_literals::numbers::{is_short_number, number_len, number_of, starts_number};
+use step_literals::numbers::{is_short_number, number_len, starts_number};
 use step_literals::strings::{content_of, string_len};
 
 /// The number at the front of the bytes.
-fn number_at(bytes: &[u8]) -> Result<(Sort<'_>, usize), (Flaw, usize)>
+#[inline(always)]
+pub fn number_at(bytes: &[u8]) -> Result<(Sort<'_>, usize), (Flaw, usize)>
     requires { StartsNumber bytes.now }
     ensures { FrontOrFlaw bytes.now result }
 {
@@ -103,12 +105,11 @@ fn name_at(bytes: &[u8]) -> Result<(Sort<'_>, usize), (Flaw, usize)>
     ensures { FrontOrFlaw bytes.now result }
 {
     let (_, rest) = bytes.split_at(1);
-    let len = digits_len(rest);
+    let (number, len) = digits_number(rest);
     if len == 0 {
         return Err((Flaw::BadToken, 0));
     }
-    let (digits, _) = rest.split_at(len);
-    match number_of(digits) {
+    match number {
         Some(value) => Ok((Sort::Name(value), 1 + len)),
         None => Err((Flaw::NameTooLarge, 0)),
     }
@@ -132,6 +133,7 @@ fn mark_of(byte: u8) -> Option<Mark>
 }
 
 /// The token at the front of the bytes that begins with no mark, letter, digit or sign.
+#[inline(always)]
 fn other_at(bytes: &[u8]) -> Result<(Sort<'_>, usize), (Flaw, usize)>
     requires some { 0 < length bytes.now }
     requires no_mark { is_mark (slice_index bytes.now 0) ≡ false }

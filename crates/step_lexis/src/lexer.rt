@@ -2,12 +2,14 @@
 ghost use Rattle.std.specs.Prelude.{◌≡◌};
 ghost use Rattle.step_lexis.specs.Front.{mark_byte};
 
-use crate::fronts::front_at;
+use crate::fronts::{front_at, number_at};
 use crate::layout::layout_len;
 use crate::token::{Mark, Sort, Token};
+use crate::words::word_at;
 use std::marker::Model;
 use step_literals::bytes::is_letter;
 use step_literals::fault::TextFault;
+use step_literals::numbers::starts_number;
 
 const BYTE_ORDER_MARK: [u8; 3] = [0xEF, 0xBB, 0xBF];
 
@@ -68,6 +70,15 @@ impl<'a> Lexer<'a> {
         self.place as u64
     }
 
+    /// What is left of the text.
+    #[inline(always)]
+    fn left(&self) -> &'a [u8]
+        ensures { result.now ≡ left self.now }
+    {
+        let (_, left) = self.text.split_at(self.place);
+        left
+    }
+
     /// Reads this mark where it stands next and no layout before it; whether it does. Else nothing
     /// is read.
     #[inline(always)]
@@ -88,11 +99,37 @@ impl<'a> Lexer<'a> {
     pub fn peek(&self) -> Option<(Sort<'a>, usize)>
         ensures { IfSome result (λ front. IsFront (left self.now) front.0 front.1) }
     {
-        let (_, left) = self.text.split_at(self.place);
+        let left = self.left();
         if left.is_empty() || is_letter(left[0]) {
             return None;
         }
         front_at(left).ok()
+    }
+
+    /// The sort and the length of the number that stands next, where no layout comes before it.
+    /// `None` says nothing.
+    #[inline(always)]
+    pub fn peek_number(&self) -> Option<(Sort<'a>, usize)>
+        ensures { IfSome result (λ front. IsFront (left self.now) front.0 front.1) }
+    {
+        let left = self.left();
+        if left.is_empty() || !starts_number(left[0]) {
+            return None;
+        }
+        number_at(left).ok()
+    }
+
+    /// The sort and the length of the token that stands next, where it begins with a letter and no
+    /// layout comes before it. `None` says nothing.
+    #[inline(always)]
+    pub fn peek_word(&self) -> Option<(Sort<'a>, usize)>
+        ensures { IfSome result (λ front. IsFront (left self.now) front.0 front.1) }
+    {
+        let left = self.left();
+        if left.is_empty() || !is_letter(left[0]) {
+            return None;
+        }
+        Some(word_at(left))
     }
 
     /// Reads the token of this sort and length, which stands next.

@@ -3,6 +3,7 @@
 //! Nothing here takes memory: tokens are slices of the text that is read.
 #![tactic(auto)]
 
+mod digits;
 mod fronts;
 pub mod laws;
 mod layout;

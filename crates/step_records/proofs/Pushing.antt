@@ -6,7 +6,7 @@ use Rattle.step_lexis.specs.declared.token.Sort.{Sort}
 use Rattle.step_lexis.specs.declared.token.Sort.TheVariants as sorts
 use Rattle.step_lexis.specs.declared.token.Token.{Token}
 use Rattle.step_lexis.specs.Front.{IsFront}
-use Rattle.step_lexis.specs.Reading.{Reading, Takes, left}
+use Rattle.step_lexis.specs.Reading.{Reading, SkipsMark, Takes, left}
 use Rattle.step_lexis.proofs.ReadingLemmas.{some_bytes}
 use Rattle.step_lexis.proofs.Standing.{token_at, front_taken}
 use Rattle.step_parameters.specs.Building.{Building}
@@ -21,15 +21,23 @@ use Rattle.step_structures.specs.Fits.{IsLeaf}
 use Rattle.step_structures.specs.Predict.{Just, is_mark}
 use Rattle.step_structures.specs.Predict as predict
 use Rattle.step_records.specs.Readers.{Progress, reading}
-use Rattle.step_records.specs.Steps.{StopsIn, Passes, IsParameter, PushesAll, PushesLeaf, PushesNext, TakesInner, TakesValue, TakesItem, BeginsItems, TakesItems, TakesParams, GoesOn, inner_symbols}
+use Rattle.step_records.specs.Steps.{StopsIn, StopsAnyway, TakesNext, Passes, IsParameter, PushesAll, PushesLeaf, PushesNext, PushesKeyword, TakesInner, TakesValue, TakesItem, BeginsItems, TakesItems, TakesParams, GoesOn, inner_symbols}
+use Rattle.step_records.proofs.Looking.{mark_met, mark_shown}
 use Rattle.step_records.proofs.Taking.{passes_here, stops_behind_taken}
-use Rattle.step_records.proofs.ParamSteps.{leaf_done, SoFar, items_none, items_first, items_next, items_done, all_push, inner_done, typed_done, params_done, params_err_items}
+use Rattle.step_records.proofs.ParamSteps.{leaf_done, SoFar, items_none, items_err_first, items_first, items_next, items_done, all_push, inner_done, typed_done, params_done, params_err_items}
 
 -- a token that is taken stands in the text
 pub takes_stands : (old a : Progress) (t : Token) → Takes (reading old) t (reading a) → a.built ≡ old.built
     → StandsIn a.built.text t
 takes_stands old a t h e = subst (λ b. StandsIn b.text t) (sym e)
     (record { within = h.reaches.within; front = h.front; is = h.text })
+
+-- what stands next for the lexer of a reader stands next for the reader
+pub front_of : (r : Reading) (b : Building) (p : Progress) (sort : Sort) (n : ℕ)
+    → record { place = r.place; built = b } ≡ p → r.text ≡ b.text → IsFront (left (reading p)) sort n
+    → IsFront (left r) sort n
+front_of r b p sort n v e f = subst (λ l. IsFront l sort n)
+    (ap (λ (x : Progress). left (reading x)) (sym v) ∙ ap (drop r.place) (sym e)) f
 
 -- the token of this sort and length that stands next
 abbrev pub next_token : Reading → Sort → ℕ → Token
@@ -55,24 +63,27 @@ leaf_next r text at sort n k e p f is =
     subst (λ (x : List ℕ × ℕ). IsLeafAt x.0 k x.1 n (next_token r sort n)) (λ i. (e i, sym p i)) here
 
 -- .. which is pushed and skipped
-pub leaf_pushed : (r s : Reading) (b c : Building) (sort : Sort) (n : ℕ) (k : Leaf) → r.text ≡ b.text
-    → IsFront (left r) sort n → IsParameter k sort
-    → c ≡ record b { pending = b.pending ++ leaf_tree (next_token r sort n) ∷ [] } → s ≡ record r { place = r.place + n }
-    → PushesLeaf (record { place = r.place; built = b }) (record { place = s.place; built = c })
-leaf_pushed r s b c sort n k e f is ec es =
-    let text : r.text ≡ c.text = e ∙ sym (ap (λ (x : Building). x.text) ec) in
-    let place : r.place + n ≡ s.place = sym (ap (λ (x : Reading). x.place) es) in
-    let from : r ≡ record { text = b.text; place = r.place } = λ i. record { text = e i; place = r.place } in
-    let to : record r { place = r.place + n } ≡ record { text = c.text; place = s.place } =
-    λ i. record { text = text i; place = place i } in
-    record {
-      token = next_token r sort n;
-      taken = subst (λ (x : Reading × Reading). Takes x.0 (next_token r sort n) x.1) (λ i. (from i, to i))
-          (next_taken r sort n f);
-      kind = k;
-      is = is;
-      pushes = ec;
-    }
+module _ (r s : Reading) (b c : Building) (sort : Sort) (n : ℕ) (e : r.text ≡ b.text) (f : IsFront (left r) sort n)
+    (pushed : c ≡ record b { pending = b.pending ++ leaf_tree (next_token r sort n) ∷ [] })
+    (skipped : s ≡ record r { place = r.place + n }) where
+  taken_next : Takes (record { text = b.text; place = r.place }) (next_token r sort n)
+      (record { text = c.text; place = s.place })
+  taken_next =
+      let text : r.text ≡ c.text = e ∙ sym (ap (λ (x : Building). x.text) pushed) in
+      let place : r.place + n ≡ s.place = sym (ap (λ (x : Reading). x.place) skipped) in
+      let from : r ≡ record { text = b.text; place = r.place } = λ i. record { text = e i; place = r.place } in
+      let to : record r { place = r.place + n } ≡ record { text = c.text; place = s.place } =
+      λ i. record { text = text i; place = place i } in
+      subst (λ (x : Reading × Reading). Takes x.0 (next_token r sort n) x.1) (λ i. (from i, to i))
+      (next_taken r sort n f)
+
+  pub leaf_pushed : (k : Leaf) → IsParameter k sort
+      → PushesLeaf (record { place = r.place; built = b }) (record { place = s.place; built = c })
+  leaf_pushed k is = record { token = next_token r sort n; taken = taken_next; kind = k; is = is; pushes = pushed }
+
+  pub keyword_pushed : leaf_of sort ≡ Some Keyword
+      → PushesKeyword (record { place = r.place; built = b }) (record { place = s.place; built = c })
+  keyword_pushed is = record { token = next_token r sort n; taken = taken_next; is = is; pushes = pushed }
 
 -- what is pending behind what is pending
 pub pushes_over : (a b : Building) (xs : List Tree) → a ≡ b
@@ -126,7 +137,7 @@ leaf_item n old new h =
       is.1,
     )
 
--- a token is pushed, or the next one is taken
+-- the next parameter is read, or nothing is
 pub pushed_item : (b : Bool) (n : ℕ) (old new : Progress) → b ≡ true → PushesNext b old new
     → BeginsItems true n old new
 pushed_item true n old new e h = leaf_item n old new h
@@ -135,6 +146,15 @@ pushed_item false n old new e h = absurd (cc)
 pub not_pushed : (b : Bool) (old new : Progress) → b ≡ false → PushesNext b old new → new ≡ old
 not_pushed false old new e h = h
 not_pushed true old new e h = absurd (cc)
+
+pub next_begins : (b : Bool) (n : ℕ) (old new : Progress) → b ≡ true → TakesNext b n old new
+    → BeginsItems true n old new
+next_begins true n old new e h = h
+next_begins false n old new e h = absurd (cc)
+
+pub not_begun : (b : Bool) (n : ℕ) (old new : Progress) → b ≡ false → TakesNext b n old new → new ≡ old
+not_begun false n old new e h = h
+not_begun true n old new e h = absurd (cc)
 
 pub item_taken : (n : ℕ) (old a b c : Progress) (t : Token) → a ≡ old → Takes (reading a) t (reading b)
     → b.built ≡ a.built → TakesValue n (located t) b c → TakesItem n old c
@@ -158,6 +178,30 @@ pub item_err_value : (e : TextFault) (n : ℕ) (old a b : Progress) (t : Token) 
 item_err_value e n old a b t same h g =
     subst (λ (r : Progress). StopsIn e (predict.Value n ∷ []) [] (reading r)) same
     (stops_behind_taken e (predict.Value n ∷ []) [] t (passes_here (predict.Value n ∷ []) (reading a)) h g)
+
+-- a list of which the parenthesis is read
+module _ (n : ℕ) (old a b : Progress) (same : a ≡ old) (skips : Bool) (is : skips ≡ true)
+    (skip : SkipsMark Open skips (reading a) (reading b)) (built : b.built ≡ a.built) where
+  skipped : SkipsMark Open true (reading a) (reading b)
+  skipped = subst (λ s. SkipsMark Open s (reading a) (reading b)) is skip
+
+  opened : is_mark Open (located skipped.0).lookahead ≡ true
+  opened = mark_shown skipped.0 Open skipped.1
+
+  closes_none : is_mark Close (located skipped.0).lookahead ≡ false
+  closes_none = ap (is_mark Close) (mark_met Open (located skipped.0).lookahead opened)
+
+  pub list_taken : (c : Progress) → ((t : Token) → is_mark Open (located t).lookahead ≡ true
+      → TakesValue n (located t) b c) → BeginsItems true n old c
+  list_taken c h = first_taken n old a b c skipped.0 same skipped.2 built closes_none (h skipped.0 opened)
+
+  pub list_stops : (e : TextFault) → ((t : Token) → is_mark Open (located t).lookahead ≡ true
+      → StopsIn e (predict.Value n ∷ []) (located t ∷ []) (reading b)) → StopsAnyway e n (reading old)
+  list_stops e h = (
+    item_err_value e n old a b skipped.0 same skipped.2 (h skipped.0 opened),
+    subst (λ (r : Progress). StopsIn e (predict.Items n ∷ []) [] (reading r)) same
+        (items_err_first e n skipped.0 (reading a) (reading b) skipped.2 closes_none (h skipped.0 opened)),
+  )
 
 pub begins_some : (b : Bool) (n : ℕ) (old new : Progress) → b ≡ true → BeginsItems b n old new
     → BeginsItems true n old new

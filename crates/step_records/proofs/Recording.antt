@@ -1,26 +1,26 @@
 -- Records and instances that are read and built.
-use Rattle.std.proofs.Common.{◌≡◌, ℕ, ◌<◌, true, false, List, [], ◌∷◌, ◌++◌, length, take, drop, map, Result, Ok, Err, MatchResult, refl, sym, ap, ◌∙◌, subst, append_assoc, append-nil, arith}
+use Rattle.std.proofs.Common.{◌≡◌, ℕ, ◌<◌, Bool, true, false, List, [], ◌∷◌, ◌++◌, length, take, drop, map, Result, Ok, Err, MatchResult, refl, sym, ap, ◌∙◌, subst, append_assoc, append-nil, arith}
 use Rattle.std.proofs.lemmas.List.{length-map, map-append, take_at, drop_at}
 use Rattle.step_lexis.specs.declared.token.Mark.TheVariants.{Open, Close, Semicolon, Equals}
 use Rattle.step_lexis.specs.declared.token.Token.{Token}
 use Rattle.step_lexis.specs.Reading.{Reading, Takes, left}
 use Rattle.step_literals.specs.declared.literal.Word as literal
-use Rattle.step_parameters.specs.Building.{list_of}
+use Rattle.step_parameters.specs.Building.{Building, list_of}
 use Rattle.step_parameters.specs.Cells.{all_of}
 use Rattle.step_parameters.proofs.Parts.{trees_all}
 use Rattle.step_parameters.specs.Tokens.{leaf_tree}
 use Rattle.step_structures.specs.declared.fault.TextFault.{TextFault}
 use Rattle.step_structures.specs.declared.fault.TextFault.TheVariants as faults
 use Rattle.step_structures.specs.Words.{keyword, mark, token, located}
-use Rattle.step_structures.specs.Trees.{Tree, leaf, Record, internal, external, this, items_of_record, items_of_form}
+use Rattle.step_structures.specs.Trees.{Tree, leaf, Record, internal, external, this, items_of_list, items_of_record, items_of_form}
 use Rattle.step_structures.specs.Fits.{has_keyword}
 use Rattle.step_structures.specs.Predict.{Just, Body, PartialRecords, refused, is_mark, params_symbols, row_symbols}
 use Rattle.step_records.specs.Readers.{Progress, reading}
-use Rattle.step_records.specs.Steps.{StopsIn, Passes, PushesAll}
+use Rattle.step_records.specs.Steps.{StopsIn, Passes, PushesAll, PushesKeyword, PushesWord, TakesParams}
 use Rattle.step_parameters.specs.Params.{trees_in}
 use Rattle.step_records.specs.Records.{texts_of, keywords_of, tree_of_record, trees_of_form, TakesRecord, TakesPartial, TakesPartials, TakesForm, TakesRow}
 use Rattle.step_records.proofs.Looking.{mark_met}
-use Rattle.step_records.proofs.Pushing.{wrapped, wrapped_over, pushes_over}
+use Rattle.step_records.proofs.Pushing.{keyword_leaf, wrapped, wrapped_over, pushes_over}
 use Rattle.step_records.proofs.RecordSteps.{Added, PartialRecordsSoFar, partial_done, partials_start, partials_next, partials_done, partials_err_token, partials_err_partial, partials_empty, partials_smaller, form_internal, form_external, form_err_params, form_err_partials, row_done}
 
 -- the record that trees behind a keyword make
@@ -142,6 +142,49 @@ form_record (Ok x) t text old a b h e is key v =
       passes = whole.1;
     }
 form_record (Err f) t text old a b h e is key v = form_err_params f t text (reading old) (reading a) h is v
+
+-- the same where the keyword is pending already
+pub pushed_record : (old a b : Progress) (h : PushesKeyword old a) → TakesParams 0 a b
+    → TakesRecord 0 h.token (record old { place = a.place }) b
+pushed_record old a b h v =
+    let same : reading a ≡ reading (record old { place = a.place }) =
+    ap (λ (x : Building). reading (record { place = a.place; built = x })) h.pushes in
+    record {
+      trees = v.trees;
+      pushes = v.pushes ∙ ap (λ (x : Building). record x { pending = x.pending ++ v.trees }) h.pushes
+          ∙ ap (λ l. record old.built { pending = l })
+          (append_assoc old.built.pending (leaf_tree h.token ∷ []) v.trees);
+      fits = v.fits;
+      passes = subst (λ r. Passes (params_symbols 0) [] [] (this (mark Open) ∷ items_of_list (all_of v.trees)) r
+          (reading b)) same v.passes;
+    }
+
+pub form_pushed : {M : Type 0} (r : Result M TextFault) (old a b : Progress) → PushesKeyword old a
+    → MatchResult r (λ _. TakesParams 0 a b) (λ e. StopsIn e (params_symbols 0) [] (reading a))
+    → MatchResult r (λ _. TakesForm old b) (λ e. StopsIn e (Body ∷ []) [] (reading old))
+form_pushed r old a b h v =
+    let mid : Progress = record old { place = a.place } in
+    let same : reading a ≡ reading mid =
+    ap (λ (x : Building). reading (record { place = a.place; built = x })) h.pushes in
+    let key = keyword_leaf h.token.sort h.token.text.now h.is in
+    form_record r h.token key.0 old mid b (subst (λ x. Takes (reading old) h.token x) same h.taken) refl
+    (ap token key.1) (ap leaf key.1) (record_pushed r v)
+  where
+    record_pushed : {M : Type 0} (r : Result M TextFault)
+        → MatchResult r (λ _. TakesParams 0 a b) (λ e. StopsIn e (params_symbols 0) [] (reading a))
+        → MatchResult r (λ _. TakesRecord 0 h.token (record old { place = a.place }) b)
+        (λ e. StopsIn e (params_symbols 0) [] (reading (record old { place = a.place })))
+    record_pushed (Ok x) v = pushed_record old a b h v
+    record_pushed (Err f) v = subst (λ x. StopsIn f (params_symbols 0) [] x)
+        (ap (λ (x : Building). reading (record { place = a.place; built = x })) h.pushes) v
+
+pub word_pushed : (is : Bool) (old new : Progress) → is ≡ true → PushesWord is old new → PushesKeyword old new
+word_pushed true old new e h = h
+word_pushed false old new e h = absurd (cc)
+
+pub no_word : (is : Bool) (old new : Progress) → is ≡ false → PushesWord is old new → new ≡ old
+no_word false old new e h = h
+no_word true old new e h = absurd (cc)
 
 -- what is pending behind a mark is kept as one list
 abbrev pub with_kept : ℕ → Progress → Progress

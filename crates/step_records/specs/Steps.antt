@@ -83,6 +83,18 @@ abbrev pub PushesNext : Bool → Progress → Progress → Type 0
 PushesNext true old new = PushesLeaf old new
 PushesNext false old new = new ≡ old
 
+-- the next token is a keyword, and is taken and pending
+pub record PushesKeyword (old new : Progress) : Type 0 where
+  pub token : Token
+  pub taken : Takes (reading old) token (reading new)
+  pub is : leaf_of token.sort ≡ Some Keyword
+  pub pushes : Pushes old (leaf_tree token) new
+
+-- .. or nothing is read
+abbrev pub PushesWord : Bool → Progress → Progress → Type 0
+PushesWord true old new = PushesKeyword old new
+PushesWord false old new = new ≡ old
+
 -- the parameter that stands next; behind its first token the reading is at `mid`
 pub record TakesItem (depth : ℕ) (old new : Progress) : Type 0 where
   pub token : Token
@@ -103,6 +115,15 @@ abbrev pub BeginsItems : Bool → ℕ → Progress → Progress → Type 0
 BeginsItems true depth old new =
     (first : TakesItem depth old new) × (is_mark Close (located first.token).lookahead ≡ false)
 BeginsItems false depth old new = TakesItems depth old new
+
+-- the parameter that stands next and closes no list, or nothing is read
+abbrev pub TakesNext : Bool → ℕ → Progress → Progress → Type 0
+TakesNext true depth old new = BeginsItems true depth old new
+TakesNext false depth old new = new ≡ old
+
+-- what stands next is no parameter, nor what begins those of a list
+abbrev pub StopsAnyway : TextFault → ℕ → Reading → Type 0
+StopsAnyway e depth old = StopsIn e (Value depth ∷ []) [] old × StopsIn e (Items depth ∷ []) [] old
 
 -- behind a parameter a comma, or the parenthesis that closes the list
 pub record GoesOn (more : Bool) (old new : Progress) : Type 0 where

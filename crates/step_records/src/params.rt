@@ -10,8 +10,10 @@ ghost use Rattle.step_parameters.specs.Tokens.{StandsIn, leaf_of};
 ghost use Rattle.step_records.specs.Readers.{reading};
 ghost use Rattle.step_records.specs.Steps.{
   StopsIn,
+  StopsAnyway,
   TakesInner,
   TakesItem,
+  TakesNext,
   BeginsItems,
   TakesValue,
   TakesItems,
@@ -75,14 +77,13 @@ fn typed<'a>(reader: &mut Reader<'a>, first: Token<'a>, depth: u32) -> Result<()
     Ok(())
 }
 
-/// The list that begins with this token, its parenthesis.
+/// The list whose parenthesis is read.
 #[cycle(params)]
-fn list<'a>(reader: &mut Reader<'a>, first: Token<'a>, depth: u32) -> Result<(), TextFault>
-    requires depth { depth < 64 }
-    requires open { Predict.is_mark Open (located first).lookahead ≡ true }
-    ensures { MatchResult result
-        (λ _. TakesValue depth (located first.entry) reader.old reader.new)
-        (λ e. StopsIn e (Value depth ∷ []) (located first.entry ∷ []) (reading reader.old)) }
+fn list(reader: &mut Reader<'_>, depth: u32) -> Result<(), TextFault>
+    requires { depth < 64 }
+    ensures { (t : Token) → Predict.is_mark Open (located t).lookahead ≡ true → MatchResult result
+        (λ _. TakesValue depth (located t) reader.old reader.new)
+        (λ e. StopsIn e (Value depth ∷ []) (located t ∷ []) (reading reader.old)) }
 {
     let mark = reader.pending_len();
     items(reader, depth + 1)?;
@@ -110,45 +111,94 @@ fn value<'a>(reader: &mut Reader<'a>, first: Token<'a>, depth: u32) -> Result<()
             if depth >= LEVELS {
                 return Err(fault_at(FaultKind::TooDeep, first));
             }
-            list(reader, first, depth)
+            list(reader, depth)
         }
         _ => leaf(reader, first, depth),
     }
 }
 
+/// The next parameter where no layout comes before it and it begins with no keyword, with so many
+/// parentheses open around it; whether it was read. Else nothing is.
+#[cycle(params)]
+#[inline(always)]
+fn next_item(reader: &mut Reader<'_>, depth: u32) -> Result<bool, TextFault>
+    requires { depth ≤ 64 }
+    ensures { MatchResult result
+        (λ is. TakesNext is depth reader.old reader.new)
+        (λ e. StopsAnyway e depth (reading reader.old)) }
+{
+    if reader.push_next()? {
+        return Ok(true);
+    }
+    if depth >= LEVELS {
+        return Ok(false);
+    }
+    if !reader.skip_mark(Mark::Open) {
+        return Ok(false);
+    }
+    list(reader, depth)?;
+    Ok(true)
+}
+
+/// The next parameter, with so many parentheses open around it. It may stand behind layout and
+/// begin with a keyword.
+#[cycle(params)]
+fn item_any(reader: &mut Reader<'_>, depth: u32) -> Result<(), TextFault>
+    requires { depth ≤ 64 }
+    ensures { MatchResult result
+        (λ _. TakesItem depth reader.old reader.new)
+        (λ e. StopsIn e (Value depth ∷ []) [] (reading reader.old)) }
+{
+    let first = take(reader)?;
+    value(reader, first, depth)?;
+    Ok(())
+}
+
 /// The next parameter, with so many parentheses open around it.
 #[cycle(params)]
+#[inline(always)]
 fn item(reader: &mut Reader<'_>, depth: u32) -> Result<(), TextFault>
     requires { depth ≤ 64 }
     ensures { MatchResult result
         (λ _. TakesItem depth reader.old reader.new)
         (λ e. StopsIn e (Value depth ∷ []) [] (reading reader.old)) }
 {
-    if reader.push_next()? {
+    if next_item(reader, depth)? {
         return Ok(());
     }
-    let first = take(reader)?;
-    value(reader, first, depth)?;
-    Ok(())
+    item_any(reader, depth)
 }
 
 /// The first parameter of a list, or the parenthesis that closes it; whether it is a parameter.
+/// Either may stand behind layout, and the parameter begin with a keyword.
 #[cycle(params)]
-fn first_item(reader: &mut Reader<'_>, depth: u32) -> Result<bool, TextFault>
+fn first_item_any(reader: &mut Reader<'_>, depth: u32) -> Result<bool, TextFault>
     requires { depth ≤ 64 }
     ensures { MatchResult result
         (λ some. BeginsItems some depth reader.old reader.new)
         (λ e. StopsIn e (Items depth ∷ []) [] (reading reader.old)) }
 {
-    if reader.push_next()? {
-        return Ok(true);
-    }
     let first = take(reader)?;
     if is_mark(first, Mark::Close) {
         return Ok(false);
     }
     value(reader, first, depth)?;
     Ok(true)
+}
+
+/// The first parameter of a list, or the parenthesis that closes it; whether it is a parameter.
+#[cycle(params)]
+#[inline(always)]
+fn first_item(reader: &mut Reader<'_>, depth: u32) -> Result<bool, TextFault>
+    requires { depth ≤ 64 }
+    ensures { MatchResult result
+        (λ some. BeginsItems some depth reader.old reader.new)
+        (λ e. StopsIn e (Items depth ∷ []) [] (reading reader.old)) }
+{
+    if next_item(reader, depth)? {
+        return Ok(true);
+    }
+    first_item_any(reader, depth)
 }
 
 /// The parameters of a list behind its parenthesis, and the closing one.

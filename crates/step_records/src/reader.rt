@@ -1,12 +1,14 @@
 //! A text that is read token by token, and what is built of it.
 
-ghost use Rattle.std.specs.Prelude.{◌≡◌, ◌≤◌, ◌+◌, ◌++◌, [], ◌∷◌, Some, length, take, drop, IfOk, IfSome};
-ghost use Rattle.step_lexis.specs.Reading.{Answers, SkipsMark, start_of};
+ghost use Rattle.std.specs.Prelude.{◌≡◌, ◌≤◌, ◌+◌, ◌++◌, [], ◌∷◌, Some, length, take, drop, IfOk, IfSome, IsTrue};
+ghost use Rattle.step_parameters.specs.declared.cell.Leaf.TheVariants.{Keyword};
+ghost use Rattle.step_lexis.specs.Front.{IsFront};
+ghost use Rattle.step_lexis.specs.Reading.{Answers, SkipsMark, left, start_of};
 ghost use Rattle.step_parameters.specs.Building.{list_of};
 ghost use Rattle.step_parameters.specs.Cells.{typed_of};
 ghost use Rattle.step_parameters.specs.Tokens.{StandsIn, leaf_of, leaf_tree};
 ghost use Rattle.step_records.specs.Readers.{reading};
-ghost use Rattle.step_records.specs.Steps.{IsParameter, PushesNext};
+ghost use Rattle.step_records.specs.Steps.{IsParameter, PushesNext, PushesWord};
 
 use std::alloc::{AllocError, Global};
 use std::marker::Model;
@@ -36,6 +38,13 @@ impl<'a> Model for Reader<'a> {
     ghost view = { λ r. record { place = r.lexer.place; built = r.builder } };
 
     ghost invariant = { λ r. r.lexer.text ≡ r.builder.text };
+}
+
+// Whether a token of this sort is a keyword.
+fn is_keyword(sort: Sort<'_>) -> bool
+    ensures { IsTrue result → leaf_of sort.entry ≡ Some Keyword }
+{
+    matches!(sort, Sort::Keyword(_))
 }
 
 // What kind of leaf a token of this sort is, if it is a parameter by itself.
@@ -88,19 +97,51 @@ impl<'a> Reader<'a> {
         self.lexer.skip_mark(wanted)
     }
 
+    /// Reads the token of this sort and length, which stands next, and makes it a pending leaf,
+    /// where it is a parameter by itself; whether it did. Else nothing is read.
+    #[inline(always)]
+    fn push_front(&mut self, sort: Sort<'a>, len: usize) -> Result<bool, AllocError>
+        requires { IsFront (left (reading self.old)) sort len }
+        ensures { IfOk result (λ is. PushesNext is self.old self.new) }
+    {
+        let Some(leaf) = parameter(sort) else {
+            return Ok(false);
+        };
+        self.builder.push_leaf_at(leaf, self.lexer.place(), len)?;
+        self.lexer.skip(sort, len);
+        Ok(true)
+    }
+
     /// Reads the token that stands next and makes it a pending leaf, where no layout comes before it
     /// and it is a parameter by itself; whether it did. Else nothing is read.
     #[inline(always)]
     pub fn push_next(&mut self) -> Result<bool, AllocError>
         ensures { IfOk result (λ is. PushesNext is self.old self.new) }
     {
+        // Most parameters are numbers.
+        if let Some((sort, len)) = self.lexer.peek_number() {
+            return self.push_front(sort, len);
+        }
         let Some((sort, len)) = self.lexer.peek() else {
             return Ok(false);
         };
-        let Some(leaf) = parameter(sort) else {
+        self.push_front(sort, len)
+    }
+
+    /// Reads the keyword that stands next and makes it a pending leaf, where no layout comes before
+    /// it; whether it did. Else nothing is read.
+    #[inline(always)]
+    pub fn push_keyword(&mut self) -> Result<bool, AllocError>
+        ensures { IfOk result (λ is. PushesWord is self.old self.new) }
+    {
+        let Some((sort, len)) = self.lexer.peek_word() else {
             return Ok(false);
         };
-        self.builder.push_leaf_at(leaf, self.lexer.place(), len)?;
+        if !is_keyword(sort) {
+            return Ok(false);
+        }
+        self.builder
+            .push_leaf_at(Leaf::Keyword, self.lexer.place(), len)?;
         self.lexer.skip(sort, len);
         Ok(true)
     }

@@ -140,8 +140,8 @@ fn partial_records<'a>(
     }
 }
 
-/// What stands for an instance behind its `=`.
-fn form(alloc: Global, keys: RandomState, reader: &mut Reader<'_>) -> Result<(), TextFault>
+/// What stands for an instance behind its `=`. It may stand behind layout.
+fn form_any(alloc: Global, keys: RandomState, reader: &mut Reader<'_>) -> Result<(), TextFault>
     ensures { MatchResult result
         (λ _. TakesForm reader.old reader.new)
         (λ e. StopsIn e (Body ∷ []) [] (reading reader.old)) }
@@ -154,6 +154,18 @@ fn form(alloc: Global, keys: RandomState, reader: &mut Reader<'_>) -> Result<(),
         return Err(refuse(first));
     };
     record(reader, first, 0)
+}
+
+/// What stands for an instance behind its `=`.
+fn form(alloc: Global, keys: RandomState, reader: &mut Reader<'_>) -> Result<(), TextFault>
+    ensures { MatchResult result
+        (λ _. TakesForm reader.old reader.new)
+        (λ e. StopsIn e (Body ∷ []) [] (reading reader.old)) }
+{
+    if reader.push_keyword()? {
+        return record_params(reader, 0);
+    }
+    form_any(alloc, keys, reader)
 }
 
 /// What stands for an instance behind its name; its tree is kept.

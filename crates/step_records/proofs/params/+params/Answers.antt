@@ -1,11 +1,11 @@
-use Rattle.std.proofs.Common.{sym, ap, ◌∙◌, ◌≡◌}
+use Rattle.std.proofs.Common.{refl, sym, ap, ◌∙◌, ◌≡◌}
 use Rattle.std.proofs.lemmas.Result.{err_from_is_err_and}
 use Rattle.step_structures.specs.Words.{token}
 use Rattle.step_structures.specs.Predict.{Value, Items, EndOfText}
 use Rattle.step_parameters.specs.Cells.{all_of}
 use Rattle.step_records.specs.Readers.{reading}
 use Rattle.step_records.proofs.ParamSteps.{inner_err_first, inner_err_close, items_err_first, items_err_token, items_err_next, items_smaller, typed_err}
-use Rattle.step_records.proofs.Pushing.{pushed_item, not_pushed, item_taken, first_taken, item_err_value, begins_some, begins_none, items_empty, items_begin, items_go_on, items_end, a_comma, a_close, inner_whole, typed_whole, keyword_leaf}
+use Rattle.step_records.proofs.Pushing.{pushed_item, not_pushed, next_begins, not_begun, list_taken, list_stops, item_taken, first_taken, item_err_value, begins_some, begins_none, items_empty, items_begin, items_go_on, items_end, a_comma, a_close, inner_whole, typed_whole, keyword_leaf}
 use Rattle.step_records.proofs.params.+params.Goals as goal
 
 pub inner-returns-in_err-item : goal.inner-returns-in_err-item
@@ -30,66 +30,81 @@ inner-returns t c =
     c.in_ok-expect.ensures.0 c.in_ok-expect.ensures.1 x.taken x.same x.value c.in_ok-expect-2.ensures.0
     c.in_ok-expect-2.ensures.1
 
-pub item-returns-then-branch : goal.item-returns-then-branch
-item-returns-then-branch t c = (pushed_item c.in_ok-push_next.field-0 c.args.depth c.args.reader.now
-    c.push_next.new.self c.if-branch.true c.in_ok-push_next.ensures).0
+pub next_item-returns-then-branch : goal.next_item-returns-then-branch
+next_item-returns-then-branch t c = pushed_item c.in_ok-push_next.field-0 c.args.depth c.args.reader.now
+    c.push_next.new.self c.if-branch.true c.in_ok-push_next.ensures
 
-pub item-returns-in_err-first : goal.item-returns-in_err-first
-item-returns-in_err-first t c =
-    let p = err_from_is_err_and c.from_residual-in_err-first.result c.from_residual-in_err-first.ensures.1 in
+pub next_item-returns-in_err-list : goal.next_item-returns-in_err-list
+next_item-returns-in_err-list t c =
+    let p = err_from_is_err_and c.from_residual-in_err-list.result c.from_residual-in_err-list.ensures.1 in
     let same = not_pushed c.in_ok-push_next.field-0 c.args.reader.now c.push_next.new.self c.if-branch.false
     c.in_ok-push_next.ensures in
-    rw (p.1, p.2, ← same) (c.in_err-first.ensures (Value c.args.depth) (λ (e : Value c.args.depth ≡ EndOfText). cc))
+    rw (p.1, p.2) (list_stops c.args.depth c.args.reader.now c.push_next.new.self c.skip_mark.new.self same
+    c.skip_mark.result c.if-not-skip_mark.false c.skip_mark.ensures.skips c.skip_mark.ensures.built _
+    c.in_err-list.ensures)
 
-pub item-returns-in_err-value : goal.item-returns-in_err-value
-item-returns-in_err-value t c =
+pub next_item-returns : goal.next_item-returns
+next_item-returns t c =
+    let same = not_pushed c.in_ok-push_next.field-0 c.args.reader.now c.push_next.new.self c.if-branch.false
+    c.in_ok-push_next.ensures in
+    list_taken c.args.depth c.args.reader.now c.push_next.new.self c.skip_mark.new.self same c.skip_mark.result
+    c.if-not-skip_mark.false c.skip_mark.ensures.skips c.skip_mark.ensures.built c.list.new.reader c.in_ok-list.ensures
+
+pub item_any-returns-in_err-first : goal.item_any-returns-in_err-first
+item_any-returns-in_err-first t c =
+    let p = err_from_is_err_and c.from_residual.result c.from_residual.ensures.1 in
+    rw (p.1, p.2) (c.in_err-first.ensures (Value c.args.depth) (λ (e : Value c.args.depth ≡ EndOfText). cc))
+
+pub item_any-returns-in_err-value : goal.item_any-returns-in_err-value
+item_any-returns-in_err-value t c =
     let p = err_from_is_err_and c.from_residual-in_err-value.result c.from_residual-in_err-value.ensures.1 in
-    let same = not_pushed c.in_ok-push_next.field-0 c.args.reader.now c.push_next.new.self c.if-branch.false
-    c.in_ok-push_next.ensures in
-    rw (p.1, p.2) (item_err_value _ c.args.depth c.args.reader.now c.push_next.new.self c.take.new.reader
-    c.in_ok-first.first same c.in_ok-first.ensures.0 c.in_err-value.ensures)
+    rw (p.1, p.2) (item_err_value _ c.args.depth c.args.reader.now c.args.reader.now c.take.new.reader
+    c.in_ok-first.first refl c.in_ok-first.ensures.0 c.in_err-value.ensures)
+
+pub item_any-returns : goal.item_any-returns
+item_any-returns t c = item_taken c.args.depth c.args.reader.now c.args.reader.now c.take.new.reader
+    c.value.new.reader c.in_ok-first.first refl c.in_ok-first.ensures.0 c.in_ok-first.ensures.1 c.in_ok-value.ensures
+
+pub item-returns-then-branch : goal.item-returns-then-branch
+item-returns-then-branch t c = (next_begins c.in_ok-next_item.field-0 c.args.depth c.args.reader.now
+    c.next_item.new.reader c.if-branch.true c.in_ok-next_item.ensures).0
 
 pub item-returns : goal.item-returns
 item-returns t c =
-    let same = not_pushed c.in_ok-push_next.field-0 c.args.reader.now c.push_next.new.self c.if-branch.false
-    c.in_ok-push_next.ensures in
-    item_taken c.args.depth c.args.reader.now c.push_next.new.self c.take.new.reader c.value.new.reader
-    c.in_ok-first.first same c.in_ok-first.ensures.0 c.in_ok-first.ensures.1 c.in_ok-value.ensures
+    let same = not_begun c.in_ok-next_item.field-0 c.args.depth c.args.reader.now c.next_item.new.reader
+    c.if-branch.false c.in_ok-next_item.ensures in
+    rw (← same) c.item_any.ensures
 
-pub first_item-returns-then-branch : goal.first_item-returns-then-branch
-first_item-returns-then-branch t c = pushed_item c.in_ok-push_next.field-0 c.args.depth c.args.reader.now
-    c.push_next.new.self c.if-branch.true c.in_ok-push_next.ensures
+pub first_item_any-returns-in_err-first : goal.first_item_any-returns-in_err-first
+first_item_any-returns-in_err-first t c =
+    let p = err_from_is_err_and c.from_residual.result c.from_residual.ensures.1 in
+    rw (p.1, p.2) (c.in_err-first.ensures (Items c.args.depth) (λ (e : Items c.args.depth ≡ EndOfText). cc))
 
-pub first_item-returns-in_err-first : goal.first_item-returns-in_err-first
-first_item-returns-in_err-first t c =
-    let p = err_from_is_err_and c.from_residual-in_err-first.result c.from_residual-in_err-first.ensures.1 in
-    let same = not_pushed c.in_ok-push_next.field-0 c.args.reader.now c.push_next.new.self c.if-branch.false
-    c.in_ok-push_next.ensures in
-    rw (p.1, p.2, ← same) (c.in_err-first.ensures (Items c.args.depth) (λ (e : Items c.args.depth ≡ EndOfText). cc))
+pub first_item_any-returns-then-is_mark : goal.first_item_any-returns-then-is_mark
+first_item_any-returns-then-is_mark t c = items_empty c.args.depth c.args.reader.now c.take.new.reader
+    c.in_ok-first.first c.in_ok-first.ensures.0 c.in_ok-first.ensures.1 (sym c.is_mark.ensures ∙ c.if-is_mark.true)
 
-pub first_item-returns-then-is_mark : goal.first_item-returns-then-is_mark
-first_item-returns-then-is_mark t c =
-    let same = not_pushed c.in_ok-push_next.field-0 c.args.reader.now c.push_next.new.self c.if-branch.false
-    c.in_ok-push_next.ensures in
-    rw (← same) (items_empty c.args.depth c.push_next.new.self c.take.new.reader c.in_ok-first.first
-    c.in_ok-first.ensures.0 c.in_ok-first.ensures.1 (sym c.is_mark.ensures ∙ c.if-is_mark.true))
-
-pub first_item-returns-in_err-value : goal.first_item-returns-in_err-value
-first_item-returns-in_err-value t c =
+pub first_item_any-returns-in_err-value : goal.first_item_any-returns-in_err-value
+first_item_any-returns-in_err-value t c =
     let p = err_from_is_err_and c.from_residual-in_err-value.result c.from_residual-in_err-value.ensures.1 in
-    let same = not_pushed c.in_ok-push_next.field-0 c.args.reader.now c.push_next.new.self c.if-branch.false
-    c.in_ok-push_next.ensures in
-    rw (p.1, p.2, ← same) (items_err_first _ c.args.depth c.in_ok-first.first (reading c.push_next.new.self)
+    rw (p.1, p.2) (items_err_first _ c.args.depth c.in_ok-first.first (reading c.args.reader.now)
     (reading c.take.new.reader) c.in_ok-first.ensures.0 (sym c.is_mark.ensures ∙ c.if-is_mark.false)
     c.in_err-value.ensures)
 
+pub first_item_any-returns : goal.first_item_any-returns
+first_item_any-returns t c = first_taken c.args.depth c.args.reader.now c.args.reader.now c.take.new.reader
+    c.value.new.reader c.in_ok-first.first refl c.in_ok-first.ensures.0 c.in_ok-first.ensures.1
+    (sym c.is_mark.ensures ∙ c.if-is_mark.false) c.in_ok-value.ensures
+
+pub first_item-returns-then-branch : goal.first_item-returns-then-branch
+first_item-returns-then-branch t c = next_begins c.in_ok-next_item.field-0 c.args.depth c.args.reader.now
+    c.next_item.new.reader c.if-branch.true c.in_ok-next_item.ensures
+
 pub first_item-returns : goal.first_item-returns
 first_item-returns t c =
-    let same = not_pushed c.in_ok-push_next.field-0 c.args.reader.now c.push_next.new.self c.if-branch.false
-    c.in_ok-push_next.ensures in
-    first_taken c.args.depth c.args.reader.now c.push_next.new.self c.take.new.reader c.value.new.reader
-    c.in_ok-first.first same c.in_ok-first.ensures.0 c.in_ok-first.ensures.1
-    (sym c.is_mark.ensures ∙ c.if-is_mark.false) c.in_ok-value.ensures
+    let same = not_begun c.in_ok-next_item.field-0 c.args.depth c.args.reader.now c.next_item.new.reader
+    c.if-branch.false c.in_ok-next_item.ensures in
+    rw (← same) c.first_item_any.ensures
 
 pub items-returns-then-not-branch : goal.items-returns-then-not-branch
 items-returns-then-not-branch t c = begins_none c.in_ok-first_item.field-0 c.args.depth c.args.reader.now

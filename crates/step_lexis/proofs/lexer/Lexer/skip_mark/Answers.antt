@@ -1,7 +1,6 @@
-use Rattle.std.proofs.Common.{◌≡◌, ◌<◌, ◌+◌, ◌∙◌, true, refl, sym, ap, subst, take, drop, length, get_or, arith, length-drop}
+use Rattle.std.proofs.Common.{◌<◌, ◌+◌, ◌∙◌, true, refl, sym, subst, take, drop, length, arith, length-drop}
 use Rattle.step_lexis.specs.declared.token.Sort.TheVariants as sorts
 use Rattle.step_lexis.specs.declared.token.Token.{Token}
-use Rattle.step_lexis.specs.Front.{mark_byte}
 use Rattle.step_lexis.specs.Reading.{Reading, SkipsMark}
 use Rattle.step_lexis.proofs.MarkFound.{first_left, mark_taken}
 use Rattle.step_lexis.proofs.lexer.Lexer.skip_mark.Goals as goal
