@@ -84,7 +84,7 @@ within_before old new t h =
       length-drop old.place old.text,
     )
 
-shown_within : (old new : Reading) (s : LocatedToken) (w : Word) → Shows old s new → s.lookahead ≡ token w
+pub shown_within : (old new : Reading) (s : LocatedToken) (w : Word) → Shows old s new → s.lookahead ≡ token w
     → old.place ≤ length old.text
 shown_within old new s w h is = let t = shown_token w s old new h is in within_before old new t.0 t.1
 
@@ -151,17 +151,17 @@ passage_at text place p q ws from same is begins of next =
     (subst (λ l. P l from) (sym is) next) in
     subst (IsPassageAt text place) same (of, next_of)
 
--- a word that is read stands behind the place where the reader was
-pub word_stands : {ys zs : List Symbol} {old new : Reading} (w : Word) → Passes ys zs [] (w ∷ []) old new
-    → StandsBehind old.text old.place (w ∷ []) new.place
-word_stands {ys} {zs} {old} {new} w h = by h.shown h.shown_all h.words
+-- words that are read stand behind the place where the reader was
+pub words_stand : {ys zs : List Symbol} {old new : Reading} (w : Word) (ws : List Word) → Passes ys zs [] (w ∷ ws) old
+    new → StandsBehind old.text old.place (w ∷ ws) new.place
+words_stand {ys} {zs} {old} {new} w ws h = by h.shown h.shown_all h.words
   where
-    by : (s : List LocatedToken) → ShowsAll old s new → lookaheads s ≡ token w ∷ []
-        → StandsBehind old.text old.place (w ∷ []) new.place
+    by : (s : List LocatedToken) → ShowsAll old s new → lookaheads s ≡ token w ∷ map token ws
+        → StandsBehind old.text old.place (w ∷ ws) new.place
     by [] all e = absurd cc
     by (x ∷ s) all e =
         let first : x.lookahead ≡ token w = cc in
-        reads_stands old new (w ∷ []) (shown_within old all.0 x w all.1 first) (x ∷ s, all, e)
+        reads_stands old new (w ∷ ws) (shown_within old all.0 x w all.1 first) (x ∷ s, all, e)
 
 -- what the words of a function or procedure leave to come
 abbrev chosen : Bool → Bool → ℕ → Next

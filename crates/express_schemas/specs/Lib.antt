@@ -13,4 +13,5 @@ pub mod SchemaViews
 pub mod Laws
 pub mod Clauses
 pub mod Sources
+pub mod Places
 pub mod Faults

@@ -26,10 +26,14 @@ use Rattle.express_schemas.specs.Predict.{Symbol, Just, Say, Id, Declarations, E
 use Rattle.express_schemas.specs.Predict as predict
 use Rattle.express_schemas.specs.Steps.{StopsIn, Passes}
 use Rattle.express_schemas.proofs.Turning.{stops_shown}
-use Rattle.express_schemas.proofs.Looking.{mark_met, keyword_met, shows_lexeme, shown_less, takes_less}
+use Rattle.express_schemas.proofs.Looking.{mark_met, keyword_met, reads_shown, shows_lexeme, shown_less, takes_less}
 use Rattle.express_schemas.proofs.Taking.{passes_as, passes_join, passes_more, passes_token, passes_taken, passes_first, stops_behind, stops_behind_taken}
-use Rattle.express_runs.proofs.SkippedSteps.{passes_both}
+use Rattle.express_runs.proofs.SkippedSteps.{passes_both, shown_within}
 use Rattle.express_schemas.proofs.Lists.{every_push, joined_push, map_push}
+use Rattle.express_schemas.proofs.SameText.{shows_text}
+use Rattle.express_schemas.proofs.StandLemmas.{reads_stands}
+use Rattle.express_schemas.specs.Passages.{StandsBehind}
+use Rattle.express_schemas.specs.Places.{IsDeclarationAt, AreDeclarationsAt}
 
 -- a fault at a token
 pub stops_at : (e : SyntaxFault) (k : FaultKind) (y : Symbol) (s : LocatedToken) (old new : Reading) → Shows old s new
@@ -90,6 +94,35 @@ declarations_next old here mid new ds all d s so h e fits p =
           (sym (joined_push words_of_declaration trees (declaration_of d)))
           (passes_join so.passes (passes_first s here h p));
     })
+
+-- one declaration more, whose first word and all of whose words stand behind the others
+one_more : (text : List ℕ) (from : ℕ) (ds : List code.Declaration) (d : code.Declaration) (w : Word)
+    (here behind to : ℕ) → AreDeclarationsAt text from ds here → StandsBehind text here (w ∷ []) behind
+    → IsDeclarationAt text behind d → StandsBehind text here (words_of_declaration (declaration_of d)) to
+    → AreDeclarationsAt text from (ds ++ d ∷ []) to
+one_more text from [] d w here behind to h first is all =
+    subst (λ p. AreDeclarationsAt text p (d ∷ []) to) (sym h) (w, behind, first, is, to, all, refl)
+one_more text from (x ∷ ds) d w here behind to h first is all =
+    (h.0, h.1, h.2, h.3, h.4, h.5, one_more text h.4 ds d w here behind to h.6 first is all)
+
+-- one declaration more stands behind the others
+pub declarations_at : (old here mid new : Reading) (ds all : List code.Declaration) (d : code.Declaration)
+    (s : LocatedToken) (w : Word) → s.lookahead ≡ token w → here.text ≡ old.text
+    → AreDeclarationsAt old.text old.place ds here.place → Shows here s mid → all ≡ ds ++ d ∷ []
+    → IsDeclarationAt mid.text mid.place d
+    → Passes (Declarations ∷ []) (Declarations ∷ []) (s ∷ []) (words_of_declaration (declaration_of d)) mid new
+    → AreDeclarationsAt old.text old.place all new.place
+declarations_at old here mid new ds all d s w shown same so h e is p =
+    let within = shown_within here mid s w h shown in
+    let q = passes_first s here h p in
+    let first = reads_stands here mid (w ∷ []) within (reads_shown w s here mid h shown) in
+    let words = words_of_declaration (declaration_of d) in
+    let whole = reads_stands here new words within (q.shown, q.shown_all, q.words) in
+    let kept = subst (λ t. IsDeclarationAt t mid.place d) (shows_text here s mid h) is in
+    let others = subst (λ t. AreDeclarationsAt t old.place ds here.place) (sym same) so in
+    let more = one_more here.text old.place ds d w here.place mid.place new.place others first kept whole in
+    subst (λ l. AreDeclarationsAt old.text old.place l new.place) (sym e)
+    (subst (λ t. AreDeclarationsAt t old.place (ds ++ d ∷ []) new.place) same more)
 
 pub declarations_stop : (e : SyntaxFault) (old here : Reading) (ds : List Declaration) → DeclarationsSoFar old here ds
     → StopsIn e (Declarations ∷ []) [] here → StopsIn e (Declarations ∷ []) [] old

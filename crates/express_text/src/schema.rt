@@ -42,6 +42,7 @@ ghost use Rattle.express_schemas.specs.Texts.{
   IsMemory,
 };
 ghost use Rattle.express_schemas.specs.Sources.{IsDeclarationOf, IsSchemaOf};
+ghost use Rattle.express_schemas.specs.Places.{IsDeclarationAt, AreDeclarationsAt, IsSchemaAt};
 ghost use Rattle.express_schemas.specs.Predict;
 ghost use Rattle.express_schemas.specs.Predict.{
   Declarations,
@@ -106,6 +107,7 @@ fn declaration<'a>(reader: &mut Reader<'a>, first: Item<'a>) -> Result<Declarati
         (words_of_declaration (declaration_of d)) reader.old reader.new)
         (λ e. StopsIn e (Declarations ∷ []) (located_of first.entry ∷ []) reader.old) }
     ensures text { IfOk result (λ d. IsDeclarationOf reader.old.text d) }
+    ensures place { IfOk result (λ d. IsDeclarationAt reader.old.text reader.old.place d) }
 {
     if is_keyword(first, Keyword::Type) {
         let declared = type_declaration(reader)?;
@@ -131,6 +133,8 @@ fn all_declarations<'a>(reader: &mut Reader<'a>) -> Result<Vec<Declaration<'a>>,
         reader.new }
     ensures text { IfOk result
         (λ v. Every (IsDeclarationOf reader.old.text) v.items) }
+    ensures place { IfOk result
+        (λ v. (to : ℕ) × AreDeclarationsAt reader.old.text reader.old.place v.items to) }
 {
     let mut declarations = Vec::new(reader.alloc());
     loop {
@@ -181,6 +185,7 @@ fn whole_schema<'a>(reader: &mut Reader<'a>) -> Result<SchemaTree<'a>, SyntaxFau
         × ShowsAll reader.old shown reader.new × (lookaheads shown ≡ lookaheads_of (schema_of x)))
         (λ e. StopsIn e schema_symbols [] reader.old) }
     ensures text { IfOk result (λ x. IsSchemaOf reader.old.text x) }
+    ensures place { IfOk result (λ x. IsSchemaAt reader.old.text reader.old.place x) }
 {
     reader.expect_keyword(Keyword::Schema)?;
     let name = reader.expect_name()?;
@@ -207,6 +212,8 @@ pub fn read_schema<'a>(alloc: Global, text: &'a [u8]) -> Result<SchemaTree<'a>, 
         (λ t. schema_of t ≡ x) IsMemory }
     // The passages that it keeps are of the text.
     ensures text { IfOk result (λ x. IsSchemaOf text.now x) }
+    // Those of skipped declarations stand where these are read.
+    ensures place { IfOk result (λ x. IsSchemaAt text.now (start text.now).place x) }
     // A fault is the text's first one.
     ensures fault { IfErr result (λ e. IsFaultOf text.now e) }
 {

@@ -3,7 +3,7 @@ use Rattle.std.proofs.lemmas.Result.{err_from_is_err_and}
 use Rattle.express_schemas.specs.Sources.{IsPassageAt}
 use Rattle.express_schemas.specs.Predict.{Until, SkippedEnd}
 use Rattle.express_schemas.proofs.SameText.{passes_text}
-use Rattle.express_runs.proofs.SkippedSteps.{stops_second, passes_both, word_stands}
+use Rattle.express_runs.proofs.SkippedSteps.{stops_second, passes_both, words_stand}
 use Rattle.express_runs.proofs.skipped.named_tokens.Goals as goal
 
 pub returns-in_err-tokens-clause-read : goal.returns-in_err-tokens-clause-read
@@ -22,7 +22,7 @@ pub returns-clause-place : goal.returns-clause-place
 returns-clause-place c =
     let mid = c.skipped_name.new.reader in (
       mid.place,
-      word_stands _ c.in_ok-name.ensures,
+      words_stand _ [] c.in_ok-name.ensures,
       subst (λ text. IsPassageAt text mid.place c.in_ok-tokens.tokens) (passes_text c.in_ok-name.ensures)
           c.in_ok-tokens.ensures.place,
     )

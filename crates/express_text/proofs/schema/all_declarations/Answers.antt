@@ -1,9 +1,10 @@
-use Rattle.std.proofs.Common.{◌≡◌, map, sym, ◌∙◌}
+use Rattle.std.proofs.Common.{◌≡◌, map, refl, sym, ◌∙◌}
 use Rattle.std.proofs.lemmas.Result.{err_from_is_err_and}
+use Rattle.express_trees.specs.Words.{word_of}
 use Rattle.express_runs.specs.Items.{located_of}
 use Rattle.express_schemas.specs.Views.{declaration_of}
 use Rattle.express_schemas.specs.Predict.{Declarations, EndOfText}
-use Rattle.express_text.proofs.SchemaSteps.{declarations_stop, declarations_stop_end, declarations_stop_taken, declarations_done, declarations_next, declaration_less}
+use Rattle.express_text.proofs.SchemaSteps.{declarations_stop, declarations_stop_end, declarations_stop_taken, declarations_done, declarations_next, declarations_at, declaration_less}
 use Rattle.express_schemas.proofs.SameText.{shows_text, passes_text, kept}
 use Rattle.express_schemas.proofs.Lists.{every_push}
 use Rattle.express_schemas.specs.Sources.{IsDeclarationOf}
@@ -54,7 +55,16 @@ loop-declarations-preserved c =
       rw c.in_ok-push.ensures.items (every_push (IsDeclarationOf c.args.reader.now.text)
           c.loop-declarations.declarations.items c.in_ok-next.next c.loop-declarations.invariant.1
           (kept IsDeclarationOf c.in_ok-next.next e c.in_ok-next.ensures.text)),
+      declarations_at c.args.reader.now c.loop-declarations.reader c.take.new.self c.declaration.new.reader
+          c.loop-declarations.declarations.items c.push.new.self.items c.in_ok-next.next
+          (located_of c.in_ok-first.first) (word_of c.in_ok-first.first.lexeme) refl
+          (passes_text c.loop-declarations.invariant.0.passes) c.loop-declarations.invariant.2 c.in_ok-first.ensures
+          c.in_ok-push.ensures.items c.in_ok-next.ensures.place c.in_ok-next.ensures.read.1,
     )
 
 pub returns-then-is_keyword-clause-text : goal.returns-then-is_keyword-clause-text
 returns-then-is_keyword-clause-text c = rw c.shrink_to_fit.ensures.items c.loop-declarations.invariant.1
+
+pub returns-then-is_keyword-clause-place : goal.returns-then-is_keyword-clause-place
+returns-then-is_keyword-clause-place c =
+    (c.loop-declarations.reader.place, rw c.shrink_to_fit.ensures.items c.loop-declarations.invariant.2)

@@ -4,7 +4,8 @@ use Rattle.express_schemas.proofs.Unique.{one_schema}
 use Rattle.express_schemas.proofs.FirstFault.{stop_is_fault, reads_never_stops}
 use Rattle.express_schemas.proofs.SameText.{kept}
 use Rattle.express_schemas.specs.Sources.{IsSchemaOf}
-use Rattle.std.proofs.Common.{ap}
+use Rattle.express_schemas.specs.Places.{IsSchemaAt}
+use Rattle.std.proofs.Common.{ap, subst}
 use Rattle.express_lexis.specs.Reading.{Reading}
 use Rattle.express_text.proofs.SchemaSteps.{reads_as, stops_at_start}
 use Rattle.express_text.proofs.schema.read_schema.Goals as goal
@@ -34,3 +35,8 @@ returns-clause-all c = λ x h.
 pub returns-clause-text : goal.returns-clause-text
 returns-clause-text c = kept IsSchemaOf c.in_ok-schema.schema (ap (λ (r : Reading). r.text) c.new-reader.ensures)
     c.in_ok-schema.ensures.text
+
+pub returns-clause-place : goal.returns-clause-place
+returns-clause-place c =
+    subst (λ (r : Reading). IsSchemaAt r.text r.place c.in_ok-schema.schema) c.new-reader.ensures
+    c.in_ok-schema.ensures.place

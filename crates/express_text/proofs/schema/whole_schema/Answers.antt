@@ -4,11 +4,12 @@ use Rattle.express_trees.specs.Views.{capitals}
 use Rattle.express_schemas.specs.Schemas.{Schema}
 use Rattle.express_schemas.specs.Views.{if_some, version_of, declaration_of}
 use Rattle.express_schemas.specs.Predict.{Id, Version, Declarations, EndOfText}
-use Rattle.express_runs.proofs.SkippedSteps.{stops_second, passes_both}
+use Rattle.express_runs.proofs.SkippedSteps.{stops_second, passes_both, words_stand}
 use Rattle.express_text.proofs.SchemaSteps.{passes_opening, schema_done, reads_as}
 use Rattle.express_schemas.proofs.SameText.{passes_text, kept}
 use Rattle.express_schemas.specs.Sources.{IsDeclarationOf}
 use Rattle.express_schemas.specs.Profile.{Every}
+use Rattle.express_schemas.specs.Places.{AreDeclarationsAt}
 use Rattle.express_text.proofs.schema.whole_schema.Goals as goal
 
 pub returns-in_err-name-clause-read : goal.returns-in_err-name-clause-read
@@ -75,3 +76,16 @@ pub returns-clause-text : goal.returns-clause-text
 returns-clause-text c = kept (λ t x. Every (IsDeclarationOf t) x) c.in_ok-declarations.declarations.items
     (passes_text c.in_ok-version.ensures.1 ∙ passes_text c.in_ok-name.ensures
     ∙ passes_text c.in_ok-expect_keyword.ensures) c.in_ok-declarations.ensures.text
+
+pub returns-clause-place : goal.returns-clause-place
+returns-clause-place c =
+    let opening = passes_opening (capitals c.in_ok-name.name) (if_some version_of c.in_ok-version.version)
+    c.in_ok-expect_keyword.ensures c.in_ok-name.ensures c.in_ok-version.ensures.1 in
+    let ds = c.in_ok-declarations.declarations.items in
+    let from = c.some_version.new.reader.place in
+    let to = c.in_ok-declarations.ensures.place.0 in (
+      from,
+      to,
+      words_stand _ _ opening,
+      kept (λ t xs. AreDeclarationsAt t from xs to) ds (passes_text opening) c.in_ok-declarations.ensures.place.1,
+    )
