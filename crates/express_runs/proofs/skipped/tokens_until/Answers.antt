@@ -72,8 +72,7 @@ loop-item-smaller c = shown_less (word_of c.in_ok-item.item.lexeme) (located_of 
 pub loop-item-preserved : goal.loop-item-preserved
 loop-item-preserved c =
     until_next c.args.end.now c.args.reader.now c.loop-item.reader c.take.new.self c.loop-item.from c.loop-item.to
-    c.begun-from.result c.in_ok-item.item.place (word_of c.in_ok-item.item.lexeme) c.loop-item.invariant
-    (
+    c.begun-from.result c.in_ok-item.item.place (word_of c.in_ok-item.item.lexeme) c.loop-item.invariant (
       c.in_ok-item.ensures,
       record { stand = c.begun-from.ensures.stand; place = c.begun-from.ensures.place },
     ) (sym c.is_named.ensures ∙ c.if-is_named.false) c.place-to.result c.place-to.ensures
