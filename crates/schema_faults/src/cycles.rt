@@ -36,7 +36,8 @@ fn first_named<'a>(
 /// (ISO 10303-11, 9.2.3).
 ///
 /// Where none is, it takes time for each declaration and each name behind SUBTYPE OF once. Else,
-/// beyond that, for a search from each entity that leads to a cycle, up to the first that is on one.
+/// beyond that, for a search from each entity that leads to a cycle, up to the first that lies on
+/// one.
 pub fn first_own_supertype<'a>(
     alloc: Global,
     names: &Names<'_, 'a>,
@@ -51,8 +52,8 @@ pub fn first_own_supertype<'a>(
 /// (ISO 10303-11, 8.3.2 and 8.4.2).
 ///
 /// Where none is, it takes time for each declaration and each name that a type is made of once.
-/// Else, beyond that, for a search from each type that leads to a cycle, up to the first that is on
-/// one.
+/// Else, beyond that, for a search from each type that leads to a cycle, up to the first that lies
+/// on one.
 pub fn first_own_part<'a>(
     alloc: Global,
     names: &Names<'_, 'a>,
