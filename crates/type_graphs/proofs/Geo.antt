@@ -123,9 +123,6 @@ name_tree n = reference (trees.named n) plain
 abbrev pub number_tree : Name → Tree
 number_tree n = literal (number (whole n))
 
-abbrev pub stands : Name → Underlying → Declaration
-stands n u = type (record { name = n; underlying = u; rules = None })
-
 abbrev pub real_type : DataType
 real_type = real None
 
@@ -229,14 +226,20 @@ plain_label =
 abbrev pub plain_mark : Entity
 plain_mark = record (bare PLAIN_MARK) { subtype_of = Some (MARKED ∷ []); derived = Some (plain_label ∷ []) }
 
+abbrev pub len_m : TypeDeclaration
+len_m = record { name = LEN_M; underlying = data_type real_type; rules = None }
+
+abbrev pub angle_m : TypeDeclaration
+angle_m = record { name = ANGLE_M; underlying = data_type real_type; rules = None }
+
+abbrev pub finish : TypeDeclaration
+finish = record { name = FINISH; underlying = enumeration (codes "ROUGH" ∷ codes "FINE" ∷ []); rules = None }
+
 abbrev pub amount : TypeDeclaration
 amount = record { name = AMOUNT; underlying = select (LEN_M ∷ ANGLE_M ∷ []); rules = None }
 
 abbrev pub types_of_geo : List Declaration
-types_of_geo =
-    stands LEN_M (data_type real_type) ∷ stands ANGLE_M (data_type real_type)
-    ∷ stands FINISH (enumeration (codes "ROUGH" ∷ codes "FINE" ∷ []))
-    ∷ type amount ∷ []
+types_of_geo = type len_m ∷ type angle_m ∷ type finish ∷ type amount ∷ []
 
 abbrev pub behind_points : List Declaration
 behind_points =

@@ -9,6 +9,7 @@ pub mod Nearest
 pub mod Facts
 pub mod Geo
 pub mod GeoListed
+pub mod GeoResolved
 pub mod Examples
 pub mod PartExamples
 pub mod Ranking
