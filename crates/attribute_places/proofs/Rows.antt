@@ -1,16 +1,11 @@
 -- Rows of numbers, and the places that they stand for.
-use Rattle.std.specs.Prelude.{◌≡◌, ℕ, ◌+◌, ◌<◌, List, [], ◌∷◌, ◌++◌, Option, Some, map, flat_map, length, get_or, take, slice_get}
-use Rattle.std.proofs.Common.{refl, ap, sym, ◌∙◌, arith, zero, suc}
-use Rattle.std.proofs.Math.Seq.{take-suc}
-use Rattle.std.proofs.lemmas.List.{append_assoc}
+use Rattle.std.specs.Prelude.{◌≡◌, ℕ, List, [], ◌∷◌, ◌++◌, Option, Some, map, length, slice_get}
+use Rattle.std.proofs.Common.{refl, ap, sym, ◌∙◌, zero, suc}
+use Rattle.schema_names.proofs.Rows.{map-joined}
 use Rattle.express_schemas.specs.Schemas.{Declaration}
 use Rattle.type_graphs.specs.Attributes.{Place}
 use Rattle.digraph.specs.Graphs.{Graph}
 use Rattle.attribute_places.specs.Places.{AreAt, AreRows, places_in}
-
-pub map-joined : {A B : Type 0} (f : A → B) (xs ys : List A) → map f (xs ++ ys) ≡ map f xs ++ map f ys
-map-joined f [] ys = refl
-map-joined f (x ∷ xs) ys = ap (λ zs. f x ∷ zs) (map-joined f xs ys)
 
 -- what is at a number stays there as the list goes on
 pub stays : {A : Type 0} (xs ys : List A) (k : ℕ) (x : A) → slice_get xs k ≡ Some x → slice_get (xs ++ ys) k ≡ Some x
@@ -77,15 +72,3 @@ one-more-row all ds d rows row h k =
     ∙ ap (λ xs. xs ++ map (slice_get all) row ∷ []) h
     ∙ ap (λ y. map (λ (x : Declaration). map Some (places_in x)) ds ++ y ∷ []) k
     ∙ sym (map-joined (λ (x : Declaration). map Some (places_in x)) ds (d ∷ []))
-
-pub take-more : {A : Type 0} (xs : List A) (i : ℕ) (x : A) → i < length xs → x ≡ get_or xs i x
-    → take (i + 1) xs ≡ take i xs ++ x ∷ []
-take-more xs i x lt at =
-    let next : i + 1 ≡ suc i = omega arith in
-    ap (λ k. take k xs) next ∙ take-suc xs i x lt ∙ ap (λ y. take i xs ++ y ∷ []) (sym at)
-
-pub flat-joined : {A B : Type 0} (f : A → List B) (xs ys : List A)
-    → flat_map f (xs ++ ys) ≡ flat_map f xs ++ flat_map f ys
-flat-joined f [] ys = refl
-flat-joined f (x ∷ xs) ys =
-    ap (λ zs. f x ++ zs) (flat-joined f xs ys) ∙ sym (append_assoc (f x) (flat_map f xs) (flat_map f ys))

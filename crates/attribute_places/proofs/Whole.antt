@@ -7,7 +7,8 @@ use Rattle.express_schemas.specs.declared.tree.Declaration.{Declaration as Decla
 use Rattle.express_schemas.specs.Views.{declaration_of}
 use Rattle.type_graphs.specs.Attributes.{Place}
 use Rattle.attribute_places.specs.Places.{AreRows, Adds, places_in}
-use Rattle.attribute_places.proofs.Rows.{map-joined, flat-joined, take-more, stay-rows, one-more-row}
+use Rattle.schema_names.proofs.Rows.{map-joined, flat-joined, take-more}
+use Rattle.attribute_places.proofs.Rows.{stay-rows, one-more-row}
 
 module _ {Z : Type 0} where
   pub next-declaration : (xs : List Declared) (i : ℕ) (x : Declared) (old new : List Place)

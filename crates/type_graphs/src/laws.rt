@@ -17,7 +17,8 @@ ghost use Rattle.type_graphs.specs.Laws.{
   UncheckedAreOne,
 };
 
-/// Each entity is a kind of itself, and a kind of what its kinds are kinds of (ISO 10303-11, 9.2.3.3).
+/// Each entity is a kind of itself, and a kind of what its kinds are kinds of
+/// (ISO 10303-11, 9.2.3.3).
 pub fn kinds_are_ordered()
     ensures { KindsAreOrdered }
 {}
@@ -62,12 +63,14 @@ pub fn places_are_one()
     ensures { PlacesAreOne }
 {}
 
-/// Where the names are resolved, `SELF\entity.attribute` redeclares one attribute (ISO 10303-11, 9.2.3.4).
+/// Where the names are resolved, `SELF\entity.attribute` redeclares one attribute
+/// (ISO 10303-11, 9.2.3.4).
 pub fn origins_are_one()
     ensures { OriginsAreOne }
 {}
 
-/// Where the names are resolved, an inverse attribute inverts one attribute (ISO 10303-11, 9.2.1.3).
+/// Where the names are resolved, an inverse attribute inverts one attribute
+/// (ISO 10303-11, 9.2.1.3).
 pub fn inverted_are_one()
     ensures { InvertedAreOne }
 {}

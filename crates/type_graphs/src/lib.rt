@@ -1,5 +1,5 @@
-//! The types of a schema (ISO 10303-11): who is a kind of whom, where attributes stand, what isn't checked, and the
-//! laws of that.
+//! The types of a schema (ISO 10303-11): who is a kind of whom, where attributes stand, what isn't
+//! checked, and the laws of that.
 #![tactic(auto)]
 
 pub mod laws;

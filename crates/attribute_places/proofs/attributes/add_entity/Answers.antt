@@ -18,7 +18,8 @@ loop-explicit-preserved c =
     let at = c.loop-explicit.explicit-index in
     let lt : at < length xs = omega (arith, c.loop-explicit-test.true) in
     adds-next explicit_of (explicits_of (capitals c.args.entity.now.name))
-    (next-explicit (capitals c.args.entity.now.name)) xs at c.explicit-item.result (places_of c.args.places.now.items) (places_of c.loop-explicit.places.items)
+    (next-explicit (capitals c.args.entity.now.name)) xs at c.explicit-item.result
+    (places_of c.args.places.now.items) (places_of c.loop-explicit.places.items)
     (places_of c.add_explicit.new.places.items) [] c.loop-explicit.row.items c.add_explicit.new.row.items lt
     c.explicit-item.is c.loop-explicit.invariant
     (subst (λ ps. Adds (places_of c.loop-explicit.places.items) c.loop-explicit.row.items ps
