@@ -15,7 +15,7 @@ use Rattle.schema_names.specs.Numbers.{number_of, HasNumber}
 use Rattle.schema_names.proofs.Numbers.{one-name}
 use Rattle.schema_names.proofs.Edges.{below-forth, below-back}
 use Rattle.attribute_places.specs.Places.{AreAt, all_places, HavePlaces}
-use Rattle.express_types.specs.Kept.{AreAbove}
+use Rattle.schema_demands.specs.Above.{AreAbove}
 use Rattle.express_types.specs.Graphs.{AreSupers, IsKind, ArePlacesOf}
 
 pub supers-are : (s : Schema) (rows : Graph) (i : ℕ) (row : List ℕ) → row ≡ next rows i → AreAbove s rows

@@ -2,18 +2,18 @@
 
 ghost use Rattle.std.specs.Prelude.{◌≡◌, ◌<◌, Some, length, slice_get, IfOk};
 ghost use Rattle.digraph.specs.Graphs.{graph_of};
+ghost use Rattle.digraph.specs.Closures.{IsClosure};
 ghost use Rattle.express_trees.specs.Views.{capitals};
 ghost use Rattle.express_schemas.specs.SchemaViews.{schema_of};
 ghost use Rattle.type_graphs.specs.Faults.{IsResolved};
+ghost use Rattle.schema_names.specs.Edges.{IsGraphOf, supertypes_in};
 ghost use Rattle.schema_names.specs.Numbers.{number_of};
+ghost use Rattle.schema_demands.specs.Above.{AreAbove};
 ghost use Rattle.attribute_places.specs.Places.{places_of, all_places, HavePlaces};
-ghost use Rattle.express_types.specs.Kept.{AreAbove};
 ghost use Rattle.express_types.specs.Graphs.{AreSupers, IsKind, ArePlacesOf, place_of};
 
 use attribute_places::attributes::Place;
 use attribute_places::places::{AttributePlaces, attribute_places};
-use digraph::closures::closure;
-use schema_names::graphs::supertype_graph;
 use schema_names::names::Names;
 use std::alloc::{AllocError, Global};
 use step_literals::literal::Word;
@@ -42,14 +42,21 @@ pub struct TypeGraph<'t, 'a> {
 }
 
 impl<'t, 'a> TypeGraph<'t, 'a> {
-    /// That of a schema whose names are resolved.
-    pub fn of(alloc: Global, names: Names<'t, 'a>) -> Result<TypeGraph<'t, 'a>, AllocError>
-        requires { IsResolved (schema_of names.schema.now) }
+    /// That of a schema whose names are resolved, over the graph of its SUBTYPE OF and the rows of
+    /// all that it leads to.
+    pub(crate) fn of(
+        alloc: Global,
+        names: Names<'t, 'a>,
+        supertypes: &[Vec<u32>],
+        above: Vec<Vec<u32>>,
+    ) -> Result<TypeGraph<'t, 'a>, AllocError>
+        requires resolved { IsResolved (schema_of names.schema.now) }
+        requires drawn { IsGraphOf (schema_of names.schema.now) supertypes_in
+            (graph_of supertypes.now) }
+        requires closed { IsClosure (graph_of supertypes.now) (graph_of above.items) }
         ensures { IfOk result (λ g. g.names.schema.now ≡ names.entry.schema.now) }
     {
-        let supertypes = supertype_graph(alloc, &names)?;
-        let above = closure(alloc, &supertypes)?;
-        let places = attribute_places(alloc, &names, &supertypes)?;
+        let places = attribute_places(alloc, &names, supertypes)?;
         Ok(TypeGraph {
             names,
             above,

@@ -3,3 +3,4 @@
 #![tactic(auto)]
 
 pub mod graph;
+pub mod resolving;

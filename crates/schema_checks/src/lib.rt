@@ -1,8 +1,10 @@
-//! Tests of the crates that read EXPRESS schemas.
+//! Tests of the crates that read EXPRESS schemas and resolve their names.
 #![tactic(auto)]
 
 #[cfg(test)]
 mod expressions;
+#[cfg(test)]
+mod names;
 #[cfg(test)]
 mod outline;
 #[cfg(test)]

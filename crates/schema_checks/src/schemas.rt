@@ -10,7 +10,7 @@ use express_text::tree::{
 use std::alloc::{AllocError, Global};
 use std::test::Fail;
 
-const GEO: &[u8] = b"SCHEMA geo;
+pub(crate) const GEO: &[u8] = b"SCHEMA geo;
 TYPE len_m = REAL; END_TYPE;
 TYPE angle_m = REAL; END_TYPE;
 TYPE finish = ENUMERATION OF (rough, fine); END_TYPE;
@@ -38,11 +38,11 @@ ENTITY plain_mark SUBTYPE OF (marked);
 DERIVE SELF\\shape.label : STRING(8) := 'p'; END_ENTITY;
 ";
 
-const SKIPPED: &[u8] =
+pub(crate) const SKIPPED: &[u8] =
     b"FUNCTION ok(p : point) : BOOLEAN; RETURN (TRUE); END_FUNCTION;\nEND_SCHEMA;";
 
 // The two texts, one behind the other.
-fn joined(alloc: Global, first: &[u8], second: &[u8]) -> Result<Vec<u8>, AllocError> {
+pub(crate) fn joined(alloc: Global, first: &[u8], second: &[u8]) -> Result<Vec<u8>, AllocError> {
     let mut text = Vec::new(alloc);
     text.extend_from_slice(first)?;
     text.extend_from_slice(second)?;

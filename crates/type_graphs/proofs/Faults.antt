@@ -7,6 +7,7 @@ use Rattle.express_schemas.specs.declared.fault.NameFault.{NameFault}
 use Rattle.express_schemas.specs.declared.fault.NameFault.TheVariants.{UnknownName, DuplicateName, SupertypeCycle, TypeCycle}
 use Rattle.type_graphs.specs.Names.{Name, Among, entities, types, types_of, IsType, IsTypeAt, IsSubtypeOf, IsBelow, HasItem, IsMadeOf}
 use Rattle.type_graphs.specs.Faults.{Demand, Declared, IsMet, demands, declared, asked, StandsTwice, IsAboveItself, IsMadeOfItself, IsUnknown, IsDuplicate, IsFault, IsFreeOf, IsResolved}
+use Rattle.express_schemas.specs.Profile.{Every}
 use Rattle.type_graphs.specs.Laws.{FaultsAreOne}
 use Rattle.type_graphs.proofs.Lists.{among-map, every-at, every-may-hold, none-holds, none-twice, first-is-one, first-holds, first-among, first-step}
 use Rattle.type_graphs.proofs.Supertypes.{found, entity-name}
@@ -19,11 +20,6 @@ unknown-is-one s m n (d, f, x) (e, g, y) =
 duplicate-is-one : (s : Schema) (m n : Name) → IsDuplicate s m → IsDuplicate s n → m ≡ n
 duplicate-is-one s m n (i, f) (j, g) =
     ap (λ (d : Declared). d.1) (first-is-one (StandsTwice (declared s)) (declared s) (i, m) (j, n) f g)
-
-met : (s : Schema) (n : Name) → IsUnknown s n → IsResolved s → ⊥
-met s n (d, f, e) r =
-    first-holds (λ (d : Demand). IsMet s d → ⊥) (demands s) d f (every-at (IsMet s) d (demands s) r.known
-    (first-among (λ (d : Demand). IsMet s d → ⊥) (demands s) d f))
 
 -- what leads to itself is declared
 entity-named : (s : Schema) (n : Name) → IsBelow s n n → Among n (map (λ (e : Entity). e.name) (entities s))
@@ -58,19 +54,30 @@ type-named s n h =
     subst (λ x. Among x (map (λ (t : TypeDeclaration). t.name) (types s))) at.1
     (among-map (λ (t : TypeDeclaration). t.name) some.0 (types s) at.0)
 
+-- where all demands are met, no name is unknown
+pub none-unknown : (s : Schema) → Every (IsMet s) (demands s) → IsFreeOf s UnknownName
+none-unknown s known n (d, f, e) =
+    first-holds (λ (d : Demand). IsMet s d → ⊥) (demands s) d f (every-at (IsMet s) d (demands s) known
+    (first-among (λ (d : Demand). IsMet s d → ⊥) (demands s) d f))
+
+-- .. and where no other fault shows either, the names are resolved
+pub resolved : (s : Schema) → Every (IsMet s) (demands s) → IsFreeOf s DuplicateName → IsFreeOf s SupertypeCycle
+    → IsFreeOf s TypeCycle → IsResolved s
+resolved s known d c t = record {
+  known = known;
+  once = none-twice (declared s) (λ x f. d x.1 (x.0, f));
+  no_supertype_cycle = λ n h. none-holds (IsAboveItself s) (map (λ (e : Entity). e.name) (entities s)) c n
+      (entity-named s n h) h;
+  no_type_cycle = λ n h. none-holds (IsMadeOfItself s) (map (λ (t : TypeDeclaration). t.name) (types s)) t n
+      (type-named s n h) h;
+}
+
 -- where no fault shows, nothing but the demands is left
-pub resolved : (s : Schema) → IsFreeOf s UnknownName → IsFreeOf s DuplicateName → IsFreeOf s SupertypeCycle
+may-be-resolved : (s : Schema) → IsFreeOf s UnknownName → IsFreeOf s DuplicateName → IsFreeOf s SupertypeCycle
     → IsFreeOf s TypeCycle → (IsResolved s → ⊥) → ⊥
-resolved s u d c t k =
+may-be-resolved s u d c t k =
     every-may-hold (IsMet s) (demands s) (none-holds (λ (d : Demand). IsMet s d → ⊥) (demands s)
-    (λ d f. u (asked d) (d, f, refl))) (λ known. k (record {
-      known = known;
-      once = none-twice (declared s) (λ x f. d x.1 (x.0, f));
-      no_supertype_cycle = λ n h. none-holds (IsAboveItself s) (map (λ (e : Entity). e.name) (entities s)) c n
-          (entity-named s n h) h;
-      no_type_cycle = λ n h. none-holds (IsMadeOfItself s) (map (λ (t : TypeDeclaration). t.name) (types s)) t n
-          (type-named s n h) h;
-    }))
+    (λ d f. u (asked d) (d, f, refl))) (λ known. k (resolved s known d c t))
 
 pub faults-are-one : FaultsAreOne
 faults-are-one s = (one, none, some)
@@ -94,13 +101,13 @@ faults-are-one s = (one, none, some)
     one TypeCycle TypeCycle m n h k = (refl, first-is-one _ _ m n h.3 k.3)
 
     none : (f : NameFault) (n : Name) → IsFault s f n → IsResolved s → ⊥
-    none UnknownName n h r = met s n h r
+    none UnknownName n h r = none-unknown s r.known n h
     none DuplicateName n h r = r.once (h.1.0, n) (first-holds _ _ (h.1.0, n) h.1.1)
     none SupertypeCycle n h r = r.no_supertype_cycle n (first-holds _ _ n h.2)
     none TypeCycle n h r = r.no_type_cycle n (first-holds _ _ n h.3)
 
     some : ((f : NameFault) (n : Name) → IsFault s f n → ⊥) → (IsResolved s → ⊥) → ⊥
-    some h = resolved s unknown duplicate cycle (λ n k. h TypeCycle n (unknown, duplicate, cycle, k))
+    some h = may-be-resolved s unknown duplicate cycle (λ n k. h TypeCycle n (unknown, duplicate, cycle, k))
       where
         unknown : IsFreeOf s UnknownName
         unknown n k = h UnknownName n k

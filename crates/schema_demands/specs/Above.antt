@@ -1,10 +1,10 @@
--- What a type graph keeps of its schema.
+-- All that SUBTYPE OF leads to.
 use Rattle.digraph.specs.Graphs.{Graph}
 use Rattle.digraph.specs.Closures.{IsClosure}
 use Rattle.express_schemas.specs.Schemas.{Schema}
 use Rattle.schema_names.specs.Edges.{IsGraphOf, supertypes_in}
 
--- The rows are those of all that SUBTYPE OF leads to.
+-- The rows lead from each declaration to all that SUBTYPE OF leads to from it (ISO 10303-11, 9.2.3.3).
 pub record AreAbove (s : Schema) (rows : Graph) : Type 0 where
   pub graph : Graph
   pub drawn : IsGraphOf s supertypes_in graph

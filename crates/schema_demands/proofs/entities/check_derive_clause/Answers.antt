@@ -1,0 +1,17 @@
+use Rattle.std.proofs.Common.{flat_map, subst}
+use Rattle.express_trees.specs.Views.{capitals}
+use Rattle.express_schemas.specs.Views.{derived_of}
+use Rattle.express_schemas.specs.SchemaViews.{schema_of}
+use Rattle.type_graphs.specs.Faults.{demands_of_derived}
+use Rattle.schema_demands.specs.Checks.{Checks}
+use Rattle.schema_demands.proofs.Owning.{clause-listed}
+use Rattle.schema_demands.proofs.entities.check_derive_clause.Goals as goal
+
+pub returns : goal.returns
+returns c =
+    let s = schema_of c.args.names.now.schema.now in
+    let e = c.args.entity.now in
+    let above = clause-listed capitals e.subtype_of c.supertypes.result.now c.supertypes.ensures in
+    let derived = clause-listed derived_of e.derived c.derived_attributes.result.now c.derived_attributes.ensures in
+    subst (λ ds. Checks s ds c.check_deriveds.result) (λ i. flat_map (demands_of_derived (above i)) (derived i))
+    c.check_deriveds.ensures

@@ -1,0 +1,13 @@
+use Rattle.std.proofs.Common.{map, subst}
+use Rattle.express_trees.specs.Views.{capitals}
+use Rattle.express_schemas.specs.SchemaViews.{schema_of}
+use Rattle.type_graphs.specs.Faults.{an_entity}
+use Rattle.schema_demands.specs.Checks.{Checks}
+use Rattle.schema_demands.proofs.Owning.{clause-listed}
+use Rattle.schema_demands.proofs.entities.check_subtype_clause.Goals as goal
+
+pub returns : goal.returns
+returns c =
+    subst (λ ns. Checks (schema_of c.args.names.now.schema.now) (map an_entity ns) c.check_entities.result)
+    (clause-listed capitals c.args.entity.now.subtype_of c.supertypes.result.now c.supertypes.ensures)
+    c.check_entities.ensures

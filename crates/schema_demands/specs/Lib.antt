@@ -1,0 +1,5 @@
+pub mod Checks
+pub mod Above
+pub mod Owned
+pub mod Kinds
+pub mod Clauses

@@ -1,0 +1,44 @@
+//! The attributes that an entity has, its own and those of its supertypes (ISO 10303-11, 9.2.3.3).
+
+ghost use Rattle.std.specs.Prelude.{◌≡◌};
+ghost use Rattle.digraph.specs.Graphs.{graph_of};
+ghost use Rattle.express_trees.specs.Views.{capitals};
+ghost use Rattle.express_schemas.specs.SchemaViews.{schema_of};
+ghost use Rattle.schema_demands.specs.Owned.{declares_at, has_meant};
+
+use crate::attributes::{Meant, declares};
+use schema_names::names::Names;
+use step_literals::literal::Word;
+
+/// Whether an entity declares such an attribute, where one is declared at this number.
+fn declares_at(names: &Names<'_, '_>, number: u32, meant: Meant, name: Word<'_>) -> bool
+    ensures { result
+        ≡ declares_at (schema_of names.now.schema.now) meant (capitals name.entry) number }
+{
+    match names.schema.declarations.get(number as usize) {
+        Some(declaration) => declares(declaration, meant, name),
+        None => false,
+    }
+}
+
+/// Whether it or a supertype of it declares such an attribute.
+pub(crate) fn has(
+    names: &Names<'_, '_>,
+    above: &[Vec<u32>],
+    number: u32,
+    meant: Meant,
+    name: Word<'_>,
+) -> bool
+    ensures { result ≡ has_meant (schema_of names.now.schema.now) (graph_of above.now) meant
+        (capitals name.entry) number }
+{
+    if declares_at(names, number, meant, name) {
+        return true;
+    }
+    let Some(uppers) = above.get(number as usize) else {
+        return false;
+    };
+    uppers
+        .iter()
+        .any(|upper| declares_at(names, *upper, meant, name))
+}
