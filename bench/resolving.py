@@ -1,9 +1,9 @@
 #!/usr/bin/env python3
 """Times `resolve` on large schemas, beside `read_schema` on the same files.
 
-    bench/types.py [MEGABYTES]
+    bench/resolving.py [MEGABYTES]
 
-Proves and builds bench/types/main.rt.in and bench/schemas/main.rt.in in temporary folders. Makes a schema of that
+Proves and builds bench/resolving/main.rt.in and bench/schemas/main.rt.in in temporary folders. Makes a schema of that
 size (2 if none is given) and one twice as large, of entities with supertypes 12 deep. Runs both programs on each, the
 best of five runs, and prints what resolving takes beyond reading, as a multiple of reading.
 """
@@ -59,7 +59,7 @@ def main():
     size = int(sys.argv[1] if len(sys.argv) > 1 else 2) * 10**6
     with tempfile.TemporaryDirectory() as reading, tempfile.TemporaryDirectory() as resolving:
         reads = build(reading, "schemas", ["express_text", "anyhow"])
-        resolves = build(resolving, "types", ["express_types", "express_text", "anyhow"])
+        resolves = build(resolving, "resolving", ["express_types", "express_text", "anyhow"])
         os.chdir(resolving)
         report(reads, resolves, size)
 
