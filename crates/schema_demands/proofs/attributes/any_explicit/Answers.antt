@@ -14,7 +14,7 @@ returns c =
     let xs = c.args.entity.now.explicits.items in
     let a = capitals c.args.name in
     let run =
-    any_from_yields_List (λ x. includes (own_names (explicit_of x).attributes) a) _ _ _ c.any.ensures.ran (YieldsList-from_slice xs cc)
-    (λ x b q k. search (rules, tests)) in
+    any_from_yields_List (λ x. includes (own_names (explicit_of x).attributes) a) _ _ _ c.any.ensures.ran
+    (YieldsList-from_slice xs cc) (λ x b q k. search (rules, tests)) in
     run ∙ any-mapped explicit_of (λ (x : Explicit). includes (own_names x.attributes) a) xs
     ∙ each-listed (λ (x : Explicit). own_names x.attributes) a (map explicit_of xs)

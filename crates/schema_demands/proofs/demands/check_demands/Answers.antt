@@ -1,49 +1,51 @@
-use Rattle.std.proofs.Common.{◌≡◌, ◌≤◌, ◌<◌, get_or, ◌∙◌, ap, arith, flat_map, length, subst}
+use Rattle.std.proofs.Common.{◌≡◌, ◌≤◌, ◌<◌, ◌∙◌, ap, arith, flat_map, get_or, length, subst}
 use Rattle.std.proofs.lemmas.List.{take_all}
 use Rattle.std.proofs.lemmas.Result.{err_from_is_err_and}
 use Rattle.express_trees.specs.Views.{capitals}
 use Rattle.express_schemas.specs.Profile.{Every}
 use Rattle.express_schemas.specs.Views.{declaration_of as declaration_seen}
 use Rattle.express_schemas.specs.SchemaViews.{schema_of}
-use Rattle.type_graphs.specs.Faults.{IsMet}
-use Rattle.type_graphs.specs.Faults.{demands_of_declaration}
+use Rattle.type_graphs.specs.Faults.{IsMet, demands_of_declaration}
 use Rattle.schema_demands.specs.Checks.{IsFirstUnmet}
 use Rattle.schema_demands.proofs.Unmet.{met-more, unmet-more, mapped-each}
 use Rattle.schema_demands.proofs.demands.check_demands.Goals as goal
 
 pub loop-declaration-preserved : goal.loop-declaration-preserved
 loop-declaration-preserved c =
+    let s = schema_of c.args.names.now.schema.now in
     let xs = c.args.names.now.schema.now.declarations.items in
+    let f = demands_of_declaration in
+    let i = c.loop-declaration.declaration-index in
     let whole = c.deref-declaration-items.ensures.value in
-    let lt : c.loop-declaration.declaration-index < length xs =
-    subst (λ ds. c.loop-declaration.declaration-index < length ds) whole (omega (arith, c.loop-declaration-test.true)) in
-    let at =
-    subst (λ ds. c.declaration-item.result ≡ get_or ds c.loop-declaration.declaration-index c.declaration-item.result)
-    whole c.declaration-item.is in
-    met-more (schema_of c.args.names.now.schema.now) (λ x. demands_of_declaration (declaration_seen x)) xs c.loop-declaration.declaration-index
-    c.declaration-item.result lt at c.loop-declaration.invariant c.in_ok-check_declaration.ensures
+    let lt : i < length xs = subst (λ ds. i < length ds) whole (omega (arith, c.loop-declaration-test.true)) in
+    let x = c.declaration-item.result in
+    let at = subst (λ ds. x ≡ get_or ds i x) whole c.declaration-item.is in
+    met-more s (λ x. f (declaration_seen x)) xs i x lt at c.loop-declaration.invariant
+    c.in_ok-check_declaration.ensures
 
 pub returns-in_err-check_declaration : goal.returns-in_err-check_declaration
 returns-in_err-check_declaration c =
     let s = schema_of c.args.names.now.schema.now in
     let xs = c.args.names.now.schema.now.declarations.items in
+    let f = demands_of_declaration in
+    let i = c.loop-declaration.declaration-index in
     let whole = c.deref-declaration-items.ensures.value in
-    let lt : c.loop-declaration.declaration-index < length xs =
-    subst (λ ds. c.loop-declaration.declaration-index < length ds) whole (omega (arith, c.loop-declaration-test.true)) in
-    let at =
-    subst (λ ds. c.declaration-item.result ≡ get_or ds c.loop-declaration.declaration-index c.declaration-item.result)
-    whole c.declaration-item.is in
+    let lt : i < length xs = subst (λ ds. i < length ds) whole (omega (arith, c.loop-declaration-test.true)) in
+    let x = c.declaration-item.result in
+    let at = subst (λ ds. x ≡ get_or ds i x) whole c.declaration-item.is in
     let n = capitals c.in_err-check_declaration.field-0.0 in
     let p = err_from_is_err_and c.from_residual.result c.from_residual.ensures.1 in
-    rw (p.1, p.2) (subst (λ ds. IsFirstUnmet s ds n) (mapped-each (demands_of_declaration) declaration_seen xs)
-    (unmet-more s (λ x. demands_of_declaration (declaration_seen x)) xs c.loop-declaration.declaration-index c.declaration-item.result n lt at
-    c.loop-declaration.invariant c.in_err-check_declaration.ensures))
+    let unmet =
+    unmet-more s (λ x. f (declaration_seen x)) xs i x n lt at c.loop-declaration.invariant
+    c.in_err-check_declaration.ensures in
+    rw (p.1, p.2) (subst (λ ds. IsFirstUnmet s ds n) (mapped-each f declaration_seen xs) unmet)
 
 pub returns : goal.returns
 returns c =
+    let s = schema_of c.args.names.now.schema.now in
     let xs = c.args.names.now.schema.now.declarations.items in
-    subst (Every (IsMet (schema_of c.args.names.now.schema.now)))
-    (ap (flat_map (λ x. demands_of_declaration (declaration_seen x))) (take_all c.loop-declaration.declaration-index xs
-    (subst (λ ds. length ds ≤ c.loop-declaration.declaration-index) c.deref-declaration-items.ensures.value
-    c.loop-declaration-test.false))
-    ∙ mapped-each (demands_of_declaration) declaration_seen xs) c.loop-declaration.invariant
+    let f = demands_of_declaration in
+    let i = c.loop-declaration.declaration-index in
+    subst (Every (IsMet s))
+    (ap (flat_map (λ x. f (declaration_seen x))) (take_all i xs (subst (λ ds. length ds ≤ i) c.deref-declaration-items.ensures.value c.loop-declaration-test.false))
+    ∙ mapped-each f declaration_seen xs) c.loop-declaration.invariant

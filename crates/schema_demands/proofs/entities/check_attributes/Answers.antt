@@ -5,33 +5,41 @@ use Rattle.express_trees.specs.Views.{capitals}
 use Rattle.express_schemas.specs.Profile.{Every}
 use Rattle.express_schemas.specs.Views.{attribute_of, names_of}
 use Rattle.express_schemas.specs.SchemaViews.{schema_of}
-use Rattle.type_graphs.specs.Faults.{IsMet}
-use Rattle.type_graphs.specs.Faults.{demands_of_attribute}
+use Rattle.type_graphs.specs.Faults.{IsMet, demands_of_attribute}
 use Rattle.schema_demands.specs.Checks.{IsFirstUnmet}
 use Rattle.schema_demands.proofs.Unmet.{met-more, unmet-more, mapped-each}
 use Rattle.schema_demands.proofs.entities.check_attributes.Goals as goal
 
 pub loop-attribute-preserved : goal.loop-attribute-preserved
 loop-attribute-preserved c =
+    let s = schema_of c.args.names.now.schema.now in
     let xs = c.args.attributes.now in
-    let lt : c.loop-attribute.attribute-index < length xs = omega (arith, c.loop-attribute-test.true) in
-    met-more (schema_of c.args.names.now.schema.now) (λ x. demands_of_attribute (names_of c.args.supertypes.now) (attribute_of x)) xs c.loop-attribute.attribute-index
-    c.attribute-item.result lt c.attribute-item.is c.loop-attribute.invariant c.in_ok-check_attribute.ensures
+    let f = demands_of_attribute (names_of c.args.supertypes.now) in
+    let i = c.loop-attribute.attribute-index in
+    let lt : i < length xs = omega (arith, c.loop-attribute-test.true) in
+    met-more s (λ x. f (attribute_of x)) xs i c.attribute-item.result lt c.attribute-item.is c.loop-attribute.invariant
+    c.in_ok-check_attribute.ensures
 
 pub returns-in_err-check_attribute : goal.returns-in_err-check_attribute
 returns-in_err-check_attribute c =
     let s = schema_of c.args.names.now.schema.now in
     let xs = c.args.attributes.now in
-    let lt : c.loop-attribute.attribute-index < length xs = omega (arith, c.loop-attribute-test.true) in
+    let f = demands_of_attribute (names_of c.args.supertypes.now) in
+    let i = c.loop-attribute.attribute-index in
+    let lt : i < length xs = omega (arith, c.loop-attribute-test.true) in
     let n = capitals c.in_err-check_attribute.field-0.0 in
     let p = err_from_is_err_and c.from_residual.result c.from_residual.ensures.1 in
-    rw (p.1, p.2) (subst (λ ds. IsFirstUnmet s ds n) (mapped-each (demands_of_attribute (names_of c.args.supertypes.now)) attribute_of xs)
-    (unmet-more s (λ x. demands_of_attribute (names_of c.args.supertypes.now) (attribute_of x)) xs c.loop-attribute.attribute-index c.attribute-item.result n lt c.attribute-item.is
-    c.loop-attribute.invariant c.in_err-check_attribute.ensures))
+    let unmet =
+    unmet-more s (λ x. f (attribute_of x)) xs i c.attribute-item.result n lt c.attribute-item.is c.loop-attribute.invariant
+    c.in_err-check_attribute.ensures in
+    rw (p.1, p.2) (subst (λ ds. IsFirstUnmet s ds n) (mapped-each f attribute_of xs) unmet)
 
 pub returns : goal.returns
 returns c =
+    let s = schema_of c.args.names.now.schema.now in
     let xs = c.args.attributes.now in
-    subst (Every (IsMet (schema_of c.args.names.now.schema.now)))
-    (ap (flat_map (λ x. demands_of_attribute (names_of c.args.supertypes.now) (attribute_of x))) (take_all c.loop-attribute.attribute-index xs c.loop-attribute-test.false)
-    ∙ mapped-each (demands_of_attribute (names_of c.args.supertypes.now)) attribute_of xs) c.loop-attribute.invariant
+    let f = demands_of_attribute (names_of c.args.supertypes.now) in
+    let i = c.loop-attribute.attribute-index in
+    subst (Every (IsMet s))
+    (ap (flat_map (λ x. f (attribute_of x))) (take_all i xs c.loop-attribute-test.false)
+    ∙ mapped-each f attribute_of xs) c.loop-attribute.invariant

@@ -2,11 +2,11 @@ use Rattle.std.proofs.Common.{flat_map, take}
 use Rattle.express_schemas.specs.Profile.{Every}
 use Rattle.express_schemas.specs.Views.{attribute_of, names_of}
 use Rattle.express_schemas.specs.SchemaViews.{schema_of}
-use Rattle.type_graphs.specs.Faults.{IsMet}
-use Rattle.type_graphs.specs.Faults.{demands_of_attribute}
+use Rattle.type_graphs.specs.Faults.{IsMet, demands_of_attribute}
 use Rattle.schema_demands.proofs.entities.check_attributes.Given as goal
 
 abbrev pub invariant-loop-attribute : goal.invariant-loop-attribute
 invariant-loop-attribute l =
     Every (IsMet (schema_of l.names.schema.now))
-    (flat_map (λ x. demands_of_attribute (names_of l.supertypes) (attribute_of x)) (take l.attribute-index l.attributes))
+    (flat_map (λ x. demands_of_attribute (names_of l.supertypes) (attribute_of x))
+    (take l.attribute-index l.attributes))

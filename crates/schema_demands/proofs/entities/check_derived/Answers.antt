@@ -8,4 +8,5 @@ pub returns : goal.returns
 returns c =
     checks-on (schema_of c.args.names.now.schema.now)
     (demands_of_attribute (names_of c.args.supertypes.now) (attribute_of c.args.derived.now.attribute))
-    (demands_of_data_type (data_type_of c.args.derived.now.data_type)) c.check_data_type.result c.in_ok-check_attribute.ensures c.check_data_type.ensures
+    (demands_of_data_type (data_type_of c.args.derived.now.data_type)) c.check_data_type.result
+    c.in_ok-check_attribute.ensures c.check_data_type.ensures

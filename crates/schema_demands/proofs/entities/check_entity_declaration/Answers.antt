@@ -13,21 +13,24 @@ returns-in_err-check_supertype c =
 
 pub returns-in_err-check_subtype_clause : goal.returns-in_err-check_subtype_clause
 returns-in_err-check_subtype_clause c =
-    let p = err_from_is_err_and c.from_residual-in_err-check_subtype_clause.result c.from_residual-in_err-check_subtype_clause.ensures.1 in
+    let left = c.from_residual-in_err-check_subtype_clause in
+    let p = err_from_is_err_and left.result left.ensures.1 in
     rw (p.1, p.2) (unmet-subtypes (schema_of c.args.names.now.schema.now) (entity_of c.args.entity.now)
     (capitals c.in_err-check_subtype_clause.field-0.0) c.in_ok-check_supertype.ensures
     c.in_err-check_subtype_clause.ensures)
 
 pub returns-in_err-check_explicit_clauses : goal.returns-in_err-check_explicit_clauses
 returns-in_err-check_explicit_clauses c =
-    let p = err_from_is_err_and c.from_residual-in_err-check_explicit_clauses.result c.from_residual-in_err-check_explicit_clauses.ensures.1 in
+    let left = c.from_residual-in_err-check_explicit_clauses in
+    let p = err_from_is_err_and left.result left.ensures.1 in
     rw (p.1, p.2) (unmet-explicits (schema_of c.args.names.now.schema.now) (entity_of c.args.entity.now)
     (capitals c.in_err-check_explicit_clauses.field-0.0) c.in_ok-check_supertype.ensures
     c.in_ok-check_subtype_clause.ensures c.in_err-check_explicit_clauses.ensures)
 
 pub returns-in_err-check_derive_clause : goal.returns-in_err-check_derive_clause
 returns-in_err-check_derive_clause c =
-    let p = err_from_is_err_and c.from_residual-in_err-check_derive_clause.result c.from_residual-in_err-check_derive_clause.ensures.1 in
+    let left = c.from_residual-in_err-check_derive_clause in
+    let p = err_from_is_err_and left.result left.ensures.1 in
     rw (p.1, p.2) (unmet-derived (schema_of c.args.names.now.schema.now) (entity_of c.args.entity.now)
     (capitals c.in_err-check_derive_clause.field-0.0) c.in_ok-check_supertype.ensures
     c.in_ok-check_subtype_clause.ensures c.in_ok-check_explicit_clauses.ensures c.in_err-check_derive_clause.ensures)

@@ -9,4 +9,5 @@ use Rattle.schema_demands.proofs.inverses.check_inverses.Given as goal
 abbrev pub invariant-loop-inverse : goal.invariant-loop-inverse
 invariant-loop-inverse l =
     Every (IsMet (schema_of l.names.schema.now))
-    (flat_map (λ x. demands_of_own_inverse (inverse_of x)) (take l.inverse-index l.inverses))
+    (flat_map (λ x. demands_of_own_inverse (inverse_of x))
+    (take l.inverse-index l.inverses))
