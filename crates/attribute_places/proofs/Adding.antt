@@ -7,9 +7,10 @@ use Rattle.attribute_places.specs.declared.attributes.Place.{Place as Attributed
 use Rattle.type_graphs.specs.Names.{Name, own_names}
 use Rattle.type_graphs.specs.Attributes.{Place}
 use Rattle.express_schemas.specs.Schemas.{Attribute, own, redeclared, Explicit}
-use Rattle.attribute_places.specs.Places.{places_of, AreAt, Adds, of_explicit}
+use Rattle.attribute_places.specs.Places.{places_of, Adds, of_explicit}
+use Rattle.schema_names.specs.Numbers.{AreAt}
 use Rattle.schema_names.proofs.Rows.{map-joined, flat-joined, take-more}
-use Rattle.attribute_places.proofs.Rows.{stay-at, joined-at, at-end}
+use Rattle.schema_names.proofs.Items.{stay-at, joined-at, at-end}
 
 pub adds-none : (all : List Place) (row : List ℕ) → Adds all row [] all row
 adds-none all row = record {

@@ -13,12 +13,12 @@ use Rattle.type_graphs.specs.Attributes.{Place, own_places}
 use Rattle.type_graphs.proofs.Lists.{first-step, are-fresh}
 use Rattle.type_graphs.proofs.Supertypes.{entity-name, stands}
 use Rattle.type_graphs.proofs.Recursion.{supertype-is-entity, Solves, make_places, equation, solution}
-use Rattle.schema_names.specs.Numbers.{number_of, HasNumber, IsAt}
+use Rattle.schema_names.specs.Numbers.{number_of, HasNumber, IsAt, AreAt}
 use Rattle.schema_names.specs.Edges.{IsGraphOf, supertypes_in}
 use Rattle.schema_names.proofs.Numbers.{stands-at, each-number, one-name}
 use Rattle.schema_names.proofs.Edges.{below-forth, number-within}
-use Rattle.attribute_places.specs.Places.{AreAt, AreRows, places_in, all_places, HavePlaces}
-use Rattle.attribute_places.proofs.Rows.{head-is, tail-is, joined-at}
+use Rattle.attribute_places.specs.Places.{AreRows, places_in, all_places, HavePlaces}
+use Rattle.schema_names.proofs.Items.{joined-at, row-at}
 use Rattle.attribute_places.proofs.Repeats.{once-at}
 use Rattle.attribute_places.proofs.Distinct.{at-among, places-are-one}
 use Rattle.attribute_places.proofs.OwnNumbers.{own-number-of}
@@ -58,21 +58,6 @@ climb g Holds seen (x ∷ xs) before f up a h =
     by : (c : Bool) → eqb a x ≡ c → (c || has xs a) ≡ true → (has xs a ≡ true → Holds a) → Holds a
     by true e k more = let is : a ≡ x = grind (arith, nat_tests) in subst Holds (sym is) here
     by false e k more = more k
-
--- the row of a declaration
-row-at : (all : List Place) (ds : List Declaration) (rows : Graph) (i : ℕ) (d : Declaration) → AreRows all ds rows
-    → slice_get ds i ≡ Some d → AreAt all (get_or rows i []) (places_in d)
-row-at all [] rows i d h at = absurd (cc)
-row-at all (x ∷ ds) [] i d h at = absurd (cc)
-row-at all (x ∷ ds) (r ∷ rows) zero d h at =
-    let same : x ≡ d = cc in
-    subst (λ y. AreAt all r (places_in y)) same
-    (head-is (map (slice_get all) r) (map Some (places_in x)) (map (map (slice_get all)) rows)
-    (map (λ (y : Declaration). map Some (places_in y)) ds) h)
-row-at all (x ∷ ds) (r ∷ rows) (suc i) d h at =
-    row-at all ds rows i d
-    (tail-is (map (slice_get all) r) (map Some (places_in x)) (map (map (slice_get all)) rows)
-    (map (λ (y : Declaration). map Some (places_in y)) ds) h) at
 
 module _ (s : Schema) (r : IsResolved s) (g : Graph) (h : IsGraphOf s supertypes_in g) where
   pub no-cycle : (i : ℕ) → IsCyclic g i → ⊥
@@ -139,7 +124,7 @@ module _ (s : Schema) (r : IsResolved s) (g : Graph) (h : IsGraphOf s supertypes
         (once-at all (subst AreOneOf (sym is) (places-are-one s r.once)) (taken ++ next own i)
         (flat_map places (supertypes_of e) ++ own_places e)
         (joined-at all taken (next own i) (flat_map places (supertypes_of e)) (own_places e)
-        (rows-at (supertypes_of e) done) (row-at all s.declarations own i (entity e) each at))))
+        (rows-at (supertypes_of e) done) (row-at places_in all s.declarations own i (entity e) each at))))
       where
         AreOneOf : List Place → Type 0
         AreOneOf xs = (a b : ℕ) (p : Place) → slice_get xs a ≡ Some p → slice_get xs b ≡ Some p → a ≡ b

@@ -9,8 +9,9 @@ use Rattle.digraph.specs.Graphs.{Graph, has, StaysBelow}
 use Rattle.express_schemas.specs.Schemas.{Declaration}
 use Rattle.type_graphs.specs.Attributes.{Place}
 use Rattle.schema_names.proofs.Edges.{within}
-use Rattle.attribute_places.specs.Places.{places_of, AreAt, AreRows, places_in}
-use Rattle.attribute_places.proofs.Rows.{head-is, tail-is, front-at, back-at}
+use Rattle.attribute_places.specs.Places.{places_of, AreRows, places_in}
+use Rattle.schema_names.specs.Numbers.{AreAt}
+use Rattle.schema_names.proofs.Items.{head-is, tail-is, front-at, back-at}
 
 in-at : (all : List Place) (row : List ℕ) (ps : List Place) (b : ℕ) → AreAt all row ps → has row b ≡ true
     → b < length all

@@ -1,4 +1,3 @@
-pub mod Rows
 pub mod Adding
 pub mod Whole
 pub mod Repeats

@@ -9,8 +9,8 @@ use Rattle.digraph.specs.Graphs.{has}
 use Rattle.digraph.specs.Rounds.{added}
 use Rattle.type_graphs.specs.Attributes.{Place, same_place, without, once}
 use Rattle.type_graphs.proofs.Placed.{is-same, same-itself}
-use Rattle.attribute_places.specs.Places.{AreAt}
-use Rattle.attribute_places.proofs.Rows.{front-at, back-at, joined-at}
+use Rattle.schema_names.specs.Numbers.{AreAt}
+use Rattle.schema_names.proofs.Items.{front-at, back-at, joined-at}
 
 abbrev pub AreOne : List Place → Type 0
 AreOne all = (a b : ℕ) (p : Place) → slice_get all a ≡ Some p → slice_get all b ≡ Some p → a ≡ b

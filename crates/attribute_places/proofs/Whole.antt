@@ -8,7 +8,7 @@ use Rattle.express_schemas.specs.Views.{declaration_of}
 use Rattle.type_graphs.specs.Attributes.{Place}
 use Rattle.attribute_places.specs.Places.{AreRows, Adds, places_in}
 use Rattle.schema_names.proofs.Rows.{map-joined, flat-joined, take-more}
-use Rattle.attribute_places.proofs.Rows.{stay-rows, one-more-row}
+use Rattle.schema_names.proofs.Items.{stay-rows, one-more-row}
 
 module _ {Z : Type 0} where
   pub next-declaration : (xs : List Declared) (i : ℕ) (x : Declared) (old new : List Place)
@@ -26,7 +26,7 @@ module _ {Z : Type 0} where
         ∙ ap (flat_map places_in) (sym next),
     subst (λ ds. AreRows new ds (graph_of after)) (sym next)
         (subst (AreRows new (map declaration_of (take i xs) ++ declaration_of x ∷ [])) (sym rows-are)
-        (one-more-row new (map declaration_of (take i xs)) (declaration_of x) (graph_of rows) row.items stayed
+        (one-more-row places_in new (map declaration_of (take i xs)) (declaration_of x) (graph_of rows) row.items stayed
         (adds.numbers [] refl))),
   )
     where
@@ -39,4 +39,4 @@ module _ {Z : Type 0} where
       stayed : AreRows new (map declaration_of (take i xs)) (graph_of rows)
       stayed =
           subst (λ ps. AreRows ps (map declaration_of (take i xs)) (graph_of rows)) (sym adds.places)
-          (stay-rows old (places_in (declaration_of x)) (map declaration_of (take i xs)) (graph_of rows) each)
+          (stay-rows places_in old (places_in (declaration_of x)) (map declaration_of (take i xs)) (graph_of rows) each)

@@ -1,11 +1,11 @@
 -- Explicit attributes by number (ISO 10303-11, 9.2.1.1).
-use Rattle.std.specs.Prelude.{◌≡◌, ℕ, List, [], ◌∷◌, ◌++◌, Some, map, flat_map, slice_get}
+use Rattle.std.specs.Prelude.{◌≡◌, ℕ, List, [], ◌∷◌, ◌++◌, map, flat_map}
 use Rattle.digraph.specs.Graphs.{Graph, next}
 use Rattle.express_trees.specs.Views.{capitals}
 use Rattle.express_schemas.specs.Schemas.{Schema, Declaration, type, entity, skipped, Attribute, Explicit}
 use Rattle.type_graphs.specs.Names.{Name, own_names, IsEntity}
 use Rattle.type_graphs.specs.Attributes.{Place, own_places, IsPlaces}
-use Rattle.schema_names.specs.Numbers.{HasNumber}
+use Rattle.schema_names.specs.Numbers.{HasNumber, AreAt, AreRowsOf}
 use Rattle.attribute_places.specs.declared.attributes.Place.{Place as Attributed}
 
 abbrev pub places_of : List Attributed → List Place
@@ -21,13 +21,9 @@ places_in (skipped p) = []
 abbrev pub all_places : Schema → List Place
 all_places s = flat_map places_in s.declarations
 
--- The numbers of a row are those of these places: each is at its number.
-abbrev pub AreAt : List Place → List ℕ → List Place → Type 0
-AreAt all row ps = map (slice_get all) row ≡ map Some ps
-
--- .. of each row
+-- The numbers of each row are those of the places of its declaration.
 abbrev pub AreRows : List Place → List Declaration → Graph → Type 0
-AreRows all ds rows = map (map (slice_get all)) rows ≡ map (λ (d : Declaration). map Some (places_in d)) ds
+AreRows all ds rows = AreRowsOf places_in all ds rows
 
 -- The list goes on with these places, and the row with their numbers.
 pub record Adds (old : List Place) (row : List ℕ) (ps new : List Place) (after : List ℕ) : Type 0 where

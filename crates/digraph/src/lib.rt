@@ -13,5 +13,5 @@ pub mod laws;
 pub mod orders;
 mod placing;
 pub mod ranking;
-mod rows;
+pub mod rows;
 mod search;

@@ -21,7 +21,7 @@ ghost use Rattle.digraph.specs.Rounds.{added, AreMarks};
 use std::alloc::{AllocError, Global};
 
 /// As many rows, with nothing in them.
-pub(crate) fn empty_rows(alloc: Global, count: usize) -> Result<Vec<Vec<u32>>, AllocError>
+pub fn empty_rows(alloc: Global, count: usize) -> Result<Vec<Vec<u32>>, AllocError>
     ensures length { IfOk result (λ v. length v.items ≡ count) }
     ensures empty { IfOk result (λ v. (a : ℕ) → next (graph_of v.items) a ≡ []) }
 {
@@ -63,11 +63,7 @@ pub(crate) fn add_to_rows(
 }
 
 /// Adds the numbers that aren't marked yet, and marks them.
-pub(crate) fn add_new(
-    found: &mut Vec<u32>,
-    marks: &mut [bool],
-    more: &[u32],
-) -> Result<(), AllocError>
+pub fn add_new(found: &mut Vec<u32>, marks: &mut [bool], more: &[u32]) -> Result<(), AllocError>
     requires marked { AreMarks marks.old found.old.items }
     requires within { All (λ y. y < length marks.old) more.now }
     ensures added { OnOk result (found.new.items ≡ added found.old.items more.now) }
@@ -85,7 +81,7 @@ pub(crate) fn add_new(
 }
 
 /// Takes the marks off.
-pub(crate) fn unmark(marks: &mut [bool], found: &[u32])
+pub fn unmark(marks: &mut [bool], found: &[u32])
     requires marked { AreMarks marks.old found.now }
     requires within { All (λ y. y < length marks.old) found.now }
     ensures clean { AreMarks marks.new [] }

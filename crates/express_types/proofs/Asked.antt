@@ -11,10 +11,10 @@ use Rattle.express_schemas.specs.Schemas.{Schema}
 use Rattle.type_graphs.specs.Names.{IsBelow, IsKindOf}
 use Rattle.digraph.specs.Closures.{IsClosure}
 use Rattle.schema_names.specs.Edges.{IsGraphOf, supertypes_in}
-use Rattle.schema_names.specs.Numbers.{number_of, HasNumber}
+use Rattle.schema_names.specs.Numbers.{number_of, HasNumber, AreAt}
 use Rattle.schema_names.proofs.Numbers.{one-name}
 use Rattle.schema_names.proofs.Edges.{below-forth, below-back}
-use Rattle.attribute_places.specs.Places.{AreAt, all_places, HavePlaces}
+use Rattle.attribute_places.specs.Places.{all_places, HavePlaces}
 use Rattle.schema_demands.specs.Above.{AreAbove}
 use Rattle.express_types.specs.Graphs.{AreSupers, IsKind, ArePlacesOf}
 

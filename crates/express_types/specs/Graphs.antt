@@ -6,9 +6,9 @@ use Rattle.express_trees.specs.Views.{capitals}
 use Rattle.express_schemas.specs.Schemas.{Schema}
 use Rattle.type_graphs.specs.Names.{Name, IsEntity, IsBelow, IsKindOf}
 use Rattle.type_graphs.specs.Attributes.{Place, IsPlaces}
-use Rattle.schema_names.specs.Numbers.{HasNumber}
+use Rattle.schema_names.specs.Numbers.{HasNumber, AreAt}
 use Rattle.attribute_places.specs.declared.attributes.Place.{Place as Attributed}
-use Rattle.attribute_places.specs.Places.{AreAt, all_places}
+use Rattle.attribute_places.specs.Places.{all_places}
 
 -- The numbers of the proper supertypes of what has the number i, each once.
 pub record AreSupers (s : Schema) (i : ℕ) (row : List ℕ) : Type 0 where

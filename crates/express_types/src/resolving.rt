@@ -16,6 +16,7 @@ use express_schemas::tree::SchemaTree;
 use schema_demands::demands::check_demands;
 use schema_faults::cycles::{first_own_part, first_own_supertype};
 use schema_faults::duplicates::first_duplicate;
+use schema_names::capitals::in_capitals;
 use schema_names::graphs::supertype_graph;
 use schema_names::names::Names;
 use std::alloc::{AllocError, Global};
@@ -80,15 +81,6 @@ fn try_resolve<'t, 'a>(
     }
     let graph = TypeGraph::of(alloc, names, &supertypes, above)?;
     Ok(Resolution::Resolved(graph))
-}
-
-/// A name in capitals.
-fn in_capitals(alloc: Global, name: Word<'_>) -> Result<String, AllocError>
-    ensures { IfOk result (λ text. string_bytes text ≡ capitals name.entry) }
-{
-    let mut text = String::from_utf8_lossy(alloc, name.spelling())?;
-    text.make_ascii_uppercase();
-    Ok(text)
 }
 
 /// The fault that says what is wrong with a name; where there is no memory for it, that.

@@ -29,9 +29,3 @@ each-listed f a (x ∷ xs) =
 pub own-mapped : {Y : Type 0} (f : Y → Attribute) (a : Name) (ys : List Y) → list_any (λ y. is_own a (f y)) ys
     ≡ includes (own_names (map f ys)) a
 own-mapped f a ys = any-mapped f (is_own a) ys ∙ own-listed a (map f ys)
-
--- what a clause lists, read as a slice
-pub clause-listed : {X Y Z : Type 0} (f : X → Y) (o : Option (Vec X Z)) (xs : List X)
-    → MatchOption o (xs ≡ []) (λ (v : Vec X Z). xs ≡ v.items) → map f xs ≡ listed (if_some (λ v. map f v.items) o)
-clause-listed f None xs e = ap (map f) e
-clause-listed f (Some v) xs e = ap (map f) e

@@ -7,15 +7,17 @@ ghost use Rattle.express_schemas.specs.Views.{
   entity_of,
   declaration_of as declaration_seen,
 };
+ghost use Rattle.express_schemas.specs.SchemaViews.{schema_of};
 ghost use Rattle.type_graphs.specs.Names.{own_names, explicit_names, derived_names, inverse_names};
-ghost use Rattle.schema_demands.specs.Owned.{is_own, includes, names_meant, names_in};
+ghost use Rattle.schema_demands.specs.Owned.{is_own, includes, names_meant, names_in, declares_at};
 
 use express_schemas::tree::{Attribute, Declaration, Entity};
+use schema_names::names::Names;
 use step_literals::literal::Word;
 
 /// Which attributes of an entity are asked for.
 #[derive(Clone, Copy)]
-pub(crate) enum Meant {
+pub enum Meant {
     All,
     Explicit,
 }
@@ -81,12 +83,24 @@ fn any_meant(entity: &Entity<'_>, meant: Meant, name: Word<'_>) -> bool
 }
 
 /// Whether a declaration is that of an entity which declares an attribute of this name.
-pub(crate) fn declares(declaration: &Declaration<'_>, meant: Meant, name: Word<'_>) -> bool
+fn declares(declaration: &Declaration<'_>, meant: Meant, name: Word<'_>) -> bool
     ensures { result
         ≡ includes (names_in meant (declaration_seen declaration.now)) (capitals name.entry) }
 {
     match declaration {
         Declaration::Entity(entity) => any_meant(entity, meant, name),
         _ => false,
+    }
+}
+
+/// Whether an entity declares such an attribute itself, where an entity is declared at this number
+/// (ISO 10303-11, 9.2.1).
+pub fn declares_at(names: &Names<'_, '_>, number: u32, meant: Meant, name: Word<'_>) -> bool
+    ensures { result
+        ≡ declares_at (schema_of names.now.schema.now) meant (capitals name.entry) number }
+{
+    match names.schema.declarations.get(number as usize) {
+        Some(declaration) => declares(declaration, meant, name),
+        None => false,
     }
 }

@@ -4,22 +4,11 @@ ghost use Rattle.std.specs.Prelude.{◌≡◌};
 ghost use Rattle.digraph.specs.Graphs.{graph_of};
 ghost use Rattle.express_trees.specs.Views.{capitals};
 ghost use Rattle.express_schemas.specs.SchemaViews.{schema_of};
-ghost use Rattle.schema_demands.specs.Owned.{declares_at, has_meant};
+ghost use Rattle.schema_demands.specs.Owned.{has_meant};
 
-use crate::attributes::{Meant, declares};
+use crate::attributes::{Meant, declares_at};
 use schema_names::names::Names;
 use step_literals::literal::Word;
-
-/// Whether an entity declares such an attribute, where one is declared at this number.
-fn declares_at(names: &Names<'_, '_>, number: u32, meant: Meant, name: Word<'_>) -> bool
-    ensures { result
-        ≡ declares_at (schema_of names.now.schema.now) meant (capitals name.entry) number }
-{
-    match names.schema.declarations.get(number as usize) {
-        Some(declaration) => declares(declaration, meant, name),
-        None => false,
-    }
-}
 
 /// Whether it or a supertype of it declares such an attribute.
 pub(crate) fn has(

@@ -1,7 +1,7 @@
 //! What the names of a schema are asked to be where they stand (ISO 10303-11, 8 and 9).
 #![tactic(auto)]
 
-mod attributes;
+pub mod attributes;
 pub mod demands;
 mod entities;
 mod inherited;

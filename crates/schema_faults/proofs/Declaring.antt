@@ -17,6 +17,7 @@ use Rattle.type_graphs.specs.Names.{Name, listed, own_names, explicit_names, der
 use Rattle.type_graphs.specs.Faults.{Declared, StandsTwice, in_scope, declared_from, declared}
 use Rattle.type_graphs.proofs.Lists.{first-holds}
 use Rattle.schema_names.proofs.Rows.{map-joined}
+use Rattle.schema_names.proofs.Clauses.{clause-listed}
 use Rattle.schema_faults.specs.Shown.{IsShown}
 use Rattle.schema_faults.specs.Twice.{IsSeen, Sees, IsFirstTwice}
 use Rattle.schema_faults.specs.Parts.{word_in, own_in, explicit_in, derived_in, inverse_in, declared_in}
@@ -143,12 +144,6 @@ inverses-are k (x ∷ xs) =
     ap (λ ds. inverse_in k x ++ ds) (inverses-are k xs)
     ∙ own-first k x.attribute (map (λ (i : trees.Inverse). i.attribute) (map inverse_of xs))
 
--- what stands in a clause
-listed-is : {A B Z : Type 0} (f : A → B) (o : Option (Vec A Z)) (xs : List A)
-    → MatchOption o (xs ≡ []) (λ v. xs ≡ v.items) → map f xs ≡ listed (if_some (λ v. map f v.items) o)
-listed-is f None xs e = ap (map f) e
-listed-is f (Some v) xs e = ap (map f) e
-
 -- the attributes of an entity, the last clause first
 pub sees-attributes : (k : ℕ) (e : Entity) (ds : List Derived) (is : List Inverse) (a b c d : Seen)
     → MatchOption e.derived (ds ≡ []) (λ v. ds ≡ v.items) → MatchOption e.inverses (is ≡ []) (λ v. is ≡ v.items)
@@ -175,13 +170,13 @@ sees-attributes k e ds is a b c d derived inverses h1 h2 h3 =
     derivation =
         derived-are k ds
         ∙ ap (λ ts. in_scope k (own_names (map (λ (t : trees.Derived). t.attribute) ts)))
-        (listed-is derived_of e.derived ds derived)
+        (clause-listed derived_of e.derived ds derived)
 
     inversion : flat_map (inverse_in k) is ≡ inversions
     inversion =
         inverses-are k is
         ∙ ap (λ ts. in_scope k (own_names (map (λ (t : trees.Inverse). t.attribute) ts)))
-        (listed-is inverse_of e.inverses is inverses)
+        (clause-listed inverse_of e.inverses is inverses)
 
     names : explicits ++ (derivations ++ inversions) ≡ in_scope k (attribute_names (entity_of e))
     names =

@@ -95,13 +95,13 @@ made-back s a b (inl (t, at, e)) = (type t, at, subst (λ u. Among b (parts_of u
 made-back s a b (inr (items, (t, at, e), m)) = (type t, at, subst (λ u. Among b (parts_of u)) (sym e) m)
 
 -- from name to name there are names alone between
-is-name : (s : Schema) (k l : DataType) → IsMadeOf s k l → (a : Name) × (k ≡ named a)
+pub is-name : (s : Schema) (k l : DataType) → IsMadeOf s k l → (a : Name) × (k ≡ named a)
 is-name s (named a) l h = (a, refl)
 is-name s k l (inl h) = absurd h
 is-name s k l (inr h) = absurd h
 
-first-name : (s : Schema) (k : DataType) (ks : List DataType) (l : DataType) → Chain (IsMadeOf s) k ks l → (a : Name)
-    × (k ≡ named a)
+pub first-name : (s : Schema) (k : DataType) (ks : List DataType) (l : DataType)
+    → Chain (IsMadeOf s) k ks l → (a : Name) × (k ≡ named a)
 first-name s k [] l c = is-name s k l c
 first-name s k (m ∷ ks) l c = is-name s k m c.0
 

@@ -1,5 +1,5 @@
 -- Numbers for what a schema declares: the places of its declarations in the text, counted from 0.
-use Rattle.std.specs.Prelude.{◌≡◌, ℕ, ◌+◌, List, [], ◌∷◌, Option, None, Some, cond, slice_get}
+use Rattle.std.specs.Prelude.{◌≡◌, ℕ, ◌+◌, List, [], ◌∷◌, Option, None, Some, cond, map, slice_get}
 use Rattle.express_schemas.specs.Schemas.{Schema, Declaration}
 use Rattle.type_graphs.specs.Names.{Name, declared_name, is_named, declaration_of}
 
@@ -24,3 +24,11 @@ pub record NumbersStand (s : Schema) : Type 0 where
   pub at : (n : Name) (i : ℕ) → HasNumber s n i → declaration_of s.declarations n ≡ slice_get s.declarations i
   pub each : (n : Name) (d : Declaration) → declaration_of s.declarations n ≡ Some d → (i : ℕ) × HasNumber s n i
   pub one : (m n : Name) (i : ℕ) → HasNumber s m i → HasNumber s n i → m ≡ n
+
+-- The numbers of a row are those of these items: each is at its number.
+abbrev pub AreAt : {A : Type 0} → List A → List ℕ → List A → Type 0
+AreAt all row xs = map (slice_get all) row ≡ map Some xs
+
+-- .. of each row, where each declaration has a list of items
+abbrev pub AreRowsOf : {A : Type 0} → (Declaration → List A) → List A → List Declaration → List (List ℕ) → Type 0
+AreRowsOf of all ds rows = map (map (slice_get all)) rows ≡ map (λ (d : Declaration). map Some (of d)) ds

@@ -2,6 +2,7 @@
 //! numbers.
 #![tactic(auto)]
 
+pub mod capitals;
 pub mod graphs;
 pub mod laws;
 pub mod names;

@@ -198,11 +198,8 @@ worth-is t m hm he =
     ∙ ap (λ e. pos m *ℤ ten_to e) z
 
 pub is-within : (t : List ℕ) (m : ℕ) → mantissa t ≡ pos m → exponent t ≡ pos 0 → m < 2 ^ 63 → (r : Reason)
-    → (r ≡ reasons.Profile) × ((i : ℤ) × IsWorth t i × IsBeyond i) → ⊥
-is-within t m hm he small r (e, (i, worth, beyond)) =
-    let same : i ≡ pos m =
-    times_cancel i (pos m) (10 ^ finest) (ten_pos finest) (sym worth ∙ worth-is t m hm he) in
-    beyond (subst (FitsSigned w64) (sym same) (record { sfits = small }))
+    → (r ≡ reasons.Profile) × IsBeyond (IsWorth t) → ⊥
+is-within t m hm he small r (e, beyond) = beyond (pos m) (record { sfits = small }) (worth-is t m hm he)
 
 -- items of enumerations
 pub item-among : (s : Schema) (t n : Name) → IsItemOf s t n

@@ -240,22 +240,22 @@ label-is-checked s = no-reason s (Self PLAIN_MARK) (literal (text (codes "'p'"))
 
 module _ where
   small : (t : Name) (m : ℕ) → mantissa t ≡ pos m → exponent t ≡ pos 0 → m < 9 → (r : Reason)
-      → (r ≡ reasons.Profile) × ((i : ℤ) × IsWorth t i × IsBeyond i) → ⊥
+      → (r ≡ reasons.Profile) × IsBeyond (IsWorth t) → ⊥
   small t m hm he less = is-within t m hm he (omega (arith, less))
 
-  small-0 : (r : Reason) → (r ≡ reasons.Profile) × ((i : ℤ) × IsWorth (codes "0") i × IsBeyond i) → ⊥
+  small-0 : (r : Reason) → (r ≡ reasons.Profile) × IsBeyond (IsWorth (codes "0")) → ⊥
   small-0 = small (codes "0") 0 refl refl (omega arith)
 
-  small-1 : (r : Reason) → (r ≡ reasons.Profile) × ((i : ℤ) × IsWorth (codes "1") i × IsBeyond i) → ⊥
+  small-1 : (r : Reason) → (r ≡ reasons.Profile) × IsBeyond (IsWorth (codes "1")) → ⊥
   small-1 = small (codes "1") 1 refl refl (omega arith)
 
-  small-2 : (r : Reason) → (r ≡ reasons.Profile) × ((i : ℤ) × IsWorth (codes "2") i × IsBeyond i) → ⊥
+  small-2 : (r : Reason) → (r ≡ reasons.Profile) × IsBeyond (IsWorth (codes "2")) → ⊥
   small-2 = small (codes "2") 2 refl refl (omega arith)
 
-  small-3 : (r : Reason) → (r ≡ reasons.Profile) × ((i : ℤ) × IsWorth (codes "3") i × IsBeyond i) → ⊥
+  small-3 : (r : Reason) → (r ≡ reasons.Profile) × IsBeyond (IsWorth (codes "3")) → ⊥
   small-3 = small (codes "3") 3 refl refl (omega arith)
 
-  small-8 : (r : Reason) → (r ≡ reasons.Profile) × ((i : ℤ) × IsWorth (codes "8") i × IsBeyond i) → ⊥
+  small-8 : (r : Reason) → (r ≡ reasons.Profile) × IsBeyond (IsWorth (codes "8")) → ⊥
   small-8 = small (codes "8") 8 refl refl (omega arith)
 
 is-geo : IsGeo geo

@@ -57,15 +57,15 @@ abbrev pub label_of : ℕ → Option Name → Name
 label_of n None = 63 ∷ decimal n
 label_of n (Some l) = l
 
--- an integer of more than 64 bits with its sign
-abbrev pub IsBeyond : ℤ → Type 0
-IsBeyond n = FitsSigned w64 n → ⊥
+-- such an integer is none of 64 bits with its sign
+abbrev pub IsBeyond : (ℤ → Type 0) → Type 0
+IsBeyond Is = (n : ℤ) → FitsSigned w64 n → Is n → ⊥
 
 -- (ISO 10303-11, 8.2)
 abbrev pub parts_of_bound : Name → Bound → List Candidate
 parts_of_bound n (other_bound r) = always parts.Bound n reasons.Profile ∷ []
 parts_of_bound n (value sign t) =
-    because parts.Bound n reasons.Profile ((i : ℤ) × IsInteger (value sign t) i × IsBeyond i) ∷ []
+    because parts.Bound n reasons.Profile (IsBeyond (IsInteger (value sign t))) ∷ []
 parts_of_bound n unlimited = []
 
 abbrev pub parts_of_bounds : Name → Bounds → List Candidate
@@ -78,7 +78,7 @@ parts_of_some_bounds n (Some b) = parts_of_bounds n b
 -- (ISO 10303-11, 8.1.6 and 8.1.7)
 abbrev pub parts_of_width : Name → Width → List Candidate
 parts_of_width n (other_width r) = always parts.Width n reasons.Profile ∷ []
-parts_of_width n (width t) = because parts.Width n reasons.Profile ((i : ℤ) × IsWorth t i × IsBeyond i) ∷ []
+parts_of_width n (width t) = because parts.Width n reasons.Profile (IsBeyond (IsWorth t)) ∷ []
 
 -- the precision of a REAL, which isn't checked (ISO 10303-11, 8.1.2)
 abbrev pub parts_of_precision : Name → Option Width → List Candidate

@@ -6,7 +6,8 @@ use Rattle.express_schemas.specs.Views.{inverse_of}
 use Rattle.express_schemas.specs.Schemas.{Inverse}
 use Rattle.type_graphs.specs.Names.{own_names}
 use Rattle.schema_demands.specs.Owned.{is_own, includes}
-use Rattle.schema_demands.proofs.Owning.{any-mapped, own-mapped, clause-listed}
+use Rattle.schema_names.proofs.Clauses.{clause-listed}
+use Rattle.schema_demands.proofs.Owning.{any-mapped, own-mapped}
 use Rattle.schema_demands.proofs.attributes.any_inverse.Goals as goal
 
 pub returns : goal.returns

@@ -4,7 +4,7 @@ use Rattle.express_schemas.specs.Views.{derived_of}
 use Rattle.express_schemas.specs.SchemaViews.{schema_of}
 use Rattle.type_graphs.specs.Faults.{demands_of_derived}
 use Rattle.schema_demands.specs.Checks.{Checks}
-use Rattle.schema_demands.proofs.Owning.{clause-listed}
+use Rattle.schema_names.proofs.Clauses.{clause-listed}
 use Rattle.schema_demands.proofs.entities.check_derive_clause.Goals as goal
 
 pub returns : goal.returns

@@ -4,7 +4,7 @@ use Rattle.express_schemas.specs.Views.{explicit_of}
 use Rattle.express_schemas.specs.SchemaViews.{schema_of}
 use Rattle.type_graphs.specs.Faults.{demands_of_explicit}
 use Rattle.schema_demands.specs.Checks.{Checks}
-use Rattle.schema_demands.proofs.Owning.{clause-listed}
+use Rattle.schema_names.proofs.Clauses.{clause-listed}
 use Rattle.schema_demands.proofs.entities.check_explicit_clauses.Goals as goal
 
 pub returns : goal.returns

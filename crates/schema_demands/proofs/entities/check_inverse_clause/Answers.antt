@@ -3,7 +3,7 @@ use Rattle.express_schemas.specs.Views.{inverse_of}
 use Rattle.express_schemas.specs.SchemaViews.{schema_of}
 use Rattle.schema_demands.specs.Checks.{Checks}
 use Rattle.schema_demands.specs.Clauses.{demands_of_own_inverse}
-use Rattle.schema_demands.proofs.Owning.{clause-listed}
+use Rattle.schema_names.proofs.Clauses.{clause-listed}
 use Rattle.schema_demands.proofs.entities.check_inverse_clause.Goals as goal
 
 pub returns : goal.returns

@@ -3,7 +3,7 @@ use Rattle.express_trees.specs.Views.{capitals}
 use Rattle.express_schemas.specs.SchemaViews.{schema_of}
 use Rattle.type_graphs.specs.Faults.{an_entity}
 use Rattle.schema_demands.specs.Checks.{Checks}
-use Rattle.schema_demands.proofs.Owning.{clause-listed}
+use Rattle.schema_names.proofs.Clauses.{clause-listed}
 use Rattle.schema_demands.proofs.entities.check_subtype_clause.Goals as goal
 
 pub returns : goal.returns

@@ -4,8 +4,8 @@ use Rattle.std.specs.Char.{to_ascii_uppercase}
 use Rattle.std.proofs.Math.Logic.{∥∥₁_elim}
 use Rattle.std.proofs.Math.Bridge.{le_prop}
 use Rattle.std.proofs.lemmas.Str.{IsUtf8-from_ascii}
-use Rattle.express_types.proofs.Capitals.{word-below}
-use Rattle.express_types.proofs.resolving.in_capitals.Goals as goal
+use Rattle.schema_names.proofs.Ascii.{word-below}
+use Rattle.schema_names.proofs.capitals.in_capitals.Goals as goal
 
 pub returns : goal.returns
 returns c =

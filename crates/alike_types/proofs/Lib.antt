@@ -1,0 +1,9 @@
+mod Known
+mod Asked
+mod Shown
+mod Along
+mod Tables
+mod Fitting
+mod Parts
+mod OneShape
+mod FromTrees

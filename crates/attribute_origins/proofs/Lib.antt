@@ -1,0 +1,5 @@
+pub mod Once
+pub mod Tables
+pub mod Drawn
+pub mod Firsts
+pub mod Nearest

@@ -1,0 +1,6 @@
+pub mod Elements
+pub mod Tables
+pub mod Leading
+pub mod Sets
+pub mod Declared
+pub mod Single
