@@ -23,6 +23,36 @@ first-at : {A : Type 0} (all : List A) (row : List ℕ) (x : A) → AreAt all ro
 first-at all [] x h = absurd (cc)
 first-at all (n ∷ row) x h = (n, refl, front-at all n row x [] h)
 
+further : (c d : Bool) → d ≡ true → (c || d) ≡ true
+further true d e = refl
+further false d e = e
+
+-- what passes a test in a row of numbers
+pub some-one : (f : ℕ → Bool) (row : List ℕ) → list_any f row ≡ true → (j : ℕ) × (has row j ≡ true) × (f j ≡ true)
+some-one f [] h = absurd (cc)
+some-one f (x ∷ row) h = by (f x) refl h (some-one f row)
+  where
+    by : (c : Bool) → f x ≡ c → (c || list_any f row) ≡ true
+        → (list_any f row ≡ true → (j : ℕ) × (has row j ≡ true) × (f j ≡ true))
+        → (j : ℕ) × (has (x ∷ row) j ≡ true) × (f j ≡ true)
+    by true e k more =
+        let here : eqb x x ≡ true = grind (arith, nat_tests) in (x, rw here refl, e)
+    by false e k more = let (j, l, g) = more k in (j, further (eqb j x) (has row j) l, g)
+
+pub one-of : (f : ℕ → Bool) (row : List ℕ) (j : ℕ) → has row j ≡ true → f j ≡ true → list_any f row ≡ true
+one-of f [] j h g = absurd (cc)
+one-of f (x ∷ row) j h g = by (eqb j x) refl h (one-of f row j)
+  where
+    left : (c d : Bool) → c ≡ true → (c || d) ≡ true
+    left c d e = rw e refl
+
+    by : (c : Bool) → eqb j x ≡ c → (c || has row j) ≡ true → (has row j ≡ true → f j ≡ true
+        → list_any f row ≡ true) → (f x || list_any f row) ≡ true
+    by true e k more =
+        let same : j ≡ x = grind (arith, nat_tests) in
+        left (f x) (list_any f row) (subst (λ y. f y ≡ true) same g)
+    by false e k more = further (f x) (list_any f row) (more k g)
+
 module _ (s : Schema) where
   pub type-here : (n : Name) (i : ℕ) (t : TypeDeclaration) → HasNumber s n i → IsAt s i (type t)
       → StandsFor s n t.underlying
@@ -170,7 +200,7 @@ module _ (s : Schema) where
     part-named n i j k h =
         let (m, there, way) = made-of-forth s are.graph are.drawn n i j k ((are.closed.reached i j).0 h) in (m, there)
 
-    way-forth : (n m : Name) (i j : ℕ) → HasNumber s n i → HasNumber s m j → has (next rows i) j ≡ true → Way s n m
+    pub way-forth : (n m : Name) (i j : ℕ) → HasNumber s n i → HasNumber s m j → has (next rows i) j ≡ true → Way s n m
     way-forth n m i j k l h =
         let (o, there, way) = made-of-forth s are.graph are.drawn n i j k ((are.closed.reached i j).0 h) in
         inr (subst (λ y. Leads (IsMadeOf s) (named n) (named y)) (one-name s o m j there l) way)
@@ -178,7 +208,7 @@ module _ (s : Schema) where
     name-of : (a b : Name) → named a ≡ named b → a ≡ b
     name-of a b e = cc
 
-    way-back : (n m : Name) (i j : ℕ) → HasNumber s n i → HasNumber s m j → Way s n m → (n ≡ m)
+    pub way-back : (n m : Name) (i j : ℕ) → HasNumber s n i → HasNumber s m j → Way s n m → (n ≡ m)
         ⊎ (has (next rows i) j ≡ true)
     way-back n m i j k l (inl e) = inl (name-of n m e)
     way-back n m i j k l (inr way) =
@@ -223,35 +253,6 @@ module _ (s : Schema) where
     select-back : (n : Name) (i : ℕ) → HasNumber s n i → IsSelect s n → is_select_at s i ≡ true
     select-back n i k (items, (t, at, u)) =
         ap is_some_select (sym (stands-at s n i k) ∙ at) ∙ ap is_of_items u
-
-    further : (c d : Bool) → d ≡ true → (c || d) ≡ true
-    further true d e = refl
-    further false d e = e
-
-    some-one : (f : ℕ → Bool) (row : List ℕ) → list_any f row ≡ true → (j : ℕ) × (has row j ≡ true) × (f j ≡ true)
-    some-one f [] h = absurd (cc)
-    some-one f (x ∷ row) h = by (f x) refl h (some-one f row)
-      where
-        by : (c : Bool) → f x ≡ c → (c || list_any f row) ≡ true
-            → (list_any f row ≡ true → (j : ℕ) × (has row j ≡ true) × (f j ≡ true))
-            → (j : ℕ) × (has (x ∷ row) j ≡ true) × (f j ≡ true)
-        by true e k more =
-            let here : eqb x x ≡ true = grind (arith, nat_tests) in (x, rw here refl, e)
-        by false e k more = let (j, l, g) = more k in (j, further (eqb j x) (has row j) l, g)
-
-    one-of : (f : ℕ → Bool) (row : List ℕ) (j : ℕ) → has row j ≡ true → f j ≡ true → list_any f row ≡ true
-    one-of f [] j h g = absurd (cc)
-    one-of f (x ∷ row) j h g = by (eqb j x) refl h (one-of f row j)
-      where
-        left : (c d : Bool) → c ≡ true → (c || d) ≡ true
-        left c d e = rw e refl
-
-        by : (c : Bool) → eqb j x ≡ c → (c || has row j) ≡ true → (has row j ≡ true → f j ≡ true
-            → list_any f row ≡ true) → (f x || list_any f row) ≡ true
-        by true e k more =
-            let same : j ≡ x = grind (arith, nat_tests) in
-            left (f x) (list_any f row) (subst (λ y. f y ≡ true) same g)
-        by false e k more = further (f x) (list_any f row) (more k g)
 
     pub over-told : (n : Name) (i : ℕ) → HasNumber s n i → Tells s n (is_over_select s rows i)
     over-told n i k = (forth, back)

@@ -129,7 +129,7 @@ fn is_select_at(names: &Names<'_, '_>, part: u32) -> bool
 }
 
 /// Whether a defined type is a SELECT, or stands for one under whatever names.
-fn is_over_select(tables: Tables<'_, '_, '_>, part: u32) -> bool
+pub fn is_over_select(tables: Tables<'_, '_, '_>, part: u32) -> bool
     requires { part < length tables.parts.now }
     ensures { result ≡ is_over_select (schema_at tables.entry) (graph_of tables.entry.parts.now)
         part }
@@ -224,7 +224,11 @@ fn add_parts(
 }
 
 /// Adds what the values of an entity or a defined type may be.
-fn add_named(tables: Tables<'_, '_, '_>, part: u32, atoms: &mut Vec<Atom>) -> Result<(), AllocError>
+pub fn add_named(
+    tables: Tables<'_, '_, '_>,
+    part: u32,
+    atoms: &mut Vec<Atom>,
+) -> Result<(), AllocError>
     requires tables { AreTables tables }
     requires named { (n : Name) × HasNumber (schema_at tables) n part }
     ensures { (n : Name) → HasNumber (schema_at tables.entry) n part

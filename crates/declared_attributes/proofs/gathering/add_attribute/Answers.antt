@@ -1,0 +1,16 @@
+use Rattle.std.proofs.Common.{ap, sym, subst}
+use Rattle.std.proofs.lemmas.Result.{on_ok_weaker}
+use Rattle.express_trees.specs.Views.{capitals}
+use Rattle.express_schemas.specs.Views.{attribute_of}
+use Rattle.declared_attributes.specs.Gathering.{AddsAll, schema_in, Says}
+use Rattle.declared_attributes.proofs.gathering.add_attribute.Goals as goal
+
+pub add_redeclared-requires-clause-named : goal.add_redeclared-requires-clause-named
+add_redeclared-requires-clause-named c = (capitals c.in-Redeclared.field-0, ap attribute_of c.in-Redeclared.is)
+
+pub returns-in-Unqualified : goal.returns-in-Unqualified
+returns-in-Unqualified c =
+    on_ok_weaker c.add.result
+    (λ h. subst (λ y. AddsAll c.args.flat.now.items
+    (Says (schema_in c.args.sources) c.args.class c.args.declaration (attribute_of y)) c.add.new.flat.items)
+    (sym c.in-Unqualified.is) h) c.add.ensures

@@ -1,0 +1,4 @@
+pub mod Tables
+pub mod Firsts
+pub mod Asked
+pub mod Ranking

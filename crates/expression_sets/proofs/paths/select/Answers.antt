@@ -1,0 +1,21 @@
+use Rattle.std.proofs.Common.{false, subst}
+use Rattle.std.proofs.lemmas.Result.{IfOk-weaker}
+use Rattle.express_trees.specs.Views.{qualifiers_of}
+use Rattle.type_graphs.specs.Sets.{path_behind}
+use Rattle.data_types.specs.Values.{Holds}
+use Rattle.declared_attributes.specs.Derivations.{HoldsDerivation}
+use Rattle.taken_attributes.specs.Taking.{schema_in}
+use Rattle.expression_sets.specs.declared.references.Reference.{Reference}
+use Rattle.expression_sets.specs.Paths.{GoesOn, IsPath}
+use Rattle.expression_sets.proofs.Walking.{path-of}
+use Rattle.expression_sets.proofs.paths.select.Goals as goal
+
+pub returns : goal.returns
+returns c =
+    let s = schema_in c.args.known in
+    let qs = qualifiers_of c.args.qualifiers.now in
+    let p = path_behind s (Holds s c.args.may.items) qs in
+    let begun : Reference = record { is_unclear = false; may = c.args.may; uses = c.new.result } in
+    IfOk-weaker c.follow.result (λ t. GoesOn s begun qs t) (λ t. IsPath s p t)
+    (λ t h. path-of s p begun t (λ e. absurd (cc)) (λ d h. subst (λ js. HoldsDerivation s js d) c.new.ensures.items h) h)
+    c.follow.ensures

@@ -1,0 +1,19 @@
+use Rattle.std.proofs.Common.{sym, subst}
+use Rattle.std.proofs.lemmas.Result.{IfOk-weaker}
+use Rattle.express_trees.specs.Views.{tree_of}
+use Rattle.type_graphs.specs.Sets.{Elements, May}
+use Rattle.data_types.specs.Values.{Holds}
+use Rattle.taken_attributes.specs.Taking.{IsSet}
+use Rattle.expression_sets.specs.Scopes.{schema_around, own_in, variables_in}
+use Rattle.expression_sets.proofs.Adding.{elements-additive, set-alike}
+use Rattle.expression_sets.proofs.sets.elements_of.Goals as goal
+
+pub returns : goal.returns
+returns c =
+    let s = schema_around c.args.scope in
+    let M = May s (own_in c.args.scope) (variables_in c.args.scope) (tree_of c.args.expression.now) in
+    let xs = c.deref.result.now in
+    IfOk-weaker c.elements.result (λ ys. IsSet s (Elements s (Holds s xs)) ys.items)
+    (λ ys. IsSet s (Elements s M) ys.items)
+    (λ ys h. set-alike s (Elements s) (elements-additive s) M xs ys.items
+    (subst (λ zs. IsSet s M zs) (sym c.deref.ensures.value) c.in_ok-atoms.ensures) h) c.elements.ensures

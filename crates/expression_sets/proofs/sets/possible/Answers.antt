@@ -1,0 +1,14 @@
+use Rattle.std.proofs.Common.{subst}
+use Rattle.express_trees.specs.Views.{tree_of}
+use Rattle.type_graphs.specs.Sets.{May}
+use Rattle.data_types.specs.Values.{AddsAll}
+use Rattle.expression_sets.specs.Scopes.{schema_around, own_in, variables_in}
+use Rattle.expression_sets.proofs.Adding.{set-of}
+use Rattle.expression_sets.proofs.sets.possible.Goals as goal
+
+pub returns : goal.returns
+returns c =
+    let s = schema_around c.args.scope in
+    let M = May s (own_in c.args.scope) (variables_in c.args.scope) (tree_of c.args.expression.now) in
+    let new = c.add_possible.new.atoms.items in
+    set-of s M new (subst (λ xs. AddsAll s xs M new) c.new-atoms.ensures.items c.in_ok-add_possible.ensures)

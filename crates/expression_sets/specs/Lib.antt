@@ -1,0 +1,3 @@
+pub mod Scopes
+pub mod Paths
+pub mod Meanings

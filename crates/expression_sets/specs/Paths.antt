@@ -1,0 +1,40 @@
+-- What a reference may be, found qualifier by qualifier (ISO 10303-11, 12.7).
+use Rattle.std.specs.Prelude.{◌≡◌, ◌||◌, ◌++◌, ◌↔◌, ◌⊎◌, IsTrue}
+use Rattle.express_trees.specs.Trees.{Qualifiers}
+use Rattle.express_schemas.specs.Schemas.{Schema}
+use Rattle.type_graphs.specs.Names.{Name, OneOf}
+use Rattle.type_graphs.specs.Attributes.{Derivation}
+use Rattle.type_graphs.specs.Sets.{Set, Path, of_set, IsUnclear, MayUse, OfTaken, path_behind, with_attribute}
+use Rattle.data_types.specs.Values.{Holds}
+use Rattle.declared_attributes.specs.Derivations.{HoldsDerivation}
+use Rattle.taken_attributes.specs.Taking.{IsSet}
+use Rattle.taken_attributes.specs.declared.taken.Taken.{Taken}
+use Rattle.expression_sets.specs.declared.references.Reference.{Reference}
+
+-- This is what a path is.
+pub record IsPath (s : Schema) (p : Path) (t : Reference) : Type 0 where
+  pub unclear : IsTrue t.is_unclear ↔ OneOf (IsUnclear s) p.attributes
+  pub may : IsSet s p.may t.may.items
+  pub uses : (d : Derivation) → HoldsDerivation s t.uses.items d ↔ OneOf (MayUse s d) p.attributes
+
+-- .. and this is what it is that goes on from old by a path
+pub record GoesAlong (s : Schema) (old : Reference) (p : Path) (new : Reference) : Type 0 where
+  pub unclear : IsTrue new.is_unclear ↔ (IsTrue old.is_unclear ⊎ OneOf (IsUnclear s) p.attributes)
+  pub may : IsSet s p.may new.may.items
+  pub uses : (d : Derivation) → HoldsDerivation s new.uses.items d
+      ↔ (HoldsDerivation s old.uses.items d ⊎ OneOf (MayUse s d) p.attributes)
+
+-- .. by the path of qualifiers
+abbrev pub GoesOn : Schema → Reference → Qualifiers → Reference → Type 0
+GoesOn s old qs new = GoesAlong s old (path_behind s (Holds s old.may.items) qs) new
+
+-- what is taken joins what was found
+pub record Joins (old : Reference) (t : Taken) (new : Reference) : Type 0 where
+  pub unclear : new.is_unclear ≡ old.is_unclear || t.is_unclear
+  pub may : new.may.items ≡ t.may.items
+  pub uses : new.uses.items ≡ old.uses.items ++ t.uses.items
+
+-- the path of an attribute of SELF
+abbrev pub path_behind_own : Schema → Set → Name → Qualifiers → Path
+path_behind_own s self n qs =
+    with_attribute (of_set self n) (path_behind s (OfTaken s (of_set self n)) qs)

@@ -1,0 +1,94 @@
+//! What the names that begin references mean.
+
+ghost use Rattle.std.specs.Prelude.{◌↔◌, IfOk, IsTrue};
+ghost use Rattle.express_trees.specs.Views.{capitals, qualifiers_of};
+ghost use Rattle.type_graphs.specs.Names.{Name};
+ghost use Rattle.type_graphs.specs.Sets.{IsVariable, MayTake, of_set};
+ghost use Rattle.data_types.specs.Values.{AreTables, schema_at};
+ghost use Rattle.expression_sets.specs.Scopes.{IsScope, schema_around, own_in, variables_in};
+ghost use Rattle.expression_sets.specs.Meanings.{IsMeaning, BeginWithItem};
+
+use crate::scope::Scope;
+use crate::variables::find_variable;
+use data_types::values::{Atom, Tables};
+use enumeration_items::items::is_item_of;
+use express_trees::tree::Qualifier;
+use std::alloc::{AllocError, Global};
+use step_literals::literal::Word;
+use taken_attributes::references::take_of_own;
+use taken_attributes::taken::Taken;
+
+/// What a name means that begins a reference (ISO 10303-11, 12.7).
+#[derive(Drop)]
+pub(crate) enum Meaning {
+    /// A variable of a QUERY, and what it may be.
+    Variable(Vec<Atom>),
+    /// An attribute of SELF.
+    Attribute(Taken),
+    /// The item of a type that stands behind the dot.
+    ItemOfType,
+    /// An item of any enumeration.
+    Item,
+    Nothing,
+}
+
+/// Whether qualifiers begin with an item of a defined type.
+fn begin_with_item(
+    tables: Tables<'_, '_, '_>,
+    defined: Word<'_>,
+    qualifiers: &[Qualifier<'_>],
+) -> bool
+    requires tables { AreTables tables }
+    ensures { IsTrue result ↔ BeginWithItem (schema_at tables.entry) (capitals defined.entry)
+        (qualifiers_of qualifiers.now) }
+{
+    let Some(first) = qualifiers.first() else {
+        return false;
+    };
+    match first {
+        Qualifier::Attribute(item) => is_item_of(tables, defined, *item),
+        Qualifier::Group(_, _) => false,
+        Qualifier::Index(_) => false,
+    }
+}
+
+/// What a name means that is neither a variable nor an attribute.
+fn item_meaning(scope: Scope<'_, '_, '_>, name: Word<'_>, qualifiers: &[Qualifier<'_>]) -> Meaning
+    requires scope { IsScope scope }
+    ensures { (IsVariable (variables_in scope.entry) (capitals name.entry) → ⊥)
+        → ((p : Name) → MayTake (schema_around scope.entry)
+        (of_set (own_in scope.entry) (capitals name.entry)) p → ⊥)
+        → IsMeaning (schema_around scope.entry) (own_in scope.entry) (variables_in scope.entry)
+        (capitals name.entry) (qualifiers_of qualifiers.now) result }
+{
+    if begin_with_item(scope.known.tables, name, qualifiers) {
+        Meaning::ItemOfType
+    } else if scope.items.has(name) {
+        Meaning::Item
+    } else {
+        Meaning::Nothing
+    }
+}
+
+/// What a name means: a variable, else an attribute of SELF, else the item of the type before the
+/// dot, else an item of any enumeration.
+pub(crate) fn meaning_of(
+    alloc: Global,
+    scope: Scope<'_, '_, '_>,
+    name: Word<'_>,
+    qualifiers: &[Qualifier<'_>],
+) -> Result<Meaning, AllocError>
+    requires scope { IsScope scope }
+    ensures { IfOk result (IsMeaning (schema_around scope.entry) (own_in scope.entry)
+        (variables_in scope.entry) (capitals name.entry) (qualifiers_of qualifiers.now)) }
+{
+    if let Some(variable) = find_variable(scope.variables, name) {
+        return Ok(Meaning::Variable(Vec::from_slice(alloc, &variable.may)?));
+    }
+    let taken = take_of_own(alloc, scope.known, scope.own, name)?;
+    if taken.is_some {
+        Ok(Meaning::Attribute(taken))
+    } else {
+        Ok(item_meaning(scope, name, qualifiers))
+    }
+}

@@ -1,0 +1,131 @@
+//! The qualifiers of references.
+
+ghost use Rattle.std.specs.Prelude.{List, ◌∷◌, [], IfOk, OnOk};
+ghost use Rattle.express_trees.specs.Views.{selection_of, selections_of, qualifiers_of};
+ghost use Rattle.type_graphs.specs.Sets.{Only, of_set, path_behind};
+ghost use Rattle.type_graphs.specs.Names.{Name};
+ghost use Rattle.data_types.specs.declared.values.Atom.{Atom as Numbered};
+ghost use Rattle.type_graphs.specs.Shapes.{an_item};
+ghost use Rattle.data_types.specs.Values.{Holds};
+ghost use Rattle.taken_attributes.specs.Taking.{IsKnown, IsTaken, schema_in};
+ghost use Rattle.expression_sets.specs.Paths.{GoesOn, IsPath, Joins, path_behind_own};
+
+use crate::atoms::add_sort;
+use crate::references::Reference;
+use crate::sets::elements;
+use data_types::values::{Atom, Sort};
+use express_trees::tree::Qualifier;
+use std::alloc::{AllocError, Global};
+use taken_attributes::known::Known;
+use taken_attributes::references::{take_of_any, take_of_entity};
+use taken_attributes::taken::Taken;
+
+/// Goes on with the value of an attribute.
+fn go_to_attribute(reference: &mut Reference, taken: Taken) -> Result<(), AllocError>
+    ensures { OnOk result (Joins reference.old taken reference.new) }
+{
+    reference.uses.extend_from_slice(&taken.uses)?;
+    reference.is_unclear = reference.is_unclear || taken.is_unclear;
+    reference.may = taken.may;
+    Ok(())
+}
+
+/// Goes on with what a qualifier selects (ISO 10303-11, 12.7).
+fn go_on(
+    alloc: Global,
+    known: Known<'_, '_, '_>,
+    reference: &mut Reference,
+    qualifier: &Qualifier<'_>,
+) -> Result<(), AllocError>
+    requires known { IsKnown known }
+    ensures { OnOk result (GoesOn (schema_in known.entry) reference.old
+        (selections_of (selection_of qualifier.now ∷ [])) reference.new) }
+{
+    match qualifier {
+        Qualifier::Attribute(name) => {
+            let taken = take_of_any(alloc, known, &reference.may, *name)?;
+            go_to_attribute(reference, taken)
+        }
+        Qualifier::Group(entity, name) => {
+            let taken = take_of_entity(alloc, known, *entity, *name)?;
+            go_to_attribute(reference, taken)
+        }
+        Qualifier::Index(_) => {
+            reference.may = elements(alloc, known.tables, &reference.may)?;
+            Ok(())
+        }
+    }
+}
+
+/// Goes on with what qualifiers select, one behind the other.
+pub(crate) fn follow(
+    alloc: Global,
+    known: Known<'_, '_, '_>,
+    begun: Reference,
+    qualifiers: &[Qualifier<'_>],
+) -> Result<Reference, AllocError>
+    requires known { IsKnown known }
+    ensures { IfOk result (GoesOn (schema_in known.entry) begun
+        (qualifiers_of qualifiers.now)) }
+{
+    let mut reference = begun;
+    for qualifier in qualifiers {
+        go_on(alloc, known, &mut reference, qualifier)?;
+    }
+    Ok(reference)
+}
+
+/// What qualifiers select of a value that may be these.
+pub(crate) fn select(
+    alloc: Global,
+    known: Known<'_, '_, '_>,
+    may: Vec<Atom>,
+    qualifiers: &[Qualifier<'_>],
+) -> Result<Reference, AllocError>
+    requires known { IsKnown known }
+    ensures { IfOk result (IsPath (schema_in known.entry) (path_behind (schema_in known.entry)
+        (Holds (schema_in known.entry) may.items) (qualifiers_of qualifiers.now))) }
+{
+    let begun = Reference {
+        is_unclear: false,
+        may,
+        uses: Vec::new(alloc),
+    };
+    follow(alloc, known, begun, qualifiers)
+}
+
+/// What qualifiers select of an item of an enumeration.
+pub(crate) fn select_of_item(
+    alloc: Global,
+    known: Known<'_, '_, '_>,
+    qualifiers: &[Qualifier<'_>],
+) -> Result<Reference, AllocError>
+    requires known { IsKnown known }
+    ensures { IfOk result (IsPath (schema_in known.entry) (path_behind (schema_in known.entry)
+        (Only an_item) (qualifiers_of qualifiers.now))) }
+{
+    let mut may = Vec::new(alloc);
+    add_sort(Sort::Item, &mut may)?;
+    select(alloc, known, may, qualifiers)
+}
+
+/// What qualifiers select of the value of an attribute, with the attribute.
+pub(crate) fn select_of_taken(
+    alloc: Global,
+    known: Known<'_, '_, '_>,
+    taken: Taken,
+    qualifiers: &[Qualifier<'_>],
+) -> Result<Reference, AllocError>
+    requires known { IsKnown known }
+    ensures { (own : List Numbered) (n : Name)
+        → IsTaken (schema_in known.entry) (of_set (Holds (schema_in known.entry) own) n) taken
+        → IfOk result (IsPath (schema_in known.entry) (path_behind_own (schema_in known.entry)
+        (Holds (schema_in known.entry) own) n (qualifiers_of qualifiers.now))) }
+{
+    let begun = Reference {
+        is_unclear: taken.is_unclear,
+        may: taken.may,
+        uses: taken.uses,
+    };
+    follow(alloc, known, begun, qualifiers)
+}

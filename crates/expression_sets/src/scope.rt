@@ -1,0 +1,24 @@
+//! What stands around an expression.
+
+use data_types::values::Atom;
+use enumeration_items::items::Items;
+use step_literals::literal::Word;
+use taken_attributes::known::Known;
+
+/// A variable of a QUERY, and what it may be (ISO 10303-11, 12.6.7).
+#[derive(Drop)]
+pub struct Variable<'a> {
+    pub name: Word<'a>,
+    pub may: Vec<Atom>,
+}
+
+/// What stands around an expression.
+#[derive(Clone, Copy)]
+pub struct Scope<'r, 't, 'a> {
+    pub known: Known<'r, 't, 'a>,
+    pub items: &'r Items<'a>,
+    /// What SELF may be.
+    pub own: &'r [Atom],
+    /// The variables of the QUERYs around it, the innermost last.
+    pub variables: &'r [Variable<'a>],
+}

@@ -1,0 +1,4 @@
+pub mod Taking
+pub mod Entities
+pub mod Choosing
+pub mod Gathering

@@ -1,0 +1,15 @@
+//! What is known of the attributes and kinds of a schema.
+
+use data_types::values::Tables;
+use declared_attributes::attributes::Attributes;
+
+/// What is known of a schema whose names are resolved.
+#[derive(Clone, Copy)]
+pub struct Known<'r, 't, 'a> {
+    pub tables: Tables<'r, 't, 'a>,
+    /// By declaration, for an entity the numbers of its proper supertypes.
+    pub above: &'r [Vec<u32>],
+    /// By declaration, for an entity the numbers of its proper subtypes.
+    pub below: &'r [Vec<u32>],
+    pub attributes: &'r Attributes<'a>,
+}

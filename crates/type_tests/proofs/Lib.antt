@@ -1,0 +1,3 @@
+mod Literals
+mod Capitals
+mod Saying
