@@ -10,13 +10,21 @@ ghost use Rattle.schema_names.specs.Edges.{IsGraphOf, supertypes_in};
 ghost use Rattle.schema_names.specs.Numbers.{number_of};
 ghost use Rattle.schema_demands.specs.Above.{AreAbove};
 ghost use Rattle.attribute_places.specs.Places.{places_of, all_places, HavePlaces};
+ghost use Rattle.type_graphs.specs.Parts.{AreUnchecked};
+ghost use Rattle.unchecked_parts.specs.Adding.{unchecked_in};
+ghost use Rattle.derivation_ranks.specs.Ranking.{IsRankOf};
 ghost use Rattle.express_types.specs.Graphs.{AreSupers, IsKind, ArePlacesOf, place_of};
+ghost use Rattle.express_types.specs.Judging.{IsJudged};
 
+use crate::judging::{Judged, judge};
 use attribute_places::attributes::Place;
 use attribute_places::places::{AttributePlaces, attribute_places};
+use derivation_ranks::asked::rank_at;
 use schema_names::names::Names;
 use std::alloc::{AllocError, Global};
+use std::hash::RandomState;
 use step_literals::literal::Word;
+use unchecked_parts::list::Unchecked;
 
 /// What a schema says of its types, where its names are resolved.
 ///
@@ -30,6 +38,8 @@ pub struct TypeGraph<'t, 'a> {
     pub above: Vec<Vec<u32>>,
     /// The explicit attributes, and by declaration the numbers of an entity's places.
     pub places: AttributePlaces<'a>,
+    /// What is found of the bodies of rules and derived attributes.
+    pub judged: Judged,
     pub ghost resolved: { ∥ IsResolved (schema_of names.schema.now) ∥₁ },
     pub ghost above_are: { ∥ AreAbove (schema_of names.schema.now) (graph_of above.items) ∥₁ },
     pub ghost above_each: { length above.items ≡ length names.schema.now.declarations.items },
@@ -39,13 +49,15 @@ pub struct TypeGraph<'t, 'a> {
         (graph_of places.rows.items) ∥₁ },
     pub ghost places_each: { length places.rows.items
         ≡ length names.schema.now.declarations.items },
+    pub ghost judged_is: { ∥ IsJudged (schema_of names.schema.now) judged ∥₁ },
 }
 
 impl<'t, 'a> TypeGraph<'t, 'a> {
     /// That of a schema whose names are resolved, over the graph of its SUBTYPE OF and the rows of
-    /// all that it leads to.
+    /// all that it leads to. Names are hashed by these keys.
     pub(crate) fn of(
         alloc: Global,
+        keys: RandomState,
         names: Names<'t, 'a>,
         supertypes: &[Vec<u32>],
         above: Vec<Vec<u32>>,
@@ -57,10 +69,12 @@ impl<'t, 'a> TypeGraph<'t, 'a> {
         ensures { IfOk result (λ g. g.names.schema.now ≡ names.entry.schema.now) }
     {
         let places = attribute_places(alloc, &names, supertypes)?;
+        let judged = judge(alloc, keys, &names, supertypes, &above)?;
         Ok(TypeGraph {
             names,
             above,
             places,
+            judged,
         })
     }
 
@@ -104,5 +118,32 @@ impl<'t, 'a> TypeGraph<'t, 'a> {
             ≡ Some (place_of result) }
     {
         self.places.attributes[number as usize]
+    }
+
+    /// The rank of the derived attribute of this name that an entity itself declares or redeclares:
+    /// one more than the greatest of those that it may use, 0 where it uses none
+    /// (ISO 10303-11, 9.2.1.2). None where there is none, or it isn't checked.
+    pub fn rank(&self, entity: u32, attribute: Word<'_>) -> Option<u32>
+        requires { entity < length self.now.names.schema.now.declarations.items }
+        ensures { ∥ IsRankOf (schema_of self.now.names.schema.now) entity
+            (capitals attribute.entry) result ∥₁ }
+    {
+        let judged = &self.judged;
+        rank_at(
+            &self.names,
+            &judged.firsts,
+            &judged.ranks,
+            entity,
+            attribute,
+        )
+    }
+
+    /// The parts of the schema that aren't checked, in the order of the text, each with the first
+    /// reason that holds.
+    pub fn unchecked(&self) -> &[Unchecked]
+        ensures { ∥ AreUnchecked (schema_of self.now.names.schema.now)
+            (unchecked_in result.now) ∥₁ }
+    {
+        &self.judged.unchecked
     }
 }

@@ -79,7 +79,7 @@ fn try_resolve<'t, 'a>(
     if let Some(faulty) = first_fault(alloc, keys, &names, &above)? {
         return Ok(Resolution::Faulty(faulty));
     }
-    let graph = TypeGraph::of(alloc, names, &supertypes, above)?;
+    let graph = TypeGraph::of(alloc, keys, names, &supertypes, above)?;
     Ok(Resolution::Resolved(graph))
 }
 

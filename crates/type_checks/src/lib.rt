@@ -7,4 +7,6 @@ mod parts;
 #[cfg(test)]
 mod shapes;
 #[cfg(test)]
+mod unchecked;
+#[cfg(test)]
 mod values;

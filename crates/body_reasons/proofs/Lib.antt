@@ -1,0 +1,4 @@
+pub mod Firsts
+pub mod Used
+pub mod Selves
+pub mod InTurn

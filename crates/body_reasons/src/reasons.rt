@@ -1,0 +1,94 @@
+//! The reason that is given for a body.
+
+ghost use Rattle.std.specs.Prelude.{◌≡◌, IfOk};
+ghost use Rattle.std.specs.List.{list_any};
+ghost use Rattle.express_schemas.specs.Schemas.{Derived as DerivedTree};
+ghost use Rattle.express_schemas.specs.Views.{body_of};
+ghost use Rattle.type_graphs.specs.Attributes.{Derivation, IsDerivation};
+ghost use Rattle.type_graphs.specs.Ranks.{Self};
+ghost use Rattle.data_types.specs.Values.{Holds};
+ghost use Rattle.declared_attributes.specs.Derivations.{HasDerivation};
+ghost use Rattle.taken_attributes.specs.Taking.{IsKnown, schema_in};
+ghost use Rattle.enumeration_items.specs.Items.{AreItems};
+ghost use Rattle.derivation_ranks.specs.Ranking.{AreRanksOf};
+ghost use Rattle.body_reasons.specs.Judging.{AreJudged, IsReasonFor};
+ghost use Rattle.body_reasons.specs.Surveyed.{is_aside, reason_with};
+
+use crate::judgement::{Judgement, judge};
+use data_types::values::Atom;
+use enumeration_items::items::Items;
+use express_schemas::tree::Body;
+use std::alloc::{AllocError, Global};
+use taken_attributes::known::Known;
+use type_graphs::unchecked::Reason;
+
+/// Whether the derived attribute of a number is set aside.
+fn is_aside(ranks: &[Option<u32>], number: u32) -> bool
+    ensures { result ≡ is_aside ranks.now number }
+{
+    match ranks.get(number as usize) {
+        Some(rank) => rank.is_none(),
+        None => false,
+    }
+}
+
+/// Whether one of these derived attributes is set aside.
+fn any_aside(ranks: &[Option<u32>], uses: &[u32]) -> bool
+    ensures { result ≡ list_any (is_aside ranks.now) uses.now }
+{
+    uses.iter().any(|number| is_aside(ranks, *number))
+}
+
+/// The first reason of a body by itself, else that one of the derived attributes that it may use is
+/// set aside.
+fn reason_with(ranks: &[Option<u32>], judgement: &Judgement) -> Option<Reason>
+    ensures { result ≡ reason_with ranks.now judgement.now }
+{
+    if let Some(reason) = judgement.reason {
+        return Some(reason);
+    }
+    if any_aside(ranks, &judgement.uses) {
+        Some(Reason::Leads)
+    } else {
+        None
+    }
+}
+
+/// The reason that is given for a body, where SELF may be these: the first that it gives by itself,
+/// else that one of the derived attributes that it may use is set aside. None where it is checked.
+pub fn reason_for<'r, 'a>(
+    alloc: Global,
+    known: Known<'r, '_, 'a>,
+    items: &'r Items<'a>,
+    ranks: &[Option<u32>],
+    own: &'r [Atom],
+    body: &Body<'a>,
+) -> Result<Option<Reason>, AllocError>
+    requires known { IsKnown known }
+    requires items { AreItems (schema_in known) items.now }
+    requires ranks { AreRanksOf (schema_in known) ranks.now }
+    ensures { IfOk result (IsReasonFor (schema_in known.entry) (Holds (schema_in known.entry) own.now)
+        (body_of body.now)) }
+{
+    let judgement = judge(alloc, known, items, own, body)?;
+    Ok(reason_with(ranks, &judgement))
+}
+
+/// The reason that is given for the derived attribute of a number.
+pub fn reason_of_derived(
+    known: Known<'_, '_, '_>,
+    judged: &[Judgement],
+    ranks: &[Option<u32>],
+    number: u32,
+) -> Option<Reason>
+    requires judged { AreJudged (schema_in known) judged.now }
+    requires ranks { AreRanksOf (schema_in known) ranks.now }
+    ensures { (d : Derivation) (x : DerivedTree) → HasDerivation (schema_in known.entry) number d
+        → IsDerivation (schema_in known.entry) d x
+        → IsReasonFor (schema_in known.entry) (Self d.0) x.body result }
+{
+    match judged.get(number as usize) {
+        Some(judgement) => reason_with(ranks, judgement),
+        None => None,
+    }
+}

@@ -1,0 +1,15 @@
+-- What is above an entity is declared.
+use Rattle.std.specs.Prelude.{ℕ, ◌<◌, length}
+use Rattle.std.proofs.Common.{arith}
+use Rattle.digraph.specs.Graphs.{Graph, IsGraph}
+use Rattle.digraph.proofs.Searching.{reached-within}
+use Rattle.express_schemas.specs.Schemas.{Schema}
+use Rattle.schema_names.specs.Edges.{supertypes_in}
+use Rattle.schema_names.proofs.Edges.{is-graph}
+use Rattle.schema_demands.specs.Above.{AreAbove}
+
+pub above-graph : (s : Schema) (rows : Graph) → AreAbove s rows → IsGraph rows
+above-graph s rows h a b step =
+    let lt = reached-within h.graph (is-graph s supertypes_in h.graph h.drawn) a b ((h.closed.reached a b).0 step) in
+    let same = h.closed.same in
+    omega (arith, lt, same)

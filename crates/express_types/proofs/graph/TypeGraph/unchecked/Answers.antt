@@ -1,0 +1,14 @@
+use Rattle.std.proofs.Common.{sym, subst}
+use Rattle.std.proofs.Math.Logic.{∥∥₁_map}
+use Rattle.express_schemas.specs.SchemaViews.{schema_of}
+use Rattle.type_graphs.specs.Parts.{AreUnchecked}
+use Rattle.unchecked_parts.specs.Adding.{unchecked_in}
+use Rattle.express_types.specs.Judging.{IsJudged}
+use Rattle.express_types.proofs.graph.TypeGraph.unchecked.Goals as goal
+
+pub returns : goal.returns
+returns c =
+    let s = schema_of c.args.self.now.names.schema.now in
+    ∥∥₁_map c.args.self.now.judged_is
+    (λ (j : IsJudged s c.args.self.now.judged).
+    subst (λ us. AreUnchecked s (unchecked_in us)) (sym c.deref.ensures.value) j.unchecked)

@@ -1,0 +1,20 @@
+use Rattle.std.proofs.Common.{sym, ◌∙◌}
+use Rattle.std.proofs.lemmas.List.{length-map}
+use Rattle.digraph.specs.Graphs.{graph_of}
+use Rattle.express_schemas.specs.Views.{declaration_of}
+use Rattle.express_schemas.specs.SchemaViews.{schema_of}
+use Rattle.express_types.proofs.Above.{above-graph}
+use Rattle.express_types.proofs.judging.make_meanings.Goals as goal
+
+pub reversal-requires-clause-graph : goal.reversal-requires-clause-graph
+reversal-requires-clause-graph c =
+    above-graph (schema_of c.args.names.now.schema.now) (graph_of c.args.above.now) c.requires.above
+
+pub returns : goal.returns
+returns c = record {
+  lines = c.in_ok-lines.ensures.lines;
+  each = c.in_ok-lines.ensures.each ∙ sym (length-map c.args.names.now.schema.now.declarations.items declaration_of);
+  below = c.in_ok-below.ensures;
+  attributes = c.in_ok-attributes.ensures;
+  items = c.in_ok-items.ensures;
+}

@@ -1,0 +1,175 @@
+//! What of a schema isn't checked, and the ranks of its derived attributes.
+
+ghost use Rattle.std.specs.Prelude.{◌≡◌, IfOk, length};
+ghost use Rattle.digraph.specs.Graphs.{graph_of};
+ghost use Rattle.express_schemas.specs.SchemaViews.{schema_of};
+ghost use Rattle.type_graphs.specs.Faults.{IsResolved};
+ghost use Rattle.schema_names.specs.Edges.{IsGraphOf, supertypes_in};
+ghost use Rattle.schema_demands.specs.Above.{AreAbove};
+ghost use Rattle.taken_attributes.specs.Taking.{IsKnown, schema_in};
+ghost use Rattle.enumeration_items.specs.Items.{AreItems};
+ghost use Rattle.attribute_origins.specs.Lines.{HaveLines};
+ghost use Rattle.alike_types.specs.Shaped.{AreShapes};
+ghost use Rattle.express_types.specs.Judging.{AreTypes, AreMeanings, IsJudged};
+
+use alike_types::table::shapes;
+use attribute_origins::lines::lines;
+use body_reasons::derivations::{derivation_ranks, judge_derivations};
+use data_types::forms::{DataTypes, data_types};
+use data_types::values::Tables;
+use declared_attributes::attributes::Attributes;
+use derivation_ranks::asked::first_derivations;
+use digraph::closures::{closure, reversal};
+use enumeration_items::items::Items;
+use schema_names::graphs::part_graph;
+use schema_names::names::Names;
+use std::alloc::{AllocError, Global};
+use std::hash::RandomState;
+use taken_attributes::known::Known;
+use type_shapes::shapes::Shape;
+use unchecked_list::findings::Findings;
+use unchecked_list::list::unchecked_parts;
+use unchecked_parts::list::Unchecked;
+
+/// The data types of a schema by number, all that defined types are made of, and the shapes of data
+/// types.
+#[derive(Drop)]
+struct Types {
+    data_types: DataTypes,
+    parts: Vec<Vec<u32>>,
+    shapes: Vec<Shape>,
+}
+
+/// The data types of a schema.
+fn make_types(alloc: Global, names: &Names<'_, '_>) -> Result<Types, AllocError>
+    requires resolved { IsResolved (schema_of names.now.schema.now) }
+    ensures { IfOk result (AreTypes (schema_of names.now.schema.now)) }
+{
+    let data_types = data_types(alloc, names)?;
+    let edges = part_graph(alloc, names)?;
+    let shapes = shapes(alloc, names, &data_types, &edges)?;
+    let parts = closure(alloc, &edges)?;
+    Ok(Types {
+        data_types,
+        parts,
+        shapes,
+    })
+}
+
+/// What names mean in the expressions of a schema, beside its data types.
+#[derive(Drop)]
+struct Meanings<'a> {
+    lines: Vec<Vec<u32>>,
+    below: Vec<Vec<u32>>,
+    attributes: Attributes<'a>,
+    items: Items<'a>,
+}
+
+/// The attributes, lines and items of a schema.
+fn make_meanings<'a>(
+    alloc: Global,
+    keys: RandomState,
+    names: &Names<'_, 'a>,
+    types: &Types,
+    supertypes: &[Vec<u32>],
+    above: &[Vec<u32>],
+) -> Result<Meanings<'a>, AllocError>
+    requires resolved { IsResolved (schema_of names.now.schema.now) }
+    requires types { AreTypes (schema_of names.now.schema.now) types.now }
+    requires drawn { IsGraphOf (schema_of names.now.schema.now) supertypes_in
+        (graph_of supertypes.now) }
+    requires above { AreAbove (schema_of names.now.schema.now) (graph_of above.now) }
+    ensures { IfOk result (AreMeanings (schema_of names.now.schema.now) (graph_of above.now)) }
+{
+    let lines = lines(alloc, names, supertypes)?;
+    let below = reversal(alloc, above)?;
+    let attributes = Attributes::of(alloc, keys, names, &types.data_types, &lines, &types.shapes)?;
+    let items = Items::of(alloc, keys, names)?;
+    Ok(Meanings {
+        lines,
+        below,
+        attributes,
+        items,
+    })
+}
+
+/// What is found of a schema's bodies.
+#[derive(Drop)]
+pub struct Judged {
+    /// By number, the ranks of derived attributes; none for one that is set aside.
+    pub ranks: Vec<Option<u32>>,
+    /// By declaration, how many derived attributes stand before it.
+    pub firsts: Vec<u32>,
+    /// What isn't checked.
+    pub unchecked: Vec<Unchecked>,
+}
+
+/// What is found by what is known.
+fn judge_by<'r, 't, 'a>(
+    alloc: Global,
+    known: Known<'r, 't, 'a>,
+    items: &'r Items<'a>,
+    lines: &'r [Vec<u32>],
+    shapes: &'r [Shape],
+) -> Result<Judged, AllocError>
+    requires known { IsKnown known }
+    requires items { AreItems (schema_in known) items.now }
+    requires lines { HaveLines (schema_in known) (graph_of lines.now) }
+    requires each { length lines.now ≡ length known.tables.names.now.schema.now.declarations.items }
+    requires shapes { AreShapes (schema_in known) shapes.now }
+    ensures { IfOk result (IsJudged (schema_in known.entry)) }
+{
+    let judged = judge_derivations(alloc, known, items)?;
+    let ranks = derivation_ranks(alloc, known, &judged)?;
+    let findings = Findings {
+        known,
+        items,
+        lines,
+        shapes,
+        judged: &judged,
+        ranks: &ranks,
+    };
+    let unchecked = unchecked_parts(alloc, findings)?;
+    let firsts = first_derivations(alloc, known.tables.names)?;
+    Ok(Judged {
+        ranks,
+        firsts,
+        unchecked,
+    })
+}
+
+/// What is found of the bodies of a schema whose names are resolved, over the graph of its SUBTYPE
+/// OF and the rows of all that it leads to. Names are hashed by these keys.
+pub(crate) fn judge<'r, 't, 'a>(
+    alloc: Global,
+    keys: RandomState,
+    names: &'r Names<'t, 'a>,
+    supertypes: &[Vec<u32>],
+    above: &'r [Vec<u32>],
+) -> Result<Judged, AllocError>
+    requires resolved { IsResolved (schema_of names.now.schema.now) }
+    requires drawn { IsGraphOf (schema_of names.now.schema.now) supertypes_in
+        (graph_of supertypes.now) }
+    requires above { AreAbove (schema_of names.now.schema.now) (graph_of above.now) }
+    ensures { IfOk result (IsJudged (schema_of names.now.schema.now)) }
+{
+    let types = make_types(alloc, names)?;
+    let meanings = make_meanings(alloc, keys, names, &types, supertypes, above)?;
+    let known = Known {
+        tables: Tables {
+            names,
+            data_types: &types.data_types,
+            parts: &types.parts,
+        },
+        above,
+        below: &meanings.below,
+        attributes: &meanings.attributes,
+    };
+    judge_by(
+        alloc,
+        known,
+        &meanings.items,
+        &meanings.lines,
+        &types.shapes,
+    )
+}

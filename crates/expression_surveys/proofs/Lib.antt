@@ -1,0 +1,10 @@
+pub mod Agreeing
+pub mod Same
+pub mod Joined
+pub mod Rows
+pub mod Members
+pub mod Tests
+pub mod Around
+pub mod Bodies
+pub mod Parts
+pub mod Whole

@@ -1,0 +1,18 @@
+use Rattle.std.proofs.Common.{◌↔◌, IsTrue, sym, subst}
+use Rattle.digraph.specs.Graphs.{graph_of}
+use Rattle.express_schemas.specs.Schemas.{named}
+use Rattle.type_graphs.specs.Shapes.{IsOverSelect}
+use Rattle.data_types.specs.Values.{schema_at}
+use Rattle.data_types.proofs.Declared.{parts-within, over-told}
+use Rattle.expression_surveys.proofs.comparisons.is_over_select.Goals as goal
+
+pub is_over_select-requires : goal.is_over_select-requires
+is_over_select-requires c =
+    let (n, k) = c.requires.numbered in
+    parts-within (schema_at c.args.tables) (λ v. v.items) c.args.tables.parts.now c.requires.tables.parts n c.args.part k
+
+pub returns : goal.returns
+returns c n k =
+    let s = schema_at c.args.tables in
+    subst (λ b. IsTrue b ↔ IsOverSelect s (named n)) (sym c.is_over_select.ensures)
+    (over-told s (graph_of c.args.tables.parts.now) c.requires.tables.parts n c.args.part k)

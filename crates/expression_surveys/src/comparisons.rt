@@ -1,0 +1,286 @@
+//! What is at fault in comparisons (ISO 10303-11, 12.2 and 15.25).
+
+ghost use Rattle.std.specs.Prelude.{◌≡◌, ◌↔◌, ◌⊎◌, false, IsTrue, IfOk};
+ghost use Rattle.express_trees.specs.Trees.{comparison, interval};
+ghost use Rattle.express_trees.specs.Views.{tree_of};
+ghost use Rattle.express_schemas.specs.SchemaViews.{schema_of};
+ghost use Rattle.express_schemas.specs.Schemas.{named};
+ghost use Rattle.express_schemas.specs.Views.{if_some};
+ghost use Rattle.type_graphs.specs.Names.{Name, IsEntity, IsType};
+ghost use Rattle.type_graphs.specs.Shapes.{IsOverSelect};
+ghost use Rattle.type_graphs.specs.Reasons.{
+  HasBareValue,
+  MayBeDeep,
+  MayBeUnordered,
+  BothDeep,
+  IsTypeTest,
+  IsBadTypeTest,
+  IsBadTypeof,
+  IsBadKind,
+};
+ghost use Rattle.schema_names.specs.Numbers.{HasNumber};
+ghost use Rattle.data_types.specs.Values.{AreTables, schema_at};
+ghost use Rattle.expression_sets.specs.Scopes.{IsScope, schema_around, own_in, variables_in};
+ghost use Rattle.expression_surveys.specs.Questions.{
+  tested,
+  may_in,
+  elements_in,
+  TestsType,
+  EitherUnordered,
+};
+
+use crate::atoms::{has_bare_value, is_deep, is_unordered};
+use data_types::values::Tables;
+use express_schemas::tree::Declaration;
+use express_trees::tree::{Expr, Function, Relation};
+use expression_sets::scope::Scope;
+use expression_sets::sets::{possible, possible_elements};
+use schema_names::names::Names;
+use std::alloc::{AllocError, Global};
+use type_tests::said::said_type;
+
+/// Whether an expression may be an instance or an aggregate.
+fn may_be_deep(
+    alloc: Global,
+    scope: Scope<'_, '_, '_>,
+    expression: &Expr<'_>,
+) -> Result<bool, AllocError>
+    requires scope { IsScope scope }
+    ensures { IfOk result (λ b. IsTrue b ↔ MayBeDeep (may_in scope.entry (tree_of expression.now))) }
+{
+    let atoms = possible(alloc, scope, expression)?;
+    Ok(is_deep(scope.known.tables, &atoms))
+}
+
+/// Whether the elements of what stands on the right of IN may be instances or aggregates.
+fn may_have_deep(
+    alloc: Global,
+    scope: Scope<'_, '_, '_>,
+    expression: &Expr<'_>,
+) -> Result<bool, AllocError>
+    requires scope { IsScope scope }
+    ensures { IfOk result (λ b. IsTrue b ↔ MayBeDeep (elements_in scope.entry (tree_of expression.now))) }
+{
+    let atoms = possible_elements(alloc, scope, expression)?;
+    Ok(is_deep(scope.known.tables, &atoms))
+}
+
+/// Whether an expression may be a string, a binary or an item.
+fn may_be_unordered(
+    alloc: Global,
+    scope: Scope<'_, '_, '_>,
+    expression: &Expr<'_>,
+) -> Result<bool, AllocError>
+    requires scope { IsScope scope }
+    ensures { IfOk result (λ b. IsTrue b ↔ MayBeUnordered (may_in scope.entry (tree_of expression.now))) }
+{
+    let atoms = possible(alloc, scope, expression)?;
+    Ok(is_unordered(scope.known.tables, &atoms))
+}
+
+/// Whether an expression may be a value of no SELECT.
+fn may_be_bare(
+    alloc: Global,
+    scope: Scope<'_, '_, '_>,
+    expression: &Expr<'_>,
+) -> Result<bool, AllocError>
+    requires scope { IsScope scope }
+    ensures { IfOk result (λ b. IsTrue b ↔ HasBareValue (may_in scope.entry (tree_of expression.now))) }
+{
+    let atoms = possible(alloc, scope, expression)?;
+    Ok(has_bare_value(scope.known.tables, &atoms))
+}
+
+/// Whether an entity has this number.
+fn is_entity(names: &Names<'_, '_>, part: u32) -> bool
+    requires numbered { (n : Name) × HasNumber (schema_of names.now.schema.now) n part }
+    ensures { (n : Name) → HasNumber (schema_of names.now.schema.now) n part
+        → IsTrue result ↔ IsEntity (schema_of names.now.schema.now) n }
+{
+    match names.declaration(part) {
+        Declaration::Entity(_) => true,
+        Declaration::Type(_) => false,
+        Declaration::Skipped(_) => false,
+    }
+}
+
+/// Whether a defined type of this number is over a SELECT.
+fn is_over_select(tables: Tables<'_, '_, '_>, part: u32) -> bool
+    requires tables { AreTables tables }
+    requires numbered { (n : Name) × HasNumber (schema_at tables) n part }
+    ensures { (n : Name) → HasNumber (schema_at tables.entry) n part
+        → IsTrue result ↔ IsOverSelect (schema_at tables.entry) (named n) }
+{
+    data_types::values::is_over_select(tables, part)
+}
+
+/// Whether a name, of which a string tells the number, tests the type of an expression
+/// (ISO 10303-11, 15.25).
+fn tests_type(
+    alloc: Global,
+    scope: Scope<'_, '_, '_>,
+    part: u32,
+    expression: &Expr<'_>,
+) -> Result<bool, AllocError>
+    requires scope { IsScope scope }
+    requires numbered { (n : Name) × HasNumber (schema_around scope) n part }
+    ensures { (n : Name) → HasNumber (schema_around scope.entry) n part
+        → IfOk result (λ b. IsTrue b ↔ TestsType (schema_around scope.entry) n
+        (may_in scope.entry (tree_of expression.now))) }
+{
+    if is_entity(scope.known.tables.names, part) {
+        return Ok(true);
+    }
+    if is_over_select(scope.known.tables, part) {
+        return Ok(false);
+    }
+    Ok(!may_be_bare(alloc, scope, expression)?)
+}
+
+/// Whether `left IN TYPEOF(expression)` has an answer (ISO 10303-11, 15.25).
+fn is_type_test(
+    alloc: Global,
+    scope: Scope<'_, '_, '_>,
+    left: &Expr<'_>,
+    expression: &Expr<'_>,
+) -> Result<bool, AllocError>
+    requires scope { IsScope scope }
+    ensures { IfOk result (λ b. IsTrue b ↔ IsTypeTest (schema_around scope.entry)
+        (own_in scope.entry) (variables_in scope.entry) (tree_of left.now)
+        (tree_of expression.now)) }
+{
+    match said_type(alloc, scope.known.tables.names, left)? {
+        Some(part) => tests_type(alloc, scope, part, expression),
+        None => Ok(false),
+    }
+}
+
+/// The argument of TYPEOF, in parentheses or not.
+fn tested<'r, 'a>(expression: &'r Expr<'a>) -> Option<&'r Expr<'a>>
+    ensures { if_some (λ x. tree_of x.now) result ≡ tested (tree_of expression.now) }
+{
+    match expression {
+        Expr::Call(Function::Typeof, argument) => Some(argument),
+        Expr::Parenthesized(inner) => tested(inner),
+        _ => None,
+    }
+}
+
+/// Whether TYPEOF stands on the right of IN without an answer (ISO 10303-11, 15.25).
+fn is_bad_type_test(
+    alloc: Global,
+    scope: Scope<'_, '_, '_>,
+    left: &Expr<'_>,
+    right: &Expr<'_>,
+) -> Result<bool, AllocError>
+    requires scope { IsScope scope }
+    ensures { IfOk result (λ b. IsTrue b ↔ IsBadTypeTest (schema_around scope.entry)
+        (own_in scope.entry) (variables_in scope.entry) (tree_of left.now) (tree_of right.now)) }
+{
+    match tested(right) {
+        Some(argument) => Ok(!is_type_test(alloc, scope, left, argument)?),
+        None => Ok(false),
+    }
+}
+
+/// Whether a comparison tests a type without an answer (ISO 10303-11, 15.25).
+pub(crate) fn is_bad_test(
+    alloc: Global,
+    scope: Scope<'_, '_, '_>,
+    left: &Expr<'_>,
+    relation: Relation,
+    right: &Expr<'_>,
+) -> Result<bool, AllocError>
+    requires scope { IsScope scope }
+    ensures { IfOk result (λ b. IsTrue b ↔ IsBadTypeof (schema_around scope.entry)
+        (own_in scope.entry) false (variables_in scope.entry)
+        (comparison (tree_of left.now) relation (tree_of right.now))) }
+{
+    match relation {
+        Relation::In => is_bad_type_test(alloc, scope, left, right),
+        _ => Ok(false),
+    }
+}
+
+/// Whether two expressions may both be instances or aggregates.
+fn are_deep(
+    alloc: Global,
+    scope: Scope<'_, '_, '_>,
+    left: &Expr<'_>,
+    right: &Expr<'_>,
+) -> Result<bool, AllocError>
+    requires scope { IsScope scope }
+    ensures { IfOk result (λ b. IsTrue b ↔ BothDeep
+        (may_in scope.entry (tree_of left.now))
+        (may_in scope.entry (tree_of right.now))) }
+{
+    Ok(may_be_deep(alloc, scope, left)? && may_be_deep(alloc, scope, right)?)
+}
+
+/// Whether an expression and the elements of another may both be instances or aggregates.
+fn are_deep_in(
+    alloc: Global,
+    scope: Scope<'_, '_, '_>,
+    left: &Expr<'_>,
+    right: &Expr<'_>,
+) -> Result<bool, AllocError>
+    requires scope { IsScope scope }
+    ensures { IfOk result (λ b. IsTrue b ↔ BothDeep
+        (may_in scope.entry (tree_of left.now))
+        (elements_in scope.entry (tree_of right.now))) }
+{
+    Ok(may_be_deep(alloc, scope, left)? && may_have_deep(alloc, scope, right)?)
+}
+
+/// Whether one of two expressions may be a string, a binary or an item.
+fn one_is_unordered(
+    alloc: Global,
+    scope: Scope<'_, '_, '_>,
+    left: &Expr<'_>,
+    right: &Expr<'_>,
+) -> Result<bool, AllocError>
+    requires scope { IsScope scope }
+    ensures { IfOk result (λ b. IsTrue b ↔ EitherUnordered
+        (may_in scope.entry (tree_of left.now))
+        (may_in scope.entry (tree_of right.now))) }
+{
+    Ok(may_be_unordered(alloc, scope, left)? || may_be_unordered(alloc, scope, right)?)
+}
+
+/// Whether a comparison is of what isn't compared (ISO 10303-11, 12.2).
+pub(crate) fn is_bad_kind(
+    alloc: Global,
+    scope: Scope<'_, '_, '_>,
+    left: &Expr<'_>,
+    relation: Relation,
+    right: &Expr<'_>,
+) -> Result<bool, AllocError>
+    requires scope { IsScope scope }
+    ensures { IfOk result (λ b. IsTrue b ↔ IsBadKind (schema_around scope.entry)
+        (own_in scope.entry) false (variables_in scope.entry)
+        (comparison (tree_of left.now) relation (tree_of right.now))) }
+{
+    match relation {
+        Relation::Equal | Relation::NotEqual => are_deep(alloc, scope, left, right),
+        Relation::In => are_deep_in(alloc, scope, left, right),
+        _ => one_is_unordered(alloc, scope, left, right),
+    }
+}
+
+/// Whether an interval is of what isn't ordered (ISO 10303-11, 12.2.4).
+pub(crate) fn is_bad_interval(
+    alloc: Global,
+    scope: Scope<'_, '_, '_>,
+    low: &Expr<'_>,
+    item: &Expr<'_>,
+    high: &Expr<'_>,
+) -> Result<bool, AllocError>
+    requires scope { IsScope scope }
+    ensures { IfOk result (λ b. IsTrue b ↔ (MayBeUnordered
+        (may_in scope.entry (tree_of low.now))
+        ⊎ EitherUnordered
+        (may_in scope.entry (tree_of item.now))
+        (may_in scope.entry (tree_of high.now)))) }
+{
+    Ok(may_be_unordered(alloc, scope, low)? || one_is_unordered(alloc, scope, item, high)?)
+}

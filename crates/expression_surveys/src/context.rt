@@ -1,0 +1,37 @@
+//! What stands around an expression, without the variables.
+
+ghost use Rattle.std.specs.Prelude.{◌≡◌};
+ghost use Rattle.expression_sets.specs.Scopes.{IsScope, schema_around, own_in, variables_in, inside};
+ghost use Rattle.expression_surveys.specs.Questions.{IsContext, schema_of_context, own_of_context};
+
+use data_types::values::Atom;
+use enumeration_items::items::Items;
+use expression_sets::scope::{Scope, Variable};
+use taken_attributes::known::Known;
+
+/// What stands around an expression, without the variables.
+#[derive(Clone, Copy)]
+pub(crate) struct Context<'r, 't, 'a> {
+    pub known: Known<'r, 't, 'a>,
+    pub items: &'r Items<'a>,
+    /// What SELF may be.
+    pub own: &'r [Atom],
+}
+
+impl<'r, 't, 'a> Context<'r, 't, 'a> {
+    /// With these variables around.
+    pub(crate) fn with(self, variables: &'r [Variable<'a>]) -> Scope<'r, 't, 'a>
+        requires { IsContext self }
+        ensures scope { IsScope result }
+        ensures schema { schema_around result ≡ schema_of_context self.entry }
+        ensures own { result.own.now ≡ self.entry.own.now }
+        ensures variables { result.variables.now ≡ variables.now }
+    {
+        Scope {
+            known: self.known,
+            items: self.items,
+            own: self.own,
+            variables,
+        }
+    }
+}

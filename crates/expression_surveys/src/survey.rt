@@ -1,0 +1,73 @@
+//! Going over an expression.
+
+ghost use Rattle.std.specs.Prelude.{IfOk};
+ghost use Rattle.express_trees.specs.Views.{tree_of};
+ghost use Rattle.data_types.specs.Values.{Holds};
+ghost use Rattle.taken_attributes.specs.Taking.{IsKnown, schema_in};
+ghost use Rattle.enumeration_items.specs.Items.{AreItems};
+ghost use Rattle.express_schemas.specs.Schemas.{Schema};
+ghost use Rattle.expression_surveys.specs.Findings.{Finding, IsFound};
+ghost use Rattle.expression_surveys.specs.Surveys.{IsSurvey};
+
+use crate::context::Context;
+use crate::walk::survey_part;
+use data_types::values::Atom;
+use enumeration_items::items::Items;
+use express_trees::tree::Expr;
+use std::alloc::{AllocError, Global};
+use taken_attributes::known::Known;
+
+/// What is found in an expression.
+#[derive(Drop)]
+pub struct Survey {
+    /// `[ .. ]` elsewhere than on the right of IN.
+    pub has_loose_aggregate: bool,
+    /// A name that means nothing, or two attributes.
+    pub has_unclear_name: bool,
+    /// TYPEOF elsewhere than behind IN, or without an answer.
+    pub has_bad_typeof: bool,
+    /// A comparison of what isn't compared.
+    pub has_bad_kind: bool,
+    /// The numbers of the derived attributes that its value may be asked of.
+    pub uses: Vec<u32>,
+}
+
+/// Nothing is found.
+fn nothing(alloc: Global) -> Survey
+    ensures { (s : Schema) (f : Finding) → IsFound s result f → ⊥ }
+{
+    Survey {
+        has_loose_aggregate: false,
+        has_unclear_name: false,
+        has_bad_typeof: false,
+        has_bad_kind: false,
+        uses: Vec::new(alloc),
+    }
+}
+
+/// What is found in an expression, where SELF may be these.
+pub fn survey_expression<'r, 'a>(
+    alloc: Global,
+    known: Known<'r, '_, 'a>,
+    items: &'r Items<'a>,
+    own: &'r [Atom],
+    expression: &Expr<'a>,
+) -> Result<Survey, AllocError>
+    requires known { IsKnown known }
+    requires items { AreItems (schema_in known) items.now }
+    ensures { IfOk result (IsSurvey (schema_in known.entry) (Holds (schema_in known.entry) own.now)
+        (tree_of expression.now)) }
+{
+    let context = Context { known, items, own };
+    let mut variables = Vec::new(alloc);
+    let mut survey = nothing(alloc);
+    survey_part(
+        alloc,
+        context,
+        &mut variables,
+        &mut survey,
+        false,
+        expression,
+    )?;
+    Ok(survey)
+}

@@ -1,0 +1,55 @@
+//! The variables of QUERY.
+
+ghost use Rattle.std.specs.Prelude.{[], IfOk, OnOk};
+ghost use Rattle.express_trees.specs.Views.{capitals, tree_of};
+ghost use Rattle.type_graphs.specs.Sets.{Elements, May};
+ghost use Rattle.taken_attributes.specs.Taking.{IsSet};
+ghost use Rattle.expression_sets.specs.Scopes.{inside};
+ghost use Rattle.expression_surveys.specs.Findings.{Binds};
+ghost use Rattle.expression_surveys.specs.Questions.{
+  IsContext,
+  schema_of_context,
+  own_of_context,
+};
+
+use crate::context::Context;
+use data_types::values::Atom;
+use express_trees::tree::Expr;
+use expression_sets::scope::Variable;
+use expression_sets::sets::{elements, possible};
+use std::alloc::{AllocError, Global};
+use step_literals::literal::Word;
+
+/// What the variable of a QUERY over this source may be (ISO 10303-11, 12.6.7).
+fn variable_over<'a>(
+    alloc: Global,
+    context: Context<'_, '_, 'a>,
+    variables: &[Variable<'a>],
+    source: &Expr<'a>,
+) -> Result<Vec<Atom>, AllocError>
+    requires context { IsContext context }
+    ensures { IfOk result (λ t. IsSet (schema_of_context context.entry)
+        (Elements (schema_of_context context.entry) (May (schema_of_context context.entry)
+        (own_of_context context.entry) (inside (schema_of_context context.entry) variables.now [])
+        (tree_of source.now))) t.items) }
+{
+    let may = possible(alloc, context.with(variables), source)?;
+    elements(alloc, context.known.tables, &may)
+}
+
+/// Puts the variable of a QUERY over this source behind those around it.
+pub(crate) fn push_variable<'a>(
+    alloc: Global,
+    context: Context<'_, '_, 'a>,
+    variables: &mut Vec<Variable<'a>>,
+    name: Word<'a>,
+    source: &Expr<'a>,
+) -> Result<(), AllocError>
+    requires context { IsContext context }
+    ensures { OnOk result (Binds (schema_of_context context.entry) (own_of_context context.entry)
+        variables.old.items (capitals name.entry) (tree_of source.now) variables.new.items) }
+{
+    let may = variable_over(alloc, context, variables, source)?;
+    variables.push(Variable { name, may })?;
+    Ok(())
+}

@@ -1,0 +1,9 @@
+pub mod Reasoned
+pub mod Counted
+pub mod Standing
+pub mod Deriving
+pub mod SelfSets
+pub mod Told
+pub mod Members
+pub mod Holding
+pub mod Reshaped

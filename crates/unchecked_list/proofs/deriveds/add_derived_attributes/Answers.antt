@@ -1,0 +1,31 @@
+use Rattle.std.proofs.Common.{OnOk, refl, subst, sym}
+use Rattle.express_trees.specs.Views.{capitals}
+use Rattle.express_schemas.specs.Schemas.{entity}
+use Rattle.express_schemas.specs.Views.{entity_of, derived_of}
+use Rattle.type_graphs.specs.Parts.{for_each, parts_of_derived}
+use Rattle.schema_names.proofs.Clauses.{clause-listed}
+use Rattle.unchecked_parts.specs.Adding.{Adds, unchecked_in}
+use Rattle.unchecked_list.specs.Findings.{schema_found}
+use Rattle.unchecked_list.specs.Places.{AreDerivationsFrom}
+use Rattle.unchecked_list.proofs.Standing.{stands-here}
+use Rattle.unchecked_list.proofs.Deriving.{derivations-of}
+use Rattle.unchecked_list.proofs.deriveds.add_derived_attributes.Goals as goal
+
+pub add_deriveds-requires-clause-numbered : goal.add_deriveds-requires-clause-numbered
+add_deriveds-requires-clause-numbered c =
+    let s = schema_found c.args.findings in
+    let e = entity_of c.args.entity.now in
+    subst (AreDerivationsFrom s e.name c.args.first)
+    (sym (clause-listed derived_of c.args.entity.now.derived c.derived_attributes.result.now
+    c.derived_attributes.ensures))
+    (derivations-of s c.args.number c.args.first e c.requires.at
+    (stands-here s c.requires.found.known.resolved c.args.number (entity e) e.name c.requires.at refl) c.requires.first)
+
+pub returns : goal.returns
+returns c =
+    let s = schema_found c.args.findings in
+    subst (λ ds. OnOk c.add_deriveds.result (Adds
+    (for_each (parts_of_derived s (capitals c.args.entity.now.name)) ds)
+    (unchecked_in c.args.list.now.items) (unchecked_in c.add_deriveds.new.list.items)))
+    (clause-listed derived_of c.args.entity.now.derived c.derived_attributes.result.now c.derived_attributes.ensures)
+    c.add_deriveds.ensures

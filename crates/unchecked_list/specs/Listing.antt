@@ -1,0 +1,19 @@
+-- What is listed of a part whose reason is found.
+use Rattle.std.specs.Prelude.{List, [], ◌∷◌, ◌++◌, Option, None, Some}
+use Rattle.express_schemas.specs.Schemas.{Schema, Entity}
+use Rattle.type_graphs.specs.declared.unchecked.PartKind.{PartKind}
+use Rattle.type_graphs.specs.declared.unchecked.Reason.{Reason}
+use Rattle.type_graphs.specs.Names.{Name, listed}
+use Rattle.type_graphs.specs.Parts.{Unchecked, Candidate, parts_of_uniques, parts_of_rules}
+use Rattle.type_graphs.specs.Ranks.{Self, HasReason}
+
+-- the part with its reason; nothing where it has none
+abbrev pub given : PartKind → Name → Option Reason → List Unchecked
+given k n None = []
+given k n (Some r) = record { kind = k; name = n; reason = r } ∷ []
+
+-- what UNIQUE and WHERE of an entity give
+abbrev pub parts_of_constraints : Schema → Entity → List Candidate
+parts_of_constraints s e =
+    parts_of_uniques s e.name 1 (listed e.uniques)
+    ++ parts_of_rules e.name (HasReason s (Self e.name)) 1 (listed e.rules)

@@ -1,0 +1,147 @@
+//! Explicit attributes (ISO 10303-11, 9.2.1.1).
+
+ghost use Rattle.std.specs.Prelude.{◌≡◌, OnOk, map, IsTrue, ◌↔◌, List, Some, slice_get};
+ghost use Rattle.express_trees.specs.Views.{capitals};
+ghost use Rattle.express_schemas.specs.Schemas.{DataType as DataTypeTree, entity as entity_tree};
+ghost use Rattle.express_schemas.specs.Views.{
+  attribute_of,
+  data_type_of,
+  explicit_of,
+  entity_of,
+};
+ghost use Rattle.type_graphs.specs.Parts.{
+  for_each,
+  parts_of_explicit,
+  parts_of_redeclared,
+  parts_of_data_type,
+  attribute_label,
+  HasOtherShape,
+};
+ghost use Rattle.schema_names.specs.Numbers.{IsAt};
+ghost use Rattle.unchecked_parts.specs.Adding.{Adds, unchecked_in};
+ghost use Rattle.unchecked_list.specs.Findings.{AreFound, schema_found};
+ghost use Rattle.unchecked_list.specs.Places.{IsDataTypeAt, AreDataTypesAt};
+
+use crate::findings::Findings;
+use alike_types::laws::data_types_are_known;
+use declared_attributes::redeclaring::{has_first_shape, redeclared_entity};
+use express_schemas::tree::{Attribute, DataType, Entity, Explicit};
+use std::alloc::{AllocError, Global};
+use step_literals::literal::Word;
+use type_graphs::unchecked::{PartKind, Reason};
+use unchecked_parts::limits::add_data_type;
+use unchecked_parts::list::{Label, Unchecked, add_part, attribute_label};
+
+/// Whether an attribute redeclares one with another shape, by the number of its data type.
+fn has_other_shape(findings: Findings<'_, '_, '_>, attribute: Attribute<'_>, data_type: u32) -> bool
+    requires found { AreFound findings }
+    ensures { (k : DataTypeTree) → IsDataTypeAt (schema_found findings.entry) data_type k
+        → IsTrue result
+        ↔ HasOtherShape (schema_found findings.entry) (attribute_of attribute.entry) k }
+{
+    let tables = findings.known.tables;
+    match redeclared_entity(tables.names, findings.lines, attribute) {
+        Some(entity) => !has_first_shape(
+            tables.names,
+            tables.data_types,
+            findings.shapes,
+            entity,
+            attribute.name(),
+            data_type,
+        ),
+        None => false,
+    }
+}
+
+/// Adds an attribute that redeclares one with another shape (ISO 10303-11, 9.2.3.4).
+fn add_redeclared(
+    alloc: Global,
+    list: &mut Vec<Unchecked>,
+    findings: Findings<'_, '_, '_>,
+    holder: Word<'_>,
+    attribute: Attribute<'_>,
+    data_type: u32,
+) -> Result<(), AllocError>
+    requires found { AreFound findings }
+    ensures { (k : DataTypeTree) → IsDataTypeAt (schema_found findings.entry) data_type k
+        → OnOk result (Adds (parts_of_redeclared (schema_found findings.entry)
+        (capitals holder.entry) k (attribute_of attribute.entry))
+        (unchecked_in list.old.items) (unchecked_in list.new.items)) }
+{
+    match attribute {
+        Attribute::Unqualified(_) => Ok(()),
+        Attribute::Redeclared(_, name) => {
+            if !has_other_shape(findings, attribute, data_type) {
+                return Ok(());
+            }
+            let label = Label::Dotted(holder, name);
+            add_part(alloc, list, PartKind::Redeclared, label, Reason::Profile)
+        }
+    }
+}
+
+/// Adds those of the attributes of one declaration, each with the bounds of its data type.
+fn add_explicit(
+    alloc: Global,
+    list: &mut Vec<Unchecked>,
+    findings: Findings<'_, '_, '_>,
+    holder: Word<'_>,
+    explicit: &Explicit<'_>,
+    data_type: u32,
+) -> Result<(), AllocError>
+    requires found { AreFound findings }
+    requires data_type { IsDataTypeAt (schema_found findings) data_type
+        (explicit_of explicit.now).data_type }
+    ensures { OnOk result (Adds (parts_of_explicit (schema_found findings.entry)
+        (capitals holder.entry) (explicit_of explicit.now))
+        (unchecked_in list.old.items) (unchecked_in list.new.items)) }
+{
+    for attribute in &explicit.attributes {
+        add_redeclared(alloc, list, findings, holder, *attribute, data_type)?;
+        let label = attribute_label(holder, attribute);
+        add_data_type(alloc, list, label, &explicit.data_type)?;
+    }
+    Ok(())
+}
+
+/// Adds those of some declarations of explicit attributes, whose data types have these numbers.
+fn add_explicits(
+    alloc: Global,
+    list: &mut Vec<Unchecked>,
+    findings: Findings<'_, '_, '_>,
+    holder: Word<'_>,
+    explicits: &[Explicit<'_>],
+    row: &[u32],
+) -> Result<(), AllocError>
+    requires found { AreFound findings }
+    requires row { AreDataTypesAt (schema_found findings) row.now
+        (map explicit_of explicits.now) }
+    ensures { OnOk result (Adds (for_each (parts_of_explicit (schema_found findings.entry)
+        (capitals holder.entry)) (map explicit_of explicits.now))
+        (unchecked_in list.old.items) (unchecked_in list.new.items)) }
+{
+    for i in 0..explicits.len() {
+        add_explicit(alloc, list, findings, holder, &explicits[i], row[i])?;
+    }
+    Ok(())
+}
+
+/// Adds those of the explicit attributes of the entity of this number, in the order of the text
+/// (ISO 10303-11, 9.2.1.1).
+pub(crate) fn add_explicit_attributes(
+    alloc: Global,
+    list: &mut Vec<Unchecked>,
+    findings: Findings<'_, '_, '_>,
+    number: u32,
+    entity: &Entity<'_>,
+) -> Result<(), AllocError>
+    requires found { AreFound findings }
+    requires at { IsAt (schema_found findings) number (entity_tree (entity_of entity.now)) }
+    ensures { OnOk result (Adds (for_each (parts_of_explicit (schema_found findings.entry)
+        (entity_of entity.now).name) (entity_of entity.now).explicits)
+        (unchecked_in list.old.items) (unchecked_in list.new.items)) }
+{
+    data_types_are_known();
+    let row = &findings.known.tables.data_types.rows[number as usize];
+    add_explicits(alloc, list, findings, entity.name, &entity.explicits, row)
+}

@@ -1,0 +1,21 @@
+//! What the list is made by.
+
+use body_reasons::judgement::Judgement;
+use enumeration_items::items::Items;
+use taken_attributes::known::Known;
+use type_shapes::shapes::Shape;
+
+/// What is found of a schema whose names are resolved.
+#[derive(Clone, Copy)]
+pub struct Findings<'r, 't, 'a> {
+    pub known: Known<'r, 't, 'a>,
+    pub items: &'r Items<'a>,
+    /// By declaration, the line of each entity.
+    pub lines: &'r [Vec<u32>],
+    /// The shapes of data types, by number.
+    pub shapes: &'r [Shape],
+    /// What derived attributes say by themselves, by number.
+    pub judged: &'r [Judgement],
+    /// The ranks of derived attributes, by number.
+    pub ranks: &'r [Option<u32>],
+}

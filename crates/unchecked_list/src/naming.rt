@@ -1,0 +1,206 @@
+//! The attributes that a uniqueness rule names (ISO 10303-11, 9.2.2.1).
+
+ghost use Rattle.std.specs.Prelude.{◌≡◌, ◌∷◌, ◌++◌, [], Some, IfOk, OnOk, map};
+ghost use Rattle.std.specs.List.{list_any, filter};
+ghost use Rattle.digraph.specs.Graphs.{graph_of};
+ghost use Rattle.express_trees.specs.Views.{capitals};
+ghost use Rattle.express_schemas.specs.Schemas.{redeclared};
+ghost use Rattle.express_schemas.specs.Clauses.{name_of};
+ghost use Rattle.express_schemas.specs.Views.{attribute_of};
+ghost use Rattle.express_schemas.specs.SchemaViews.{schema_of};
+ghost use Rattle.type_graphs.specs.Names.{Name, IsEntity};
+ghost use Rattle.type_graphs.specs.Parts.{NamesAttribute};
+ghost use Rattle.schema_names.specs.Numbers.{HasNumber};
+ghost use Rattle.schema_demands.specs.declared.attributes.Meant.TheVariants.{Explicit};
+ghost use Rattle.schema_demands.specs.Kinds.{is_or_leads};
+ghost use Rattle.schema_demands.specs.Owned.{declares_at};
+ghost use Rattle.unchecked_list.specs.Findings.{AreFound, schema_found};
+ghost use Rattle.unchecked_list.specs.Named.{
+  AreNumbersOf,
+  AreHolders,
+  is_one,
+  is_other_at,
+};
+ghost use Rattle.unchecked_list.specs.Naming.{IsNaming};
+
+use crate::findings::Findings;
+use declared_attributes::declaration::AttributeDeclaration;
+use express_schemas::tree::Attribute;
+use schema_demands::attributes::{Meant, declares_at};
+use schema_names::names::Names;
+use std::alloc::{AllocError, Global};
+use step_literals::literal::Word;
+
+/// What is found of the attributes in a uniqueness rule.
+#[derive(Clone, Copy)]
+pub(crate) struct Naming {
+    /// Whether one of them is derived or inverse.
+    pub is_other: bool,
+    /// Whether one of them names no attribute, or several.
+    pub is_not_one: bool,
+}
+
+/// Whether two numbers are one, or a row leads from the one to the other.
+fn is_or_leads(above: &[Vec<u32>], lower: u32, upper: u32) -> bool
+    ensures { result ≡ is_or_leads (graph_of above.now) (Some lower) upper }
+{
+    if lower == upper {
+        return true;
+    }
+    match above.get(lower as usize) {
+        Some(uppers) => uppers.contains(&upper),
+        None => false,
+    }
+}
+
+/// Adds the number of an entity, where another one is a kind of it.
+fn add_above(
+    row: &mut Vec<u32>,
+    above: &[Vec<u32>],
+    lower: u32,
+    upper: u32,
+) -> Result<(), AllocError>
+    ensures { OnOk result (row.new.items ≡ row.old.items
+        ++ filter (is_or_leads (graph_of above.now) (Some lower)) (upper ∷ [])) }
+{
+    if !is_or_leads(above, lower, upper) {
+        return Ok(());
+    }
+    row.push(upper)?;
+    Ok(())
+}
+
+/// The numbers of the entities that declare these attributes, of those that an entity is a kind of.
+fn entities_above(
+    alloc: Global,
+    above: &[Vec<u32>],
+    lower: u32,
+    declarations: &[AttributeDeclaration],
+) -> Result<Vec<u32>, AllocError>
+    ensures { IfOk result (λ t. t.items ≡ filter (is_or_leads (graph_of above.now) (Some lower))
+        (map (λ x. x.entity) declarations.now)) }
+{
+    let mut row = Vec::new(alloc);
+    for declaration in declarations {
+        add_above(&mut row, above, lower, declaration.entity)?;
+    }
+    Ok(row)
+}
+
+/// The numbers of the entities that declare what an entity has under a name
+/// (ISO 10303-11, 9.2.3.3).
+fn holders(
+    alloc: Global,
+    findings: Findings<'_, '_, '_>,
+    entity: u32,
+    name: Word<'_>,
+) -> Result<Vec<u32>, AllocError>
+    requires found { AreFound findings }
+    ensures { (e : Name) → HasNumber (schema_found findings.entry) e entity
+        → IfOk result (λ t. AreHolders (schema_found findings.entry) e (capitals name.entry)
+        t.items) }
+{
+    let known = findings.known;
+    entities_above(alloc, known.above, entity, known.attributes.find(name))
+}
+
+/// A list of one number.
+fn single(alloc: Global, number: u32) -> Result<Vec<u32>, AllocError>
+    ensures { IfOk result (λ t. t.items ≡ number ∷ []) }
+{
+    let mut row = Vec::new(alloc);
+    row.push(number)?;
+    Ok(row)
+}
+
+/// Whether some numbers are all one, and there is one.
+fn is_one(row: &[u32]) -> bool
+    ensures { result ≡ is_one row.now }
+{
+    match row.first() {
+        Some(first) => row.iter().all(|number| *number == *first),
+        None => false,
+    }
+}
+
+/// The number of the entity that declares what `SELF\group.name` takes: the group's own, else the
+/// only one that it inherits. None where the entity is no kind of the group
+/// (ISO 10303-11, 12.7.4).
+fn taken_of_group(
+    alloc: Global,
+    findings: Findings<'_, '_, '_>,
+    entity: u32,
+    group: u32,
+    name: Word<'_>,
+) -> Result<Vec<u32>, AllocError>
+    requires found { AreFound findings }
+    ensures { (e q : Name) → HasNumber (schema_found findings.entry) e entity
+        → HasNumber (schema_found findings.entry) q group
+        → IsEntity (schema_found findings.entry) e
+        → IfOk result (λ t. AreNumbersOf (schema_found findings.entry)
+        (λ p. NamesAttribute (schema_found findings.entry) e (redeclared q (capitals name.entry)) p
+        (capitals name.entry)) t.items) }
+{
+    if !is_or_leads(findings.known.above, entity, group) {
+        return Ok(Vec::new(alloc));
+    }
+    let row = holders(alloc, findings, group, name)?;
+    if row.contains(&group) {
+        return single(alloc, group);
+    }
+    if is_one(&row) {
+        return Ok(row);
+    }
+    Ok(Vec::new(alloc))
+}
+
+/// The numbers of the entities that declare what an attribute in a rule of an entity names.
+fn named(
+    alloc: Global,
+    findings: Findings<'_, '_, '_>,
+    entity: u32,
+    attribute: Attribute<'_>,
+) -> Result<Vec<u32>, AllocError>
+    requires found { AreFound findings }
+    ensures { (e : Name) → HasNumber (schema_found findings.entry) e entity
+        → IsEntity (schema_found findings.entry) e
+        → IfOk result (λ t. AreNumbersOf (schema_found findings.entry)
+        (λ p. NamesAttribute (schema_found findings.entry) e (attribute_of attribute.entry) p
+        (capitals (name_of attribute.entry))) t.items) }
+{
+    match attribute {
+        Attribute::Unqualified(name) => holders(alloc, findings, entity, name),
+        Attribute::Redeclared(group, name) => match findings.known.tables.names.find(group) {
+            Some(group) => taken_of_group(alloc, findings, entity, group, name),
+            None => Ok(Vec::new(alloc)),
+        },
+    }
+}
+
+/// Whether one of some entities doesn't declare an explicit attribute of this name.
+fn any_other(names: &Names<'_, '_>, row: &[u32], name: Word<'_>) -> bool
+    ensures { result ≡ list_any
+        (is_other_at (schema_of names.now.schema.now) (capitals name.entry)) row.now }
+{
+    row.iter().any(|number| !declares_at(names, *number, Meant::Explicit, name))
+}
+
+/// What is found of an attribute in a rule of an entity.
+pub(crate) fn naming_of(
+    alloc: Global,
+    findings: Findings<'_, '_, '_>,
+    entity: u32,
+    attribute: Attribute<'_>,
+) -> Result<Naming, AllocError>
+    requires found { AreFound findings }
+    ensures { (e : Name) → HasNumber (schema_found findings.entry) e entity
+        → IsEntity (schema_found findings.entry) e
+        → IfOk result (IsNaming (schema_found findings.entry) e
+        (attribute_of attribute.entry ∷ [])) }
+{
+    let row = named(alloc, findings, entity, attribute)?;
+    Ok(Naming {
+        is_other: any_other(findings.known.tables.names, &row, attribute.name()),
+        is_not_one: !is_one(&row),
+    })
+}

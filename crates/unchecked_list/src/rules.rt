@@ -1,0 +1,170 @@
+//! Domain rules (ISO 10303-11, 9.1 and 9.2.2.2).
+
+ghost use Rattle.std.specs.Prelude.{◌≡◌, ◌∷◌, [], IfOk, OnOk, map, IsTrue, ◌↔◌, true};
+ghost use Rattle.express_trees.specs.Views.{capitals};
+ghost use Rattle.express_schemas.specs.Schemas.{named};
+ghost use Rattle.express_schemas.specs.Views.{body_of, rule_of, entity_of, type_of};
+ghost use Rattle.type_graphs.specs.Names.{listed};
+ghost use Rattle.type_graphs.specs.Parts.{parts_of_rules, TypeRuleHasReason};
+ghost use Rattle.type_graphs.specs.Ranks.{Self, HasReason};
+ghost use Rattle.type_graphs.specs.Shapes.{IsOf, IsOverSelect};
+ghost use Rattle.schema_names.specs.Numbers.{HasNumber};
+ghost use Rattle.data_types.specs.Values.{Holds};
+ghost use Rattle.taken_attributes.specs.Taking.{IsSet};
+ghost use Rattle.body_reasons.specs.Judging.{IsFirstReason};
+ghost use Rattle.unchecked_parts.specs.Adding.{Adds, unchecked_in};
+ghost use Rattle.unchecked_list.specs.Findings.{AreFound, schema_found};
+ghost use Rattle.unchecked_list.specs.Rules.{has_reason};
+
+use crate::findings::Findings;
+use crate::listing::{Holder, add_for, rule_label};
+use body_reasons::reasons::reason_for;
+use data_types::values::{Atom, add_named, is_over_select};
+use express_schemas::tree::{Body, Rule};
+use std::alloc::{AllocError, Global};
+use std::slice;
+use step_literals::literal::Word;
+use type_graphs::unchecked::{PartKind, Reason};
+use unchecked_parts::list::Unchecked;
+
+/// What SELF may be in a rule.
+#[derive(Clone, Copy)]
+pub(crate) struct Own<'r> {
+    pub atoms: &'r [Atom],
+    /// Whether it may be of a SELECT.
+    pub is_over_select: bool,
+}
+
+/// The reason that is given for a rule, if there is one.
+fn reason_of_rule<'r, 'a>(
+    alloc: Global,
+    findings: Findings<'r, '_, 'a>,
+    own: Own<'r>,
+    body: &Body<'a>,
+) -> Result<Option<Reason>, AllocError>
+    requires found { AreFound findings }
+    ensures { IfOk result (IsFirstReason
+        (has_reason (schema_found findings.entry) own.entry (body_of body.now))) }
+{
+    if own.is_over_select {
+        return Ok(Some(Reason::Profile));
+    }
+    reason_for(
+        alloc,
+        findings.known,
+        findings.items,
+        findings.ranks,
+        own.atoms,
+        body,
+    )
+}
+
+/// Adds a rule where there is a reason, by its number in its clause where it has no label.
+fn add_rule<'r, 'a>(
+    alloc: Global,
+    list: &mut Vec<Unchecked>,
+    findings: Findings<'r, '_, 'a>,
+    own: Own<'r>,
+    holder: Word<'_>,
+    number: u64,
+    rule: &Rule<'a>,
+) -> Result<(), AllocError>
+    requires found { AreFound findings }
+    ensures { OnOk result (Adds (parts_of_rules (capitals holder.entry)
+        (has_reason (schema_found findings.entry) own.entry) number (rule_of rule.now ∷ []))
+        (unchecked_in list.old.items) (unchecked_in list.new.items)) }
+{
+    let reason = reason_of_rule(alloc, findings, own, &rule.body)?;
+    let label = rule_label(holder, rule.label, number);
+    add_for(alloc, list, PartKind::Where, label, reason)
+}
+
+/// Adds those of some rules for which there is a reason.
+fn add_rules<'r, 'a>(
+    alloc: Global,
+    list: &mut Vec<Unchecked>,
+    findings: Findings<'r, '_, 'a>,
+    own: Own<'r>,
+    holder: Word<'_>,
+    rules: &[Rule<'a>],
+) -> Result<(), AllocError>
+    requires found { AreFound findings }
+    ensures { OnOk result (Adds (parts_of_rules (capitals holder.entry)
+        (has_reason (schema_found findings.entry) own.entry) 1 (map rule_of rules.now))
+        (unchecked_in list.old.items) (unchecked_in list.new.items)) }
+{
+    for i in 0..rules.len() {
+        add_rule(alloc, list, findings, own, holder, i as u64 + 1, &rules[i])?;
+    }
+    Ok(())
+}
+
+/// Adds those of the rules of an entity, whose SELF is an instance of it (ISO 10303-11, 9.2.2.2).
+pub(crate) fn add_entity_rules<'a>(
+    alloc: Global,
+    list: &mut Vec<Unchecked>,
+    findings: Findings<'_, '_, 'a>,
+    holder: Holder<'_>,
+    rules: &[Rule<'a>],
+) -> Result<(), AllocError>
+    requires found { AreFound findings }
+    requires number { HasNumber (schema_found findings) (capitals holder.name) holder.number }
+    ensures { OnOk result (Adds (parts_of_rules (capitals holder.entry.name)
+        (HasReason (schema_found findings.entry) (Self (capitals holder.entry.name))) 1
+        (map rule_of rules.now)) (unchecked_in list.old.items) (unchecked_in list.new.items)) }
+{
+    let atom = Atom::Instance(holder.number);
+    let own = Own {
+        atoms: slice::from_ref(&atom),
+        is_over_select: false,
+    };
+    add_rules(alloc, list, findings, own, holder.name, rules)
+}
+
+/// What the values of a defined type may be.
+fn values_of_type(
+    alloc: Global,
+    findings: Findings<'_, '_, '_>,
+    holder: Holder<'_>,
+) -> Result<Vec<Atom>, AllocError>
+    requires found { AreFound findings }
+    requires number { HasNumber (schema_found findings) (capitals holder.name) holder.number }
+    ensures { IfOk result (λ t. IsSet (schema_found findings.entry)
+        (IsOf (schema_found findings.entry) (named (capitals holder.entry.name))) t.items) }
+{
+    let mut atoms = Vec::new(alloc);
+    add_named(findings.known.tables, holder.number, &mut atoms)?;
+    Ok(atoms)
+}
+
+/// Whether a defined type is a SELECT, or stands for one under whatever names.
+fn is_type_over_select(findings: Findings<'_, '_, '_>, holder: Holder<'_>) -> bool
+    requires found { AreFound findings }
+    requires number { HasNumber (schema_found findings) (capitals holder.name) holder.number }
+    ensures { IsTrue result ↔ IsOverSelect (schema_found findings.entry)
+        (named (capitals holder.entry.name)) }
+{
+    is_over_select(findings.known.tables, holder.number)
+}
+
+/// Adds those of the rules of a defined type, whose SELF is a value of it (ISO 10303-11, 9.1).
+pub(crate) fn add_type_rules<'a>(
+    alloc: Global,
+    list: &mut Vec<Unchecked>,
+    findings: Findings<'_, '_, 'a>,
+    holder: Holder<'_>,
+    rules: &[Rule<'a>],
+) -> Result<(), AllocError>
+    requires found { AreFound findings }
+    requires number { HasNumber (schema_found findings) (capitals holder.name) holder.number }
+    ensures { OnOk result (Adds (parts_of_rules (capitals holder.entry.name)
+        (TypeRuleHasReason (schema_found findings.entry) (named (capitals holder.entry.name))) 1
+        (map rule_of rules.now)) (unchecked_in list.old.items) (unchecked_in list.new.items)) }
+{
+    let atoms = values_of_type(alloc, findings, holder)?;
+    let own = Own {
+        atoms: &atoms,
+        is_over_select: is_type_over_select(findings, holder),
+    };
+    add_rules(alloc, list, findings, own, holder.name, rules)
+}
