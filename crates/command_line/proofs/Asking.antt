@@ -1,20 +1,14 @@
 -- What clap makes of the words.
-use Rattle.std.proofs.Common.{◌≡◌, ◌⊎◌, ◌==◌, ◌||◌, ℕ, List, [], ◌∷◌, ◌++◌, Option, Some, None, Bool, true, false, refl, sym, ap, ap₂, ◌∙◌, inl, inr, codes, arith, rules, option_map, true≢false, append-nil, append_assoc, subst}
-use Rattle.std.specs.List.{fold}
-use Rattle.std.specs.Str.{bytes_eq, chars}
-use Rattle.clap.specs.Kinds.{HasKind, Kinds, or_else}
-use Rattle.clap.specs.Walk.{after_step, Step, value, subcommand_met, idle, word_met, arg_by_short, reacted, finished, settled, Held, Names, Rule, Row, Text, Walk, arg_by_long, first_of, nothing_held, takes_values, walk, walk_from, walked}
-use Rattle.clap.specs.Simple.{HasMatchesOf, subcommand_rows, subcommand_rows_of, entered, help_rule, version_rule, filled, with_index, App, Shape, built, built_leaf, inherited, names_of, subcommand_of, is_simple}
+use Rattle.std.proofs.Common.{◌≡◌, ◌⊎◌, List, [], ◌∷◌, Option, Some, None, Bool, true, false, refl, sym, ap, ap₂, ◌∙◌, inl, inr, codes, option_map, true≢false, subst}
+use Rattle.std.specs.Str.{bytes_eq}
+use Rattle.clap.specs.Kinds.{HasKind, Kinds}
+use Rattle.clap.specs.Walk.{after_step, Step, subcommand_met, idle, settled, Held, Row, Text, Walk, first_of, nothing_held, walk, walk_from, walked}
+use Rattle.clap.specs.Simple.{HasMatchesOf, subcommand_rows, subcommand_rows_of, entered, App, built, subcommand_of, is_simple}
 use Rattle.std.specs.Str.{IsUtf8}
-use Rattle.std.proofs.lemmas.Str.{encodes-IsAscii, IsUtf8-string_bytes, encodes-chars}
-use Rattle.std.proofs.Math.Utf8.{encodes}
+use Rattle.std.proofs.lemmas.Str.{IsUtf8-string_bytes}
 use Rattle.std.proofs.lemmas.Slice.Eq.{bytes_eq-Decides}
-use Rattle.std.proofs.lemmas.Bool.{ne_eqb}
-use Rattle.std.proofs.lemmas.Bool.Decides.{eqb_tells}
-use Rattle.std.specs.Prelude.{Box, String, map, string_bytes, option_and_then, unwrap_or, length, drop, encode_utf8, slice_get, suc, if◌then◌else◌, is_some}
-use Rattle.clap.specs.Lexer.{name_and_value, long_of, short_of}
-use Rattle.clap.specs.Faults.{bundle_fault, step_fault, word_fault, bundle_step_fault, flags_fault, react_fault, short_fault, use_fault, check_fault, defaults_fault, entered_fault, settle_fault, fault_of, is_simple_and_free, level_fault, long_fault, walk_fault, turn_fault}
-use Rattle.clap.specs.declared.error.kind.ErrorKind.{ErrorKind}
+use Rattle.std.specs.Prelude.{Box, String, map, string_bytes, option_and_then, unwrap_or, is_some}
+use Rattle.clap.specs.Faults.{fault_of, is_simple_and_free, walk_fault, turn_fault}
 use Rattle.clap.specs.declared.error.kind.ErrorKind.TheVariants as kind
 use Rattle.clap.specs.declared.error.Error.{Error}
 use Rattle.clap.specs.declared.parser.matches.ArgMatches.{ArgMatches}
@@ -23,298 +17,14 @@ use Rattle.clap.specs.declared.parser.matches.ArgMatches.TheViews.{out-SubComman
 use Rattle.clap.specs.Values.{kind_of}
 use Rattle.std.specs.Box.{box_value}
 use Rattle.clap.proofs.OnLiterals.{clap_on_literals}
-use Rattle.command_line.specs.Clap.{file_in, plain_app, stepmin_app}
+use Rattle.command_line.specs.Clap.{file_in, files_in, name_in, stepmin_app}
 use Rattle.command_line.specs.Requests.{CallFor, CallsFor, is_shown}
 use Rattle.command_line.specs.declared.usage.Refusal.{Refusal}
 use Rattle.command_line.specs.declared.usage.Refusal.TheVariants.{Shown, Usage, Memory}
-use Rattle.command_line.specs.Commands.{AsksPlain, AreOperand, IsOperand, dashes}
-
-abbrev top : Shape
-top = (built stepmin_app).top
-
-abbrev names : Names
-names = names_of (built stepmin_app)
-
-abbrev sub : Shape
-sub = built_leaf (inherited stepmin_app.top plain_app.top)
-
-pub simple_and_free : is_simple_and_free stepmin_app ≡ true
-simple_and_free = refl
-
-simple_stepmin : is_simple stepmin_app ≡ true
-simple_stepmin = refl
-
--- ---- kinds
-
-some_kind : (k : ErrorKind) (ks : Kinds) → (k ∷ ks) ≡ [] → ⊥
-some_kind k ks e =
-    let is_empty : Kinds → Bool = λ xs. elim xs [ [] ↦ true | k ∷ ks ↦ false ] in
-    true≢false (sym (ap is_empty e))
-
-none_first : (a b : Kinds) → or_else a b ≡ [] → a ≡ []
-none_first [] b e = refl
-none_first (k ∷ ks) b e = absurd (some_kind k ks e)
-
-none_second : (a b : Kinds) → or_else a b ≡ [] → b ≡ []
-none_second [] b e = e
-none_second (k ∷ ks) b e = absurd (some_kind k ks e)
-
--- ---- the words behind a subcommand
-
-abbrev stopped : List Text → Walk
-stopped earlier = record (walk_from nothing_held) { stopped = Some (codes "plain", earlier) }
-
-walk_stopped : (s : Shape) (ns : Names) (earlier rest : List Text) → walk_fault s ns (stopped earlier) rest ≡ []
-unfolding walk_fault walked
-walk_stopped s ns earlier [] = refl
-walk_stopped s ns earlier (w ∷ ws) = walk_stopped s ns (earlier ++ w ∷ []) ws
-
-fold_stopped : (c : List Rule) (ns : Names) (earlier rest : List Text) → fold (walked c ns) (stopped earlier)
-    rest ≡ stopped (earlier ++ rest)
-unfolding walked
-fold_stopped c ns earlier [] = ap stopped (sym (append-nil earlier))
-fold_stopped c ns earlier (w ∷ ws) = fold_stopped c ns (earlier ++ w ∷ []) ws
-    ∙ ap stopped (append_assoc earlier (w ∷ []) ws)
-
-walk_plain : (operands : List Text) → walk top.rules names nothing_held (codes "plain" ∷ operands) ≡ stopped operands
-unfolding clap_on_literals
-walk_plain operands = fold_stopped top.rules names [] operands
-
-abbrev below : List Text → Kinds
-below operands = level_fault sub [] nothing_held operands false []
-
--- what is left to fail behind a walk over the words
-abbrev after : Walk → Kinds → Kinds
-after w faults =
-    let a = built stepmin_app in
-    or_else faults
-    (or_else (entered_fault a w.stopped) (or_else (settle_fault top.rules top.args_override_self w.held)
-    (or_else (defaults_fault (settled top.rules w.held).rows top.rules)
-    (check_fault top (finished top.rules w.held) (is_some (entered a w.stopped))))))
-
-fault_after : (program : Text) (words : List Text) → fault_of stepmin_app (program ∷ words) ≡ after
-    (walk top.rules names nothing_held words) (walk_fault top names (walk_from nothing_held) words)
-fault_after program words = refl
-
-walk_plain_fault : (operands : List Text) → walk_fault top names (walk_from nothing_held)
-    (codes "plain" ∷ operands) ≡ []
-unfolding clap_on_literals
-walk_plain_fault operands = walk_stopped top names [] operands
-
-only_first : (a : Kinds) → or_else a [] ≡ a
-only_first [] = refl
-only_first (k ∷ ks) = refl
-
-after_plain : (operands : List Text) → after (stopped operands) [] ≡ or_else (below operands) []
-unfolding clap_on_literals
-after_plain operands = refl
-
-plain_below : (program : Text) (operands : List Text) → fault_of stepmin_app (program ∷ codes "plain"
-    ∷ operands) ≡ below operands
-plain_below program operands =
-    fault_after program (codes "plain" ∷ operands) ∙ ap₂ after (walk_plain operands) (walk_plain_fault operands)
-    ∙ after_plain operands ∙ only_first (below operands)
-
--- ---- the words that are read
-
--- how a word begins
-abbrev Begins : Text → Type 0
-Begins word = IsOperand word ⊎ ((word ≡ dashes) ⊎ (((z : ℕ) × (zs : List ℕ) × (word ≡ 45 ∷ 45 ∷ z ∷ zs))
-    ⊎ ((y : ℕ) × (ys : List ℕ) × ((y == 45) ≡ false) × (word ≡ 45 ∷ y ∷ ys))))
-
-begins_hyphen : (y : ℕ) (ys : List ℕ) → Begins (45 ∷ y ∷ ys)
-begins_hyphen y ys = elim (eqb_tells y 45) [
-  | inl e ↦ second y ys e.1
-  | inr e ↦ inr (inr (inr (y, ys, e.0, refl)))
-]
-  where
-    second : (y : ℕ) (ys : List ℕ) → y ≡ 45 → Begins (45 ∷ y ∷ ys)
-    second y [] e = inr (inl (ap (λ n. 45 ∷ n ∷ []) e))
-    second y (z ∷ zs) e = inr (inr (inl (z, zs, ap (λ n. 45 ∷ n ∷ z ∷ zs) e)))
-
-begins : (word : Text) → Begins word
-begins [] = inl tt
-begins (x ∷ []) = inl tt
-begins (x ∷ y ∷ ys) = elim (eqb_tells x 45) [
-  | inl e ↦ subst (λ n. Begins (n ∷ y ∷ ys)) (sym e.1) (begins_hyphen y ys)
-  | inr e ↦ inl e.1
-]
-
-no_option : (word : Text) → IsOperand word → (long_of word ≡ None) × (short_of word ≡ None)
-    × (bytes_eq word dashes ≡ false)
-no_option [] is = (refl, refl, refl)
-no_option (x ∷ []) is = elim (eqb_tells x 45) [
-  | inl e ↦ rw e.0 (refl, refl, refl)
-  | inr e ↦ rw e.0 (refl, refl, refl)
-]
-no_option (x ∷ y ∷ ys) is = rw (ne_eqb x 45 is) (refl, refl, refl)
-
--- ---- the flags, which ask for a text
-
--- the flag ends the reading of the words
-record Asks (flag : Rule) : Type 0 where
-  pub alone : takes_values flag ≡ false
-  pub used : (again : Bool) (rows : List Row) → use_fault again flag [] rows ≡ [] → ⊥
-
--- if a flag was found, it is one of these
-abbrev AsksIf : Option Rule → Type 0
-AsksIf None = Unit {0}
-AsksIf (Some flag) = Asks flag
-
--- each flag asks for a text
-record AsksOnly (c : List Rule) : Type 0 where
-  pub long : (name : Text) → AsksIf (arg_by_long c name)
-  pub short : (x : ℕ) → AsksIf (arg_by_short c x)
-
-help_asks : Asks (with_index 1 (filled help_rule))
-help_asks = record { alone = refl; used = λ again rows e. some_kind _ _ e }
-
-version_asks : Asks (with_index 1 (filled version_rule))
-version_asks = record { alone = refl; used = λ again rows e. some_kind _ _ e }
-
-top_asks : AsksOnly top.rules
-top_asks = record {
-  long = λ name. either (bytes_eq (codes "help") name) (bytes_eq (codes "version") name);
-  short = λ x. either (104 == x) (86 == x);
-}
-  where
-    either : (h v : Bool) → AsksIf (if h || false then Some (with_index 1 (filled help_rule))
-        else (if v || false then Some (with_index 1 (filled version_rule)) else None))
-    either true v = help_asks
-    either false true = version_asks
-    either false false = tt
-
-sub_asks : AsksOnly sub.rules
-sub_asks = record {
-  long = λ name. help_alone (bytes_eq (codes "help") name);
-  short = λ x. help_alone (104 == x);
-}
-  where
-    help_alone : (h : Bool) → AsksIf (if h || false then Some (with_index 1 (filled help_rule)) else None)
-    help_alone true = help_asks
-    help_alone false = tt
-
-asks_refused : (c : List Rule) (again : Bool) (flag : Rule) (h : Held) → Asks flag
-    → react_fault c again flag [] h ≡ [] → ⊥
-asks_refused c again flag h asks e = asks.used again (settled c h).rows (none_second (settle_fault c again h)
-    (use_fault again flag [] (settled c h).rows) e)
-
-long_refused : (c : List Rule) (again : Bool) (found : Option Rule) (v : Option Text) (h : Held) → AsksIf found
-    → long_fault c again found v h ≡ [] → ⊥
-long_refused c again None v h asks e = some_kind _ _ e
-long_refused c again (Some flag) (Some x) h asks e = some_kind _ _ (rw asks.alone at e)
-long_refused c again (Some flag) None h asks e = asks_refused c again flag h asks (rw asks.alone at e)
-
-short_refused : (c : List Rule) (again : Bool) (found : Option Rule) (rest : Text) (h : Held) (next : Held → Kinds)
-    → AsksIf found → short_fault c again found rest h next ≡ [] → ⊥
-short_refused c again None rest h next asks e = some_kind _ _ e
-short_refused c again (Some flag) rest h next asks e = asks_refused c again flag h asks
-    (none_first (react_fault c again flag [] h) (next (reacted c flag [] h)) (rw asks.alone at e))
-
--- one hyphen begins no option only where no character follows it
-flags_refused : (c : List Rule) (again : Bool) (k : ℕ) (flags : Text) (h : Held) → AsksOnly c
-    → flags_fault c again (suc k) flags 0 h ≡ [] → slice_get (chars flags) 0 ≡ None
-unfolding flags_fault
-flags_refused c again k flags h only e = go (slice_get (chars flags) 0) e
-  where
-    go : (o : Option ℕ) → bundle_step_fault c again o flags 0 h (flags_fault c again k) ≡ [] → o ≡ None
-    go None e = refl
-    go (Some x) e = absurd (short_refused c again (arg_by_short c x) (drop (length (encode_utf8 x)) flags) h
-        (flags_fault c again k (drop (length (encode_utf8 x)) flags) 0) (only.short x) e)
-
--- ---- a word that is no option
-
-abbrev waits : List Row → Option (Text × List Text) → Held
-waits rows pending = record { rows = rows; pending = pending; skip = 0 }
-
-abbrev at : Held → ℕ → Walk
-at h p = record (walk_from h) { position = p }
-
--- what a level makes of a word that goes to a positional
-record IsValue (s : Shape) (ns : Names) (h : Held) (p : ℕ) (w : Text) : Type 0 where
-  pub operand : IsOperand w
-  pub met : word_met s.rules ns false idle p w h ≡ (h, value)
-  pub fits : step_fault s p h value ≡ []
-
--- one hyphen and more, as clap sees it
-record LooksShort (w flags : Text) : Type 0 where
-  pub long : long_of w ≡ None
-  pub short : short_of w ≡ Some flags
-  pub dash : bytes_eq w dashes ≡ false
-
-looks_short : (y : ℕ) (ys : List ℕ) → (y == 45) ≡ false → LooksShort (45 ∷ y ∷ ys) (y ∷ ys)
-looks_short y ys e = record { long = rw e refl; short = rw e refl; dash = rw e refl }
-
-no_chars : (xs : List ℕ) → slice_get xs 0 ≡ None → xs ≡ []
-no_chars [] e = refl
-no_chars (x ∷ xs) e = absurd (true≢false (ap is_some e))
-
--- a character follows
-cut_text : (y : ℕ) (ys : List ℕ) → IsUtf8 (45 ∷ y ∷ ys) → slice_get (chars (y ∷ ys)) 0 ≡ None → ⊥
-unfolding chars
-cut_text y ys text e =
-    let all : encodes (45 ∷ chars (y ∷ ys)) ≡ 45 ∷ y ∷ ys = encodes-chars (45 ∷ y ∷ ys) text in
-    let one : encodes (45 ∷ []) ≡ 45 ∷ [] = encodes-IsAscii (45 ∷ []) (search (rules, arith)) in
-    let short : 45 ∷ [] ≡ 45 ∷ y ∷ ys = sym one ∙ subst (λ cs. encodes (45 ∷ cs) ≡ 45 ∷ y ∷ ys)
-    (no_chars (chars (y ∷ ys)) e) all in
-    let lengths : 1 ≡ suc (suc (length ys)) = ap length short in
-    absurd (omega (arith, lengths))
-
-is_value : (s : Shape) (ns : Names) (rows : List Row) (pending : Option (Text × List Text)) (p : ℕ) (w : Text)
-    → AsksOnly s.rules → IsUtf8 w → subcommand_met ns idle w ≡ None
-    → turn_fault s ns (at (waits rows pending) p) w ≡ [] → (w ≡ dashes) ⊎ IsValue s ns (waits rows pending) p w
-is_value s ns rows pending p w only text none e = elim (begins w) [
-  | inl is ↦ inr (operand is)
-  | inr (inl is) ↦ inl is
-  | inr (inr (inl is)) ↦ absurd (long is.0 is.1 is.2)
-  | inr (inr (inr is)) ↦ absurd (short is.0 is.1 (subst IsUtf8 is.3 text) (subst (λ v. LooksShort v (is.0 ∷ is.1))
-      (sym is.3) (looks_short is.0 is.1 is.2)))
-]
-  where
-    word_fits : word_fault s ns false idle w (waits rows pending) ≡ []
-    word_fits = let met = word_met s.rules ns false idle p w (waits rows pending) in
-        none_first (word_fault s ns false idle w (waits rows pending)) (step_fault s p met.0 met.1) e
-
-    value_fits : word_met s.rules ns false idle p w (waits rows pending) ≡ (waits rows pending, value)
-        → step_fault s p (waits rows pending) value ≡ []
-    value_fits m = let met = word_met s.rules ns false idle p w (waits rows pending) in
-        subst (λ (m : Held × Step). step_fault s p m.0 m.1 ≡ []) m
-        (none_second (word_fault s ns false idle w (waits rows pending)) (step_fault s p met.0 met.1) e)
-
-    operand : IsOperand w → IsValue s ns (waits rows pending) p w
-    operand is =
-        let n = no_option w is in
-        let m : word_met s.rules ns false idle p w (waits rows pending) ≡ (waits rows pending, value) =
-        rw (none, n.2, n.0, n.1) refl in
-        record { met = m; fits = value_fits m; operand = is }
-
-    long : (z : ℕ) (zs : List ℕ) → w ≡ 45 ∷ 45 ∷ z ∷ zs → ⊥
-    long z zs is =
-        let q = name_and_value (z ∷ zs) in
-        let l : long_of w ≡ Some q = ap long_of is in
-        let d : bytes_eq w dashes ≡ false = ap (λ v. bytes_eq v dashes) is in
-        long_refused s.rules s.args_override_self (arg_by_long s.rules q.0) q.1 (waits rows pending) (only.long q.0)
-        (rw (none, d, l) at word_fits)
-
-    short : (y : ℕ) (ys : List ℕ) → IsUtf8 (45 ∷ y ∷ ys) → LooksShort w (y ∷ ys) → ⊥
-    short y ys text looks =
-        let l = looks.long in
-        let sh = looks.short in
-        let f : bundle_fault s.rules s.args_override_self (y ∷ ys) (waits rows pending) ≡ [] =
-        rw (none, looks.dash, l, sh) at word_fits in
-        cut_text y ys text (flags_refused s.rules s.args_override_self (length ys) (y ∷ ys) (waits rows pending) only f)
+use Rattle.command_line.specs.Commands.{AreOperand, AreOperands, AsksCheck, AsksNothing, AsksPlain, IsOperand, dashes}
+use Rattle.command_line.proofs.Walking.{IsValue, at, below, below_check, check_asks, check_below, check_sub, fault_after, first_turn, is_value, names, no_option, none_first, plain_below, simple_and_free, simple_stepmin, some_kind, sub, sub_asks, top, top_asks, waits, walk_check, walk_plain}
 
 -- ---- the words that ask for something
-
-first_turn : (s : Shape) (ns : Names) (before : Walk) (w : Text) (rest : List Text)
-    → walk_fault s ns before (w ∷ rest) ≡ []
-    → (turn_fault s ns before w ≡ []) × (walk_fault s ns (walked s.rules ns before w) rest ≡ [])
-unfolding walk_fault
-first_turn s ns before w rest e = (
-  none_first (turn_fault s ns before w) _ e,
-  none_second (turn_fault s ns before w) _
-      e,
-)
 
 not_dashes : (program : Text) (rest : List Text) → fault_of stepmin_app (program ∷ dashes ∷ rest) ≡ [] → ⊥
 unfolding clap_on_literals
@@ -329,9 +39,11 @@ none_at_all : fault_of stepmin_app [] ≡ [] → ⊥
 unfolding clap_on_literals
 none_at_all e = some_kind _ _ e
 
-is_plain : (program w : Text) (rest : List Text) → IsUtf8 w → fault_of stepmin_app (program ∷ w ∷ rest) ≡ []
-    → codes "plain" ≡ w
-is_plain program w rest text e = go (bytes_eq (codes "plain") w) (bytes_eq (codes "help") w) refl refl
+-- the first word is a command
+is_command : (program w : Text) (rest : List Text) → IsUtf8 w → fault_of stepmin_app (program ∷ w ∷ rest) ≡ []
+    → (codes "plain" ≡ w) ⊎ (codes "check" ≡ w)
+is_command program w rest text e =
+    go (bytes_eq (codes "plain") w) (bytes_eq (codes "check") w) (bytes_eq (codes "help") w) refl refl refl
   where
     turn : turn_fault top names (walk_from nothing_held) w ≡ []
     turn = (first_turn top names (walk_from nothing_held) w rest
@@ -344,10 +56,12 @@ is_plain program w rest text e = go (bytes_eq (codes "plain") w) (bytes_eq (code
       | inr is ↦ some_kind _ _ is.fits
     ]
 
-    go : (p h : Bool) → bytes_eq (codes "plain") w ≡ p → bytes_eq (codes "help") w ≡ h → codes "plain" ≡ w
-    go true h is _ = (bytes_eq-Decides (codes "plain") w).0 is
-    go false true no_plain is = absurd (some_kind _ _ (rw (no_plain, is) at turn))
-    go false false no_plain no_help = absurd (other (rw (no_plain, no_help) refl))
+    go : (p c h : Bool) → bytes_eq (codes "plain") w ≡ p → bytes_eq (codes "check") w ≡ c
+        → bytes_eq (codes "help") w ≡ h → (codes "plain" ≡ w) ⊎ (codes "check" ≡ w)
+    go true c h is _ _ = inl ((bytes_eq-Decides (codes "plain") w).0 is)
+    go false true h _ is _ = inr ((bytes_eq-Decides (codes "check") w).0 is)
+    go false false true no_plain no_check is = absurd (some_kind _ _ (rw (no_plain, no_check, is) at turn))
+    go false false false no_plain no_check no_help = absurd (other (rw (no_plain, no_check, no_help) refl))
 
 -- the level below holds FILE
 abbrev held : Text → Walk
@@ -410,17 +124,166 @@ operands (w ∷ rest) texts e =
           (file_held w file) turn.1)
     ]
 
--- where clap finds no fault, the words ask for a file
-pub asked : (words : List Text) → AreTexts words → fault_of stepmin_app words ≡ [] → (path : Text)
-    × AsksPlain words path
+-- ---- the words behind `check`
+
+-- SCHEMA is held
+abbrev schema_held : Text → Walk
+schema_held schema = at (waits [] (Some (codes "SCHEMA", schema ∷ []))) 2
+
+-- what was found once FILE is held
+abbrev schema_rows : Text → List Row
+schema_rows schema = (settled check_sub.rules (waits [] (Some (codes "SCHEMA", schema ∷ [])))).rows
+
+abbrev both_held : Text → Text → Walk
+both_held schema file = at (waits (schema_rows schema) (Some (codes "FILE", file ∷ []))) 3
+
+holds_schema : (schema : Text) → IsValue check_sub [] nothing_held 1 schema
+    → walked check_sub.rules [] (walk_from nothing_held) schema ≡ schema_held schema
+unfolding walked
+holds_schema schema is =
+    ap (λ (m : Held × Step). after_step check_sub.rules schema (walk_from nothing_held) m.0 m.1) is.met
+
+holds_both : (schema file : Text)
+    → IsValue check_sub [] (waits [] (Some (codes "SCHEMA", schema ∷ []))) 2 file
+    → walked check_sub.rules [] (schema_held schema) file ≡ both_held schema file
+unfolding walked
+holds_both schema file is =
+    ap (λ (m : Held × Step). after_step check_sub.rules file (schema_held schema) m.0 m.1) is.met
+
+no_operands : below_check [] ≡ [] → ⊥
+unfolding clap_on_literals
+no_operands e = some_kind _ _ e
+
+none_behind_dashes : below_check (dashes ∷ []) ≡ [] → ⊥
+unfolding clap_on_literals
+none_behind_dashes e = some_kind _ _ e
+
+one_behind_dashes : (a : Text) → below_check (dashes ∷ a ∷ []) ≡ [] → ⊥
+unfolding clap_on_literals
+one_behind_dashes a e = some_kind _ _ e
+
+three_behind_dashes : (a b c : Text) (rest : List Text) → below_check (dashes ∷ a ∷ b ∷ c ∷ rest) ≡ [] → ⊥
+unfolding clap_on_literals
+three_behind_dashes a b c rest e = some_kind _ _ e
+
+one_operand : (schema : Text) → IsOperand schema → below_check (schema ∷ []) ≡ [] → ⊥
+unfolding clap_on_literals
+one_operand schema is e =
+    let n = no_option schema is in
+    some_kind _ _ (rw (n.2, n.0, n.1) at e)
+
+one_before_dashes : (schema : Text) → IsOperand schema → below_check (schema ∷ dashes ∷ []) ≡ [] → ⊥
+unfolding clap_on_literals
+one_before_dashes schema is e =
+    let n = no_option schema is in
+    some_kind _ _ (rw (n.2, n.0, n.1) at e)
+
+two_behind_schema : (schema a b : Text) (rest : List Text)
+    → walk_fault check_sub [] (schema_held schema) (dashes ∷ a ∷ b ∷ rest) ≡ [] → ⊥
+unfolding clap_on_literals
+two_behind_schema schema a b rest e = some_kind _ _ e
+
+one_behind_both : (schema file a : Text) (rest : List Text)
+    → walk_fault check_sub [] (both_held schema file) (dashes ∷ a ∷ rest) ≡ [] → ⊥
+unfolding clap_on_literals
+one_behind_both schema file a rest e = some_kind _ _ e
+
+-- they are two operands
+abbrev AreTwo : List Text → Type 0
+AreTwo words = (schema : Text) × (file : Text) × AreOperands words schema file
+
+two_behind_dashes : (rest : List Text) → below_check (dashes ∷ rest) ≡ [] → AreTwo (dashes ∷ rest)
+two_behind_dashes [] e = absurd (none_behind_dashes e)
+two_behind_dashes (a ∷ []) e = absurd (one_behind_dashes a e)
+two_behind_dashes (a ∷ b ∷ []) e = (a, b, inr (inr (inr refl)))
+two_behind_dashes (a ∷ b ∷ c ∷ rest) e = absurd (three_behind_dashes a b c rest e)
+
+behind_both : (schema file : Text) (rest : List Text) → IsOperand schema → IsOperand file → AreTexts rest
+    → walk_fault check_sub [] (both_held schema file) rest ≡ [] → AreTwo (schema ∷ file ∷ rest)
+behind_both schema file [] is also texts e = (schema, file, inl (refl, is, also))
+behind_both schema file (w ∷ rest) is also texts e =
+    let turn = first_turn check_sub [] (both_held schema file) w rest e in
+    elim (is_value check_sub [] (schema_rows schema) (Some (codes "FILE", file ∷ [])) 3 w check_asks texts.0 refl
+    turn.0) [
+      | inl dash ↦ last rest refl dash
+      | inr stray ↦ absurd (some_kind _ _ stray.fits)
+    ]
+  where
+    last : (more : List Text) → rest ≡ more → w ≡ dashes → AreTwo (schema ∷ file ∷ w ∷ rest)
+    last [] none dash = (schema, file, inr (inl (ap₂ (λ v vs. schema ∷ file ∷ v ∷ vs) dash none, is, also)))
+    last (x ∷ xs) more dash = absurd (one_behind_both schema file x xs
+        (subst (λ vs. walk_fault check_sub [] (both_held schema file) vs ≡ []) (ap₂ (λ v vs. v ∷ vs) dash more) e))
+
+behind_schema : (schema : Text) (rest : List Text) → IsOperand schema → AreTexts rest
+    → below_check (schema ∷ rest) ≡ [] → walk_fault check_sub [] (schema_held schema) rest ≡ []
+    → AreTwo (schema ∷ rest)
+behind_schema schema [] is texts e walk = absurd (one_operand schema is e)
+behind_schema schema (w ∷ rest) is texts e walk =
+    let turn = first_turn check_sub [] (schema_held schema) w rest walk in
+    elim (is_value check_sub [] [] (Some (codes "SCHEMA", schema ∷ [])) 2 w check_asks texts.0 refl turn.0) [
+      | inl dash ↦ subst (λ v. AreTwo (schema ∷ v ∷ rest)) (sym dash)
+          (dashed rest (subst (λ v. below_check (schema ∷ v ∷ rest) ≡ []) dash e)
+          (subst (λ v. walk_fault check_sub [] (schema_held schema) (v ∷ rest) ≡ []) dash walk))
+      | inr file ↦ behind_both schema w rest is file.operand texts.1
+          (subst (λ before. walk_fault check_sub [] before rest ≡ []) (holds_both schema w file) turn.1)
+    ]
+  where
+    dashed : (more : List Text) → below_check (schema ∷ dashes ∷ more) ≡ []
+        → walk_fault check_sub [] (schema_held schema) (dashes ∷ more) ≡ [] → AreTwo (schema ∷ dashes ∷ more)
+    dashed [] below walked = absurd (one_before_dashes schema is below)
+    dashed (file ∷ []) below walked = (schema, file, inr (inr (inl (refl, is))))
+    dashed (a ∷ b ∷ more) below walked = absurd (two_behind_schema schema a b more walked)
+
+two_operands : (words : List Text) → AreTexts words → below_check words ≡ [] → AreTwo words
+two_operands [] texts e = absurd (no_operands e)
+two_operands (w ∷ rest) texts e =
+    let walk = none_first (walk_fault check_sub [] (walk_from nothing_held) (w ∷ rest)) _ e in
+    let turn = first_turn check_sub [] (walk_from nothing_held) w rest walk in
+    elim (is_value check_sub [] [] None 1 w check_asks texts.0 refl turn.0) [
+      | inl dash ↦ subst (λ v. AreTwo (v ∷ rest)) (sym dash)
+          (two_behind_dashes rest (subst (λ v. below_check (v ∷ rest) ≡ []) dash e))
+      | inr schema ↦ behind_schema w rest schema.operand texts.1 e (subst (λ before. walk_fault check_sub []
+          before rest ≡ []) (holds_schema w schema) turn.1)
+    ]
+
+-- the words ask for a file, or for a check
+abbrev pub AsksEither : List Text → Type 0
+AsksEither words = ((path : Text) × AsksPlain words path)
+    ⊎ ((schema : Text) × (file : Text) × AsksCheck words schema file)
+
+-- where clap finds no fault, they do
+pub asked : (words : List Text) → AreTexts words → fault_of stepmin_app words ≡ [] → AsksEither words
 asked [] texts e = absurd (none_at_all e)
 asked (program ∷ []) texts e = absurd (not_none program e)
-asked (program ∷ w ∷ rest) texts e =
-    let plain = is_plain program w rest texts.1.0 e in
-    let below_fits = sym (plain_below program rest) ∙ subst (λ v. fault_of stepmin_app (program ∷ v ∷ rest) ≡ [])
-    (sym plain) e in
-    let found = operands rest texts.1.1 below_fits in
-    (found.0, (program, rest, ap (λ v. program ∷ v ∷ rest) (sym plain), found.1))
+asked (program ∷ w ∷ rest) texts e = elim (is_command program w rest texts.1.0 e) [
+  | inl plain ↦ inl (one plain)
+  | inr check ↦ inr (two check)
+]
+  where
+    one : codes "plain" ≡ w → (path : Text) × AsksPlain (program ∷ w ∷ rest) path
+    one plain =
+        let below_fits = sym (plain_below program rest) ∙ subst (λ v. fault_of stepmin_app (program ∷ v ∷ rest) ≡ [])
+        (sym plain) e in
+        let found = operands rest texts.1.1 below_fits in
+        (found.0, (program, rest, ap (λ v. program ∷ v ∷ rest) (sym plain), found.1))
+
+    two : codes "check" ≡ w → (schema : Text) × (file : Text) × AsksCheck (program ∷ w ∷ rest) schema file
+    two check =
+        let below_fits = sym (check_below program rest) ∙ subst (λ v. fault_of stepmin_app (program ∷ v ∷ rest) ≡ [])
+        (sym check) e in
+        let found = two_operands rest texts.1.1 below_fits in
+        (found.0, found.1, (program, rest, ap (λ v. program ∷ v ∷ rest) (sym check), found.2))
+
+-- words ask for one of both
+pub not_both : (words : List Text) (path schema file : Text) → AsksPlain words path → AsksCheck words schema file → ⊥
+not_both words path schema file plain check = apart (ap second (sym plain.2 ∙ check.2))
+  where
+    second : List Text → Text
+    second (a ∷ b ∷ rest) = b
+    second other = []
+
+    apart : codes "plain" ≡ codes "check" → ⊥
+    apart e = true≢false (ap (bytes_eq (codes "plain")) e)
 
 -- ---- what clap finds in them
 
@@ -467,15 +330,76 @@ asked_once words p q a b =
     let path_in : Option (Text × Option Text) → Text = λ o. unwrap_or (option_and_then (λ x. x.1) o) p in
     ap path_in (sym (asked_file words p a) ∙ asked_file words q b)
 
--- the words ask for a file, or for none
-pub asks_or_not : (words : List Text) → AreTexts words → ((path : Text) × AsksPlain words path)
-    ⊎ ((path : Text) → AsksPlain words path → ⊥)
+fits_operands : (words : List Text) (schema file : Text) → AreOperands words schema file → below_check words ≡ []
+unfolding clap_on_literals
+fits_operands words schema file (inl is) =
+    let n = no_option schema is.1 in
+    let m = no_option file is.2 in
+    rw (is.0, n.2, n.0, n.1, m.2, m.0, m.1) (refl {a = []})
+fits_operands words schema file (inr (inl is)) =
+    let n = no_option schema is.1 in
+    let m = no_option file is.2 in
+    rw (is.0, n.2, n.0, n.1, m.2, m.0, m.1) (refl {a = []})
+fits_operands words schema file (inr (inr (inl is))) =
+    let n = no_option schema is.1 in
+    rw (is.0, n.2, n.0, n.1) (refl {a = []})
+fits_operands words schema file (inr (inr (inr is))) = rw is (refl {a = []})
+
+-- the name, SCHEMA and FILE of the command that was met
+abbrev entered_files : List Text → Option (Text × Option Text × Option Text)
+entered_files words = files_in (entered (built stepmin_app) (Some (codes "check", words)))
+
+files_of_operands : (words : List Text) (schema file : Text) → AreOperands words schema file
+    → entered_files words ≡ Some (codes "check", Some schema, Some file)
+unfolding clap_on_literals
+files_of_operands words schema file (inl is) =
+    let n = no_option schema is.1 in
+    let m = no_option file is.2 in
+    rw (is.0, n.2, n.0, n.1, m.2, m.0, m.1) (refl {a = Some (codes "check", Some schema, Some file)})
+files_of_operands words schema file (inr (inl is)) =
+    let n = no_option schema is.1 in
+    let m = no_option file is.2 in
+    rw (is.0, n.2, n.0, n.1, m.2, m.0, m.1) (refl {a = Some (codes "check", Some schema, Some file)})
+files_of_operands words schema file (inr (inr (inl is))) =
+    let n = no_option schema is.1 in
+    rw (is.0, n.2, n.0, n.1) (refl {a = Some (codes "check", Some schema, Some file)})
+files_of_operands words schema file (inr (inr (inr is))) = rw is
+    (refl {a = Some (codes "check", Some schema, Some file)})
+
+pub check_fits : (words : List Text) (schema file : Text) → AsksCheck words schema file
+    → fault_of stepmin_app words ≡ []
+check_fits words schema file asks = subst (λ ws. fault_of stepmin_app ws ≡ []) (sym asks.2)
+    (check_below asks.0 asks.1 ∙ fits_operands asks.1 schema file asks.3)
+
+pub asked_files : (words : List Text) (schema file : Text) → AsksCheck words schema file
+    → files_in (subcommand_of stepmin_app words) ≡ Some (codes "check", Some schema, Some file)
+asked_files words schema file asks =
+    let stop : (walk top.rules names nothing_held (codes "check" ∷ asks.1)).stopped ≡ Some (codes "check", asks.1) =
+    ap (λ (w : Walk). w.stopped) (walk_check asks.1) in
+    ap (λ ws. files_in (subcommand_of stepmin_app ws)) asks.2 ∙ ap (λ s. files_in (entered (built stepmin_app) s)) stop
+    ∙ files_of_operands asks.1 schema file asks.3
+
+-- the words ask for one check at most
+pub checked_once : (words : List Text) (p q r s : Text) → AsksCheck words p q → AsksCheck words r s
+    → (p ≡ r) × (q ≡ s)
+checked_once words p q r s a b =
+    let same = sym (asked_files words p q a) ∙ asked_files words r s b in
+    let first : Option (Text × Option Text × Option Text) → Text =
+    λ o. unwrap_or (option_and_then (λ x. x.1) o) p in
+    let second : Option (Text × Option Text × Option Text) → Text =
+    λ o. unwrap_or (option_and_then (λ x. x.2) o) q in
+    (ap first same, ap second same)
+
+-- the words ask for something, or for nothing
+pub asks_or_not : (words : List Text) → AreTexts words → AsksEither words ⊎ AsksNothing words
 asks_or_not words texts = go (fault_of stepmin_app words) refl
   where
-    go : (kinds : Kinds) → fault_of stepmin_app words ≡ kinds → ((path : Text) × AsksPlain words path)
-        ⊎ ((path : Text) → AsksPlain words path → ⊥)
+    go : (kinds : Kinds) → fault_of stepmin_app words ≡ kinds → AsksEither words ⊎ AsksNothing words
     go [] none = inl (asked words texts none)
-    go (k ∷ ks) some = inr (λ path asks. some_kind k ks (sym some ∙ asked_fits words path asks))
+    go (k ∷ ks) some = inr (
+      (λ path asks. some_kind k ks (sym some ∙ asked_fits words path asks)),
+      (λ schema file asks. some_kind k ks (sym some ∙ check_fits words schema file asks)),
+    )
 
 pub are_texts : {Z : Type 0} (words : List (String Z)) → AreTexts (map string_bytes words)
 are_texts [] = tt
@@ -483,19 +407,34 @@ are_texts (w ∷ ws) = (IsUtf8-string_bytes w, are_texts ws)
 
 -- ---- what clap answers
 
--- a parse that succeeds is of words that ask for a file, and finds it
+-- the words ask for a file, which is what was found, or for a check, and its files were
+abbrev pub Finds : List Text → ArgMatches → Type 0
+Finds words m =
+    ((path : Text) × AsksPlain words path × (file_in (subcommand_rows_of m) ≡ Some (codes "plain", Some path)))
+    ⊎ ((schema : Text) × (file : Text) × AsksCheck words schema file
+    × (files_in (subcommand_rows_of m) ≡ Some (codes "check", Some schema, Some file)))
+
+-- a parse that succeeds is of such words
 pub parsed : (app : App) (words : List Text) (m : ArgMatches) → app ≡ stepmin_app → AreTexts words
-    → (is_simple_and_free app ≡ true → fault_of app words ≡ [])
-    → HasMatchesOf app words m → (path : Text) × AsksPlain words path
-    × (file_in (subcommand_rows_of m) ≡ Some (codes "plain", Some path))
-parsed app words m is texts fits matches =
-    let found = asked words texts (ap (λ a. fault_of a words) (sym is)
-    ∙ fits (ap is_simple_and_free is ∙ simple_and_free)) in
-    let simple : is_simple app ≡ true = ap is_simple is ∙ simple_stepmin in (
+    → (is_simple_and_free app ≡ true → fault_of app words ≡ []) → HasMatchesOf app words m → Finds words m
+parsed app words m is texts fits matches = by (asked words texts (ap (λ a. fault_of a words) (sym is)
+    ∙ fits (ap is_simple_and_free is ∙ simple_and_free)))
+  where
+    simple : is_simple app ≡ true
+    simple = ap is_simple is ∙ simple_stepmin
+
+    by : AsksEither words → Finds words m
+    by (inl found) = inl (
       found.0,
       found.1,
-      ap file_in ((matches simple).1 ∙ ap (λ a. subcommand_of a words) is) ∙ asked_file words found.0
-          found.1,
+      ap file_in ((matches simple).1 ∙ ap (λ a. subcommand_of a words) is) ∙ asked_file words found.0 found.1,
+    )
+    by (inr check) = inr (
+      check.0,
+      check.1,
+      check.2,
+      ap files_in ((matches simple).1 ∙ ap (λ a. subcommand_of a words) is)
+          ∙ asked_files words check.0 check.1 check.2,
     )
 
 -- a parse that fails does so for want of memory, or by a kind that is due
@@ -504,12 +443,11 @@ fails : (app : App) (words : List Text) (e : Error) → app ≡ stepmin_app
 fails app words e is due = subst (λ a. HasKind (fault_of a words) e) is
     (due (ap is_simple_and_free is ∙ simple_and_free))
 
--- words that ask for a file fail for want of memory alone
-pub failed : (app : App) (words : List Text) (path : Text) (e : Error) → app ≡ stepmin_app
+-- words in which clap finds no fault fail for want of memory alone
+pub failed : (app : App) (words : List Text) (e : Error) → app ≡ stepmin_app
     → (is_simple_and_free app ≡ true → HasKind (fault_of app words) e)
-    → AsksPlain words path → kind_of e ≡ kind.OutOfMemory
-failed app words path e is due asks = memory (subst (λ ks. HasKind ks e) (asked_fits words path asks)
-    (fails app words e is due))
+    → fault_of stepmin_app words ≡ [] → kind_of e ≡ kind.OutOfMemory
+failed app words e is due fits = memory (subst (λ ks. HasKind ks e) fits (fails app words e is due))
   where
     memory : HasKind [] e → kind_of e ≡ kind.OutOfMemory
     memory (inl m) = m
@@ -543,3 +481,26 @@ pub name_among : {Z : Type 0} (o : Option (Box SubCommand Z)) (path : Text) → 
     → option_map (λ b. (out-SubCommand (box_value b)).name.now) o ≡ Some (codes "plain")
 name_among None path found = absurd (true≢false (sym (ap is_some found)))
 name_among (Some b) path found = ap (option_map (λ q. q.0)) found
+
+-- the name of the subcommand is that of its rows
+pub same_name : {Z : Type 0} (o : Option (Box SubCommand Z))
+    → option_map (λ b. (out-SubCommand (box_value b)).name.now) o ≡ name_in (subcommand_rows o)
+same_name None = refl
+same_name (Some b) = refl
+
+-- the name of the command whose files were found
+pub checked_name : (o : Option (Text × List Row)) (schema file : Text)
+    → files_in o ≡ Some (codes "check", Some schema, Some file) → name_in o ≡ Some (codes "check")
+checked_name None schema file found = absurd (true≢false (sym (ap is_some found)))
+checked_name (Some p) schema file found = ap (option_map (λ q. q.0)) found
+
+-- the matches of the subcommand have its SCHEMA and its FILE
+pub files_among : (o : Option (Text × List Row)) (schema file : Text) (rows : List Row)
+    → files_in o ≡ Some (codes "check", Some schema, Some file) → option_map (λ p. p.1) o ≡ Some rows
+    → (first_of (codes "SCHEMA") rows ≡ Some schema) × (first_of (codes "FILE") rows ≡ Some file)
+files_among None schema file rows found is = absurd (true≢false (sym (ap is_some is)))
+files_among (Some p) schema file rows found is =
+    let of : Text → Option (List Row) → Option Text = λ id o. option_and_then (first_of id) o in
+    let first : Option (Text × Option Text × Option Text) → Option Text = λ o. option_and_then (λ q. q.1) o in
+    let second : Option (Text × Option Text × Option Text) → Option Text = λ o. option_and_then (λ q. q.2) o in
+    (sym (ap (of (codes "SCHEMA")) is) ∙ ap first found, sym (ap (of (codes "FILE")) is) ∙ ap second found)

@@ -28,3 +28,19 @@ AsksPlain words path = (program : List ℕ) × (operands : List (List ℕ)) × (
 -- They ask for the normal text of no file.
 abbrev pub AsksNoPlain : List (List ℕ) → Type 0
 AsksNoPlain words = (path : List ℕ) → AsksPlain words path → ⊥
+
+-- The words are two operands, in this order.
+abbrev pub AreOperands : List (List ℕ) → List ℕ → List ℕ → Type 0
+AreOperands words first second = ((words ≡ first ∷ second ∷ []) × IsOperand first × IsOperand second)
+    ⊎ ((words ≡ first ∷ second ∷ dashes ∷ []) × IsOperand first × IsOperand second)
+    ⊎ ((words ≡ first ∷ dashes ∷ second ∷ []) × IsOperand first)
+    ⊎ (words ≡ dashes ∷ first ∷ second ∷ [])
+
+-- The words ask whether the file of the second path conforms to the schema of the first.
+abbrev pub AsksCheck : List (List ℕ) → List ℕ → List ℕ → Type 0
+AsksCheck words schema file = (program : List ℕ) × (operands : List (List ℕ))
+    × (words ≡ program ∷ codes "check" ∷ operands) × AreOperands operands schema file
+
+-- They ask for neither.
+abbrev pub AsksNothing : List (List ℕ) → Type 0
+AsksNothing words = AsksNoPlain words × ((schema : List ℕ) → (file : List ℕ) → AsksCheck words schema file → ⊥)

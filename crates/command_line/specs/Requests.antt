@@ -5,15 +5,16 @@ use Rattle.clap.specs.Faults.{fault_of}
 use Rattle.clap.specs.declared.error.kind.ErrorKind.{ErrorKind}
 use Rattle.clap.specs.declared.error.kind.ErrorKind.TheVariants.{DisplayHelp, DisplayVersion, OutOfMemory}
 use Rattle.command_line.specs.Clap.{stepmin_app}
-use Rattle.command_line.specs.Commands.{AsksPlain}
+use Rattle.command_line.specs.Commands.{AsksPlain, AsksCheck}
 use Rattle.command_line.specs.declared.usage.Refusal.{Refusal}
 use Rattle.command_line.specs.declared.usage.Refusal.TheVariants.{Shown, Usage, Memory}
 use Rattle.command_line.specs.declared.usage.Request.{Request}
-use Rattle.command_line.specs.declared.usage.Request.TheVariants.{Plain}
+use Rattle.command_line.specs.declared.usage.Request.TheVariants.{Plain, Check}
 
 -- The words ask for this.
 abbrev pub AskFor : List (List ℕ) → Request → Type 0
 AskFor words (Plain path) = AsksPlain words path.now
+AskFor words (Check schema file) = AsksCheck words schema.now file.now
 
 -- what ends the reading of the words is no mistake, but a call for a text: for help, or for the version
 abbrev pub is_shown : ErrorKind → Bool

@@ -1,12 +1,34 @@
 //! The words of a command line.
 
-ghost use Rattle.std.specs.Prelude.{◌≡◌, ℕ, List, Some, IfOk, IfErr, codes, option_map};
+ghost use Rattle.std.specs.Prelude.{
+  ◌≡◌,
+  ℕ,
+  List,
+  Some,
+  false,
+  IfOk,
+  IfErr,
+  IfSome,
+  codes,
+  option_map,
+};
 ghost use Rattle.std.specs.IoError.{error_kind};
+ghost use Rattle.clap.specs.Matches.{subcommand_name_of};
 ghost use Rattle.clap.specs.Simple.{app_of, subcommand_rows_of};
+ghost use Rattle.clap.specs.Walk.{rule_of};
+ghost use Rattle.clap.specs.declared.builder.command.Command.TheViews.{out-Command};
 ghost use Rattle.clap.specs.Values.{kind_of};
 ghost use Rattle.std.specs.declared.io.ErrorKind.TheVariants.{OutOfMemory};
-ghost use Rattle.command_line.specs.Clap.{HasFile, stepmin_app};
-ghost use Rattle.command_line.specs.Commands.{AsksPlain, texts};
+ghost use Rattle.command_line.specs.Clap.{
+  HasFile,
+  HasFiles,
+  check_app,
+  file_rule,
+  plain_app,
+  schema_rule,
+  stepmin_app,
+};
+ghost use Rattle.command_line.specs.Commands.{AsksCheck, AsksPlain, texts};
 ghost use Rattle.command_line.specs.Requests.{AskFor, CallFor, CallsFor, SaysUsage, is_shown};
 ghost use Rattle.command_line.specs.declared.usage.Refusal.TheVariants.{Memory};
 
@@ -21,7 +43,8 @@ const VERSION: &str = "0.1.0";
 // What each exit status says, at the end of the help text.
 const STATUSES: &str = "Exit status:\n  \
     0  all is done\n  \
-    2  the text of a file can't be read\n  \
+    1  the file breaks its schema\n  \
+    2  the text of a file or a schema can't be read\n  \
     3  the words of the command line are wrong\n  \
     4  a device fails\n  \
     5  memory runs out";
@@ -31,6 +54,8 @@ const STATUSES: &str = "Exit status:\n  \
 pub enum Request<'p> {
     /// The normal text of the file of this path.
     Plain(&'p str),
+    /// Whether the file of the second path conforms to the schema of the first.
+    Check(&'p str, &'p str),
 }
 
 /// Why nothing is done.
@@ -52,31 +77,84 @@ impl From<AllocError> for Refusal {
     }
 }
 
+// The argument FILE.
+fn file<'a>(alloc: Global) -> Arg<'a>
+    ensures rule { rule_of result ≡ file_rule }
+    ensures local { result.global ≡ false }
+{
+    Arg::new(alloc, "FILE")
+        .required(true)
+        .action(ArgAction::Set)
+        .help("The file that is read")
+}
+
+// The argument SCHEMA.
+fn schema<'a>(alloc: Global) -> Arg<'a>
+    ensures rule { rule_of result ≡ schema_rule }
+    ensures local { result.global ≡ false }
+{
+    Arg::new(alloc, "SCHEMA")
+        .required(true)
+        .action(ArgAction::Set)
+        .help("The schema that it is checked against")
+}
+
+// The command `plain`.
+fn plain<'a>(alloc: Global) -> Result<Command<'a>, AllocError>
+    ensures app { IfOk result (λ command. app_of command ≡ plain_app) }
+    ensures local { IfOk result (λ command. (out-Command command).has_globals ≡ false) }
+{
+    Command::new(alloc, "plain")
+        .about("Writes the normal text of a STEP file")
+        .arg(file(alloc))
+}
+
+// The command `check`.
+fn check<'a>(alloc: Global) -> Result<Command<'a>, AllocError>
+    ensures app { IfOk result (λ command. app_of command ≡ check_app) }
+    ensures local { IfOk result (λ command. (out-Command command).has_globals ≡ false) }
+{
+    Command::new(alloc, "check")
+        .about("Tells where a STEP file breaks its schema")
+        .arg(schema(alloc))?
+        .arg(file(alloc))
+}
+
 // The command line as clap reads it.
 fn stepmin<'a>(alloc: Global) -> Result<Command<'a>, AllocError>
     ensures { IfOk result (λ command. app_of command ≡ stepmin_app) }
 {
-    let file = Arg::new(alloc, "FILE")
-        .required(true)
-        .action(ArgAction::Set)
-        .help("The file that is read");
-    let plain = Command::new(alloc, "plain")
-        .about("Writes the normal text of a STEP file")
-        .arg(file)?;
+    let plain = plain(alloc)?;
+    let check = check(alloc)?;
     Command::new(alloc, "stepmin")
         .about("Reads STEP files (ISO 10303-21)")
         .version(VERSION)
         .after_help(STATUSES)
         .subcommand_required(true)
-        .subcommand(plain)
+        .subcommand(plain)?
+        .subcommand(check)
 }
 
 // The FILE of `plain`.
 fn path_in<'p>(matches: &ArgMatches<'p>) -> Option<&'p str>
-    ensures { (path : List ℕ) → HasFile (subcommand_rows_of matches.now) path
+    ensures file { (path : List ℕ) → HasFile (subcommand_rows_of matches.now) path
         → option_map (λ text. text.now) result ≡ Some path }
+    ensures command { IfSome result
+        (λ _. subcommand_name_of matches.now ≡ Some (codes "plain")) }
 {
     matches.subcommand_matches("plain")?.get_str("FILE")
+}
+
+// The SCHEMA and the FILE of `check`.
+fn paths_in<'p>(matches: &ArgMatches<'p>) -> Option<(&'p str, &'p str)>
+    ensures { (schema : List ℕ) → (file : List ℕ)
+        → HasFiles (subcommand_rows_of matches.now) schema file
+        → IfSome result (λ paths. (paths.0.now ≡ schema) × (paths.1.now ≡ file)) }
+{
+    let found = matches.subcommand_matches("check")?;
+    let schema = found.get_str("SCHEMA")?;
+    let file = found.get_str("FILE")?;
+    Some((schema, file))
 }
 
 // Whether clap's error is no mistake, but a text that was asked for.
@@ -132,14 +210,19 @@ pub fn read_words<'p>(alloc: Global, words: &'p [String]) -> Result<Request<'p>,
     // Words that ask for something are refused for want of memory alone.
     ensures granted { (path : List ℕ) → AsksPlain (texts words.now) path
         → IfErr result (λ refusal. refusal ≡ Memory) }
+    ensures check_granted { (schema : List ℕ) → (file : List ℕ)
+        → AsksCheck (texts words.now) schema file → IfErr result (λ refusal. refusal ≡ Memory) }
 {
     let matches = match stepmin(alloc)?.try_get_matches_from(words) {
         Ok(matches) => matches,
         Err(error) => return Err(refused(alloc, error)),
     };
-    match path_in(&matches) {
-        Some(path) => Ok(Request::Plain(path)),
+    if let Some(path) = path_in(&matches) {
+        return Ok(Request::Plain(path));
+    }
+    match paths_in(&matches) {
+        Some((schema, file)) => Ok(Request::Check(schema, file)),
         // clap lets no such words pass.
-        None => Err(usage(alloc, "error: no command is given\n")),
+        None => Err(Refusal::Memory),
     }
 }

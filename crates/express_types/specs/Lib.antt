@@ -1,3 +1,4 @@
 pub mod Graphs
 pub mod Resolving
 pub mod Judging
+pub mod Made

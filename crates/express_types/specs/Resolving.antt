@@ -10,6 +10,7 @@ use Rattle.express_schemas.specs.declared.fault.SchemaFault.TheVariants.{Text, N
 use Rattle.express_schemas.specs.declared.tree.SchemaTree.{SchemaTree}
 use Rattle.type_graphs.specs.Names.{Name}
 use Rattle.type_graphs.specs.Faults.{IsFault, IsResolved}
+use Rattle.express_types.specs.Made.{IsMade}
 use Rattle.express_types.specs.declared.resolving.Faulty.{Faulty}
 use Rattle.express_types.specs.declared.resolving.Resolution.{Resolution}
 use Rattle.express_types.specs.declared.resolving.Resolution.TheVariants as found
@@ -20,7 +21,7 @@ IsFound s None = IsResolved s
 IsFound s (Some f) = IsFault s f.kind (capitals f.name)
 
 abbrev pub IsResolution : SchemaTree → Resolution → Type 0
-IsResolution t (found.Resolved g) = IsResolved (schema_of t) × (g.names.schema.now ≡ t)
+IsResolution t (found.Resolved g) = IsResolved (schema_of t) × (g.names.schema.now ≡ t) × IsMade g
 IsResolution t (found.Faulty f) = IsFault (schema_of t) f.kind (capitals f.name)
 
 -- the fault says this of the name, or that there is no memory

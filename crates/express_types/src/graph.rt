@@ -1,12 +1,10 @@
 //! What a schema says of its types.
 
-ghost use Rattle.std.specs.Prelude.{◌≡◌, ◌<◌, Some, length, slice_get, IfOk};
+ghost use Rattle.std.specs.Prelude.{◌≡◌, ◌<◌, Some, length, slice_get};
 ghost use Rattle.digraph.specs.Graphs.{graph_of};
-ghost use Rattle.digraph.specs.Closures.{IsClosure};
 ghost use Rattle.express_trees.specs.Views.{capitals};
 ghost use Rattle.express_schemas.specs.SchemaViews.{schema_of};
 ghost use Rattle.type_graphs.specs.Faults.{IsResolved};
-ghost use Rattle.schema_names.specs.Edges.{IsGraphOf, supertypes_in};
 ghost use Rattle.schema_names.specs.Numbers.{number_of};
 ghost use Rattle.schema_demands.specs.Above.{AreAbove};
 ghost use Rattle.attribute_places.specs.Places.{places_of, all_places, HavePlaces};
@@ -16,13 +14,11 @@ ghost use Rattle.derivation_ranks.specs.Ranking.{IsRankOf};
 ghost use Rattle.express_types.specs.Graphs.{AreSupers, IsKind, ArePlacesOf, place_of};
 ghost use Rattle.express_types.specs.Judging.{IsJudged};
 
-use crate::judging::{Judged, judge};
+use crate::judging::Judged;
 use attribute_places::attributes::Place;
-use attribute_places::places::{AttributePlaces, attribute_places};
+use attribute_places::places::AttributePlaces;
 use derivation_ranks::asked::rank_at;
 use schema_names::names::Names;
-use std::alloc::{AllocError, Global};
-use std::hash::RandomState;
 use step_literals::literal::Word;
 use unchecked_parts::list::Unchecked;
 
@@ -53,31 +49,6 @@ pub struct TypeGraph<'t, 'a> {
 }
 
 impl<'t, 'a> TypeGraph<'t, 'a> {
-    /// That of a schema whose names are resolved, over the graph of its SUBTYPE OF and the rows of
-    /// all that it leads to. Names are hashed by these keys.
-    pub(crate) fn of(
-        alloc: Global,
-        keys: RandomState,
-        names: Names<'t, 'a>,
-        supertypes: &[Vec<u32>],
-        above: Vec<Vec<u32>>,
-    ) -> Result<TypeGraph<'t, 'a>, AllocError>
-        requires resolved { IsResolved (schema_of names.schema.now) }
-        requires drawn { IsGraphOf (schema_of names.schema.now) supertypes_in
-            (graph_of supertypes.now) }
-        requires closed { IsClosure (graph_of supertypes.now) (graph_of above.items) }
-        ensures { IfOk result (λ g. g.names.schema.now ≡ names.entry.schema.now) }
-    {
-        let places = attribute_places(alloc, &names, supertypes)?;
-        let judged = judge(alloc, keys, &names, supertypes, &above)?;
-        Ok(TypeGraph {
-            names,
-            above,
-            places,
-            judged,
-        })
-    }
-
     /// The number of the type or entity of this name; none where there is none.
     pub fn find(&self, name: Word<'_>) -> Option<u32>
         ensures { result ≡ number_of (schema_of self.now.names.schema.now) (capitals name.entry) }
@@ -145,5 +116,14 @@ impl<'t, 'a> TypeGraph<'t, 'a> {
             (unchecked_in result.now) ∥₁ }
     {
         &self.judged.unchecked
+    }
+
+    /// The same list, of which the types are given up.
+    pub fn into_unchecked(self) -> Vec<Unchecked>
+        ensures { ∥ AreUnchecked (schema_of self.entry.names.schema.now)
+            (unchecked_in result.items) ∥₁ }
+    {
+        let judged = self.judged;
+        judged.unchecked
     }
 }

@@ -4,4 +4,5 @@
 
 pub mod graph;
 pub mod judging;
+mod making;
 pub mod resolving;

@@ -7,9 +7,11 @@ ghost use Rattle.express_trees.specs.Views.{capitals};
 ghost use Rattle.express_schemas.specs.SchemaViews.{schema_of};
 ghost use Rattle.type_graphs.specs.Faults.{IsResolved};
 ghost use Rattle.schema_demands.specs.Above.{AreAbove};
+ghost use Rattle.express_types.specs.Made.{IsMade};
 ghost use Rattle.express_types.specs.Resolving.{IsFound, IsResolution, IsSaid, IsNameFault};
 
 use crate::graph::TypeGraph;
+use crate::making::type_graph;
 use digraph::closures::closure;
 use express_schemas::fault::{NameFault, SchemaFault};
 use express_schemas::tree::SchemaTree;
@@ -79,7 +81,7 @@ fn try_resolve<'t, 'a>(
     if let Some(faulty) = first_fault(alloc, keys, &names, &above)? {
         return Ok(Resolution::Faulty(faulty));
     }
-    let graph = TypeGraph::of(alloc, keys, names, &supertypes, above)?;
+    let graph = type_graph(alloc, keys, names, &supertypes, above)?;
     Ok(Resolution::Resolved(graph))
 }
 
@@ -111,6 +113,8 @@ pub fn resolve<'t, 'a>(
     ensures resolved { MatchResult result (λ g. IsResolved (schema_of schema.entry.now))
         (IsNameFault (schema_of schema.entry.now)) }
     ensures same { IfOk result (λ g. g.names.schema.now ≡ schema.entry.now) }
+    // Its tables are those of the schema.
+    ensures made { IfOk result IsMade }
 {
     match try_resolve(alloc, keys, schema) {
         Ok(Resolution::Resolved(graph)) => Ok(graph),

@@ -1,13 +1,15 @@
 //! Labels in place of references: which values agree by them, and that their normal forms tell the same.
 
-use crate::populations::{Sketch, value};
+use crate::populations::{Sketch, Sketches, row, rows, value};
 use std::alloc::Global;
+use std::hash::RandomState;
 use std::test::Fail;
+use step_equal::fault::PlainFault;
+use step_equal::plain::Plain;
 use step_values::agree::{same_each, same_value};
 use step_values::labels::{Label, Labels};
 use step_values::normal::{normal_form, normal_forms, sorted_forms};
 use step_values::slot::{Slot, Slots};
-use step_values::value::PlainValue;
 
 /// One label for each reference outside bags; in bags each stands for itself.
 #[derive(Clone, Copy)]
@@ -61,74 +63,128 @@ const CASES: &'static [Case] = &[
     ),
 ];
 
-/// A list with the value.
-fn alone(alloc: Global, sketch: Sketch) -> Result<Vec<PlainValue<'static>>, Fail> {
-    let mut values = Vec::new(alloc);
-    values.push(value(alloc, sketch)?)?;
-    Ok(values)
+/// `#1=NODE(#1);` `#2=NODE(#2);` `#3=NODE(#3);`
+const NODES: Sketches = &[
+    (1, 0, &[b"NODE"], Sketch::Reference(1)),
+    (2, 0, &[b"NODE"], Sketch::Reference(2)),
+    (3, 0, &[b"NODE"], Sketch::Reference(3)),
+];
+
+/// The nodes, and a fourth row with the value.
+fn holder(alloc: Global, keys: RandomState, sketch: Sketch) -> Result<Plain<'static>, Fail> {
+    let mut rows = rows(alloc, NODES)?;
+    let value = value(alloc, sketch)?;
+    rows.push(row(alloc, 4, 0, &[b"HOLDER"], value)?)?;
+    Ok(Plain::from_rows(alloc, keys, rows)?)
 }
 
-/// Whether the values agree, alone and in a list.
-fn agree(
-    alloc: Global,
-    left: (Label, Sketch),
-    right: (Label, Sketch),
-) -> Result<(bool, bool), Fail> {
-    let (f, g) = (One(left.0), One(right.0));
-    let v = value(alloc, left.1)?;
-    let w = value(alloc, right.1)?;
-    let alone_agree = same_value(alloc, &f, &g, &Slot::of(&v), &Slot::of(&w))?;
-    let vs = alone(alloc, left.1)?;
-    let ws = alone(alloc, right.1)?;
-    let lists_agree = same_each(alloc, &f, &g, &Slots::of(&vs), &Slots::of(&ws))?;
-    Ok((alone_agree, lists_agree))
+/// The values of the fourth row.
+fn held<'p>(plain: &'p Plain<'static>) -> Result<Slots<'p, 'static>, PlainFault> {
+    match plain.find(4) {
+        None => Err(PlainFault::UnknownReference),
+        Some(place) => Ok(plain.row(place).values),
+    }
 }
 
-/// Whether their normal forms are equal, alone and in a list.
-fn one_form(
+/// The first of them.
+fn first<'p>(values: &Slots<'p, 'static>) -> Result<Slot<'p, 'static>, PlainFault> {
+    match values.item(0) {
+        None => Err(PlainFault::UnknownReference),
+        Some(value) => Ok(value),
+    }
+}
+
+/// A population whose fourth row has the value, and the label of what it refers to.
+#[derive(Clone, Copy)]
+struct Side<'p> {
+    label: One,
+    plain: &'p Plain<'static>,
+}
+
+/// Whether the values agree.
+fn agree(alloc: Global, left: Side<'_>, right: Side<'_>) -> Result<bool, Fail> {
+    let v = first(&held(left.plain)?)?;
+    let w = first(&held(right.plain)?)?;
+    Ok(same_value(alloc, &left.label, &right.label, &v, &w)?)
+}
+
+/// Whether the lists that have the values alone agree.
+fn lists_agree(alloc: Global, left: Side<'_>, right: Side<'_>) -> Result<bool, Fail> {
+    let vs = held(left.plain)?;
+    let ws = held(right.plain)?;
+    Ok(same_each(alloc, &left.label, &right.label, &vs, &ws)?)
+}
+
+/// Whether the values' normal forms are equal.
+fn one_form(alloc: Global, left: Side<'_>, right: Side<'_>) -> Result<bool, Fail> {
+    let form = normal_form(alloc, &left.label, &first(&held(left.plain)?)?)?;
+    let other = normal_form(alloc, &right.label, &first(&held(right.plain)?)?)?;
+    Ok(form == other)
+}
+
+/// Whether the lists' normal forms are equal.
+fn lists_one_form(alloc: Global, left: Side<'_>, right: Side<'_>) -> Result<bool, Fail> {
+    let forms = normal_forms(alloc, &left.label, &held(left.plain)?)?;
+    let others = normal_forms(alloc, &right.label, &held(right.plain)?)?;
+    Ok(forms == others)
+}
+
+/// Whether the sorted normal forms are equal, as those of a bag's members.
+fn one_bag(alloc: Global, left: Side<'_>, right: Side<'_>) -> Result<bool, Fail> {
+    let forms = sorted_forms(alloc, &left.label, &held(left.plain)?)?;
+    let others = sorted_forms(alloc, &right.label, &held(right.plain)?)?;
+    Ok(forms == others)
+}
+
+/// Whether all of them answer this.
+fn all_answer(alloc: Global, left: Side<'_>, right: Side<'_>, want: bool) -> Result<bool, Fail> {
+    let values = agree(alloc, left, right)? == want && lists_agree(alloc, left, right)? == want;
+    let forms = one_form(alloc, left, right)? == want
+        && lists_one_form(alloc, left, right)? == want;
+    Ok(values && forms)
+}
+
+/// What is told of two values by their labels, alone and in a list, or as members of a bag.
+fn is_told(
     alloc: Global,
+    keys: RandomState,
     left: (Label, Sketch),
     right: (Label, Sketch),
-) -> Result<(bool, bool), Fail> {
-    let (f, g) = (One(left.0), One(right.0));
-    let v = value(alloc, left.1)?;
-    let w = value(alloc, right.1)?;
-    let form = normal_form(alloc, &f, &Slot::of(&v))?;
-    let other = normal_form(alloc, &g, &Slot::of(&w))?;
-    let vs = alone(alloc, left.1)?;
-    let ws = alone(alloc, right.1)?;
-    let forms = normal_forms(alloc, &f, &Slots::of(&vs))?;
-    let others = normal_forms(alloc, &g, &Slots::of(&ws))?;
-    Ok((form == other, forms == others))
+    in_bag: bool,
+    want: bool,
+) -> Result<bool, Fail> {
+    let p = holder(alloc, keys, left.1)?;
+    let q = holder(alloc, keys, right.1)?;
+    let v = Side {
+        label: One(left.0),
+        plain: &p,
+    };
+    let w = Side {
+        label: One(right.0),
+        plain: &q,
+    };
+    if in_bag {
+        return Ok(one_bag(alloc, v, w)? == want);
+    }
+    all_answer(alloc, v, w, want)
 }
 
 /// What is tested by the first case that isn't answered so.
-fn wrong_case(alloc: Global) -> Result<Option<&'static str>, Fail> {
+fn wrong_case(alloc: Global, keys: RandomState) -> Result<Option<&'static str>, Fail> {
     for (what, left, right, want) in CASES {
-        if agree(alloc, *left, *right)? != (*want, *want) {
-            return Ok(Some(*what));
-        }
-        if one_form(alloc, *left, *right)? != (*want, *want) {
+        if !is_told(alloc, keys, *left, *right, false, *want)? {
             return Ok(Some(*what));
         }
     }
     Ok(None)
 }
 
-/// Whether the sorted normal forms of two members, as those of a bag, are equal.
-fn one_bag(alloc: Global, left: (Label, Sketch), right: (Label, Sketch)) -> Result<bool, Fail> {
-    let vs = alone(alloc, left.1)?;
-    let ws = alone(alloc, right.1)?;
-    let forms = sorted_forms(alloc, &One(left.0), &Slots::of(&vs))?;
-    let others = sorted_forms(alloc, &One(right.0), &Slots::of(&ws))?;
-    Ok(forms == others)
-}
-
 #[test]
 fn labels_are_told(rt: HostRuntime) -> Result<(), Fail> {
     let alloc = rt.alloc();
-    assert_eq!(rt; wrong_case(alloc)?, None);
-    assert!(rt; one_bag(alloc, (CLASS, ONE), (NAME, ONE))?);
-    assert!(rt; !one_bag(alloc, (CLASS, ONE), (CLASS, TWO))?);
+    let keys = RandomState::new(&rt)?;
+    assert_eq!(rt; wrong_case(alloc, keys)?, None);
+    assert!(rt; is_told(alloc, keys, (CLASS, ONE), (NAME, ONE), true, true)?);
+    assert!(rt; is_told(alloc, keys, (CLASS, ONE), (CLASS, TWO), true, false)?);
     Ok(())
 }

@@ -1,6 +1,6 @@
 -- The tests of an image decide it.
 use Rattle.std.proofs.Common.{◌≡◌, ℕ, Bool, true, false, cond, List, [], ◌∷◌, Option, Some, None, Result, Ok, Err, refl, sym, ◌∙◌, ap, subst, ◌⊎◌, inl, inr, eqb-true, eq-eqb, arith}
-use Rattle.std.specs.Prelude.{◌==◌, ◌&&◌, ◌↔◌, is_some, IfOk}
+use Rattle.std.specs.Prelude.{◌==◌, ◌&&◌, ◌||◌, ◌↔◌, ◌+◌, drop, slice_get, is_some, IfOk}
 use Rattle.std.specs.List.{IsDistinct, list_all, list_any}
 use Rattle.std.specs.Ordering.{nat_cmp, eq_by_cmp}
 use Rattle.std.specs.BTreeMap.{BTreeMap, keys}
@@ -12,17 +12,12 @@ use Rattle.step_equal.specs.Rows.{Row, kind_of, names, row_at, IsName, RowsAgree
 use Rattle.step_values.specs.ComputedAgreement.{same_each_test}
 use Rattle.step_values.specs.Maps.{led_by}
 use Rattle.step_equal.specs.Maps.{is_key, IsMapImage}
-use Rattle.step_equal.specs.ComputedImages.{IsOnto, LeavesAlone, row_lands, source, is_source}
-use Rattle.step_equal.proofs.Lookup.{row_cases, held_name, name_held, name_here, name_later, all_rows, rows_all, all_names, names_all, row_name}
+use Rattle.step_equal.specs.ComputedImages.{Lands, IsOnto, LeavesAlone, row_lands, source, is_source}
+use Rattle.step_equal.proofs.Lookup.{row_cases, held_name, name_held, name_here, name_later, all_rows, rows_all, all_names, names_all, row_name, items_from, named, any_next}
 use Rattle.step_equal.specs.ComputedKinds.{kind_test}
 use Rattle.step_values.proofs.Deciding.{same_bool, each_sound, each_complete}
 use Rattle.step_values.proofs.Labelled.{agree_each_led_once, led_once_agree_each}
 use Rattle.step_equal.proofs.OneKind.{kinds_decide}
-
--- each row of P is led to one of Q that agrees with it
-abbrev pub Lands : List Row → List Row → (ℕ → ℕ) → Type 0
-Lands P Q h = (x : ℕ) (p : Row) → row_at P x ≡ Some p → (q : Row) × (row_at Q (h x) ≡ Some q)
-    × RowsAgree (renamed_row h p) q
 
 -- the keys of a map
 exact : (a b : ℕ) → eq_by_cmp nat_cmp a b ≡ true → a ≡ b
@@ -195,6 +190,39 @@ module _ (h : ℕ → ℕ) where
         λ k. alone (all_names (λ x. is_source (g (h x)) x) P (sym e ∙ k)),
         λ apart. e ∙ names_all (λ x. is_source (g (h x)) x) P (λ x n. its_source apart x n (g (h x)) refl),
       )
+
+-- A step of a loop over names by their places.
+module _ (h : ℕ → ℕ) (rows : List Row) (i x : ℕ) (at : slice_get (names rows) i ≡ Some x) (y : ℕ) where
+  pub reached_next : (old new : Bool) → new ≡ cond (h x == y) true old
+      → (new || list_any (λ r. h r.name == y) (drop (i + 1) rows)) ≡ (old || list_any (λ r. h r.name == y) (drop i rows))
+  reached_next old new e =
+      ap (λ b. b || list_any (λ r. h r.name == y) (drop (i + 1) rows)) e
+      ∙ moved (h x == y) old (list_any (λ r. h r.name == y) (drop (i + 1) rows))
+      ∙ ap (λ b. old || b) (sym (any_next (λ x. h x == y) rows i x at))
+    where
+      moved : (a b c : Bool) → (cond a true b || c) ≡ (b || (a || c))
+      moved true true c = refl
+      moved true false c = refl
+      moved false b c = refl
+
+  module _ (pinned : ℕ → Bool) (old : Option ℕ) where
+    source_next : source h pinned (drop i rows) old y ≡ source h pinned (drop (i + 1) rows)
+        (cond (pinned x && (h x == y)) (Some x) old) y
+    source_next =
+        let r = named rows i x at in
+        ap (λ rs. source h pinned rs old y) (items_from rows i r.0 r.1)
+        ∙ ap (λ z. source h pinned (drop (i + 1) rows) (cond (pinned z && (h z == y)) (Some z) old) y) r.2
+
+    pub pinned_next : (new : Option ℕ) → pinned x ≡ true → new ≡ cond (h x == y) (Some x) old
+        → source h pinned (drop (i + 1) rows) new y ≡ source h pinned (drop i rows) old y
+    pinned_next new pin e =
+        ap (λ o. source h pinned (drop (i + 1) rows) o y)
+        (e ∙ ap (λ b. cond (b && (h x == y)) (Some x) old) (sym pin)) ∙ sym source_next
+
+    pub other_next : pinned x ≡ false → source h pinned (drop (i + 1) rows) old y ≡ source h pinned (drop i rows) old y
+    other_next free =
+        ap (λ b. source h pinned (drop (i + 1) rows) (cond (b && (h x == y)) (Some x) old) y) (sym free)
+        ∙ sym source_next
 
 -- a row lands where its values agree with those of the row that it is led to, by the map on its side alone
 pub lands_if_one_kind : {E : Type 0} (h : ℕ → ℕ) (p q : Row) (o : Option Row) (r : Result Bool E) → Some q ≡ o

@@ -22,6 +22,8 @@ pub mod StandardExample
 pub mod OneKind
 pub mod OneTable
 pub mod Placing
+pub mod Parted
+pub mod Laying
 pub mod Landing
 pub mod Settling
 pub mod Parting

@@ -1,11 +1,9 @@
 -- The row of a name.
-use Rattle.std.proofs.Common.{◌≡◌, ℕ, Bool, true, false, cond, List, ◌∷◌, Option, Some, None, refl, ◌∙◌, ap, ◌⊎◌, inl, inr, eqb-true, eq-eqb, ◌<◌, suc, ◌+◌, length, get_or, drop, add-one, drop-cons, [], nat_eq, sym, subst}
-use Rattle.std.specs.Prelude.{◌==◌, is_some, ◌&&◌}
-use Rattle.std.specs.List.{IsDistinct, AllByRecursion, list_all}
+use Rattle.std.proofs.Common.{◌≡◌, ℕ, Bool, true, false, cond, List, ◌∷◌, Option, Some, None, refl, ◌∙◌, ap, ◌⊎◌, inl, inr, eqb-true, eq-eqb, zero, suc, ◌+◌, drop, add-one, [], nat_eq, sym, subst}
+use Rattle.std.specs.Prelude.{◌==◌, is_some, slice_get, ◌&&◌, ◌||◌}
+use Rattle.std.specs.List.{IsDistinct, AllByRecursion, list_all, list_any}
 use Rattle.std.proofs.lemmas.Bool.{and_parts, and_from}
 use Rattle.step_equal.specs.Rows.{Row, row_at, IsName, names}
-use Rattle.step_equal.specs.declared.row.PlainRow.{PlainRow}
-use Rattle.step_equal.specs.Views.{row_of, rows_of}
 
 -- it is the first row, or a later one
 pub row_cases : (r : Row) (rows : List Row) (y : ℕ) (p : Row) → row_at (r ∷ rows) y ≡ Some p → ((r.name ≡ y) × (r ≡ p))
@@ -109,16 +107,40 @@ module _ (test : ℕ → Bool) where
   names_all (s ∷ rows) f = and_from (test s.name) (list_all (λ r. test r.name) rows) (f s.name (name_here s rows))
       (names_all rows (λ x n. f x (name_later s rows x n)))
 
--- a step of a loop over the program's rows
-module _ (test : Row → Bool) (rows : List PlainRow) (i : ℕ) (r : PlainRow) (within : i < length rows)
-    (at : r ≡ get_or rows i r) where
-  row_next : rows_of (drop i rows) ≡ row_of r ∷ rows_of (drop (i + 1) rows)
-  row_next = ap rows_of (drop-cons rows i r within) ∙ ap (λ (s : PlainRow). row_of s ∷ rows_of (drop (suc i) rows))
-      (sym at) ∙ ap (λ n. row_of r ∷ rows_of (drop n rows)) (sym (add-one i))
+-- A step of a loop over rows by their places.
 
-  pub all_stop : test (row_of r) ≡ false → list_all test (rows_of (drop i rows)) ≡ false
-  all_stop e = ap (list_all test) row_next ∙ ap (λ b. b && list_all test (rows_of (drop (i + 1) rows))) e
+items_after : {A : Type 0} (xs : List A) (i : ℕ) (x : A) → slice_get xs i ≡ Some x → drop i xs ≡ x ∷ drop (suc i) xs
+items_after [] i x at = absurd (cc)
+items_after (y ∷ xs) zero x at = let same : y ≡ x = cc in ap (λ z. z ∷ xs) same
+items_after (y ∷ xs) (suc i) x at = items_after xs i x at
 
-  pub all_next : test (row_of r) ≡ true → list_all test (rows_of (drop i rows)) ≡ list_all test
-      (rows_of (drop (i + 1) rows))
-  all_next e = ap (list_all test) row_next ∙ ap (λ b. b && list_all test (rows_of (drop (i + 1) rows))) e
+pub items_from : {A : Type 0} (xs : List A) (i : ℕ) (x : A) → slice_get xs i ≡ Some x → drop i xs ≡ x ∷ drop (i + 1) xs
+items_from xs i x at = items_after xs i x at ∙ ap (λ n. x ∷ drop n xs) (sym (add-one i))
+
+-- the row whose name stands at a place
+pub named : (rows : List Row) (i x : ℕ) → slice_get (names rows) i ≡ Some x → (r : Row) × (slice_get rows i ≡ Some r)
+    × (r.name ≡ x)
+named [] i x at = absurd (cc)
+named (r ∷ rows) zero x at = (r, refl, cc)
+named (r ∷ rows) (suc i) x at = named rows i x at
+
+module _ (test : Row → Bool) (rows : List Row) (i : ℕ) (r : Row) (at : slice_get rows i ≡ Some r) where
+  pub all_stop : test r ≡ false → list_all test (drop i rows) ≡ false
+  all_stop e = ap (list_all test) (items_from rows i r at) ∙ ap (λ b. b && list_all test (drop (i + 1) rows)) e
+
+  pub all_next : test r ≡ true → list_all test (drop i rows) ≡ list_all test (drop (i + 1) rows)
+  all_next e = ap (list_all test) (items_from rows i r at) ∙ ap (λ b. b && list_all test (drop (i + 1) rows)) e
+
+module _ (test : ℕ → Bool) (rows : List Row) (i x : ℕ) (at : slice_get (names rows) i ≡ Some x) where
+  pub names_stop : test x ≡ false → list_all (λ r. test r.name) (drop i rows) ≡ false
+  names_stop e = let r = named rows i x at in all_stop (λ r. test r.name) rows i r.0 r.1 (ap test r.2 ∙ e)
+
+  pub names_next : test x ≡ true → list_all (λ r. test r.name) (drop i rows) ≡ list_all (λ r. test r.name)
+      (drop (i + 1) rows)
+  names_next e = let r = named rows i x at in all_next (λ r. test r.name) rows i r.0 r.1 (ap test r.2 ∙ e)
+
+  pub any_next : list_any (λ r. test r.name) (drop i rows) ≡ (test x || list_any (λ r. test r.name) (drop (i + 1) rows))
+  any_next =
+      let r = named rows i x at in
+      ap (list_any (λ r. test r.name)) (items_from rows i r.0 r.1)
+      ∙ ap (λ b. b || list_any (λ r. test r.name) (drop (i + 1) rows)) (ap test r.2)

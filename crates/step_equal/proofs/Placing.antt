@@ -1,17 +1,15 @@
 -- Names in the order of rows, and what they say of the rows.
-use Rattle.std.proofs.Common.{◌≡◌, ◌<◌, ◌≤◌, ℕ, suc, zero, Bool, true, false, cond, List, [], ◌∷◌, length, get_or, take, Option, Some, None, nat_eq, refl, sym, ◌∙◌, ap, inl, inr, eqb-true, arith}
+use Rattle.std.proofs.Common.{◌≡◌, ◌<◌, ℕ, suc, zero, Bool, true, false, cond, List, [], ◌∷◌, length, get_or, take, Option, Some, None, nat_eq, refl, sym, ◌∙◌, ap, subst, inl, inr, eqb-true, arith}
 use Rattle.std.specs.Prelude.{◌==◌, ◌||◌, is_some, slice_get, position, IfSome, MatchOption}
 use Rattle.std.specs.List.{IsDistinct, AllByRecursion, list_any}
 use Rattle.std.specs.Option.{option_map}
 use Rattle.std.proofs.lemmas.Bool.{or_cases, and_parts, and_from}
 use Rattle.std.proofs.lemmas.List.{length-map}
-use Rattle.std.proofs.lemmas.Option.{slice_get-map}
+use Rattle.std.proofs.lemmas.Option.{slice_get-map, slice_get-get_or}
 use Rattle.std.proofs.lemmas.List.Quantifiers.{position-Some}
-use Rattle.step_equal.specs.declared.row.PlainRow.{PlainRow}
 use Rattle.step_equal.specs.Rows.{Row, names, row_at, IsName, IsPopulation, AreFew}
-use Rattle.step_equal.specs.Views.{row_of, rows_of}
 use Rattle.step_values.proofs.Agreement.{eqb_sym}
-use Rattle.step_equal.proofs.Lookup.{row_here, row_later, held_name, name_held, all_rows, rows_all}
+use Rattle.step_equal.proofs.Lookup.{row_here, row_later, name_here, name_later, held_name, name_held, all_rows, rows_all}
 use Rattle.step_values.specs.Values.{Value, leaf, reference, typed, sequence, bag, Values, none, more}
 use Rattle.step_values.specs.References.{EachReference, EachReferenceOf}
 use Rattle.step_equal.specs.ComputedClosure.{references_pass, all_references_pass, rows_pass}
@@ -58,65 +56,66 @@ row_found rows i y r e at =
     let found = position-Some (nat_eq y) (names rows) i 0 e in
     row_by_place rows i y r at (ap (nat_eq y) (sym (name_by_place rows i r at)) ∙ found.1) found.2
 
+-- the name at the place where it is found
+pub name_found : (ns : List ℕ) (y i : ℕ) → position (nat_eq y) ns ≡ Some i → slice_get ns i ≡ Some y
+name_found ns y i e =
+    let found = position-Some (nat_eq y) ns i 0 e in
+    slice_get-get_or ns i 0 found.0 ∙ ap Some (sym (eqb-true y (get_or ns i 0) found.1))
+
 lost : (o : Option Row) → is_some o ≡ false → o ≡ None
 lost None h = refl
 lost (Some r) h = absurd (cc)
 
-no_end : (rows : List PlainRow) (i : ℕ) → i < length rows → slice_get rows i ≡ None → ⊥
-no_end [] i l e = absurd (omega (arith, l))
-no_end (r ∷ rows) zero l e = absurd (cc)
-no_end (r ∷ rows) (suc i) l e = no_end rows i (omega (arith, l)) e
+-- a row stands at each place
+pub stands_at : (rows : List Row) (i : ℕ) → i < length rows → (r : Row) × (slice_get rows i ≡ Some r)
+stands_at [] i l = absurd (omega (arith, l))
+stands_at (r ∷ rows) zero l = (r, refl)
+stands_at (r ∷ rows) (suc i) l = stands_at rows i (omega (arith, l))
 
 -- the name at a place
 pub name_at : (rows : List Row) (i : ℕ) (r : Row) → slice_get rows i ≡ Some r → slice_get (names rows) i ≡ Some r.name
 name_at rows i r e = slice_get-map (λ (q : Row). q.name) rows i ∙ ap (option_map (λ (q : Row). q.name)) e
 
-module _ (rows : List PlainRow) (places : List ℕ) (in_order : places ≡ names (rows_of rows)) (y : ℕ) where
-  pub row_lost : list_any (nat_eq y) places ≡ false → row_at (rows_of rows) y ≡ None
-  row_lost h = lost (row_at (rows_of rows) y) (sym (name_stands (rows_of rows) y) ∙ ap (list_any (nat_eq y))
-      (sym in_order) ∙ h)
+-- a row has each name that stands at a place
+pub named_at : (rows : List Row) (i y : ℕ) → slice_get (names rows) i ≡ Some y → IsName rows y
+named_at [] i y at = absurd (cc)
+named_at (r ∷ rows) zero y at = let same : r.name ≡ y = cc in subst (IsName (r ∷ rows)) same (name_here r rows)
+named_at (r ∷ rows) (suc i) y at = name_later r rows y (named_at rows i y at)
 
-  within : {i : ℕ} → i < length places → i < length rows
-  within l = omega (arith, l, ap length in_order, length-map (rows_of rows) (λ r. r.name), length-map rows row_of)
-
-  there : (i : ℕ) → i < length rows → (o : Option PlainRow) → slice_get rows i ≡ o → (r : Row)
-      × (slice_get (rows_of rows) i ≡ Some r)
-  there i l None e = absurd (no_end rows i l e)
-  there i l (Some r) e = (row_of r, slice_get-map row_of rows i ∙ ap (option_map row_of) e)
+module _ (rows : List Row) (places : List ℕ) (in_order : places ≡ names rows) (y : ℕ) where
+  pub row_lost : list_any (nat_eq y) places ≡ false → row_at rows y ≡ None
+  row_lost h = lost (row_at rows y) (sym (name_stands rows y) ∙ ap (list_any (nat_eq y)) (sym in_order) ∙ h)
 
   -- where the row of a name is found
   pub found_at : (o : Option ℕ) → o ≡ position (nat_eq y) places → is_some o ≡ list_any (nat_eq y) places
-      → IfSome o (λ i. i < length places) → MatchOption o (row_at (rows_of rows) y ≡ None)
-      (λ i. (i < length (rows_of rows)) × (slice_get (rows_of rows) i ≡ row_at (rows_of rows) y))
+      → IfSome o (λ i. i < length places) → MatchOption o (row_at rows y ≡ None)
+      (λ i. (i < length rows) × (slice_get rows i ≡ row_at rows y))
   found_at None e held l = row_lost (sym held)
   found_at (Some i) e held l =
-      let at = there i (within l) (slice_get rows i) refl in (
-        omega (arith, l, ap length in_order, length-map (rows_of rows) (λ r. r.name)),
-        at.1 ∙ sym (row_found (rows_of rows) i y at.0 (ap (position (nat_eq y)) (sym in_order) ∙ sym e) at.1),
-      )
+      let within : i < length rows = omega (arith, l, ap length in_order, length-map rows (λ r. r.name)) in
+      let at = stands_at rows i within in
+      (within, at.1 ∙ sym (row_found rows i y at.0 (ap (position (nat_eq y)) (sym in_order) ∙ sym e) at.1))
 
-pub few_rows : (rows : List PlainRow) → length rows ≤ 4294967295 → AreFew (rows_of rows)
-few_rows rows h = omega (arith, h, length-map rows row_of)
+pub few_rows : (rows : List Row) (ns : List ℕ) → names rows ≡ ns → length ns < 4294967296 → AreFew rows
+few_rows rows ns same h = omega (arith, h, ap length same, length-map rows (λ r. r.name))
 
 -- a name that stands among those before it stands twice
-module _ (r : PlainRow) where
-  twice : (rows : List PlainRow) (i : ℕ) → i < length rows → r ≡ get_or rows i r → (x : ℕ) → nat_eq x r.name ≡ true
-      → AllByRecursion (λ y. nat_eq x y ≡ false) (names (rows_of rows)) → ⊥
-  twice [] i l at x e apart = absurd (omega arith)
-  twice (s ∷ rows) zero l at x e apart = let h : nat_eq x s.name ≡ false = apart.0 in let k : nat_eq x s.name ≡ true =
-      ap (λ (t : PlainRow). nat_eq x t.name) (sym at) ∙ e in cc
-  twice (s ∷ rows) (suc i) l at x e apart = twice rows i (omega arith) at x e apart.1
+not_apart : (names : List ℕ) (i : ℕ) → i < length names → (x : ℕ) → nat_eq x (get_or names i 0) ≡ true
+    → AllByRecursion (λ y. nat_eq x y ≡ false) names → ⊥
+not_apart [] i l x e apart = absurd (omega arith)
+not_apart (y ∷ names) zero l x e apart = let h : nat_eq x y ≡ false = apart.0 in absurd (cc)
+not_apart (y ∷ names) (suc i) l x e apart = not_apart names i (omega arith) x e apart.1
 
-  pub not_distinct : (rows : List PlainRow) (i : ℕ) → i < length rows → r ≡ get_or rows i r → list_any (nat_eq r.name)
-      (names (rows_of (take i rows))) ≡ true → IsDistinct nat_eq (names (rows_of rows)) → ⊥
-  unfolding IsDistinct
-  not_distinct [] i l at h d = absurd (omega arith)
-  not_distinct (s ∷ rows) zero l at h d = absurd (cc)
-  not_distinct (s ∷ rows) (suc i) l at h d =
-      elim (or_cases (nat_eq r.name s.name) (list_any (nat_eq r.name) (names (rows_of (take i rows)))) h) [
-        | inl e ↦ twice rows i (omega arith) at s.name (turned s.name r.name ∙ e) d.0
-        | inr later ↦ not_distinct rows i (omega arith) at later d.1
-      ]
+pub not_distinct : (names : List ℕ) (i : ℕ) → i < length names → list_any (nat_eq (get_or names i 0)) (take i names)
+    ≡ true → IsDistinct nat_eq names → ⊥
+unfolding IsDistinct
+not_distinct [] i l h d = absurd (omega arith)
+not_distinct (y ∷ names) zero l h d = absurd (cc)
+not_distinct (y ∷ names) (suc i) l h d =
+    elim (or_cases (nat_eq (get_or names i 0) y) (list_any (nat_eq (get_or names i 0)) (take i names)) h) [
+      | inl e ↦ not_apart names i (omega arith) y (turned y (get_or names i 0) ∙ e) d.0
+      | inr later ↦ not_distinct names i (omega arith) later d.1
+    ]
 
 -- The test of a population's references decides that they name rows.
 

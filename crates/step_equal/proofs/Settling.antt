@@ -11,19 +11,21 @@ use Rattle.std.specs.Ordering.{nat_cmp, on, eq_by_cmp}
 use Rattle.std.specs.Str.{bytes_eq}
 use Rattle.std.proofs.lemmas.Cmp.{nat_list_cmp_total}
 use Rattle.std.proofs.Math.Seq.{take-suc, take-suc-set, take-append_seam}
-use Rattle.std.proofs.lemmas.List.{length-map, length-set, drop-set-lt}
+use Rattle.std.proofs.lemmas.List.{length-set, drop-set-lt}
 use Rattle.std.proofs.lemmas.List.Elements.{AllZip-push, length_all_zip}
 use Rattle.std.proofs.lemmas.List.Filters.{dedup_is}
 use Rattle.std.proofs.lemmas.List.Kept.{IsStrictlySortedBy-dedup}
 use Rattle.std.proofs.lemmas.List.Sorted.{list_any-IsPermutation}
 use Rattle.std.proofs.lemmas.Slice.Eq.{bytes_eq-Decides}
 use Rattle.step_literals.specs.declared.literal.Word.{Word}
-use Rattle.step_equal.specs.declared.row.PlainRow.{PlainRow}
+use Rattle.step_equal.specs.declared.row.RowHead.{RowHead}
 use Rattle.step_values.specs.References.{EachReferenceOf}
 use Rattle.step_equal.specs.Rows.{Row, names, row_at, IsName, IsPopulation, AreFew}
 use Rattle.step_equal.specs.Settled.{AreInOrder, IsSettled}
 use Rattle.step_values.specs.Views.{word_of}
-use Rattle.step_equal.specs.Views.{row_of, rows_of}
+use Rattle.step_values.specs.Values.{Values}
+use Rattle.step_equal.specs.ComputedHeads.{SettlesHead}
+use Rattle.step_equal.specs.Views.{rows_from}
 use Rattle.step_equal.proofs.Lookup.{row_cases, row_here, row_later, held_name, name_held}
 use Rattle.step_equal.proofs.Placing.{name_stands}
 use Rattle.step_values.proofs.References.{each_weaker_of}
@@ -89,88 +91,84 @@ sorted_words old sorted new reordered up kept =
           ∙ sym (any_map (bytes_eq w) old);
     }
 
-abbrev pub Settles : PlainRow → PlainRow → Type 0
-Settles r q = IsSettled (row_of r) (row_of q)
-
-pub names_settled : (rs qs : List PlainRow) → AllZip Settles rs qs → names (rows_of qs) ≡ names (rows_of rs)
+pub names_settled : (rs qs : List Row) → AllZip IsSettled rs qs → names qs ≡ names rs
 names_settled [] [] z = refl
 names_settled [] (q ∷ qs) z = absurd z
 names_settled (r ∷ rs) [] z = absurd z
 names_settled (r ∷ rs) (q ∷ qs) z = let first = z.0.name in let rest = names_settled rs qs z.1 in cc
 
-pub few_settled : (rs qs : List PlainRow) → AllZip Settles rs qs → AreFew (rows_of rs) → AreFew (rows_of qs)
-few_settled rs qs z few =
-    omega (arith, few, length-map rs row_of, length-map qs row_of, length_all_zip Settles rs qs z)
+pub few_settled : (rs qs : List Row) → AllZip IsSettled rs qs → AreFew rs → AreFew qs
+few_settled rs qs z few = omega (arith, few, length_all_zip IsSettled rs qs z)
 
-row_settled : (rs qs : List PlainRow) → AllZip Settles rs qs → (x : ℕ) (q : Row) → row_at (rows_of qs) x ≡ Some q
-    → (r : Row) × (row_at (rows_of rs) x ≡ Some r) × (r.values ≡ q.values)
+row_settled : (rs qs : List Row) → AllZip IsSettled rs qs → (x : ℕ) (q : Row) → row_at qs x ≡ Some q
+    → (r : Row) × (row_at rs x ≡ Some r) × (r.values ≡ q.values)
 row_settled [] [] z x q n = absurd (cc)
 row_settled [] (p ∷ qs) z x q n = absurd z
 row_settled (r ∷ rs) [] z x q n = absurd z
 row_settled (r ∷ rs) (p ∷ qs) z x q n =
-    elim (row_cases (row_of p) (rows_of qs) x q n) [
+    elim (row_cases p qs x q n) [
       | inl here ↦ (
-        row_of r,
-        row_here (row_of r) (rows_of rs) x (sym z.0.name ∙ here.0),
-        sym z.0.values
-            ∙ ap (λ (s : Row). s.values) here.1,
+        r,
+        row_here r rs x (sym z.0.name ∙ here.0),
+        sym z.0.values ∙ ap (λ (s : Row). s.values) here.1,
       )
       | inr there ↦ (
           let later = row_settled rs qs z.1 x q there.1 in
-          (later.0, row_later (row_of r) (rows_of rs) x (ap (λ n. n == x) (sym z.0.name) ∙ there.0) ∙ later.1, later.2)
+          (later.0, row_later r rs x (ap (λ n. n == x) (sym z.0.name) ∙ there.0) ∙ later.1, later.2)
           )
     ]
 
-pub population_settled : (rs qs : List PlainRow) → AllZip Settles rs qs → IsPopulation (rows_of rs)
-    → IsPopulation (rows_of qs)
+pub population_settled : (rs qs : List Row) → AllZip IsSettled rs qs → IsPopulation rs → IsPopulation qs
 population_settled rs qs z population = record {
   distinct = subst (IsDistinct (◌==◌)) (sym (names_settled rs qs z)) population.distinct;
   closed = λ x q n.
       let r = row_settled rs qs z x q n in
-      subst (EachReferenceOf (IsName (rows_of qs))) r.2 (each_weaker_of (IsName (rows_of rs)) (IsName (rows_of qs))
-      named r.0.values (population.closed x r.0 r.1));
+      subst (EachReferenceOf (IsName qs)) r.2 (each_weaker_of (IsName rs) (IsName qs) named r.0.values
+      (population.closed x r.0 r.1));
 }
   where
-    named : (y : ℕ) → IsName (rows_of rs) y → IsName (rows_of qs) y
+    named : (y : ℕ) → IsName rs y → IsName qs y
     named y m =
-        held_name (rows_of qs) y
-        (sym (name_stands (rows_of qs) y) ∙ ap (list_any (nat_eq y)) (names_settled rs qs z) ∙ name_stands (rows_of rs)
-        y ∙ name_held (rows_of rs) y m)
+        held_name qs y
+        (sym (name_stands qs y) ∙ ap (list_any (nat_eq y)) (names_settled rs qs z) ∙ name_stands rs y
+        ∙ name_held rs y m)
 
--- a step of a loop that settles rows in place
-module _ (first rows : List PlainRow) (i : ℕ) (r q : PlainRow) (len : length rows ≡ length first)
-    (left : drop i rows ≡ drop i first) (within : i < length rows) (at : r ≡ get_or rows i r) where
-  heads : get_or rows i r ∷ drop (suc i) rows ≡ get_or first i r ∷ drop (suc i) first
-  heads = sym (drop-cons rows i r within) ∙ left ∙ drop-cons first i r (omega (arith, len, within))
+-- a step of a loop that settles heads in place
+module _ (first heads : List RowHead) (i : ℕ) (h g : RowHead) (len : length heads ≡ length first)
+    (left : drop i heads ≡ drop i first) (within : i < length heads) (at : h ≡ get_or heads i h) where
+  ahead : get_or heads i h ∷ drop (suc i) heads ≡ get_or first i h ∷ drop (suc i) first
+  ahead = sym (drop-cons heads i h within) ∙ left ∙ drop-cons first i h (omega (arith, len, within))
 
-  pub settled_len : length (set rows i q) ≡ length first
-  settled_len = length-set rows i q ∙ len
+  pub settled_len : length (set heads i g) ≡ length first
+  settled_len = length-set heads i g ∙ len
 
-  pub settled_left : drop (i + 1) (set rows i q) ≡ drop (i + 1) first
-  settled_left = rw add-one (drop-set-lt (suc i) rows i q (omega arith) ∙ (let e = heads in cc))
+  pub settled_left : drop (i + 1) (set heads i g) ≡ drop (i + 1) first
+  settled_left = rw add-one (drop-set-lt (suc i) heads i g (omega arith) ∙ (let e = ahead in cc))
 
-  pub settled_done : AllZip Settles (take i first) (take i rows) → Settles (get_or rows i r) q
-      → AllZip Settles (take (i + 1) first) (take (i + 1) (set rows i q))
+  pub settled_done : AllZip SettlesHead (take i first) (take i heads) → SettlesHead (get_or heads i h) g
+      → AllZip SettlesHead (take (i + 1) first) (take (i + 1) (set heads i g))
   settled_done done settles =
-      let here : r ≡ get_or first i r = at ∙ (let e = heads in cc) in
-      let before : take (i + 1) first ≡ take i first ++ r ∷ [] =
-      rw add-one (take-suc first i r (omega (arith, len, within)) ∙ ap (λ s. take i first ++ s ∷ []) (sym here)) in
-      let after : take (i + 1) (set rows i q) ≡ take i rows ++ q ∷ [] = rw add-one (take-suc-set rows i q within) in
-      subst (λ (t : List PlainRow). AllZip Settles t (take (i + 1) (set rows i q))) (sym before)
-      (subst (λ (t : List PlainRow). AllZip Settles (take i first ++ r ∷ []) t) (sym after)
-      (AllZip-push Settles (take i first) (take i rows) r q done (subst (λ (t : PlainRow). Settles t q) (sym at)
+      let here : h ≡ get_or first i h = at ∙ (let e = ahead in cc) in
+      let before : take (i + 1) first ≡ take i first ++ h ∷ [] =
+      rw add-one (take-suc first i h (omega (arith, len, within)) ∙ ap (λ s. take i first ++ s ∷ []) (sym here)) in
+      let after : take (i + 1) (set heads i g) ≡ take i heads ++ g ∷ [] = rw add-one (take-suc-set heads i g within) in
+      subst (λ (t : List RowHead). AllZip SettlesHead t (take (i + 1) (set heads i g))) (sym before)
+      (subst (λ (t : List RowHead). AllZip SettlesHead (take i first ++ h ∷ []) t) (sym after)
+      (AllZip-push SettlesHead (take i first) (take i heads) h g done (subst (λ (t : RowHead). SettlesHead t g) (sym at)
       settles)))
 
-pub rows_settled : (rs qs : List PlainRow) → AllZip Settles rs qs → AllZip IsSettled (rows_of rs) (rows_of qs)
-rows_settled [] [] z = tt
-rows_settled [] (q ∷ qs) z = absurd z
-rows_settled (r ∷ rs) [] z = absurd z
-rows_settled (r ∷ rs) (q ∷ qs) z = (z.0, rows_settled rs qs z.1)
+pub rows_settled : (hs gs : List RowHead) (rows : List Values) → AllZip SettlesHead hs gs
+    → AllZip IsSettled (rows_from hs rows) (rows_from gs rows)
+rows_settled [] [] rows z = tt
+rows_settled [] (g ∷ gs) rows z = absurd z
+rows_settled (h ∷ hs) [] rows z = absurd z
+rows_settled (h ∷ hs) (g ∷ gs) [] z = tt
+rows_settled (h ∷ hs) (g ∷ gs) (vs ∷ rows) z = (z.0 vs, rows_settled hs gs rows z.1)
 
 -- a list of which all is replaced
-whole : (n : ℕ) (old new : List PlainRow) → n ≡ length new → take n (new ++ drop (length new) old) ≡ new
+whole : (n : ℕ) (old new : List RowHead) → n ≡ length new → take n (new ++ drop (length new) old) ≡ new
 whole n old new e = ap (λ k. take k (new ++ drop (length new) old)) e ∙ take-append_seam new (drop (length new) old)
 
-pub whole_settled : (n : ℕ) (old new : List PlainRow) → n ≡ length old → AllZip Settles old new
+pub whole_settled : (n : ℕ) (old new : List RowHead) → n ≡ length old → AllZip SettlesHead old new
     → take n (new ++ drop (length new) old) ≡ new
-whole_settled n old new e z = whole n old new (e ∙ length_all_zip Settles old new z)
+whole_settled n old new e z = whole n old new (e ∙ length_all_zip SettlesHead old new z)

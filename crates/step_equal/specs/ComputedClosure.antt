@@ -1,7 +1,9 @@
 -- What the code computes; no promise stands here. Whether the references of rows pass a test.
-use Rattle.std.specs.Prelude.{ℕ, ◌&&◌, Bool, true, List}
+use Rattle.std.specs.Prelude.{◌≡◌, ⊤, ℕ, ◌&&◌, Bool, true, false, List}
 use Rattle.std.specs.List.{list_all}
 use Rattle.step_values.specs.Values.{Value, leaf, reference, typed, sequence, bag, Values, none, more}
+use Rattle.step_equal.specs.declared.fault.PlainFault.{PlainFault}
+use Rattle.step_equal.specs.declared.fault.PlainFault.TheVariants.{UnknownReference, Memory}
 use Rattle.step_equal.specs.Rows.{Row}
 
 -- whether each reference at any depth passes
@@ -20,3 +22,9 @@ abbrev mutual
 -- whether each reference of each row does
 abbrev pub rows_pass : (ℕ → Bool) → List Row → Bool
 rows_pass p rows = list_all (λ r. all_references_pass p r.values) rows
+
+-- why values are refused whose references pass or don't: one doesn't, or memory ran out
+abbrev pub IsRefusal : Bool → PlainFault → Type 0
+IsRefusal passes UnknownReference = passes ≡ false
+IsRefusal passes Memory = ⊤
+IsRefusal passes _ = ⊥

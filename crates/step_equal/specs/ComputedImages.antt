@@ -5,11 +5,16 @@ use Rattle.std.specs.BTreeMap.{BTreeMap}
 use Rattle.std.specs.BTreeSet.{BTreeSet}
 use Rattle.std.specs.HashMap.{HashMap, get}
 use Rattle.step_values.specs.References.{renamed_each}
-use Rattle.step_equal.specs.Rows.{Row, kind_of, row_at, IsName}
+use Rattle.step_equal.specs.Rows.{Row, kind_of, row_at, IsName, RowsAgree, renamed_row}
 use Rattle.step_values.specs.ComputedAgreement.{same_each_test}
 use Rattle.step_equal.specs.ComputedKinds.{kind_test}
 use Rattle.step_values.specs.Maps.{led_by}
 use Rattle.step_equal.specs.Maps.{is_pinned}
+
+-- each row of P is led to one of Q that agrees with it
+abbrev pub Lands : List Row → List Row → (ℕ → ℕ) → Type 0
+Lands P Q h = (x : ℕ) (p : Row) → row_at P x ≡ Some p → (q : Row) × (row_at Q (h x) ≡ Some q)
+    × RowsAgree (renamed_row h p) q
 
 abbrev pub IsOnto : List Row → List Row → (ℕ → ℕ) → Type 0
 IsOnto P Q h = (y : ℕ) → IsName Q y → (x : ℕ) × IsName P x × (h x ≡ y)

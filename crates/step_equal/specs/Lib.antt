@@ -14,3 +14,4 @@ pub mod Maps
 pub mod ComputedKinds
 pub mod ComputedImages
 pub mod Settled
+pub mod ComputedHeads

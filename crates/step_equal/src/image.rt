@@ -7,20 +7,22 @@ ghost use Rattle.std.specs.HashSet.{contains as hash_contains};
 ghost use Rattle.std.specs.List.{list_all, list_any};
 ghost use Rattle.std.specs.Ordering.{nat_cmp, eq_by_cmp};
 ghost use Rattle.step_equal.specs.ComputedImages.{
+  Lands,
   IsOnto,
   LeavesAlone,
   lands_by,
   is_reached,
   source_by,
+  is_source,
   is_source_by,
 };
 ghost use Rattle.step_values.specs.Maps.{led_by};
 ghost use Rattle.step_equal.specs.Maps.{is_key, is_pinned, IsMapImage};
 ghost use Rattle.step_equal.specs.Rows.{row_at, IsName};
-ghost use Rattle.step_equal.specs.Views.{row_of, row_seen, rows_of};
+ghost use Rattle.step_equal.specs.Views.{row_seen};
 
 use crate::plain::Plain;
-use crate::row::{PlainRow, RowSlot, is_one_kind};
+use crate::row::{RowSlot, is_one_kind};
 use std::alloc::{AllocError, Global};
 use std::collections::{BTreeSet, HashMap, HashSet};
 use std::hash::RandomState;
@@ -45,13 +47,13 @@ pub fn is_image<'p, 'q>(
     if !has_domain(map, p) {
         return Ok(false);
     }
-    if !rows_land(alloc, map, p.rows(), q)? {
+    if !rows_land(alloc, map, p, q)? {
         return Ok(false);
     }
-    if !is_onto(alloc, keys, map, p.rows(), q.rows())? {
+    if !is_onto(alloc, keys, map, p, q)? {
         return Ok(false);
     }
-    leaves_alone(alloc, keys, map, p.rows(), pinned)
+    leaves_alone(alloc, keys, map, p, pinned)
 }
 
 /// Whether the map has the names of the rows, and no other.
@@ -59,7 +61,7 @@ fn has_domain<'a>(map: &Map, p: &Plain<'a>) -> bool
     ensures { IsTrue result ↔ ((y : ℕ) → (is_key map.now y ≡ true) ↔ IsName p.now y) }
 {
     if keys_are_names(map, p) {
-        names_are_keys(map, p.rows())
+        names_are_keys(map, p)
     } else {
         false
     }
@@ -74,11 +76,11 @@ fn keys_are_names<'a>(map: &Map, p: &Plain<'a>) -> bool
 }
 
 /// Whether the map has the name of each row.
-fn names_are_keys<'a>(map: &Map, rows: &[PlainRow<'a>]) -> bool
-    ensures { result ≡ list_all (λ p. is_key map.now p.name) (rows_of rows.now) }
+fn names_are_keys<'a>(map: &Map, p: &Plain<'a>) -> bool
+    ensures { result ≡ list_all (λ r. is_key map.now r.name) p.now }
 {
-    for row in rows {
-        if !map.contains_key(&row.name) {
+    for place in 0..p.len() {
+        if !map.contains_key(&p.name(place)) {
             return false;
         }
     }
@@ -89,13 +91,13 @@ fn names_are_keys<'a>(map: &Map, rows: &[PlainRow<'a>]) -> bool
 fn rows_land<'p, 'q>(
     alloc: Global,
     map: &Map,
-    rows: &[PlainRow<'p>],
+    p: &Plain<'p>,
     q: &Plain<'q>,
 ) -> Result<bool, AllocError>
-    ensures { IfOk result (λ b. b ≡ list_all (lands_by map.now q.now) (rows_of rows.now)) }
+    ensures { IfOk result (λ b. IsTrue b ↔ Lands p.now q.now (led_by map.now)) }
 {
-    for row in rows {
-        if !row_lands(alloc, map, &RowSlot::of(row), q)? {
+    for place in 0..p.len() {
+        if !row_lands(alloc, map, &p.row(place), q)? {
             return Ok(false);
         }
     }
@@ -121,19 +123,18 @@ fn row_lands<'p, 'a, 'q>(
     same_each(alloc, map, &Itself, &row.values, &other.values)
 }
 
-/// Whether each of the others is reached.
+/// Whether each row of the second is reached.
 fn is_onto<'p, 'q>(
     alloc: Global,
     keys: RandomState,
     map: &Map,
-    rows: &[PlainRow<'p>],
-    others: &[PlainRow<'q>],
+    p: &Plain<'p>,
+    q: &Plain<'q>,
 ) -> Result<bool, AllocError>
-    ensures { IfOk result
-        (λ b. IsTrue b ↔ IsOnto (rows_of rows.now) (rows_of others.now) (led_by map.now)) }
+    ensures { IfOk result (λ b. IsTrue b ↔ IsOnto p.now q.now (led_by map.now)) }
 {
-    let reached = reached(alloc, keys, map, rows)?;
-    Ok(are_reached(&reached, others))
+    let reached = reached(alloc, keys, map, p)?;
+    Ok(are_reached(&reached, q))
 }
 
 /// The names to which the rows are led.
@@ -141,24 +142,24 @@ fn reached<'a>(
     alloc: Global,
     keys: RandomState,
     map: &Map,
-    rows: &[PlainRow<'a>],
+    p: &Plain<'a>,
 ) -> Result<HashSet<u64, RandomState>, AllocError>
     ensures { IfOk result
-        (λ s. (y : ℕ) → hash_contains nat_eq s y ≡ is_reached map.now (rows_of rows.now) y) }
+        (λ s. (y : ℕ) → hash_contains nat_eq s y ≡ is_reached map.now p.now y) }
 {
     let mut reached = HashSet::with_hasher(alloc, keys);
-    for row in rows {
-        reached.insert(lead(map, row.name))?;
+    for place in 0..p.len() {
+        reached.insert(lead(map, p.name(place)))?;
     }
     Ok(reached)
 }
 
 /// Whether each row's name is one of them.
-fn are_reached<'a>(reached: &HashSet<u64, RandomState>, rows: &[PlainRow<'a>]) -> bool
-    ensures { result ≡ list_all (λ q. hash_contains nat_eq reached.now q.name) (rows_of rows.now) }
+fn are_reached<'a>(reached: &HashSet<u64, RandomState>, q: &Plain<'a>) -> bool
+    ensures { result ≡ list_all (λ r. hash_contains nat_eq reached.now r.name) q.now }
 {
-    for row in rows {
-        if !reached.contains(&row.name) {
+    for place in 0..q.len() {
+        if !reached.contains(&q.name(place)) {
             return false;
         }
     }
@@ -170,14 +171,14 @@ fn leaves_alone<'a>(
     alloc: Global,
     keys: RandomState,
     map: &Map,
-    rows: &[PlainRow<'a>],
+    p: &Plain<'a>,
     pinned: &BTreeSet<u64>,
 ) -> Result<bool, AllocError>
     ensures { IfOk result
-        (λ b. IsTrue b ↔ LeavesAlone (rows_of rows.now) (led_by map.now) (is_pinned pinned.now)) }
+        (λ b. IsTrue b ↔ LeavesAlone p.now (led_by map.now) (is_pinned pinned.now)) }
 {
-    let sources = pinned_sources(alloc, keys, map, rows, pinned)?;
-    Ok(are_sources(&sources, map, rows))
+    let sources = pinned_sources(alloc, keys, map, p, pinned)?;
+    Ok(are_sources(&sources, map, p))
 }
 
 /// By the name to which it is led, the last pinned row that is led there.
@@ -185,43 +186,40 @@ fn pinned_sources<'a>(
     alloc: Global,
     keys: RandomState,
     map: &Map,
-    rows: &[PlainRow<'a>],
+    p: &Plain<'a>,
     pinned: &BTreeSet<u64>,
 ) -> Result<HashMap<u64, u64, RandomState>, AllocError>
     ensures { IfOk result
-        (λ s. (y : ℕ) → hash_get nat_eq s y ≡ source_by map.now pinned.now (rows_of rows.now) y) }
+        (λ s. (y : ℕ) → hash_get nat_eq s y ≡ source_by map.now pinned.now p.now y) }
 {
     let mut sources = HashMap::with_hasher(alloc, keys);
-    for row in rows {
-        if pinned.contains(&row.name) {
-            sources.insert(lead(map, row.name), row.name)?;
+    for place in 0..p.len() {
+        let name = p.name(place);
+        if pinned.contains(&name) {
+            sources.insert(lead(map, name), name)?;
         }
     }
     Ok(sources)
 }
 
 /// Whether each row that is led to where a pinned one is, is that one.
-fn are_sources<'a>(
-    sources: &HashMap<u64, u64, RandomState>,
-    map: &Map,
-    rows: &[PlainRow<'a>],
-) -> bool
-    ensures { result ≡ list_all (is_source_by sources.now map.now) (rows_of rows.now) }
+fn are_sources<'a>(sources: &HashMap<u64, u64, RandomState>, map: &Map, p: &Plain<'a>) -> bool
+    ensures { result ≡ list_all (is_source_by sources.now map.now) p.now }
 {
-    for row in rows {
-        if !is_source(sources, map, row) {
+    for place in 0..p.len() {
+        if !is_source(sources, map, p.name(place)) {
             return false;
         }
     }
     true
 }
 
-/// Whether a row is.
-fn is_source<'a>(sources: &HashMap<u64, u64, RandomState>, map: &Map, row: &PlainRow<'a>) -> bool
-    ensures { result ≡ is_source_by sources.now map.now (row_of row.now) }
+/// Whether the row of a name is.
+fn is_source(sources: &HashMap<u64, u64, RandomState>, map: &Map, name: u64) -> bool
+    ensures { result ≡ is_source (hash_get nat_eq sources.now (led_by map.now name)) name }
 {
-    match sources.get(&lead(map, row.name)) {
+    match sources.get(&lead(map, name)) {
         None => true,
-        Some(source) => *source == row.name,
+        Some(source) => *source == name,
     }
 }

@@ -8,7 +8,10 @@
 
 pub mod fault;
 pub mod image;
+mod laid;
 pub mod laws;
+mod parts;
+mod places;
 pub mod plain;
 pub mod row;
 mod settled;

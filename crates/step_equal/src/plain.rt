@@ -14,38 +14,37 @@ ghost use Rattle.std.specs.Prelude.{
   None,
   Some,
 };
-ghost use Rattle.std.specs.List.{IsDistinct, AllZip};
-ghost use Rattle.indexmap.specs.IndexSet.{contains};
-ghost use Rattle.step_equal.specs.ComputedClosure.{references_pass, all_references_pass, rows_pass};
+ghost use Rattle.std.specs.List.{IsDistinct, AllZip, sum_by};
+ghost use Rattle.columns.specs.Nodes.{IsColumn};
+ghost use Rattle.step_values.specs.Cells.{value_nodes};
+ghost use Rattle.step_values.specs.NodeCounts.{nodes_in};
+ghost use Rattle.step_values.specs.Targets.{LeadTo, ReferTo, targets_of};
 ghost use Rattle.step_equal.specs.ComputedCodes.{coded_rows};
+ghost use Rattle.step_equal.specs.ComputedPlaces.{IsKept};
 ghost use Rattle.step_equal.specs.Faults.{IsFaultOf};
-ghost use Rattle.step_equal.specs.ComputedPlaces.{IsPlaced};
 ghost use Rattle.step_equal.specs.Rows.{Row, AreFew, IsPopulation, names, row_at};
 ghost use Rattle.step_equal.specs.Settled.{IsSettled};
-ghost use Rattle.step_values.specs.Views.{value_of, values_of};
-ghost use Rattle.step_equal.specs.Views.{rows_of, row_seen};
+ghost use Rattle.step_equal.specs.Views.{head_names, row_seen, rows_from, rows_of};
 
 use crate::fault::PlainFault;
-use crate::row::{PlainRow, RowSlot};
-use crate::settled::settle_rows;
-use indexmap::IndexSet;
-use std::alloc::Global;
+use crate::laid::laid_down;
+use crate::parts::{head_names, heads_of, row_names};
+use crate::places::{Names, places_of};
+use crate::row::{PlainRow, RowHead, RowSlot};
+use crate::settled::settle_heads;
+use std::alloc::{AllocError, Global};
 use std::hash::RandomState;
 use std::marker::Model;
-use step_values::value::PlainValue;
-
-/// As many rows as a population has at most, so that the classes of its instances have numbers of
-/// 32 bits.
-const MOST_ROWS: usize = 4_294_967_295;
-
-/// The names of rows, in order. They are hashed by keys that the author of a text doesn't know, so
-/// that nobody can choose names that are slow to find.
-type Names = IndexSet<u64, RandomState>;
+use step_values::cell::Cell;
+use step_values::rows::ValueRows;
 
 /// A population: at most 2^32 - 1 rows, no name stands twice, and each reference names a row.
+///
+/// The values of all rows stand in one column of cells.
 #[derive(Drop)]
 pub struct Plain<'a> {
-    rows: Vec<PlainRow<'a>>,
+    heads: Vec<RowHead<'a>>,
+    values: ValueRows<'a>,
     places: Names,
 }
 
@@ -54,9 +53,9 @@ impl<'a> Model for Plain<'a> {
 
     ghost coded = { coded_rows };
 
-    ghost view = { λ p. rows_of p.rows.items };
+    ghost view = { λ p. rows_from p.heads.items p.values.rows };
 
-    ghost invariant = { λ p. IsPlaced p.places.keys (rows_of p.rows.items) };
+    ghost invariant = { λ p. IsKept p.heads.items p.values p.places.keys };
 }
 
 impl<'a> Plain<'a> {
@@ -77,13 +76,40 @@ impl<'a> Plain<'a> {
         ensures few { IfOk result (λ p. AreFew p) }
         ensures fault { IfErr result (λ e. IsFaultOf (rows_of rows.entry.items) e) }
     {
-        let places = places_of(alloc, keys, &rows)?;
-        if !refer_within(&places, &rows) {
-            return Err(PlainFault::UnknownReference);
-        }
-        let mut rows = rows;
-        settle_rows(&mut rows)?;
-        Ok(Plain { rows, places })
+        let names = row_names(alloc, &rows)?;
+        let places = places_of(alloc, keys, &names)?;
+        let values = laid_down(alloc, &names, &places, &rows)?;
+        let heads = heads_of(alloc, rows)?;
+        Ok(settled(heads, values, places)?)
+    }
+
+    /// The population of these heads and, for each in order, its row of values, with the type words
+    /// of each in order and none twice. The values were put together over the names of the heads,
+    /// so that each reference in them has the place of its row.
+    ///
+    /// Where there are more than 2^32 - 1 rows the fault is `TooManyRows`, else where a name stands
+    /// twice `DuplicateRow`; where memory runs out it is `Memory`.
+    ///
+    /// Names are hashed by these keys.
+    pub fn from_parts(
+        alloc: Global,
+        keys: RandomState,
+        heads: Vec<RowHead<'a>>,
+        values: ValueRows<'a>,
+    ) -> Result<Plain<'a>, PlainFault>
+        requires each { length heads.items ≡ length values.rows }
+        requires leads { LeadTo (head_names heads.items) values.targets }
+        requires closed { ReferTo (head_names heads.items) values.rows }
+        ensures rows { IfOk result
+            (λ p. AllZip IsSettled (rows_from heads.entry.items values.entry.rows) p) }
+        ensures population { IfOk result (λ p. IsPopulation p) }
+        ensures few { IfOk result (λ p. AreFew p) }
+        ensures fault { IfErr result
+            (λ e. IsFaultOf (rows_from heads.entry.items values.entry.rows) e) }
+    {
+        let names = head_names(alloc, &heads)?;
+        let places = places_of(alloc, keys, &names)?;
+        Ok(settled(heads, values, places)?)
     }
 
     /// How many rows it has.
@@ -92,15 +118,7 @@ impl<'a> Plain<'a> {
         ensures few { AreFew self.now }
         ensures population { IsPopulation self.now }
     {
-        self.rows.len()
-    }
-
-    /// Its rows, in order, as they are kept.
-    pub(crate) fn rows(&self) -> &[PlainRow<'a>]
-        ensures rows { rows_of result.now ≡ self.now }
-        ensures population { IsPopulation self.now }
-    {
-        &self.rows
+        self.heads.len()
     }
 
     /// The row at a place, counted from 0.
@@ -108,7 +126,7 @@ impl<'a> Plain<'a> {
         requires { place < length self.now }
         ensures { slice_get self.now place ≡ Some (row_seen result) }
     {
-        row_in(&self.rows, place)
+        row_in(&self.heads, &self.values, place)
     }
 
     /// The name of the row at a place.
@@ -133,77 +151,55 @@ impl<'a> Plain<'a> {
     {
         self.places.contains(&name)
     }
-}
 
-fn row_in<'p, 'a>(rows: &'p [PlainRow<'a>], place: usize) -> RowSlot<'p, 'a>
-    requires { place < length rows.now }
-    ensures { slice_get (rows_of rows.entry.now) place ≡ Some (row_seen result) }
-{
-    RowSlot::of(&rows[place])
-}
-
-/// The names of the rows, in order.
-fn places_of<'a>(
-    alloc: Global,
-    keys: RandomState,
-    rows: &[PlainRow<'a>],
-) -> Result<Names, PlainFault>
-    ensures places { IfOk result (λ s. s.keys ≡ names (rows_of rows.now)) }
-    ensures few { IfOk result (λ _. AreFew (rows_of rows.now)) }
-    ensures distinct { IfOk result (λ _. IsDistinct nat_eq (names (rows_of rows.now))) }
-    ensures fault { IfErr result (λ e. IsFaultOf (rows_of rows.now) e) }
-{
-    if rows.len() > MOST_ROWS {
-        return Err(PlainFault::TooManyRows);
-    }
-    let mut places = IndexSet::with_capacity_and_hasher(alloc, rows.len(), keys)?;
-    for row in rows {
-        if !places.insert(row.name)? {
-            return Err(PlainFault::DuplicateRow);
-        }
-    }
-    Ok(places)
-}
-
-/// Whether each reference of each row is one of the names.
-fn refer_within<'a>(names: &Names, rows: &[PlainRow<'a>]) -> bool
-    ensures { result ≡ rows_pass (contains nat_eq names.now) (rows_of rows.now) }
-{
-    for row in rows {
-        if !all_refer_within(names, &row.values) {
-            return false;
-        }
-    }
-    true
-}
-
-/// Whether each reference of a value is.
-#[cycle(refer)]
-fn refers_within<'a>(names: &Names, value: &PlainValue<'a>) -> bool
-    ensures { result ≡ references_pass (contains nat_eq names.now) (value_of value.now) }
-{
-    match value {
-        PlainValue::Unset | PlainValue::Derived => true,
-        PlainValue::Number(_) => true,
-        PlainValue::Text(_) => true,
-        PlainValue::Bits(_) => true,
-        PlainValue::Element(_) => true,
-        PlainValue::Reference(name) => names.contains(name),
-        PlainValue::Typed(_, inner) => refers_within(names, inner),
-        PlainValue::Sequence(values) => all_refer_within(names, values),
-        PlainValue::Bag(values) => all_refer_within(names, values),
+    /// The values of all rows as one column: one cell for each node of a value, what is inside each
+    /// before it, and in each reference the place of the row that it names. It takes no memory.
+    pub fn cells(&self) -> &[Cell<'a>]
+        ensures column { IsColumn value_nodes result.now }
+        ensures count { length result.now ≡ sum_by (λ r. nodes_in r.values) self.now }
+        ensures references { LeadTo (names self.now) (targets_of result.now) }
+    {
+        self.values.cells()
     }
 }
 
-/// Whether each reference of some values is.
-#[cycle(refer)]
-fn all_refer_within<'a>(names: &Names, values: &[PlainValue<'a>]) -> bool
-    ensures { result ≡ all_references_pass (contains nat_eq names.now) (values_of values.now) }
+/// The row of a head and the values at its place.
+fn row_in<'p, 'a>(
+    heads: &'p [RowHead<'a>],
+    values: &'p ValueRows<'a>,
+    place: usize,
+) -> RowSlot<'p, 'a>
+    requires head { place < length heads.now }
+    requires values { place < length values.now.rows }
+    ensures { slice_get (rows_from heads.entry.now values.entry.now.rows) place
+        ≡ Some (row_seen result) }
 {
-    for value in values {
-        if !refers_within(names, value) {
-            return false;
-        }
-    }
-    true
+    RowSlot::of(&heads[place], values.row(place))
+}
+
+/// The population of heads and their rows of values, with the type words of each in order and none
+/// twice.
+fn settled<'a>(
+    heads: Vec<RowHead<'a>>,
+    values: ValueRows<'a>,
+    places: Names,
+) -> Result<Plain<'a>, AllocError>
+    requires each { length heads.items ≡ length values.rows }
+    requires places { places.keys ≡ head_names heads.items }
+    requires few { length places.keys < 4294967296 }
+    requires distinct { IsDistinct nat_eq places.keys }
+    requires leads { LeadTo places.keys values.targets }
+    requires closed { ReferTo places.keys values.rows }
+    ensures rows { IfOk result
+        (λ p. AllZip IsSettled (rows_from heads.entry.items values.entry.rows) p) }
+    ensures population { IfOk result (λ p. IsPopulation p) }
+    ensures few { IfOk result (λ p. AreFew p) }
+{
+    let mut heads = heads;
+    settle_heads(&mut heads)?;
+    Ok(Plain {
+        heads,
+        values,
+        places,
+    })
 }

@@ -6,7 +6,7 @@ ghost use Rattle.step_values.specs.ComputedAgreement.{each_test};
 ghost use Rattle.step_values.specs.Views.{word_of};
 ghost use Rattle.step_equal.specs.ComputedKinds.{kind_test};
 ghost use Rattle.step_equal.specs.Rows.{kind_of};
-ghost use Rattle.step_equal.specs.Views.{row_of, row_seen};
+ghost use Rattle.step_equal.specs.Views.{row_from, row_seen};
 
 use step_literals::literal::Word;
 use step_values::literals::same_word;
@@ -24,6 +24,16 @@ pub struct PlainRow<'a> {
     pub values: Vec<PlainValue<'a>>,
 }
 
+/// What a row has before its values: an instance's name, the data section that it stands in, and its
+/// types.
+#[derive(Drop)]
+pub struct RowHead<'a> {
+    pub name: u64,
+    /// Counted from 0.
+    pub section: u32,
+    pub types: Vec<Word<'a>>,
+}
+
 /// A row as its readers see it, whatever it is kept in.
 #[derive(Drop)]
 pub struct RowSlot<'p, 'a> {
@@ -35,15 +45,15 @@ pub struct RowSlot<'p, 'a> {
 }
 
 impl<'p, 'a> RowSlot<'p, 'a> {
-    /// The row, where it is kept.
-    pub fn of(row: &'p PlainRow<'a>) -> RowSlot<'p, 'a>
-        ensures { row_seen result ≡ row_of row.entry.now }
+    /// The row of a head and the values behind it, where they are kept.
+    pub fn of(head: &'p RowHead<'a>, values: Slots<'p, 'a>) -> RowSlot<'p, 'a>
+        ensures { row_seen result ≡ row_from head.entry.now values.entry }
     {
         RowSlot {
-            name: row.name,
-            section: row.section,
-            types: &row.types,
-            values: Slots::of(&row.values),
+            name: head.name,
+            section: head.section,
+            types: &head.types,
+            values,
         }
     }
 }

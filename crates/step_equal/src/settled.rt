@@ -2,27 +2,26 @@
 
 ghost use Rattle.std.specs.Prelude.{OnOk};
 ghost use Rattle.std.specs.List.{AllZip};
-ghost use Rattle.step_equal.specs.Settled.{IsSettled};
-ghost use Rattle.step_equal.specs.Views.{row_of};
+ghost use Rattle.step_equal.specs.ComputedHeads.{SettlesHead};
 
-use crate::row::PlainRow;
+use crate::row::RowHead;
 use std::alloc::AllocError;
 
-/// Brings the type words of each row in order, and leaves repeats out.
-pub(crate) fn settle_rows<'a>(rows: &mut [PlainRow<'a>]) -> Result<(), AllocError>
-    ensures { OnOk result (AllZip (λ r q. IsSettled (row_of r) (row_of q)) rows.old rows.new) }
+/// Brings the type words of each head in order, and leaves repeats out.
+pub(crate) fn settle_heads<'a>(heads: &mut [RowHead<'a>]) -> Result<(), AllocError>
+    ensures { OnOk result (AllZip SettlesHead heads.old heads.new) }
 {
-    for i in 0..rows.len() {
-        settle(&mut rows[i])?;
+    for i in 0..heads.len() {
+        settle(&mut heads[i])?;
     }
     Ok(())
 }
 
-/// Brings the type words of a row in order, and leaves repeats out.
-fn settle<'a>(row: &mut PlainRow<'a>) -> Result<(), AllocError>
-    ensures { OnOk result (IsSettled (row_of row.old) (row_of row.new)) }
+/// Brings the type words of a head in order, and leaves repeats out.
+fn settle<'a>(head: &mut RowHead<'a>) -> Result<(), AllocError>
+    ensures { OnOk result (SettlesHead head.old head.new) }
 {
-    row.types.sort()?;
-    row.types.dedup();
+    head.types.sort()?;
+    head.types.dedup();
     Ok(())
 }

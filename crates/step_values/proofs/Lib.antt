@@ -5,6 +5,12 @@ pub mod Deciding
 pub mod Labelled
 pub mod Sorting
 pub mod NormalForms
-pub mod Trees
+mod Asking
+mod Places
+mod Counting
+pub mod Leading
+mod Referring
+mod Built
+pub mod Reading
 pub mod Weights
 pub mod Walks

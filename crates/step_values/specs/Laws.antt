@@ -1,7 +1,9 @@
--- The laws of agreement.
+-- The laws of agreement, and of cells.
 use Rattle.std.specs.Prelude.{◌≡◌, ◌==◌, ◌↔◌, true, List}
 use Rattle.std.specs.Cmp.Lexicographic.{pointwise}
+use Rattle.columns.specs.Nodes.{AsksChildrenAlone}
 use Rattle.step_values.specs.declared.normal.Normal.{Normal}
+use Rattle.step_values.specs.Cells.{value_nodes}
 use Rattle.step_values.specs.ComputedAgreement.{same_test, same_each_test}
 use Rattle.step_values.specs.ComputedForms.{IsNormal, AreNormal, AreSorted, normal_eq}
 use Rattle.step_values.specs.ComputedLabels.{labelled, each_labelled, within}
@@ -22,3 +24,7 @@ NormalFormsDecideAgreement = ((f g : Labelling) (v w : Value) (m n : Normal) →
     → AreNormal (each_labelled g ws) ns → (pointwise normal_eq ms ns ≡ true) ↔ AgreeEachBy f g vs ws)
     × ((f g : Labelling) (vs ws : Values) (ms ns : List Normal) → AreSorted (each_labelled (within f) vs) ms
     → AreSorted (each_labelled (within g) ws) ns → (pointwise normal_eq ms ns ≡ true) ↔ AgreeBy f g (bag vs) (bag ws))
+
+-- A cell says what it does by what is inside it alone.
+abbrev pub CellsAskTheirChildren : Type 0
+CellsAskTheirChildren = AsksChildrenAlone value_nodes

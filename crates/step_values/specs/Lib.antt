@@ -4,7 +4,11 @@ pub mod References
 pub mod Maps
 pub mod Labels
 pub mod Views
+pub mod Cells
+pub mod Targets
+pub mod NodeCounts
 pub mod ComputedCodes
+pub mod Building
 pub mod ComputedAgreement
 pub mod Slots
 pub mod ComputedLabels

@@ -1,6 +1,10 @@
 //! Laws of the definitions alone.
 
-ghost use Rattle.step_values.specs.Laws.{TestsDecideAgreement, NormalFormsDecideAgreement};
+ghost use Rattle.step_values.specs.Laws.{
+  CellsAskTheirChildren,
+  NormalFormsDecideAgreement,
+  TestsDecideAgreement,
+};
 
 /// The tests of values and of lists of values pass exactly where these agree, each reference with
 /// itself alone.
@@ -11,4 +15,10 @@ pub fn tests_decide_agreement()
 /// Normal forms are equal exactly where the values agree, by what stands for their references.
 pub fn normal_forms_decide_agreement()
     ensures { NormalFormsDecideAgreement }
+{}
+
+/// What a cell says of a value depends on what is inside it alone, so that the laws of columns hold
+/// for columns of values.
+pub fn a_cell_asks_what_is_inside()
+    ensures { CellsAskTheirChildren }
 {}

@@ -5,9 +5,12 @@
 #![tactic(auto)]
 
 pub mod agree;
+pub mod cell;
 pub mod labels;
 pub mod laws;
 pub mod literals;
 pub mod normal;
+pub mod row_builder;
+pub mod rows;
 pub mod slot;
 pub mod value;

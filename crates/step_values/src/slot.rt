@@ -1,48 +1,67 @@
 //! Values as readers see them, whatever they are kept in: by their outermost parts.
 
-ghost use Rattle.std.specs.Prelude.{◌≡◌, ◌<◌, Some, length};
+ghost use Rattle.std.specs.Prelude.{◌≡◌, ◌<◌, ◌≤◌, ◌+◌, Some, length};
+ghost use Rattle.columns.specs.Nodes.{IsColumn};
+ghost use Rattle.step_values.specs.Cells.{
+  reach_of,
+  value_at,
+  value_by,
+  value_nodes,
+  values_of_run,
+};
 ghost use Rattle.step_values.specs.ComputedAgreement.{size};
 ghost use Rattle.step_values.specs.Slots.{node_value, kind_of, len_of, item_of, nth};
-ghost use Rattle.step_values.specs.Views.{value_of, values_of};
 
-use crate::value::PlainValue;
+use crate::cell::Cell;
+use columns::column::Run;
 use std::marker::Model;
 use step_literals::literal::{Bits, Decimal, Text, Word};
 
 /// A value, where it is kept.
 #[derive(Drop)]
 pub struct Slot<'p, 'a> {
-    value: &'p PlainValue<'a>,
+    column: &'p [Cell<'a>],
+    place: usize,
 }
 
 impl<'p, 'a> Model for Slot<'p, 'a> {
+    ghost use Rattle.std.specs.Prelude.{◌<◌, length};
+    ghost use Rattle.columns.specs.Nodes.{IsColumn};
     ghost use Rattle.step_values.specs.Values as values;
+    ghost use Rattle.step_values.specs.Cells.{value_nodes, value_at};
     ghost use Rattle.step_values.specs.ComputedCodes.{coded_value};
-    ghost use Rattle.step_values.specs.Views.{value_of};
 
     ghost Value = { values.Value };
 
     ghost coded = { coded_value };
 
-    ghost view = { λ s. value_of s.value.now };
+    ghost view = { λ s. value_at s.column.now s.place };
+
+    ghost invariant = { λ s. IsColumn value_nodes s.column.now × (s.place < length s.column.now) };
 }
 
 /// Values side by side, where they are kept.
 #[derive(Drop)]
 pub struct Slots<'p, 'a> {
-    values: &'p [PlainValue<'a>],
+    column: &'p [Cell<'a>],
+    run: Run,
 }
 
 impl<'p, 'a> Model for Slots<'p, 'a> {
+    ghost use Rattle.std.specs.Prelude.{◌≤◌, ◌+◌, length};
+    ghost use Rattle.columns.specs.Nodes.{IsColumn};
     ghost use Rattle.step_values.specs.Values.{Values};
+    ghost use Rattle.step_values.specs.Cells.{value_nodes, values_of_run};
     ghost use Rattle.step_values.specs.ComputedCodes.{coded_values};
-    ghost use Rattle.step_values.specs.Views.{values_of};
 
     ghost Value = { Values };
 
     ghost coded = { coded_values };
 
-    ghost view = { λ s. values_of s.values.now };
+    ghost view = { λ s. values_of_run s.column.now s.run };
+
+    ghost invariant = { λ s. IsColumn value_nodes s.column.now
+        × (s.run.first + s.run.count ≤ length s.column.now) };
 }
 
 /// The outermost part of a value, with what is inside it.
@@ -76,30 +95,20 @@ pub enum Kind {
 }
 
 impl<'p, 'a> Slot<'p, 'a> {
-    /// The value as it stands in a tree.
-    pub fn of(value: &'p PlainValue<'a>) -> Slot<'p, 'a>
-        ensures { result ≡ value_of value.entry.now }
+    // The value at a place of a column.
+    fn of(column: &'p [Cell<'a>], place: usize) -> Slot<'p, 'a>
+        requires column { IsColumn value_nodes column.now }
+        requires place { place < length column.now }
+        ensures { result ≡ value_at column.now place }
     {
-        Slot { value }
+        Slot { column, place }
     }
 
     /// Its outermost part.
     pub fn node(&self) -> Node<'p, 'a>
         ensures { node_value result ≡ self.now }
     {
-        let value = self.value;
-        match value {
-            PlainValue::Unset => Node::Unset,
-            PlainValue::Derived => Node::Derived,
-            PlainValue::Number(number) => Node::Number(*number),
-            PlainValue::Text(text) => Node::Text(*text),
-            PlainValue::Bits(bits) => Node::Bits(*bits),
-            PlainValue::Element(word) => Node::Element(*word),
-            PlainValue::Reference(name) => Node::Reference(*name),
-            PlainValue::Typed(word, inner) => Node::Typed(*word, Slot::of(inner)),
-            PlainValue::Sequence(values) => Node::Sequence(Slots::of(values)),
-            PlainValue::Bag(values) => Node::Bag(Slots::of(values)),
-        }
+        cell_node(self.column, self.column[self.place])
     }
 
     /// Its kind.
@@ -146,18 +155,20 @@ impl<'p, 'a> Slot<'p, 'a> {
 }
 
 impl<'p, 'a> Slots<'p, 'a> {
-    /// The values of a list.
-    pub fn of(values: &'p [PlainValue<'a>]) -> Slots<'p, 'a>
-        ensures { result ≡ values_of values.entry.now }
+    /// The values of a run of a column.
+    pub(crate) fn of(column: &'p [Cell<'a>], run: Run) -> Slots<'p, 'a>
+        requires column { IsColumn value_nodes column.now }
+        requires within { run.first + run.count ≤ length column.now }
+        ensures { result ≡ values_of_run column.now run }
     {
-        Slots { values }
+        Slots { column, run }
     }
 
     /// How many they are.
     pub fn len(&self) -> usize
         ensures { result ≡ size self.now }
     {
-        self.values.len()
+        self.run.count
     }
 
     /// One of them, counted from 0.
@@ -176,13 +187,26 @@ impl<'p, 'a> Slots<'p, 'a> {
         requires { index < size self.now }
         ensures { nth self.now index ≡ Some result }
     {
-        slot_at(self.values, index)
+        Slot::of(self.column, self.run.first + index)
     }
 }
 
-fn slot_at<'p, 'a>(values: &'p [PlainValue<'a>], index: usize) -> Slot<'p, 'a>
-    requires { index < length values.now }
-    ensures { nth (values_of values.entry.now) index ≡ Some result }
+// The outermost part of the value that a cell over a column says.
+fn cell_node<'p, 'a>(column: &'p [Cell<'a>], cell: Cell<'a>) -> Node<'p, 'a>
+    requires column { IsColumn value_nodes column.now }
+    requires within { reach_of cell ≤ length column.now }
+    ensures { node_value result ≡ value_by (value_at column.entry.now) cell.entry }
 {
-    Slot::of(&values[index])
+    match cell {
+        Cell::Unset => Node::Unset,
+        Cell::Derived => Node::Derived,
+        Cell::Number(number) => Node::Number(number),
+        Cell::Text(text) => Node::Text(text),
+        Cell::Bits(bits) => Node::Bits(bits),
+        Cell::Element(word) => Node::Element(word),
+        Cell::Reference { name, .. } => Node::Reference(name),
+        Cell::Typed { word, inner } => Node::Typed(word, Slot::of(column, inner)),
+        Cell::Sequence(run) => Node::Sequence(Slots::of(column, run)),
+        Cell::Bag(run) => Node::Bag(Slots::of(column, run)),
+    }
 }

@@ -1,8 +1,16 @@
 -- What a run of the command line comes to.
-use Rattle.std.proofs.Common.{◌≡◌, Bool, true, false, List, ℕ, Option, None, Some, Result, Ok, Err, IfSome, inl, inr, refl, sym, ap, subst, ◌∙◌, true≢false, arith}
-use Rattle.std.specs.Prelude.{◌⊎◌, MatchBool, string_bytes}
+use Rattle.std.proofs.Common.{◌≡◌, Bool, true, false, List, [], ◌∷◌, ℕ, Option, None, Some, Result, Ok, Err, IfSome, inl, inr, refl, sym, ap, subst, ◌∙◌, true≢false, arith}
+use Rattle.std.specs.Prelude.{◌⊎◌, MatchBool, MatchResult, is_err, string_bytes}
 use Rattle.std.specs.Io.KnownBytes.{Appends, Keeps}
-use Rattle.command_line.specs.Commands.{AsksPlain}
+use Rattle.express_schemas.specs.declared.fault.SchemaFault.{SchemaFault}
+use Rattle.express_schemas.specs.declared.fault.SchemaFault.TheVariants as schemas
+use Rattle.devices.specs.declared.device.WriteFault.{WriteFault}
+use Rattle.conformance.specs.declared.finding.Finding.{Finding}
+use Rattle.reports.specs.declared.report.Report.{Report}
+use Rattle.checking.specs.declared.fault.CheckFault.{CheckFault}
+use Rattle.checking.specs.declared.fault.CheckFault.TheVariants as check_faults
+use Rattle.command_line.specs.Commands.{AsksCheck, AsksNothing, AsksPlain}
+use Rattle.command_line.specs.Faults.{write_fault}
 use Rattle.command_line.specs.Lines.{line_of}
 use Rattle.command_line.specs.Requests.{AskFor}
 use Rattle.command_line.specs.Stores.{Stored}
@@ -13,10 +21,10 @@ use Rattle.command_line.specs.declared.usage.Request.{Request}
 use Rattle.command_line.specs.declared.usage.Request.TheVariants as requests
 use Rattle.command_line.specs.declared.usage.Refusal.{Refusal}
 use Rattle.command_line.specs.declared.usage.Refusal.TheVariants.{Shown, Usage, Memory}
-use Rattle.command_line.proofs.Asking.{asked_once}
+use Rattle.command_line.proofs.Asking.{asked_once, checked_once, not_both}
 use Rattle.stepmin.specs.Plain.{FailsAs, Plain, is_output_fault}
-use Rattle.stepmin.specs.Runs.{AppendsFront, Does, Ends, IsDevices, Output, Prints, Refuses, RunsPlain}
-use Rattle.stepmin.specs.Statuses.{IsStatus, fault_status}
+use Rattle.stepmin.specs.Runs.{AppendsFront, Does, Ends, EndsCheck, IsDevices, Output, Prints, Refuses, Reports, Runs, RunsCheck, RunsPlain, check_line}
+use Rattle.stepmin.specs.Statuses.{IsStatus, check_status, fault_status, findings_status, report_status}
 
 -- ---- one output
 
@@ -71,10 +79,10 @@ four status (inr e) = e
 -- ---- how a run ends
 
 fault_is_status : (fault : Fault) (status : ℕ) → (status ≡ fault_status fault) ⊎ (status ≡ 4) → IsStatus status
-fault_is_status (faults.Text role kind place) status (inl e) = inr (inl e)
-fault_is_status (faults.Device role written) status (inl e) = inr (inr (inr (inl e)))
-fault_is_status faults.Memory status (inl e) = inr (inr (inr (inr e)))
-fault_is_status fault status (inr e) = inr (inr (inr (inl e)))
+fault_is_status (faults.Text role kind place) status (inl e) = inr (inr (inl e))
+fault_is_status (faults.Device role written) status (inl e) = inr (inr (inr (inr (inl e))))
+fault_is_status faults.Memory status (inl e) = inr (inr (inr (inr (inr e))))
+fault_is_status fault status (inr e) = inr (inr (inr (inr (inl e))))
 
 pub ends_in_status : (outcome : Result Unit Fault) (err err' : Output) (status : ℕ) → Ends outcome err err' status
     → IsStatus status
@@ -90,16 +98,20 @@ ends_failing (Err fault) err err' status e fresh fails = failure_printed err err
 
 -- ---- what was asked for
 
+-- what goes out where the status isn't that of a run that was done, or of a device
+abbrev pub Unwritten : Option (List ℕ) → Option (List ℕ) → ℕ → Type 0
+Unwritten old new status = (status ≡ 0) ⊎ (status ≡ 1) ⊎ (status ≡ 4) ⊎ Keeps old new
+
 unwritten_by : (coming old new : Option (List ℕ)) (outcome : Result Unit Fault) (err err' : Output) (status : ℕ)
-    → Plain coming old new outcome → Ends outcome err err' status → (status ≡ 0) ⊎ ((status ≡ 4) ⊎ Keeps old new)
+    → Plain coming old new outcome → Ends outcome err err' status → Unwritten old new status
 unwritten_by coming old new (Ok x) err err' status plain e = inl e.0
-unwritten_by coming old new (Err (faults.Text roles.File kind place)) err err' status plain e = inr (inr plain.1)
+unwritten_by coming old new (Err (faults.Text roles.File kind place)) err err' status plain e = inr (inr (inr plain.1))
 unwritten_by coming old new (Err (faults.Text roles.Schema kind place)) err err' status plain e = absurd plain
 unwritten_by coming old new (Err (faults.Text roles.Output kind place)) err err' status plain e = absurd plain
 unwritten_by coming old new (Err (faults.Text roles.Certificate kind place)) err err' status plain e = absurd plain
-unwritten_by coming old new (Err (faults.Device role written)) err err' status plain e = inr (inl (four status
-    (status_printed err err' (line_of (faults.Device role written)) 4 status e)))
-unwritten_by coming old new (Err faults.Memory) err err' status plain e = inr (inr plain)
+unwritten_by coming old new (Err (faults.Device role written)) err err' status plain e = inr (inr (inl (four status
+    (status_printed err err' (line_of (faults.Device role written)) 4 status e))))
+unwritten_by coming old new (Err faults.Memory) err err' status plain e = inr (inr (inr plain))
 
 output_failing : (outcome : Result Unit Fault) (err err' : Output) (status : ℕ) → is_output_fault outcome ≡ true
     → Ends outcome err err' status → status ≡ 4
@@ -133,12 +145,12 @@ device_by words files path out out' err err' (Err (faults.Text role kind place))
     (λ no. omega (arith, no)) is clean))
 device_by words files path out out' err err' (Err (faults.Device roles.File written)) status asks plain told fails e
     is =
-    λ fresh clean. inr (inr (
+    λ fresh clean. inr (inr (inl (
       path,
       asks,
       λ never. absurd (true≢false (subst (λ o. IfSome o
           (FailsAs (Err (faults.Device roles.File written)))) never told)),
-    ))
+    )))
 device_by words files path out out' err err' (Err (faults.Device roles.Output written)) status asks plain told fails e
     is = λ fresh clean. inl (fails fresh)
 device_by words files path out out' err err' (Err (faults.Device roles.Schema written)) status asks plain told fails e
@@ -148,11 +160,11 @@ device_by words files path out out' err err' (Err (faults.Device roles.Certifica
 device_by words files path out out' err err' (Err faults.Memory) status asks plain told fails e is = λ fresh clean. inr
     (inl (device_printed err err' (line_of faults.Memory) 5 status e (λ no. omega (arith, no)) is clean))
 
--- What a run of `plain` says beside what it did.
-pub record SaysPlain (words : List (List ℕ)) (files : List ℕ → Stored) (file : Stored) (out out' err err' : Output)
-    (status : ℕ) : Type 0 where
+-- What a run says beside what it did.
+pub record Says (words : List (List ℕ)) (files : List ℕ → Stored) (out out' err err' : Output) (status : ℕ)
+    : Type 0 where
   pub is_status : IsStatus status
-  pub unwritten : (status ≡ 0) ⊎ ((status ≡ 4) ⊎ Keeps out.held out'.held)
+  pub unwritten : Unwritten out.held out'.held status
   pub device : status ≡ 4 → IsDevices words files out out' err err'
   pub out_failed : out.has_failed ≡ false → out'.has_failed ≡ true → status ≡ 4
   pub err_failed : err.has_failed ≡ false → err'.has_failed ≡ true → status ≡ 4
@@ -164,7 +176,7 @@ file_failed file out out' err err' status r is = file_failing r.outcome err err'
 
 pub plain_says : (words : List (List ℕ)) (files : List ℕ → Stored) (path : List ℕ) (out out' err err' : Output)
     (status : ℕ) → AsksPlain words path → RunsPlain (files path) out out' err err' status
-    → SaysPlain words files (files path) out out' err err' status
+    → Says words files out out' err err' status
 plain_says words files path out out' err err' status asks r = record {
   is_status = ends_in_status r.outcome err err' status r.ends;
   unwritten = unwritten_by (files path).contents out.held out'.held r.outcome err err' status r.plain r.ends;
@@ -174,24 +186,105 @@ plain_says words files path out out' err err' status asks r = record {
   err_failed = ends_failing r.outcome err err' status r.ends;
 }
 
--- what is asked for is a file's text
-pub none_asked : (words : List (List ℕ)) (request : Request) → ((path : List ℕ) → AsksPlain words path → ⊥)
-    → AskFor words request → ⊥
-none_asked words (requests.Plain path) none asks = none path.now asks
+-- ---- what a check came to
+
+schema_fault_is_status : (fault : SchemaFault) (status : ℕ)
+    → (status ≡ check_status (check_faults.Schema fault)) ⊎ (status ≡ 4) → IsStatus status
+schema_fault_is_status (schemas.Text kind place) status (inl e) = inr (inr (inl e))
+schema_fault_is_status (schemas.Name kind name) status (inl e) = inr (inr (inl e))
+schema_fault_is_status schemas.Memory status (inl e) = inr (inr (inr (inr (inr e))))
+schema_fault_is_status fault status (inr e) = inr (inr (inr (inr (inl e))))
+
+check_fault_is_status : (fault : CheckFault) (status : ℕ) → (status ≡ check_status fault) ⊎ (status ≡ 4)
+    → IsStatus status
+check_fault_is_status (check_faults.Schema fault) status e = schema_fault_is_status fault status e
+check_fault_is_status (check_faults.Other fault) status e = fault_is_status fault status e
+
+-- the status for findings is that of a run that was done
+found_status : (found : List Finding) (status : ℕ) → status ≡ findings_status found → (status ≡ 0) ⊎ (status ≡ 1)
+found_status [] status e = inl e
+found_status (finding ∷ more) status e = inr e
+
+done_is_status : (status : ℕ) → (status ≡ 0) ⊎ (status ≡ 1) → IsStatus status
+done_is_status status (inl e) = inl e
+done_is_status status (inr e) = inr (inl e)
+
+done_unwritten : (old new : Option (List ℕ)) (status : ℕ) → (status ≡ 0) ⊎ (status ≡ 1) → Unwritten old new status
+done_unwritten old new status (inl e) = inl e
+done_unwritten old new status (inr e) = inr (inl e)
+
+abbrev CheckSays : Output → Output → Output → Output → ℕ → Type 0
+CheckSays out out' err err' status = IsStatus status × Unwritten out.held out'.held status
+    × (out.has_failed ≡ false → out'.has_failed ≡ true → status ≡ 4)
+    × (err.has_failed ≡ false → err'.has_failed ≡ true → status ≡ 4)
+
+report_says : (report : Report) (out out' err err' : Output) (status : ℕ) → Reports report out out' err err' status
+    → CheckSays out out' err err' status
+report_says report out out' err err' status r = go r.sent r.output_fails r.ends
+  where
+    go : (sent : Result Unit WriteFault) → (out.has_failed ≡ false → out'.has_failed ≡ is_err sent)
+        → MatchResult sent (λ _. (status ≡ report_status report) × (err' ≡ err))
+        (λ fault. Ends (Err (write_fault roles.Output fault)) err err' status)
+        → CheckSays out out' err err' status
+    go (Ok x) told ends =
+        let done = found_status report.findings.items status ends.0 in (
+          done_is_status status done,
+          done_unwritten out.held out'.held status done,
+          (λ fresh fails. absurd (true≢false (sym fails ∙ told fresh))),
+          (λ fresh fails. failed_twice err err' ends.1 fresh fails),
+        )
+    go (Err fault) told ends =
+        let met = Err (write_fault roles.Output fault) in
+        let device : status ≡ 4 = four status (status_printed err err' (line_of (write_fault roles.Output fault)) 4
+        status ends) in
+        (ends_in_status met err err' status ends, inr (inr (inl device)), (λ fresh fails. device), (λ fresh fails. device))
+
+check_ends : (outcome : Result Report CheckFault) (out out' err err' : Output) (status : ℕ)
+    → EndsCheck outcome out out' err err' status → CheckSays out out' err err' status
+check_ends (Ok report) out out' err err' status ends = report_says report out out' err err' status ends
+check_ends (Err fault) out out' err err' status ends = (
+  check_fault_is_status fault status
+      (status_printed err err' (check_line fault) (check_status fault) status ends.1),
+  inr (inr (inr (keeps_same out out' ends.0))),
+  (λ fresh fails. failed_twice out out' ends.0 fresh fails),
+  failure_printed err err' (check_line fault) (check_status fault) status ends.1,
+)
+
+pub check_says : (words : List (List ℕ)) (files : List ℕ → Stored) (schema file : List ℕ)
+    (out out' err err' : Output) (status : ℕ) → AsksCheck words schema file
+    → RunsCheck (files schema).contents (files file).contents out out' err err' status
+    → Says words files out out' err err' status
+check_says words files schema file out out' err err' status asks r =
+    let says = check_ends r.outcome out out' err err' status r.ends in
+    record {
+      is_status = says.0;
+      unwritten = says.1;
+      device = (λ is fresh clean. inr (inr (inr (schema, file, asks))));
+      out_failed = says.2;
+      err_failed = says.3;
+    }
+
+-- ---- what words ask for
+
+-- what is asked for is a file's text, or a check
+pub none_asked : (words : List (List ℕ)) (request : Request) → AsksNothing words → AskFor words request → ⊥
+none_asked words (requests.Plain path) none asks = none.0 path.now asks
+none_asked words (requests.Check schema file) none asks = none.1 schema.now file.now asks
 
 pub asked_runs : (words : List (List ℕ)) (request : Request) (files : List ℕ → Stored)
     (out out' err err' : Output) (status : ℕ)
-    → AskFor words request → Does request files out out' err err' status → (path : List ℕ) × AsksPlain words path
-    × RunsPlain (files path) out out' err err' status
-asked_runs words (requests.Plain path) files out out' err err' status asks does = (path.now, asks, does)
+    → AskFor words request → Does request files out out' err err' status → Runs words files out out' err err' status
+asked_runs words (requests.Plain path) files out out' err err' status asks does = inl (path.now, asks, does)
+asked_runs words (requests.Check schema file) files out out' err err' status asks does =
+    inr (inl (schema.now, file.now, asks, does))
 
 pub asked_says : (words : List (List ℕ)) (request : Request) (files : List ℕ → Stored)
     (out out' err err' : Output) (status : ℕ)
-    → AskFor words request → Does request files out out' err err' status
-    → (path : List ℕ) × SaysPlain words files (files path) out out' err err' status
-asked_says words request files out out' err err' status asks does =
-    let r = asked_runs words request files out out' err err' status asks does in
-    (r.0, plain_says words files r.0 out out' err err' status r.1 r.2)
+    → AskFor words request → Does request files out out' err err' status → Says words files out out' err err' status
+asked_says words (requests.Plain path) files out out' err err' status asks does =
+    plain_says words files path.now out out' err err' status asks does
+asked_says words (requests.Check schema file) files out out' err err' status asks does =
+    check_says words files schema.now file.now out out' err err' status asks does
 
 -- the path that was asked for is the only one
 pub runs_asked : (words : List (List ℕ)) (request : Request) (files : List ℕ → Stored)
@@ -200,6 +293,20 @@ pub runs_asked : (words : List (List ℕ)) (request : Request) (files : List ℕ
     → RunsPlain (files path) out out' err err' status
 runs_asked words (requests.Plain found) files out out' err err' status path asks does other =
     subst (λ p. RunsPlain (files p) out out' err err' status) (asked_once words found.now path asks other) does
+runs_asked words (requests.Check schema file) files out out' err err' status path asks does other =
+    absurd (not_both words path schema.now file.now other asks)
+
+-- so are those of the schema and of the file
+pub checks_asked : (words : List (List ℕ)) (request : Request) (files : List ℕ → Stored)
+    (out out' err err' : Output) (status : ℕ) (schema file : List ℕ)
+    → AskFor words request → Does request files out out' err err' status → AsksCheck words schema file
+    → RunsCheck (files schema).contents (files file).contents out out' err err' status
+checks_asked words (requests.Plain path) files out out' err err' status schema file asks does other =
+    absurd (not_both words path.now schema file asks other)
+checks_asked words (requests.Check s f) files out out' err err' status schema file asks does other =
+    let same = checked_once words s.now f.now schema file asks other in
+    subst (λ p. RunsCheck (files p).contents (files file).contents out out' err err' status) same.0
+    (subst (λ p. RunsCheck (files s.now).contents (files p).contents out out' err err' status) same.1 does)
 
 -- ---- what was refused
 
@@ -229,3 +336,18 @@ memory_runs refusal file out out' err err' status is refuses =
     nothing_told : (o : Option Bool) → IfSome o (FailsAs (Err faults.Memory))
     nothing_told None = tt
     nothing_told (Some each) = tt
+
+pub memory_checks : (refusal : Refusal) (schema file : Option (List ℕ)) (out out' err err' : Output) (status : ℕ)
+    → refusal ≡ Memory → Refuses refusal out out' err err' status
+    → RunsCheck schema file out out' err err' status
+memory_checks refusal schema file out out' err err' status is refuses = record {
+  outcome = Err (check_faults.Other faults.Memory);
+  checks = tt;
+  ends = subst (λ m. Refuses m out out' err err' status) is refuses;
+}
+
+-- what is said of an output where nothing is done
+pub refused_unwritten : (old new : Option (List ℕ)) (status : ℕ) → (status ≡ 0) ⊎ ((status ≡ 4) ⊎ Keeps old new)
+    → Unwritten old new status
+refused_unwritten old new status (inl e) = inl e
+refused_unwritten old new status (inr e) = inr (inr e)

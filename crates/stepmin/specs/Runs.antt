@@ -1,18 +1,28 @@
 -- What a run of the command line comes to.
-use Rattle.std.specs.Prelude.{◌≡◌, ◌++◌, ◌⊎◌, ℕ, List, Option, IfSome, Some, Bool, true, false, Result, Ok, Err, MatchBool, string_bytes}
+use Rattle.std.specs.Prelude.{◌≡◌, ◌++◌, ◌⊎◌, ℕ, List, Option, IfSome, Some, Bool, true, false, Result, Ok, Err, MatchBool, MatchResult, is_err, string_bytes}
 use Rattle.std.specs.Io.KnownBytes.{Appends}
-use Rattle.command_line.specs.Commands.{AsksNoPlain, AsksPlain}
+use Rattle.devices.specs.Emits.{Emits}
+use Rattle.devices.specs.declared.device.WriteFault.{WriteFault}
+use Rattle.command_line.specs.Commands.{AsksCheck, AsksNothing, AsksPlain}
+use Rattle.command_line.specs.Faults.{write_fault}
 use Rattle.command_line.specs.Lines.{line_of}
 use Rattle.command_line.specs.Requests.{CallFor}
 use Rattle.command_line.specs.Stores.{Stored}
+use Rattle.command_line.specs.declared.fault.Role.TheVariants as roles
 use Rattle.command_line.specs.declared.fault.Fault.{Fault}
 use Rattle.command_line.specs.declared.fault.Fault.TheVariants as faults
 use Rattle.command_line.specs.declared.usage.Request.{Request}
 use Rattle.command_line.specs.declared.usage.Request.TheVariants as requests
 use Rattle.command_line.specs.declared.usage.Refusal.{Refusal}
 use Rattle.command_line.specs.declared.usage.Refusal.TheVariants.{Shown, Usage, Memory}
+use Rattle.reports.specs.Lines.{report_text}
+use Rattle.reports.specs.SchemaLines.{schema_line}
+use Rattle.reports.specs.declared.report.Report.{Report}
+use Rattle.checking.specs.Checks.{Checks}
+use Rattle.checking.specs.declared.fault.CheckFault.{CheckFault}
+use Rattle.checking.specs.declared.fault.CheckFault.TheVariants as check_faults
 use Rattle.stepmin.specs.Plain.{FailsAs, Plain, is_output_fault}
-use Rattle.stepmin.specs.Statuses.{fault_status}
+use Rattle.stepmin.specs.Statuses.{check_status, fault_status, report_status}
 
 -- An output as a run finds it or leaves it: what it holds, where that is told, and whether it has failed.
 pub record Output : Type 0 where
@@ -54,24 +64,59 @@ pub record RunsPlain (file : Stored) (out out' err err' : Output) (status : ℕ)
   pub output_fails : out.has_failed ≡ false → out'.has_failed ≡ is_output_fault outcome
   pub ends : Ends outcome err err' status
 
+-- the line of the fault for which a file isn't checked
+abbrev pub check_line : CheckFault → List ℕ
+check_line (check_faults.Schema fault) = schema_line fault
+check_line (check_faults.Other fault) = line_of fault
+
+-- The report went out, silently, and the status says whether there are findings; or the output failed behind a front
+-- of it, and the line of that fault says how many bytes went out.
+pub record Reports (report : Report) (out out' err err' : Output) (status : ℕ) : Type 0 where
+  pub sent : Result Unit WriteFault
+  pub emits : Emits out.held out'.held (report_text report) sent
+  pub output_fails : out.has_failed ≡ false → out'.has_failed ≡ is_err sent
+  pub ends : MatchResult sent (λ _. (status ≡ report_status report) × (err' ≡ err))
+      (λ fault. Ends (Err (write_fault roles.Output fault)) err err' status)
+
+-- How a run ends for what a check came to: with the report, or with the line of the fault, and nothing on the output.
+abbrev pub EndsCheck : Result Report CheckFault → Output → Output → Output → Output → ℕ → Type 0
+EndsCheck (Ok report) out out' err err' status = Reports report out out' err err' status
+EndsCheck (Err fault) out out' err err' status = (out' ≡ out) × Prints err err' (check_line fault) (check_status fault)
+    status
+
+-- The run checked a file against a schema, which hold these bytes, where they are told.
+pub record RunsCheck (schema file : Option (List ℕ)) (out out' err err' : Output) (status : ℕ) : Type 0 where
+  pub outcome : Result Report CheckFault
+  pub checks : Checks schema file outcome
+  pub ends : EndsCheck outcome out out' err err' status
+
 -- What is asked for was done, in a store of these files.
 abbrev pub Does : Request → (List ℕ → Stored) → Output → Output → Output → Output → ℕ → Type 0
 Does (requests.Plain path) files out out' err err' status = RunsPlain (files path.now) out out' err err' status
+Does (requests.Check schema file) files out out' err err' status = RunsCheck (files schema.now).contents
+    (files file.now).contents out out' err err' status
 
 -- Nothing was done, and this was said for which the words call.
 abbrev pub RunsNothing : List (List ℕ) → Output → Output → Output → Output → ℕ → Type 0
 RunsNothing words out out' err err' status = (refusal : Refusal) × CallFor words refusal × Refuses refusal out out' err
     err' status
 
--- The words ask for the normal text of a file, and that was run; or they ask for no file's.
+-- The words ask for a check, and the file was checked against the schema.
+abbrev pub RunsChecked : List (List ℕ) → (List ℕ → Stored) → Output → Output → Output → Output → ℕ → Type 0
+RunsChecked words files out out' err err' status = (schema : List ℕ) × (file : List ℕ) × AsksCheck words schema file
+    × RunsCheck (files schema).contents (files file).contents out out' err err' status
+
+-- The words ask for the normal text of a file, or for a check, and that was run; or they ask for nothing.
 abbrev pub Runs : List (List ℕ) → (List ℕ → Stored) → Output → Output → Output → Output → ℕ → Type 0
 Runs words files out out' err err' status = ((path : List ℕ) × AsksPlain words path × RunsPlain (files path) out out'
     err err' status)
-    ⊎ (AsksNoPlain words × RunsNothing words out out' err err' status)
+    ⊎ RunsChecked words files out out' err err' status
+    ⊎ (AsksNothing words × RunsNothing words out out' err err' status)
 
--- The words ask for a file that can fail: it isn't told that no read of it does.
+-- The words ask for a file that can fail: it isn't told that no read of it does. Those of a check can.
 abbrev pub AsksFailing : List (List ℕ) → (List ℕ → Stored) → Type 0
-AsksFailing words files = (path : List ℕ) × AsksPlain words path × ((files path).fails ≡ Some false → ⊥)
+AsksFailing words files = ((path : List ℕ) × AsksPlain words path × ((files path).fails ≡ Some false → ⊥))
+    ⊎ ((schema : List ℕ) × (file : List ℕ) × AsksCheck words schema file)
 
 -- Where an output hasn't failed before, a device's status comes only where one has failed then, or the file can.
 abbrev pub IsDevices : List (List ℕ) → (List ℕ → Stored) → Output → Output → Output → Output → Type 0

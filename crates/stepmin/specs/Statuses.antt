@@ -1,7 +1,13 @@
 -- The exit statuses.
-use Rattle.std.specs.Prelude.{◌≡◌, ◌⊎◌, ℕ, Result, Ok, Err}
+use Rattle.std.specs.Prelude.{◌≡◌, ◌⊎◌, ℕ, List, [], ◌∷◌, Result, Ok, Err}
+use Rattle.express_schemas.specs.declared.fault.SchemaFault.{SchemaFault}
+use Rattle.express_schemas.specs.declared.fault.SchemaFault.TheVariants as schemas
 use Rattle.command_line.specs.declared.fault.Fault.{Fault}
 use Rattle.command_line.specs.declared.fault.Fault.TheVariants.{Text, Device, Memory}
+use Rattle.conformance.specs.declared.finding.Finding.{Finding}
+use Rattle.reports.specs.declared.report.Report.{Report}
+use Rattle.checking.specs.declared.fault.CheckFault.{CheckFault}
+use Rattle.checking.specs.declared.fault.CheckFault.TheVariants.{Schema, Other}
 
 -- the status for a fault
 abbrev pub fault_status : Fault → ℕ
@@ -14,6 +20,25 @@ abbrev pub outcome_status : Result Unit Fault → ℕ
 outcome_status (Ok _) = 0
 outcome_status (Err fault) = fault_status fault
 
+-- the status for a fault of a schema
+abbrev pub schema_status : SchemaFault → ℕ
+schema_status (schemas.Text kind place) = 2
+schema_status (schemas.Name kind name) = 2
+schema_status schemas.Memory = 5
+
+-- the status where a file isn't checked
+abbrev pub check_status : CheckFault → ℕ
+check_status (Schema fault) = schema_status fault
+check_status (Other fault) = fault_status fault
+
+-- the status where it is: 1 where it breaks its schema
+abbrev pub findings_status : List Finding → ℕ
+findings_status [] = 0
+findings_status (finding ∷ more) = 1
+
+abbrev pub report_status : Report → ℕ
+report_status report = findings_status report.findings.items
+
 -- a status that the program has
 abbrev pub IsStatus : ℕ → Type 0
-IsStatus s = (s ≡ 0) ⊎ (s ≡ 2) ⊎ (s ≡ 3) ⊎ (s ≡ 4) ⊎ (s ≡ 5)
+IsStatus s = (s ≡ 0) ⊎ (s ≡ 1) ⊎ (s ≡ 2) ⊎ (s ≡ 3) ⊎ (s ≡ 4) ⊎ (s ≡ 5)

@@ -1,7 +1,10 @@
-//! `stepmin` reads STEP files (ISO 10303-21). `stepmin plain FILE` writes a file's normal text.
+//! `stepmin` reads STEP files (ISO 10303-21). `stepmin plain FILE` writes a file's normal text, and
+//! `stepmin check SCHEMA FILE` tells where it breaks its schema.
 #![tactic(auto)]
 
+mod check;
 mod command;
+mod ending;
 mod files;
 mod plain;
 #[cfg(test)]

@@ -4,6 +4,7 @@ ghost use Rattle.std.specs.Prelude.{Some, None, codes, option_map};
 ghost use Rattle.std.specs.Bool.{if◌then◌else◌};
 ghost use Rattle.std.specs.Str.{bytes_eq};
 
+mod checks;
 mod lines;
 mod sources;
 mod texts;

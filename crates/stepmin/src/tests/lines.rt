@@ -17,13 +17,15 @@ const HELP: &str = "Reads STEP files (ISO 10303-21)\n\n\
     Usage: stepmin <COMMAND>\n\n\
     Commands:\n  \
     plain  Writes the normal text of a STEP file\n  \
+    check  Tells where a STEP file breaks its schema\n  \
     help   Print this message or the help of the given subcommand(s)\n\n\
     Options:\n  \
     -h, --help     Print help\n  \
     -V, --version  Print version\n\n\
     Exit status:\n  \
     0  all is done\n  \
-    2  the text of a file can't be read\n  \
+    1  the file breaks its schema\n  \
+    2  the text of a file or a schema can't be read\n  \
     3  the words of the command line are wrong\n  \
     4  a device fails\n  \
     5  memory runs out\n";
@@ -33,6 +35,15 @@ const PLAIN_HELP: &str = "Writes the normal text of a STEP file\n\n\
     Usage: stepmin plain <FILE>\n\n\
     Arguments:\n  \
     <FILE>  The file that is read\n\n\
+    Options:\n  \
+    -h, --help  Print help\n";
+
+// What `check --help` prints.
+const CHECK_HELP: &str = "Tells where a STEP file breaks its schema\n\n\
+    Usage: stepmin check <SCHEMA> <FILE>\n\n\
+    Arguments:\n  \
+    <SCHEMA>  The schema that it is checked against\n  \
+    <FILE>    The file that is read\n\n\
     Options:\n  \
     -h, --help  Print help\n";
 
@@ -187,6 +198,7 @@ fn words_that_ask_for_no_file_are_answered(rt: HostRuntime) -> Result<(), Fail> 
     for (words, status, text) in [
         (["stepmin"].as_slice(), 3, "error: "),
         (&["stepmin", "check", "GEO"], 3, "error: "),
+        (&["stepmin", "check", "GEO", "F", "F"], 3, "error: "),
         (&["stepmin", "shrink", "GEO", "F", "X", "X"], 3, "error: "),
         (&["stepmin", "plain"], 3, "error: "),
         (&["stepmin", "plain", "F", "F"], 3, "error: "),
@@ -200,6 +212,7 @@ fn words_that_ask_for_no_file_are_answered(rt: HostRuntime) -> Result<(), Fail> 
         (&["stepmin", "--version"], 0, "stepmin 0.1.0\n"),
         (&["stepmin", "-V"], 0, "stepmin 0.1.0\n"),
         (&["stepmin", "plain", "--help"], 0, PLAIN_HELP),
+        (&["stepmin", "check", "--help"], 0, CHECK_HELP),
     ] {
         let whole = run(alloc, keys, words, "", false, usize::MAX, usize::MAX)?;
         let cut = run(alloc, keys, words, "", false, 3, 3)?;

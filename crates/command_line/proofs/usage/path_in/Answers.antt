@@ -6,8 +6,8 @@ use Rattle.clap.proofs.WalkLemmas.{first_value-rows}
 use Rattle.command_line.proofs.Asking.{file_among}
 use Rattle.command_line.proofs.usage.path_in.Goals as goal
 
-pub returns : goal.returns
-returns c = λ path found.
+pub returns-clause-file : goal.returns-clause-file
+returns-clause-file c = λ path found.
     let inner = c.in_ok-subcommand_matches.field-0.now in
     c.get_str.ensures ∙ first_value-rows (found_of inner) (codes "FILE")
     ∙ file_among (subcommand_rows_of c.args.matches.now) path (rows_of (found_of inner)) found

@@ -1,11 +1,10 @@
 use Rattle.std.proofs.Common.{nat_eq}
 use Rattle.std.specs.HashSet.{contains}
 use Rattle.step_values.specs.Maps.{led_by}
-use Rattle.step_equal.specs.Views.{rows_of}
 use Rattle.step_equal.proofs.Landing.{onto_where}
 use Rattle.step_equal.proofs.image.is_onto.Goals as goal
 
 pub returns : goal.returns
 returns c =
-    onto_where (led_by c.args.map.now) (rows_of c.args.rows.now) (rows_of c.args.others.now)
-    (contains nat_eq c.in_ok-reached.reached) c.in_ok-reached.ensures c.are_reached.result c.are_reached.ensures
+    onto_where (led_by c.args.map.now) c.args.p.now c.args.q.now (contains nat_eq c.in_ok-reached.reached)
+    c.in_ok-reached.ensures c.are_reached.result c.are_reached.ensures

@@ -3,11 +3,10 @@ use Rattle.std.specs.Ordering.{nat_cmp}
 use Rattle.std.specs.BTreeSet.{contains}
 use Rattle.std.specs.HashMap.{get}
 use Rattle.step_values.specs.Maps.{led_by}
-use Rattle.step_equal.specs.Views.{rows_of}
 use Rattle.step_equal.proofs.Landing.{alone_where}
 use Rattle.step_equal.proofs.image.leaves_alone.Goals as goal
 
 pub returns : goal.returns
 returns c =
-    alone_where (led_by c.args.map.now) (contains nat_cmp c.args.pinned.now) (rows_of c.args.rows.now)
+    alone_where (led_by c.args.map.now) (contains nat_cmp c.args.pinned.now) c.args.p.now
     (get nat_eq c.in_ok-sources.sources) c.in_ok-sources.ensures c.are_sources.result c.are_sources.ensures

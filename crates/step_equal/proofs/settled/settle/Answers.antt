@@ -3,10 +3,10 @@ use Rattle.step_equal.proofs.Settling.{sorted_words}
 use Rattle.step_equal.proofs.settled.settle.Goals as goal
 
 pub returns : goal.returns
-returns c = record {
+returns c = λ vs. record {
   name = refl;
   section = refl;
-  types = sorted_words c.args.row.now.types.items c.sort.new.self.items c.dedup.new.self.items
+  types = sorted_words c.args.head.now.types.items c.sort.new.self.items c.dedup.new.self.items
       c.in_ok-sort.ensures.permutation c.in_ok-sort.ensures.sorted c.dedup.ensures.filtered;
   values = refl;
 }

@@ -1,51 +1,31 @@
-use Rattle.std.proofs.Common.{◌≡◌, Bool, true, false, sym, ◌∙◌}
+use Rattle.std.proofs.Common.{◌∙◌, sym, nat_eq, subst}
+use Rattle.std.specs.List.{IsDistinct}
+use Rattle.std.proofs.lemmas.Result.{err_from_is_err_and}
 use Rattle.step_equal.specs.Views.{rows_of}
-use Rattle.step_equal.proofs.Placing.{closed, passes}
-use Rattle.step_equal.proofs.Settling.{names_settled, few_settled, population_settled, rows_settled, whole_settled}
+use Rattle.step_equal.proofs.Laying.{refused_rows}
+use Rattle.step_equal.proofs.Parted.{rows_parted, names_parted}
+use Rattle.step_equal.proofs.Placing.{few_rows}
 use Rattle.step_equal.proofs.plain.Plain.from_rows.Goals as goal
 
-both_ways : (r t : Bool) → r ≡ t → r ≡ false → t ≡ true → ⊥
-both_ways r t e f h = absurd (cc)
+pub returns-in_err-values-clause-fault : goal.returns-in_err-values-clause-fault
+returns-in_err-values-clause-fault c =
+    let p = err_from_is_err_and c.from_residual-in_err-values.result c.from_residual-in_err-values.ensures.1 in
+    let named = rw c.deref.ensures.value at c.in_ok-names.ensures in
+    let placed = rw c.deref-2.ensures.value at c.in_ok-places.ensures.places in
+    let few = rw c.deref-2.ensures.value at c.in_ok-places.ensures.few in
+    let distinct = rw c.deref-2.ensures.value at c.in_ok-places.ensures.distinct in
+    rw (p.1, p.2) (refused_rows c.in_ok-places.places.keys (rows_of c.args.rows.items) (placed ∙ named)
+    (few_rows (rows_of c.args.rows.items) c.in_ok-names.names.items (sym named) few)
+    (subst (IsDistinct nat_eq) (sym placed) distinct) _
+    (rw c.deref-4.ensures.value at c.in_err-values.ensures.fault))
 
-pub returns-then-not-refer_within-clause-fault : goal.returns-then-not-refer_within-clause-fault
-returns-then-not-refer_within-clause-fault c =
-    let places = rw c.deref.ensures.value at c.in_ok-places.ensures.places in
-    let distinct = rw c.deref.ensures.value at c.in_ok-places.ensures.distinct in
-    let test = rw c.deref-2.ensures.value at c.refer_within.ensures in (
-      rw c.deref.ensures.value at c.in_ok-places.ensures.few,
-      distinct,
-      λ population. both_ways c.refer_within.result _ test c.if-not-refer_within.true
-          (passes c.in_ok-places.places.keys (rows_of c.args.rows.items) places population),
-    )
-
-pub invariant_of-result : goal.invariant_of-result
-invariant_of-result c =
-    let places = rw c.deref.ensures.value at c.in_ok-places.ensures.places in
-    let distinct = rw c.deref.ensures.value at c.in_ok-places.ensures.distinct in
-    let test = rw c.deref-2.ensures.value at c.refer_within.ensures in
-    let settled = rw c.deref_mut.ensures.value at c.in_ok-settle_rows.ensures in
-    let population = closed c.in_ok-places.places.keys (rows_of c.args.rows.items) places distinct
-    (sym test ∙ c.if-not-refer_within.false) in
-    rw (whole_settled c.args.rows.len c.args.rows.items c.settle_rows.new.rows c.args.rows.ok.0 settled) (record {
-      in_order = places ∙ sym (names_settled c.args.rows.items c.settle_rows.new.rows settled);
-      population = population_settled c.args.rows.items c.settle_rows.new.rows settled population;
-      few = few_settled c.args.rows.items c.settle_rows.new.rows settled
-          (rw c.deref.ensures.value at c.in_ok-places.ensures.few);
-    })
+pub settled-requires-clause-places : goal.settled-requires-clause-places
+settled-requires-clause-places c =
+    let named = rw c.deref.ensures.value at c.in_ok-names.ensures in
+    let placed = rw c.deref-2.ensures.value at c.in_ok-places.ensures.places in
+    rw c.in_ok-heads.ensures (placed ∙ named ∙ sym (names_parted c.args.rows.items))
 
 pub returns-clause-rows : goal.returns-clause-rows
 returns-clause-rows c =
-    let settled = rw c.deref_mut.ensures.value at c.in_ok-settle_rows.ensures in
-    rw (whole_settled c.args.rows.len c.args.rows.items c.settle_rows.new.rows c.args.rows.ok.0 settled)
-    (rows_settled c.args.rows.items c.settle_rows.new.rows settled)
-
-pub returns-clause-population : goal.returns-clause-population
-returns-clause-population c =
-    let places = rw c.deref.ensures.value at c.in_ok-places.ensures.places in
-    let distinct = rw c.deref.ensures.value at c.in_ok-places.ensures.distinct in
-    let test = rw c.deref-2.ensures.value at c.refer_within.ensures in
-    let settled = rw c.deref_mut.ensures.value at c.in_ok-settle_rows.ensures in
-    let population = closed c.in_ok-places.places.keys (rows_of c.args.rows.items) places distinct
-    (sym test ∙ c.if-not-refer_within.false) in
-    rw (whole_settled c.args.rows.len c.args.rows.items c.settle_rows.new.rows c.args.rows.ok.0 settled)
-    (population_settled c.args.rows.items c.settle_rows.new.rows settled population)
+    let values = rw c.deref-4.ensures.value at c.in_ok-values.ensures.rows in
+    rw (sym (rows_parted c.args.rows.items)) (rw (c.in_ok-heads.ensures, values) at c.in_ok-settled.ensures.rows)

@@ -1,15 +1,20 @@
 use Rattle.std.proofs.Common.{◌≡◌, ◌∙◌, ap, sym, length, arith}
 use Rattle.std.specs.Prelude.{slice_get}
-use Rattle.std.proofs.lemmas.List.{length-map}
-use Rattle.step_equal.specs.Views.{row_of, rows_of}
+use Rattle.step_equal.specs.Views.{rows_from}
+use Rattle.step_equal.proofs.Parted.{length_from}
 use Rattle.step_equal.proofs.plain.Plain.row.Goals as goal
 
 pub row_in-requires : goal.row_in-requires
 row_in-requires c =
-    let all : length (rows_of c.self.inside.rows.items) ≡ length c.args.self.now = ap length c.self.view_is in
-    let kept = length-map c.self.inside.rows.items row_of in
+    let v = c.self.inside in
+    let all : length (rows_from v.heads.items v.values.rows) ≡ length c.args.self.now = ap length c.self.view_is in
+    let kept = length_from v.heads.items v.values.rows c.self.invariant.each in
+    let each = c.self.invariant.each in
     let within = c.requires in
-    rw c.deref.ensures.value (omega (arith, all, kept, within))
+    rw c.deref.ensures.value (record {
+      head = omega (arith, all, kept, within);
+      values = omega (arith, all, kept, each, within);
+    })
 
 pub returns : goal.returns
 returns c =

@@ -1,16 +1,35 @@
-use Rattle.std.proofs.Common.{◌≡◌, ◌∙◌, ap, sym, arith}
+use Rattle.std.proofs.Common.{◌≡◌, Some, ◌∙◌, ap, sym, arith}
+use Rattle.step_values.specs.Cells.{value_at, values_of_run}
 use Rattle.step_values.specs.ComputedAgreement.{size}
 use Rattle.step_values.specs.Slots.{nth}
-use Rattle.step_values.specs.Views.{values_of}
-use Rattle.step_values.proofs.Trees.{size_of}
+use Rattle.step_values.proofs.Reading.{run_size, nth_run}
 use Rattle.step_values.proofs.slot.Slots.at.Goals as goal
 
-pub slot_at-requires : goal.slot_at-requires
-slot_at-requires c =
-    let counted = size_of c.self.inside.values.now in
-    let seen : size (values_of c.self.inside.values.now) ≡ size c.args.self.now = ap size c.self.view_is in
-    let within = c.requires in
-    omega (arith, counted, seen, within)
+pub overflow_add-self-inside : goal.overflow_add-self-inside
+overflow_add-self-inside c =
+    let v = c.self.inside in
+    let asked = c.requires in
+    let seen : size (values_of_run v.column.now v.run) ≡ size c.args.self.now = ap size c.self.view_is in
+    let counted = run_size (value_at v.column.now) v.run in
+    let end = c.self.invariant.1 in
+    let told = c.self.told in
+    omega (arith, asked, seen, counted, end, told)
+
+pub of-requires-clause-place : goal.of-requires-clause-place
+of-requires-clause-place c =
+    let v = c.self.inside in
+    let asked = c.requires in
+    let seen : size (values_of_run v.column.now v.run) ≡ size c.args.self.now = ap size c.self.view_is in
+    let counted = run_size (value_at v.column.now) v.run in
+    let end = c.self.invariant.1 in
+    omega (arith, asked, seen, counted, end)
 
 pub returns : goal.returns
-returns c = ap (λ vs. nth vs c.args.index) (sym c.self.view_is) ∙ c.slot_at.ensures
+returns c =
+    let v = c.self.inside in
+    let asked = c.requires in
+    let seen : size (values_of_run v.column.now v.run) ≡ size c.args.self.now = ap size c.self.view_is in
+    let counted = run_size (value_at v.column.now) v.run in
+    ap (λ vs. nth vs c.args.index) (sym c.self.view_is)
+    ∙ nth_run (value_at v.column.now) v.run.first v.run.count c.args.index (omega (arith, asked, seen, counted))
+    ∙ ap Some (sym c.of.ensures)

@@ -1,5 +1,5 @@
 use Rattle.std.proofs.Common.{sym, arith}
-use Rattle.step_values.proofs.Trees.{nth_over}
+use Rattle.step_values.proofs.Reading.{nth_over}
 use Rattle.step_values.proofs.slot.Slots.item.Goals as goal
 
 pub returns-else-index-len : goal.returns-else-index-len

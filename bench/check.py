@@ -1,0 +1,118 @@
+#!/usr/bin/env python3
+"""Times `stepmin check` on large files, beside `stepmin plain` on the same files in the same run.
+
+    bench/check.py PROGRAM [--megabytes N]
+
+Makes files of that size (60 if none is given) in a temporary folder, that conform to a schema made for
+them, runs both commands on each, the best of five runs, and prints the time of `check` as a multiple
+of that of `plain`, and its memory beside the size of the file.
+
+The files: `points` has points, directions and placements, some 45 bytes an instance (1.35 million in
+60 MB); `parts` is shaped like real ones, with strings, selects, enumerations and external mapping, a
+sixth of the size; `numbers` and `references` are one SET of 10^5 numbers, and one of 10^5 references.
+`points` is made once more twice as large.
+"""
+import argparse
+import os
+import sys
+import tempfile
+
+from plain import instances, run
+
+SCHEMA = """SCHEMA bench;
+TYPE len_m = REAL; END_TYPE;
+TYPE angle_m = REAL; END_TYPE;
+TYPE finish = ENUMERATION OF (rough, fine); END_TYPE;
+TYPE amount = SELECT (len_m, angle_m); END_TYPE;
+ENTITY item; name : STRING; END_ENTITY;
+ENTITY point SUBTYPE OF (item); coords : LIST [1:3] OF REAL; END_ENTITY;
+ENTITY direction SUBTYPE OF (item); ratios : LIST [2:3] OF REAL; END_ENTITY;
+ENTITY placement SUBTYPE OF (item); location : point; axis : OPTIONAL direction; END_ENTITY;
+ENTITY loop SUBTYPE OF (item); corners : LIST [3:?] OF UNIQUE point; END_ENTITY;
+ENTITY shape; label : STRING; END_ENTITY;
+ENTITY solid SUBTYPE OF (shape); volume : amount; END_ENTITY;
+ENTITY marked SUBTYPE OF (shape); look : finish; END_ENTITY;
+ENTITY face SUBTYPE OF (item); bounds : SET [1:?] OF loop; position : placement; same : BOOLEAN; END_ENTITY;
+ENTITY numbers; all : SET [0:?] OF REAL; END_ENTITY;
+ENTITY points; all : SET [0:?] OF point; END_ENTITY;
+END_SCHEMA;
+"""
+HEADER = """ISO-10303-21;
+HEADER;
+FILE_DESCRIPTION(('bench'),'2;1');
+FILE_NAME('bench','2024-01-01T00:00:00',(''),(''),'','','');
+FILE_SCHEMA(('BENCH'));
+ENDSEC;
+DATA;
+"""
+FOOTER = "ENDSEC;\nEND-ISO-10303-21;\n"
+
+
+def point(name, seed):
+    x, y, z = seed % 977 * 0.125, seed % 613 * -1.5, seed % 89 * 0.25
+    lines = [f"POINT('',({x:.4f},{y:.4f},{z:.4f}));", f"POINT('',({y:.4f},{z:.4f},1.E1));"]
+    return lines + ["DIRECTION('',(0.,0.,1.));", f"PLACEMENT('',#{name},#{name + 2});"]
+
+
+def part(name, seed):
+    x, y, z = seed % 977 * 0.125, seed % 613 * -1.5, seed % 89 / 7
+    lines = [f"POINT('',({x + k:.6f},{y - k:.6f},{z:.12E}));" for k in range(4)]
+    lines += ["DIRECTION('',(0.,0.,1.));", f"PLACEMENT('',#{name},#{name + 4});", f"PLACEMENT('',#{name + 1},$);"]
+    lines += [f"LOOP('loop {seed}',(#{name},#{name + 1},#{name + 2},#{name + 3}));"]
+    lines += [f"(MARKED(.ROUGH.)SHAPE('it''s caf\\X2\\00E9\\X0\\ {seed}')SOLID(LEN_M({z:.6E})));"]
+    return lines + [f"FACE('',(#{name + 7}),#{name + 5},.T.);"]
+
+
+def numbers(size):
+    yield "#1=NUMBERS((" + ",".join(f"{k}.{k % 10}" for k in range(100_000)) + "));\n"
+
+
+def references(size):
+    for k in range(1, 100_001):
+        yield f"#{k}=POINT('',({k}.,0.));\n"
+    yield "#100001=POINTS((" + ",".join(f"#{k}" for k in range(100_000, 0, -1)) + "));\n"
+
+
+FILES = {"points": (instances(point), 1), "parts": (instances(part), 6), "numbers": (numbers, 1), "references": (references, 1)}
+
+
+def write(path, make, size):
+    with open(path, "w", encoding="ascii") as file:
+        file.write(HEADER)
+        for text in make(size):
+            file.write(text)
+        file.write(FOOTER)
+
+
+def measure(name, make, size, program, schema, folder):
+    path = os.path.join(folder, "file.stp")
+    write(path, make, size)
+    length = os.path.getsize(path)
+    plain, _ = run([program, "plain", path])
+    seconds, memory = run([program, "check", schema, path])
+    print(f"{name}, {length / 1e6:.1f} MB: {seconds:.2f} s, {seconds / plain:.2f} times plain ({plain:.2f} s), "
+          f"{memory / length:.1f} times the file in memory", flush=True)
+    return seconds
+
+
+def main():
+    parser = argparse.ArgumentParser(description=__doc__, formatter_class=argparse.RawDescriptionHelpFormatter)
+    parser.add_argument("program")
+    parser.add_argument("--megabytes", type=int, default=60)
+    words = parser.parse_args()
+    size = words.megabytes * 1_000_000
+    with tempfile.TemporaryDirectory() as folder:
+        schema = os.path.join(folder, "bench.exp")
+        with open(schema, "w", encoding="ascii") as file:
+            file.write(SCHEMA)
+        once = None
+        for name, (make, part_of) in FILES.items():
+            seconds = measure(name, make, size // part_of, words.program, schema, folder)
+            once = seconds if once is None else once
+        twice = measure("points", FILES["points"][0], 2 * size, words.program, schema, folder)
+        print(f"twice the file: {twice / once:.2f} times as long")
+    return 0
+
+
+if __name__ == "__main__":
+    sys.exit(main())

@@ -1,0 +1,10 @@
+mod Whole
+mod Going
+mod Rows
+mod Tabled
+mod Made
+mod Known
+mod Domains
+mod Opening
+mod Tables
+mod Lookups

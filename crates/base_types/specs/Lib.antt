@@ -1,0 +1,4 @@
+pub mod Seen
+pub mod Measures
+pub mod Making
+pub mod Tables

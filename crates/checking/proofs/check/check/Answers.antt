@@ -1,0 +1,14 @@
+use Rattle.std.proofs.Common.{sym, ◌∙◌, subst, Some}
+use Rattle.checking.specs.Checks.{Checks}
+use Rattle.checking.proofs.Answering.{gives, of-schema-source}
+use Rattle.checking.proofs.check.check.Goals as goal
+
+pub returns-in-Ok-clause-checks : goal.returns-in-Ok-clause-checks
+returns-in-Ok-clause-checks g c =
+    of-schema-source _ _ c.in-Ok.bytes.items (gives _ _ c.in-Ok.bytes.items c.in-Ok.ensures.all) c.check_by.result
+    (subst (λ bytes. Checks (Some bytes) (g.F.Source.to_come c.args.file.now) c.check_by.result) c.deref.ensures.value
+    c.check_by.ensures.checks)
+
+pub returns-in-Ok-clause-schema_fault : goal.returns-in-Ok-clause-schema_fault
+returns-in-Ok-clause-schema_fault g c = λ fine.
+    c.in-Ok.ensures.failed fine ∙ sym c.check_by.ensures.no_schema_fault

@@ -1,0 +1,8 @@
+use Rattle.express_schemas.specs.SchemaViews.{schema_of}
+use Rattle.checking.proofs.Answering.{of-names}
+use Rattle.checking.proofs.check.check_by.Goals as goal
+
+pub returns-in-Err-resolve-clause-checks : goal.returns-in-Err-resolve-clause-checks
+returns-in-Err-resolve-clause-checks g c =
+    of-names _ _ (schema_of c.in-Ok.tree) c.in-Err-resolve.fault _ c.of_schema-in-Err-resolve.ensures c.requires.within
+    c.in-Ok.ensures.found c.in-Err-resolve.ensures.resolved

@@ -1,0 +1,125 @@
+//! Checking a file against a schema.
+
+ghost use Rattle.std.specs.Prelude.{◌≡◌, ◌≤◌, ◌^◌, Some, false, length};
+ghost use Rattle.express_schemas.specs.SchemaViews.{schema_of};
+ghost use Rattle.express_types.specs.Made.{IsMade};
+ghost use Rattle.checking.specs.Checks.{
+  Checks,
+  FileAnswers,
+  SourceAnswers,
+  is_device_fault,
+  is_schema_device,
+  is_file_device,
+};
+
+use crate::fault::{CheckFault, of_schema, of_schema_source};
+use crate::findings::file_findings;
+use command_line::fault::{Fault, LIMIT, Role};
+use command_line::read::read_whole;
+use devices::device::Source;
+use express_text::read_schema;
+use express_types::graph::TypeGraph;
+use express_types::resolving::resolve;
+use reports::report::Report;
+use std::alloc::Global;
+use std::hash::RandomState;
+use step_exchange::exchange::read_exchange;
+
+/// What is said of a file of these bytes by the types of its schema.
+fn report(
+    alloc: Global,
+    keys: RandomState,
+    graph: TypeGraph<'_, '_>,
+    bytes: &[u8],
+) -> Result<Report, Fault>
+    requires made { IsMade graph }
+    requires within { length bytes.now ≤ 2 ^ 40 }
+    ensures { FileAnswers (schema_of graph.entry.names.schema.now) bytes.now result }
+{
+    let exchange = match read_exchange(alloc, keys, bytes) {
+        Ok(exchange) => exchange,
+        Err(fault) => return Err(Fault::of_text(Role::File, fault)),
+    };
+    let findings = match file_findings(alloc, keys, &graph, &exchange) {
+        Ok(findings) => findings,
+        Err(_) => return Err(Fault::Memory),
+    };
+    let instances = exchange.names.len() as u64;
+    Ok(Report {
+        unchecked: graph.into_unchecked(),
+        findings,
+        instances,
+        unknown: 0,
+    })
+}
+
+/// What is said of the file of a source by the types of its schema.
+fn report_source<S: Source>(
+    alloc: Global,
+    keys: RandomState,
+    graph: TypeGraph<'_, '_>,
+    file: &mut S,
+) -> Result<Report, Fault>
+    requires made { IsMade graph }
+    ensures answers { SourceAnswers (schema_of graph.entry.names.schema.now)
+        (S.to_come file.old) result }
+    ensures failed { S.has_failed file.old ≡ false
+        → S.has_failed file.new ≡ is_device_fault result }
+{
+    match read_whole(alloc, file, LIMIT) {
+        Ok(bytes) => report(alloc, keys, graph, &bytes),
+        Err(fault) => Err(Fault::of_read(Role::File, fault)),
+    }
+}
+
+/// What is said of a file of a source by a schema of these bytes.
+fn check_by<S: Source>(
+    alloc: Global,
+    keys: RandomState,
+    schema: &[u8],
+    file: &mut S,
+) -> Result<Report, CheckFault>
+    requires within { length schema.now ≤ 2 ^ 40 }
+    ensures checks { Checks (Some schema.now) (S.to_come file.old) result }
+    ensures no_schema_fault { is_schema_device result ≡ false }
+    ensures file_fault { S.has_failed file.old ≡ false
+        → S.has_failed file.new ≡ is_file_device result }
+{
+    let tree = match read_schema(alloc, schema) {
+        Ok(tree) => tree,
+        Err(fault) => return Err(of_schema(fault)),
+    };
+    let graph = match resolve(alloc, keys, &tree) {
+        Ok(graph) => graph,
+        Err(fault) => return Err(of_schema(fault)),
+    };
+    match report_source(alloc, keys, graph, file) {
+        Ok(report) => Ok(report),
+        Err(fault) => Err(CheckFault::Other(fault)),
+    }
+}
+
+/// Checks a file against a schema: both are read to their ends, the schema first.
+///
+/// The fault is that of the schema's text or names, then that of the file's text, the first that
+/// shows; `Device` comes where a source fails, and `Memory` where memory runs out. Names are hashed
+/// by these keys.
+pub fn check<S: Source, F: Source>(
+    alloc: Global,
+    keys: RandomState,
+    schema: &mut S,
+    file: &mut F,
+) -> Result<Report, CheckFault>
+    // The report is what the two texts say.
+    ensures checks { Checks (S.to_come schema.old) (F.to_come file.old) result }
+    // The fault is a source's exactly where that one failed.
+    ensures schema_fault { S.has_failed schema.old ≡ false
+        → S.has_failed schema.new ≡ is_schema_device result }
+    ensures file_fault { F.has_failed file.old ≡ false
+        → F.has_failed file.new ≡ is_file_device result }
+{
+    match read_whole(alloc, schema, LIMIT) {
+        Ok(bytes) => check_by(alloc, keys, &bytes, file),
+        Err(fault) => Err(of_schema_source(fault)),
+    }
+}

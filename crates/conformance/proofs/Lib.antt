@@ -1,0 +1,3 @@
+mod SmallSchemas
+mod Samples
+mod Examples

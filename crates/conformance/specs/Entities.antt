@@ -1,0 +1,141 @@
+-- What a schema says of instances: their types, and the attributes that their records have to have
+-- (ISO 10303-11, 9.2; ISO 10303-21, 11.2).
+use Rattle.std.specs.Prelude.{◌≡◌, ℕ, ◌==◌, ◌&&◌, not, nat_lt, Bool, false, cond, List, [], ◌∷◌, length, map, flat_map, Option, Some, ◌⊎◌, ◌↔◌, IsTrue, bytes_eq}
+use Rattle.std.specs.List.{list_any, list_all, filter}
+use Rattle.step_literals.specs.Words.{upper}
+use Rattle.step_structures.specs.Trees as trees
+use Rattle.step_structures.specs.Trees.{Trees, Record, Form, internal, external}
+use Rattle.express_schemas.specs.Schemas.{Schema, Declaration, entity, Entity, own, Attribute, Explicit, Derived, DataType, Supertype, of_one_of}
+use Rattle.type_graphs.specs.Names.{Name, OneOf, Among, listed, entities, declaration_of, IsEntityAt, IsKindOf}
+use Rattle.type_graphs.specs.Attributes.{Place, own_places, ArePlaces, IsRedeclaration, HasFirstShape}
+use Rattle.conformance.specs.Fitting.{entity_names, among, is_entity, count}
+
+-- What the entities of a schema say, as functions.
+pub record Entities : Type 0 where
+  pub is_kind_of : Name → Name → Bool
+  pub places : Name → List Place
+  -- the declarations of explicit attributes by which an entity declares the attribute of a place, or redeclares it
+  pub declarations : Name → Place → List Explicit
+  -- the entity redeclares it as derived
+  pub derives : Name → Place → Bool
+
+-- ys are those of xs of which P holds, in order
+abbrev pub AreThose : {A : Type 0} → (A → Type 0) → List A → List A → Type 0
+AreThose P [] ys = ys ≡ []
+AreThose P (x ∷ xs) ys = (P x × (zs : List _) × (ys ≡ x ∷ zs) × AreThose P xs zs) ⊎ ((P x → ⊥) × AreThose P xs ys)
+
+-- The entity e declares the explicit attribute a of p so, its own, or redeclares it with a data type of the first shape;
+-- with another one the redeclaration isn't checked (ISO 10303-11, 9.2.3.4).
+abbrev pub DeclaresSo : Schema → Entity → Place → Explicit → Type 0
+DeclaresSo s e (p, a) x =
+    ((e.name ≡ p) × Among (own a) x.attributes)
+    ⊎ (OneOf (λ (y : Attribute). IsRedeclaration s y p a) x.attributes × HasFirstShape s p a x.data_type)
+
+abbrev pub RedeclaresDerived : Schema → Name → Place → Type 0
+RedeclaresDerived s n (p, a) =
+    (e : Entity) × IsEntityAt s n e × OneOf (λ (d : Derived). IsRedeclaration s d.attribute p a) (listed e.derived)
+
+-- These are the functions of a schema.
+pub record AreEntities (s : Schema) (en : Entities) : Type 0 where
+  pub kinds : (a b : Name) → IsTrue (en.is_kind_of a b) ↔ IsKindOf s a b
+  pub places : ArePlaces s en.places
+  pub declarations : (n : Name) (e : Entity) → IsEntityAt s n e → (p : Place)
+      → AreThose (DeclaresSo s e p) e.explicits (en.declarations n p)
+  pub derives : (n : Name) (p : Place) → IsTrue (en.derives n p) ↔ RedeclaresDerived s n p
+
+abbrev pub own_in : Option Declaration → List Place
+own_in (Some (entity e)) = own_places e
+own_in d = []
+
+-- the explicit attributes that an entity itself declares
+abbrev pub own_places_of : Schema → Name → List Place
+own_places_of s n = own_in (declaration_of s.declarations n)
+
+abbrev pub is_abstract_in : Option Declaration → Bool
+is_abstract_in (Some (entity e)) = e.is_abstract
+is_abstract_in d = false
+
+abbrev pub is_abstract : Schema → Name → Bool
+is_abstract s n = is_abstract_in (declaration_of s.declarations n)
+
+abbrev pub one_of_in : Supertype → List (List Name)
+one_of_in (of_one_of names) = names ∷ []
+one_of_in x = []
+
+-- the operands of each ONEOF that is checked, in the order of the text (ISO 10303-11, 9.2.5)
+abbrev pub one_ofs : Schema → List (List Name)
+one_ofs s = flat_map (λ (e : Entity). one_of_in e.supertype) (entities s)
+
+-- the records of an instance
+abbrev pub records : Form → List Record
+records (internal r) = r ∷ []
+records (external rs) = rs
+
+-- the entity that a record names
+abbrev pub named_entity : Record → Name
+named_entity r = upper r.keyword
+
+abbrev pub joined : Trees → Trees → Trees
+joined trees.none ys = ys
+joined (trees.one x xs) ys = trees.one x (joined xs ys)
+
+-- the parameters of all records, as they stand
+abbrev pub parameters : List Record → Trees
+parameters [] = trees.none
+parameters (r ∷ rs) = joined r.values (parameters rs)
+
+-- so many of a list pass a test
+abbrev pub how_many : {A : Type 0} → (A → Bool) → List A → ℕ
+how_many test xs = length (filter test xs)
+
+module _ (s : Schema) (en : Entities) where
+  -- The types of an instance: of one that is mapped internally its entity and all supertypes, of one that is mapped
+  -- externally the entities of its records; in the order of the text (ISO 10303-21, 11.2.5).
+  abbrev pub types_of : Form → List Name
+  types_of (internal r) = filter (en.is_kind_of (named_entity r)) (entity_names s)
+  types_of (external rs) = filter (λ e. among e (map named_entity rs)) (entity_names s)
+
+  -- the attributes whose values its records have to have
+  abbrev pub places_of : Form → List Place
+  places_of (internal r) = en.places (named_entity r)
+  places_of (external rs) = flat_map (λ r. own_places_of s (named_entity r)) rs
+
+  -- no other type is below it
+  abbrev pub is_leaf : List Name → Name → Bool
+  is_leaf types e = not (list_any (λ t. en.is_kind_of t e && not (bytes_eq t e)) types)
+
+  abbrev pub unknown_entities : Form → ℕ
+  unknown_entities f = how_many (λ r. not (is_entity s (named_entity r))) (records f)
+
+  abbrev pub abstract_leaves : List Name → ℕ
+  abstract_leaves types = how_many (λ e. is_leaf types e && is_abstract s e) types
+
+  -- supertypes of types that aren't among them
+  abbrev pub missing_supertypes : List Name → ℕ
+  missing_supertypes types =
+      how_many (λ e. list_any (λ t. en.is_kind_of t e) types && not (among e types)) (entity_names s)
+
+  -- two operands are among the types
+  abbrev pub broken_one_ofs : List Name → ℕ
+  broken_one_ofs types = how_many (λ names. nat_lt 1 (how_many (λ t. among t names) types)) (one_ofs s)
+
+  abbrev pub has_count : List Place → Record → Bool
+  has_count places r = count r.values == length places
+
+  -- records with another number of parameters than they have attributes
+  abbrev pub wrong_counts : Form → ℕ
+  wrong_counts (internal r) = cond (has_count (en.places (named_entity r)) r) 0 1
+  wrong_counts (external rs) = how_many (λ r. not (has_count (own_places_of s (named_entity r)) r)) rs
+
+  -- the declarations and redeclarations of the attribute of a place by these types, in the order of the text
+  abbrev pub declarations_by : List Name → Place → List Explicit
+  declarations_by types p = flat_map (λ t. en.declarations t p) types
+
+  abbrev pub is_derived : List Name → Place → Bool
+  is_derived types p = list_any (λ t. en.derives t p) types
+
+  abbrev pub is_optional : List Name → Place → Bool
+  is_optional types p = list_all (λ (x : Explicit). x.optional) (declarations_by types p)
+
+  abbrev pub data_types : List Name → Place → List DataType
+  data_types types p = map (λ (x : Explicit). x.data_type) (declarations_by types p)

@@ -1,0 +1,5 @@
+pub mod Bases
+pub mod Fitting
+pub mod Entities
+pub mod Findings
+pub mod Populations

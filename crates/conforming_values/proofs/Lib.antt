@@ -1,0 +1,16 @@
+mod Carrying
+mod Linking
+mod Returning
+mod Forms
+mod Alike
+mod Declared
+mod Instances
+mod Targets
+mod Attributes
+mod Populations
+mod Leading
+mod Pinned
+mod Records
+mod Spelling
+mod Rewriting
+mod Written

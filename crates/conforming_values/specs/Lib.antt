@@ -1,0 +1,10 @@
+pub mod Fits
+pub mod Spelt
+pub mod Apart
+pub mod Laws
+pub mod Conforming
+pub mod Images
+pub mod Standing
+pub mod SpeltRecords
+pub mod Rewritten
+pub mod PopulationLaws

@@ -1,0 +1,42 @@
+//! Making the types of a schema.
+
+ghost use Rattle.std.specs.Prelude.{◌≡◌, IfOk};
+ghost use Rattle.digraph.specs.Graphs.{graph_of};
+ghost use Rattle.digraph.specs.Closures.{IsClosure};
+ghost use Rattle.express_schemas.specs.SchemaViews.{schema_of};
+ghost use Rattle.type_graphs.specs.Faults.{IsResolved};
+ghost use Rattle.schema_names.specs.Edges.{IsGraphOf, supertypes_in};
+ghost use Rattle.express_types.specs.Made.{IsMade};
+
+use crate::graph::TypeGraph;
+use crate::judging::judge;
+use attribute_places::places::attribute_places;
+use schema_names::names::Names;
+use std::alloc::{AllocError, Global};
+use std::hash::RandomState;
+
+/// The types of a schema whose names are resolved, over the graph of its SUBTYPE OF and the rows of
+/// all that it leads to. Names are hashed by these keys.
+pub(crate) fn type_graph<'t, 'a>(
+    alloc: Global,
+    keys: RandomState,
+    names: Names<'t, 'a>,
+    supertypes: &[Vec<u32>],
+    above: Vec<Vec<u32>>,
+) -> Result<TypeGraph<'t, 'a>, AllocError>
+    requires resolved { IsResolved (schema_of names.schema.now) }
+    requires drawn { IsGraphOf (schema_of names.schema.now) supertypes_in
+        (graph_of supertypes.now) }
+    requires closed { IsClosure (graph_of supertypes.now) (graph_of above.items) }
+    ensures same { IfOk result (λ g. g.names.schema.now ≡ names.entry.schema.now) }
+    ensures made { IfOk result IsMade }
+{
+    let places = attribute_places(alloc, &names, supertypes)?;
+    let judged = judge(alloc, keys, &names, supertypes, &above)?;
+    Ok(TypeGraph {
+        names,
+        above,
+        places,
+        judged,
+    })
+}

@@ -1,0 +1,12 @@
+//! Where the instances of an exchange structure break their schema (ISO 10303-21, 11).
+#![tactic(auto)]
+
+mod counts;
+pub mod findings;
+mod judge;
+mod keywords;
+mod making;
+mod misfits;
+pub mod rows;
+mod schema_name;
+mod telling;

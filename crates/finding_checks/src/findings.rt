@@ -1,0 +1,232 @@
+//! Files whose instances are rows, and the reports on them.
+
+use checking::check::check;
+use devices::counted::Counted;
+use reports::print::print_report;
+use std::alloc::{AllocError, Global};
+use std::hash::RandomState;
+use std::io;
+use std::io::Write;
+use std::test::Fail;
+
+const SCHEMA: &[u8] = b"SCHEMA geo;
+TYPE len_m = REAL; END_TYPE;
+TYPE angle_m = REAL; END_TYPE;
+TYPE finish = ENUMERATION OF (rough, fine); END_TYPE;
+TYPE amount = SELECT (len_m, angle_m); END_TYPE;
+ENTITY point; coords : LIST [1:3] OF REAL; END_ENTITY;
+ENTITY direction; ratios : LIST [2:3] OF REAL;
+DERIVE dim : INTEGER := HIINDEX(ratios);
+WHERE wr1 : SIZEOF(QUERY(r <* ratios | r <> 0.0)) > 0; END_ENTITY;
+ENTITY placement; location : point; axis : OPTIONAL direction;
+INVERSE notes : SET [0:1] OF note FOR subject;
+WHERE wr1 : axis.dim = SIZEOF(location.coords); END_ENTITY;
+ENTITY item ABSTRACT SUPERTYPE OF (ONEOF (loop, group)); END_ENTITY;
+ENTITY loop SUBTYPE OF (item);
+corners : LIST [3:?] OF UNIQUE point; END_ENTITY;
+ENTITY group SUBTYPE OF (item);
+id : STRING; members : SET [1:?] OF placement;
+UNIQUE ur1 : id; END_ENTITY;
+ENTITY note; words : STRING; subject : placement; END_ENTITY;
+ENTITY node; next : node; END_ENTITY;
+ENTITY bundle; members : SET [1:?] OF node; END_ENTITY;
+ENTITY shape; label : STRING(8); END_ENTITY;
+ENTITY solid SUBTYPE OF (shape); volume : amount; END_ENTITY;
+ENTITY marked SUBTYPE OF (shape); look : finish; END_ENTITY;
+ENTITY plain_mark SUBTYPE OF (marked);
+DERIVE SELF\\shape.label : STRING(8) := 'p'; END_ENTITY;
+END_SCHEMA;
+";
+
+const START: &[u8] = b"ISO-10303-21;\nHEADER;\nFILE_DESCRIPTION((''),'2;1');\n\
+    FILE_NAME('','',(''),(''),'','','');\nFILE_SCHEMA(('";
+
+const DATA: &[u8] = b"'));\nENDSEC;\nDATA;\n";
+
+const END: &[u8] = b"ENDSEC;\nEND-ISO-10303-21;\n";
+
+// The name of a schema, the instances of a file, and the report on it.
+type Row = (&'static [u8], &'static [u8], &'static [u8]);
+
+const ROWS: &'static [Row] = &[
+    (b"GEO", b"", b"instances 0\nunknown 0\nfindings 0\n"),
+    (
+        b"GEO",
+        b"#1=NODE(#99);\n#2=SHAPE(*);\n",
+        b"F9 DanglingReference #1 1\nF8 MisplacedStar #2 1\ninstances 2\nunknown 0\nfindings 2\n",
+    ),
+    (
+        b"GEO",
+        b"#1=CIRCLE();\n",
+        b"F1 UnknownEntity #1 0\ninstances 1\nunknown 0\nfindings 1\n",
+    ),
+    (
+        b"GEO",
+        b"#1=ITEM();\n",
+        b"F2 AbstractInstance #1 0\ninstances 1\nunknown 0\nfindings 1\n",
+    ),
+    (
+        b"GEO",
+        b"#1=(SOLID(LEN_M(1.)));\n",
+        b"F3 MissingSupertype #1 0\ninstances 1\nunknown 0\nfindings 1\n",
+    ),
+    (
+        b"GEO",
+        b"#1=(GROUP('a',())ITEM()LOOP(()));\n",
+        b"F4 OneOfBroken #1 0\ninstances 1\nunknown 0\nfindings 1\n",
+    ),
+    (
+        b"GEO",
+        b"#1=POINT();\n",
+        b"F5 ParameterCount #1 0\ninstances 1\nunknown 0\nfindings 1\n",
+    ),
+    (
+        b"GEO",
+        b"#1=POINT(('a'));\n",
+        b"F6 WrongKind #1 1\ninstances 1\nunknown 0\nfindings 1\n",
+    ),
+    (
+        b"GEO",
+        b"#1=PLACEMENT($,$);\n",
+        b"F7 MissingValue #1 1\ninstances 1\nunknown 0\nfindings 1\n",
+    ),
+    (
+        b"GEO",
+        b"#1=SHAPE(*);\n",
+        b"F8 MisplacedStar #1 1\ninstances 1\nunknown 0\nfindings 1\n",
+    ),
+    (
+        b"GEO",
+        b"#1=(MARKED(.X.)SHAPE('s'));\n",
+        b"F11 UnknownElement #1 1\ninstances 1\nunknown 0\nfindings 1\n",
+    ),
+    (
+        b"GEO",
+        b"#1=SHAPE('123456789');\n",
+        b"F13 TooWide #1 1\ninstances 1\nunknown 0\nfindings 1\n",
+    ),
+    (
+        b"GEO",
+        b"#1=SOLID('s',5.);\n",
+        b"F15 NoSelectItem #1 2\ninstances 1\nunknown 0\nfindings 1\n",
+    ),
+    (
+        b"GEO",
+        b"#1=POINT((0.));\n#2=NODE(#1);\n",
+        b"F10 WrongEntity #2 1\ninstances 2\nunknown 0\nfindings 1\n",
+    ),
+    (
+        b"GEO",
+        b"#1=NODE(#1);\n#2=BUNDLE((#1,#1));\n",
+        b"F14 NotDistinct #2 1\ninstances 2\nunknown 0\nfindings 1\n",
+    ),
+    (
+        b"GEO",
+        b"#1=POINT((0.));\n#2=PLACEMENT(#1,$);\n#3=GROUP('a',());\n",
+        b"F12 OutOfBounds #3 2\ninstances 3\nunknown 0\nfindings 1\n",
+    ),
+    (
+        b"GEO",
+        b"#1=PLAIN_MARK(*,.FINE.);\n#2=PLAIN_MARK($,.fine.);\n#3=PLAIN_MARK('x',.FINE.);\n",
+        b"F8 MisplacedStar #3 1\ninstances 3\nunknown 0\nfindings 1\n",
+    ),
+    (
+        b"GEO",
+        b"#1=NODE(#2);\n#2=CIRCLE();\n",
+        b"F1 UnknownEntity #2 0\ninstances 2\nunknown 0\nfindings 1\n",
+    ),
+    (
+        b"GEO",
+        b"#1=NODE(#2);\n#2=NODE(#1);\n",
+        b"instances 2\nunknown 0\nfindings 0\n",
+    ),
+    (
+        b"GEO",
+        b"#1=(SOLID(LEN_M(1.))MARKED(.T.)SHAPE('123456789'));\n",
+        b"F11 UnknownElement #1 2\nF13 TooWide #1 3\ninstances 1\nunknown 0\nfindings 2\n",
+    ),
+    (
+        b"GEO",
+        b"#1=SOLID('s',AREA(1.));\n#2=SOLID('s',ANGLE_M(1));\n#3=SOLID('s',LEN_M('a'));\n#4=SOLID('s',#1);\n",
+        b"F15 NoSelectItem #1 2\nF6 WrongKind #3 2\nF15 NoSelectItem #4 2\ninstances 4\nunknown 0\nfindings 3\n",
+    ),
+    (
+        b"GEO",
+        b"#1=POINT((0.,1.,2.,3.));\n#2=POINT((0,$));\n#3=POINT((0.,*));\n",
+        b"F12 OutOfBounds #1 1\nF7 MissingValue #2 1\nF8 MisplacedStar #3 1\ninstances 3\nunknown 0\nfindings 3\n",
+    ),
+    (
+        b"GEO",
+        b"#1=SHAPE('caf\\X2\\00E9\\X0\\1234');\n#2=SHAPE('caf\\X2\\00E9\\X0\\12345');\n",
+        b"F13 TooWide #2 1\ninstances 2\nunknown 0\nfindings 1\n",
+    ),
+    (
+        b"GEA",
+        b"",
+        b"F19 SchemaName\ninstances 0\nunknown 0\nfindings 1\n",
+    ),
+    (b"geo { 1 0 }", b"", b"instances 0\nunknown 0\nfindings 0\n"),
+    (b"Geo (x)", b"", b"instances 0\nunknown 0\nfindings 0\n"),
+];
+
+// Bytes that are kept.
+#[derive(Drop)]
+struct Paper {
+    bytes: Vec<u8>,
+}
+
+impl Write for Paper {
+    fn write(&mut self, buf: &[u8]) -> io::Result<usize> {
+        self.bytes.extend_from_slice(buf)?;
+        Ok(buf.len())
+    }
+
+    fn flush(&mut self) -> io::Result<()> {
+        Ok(())
+    }
+}
+
+fn file(alloc: Global, row: Row) -> Result<Vec<u8>, AllocError> {
+    let (schema, rows, _) = row;
+    let mut text = Vec::new(alloc);
+    text.extend_from_slice(START)?;
+    text.extend_from_slice(schema)?;
+    text.extend_from_slice(DATA)?;
+    text.extend_from_slice(rows)?;
+    text.extend_from_slice(END)?;
+    Ok(text)
+}
+
+// Whether the report on a row's file is the row's.
+fn is_reported(alloc: Global, keys: RandomState, row: Row) -> Result<bool, AllocError> {
+    let text = file(alloc, row)?;
+    let mut schema = SCHEMA;
+    let mut source = text.as_slice();
+    let Ok(report) = check(alloc, keys, &mut schema, &mut source) else {
+        return Ok(false);
+    };
+    let mut out = Counted::new(Paper {
+        bytes: Vec::new(alloc),
+    });
+    if print_report(&mut out, &report).is_err() {
+        return Ok(false);
+    }
+    let (_, _, wanted) = row;
+    Ok(out.into_inner().bytes.as_slice() == wanted)
+}
+
+fn wrong_row(alloc: Global, keys: RandomState, rows: &[Row]) -> Result<Option<usize>, AllocError> {
+    for i in 0..rows.len() {
+        if !is_reported(alloc, keys, rows[i])? {
+            return Ok(Some(i));
+        }
+    }
+    Ok(None)
+}
+
+#[test]
+fn files_are_reported_on(rt: HostRuntime) -> Result<(), Fail> {
+    let keys = RandomState::new(&rt)?;
+    assert_eq!(rt; wrong_row(rt.alloc(), keys, ROWS)?, None);
+    Ok(())
+}

@@ -1,0 +1,11 @@
+pub mod Naming
+pub mod Listing
+pub mod Kindred
+pub mod Counted
+pub mod Setting
+pub mod Operating
+pub mod Typed
+pub mod Slotted
+pub mod Breaking
+pub mod Existing
+pub mod Formed

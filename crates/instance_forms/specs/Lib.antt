@@ -1,0 +1,5 @@
+pub mod Marked
+pub mod Knowing
+pub mod Slots
+pub mod Making
+pub mod Forms

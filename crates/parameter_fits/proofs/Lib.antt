@@ -1,0 +1,6 @@
+pub mod Numbered
+pub mod Elements
+pub mod Pushed
+pub mod Sorted
+pub mod Forms
+pub mod Pointwise

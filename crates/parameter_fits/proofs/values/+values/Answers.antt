@@ -1,0 +1,107 @@
+use Rattle.std.proofs.Common.{◌≡◌, ◌∙◌, sym, ap, subst, arith}
+use Rattle.std.specs.Prelude.{MatchResult}
+use Rattle.conformance.specs.Bases.{Domain, IsDomain}
+use Rattle.conformance.specs.Fitting.{value_as, or_this}
+use Rattle.step_parameters.specs.Params.{node_value}
+use Rattle.step_parameters.proofs.Weights.{weight, lighter}
+use Rattle.step_values.specs.Building.{Building}
+use Rattle.step_values.specs.Values.{sequence, bag}
+use Rattle.base_types.specs.Seen.{base_seen, schema_at}
+use Rattle.row_index.specs.Index.{found}
+use Rattle.parameter_fits.specs.References.{AreFound, RefersWithin}
+use Rattle.parameter_fits.specs.Pushing.{Pushes}
+use Rattle.parameter_fits.proofs.Pushed.{reached, bag_gathered, sequence_gathered, some_pending, or_itself, refers_at, pushed_next, typed_closed, list_closed}
+use Rattle.parameter_fits.proofs.values.+values.Goals as goal
+
+pub push_value-push_node-requires : goal.push_value-push_node-requires
+push_value-push_node-requires t c =
+    let w = ap weight c.node.ensures in (
+      omega (arith, c.decreases, w),
+      (
+        c.requires.bases,
+        (
+          c.requires.numbered,
+          (
+            c.requires.indexed,
+            subst (RefersWithin (found c.args.index.now)) (sym c.node.ensures) c.requires.within,
+          ),
+        ),
+      ),
+    )
+
+pub push_each-push_value-requires : goal.push_each-push_value-requires
+push_each-push_value-requires t c =
+    let less = lighter c.args.params.now c.loop-i.i c.at.result c.at.ensures in (
+      omega (arith, less, c.decreases),
+      (
+        c.requires.bases,
+        (
+          c.requires.numbered,
+          (
+            subst (λ names. AreFound names (found c.args.index.now)) (sym c.loop-i.invariant.names) c.requires.indexed,
+            refers_at (found c.args.index.now) c.args.params.now c.loop-i.i c.at.result c.at.ensures c.requires.within,
+          ),
+        ),
+      ),
+    )
+
+pub push_each-loop-i-preserved : goal.push_each-loop-i-preserved
+push_each-loop-i-preserved t c =
+    let some = c.requires.bases.1.exists in
+    record {
+      names = ap (λ (b : Building). b.names) (c.in_ok-push_value.ensures some.0 some.1) ∙ c.loop-i.invariant.names;
+      pushed = λ d h. pushed_next (schema_at c.args.bases) d (base_seen (schema_at c.args.bases) c.args.base)
+          c.args.builder.now c.loop-i.builder c.push_value.new.builder c.args.params.now c.loop-i.i c.at.result
+          c.at.ensures (c.loop-i.invariant.pushed d h) (c.in_ok-push_value.ensures d h);
+    }
+
+pub push_list-close_bag-requires : goal.push_list-close_bag-requires
+push_list-close_bag-requires t c =
+    let some = c.requires.bases.1.exists in
+    reached c.args.builder.now c.push_each.new.builder _ c.pending_len-mark.result
+    (c.in_ok-push_each.ensures some.0 some.1) c.pending_len-mark.ensures
+
+pub push_list-close_sequence-requires : goal.push_list-close_sequence-requires
+push_list-close_sequence-requires t c =
+    let some = c.requires.bases.1.exists in
+    reached c.args.builder.now c.push_each.new.builder _ c.pending_len-mark.result
+    (c.in_ok-push_each.ensures some.0 some.1) c.pending_len-mark.ensures
+
+pub push_list-returns-then-has_no_order : goal.push_list-returns-then-has_no_order
+push_list-returns-then-has_no_order t c =
+    let s = schema_at c.args.bases in
+    let some = c.requires.bases.1.exists in
+    list_closed s bag c.args.builder.now c.push_each.new.builder c.close_bag.new.self
+    c.pending_len-mark.result c.pending_len-mark.ensures (base_seen s c.args.base) (base_seen s c.element.result)
+    c.args.params.now
+    (λ vs. bag_gathered (base_seen s c.args.base) vs (sym (c.has_no_order.ensures s) ∙ c.if-has_no_order.true))
+    some c.element.ensures.says c.in_ok-push_each.ensures c.close_bag.result c.close_bag.ensures
+
+pub push_list-returns-else-has_no_order : goal.push_list-returns-else-has_no_order
+push_list-returns-else-has_no_order t c =
+    let s = schema_at c.args.bases in
+    let some = c.requires.bases.1.exists in
+    list_closed s sequence c.args.builder.now c.push_each.new.builder c.close_sequence.new.self
+    c.pending_len-mark.result c.pending_len-mark.ensures (base_seen s c.args.base) (base_seen s c.element.result)
+    c.args.params.now
+    (λ vs. sequence_gathered (base_seen s c.args.base) vs (sym (c.has_no_order.ensures s) ∙ c.if-has_no_order.false))
+    some c.element.ensures.says c.in_ok-push_each.ensures c.close_sequence.result c.close_sequence.ensures
+
+pub push_node-close_typed-requires : goal.push_node-close_typed-requires
+push_node-close_typed-requires t c =
+    let some = c.requires.bases.1.exists in
+    some_pending c.args.builder.now c.push_value.new.builder _ (c.in_ok-push_value-in-Typed.ensures some.0 some.1)
+
+pub push_node-returns-in_ok-push_value-in-Typed : goal.push_node-returns-in_ok-push_value-in-Typed
+push_node-returns-in_ok-push_value-in-Typed t c =
+    let s = schema_at c.args.bases in
+    let some = c.requires.bases.1.exists in
+    subst (λ x. MatchResult c.close_typed.result (λ _. (d : Domain) → IsDomain s d
+    → Pushes c.args.builder.now c.close_typed.new.self (value_as s d (base_seen s c.args.base) x))
+    (λ _. c.close_typed.new.self.names ≡ c.args.builder.now.names)) (ap node_value (sym c.in-Typed.is))
+    (typed_closed s c.args.builder.now c.push_value.new.builder c.close_typed.new.self
+    (base_seen s c.args.base) (base_seen s c.unwrap_or-within.result) c.in-Typed.word.text.now c.in-Typed.inner some
+    (λ d h. ap (base_seen s) c.unwrap_or-within.ensures
+    ∙ or_itself s d (base_seen s) c.item.result c.args.base
+    ∙ ap (or_this s d (base_seen s c.args.base)) (c.item.ensures.says d h))
+    c.in_ok-push_value-in-Typed.ensures c.close_typed.result c.close_typed.ensures.names c.close_typed.ensures.typed)

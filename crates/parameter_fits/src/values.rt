@@ -1,0 +1,157 @@
+//! The value of a parameter.
+
+ghost use Rattle.std.specs.Prelude.{◌≡◌, MatchResult};
+ghost use Rattle.step_parameters.specs.Cells.{all_of};
+ghost use Rattle.step_parameters.specs.Params.{node_value};
+ghost use Rattle.step_structures.specs.Trees.{group};
+ghost use Rattle.step_values.specs.Values.{reference};
+ghost use Rattle.row_index.specs.Index.{found};
+ghost use Rattle.conformance.specs.Bases.{Domain, IsDomain};
+ghost use Rattle.conformance.specs.Fitting.{value_as, values_as};
+ghost use Rattle.base_types.specs.Seen.{base_seen, schema_at};
+ghost use Rattle.base_types.specs.Tables.{AreBases, IsNumbered};
+ghost use Rattle.parameter_fits.specs.References.{RefersWithin, ReferWithin, IsFound, AreFound};
+ghost use Rattle.parameter_fits.specs.Pushing.{Pushes, PushesEach};
+
+use crate::inside::{element, has_no_order, item};
+use base_types::base::Base;
+use base_types::lookup::Bases;
+use row_index::index::RowIndex;
+use std::alloc::AllocError;
+use step_parameters::param::{Node, Param, Params};
+use step_values::row_builder::RowBuilder;
+
+/// Pushes the value of a parameter, as one of a data type that asks this. Each reference in it is
+/// the name of a row, which the index finds.
+///
+/// `AllocError` comes where memory runs out.
+#[cycle(values)]
+pub fn push_value<'t: 'a, 'a>(
+    builder: &mut RowBuilder<'_, 'a>,
+    bases: Bases<'_, '_, '_>,
+    base: Base,
+    index: &RowIndex,
+    param: &Param<'t>,
+) -> Result<(), AllocError>
+    requires bases { AreBases bases }
+    requires numbered { IsNumbered (schema_at bases) base }
+    requires indexed { AreFound builder.old.names (found index.now) }
+    requires within { RefersWithin (found index.now) param.now }
+    ensures { MatchResult result
+        (λ _. (d : Domain) → IsDomain (schema_at bases.entry) d
+        → Pushes builder.old builder.new
+        (value_as (schema_at bases.entry) d (base_seen (schema_at bases.entry) base) param.now))
+        (λ _. builder.new.names ≡ builder.old.names) }
+{
+    push_node(builder, bases, base, index, &param.node())
+}
+
+/// Pushes the value of an outermost part, with what is inside it.
+#[cycle(values)]
+fn push_node<'t: 'a, 'a>(
+    builder: &mut RowBuilder<'_, 'a>,
+    bases: Bases<'_, '_, '_>,
+    base: Base,
+    index: &RowIndex,
+    node: &Node<'t>,
+) -> Result<(), AllocError>
+    requires bases { AreBases bases }
+    requires numbered { IsNumbered (schema_at bases) base }
+    requires indexed { AreFound builder.old.names (found index.now) }
+    requires within { RefersWithin (found index.now) (node_value node.now) }
+    ensures { MatchResult result
+        (λ _. (d : Domain) → IsDomain (schema_at bases.entry) d
+        → Pushes builder.old builder.new
+        (value_as (schema_at bases.entry) d (base_seen (schema_at bases.entry) base)
+        (node_value node.now)))
+        (λ _. builder.new.names ≡ builder.old.names) }
+{
+    match node {
+        Node::Unset | Node::Keyword(_) => builder.push_unset(),
+        Node::Star => builder.push_derived(),
+        Node::Number(number) => builder.push_number(*number),
+        Node::Text(text) => builder.push_text(*text),
+        Node::Bits(bits) => builder.push_bits(*bits),
+        Node::Element(word) => builder.push_element(*word),
+        Node::Reference(name, _) => push_reference(builder, index, *name),
+        Node::Typed(word, inner) => {
+            let within = item(bases, base, *word).unwrap_or(base);
+            push_value(builder, bases, within, index, inner)?;
+            builder.close_typed(*word)
+        }
+        Node::List(params) => push_list(builder, bases, base, index, params),
+    }
+}
+
+/// Pushes a reference, with the row that has its name.
+fn push_reference(
+    builder: &mut RowBuilder<'_, '_>,
+    index: &RowIndex,
+    name: u64,
+) -> Result<(), AllocError>
+    requires indexed { AreFound builder.old.names (found index.now) }
+    requires within { IsFound (found index.now) name }
+    ensures { MatchResult result
+        (λ _. Pushes builder.old builder.new (reference name))
+        (λ _. builder.new.names ≡ builder.old.names) }
+{
+    match index.find(name) {
+        Some(row) => builder.push_reference(name, row),
+        None => Err(AllocError),
+    }
+}
+
+/// Pushes the value of a list.
+#[cycle(values)]
+fn push_list<'t: 'a, 'a>(
+    builder: &mut RowBuilder<'_, 'a>,
+    bases: Bases<'_, '_, '_>,
+    base: Base,
+    index: &RowIndex,
+    params: &Params<'t>,
+) -> Result<(), AllocError>
+    requires bases { AreBases bases }
+    requires numbered { IsNumbered (schema_at bases) base }
+    requires indexed { AreFound builder.old.names (found index.now) }
+    requires within { ReferWithin (found index.now) (all_of params.now) }
+    ensures { MatchResult result
+        (λ _. (d : Domain) → IsDomain (schema_at bases.entry) d
+        → Pushes builder.old builder.new
+        (value_as (schema_at bases.entry) d (base_seen (schema_at bases.entry) base)
+        (group (all_of params.now))))
+        (λ _. builder.new.names ≡ builder.old.names) }
+{
+    let mark = builder.pending_len();
+    push_each(builder, bases, element(bases, base), index, params)?;
+    if has_no_order(base) {
+        builder.close_bag(mark)
+    } else {
+        builder.close_sequence(mark)
+    }
+}
+
+/// Pushes the values of parameters side by side.
+#[cycle(values)]
+fn push_each<'t: 'a, 'a>(
+    builder: &mut RowBuilder<'_, 'a>,
+    bases: Bases<'_, '_, '_>,
+    base: Base,
+    index: &RowIndex,
+    params: &Params<'t>,
+) -> Result<(), AllocError>
+    requires bases { AreBases bases }
+    requires numbered { IsNumbered (schema_at bases) base }
+    requires indexed { AreFound builder.old.names (found index.now) }
+    requires within { ReferWithin (found index.now) (all_of params.now) }
+    ensures { MatchResult result
+        (λ _. (d : Domain) → IsDomain (schema_at bases.entry) d
+        → PushesEach builder.old builder.new
+        (values_as (schema_at bases.entry) d (base_seen (schema_at bases.entry) base)
+        (all_of params.now)))
+        (λ _. builder.new.names ≡ builder.old.names) }
+{
+    for i in 0..params.len() {
+        push_value(builder, bases, base, index, &params.at(i))?;
+    }
+    Ok(())
+}

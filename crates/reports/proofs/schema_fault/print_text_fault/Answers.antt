@@ -1,0 +1,8 @@
+use Rattle.std.proofs.Common.{◌∙◌}
+use Rattle.devices.proofs.Printing.{prints_as, then_print}
+use Rattle.reports.proofs.schema_fault.print_text_fault.Goals as goal
+
+pub returns : goal.returns
+returns g c =
+    let kind = prints_as (c.as_bytes.ensures.value ∙ c.fault_kind_name.ensures) c.print-2.ensures in
+    then_print (then_print c.print.ensures kind) c.print_place.ensures

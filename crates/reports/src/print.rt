@@ -1,0 +1,118 @@
+//! Printing a report.
+
+ghost use Rattle.std.specs.Prelude.{◌≡◌, false, flat_map, decimal, is_err};
+ghost use Rattle.devices.specs.Emits.{Emits};
+ghost use Rattle.devices.specs.Prints.{Prints};
+ghost use Rattle.reports.specs.Lines.{
+  count_line,
+  finding_line,
+  report_text,
+  spot_text,
+  unchecked_line,
+};
+
+use crate::report::Report;
+use crate::words::{finding_name, part_name, reason_name};
+use conformance::finding::{Finding, Spot};
+use devices::device::{Sink, WriteFault};
+use devices::printer::Printer;
+use unchecked_parts::list::Unchecked;
+
+// A number.
+fn print_number<S: Sink>(printer: &mut Printer, out: &mut S, number: u64)
+    ensures { Prints S.held S.has_failed out.old out.new printer.old printer.new (decimal number) }
+{
+    let mut digits = itoa::Buffer::new();
+    printer.print(out, digits.format(number).as_bytes());
+}
+
+// The line of a part that isn't checked.
+fn print_unchecked<S: Sink>(printer: &mut Printer, out: &mut S, part: &Unchecked)
+    ensures { Prints S.held S.has_failed out.old out.new printer.old printer.new
+        (unchecked_line part.now) }
+{
+    printer.print(out, b"unchecked ");
+    printer.print(out, part_name(part.kind).as_bytes());
+    printer.print(out, b" ");
+    printer.print(out, part.name.as_bytes());
+    printer.print(out, b" ");
+    printer.print(out, reason_name(part.reason).as_bytes());
+    printer.print_byte(out, b'\n');
+}
+
+// The instance and the place of a finding, where it has one.
+fn print_spot<S: Sink>(printer: &mut Printer, out: &mut S, instance: u64, spot: Spot)
+    ensures { Prints S.held S.has_failed out.old out.new printer.old printer.new
+        (spot_text instance spot) }
+{
+    if let Spot::Place(place) = spot {
+        printer.print(out, b" #");
+        print_number(printer, out, instance);
+        printer.print(out, b" ");
+        print_number(printer, out, place);
+    }
+}
+
+// The line of a finding.
+fn print_finding<S: Sink>(printer: &mut Printer, out: &mut S, finding: &Finding)
+    ensures { Prints S.held S.has_failed out.old out.new printer.old printer.new
+        (finding_line finding.now) }
+{
+    printer.print(out, finding_name(finding.kind).as_bytes());
+    print_spot(printer, out, finding.instance, finding.spot);
+    printer.print_byte(out, b'\n');
+}
+
+// A word and a number.
+fn print_count<S: Sink>(printer: &mut Printer, out: &mut S, word: &[u8], number: u64)
+    ensures { Prints S.held S.has_failed out.old out.new printer.old printer.new
+        (count_line word.now number) }
+{
+    printer.print(out, word);
+    print_number(printer, out, number);
+    printer.print_byte(out, b'\n');
+}
+
+// The lines of the parts that aren't checked.
+fn print_parts<S: Sink>(printer: &mut Printer, out: &mut S, parts: &[Unchecked])
+    ensures { Prints S.held S.has_failed out.old out.new printer.old printer.new
+        (flat_map unchecked_line parts.now) }
+{
+    for part in parts {
+        print_unchecked(printer, out, part);
+    }
+}
+
+// The lines of the findings.
+fn print_findings<S: Sink>(printer: &mut Printer, out: &mut S, findings: &[Finding])
+    ensures { Prints S.held S.has_failed out.old out.new printer.old printer.new
+        (flat_map finding_line findings.now) }
+{
+    for finding in findings {
+        print_finding(printer, out, finding);
+    }
+}
+
+// All lines.
+fn print_lines<S: Sink>(printer: &mut Printer, out: &mut S, report: &Report)
+    ensures { Prints S.held S.has_failed out.old out.new printer.old printer.new
+        (report_text report.now) }
+{
+    let findings = report.findings.as_slice();
+    print_parts(printer, out, &report.unchecked);
+    print_findings(printer, out, findings);
+    print_count(printer, out, b"instances ", report.instances);
+    print_count(printer, out, b"unknown ", report.unknown);
+    print_count(printer, out, b"findings ", findings.len() as u64);
+}
+
+/// Prints a report: a line for each part of the schema that isn't checked, a line for each finding,
+/// and the counts. `WriteFault` comes where the sink fails; a front of the text went out then.
+pub fn print_report<S: Sink>(out: &mut S, report: &Report) -> Result<(), WriteFault>
+    ensures emits { Emits (S.held out.old) (S.held out.new) (report_text report.now) result }
+    ensures failed { S.has_failed out.old ≡ false → S.has_failed out.new ≡ is_err result }
+{
+    let mut printer = Printer::new();
+    print_lines(&mut printer, out, report);
+    printer.finish(out)
+}

@@ -1,0 +1,18 @@
+//! What is said of a file.
+
+use conformance::finding::Finding;
+use unchecked_parts::list::Unchecked;
+
+/// What is said of a file that is checked against a schema.
+#[derive(Drop)]
+pub struct Report {
+    /// The parts of the schema that aren't checked, in the order of its text.
+    pub unchecked: Vec<Unchecked>,
+    /// What is wrong with the file, in order.
+    pub findings: Vec<Finding>,
+    /// How many instances the file has.
+    pub instances: u64,
+    /// How many pairs of an instance and a rule there are of which it isn't known whether the
+    /// instance keeps the rule.
+    pub unknown: u64,
+}

@@ -1,0 +1,66 @@
+//! The words of a report.
+
+ghost use Rattle.std.specs.Prelude.{◌≡◌};
+ghost use Rattle.reports.specs.Lines.{finding_text, part_text, reason_text};
+
+use conformance::finding::FindingKind;
+use type_graphs::unchecked::{PartKind, Reason};
+
+/// The word for a part of a schema.
+pub fn part_name(kind: PartKind) -> &'static str
+    ensures { result.now ≡ part_text kind }
+{
+    match kind {
+        PartKind::Function => "FUNCTION",
+        PartKind::Procedure => "PROCEDURE",
+        PartKind::Rule => "RULE",
+        PartKind::Constant => "CONSTANT",
+        PartKind::SubtypeConstraint => "SUBTYPE_CONSTRAINT",
+        PartKind::Where => "WHERE",
+        PartKind::Derive => "DERIVE",
+        PartKind::Inverse => "INVERSE",
+        PartKind::Unique => "UNIQUE",
+        PartKind::Bound => "BOUND",
+        PartKind::Width => "WIDTH",
+        PartKind::Supertype => "SUPERTYPE",
+        PartKind::Redeclared => "REDECLARED",
+    }
+}
+
+/// The word for the reason why a part isn't checked.
+pub fn reason_name(reason: Reason) -> &'static str
+    ensures { result.now ≡ reason_text reason }
+{
+    match reason {
+        Reason::Skipped => "Skipped",
+        Reason::Profile => "Profile",
+        Reason::Name => "Name",
+        Reason::Typeof => "Typeof",
+        Reason::Kind => "Kind",
+        Reason::Leads => "Leads",
+    }
+}
+
+/// The number and the name of what is wrong.
+pub fn finding_name(kind: FindingKind) -> &'static str
+    ensures { result.now ≡ finding_text kind }
+{
+    match kind {
+        FindingKind::UnknownEntity => "F1 UnknownEntity",
+        FindingKind::AbstractInstance => "F2 AbstractInstance",
+        FindingKind::MissingSupertype => "F3 MissingSupertype",
+        FindingKind::OneOfBroken => "F4 OneOfBroken",
+        FindingKind::ParameterCount => "F5 ParameterCount",
+        FindingKind::WrongKind => "F6 WrongKind",
+        FindingKind::MissingValue => "F7 MissingValue",
+        FindingKind::MisplacedStar => "F8 MisplacedStar",
+        FindingKind::DanglingReference => "F9 DanglingReference",
+        FindingKind::WrongEntity => "F10 WrongEntity",
+        FindingKind::UnknownElement => "F11 UnknownElement",
+        FindingKind::OutOfBounds => "F12 OutOfBounds",
+        FindingKind::TooWide => "F13 TooWide",
+        FindingKind::NotDistinct => "F14 NotDistinct",
+        FindingKind::NoSelectItem => "F15 NoSelectItem",
+        FindingKind::SchemaName => "F19 SchemaName",
+    }
+}

@@ -1,0 +1,4 @@
+//! Rows of a population by the names of their instances.
+#![tactic(auto)]
+
+pub mod index;

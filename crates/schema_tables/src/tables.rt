@@ -1,0 +1,97 @@
+//! The tables of a schema.
+
+ghost use Rattle.std.specs.Prelude.{◌≡◌, IfOk};
+ghost use Rattle.express_types.specs.Made.{IsMade};
+ghost use Rattle.base_types.specs.Tables.{AreBases};
+ghost use Rattle.instance_forms.specs.Knowing.{AreKnown};
+ghost use Rattle.schema_tables.specs.Tables.{AreTables};
+
+use alike_types::table::shapes;
+use attribute_origins::lines::lines;
+use attribute_places::attributes::explicit_attributes;
+use attribute_uses::uses::{Sources, Uses, attribute_uses};
+use base_types::lookup::Bases;
+use base_types::table::{BaseTypes, base_types};
+use data_types::forms::data_types;
+use express_types::graph::TypeGraph;
+use instance_forms::knowledge::Knowledge;
+use instance_forms::making::one_ofs;
+use schema_names::graphs::{part_graph, supertype_graph};
+use std::alloc::{AllocError, Global};
+
+/// What a schema asks of values and of instances, by number.
+#[derive(Drop)]
+pub struct SchemaTables {
+    pub base_types: BaseTypes,
+    pub uses: Uses,
+    /// By declaration, for an entity the numbers of the explicit attributes that it declares itself.
+    pub own: Vec<Vec<u32>>,
+    /// The operands of each ONEOF that is checked.
+    pub one_ofs: Vec<Vec<u32>>,
+}
+
+impl SchemaTables {
+    /// The tables of a schema whose types are these.
+    pub fn of(alloc: Global, graph: &TypeGraph<'_, '_>) -> Result<SchemaTables, AllocError>
+        requires made { IsMade graph.now }
+        ensures { IfOk result (AreTables graph.now) }
+    {
+        let names = &graph.names;
+        let forms = data_types(alloc, names)?;
+        let parts = part_graph(alloc, names)?;
+        let base_types = base_types(alloc, names, &forms, &parts)?;
+        let shapes = shapes(alloc, names, &forms, &parts)?;
+        let supertypes = supertype_graph(alloc, names)?;
+        let lines = lines(alloc, names, &supertypes)?;
+        let explicit = explicit_attributes(alloc, names.schema)?;
+        let uses = attribute_uses(
+            alloc,
+            Sources {
+                names,
+                data_types: &forms,
+                lines: &lines,
+                shapes: &shapes,
+                places: &explicit.places,
+                own: &explicit.own,
+            },
+        )?;
+        let one_ofs = one_ofs(alloc, names)?;
+        Ok(SchemaTables {
+            base_types,
+            uses,
+            own: explicit.own,
+            one_ofs,
+        })
+    }
+
+    /// What is asked of values.
+    pub fn bases<'r, 't, 'a>(&'r self, graph: &'r TypeGraph<'t, 'a>) -> Bases<'r, 't, 'a>
+        requires made { IsMade graph.now }
+        requires tables { AreTables graph.now self.now }
+        ensures bases { AreBases result }
+        ensures same { result.names.now ≡ graph.now.names }
+    {
+        Bases {
+            names: &graph.names,
+            table: &self.base_types,
+        }
+    }
+
+    /// What is asked of instances.
+    pub fn knowledge<'r, 't, 'a>(&'r self, graph: &'r TypeGraph<'t, 'a>) -> Knowledge<'r, 't, 'a>
+        requires made { IsMade graph.now }
+        requires tables { AreTables graph.now self.now }
+        ensures known { AreKnown result }
+        ensures same { result.names.now ≡ graph.now.names }
+    {
+        Knowledge {
+            names: &graph.names,
+            above: &graph.above,
+            attributes: &graph.places.attributes,
+            places: &graph.places.rows,
+            own: &self.own,
+            uses: &self.uses,
+            one_ofs: &self.one_ofs,
+        }
+    }
+}

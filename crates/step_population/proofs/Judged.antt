@@ -1,0 +1,123 @@
+-- A file of which nothing is wrong, by its tables.
+use Rattle.std.specs.Prelude.{◌≡◌, ℕ, zero, suc, ◌<◌, List, [], ◌∷◌, length, map, Option, Some, slice_get, ◌⊎◌}
+use Rattle.std.proofs.Common.{refl, sym, ap, subst, ◌∙◌, arith}
+use Rattle.express_schemas.specs.Schemas.{Schema}
+use Rattle.express_schemas.specs.Profile.{Every}
+use Rattle.attribute_places.specs.Places.{all_places}
+use Rattle.step_structures.specs.Trees.{Row}
+use Rattle.step_exchange.specs.declared.structure.Exchange.{Exchange}
+use Rattle.step_exchange.specs.Exchanges.{structure}
+use Rattle.step_exchange.specs.Sections.{sections_of}
+use Rattle.step_values.specs.Values.{Values}
+use Rattle.row_index.specs.Index.{found, place_of}
+use Rattle.type_graphs.specs.Names.{Name}
+use Rattle.type_graphs.specs.Attributes.{Place}
+use Rattle.conformance.specs.Bases.{Domain}
+use Rattle.conformance.specs.Entities.{Entities}
+use Rattle.conformance.specs.Fitting.{Target, absent}
+use Rattle.conformance.specs.Findings.{findings, target_in}
+use Rattle.conformance.specs.Populations.{population_of, instances_from}
+use Rattle.instance_forms.specs.declared.form.SlotForm.{SlotForm}
+use Rattle.instance_forms.specs.declared.form.Form.{Form}
+use Rattle.instance_forms.specs.Forms.{AreSlotsOf}
+use Rattle.parameter_fits.specs.References.{IsFound, AreFound}
+use Rattle.parameter_fits.proofs.Pointwise.{places_stand}
+use Rattle.file_findings.specs.Rows.{rows_in, AreRowsOf, HaveForms}
+use Rattle.file_findings.specs.declared.rows.Rows.{Rows}
+use Rattle.file_findings.proofs.Placing.{names-are, rows-are}
+use Rattle.step_population.specs.Whole.{form_among, ArePlaced, IsWhole}
+use Rattle.step_population.specs.Seen.{instances_seen, section_numbers}
+use Rattle.step_population.specs.Making.{AreRowsReady, rows_by}
+use Rattle.step_population.proofs.Clean.{HasClean, AreClean, absent-or-found, last-none, rows-clean, rows-ready}
+use Rattle.step_population.proofs.Populating.{population-is}
+
+placed-at : {A : Type 0} (xs : List A) (i : ℕ) (x : A) → slice_get xs i ≡ Some x → i < length xs
+placed-at [] i x e = absurd (cc)
+placed-at (y ∷ xs) zero x e = omega arith
+placed-at (y ∷ xs) (suc i) x e = let more = placed-at xs i x e in omega (arith, more)
+
+have-length : (s : Schema) (en : Entities) (t : Rows) (rs : List Row) (os : List (Option ℕ)) → HaveForms s en t rs os
+    → length os ≡ length rs
+have-length s en t [] [] h = refl
+have-length s en t [] (o ∷ os) h = absurd h
+have-length s en t (r ∷ rs) [] h = absurd h
+have-length s en t (r ∷ rs) (o ∷ os) h = let more = have-length s en t rs os h.1 in omega (arith, more)
+
+made-length : (s : Schema) (d : Domain) (forms : List Form) (rs : List Row) (os : List (Option ℕ))
+    → length os ≡ length rs → length (rows_by s d forms rs os) ≡ length rs
+made-length s d forms [] os h = refl
+made-length s d forms (r ∷ rs) [] h = absurd (omega (arith, h))
+made-length s d forms (r ∷ rs) (o ∷ os) h =
+    let more = made-length s d forms rs os (omega (arith, h)) in omega (arith, more)
+
+names-length : (rs : List Row) → length (map (λ (r : Row). r.name) rs) ≡ length rs
+names-length [] = refl
+names-length (r ∷ rs) = let more = names-length rs in omega (arith, more)
+
+module _ (s : Schema) (d : Domain) (en : Entities) where
+  slots-placed : (types : List Name) (ps : List Place) (xs : List SlotForm) → AreSlotsOf s en types ps xs
+      → Every (λ (y : SlotForm). y.place < length (all_places s)) xs
+  slots-placed types [] [] h = tt
+  slots-placed types [] (x ∷ xs) h = absurd h
+  slots-placed types (p ∷ ps) [] h = tt
+  slots-placed types (p ∷ ps) (x ∷ xs) h = (placed-at (all_places s) x.place p h.0.0, slots-placed types ps xs h.1)
+
+  module _ (x : Exchange) (t : Rows) (rows : AreRowsOf s en (rows_in x) t) where
+    targets : ℕ → Target
+    targets = target_in s d en (rows_in x)
+
+    leads : (y : ℕ) → (targets y ≡ absent) ⊎ IsFound (found t.index) y
+    unfolding targets
+    leads = absent-or-found s d en (rows_in x) (found t.index) rows.index
+
+    row-placed : (r : Row) (o : Option ℕ) → HasClean s d en targets (found t.index) leads t.forms.items r o
+        → ArePlaced s (form_among t.forms.items o)
+    row-placed r o (f, at, is, fits) = subst (ArePlaced s) (sym at) (slots-placed _ _ f.slots.items is.slots)
+
+    all-placed : (rs : List Row) (os : List (Option ℕ))
+        → AreClean s d en targets (found t.index) leads t.forms.items rs os
+        → Every (λ o. ArePlaced s (form_among t.forms.items o)) os
+    all-placed [] [] h = tt
+    all-placed [] (o ∷ os) h = absurd h
+    all-placed (r ∷ rs) [] h = tt
+    all-placed (r ∷ rs) (o ∷ os) h = (row-placed r o h.0, all-placed rs os h.1)
+
+    pub index-names : (y : ℕ) → found t.index y ≡ place_of x.names y
+    index-names y = rows.index y ∙ ap (λ ns. place_of ns y) (names-are x)
+
+    pub names-found : AreFound x.names (found t.index)
+    names-found = places_stand x.names (found t.index) index-names
+
+    pub as-many-forms : length t.form_of.items ≡ length x.names
+    as-many-forms =
+        have-length s en t (rows_in x) t.form_of.items rows.forms
+        ∙ sym (names-length (rows_in x)) ∙ ap length (names-are x)
+
+    module _ (none : findings s d en (structure x) ≡ []) where
+      clean : AreClean s d en targets (found t.index) leads t.forms.items (rows_in x) t.form_of.items
+      unfolding targets
+      clean = rows-clean s d en targets (found t.index) leads t (rows_in x) t.form_of.items rows.forms (last-none _ _ none)
+
+      pub rows-are-ready : AreRowsReady s (found t.index) t.forms.items (rows_in x) t.form_of.items
+      rows-are-ready = rows-ready s d en targets (found t.index) leads t.forms.items (rows_in x) t.form_of.items clean
+
+      module _ (rows-now : List Values) (made : rows-now ≡ rows_by s d t.forms.items (rows_in x) t.form_of.items) where
+        pub all-whole : IsWhole s x.names t rows-now
+        all-whole = record {
+          index = index-names;
+          forms = as-many-forms;
+          values = ap length made
+              ∙ made-length s d t.forms.items (rows_in x) t.form_of.items
+              (have-length s en t (rows_in x) t.form_of.items rows.forms)
+              ∙ sym (names-length (rows_in x)) ∙ ap length (names-are x);
+          placed = all-placed (rows_in x) t.form_of.items clean;
+        }
+
+        pub seen-is : instances_seen s t.forms.items x.names (section_numbers 0 0 x.sections.items) t.form_of.items rows-now
+            ≡ population_of s d en (structure x)
+        seen-is =
+            (λ k. instances_seen s t.forms.items (sym (names-are x) k) (section_numbers 0 0 x.sections.items)
+            t.form_of.items (made k))
+            ∙ population-is s d en targets (found t.index) leads t.forms.items x.sections.items (rows_in x)
+            t.form_of.items clean
+            ∙ ap (λ rs. instances_from s d en 0 (sections_of 0 x.sections.items rs)) (rows-are x)

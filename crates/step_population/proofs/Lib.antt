@@ -1,0 +1,5 @@
+pub mod Turns
+pub mod Clean
+pub mod Populating
+pub mod Judged
+pub mod Verdicts

@@ -1,0 +1,4 @@
+pub mod Whole
+pub mod Seen
+pub mod Making
+pub mod Verdicts

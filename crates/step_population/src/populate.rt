@@ -1,0 +1,61 @@
+//! Whether an exchange structure conforms to a schema, and its population.
+
+ghost use Rattle.std.specs.Prelude.{IfOk};
+ghost use Rattle.express_schemas.specs.SchemaViews.{schema_of};
+ghost use Rattle.step_exchange.specs.Exchanges.{structure};
+ghost use Rattle.express_types.specs.Made.{IsMade};
+ghost use Rattle.step_population.specs.Verdicts.{IsVerdict};
+
+use crate::building::values_of;
+use crate::population::Population;
+use conformance::finding::Finding;
+use express_types::graph::TypeGraph;
+use file_findings::findings::findings;
+use file_findings::rows::rows_of;
+use instance_forms::making::entities_are_said;
+use schema_tables::tables::SchemaTables;
+use std::alloc::{AllocError, Global};
+use std::hash::RandomState;
+use step_exchange::structure::Exchange;
+
+/// What is found of an exchange structure.
+#[derive(Drop)]
+pub enum Verdict<'r, 't, 's, 'a> {
+    /// It conforms to the schema, but for rules.
+    Typed(Population<'r, 't, 's, 'a>),
+    /// What is wrong with it, in order; there is one finding at least.
+    Faulty(Vec<Finding>),
+}
+
+/// The population of an exchange structure by the types of its schema, where nothing is wrong with
+/// it (ISO 10303-21, 11); else all that is wrong, in order. Names are hashed by these keys.
+///
+/// `AllocError` comes where memory runs out.
+pub fn populate<'r, 't, 's, 'a>(
+    alloc: Global,
+    keys: RandomState,
+    graph: &'r TypeGraph<'t, 's>,
+    exchange: &'r Exchange<'a>,
+) -> Result<Verdict<'r, 't, 's, 'a>, AllocError>
+    requires made { IsMade graph.now }
+    ensures { IfOk result (IsVerdict (schema_of graph.now.names.schema.now)
+        (structure exchange.now)) }
+{
+    let tables = SchemaTables::of(alloc, &*graph)?;
+    let known = tables.knowledge(&*graph);
+    let bases = tables.bases(&*graph);
+    entities_are_said(known);
+    let rows = rows_of(alloc, keys, known, &*exchange)?;
+    let found = findings(alloc, known, bases, &rows, &*exchange)?;
+    let wrong = found.len();
+    if wrong > 0 {
+        return Ok(Verdict::Faulty(found));
+    }
+    let values = values_of(alloc, bases, &rows, exchange)?;
+    Ok(Verdict::Typed(Population {
+        graph,
+        exchange,
+        rows,
+        values,
+    }))
+}

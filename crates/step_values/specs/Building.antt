@@ -1,0 +1,67 @@
+-- Rows of values in one column, and those that are still to be put together.
+use Rattle.std.specs.Prelude.{◌≡◌, ⊤, ℕ, ◌+◌, ◌≤◌, List, [], ◌∷◌, length, map, refl}
+use Rattle.std.specs.Coded.{Coded, code_by, coded×, coded_ℕ, coded_list}
+use Rattle.std.specs.List.{sum_by}
+use Rattle.columns.specs.Nodes.{said_by, IsColumn, AreBefore}
+use Rattle.columns.specs.declared.column.Run.{Run}
+use Rattle.step_values.specs.declared.cell.Cell.{Cell}
+use Rattle.step_values.specs.Cells.{value_nodes, values_of_run}
+use Rattle.step_values.specs.ComputedCodes.{coded_value, coded_values}
+use Rattle.step_values.specs.NodeCounts.{nodes_of, nodes_in}
+use Rattle.step_values.specs.Targets.{targets_of, LeadTo}
+use Rattle.step_values.specs.Values.{Value, Values}
+
+-- rows of values, and where their references lead
+pub record Kept : Type 0 where
+  pub rows : List Values
+  -- the name and the row's number of each reference, in the order of the cells
+  pub targets : List (ℕ × ℕ)
+
+abbrev pub coded_kept : Coded Kept
+coded_kept = code_by (List Values × List (ℕ × ℕ))
+    (coded× (coded_list coded_values) (coded_list (coded× coded_ℕ coded_ℕ)))
+    (λ k. (k.rows, k.targets)) (λ p. record { rows = p.0; targets = p.1 }) (λ _. refl)
+
+-- rows that are whole, over the names of all rows, and the values that are still to be put together
+pub record Building : Type 0 where
+  pub names : List ℕ
+  pub rows : List Values
+  pub pending : List Value
+
+abbrev pub coded_building : Coded Building
+coded_building = code_by (List ℕ × (List Values × List Value))
+    (coded× (coded_list coded_ℕ) (coded× (coded_list coded_values) (coded_list coded_value)))
+    (λ b. (b.names, (b.rows, b.pending))) (λ p. record { names = p.0; rows = p.1.0; pending = p.1.1 }) (λ _. refl)
+
+-- the rows that runs of a column are
+abbrev pub rows_by : List Cell → List Run → List Values
+rows_by column runs = map (values_of_run column) runs
+
+-- runs end within so many cells
+abbrev pub AreWithin : ℕ → List Run → Type 0
+AreWithin n [] = ⊤
+AreWithin n (r ∷ rs) = (r.first + r.count ≤ n) × AreWithin n rs
+
+-- a column holds rows, one cell for each node
+pub record Holds (column : List Cell) (runs : List Run) : Type 0 where
+  pub column_is : IsColumn value_nodes column
+  pub within : AreWithin (length column) runs
+  pub count : length column ≡ sum_by nodes_in (rows_by column runs)
+
+-- what a column, its rows and pending cells are, over the names of rows
+abbrev pub built : List ℕ → List Cell → List Run → List Cell → Building
+built names column runs pending = record {
+  names = names;
+  rows = rows_by column runs;
+  pending = said_by value_nodes column pending;
+}
+
+-- .. one cell for each node, what is inside each in the column before it, and each reference with its row
+pub record Builds (names : List ℕ) (column : List Cell) (runs : List Run) (pending : List Cell) : Type 0 where
+  pub column_is : IsColumn value_nodes column
+  pub within : AreWithin (length column) runs
+  pub before : AreBefore value_nodes (length column) pending
+  pub count : length column + length pending
+      ≡ sum_by nodes_in (rows_by column runs) + sum_by nodes_of (said_by value_nodes column pending)
+  pub column_leads : LeadTo names (targets_of column)
+  pub pending_leads : LeadTo names (targets_of pending)

@@ -1,0 +1,49 @@
+-- What a cell of a column says of a value.
+use Rattle.std.specs.Prelude.{ℕ, suc, ◌+◌, List}
+use Rattle.columns.specs.Nodes.{Nodes, run, said_at}
+use Rattle.columns.specs.declared.column.Run.{Run}
+use Rattle.step_values.specs.declared.cell.Cell.{Cell}
+use Rattle.step_values.specs.declared.cell.Cell.TheVariants as cells
+use Rattle.step_values.specs.Leaves.{unset, derived, element}
+use Rattle.step_values.specs.Values.{Value, leaf, reference, typed, sequence, bag, Values}
+use Rattle.step_values.specs.Views.{all_of, word_of, number_leaf, text_leaf, bits_leaf}
+
+-- what stands right inside a cell stands before this place
+abbrev pub reach_of : Cell → ℕ
+reach_of (cells.Typed w k) = suc k
+reach_of (cells.Sequence r) = r.first + r.count
+reach_of (cells.Bag r) = r.first + r.count
+reach_of _ = 0
+
+-- the values of a run, where the value at each place is known
+abbrev pub values_at : (ℕ → Value) → Run → Values
+values_at f r = all_of (run f r.first r.count)
+
+-- what a cell says, where the value at each place is known
+abbrev pub value_by : (ℕ → Value) → Cell → Value
+value_by f cells.Unset = leaf unset
+value_by f cells.Derived = leaf derived
+value_by f (cells.Number d) = leaf (number_leaf d)
+value_by f (cells.Text t) = leaf (text_leaf t)
+value_by f (cells.Bits b) = leaf (bits_leaf b)
+value_by f (cells.Element w) = leaf (element (word_of w))
+value_by f (cells.Reference y row) = reference y
+value_by f (cells.Typed w k) = typed (word_of w) (f k)
+value_by f (cells.Sequence r) = sequence (values_at f r)
+value_by f (cells.Bag r) = bag (values_at f r)
+
+-- what a cell says that has nothing inside
+abbrev pub flat_value : Cell → Value
+flat_value c = value_by (λ _. leaf unset) c
+
+-- cells of values
+abbrev pub value_nodes : Nodes Cell Value
+value_nodes = record { reach = reach_of; says = value_by; nothing = leaf unset }
+
+-- the value at a place of a column
+abbrev pub value_at : List Cell → ℕ → Value
+value_at column at = said_at value_nodes column at
+
+-- the values of a run of a column
+abbrev pub values_of_run : List Cell → Run → Values
+values_of_run column r = values_at (value_at column) r

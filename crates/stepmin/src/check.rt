@@ -1,0 +1,102 @@
+//! Whether a file conforms to a schema.
+
+ghost use Rattle.std.specs.Prelude.{◌≡◌};
+ghost use Rattle.reports.specs.SchemaLines.{schema_line};
+ghost use Rattle.stepmin.specs.Runs.{Prints, Reports, RunsCheck, check_line, output};
+ghost use Rattle.stepmin.specs.Statuses.{check_status, report_status, schema_status};
+
+use crate::ending::{BROKEN, DEVICE, DONE, MEMORY, TEXT, report};
+use checking::check::check;
+use checking::fault::CheckFault;
+use command_line::fault::{Fault, Role};
+use devices::device::{Sink, Source};
+use express_schemas::fault::SchemaFault;
+use reports::print::print_report;
+use reports::report::Report;
+use reports::schema_fault::print_schema_fault;
+use std::alloc::Global;
+use std::hash::RandomState;
+
+// The status for a schema's fault.
+fn status_of_schema(fault: &SchemaFault) -> u8
+    ensures { result ≡ schema_status fault.now }
+{
+    match fault {
+        SchemaFault::Text { .. } => TEXT,
+        SchemaFault::Name { .. } => TEXT,
+        SchemaFault::Memory => MEMORY,
+    }
+}
+
+// The status for a report: whether the file breaks its schema.
+fn status_of_report(report: &Report) -> u8
+    ensures { result ≡ report_status report.now }
+{
+    if report.findings.is_empty() {
+        DONE
+    } else {
+        BROKEN
+    }
+}
+
+// Prints the line of a schema's fault, and answers its status, or the device's where the line can't
+// be printed.
+fn report_schema<E: Sink>(fault: &SchemaFault, err: &mut E) -> u8
+    ensures { Prints (output E.held E.has_failed err.old) (output E.held E.has_failed err.new)
+        (schema_line fault.now) (schema_status fault.now) result }
+{
+    match print_schema_fault(err, fault) {
+        Ok(()) => status_of_schema(fault),
+        Err(_) => DEVICE,
+    }
+}
+
+// Prints the line of the fault for which a file isn't checked, and answers its status, or the
+// device's where the line can't be printed.
+fn report_fault<E: Sink>(fault: CheckFault, err: &mut E) -> u8
+    ensures { Prints (output E.held E.has_failed err.old) (output E.held E.has_failed err.new)
+        (check_line fault) (check_status fault) result }
+{
+    match fault {
+        CheckFault::Schema(fault) => report_schema(&fault, err),
+        CheckFault::Other(fault) => report(fault, err),
+    }
+}
+
+// Prints a report on `out`, and answers whether there are findings; or tells that the output
+// failed.
+fn print_findings<O: Sink, E: Sink>(findings: &Report, out: &mut O, err: &mut E) -> u8
+    ensures { Reports findings.now
+        (output O.held O.has_failed out.old) (output O.held O.has_failed out.new)
+        (output E.held E.has_failed err.old) (output E.held E.has_failed err.new) result }
+{
+    match print_report(out, findings) {
+        Ok(()) => status_of_report(findings),
+        Err(fault) => report(Fault::of_write(Role::Output, fault), err),
+    }
+}
+
+/// Checks a file against a schema, prints the report on `out`, and answers the status: 0, or 1
+/// where there are findings. Both are read to their ends before the first byte is written, the
+/// schema first.
+///
+/// Where one of them isn't read, the line of the fault stands on `err` instead, and the status is 2
+/// for the text of either or a name of the schema, 4 for a device, and 5 where memory runs out.
+/// Names are hashed by these keys.
+pub fn run_check<S: Source, F: Source, O: Sink, E: Sink>(
+    alloc: Global,
+    keys: RandomState,
+    schema: &mut S,
+    file: &mut F,
+    out: &mut O,
+    err: &mut E,
+) -> u8
+    ensures { RunsCheck (S.to_come schema.old) (F.to_come file.old)
+        (output O.held O.has_failed out.old) (output O.held O.has_failed out.new)
+        (output E.held E.has_failed err.old) (output E.held E.has_failed err.new) result }
+{
+    match check(alloc, keys, schema, file) {
+        Ok(findings) => print_findings(&findings, out, err),
+        Err(fault) => report_fault(fault, err),
+    }
+}
