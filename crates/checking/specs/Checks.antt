@@ -67,6 +67,12 @@ abbrev pub is_device_fault : Result Report Fault → Bool
 is_device_fault (Err (faults.Device roles.File written)) = true
 is_device_fault r = false
 
+-- Where each read of a source fails (`true`) the answer is its fault, and where none does it isn't; but memory may run
+-- out first.
+abbrev pub SourceFailsAs : Result Report Fault → Bool → Type 0
+SourceFailsAs (Err faults.Memory) each = Unit {0}
+SourceFailsAs r each = is_device_fault r ≡ each
+
 -- What is answered to the bytes that are to come of the schema and of the file, where they are told. A schema's fault
 -- comes before all that is said of the file.
 abbrev pub Checks : Option (List ℕ) → Option (List ℕ) → Result Report CheckFault → Type 0
@@ -87,3 +93,16 @@ is_schema_device r = false
 abbrev pub is_file_device : Result Report CheckFault → Bool
 is_file_device (Err (check_faults.Other (faults.Device roles.File written))) = true
 is_file_device r = false
+
+-- Where each read of the schema fails (`true`) the answer is that fault, and where none does it isn't; but memory may
+-- run out first.
+abbrev pub SchemaFailsAs : Result Report CheckFault → Bool → Type 0
+SchemaFailsAs (Err (check_faults.Other faults.Memory)) each = Unit {0}
+SchemaFailsAs r each = is_schema_device r ≡ each
+
+-- The same of the file. A fault of the schema comes before it is read.
+abbrev pub FileFailsAs : Result Report CheckFault → Bool → Type 0
+FileFailsAs (Err (check_faults.Schema fault)) each = Unit {0}
+FileFailsAs (Err (check_faults.Other (faults.Device roles.Schema written))) each = Unit {0}
+FileFailsAs (Err (check_faults.Other faults.Memory)) each = Unit {0}
+FileFailsAs r each = is_file_device r ≡ each

@@ -1,12 +1,15 @@
 //! Checking a file against a schema.
 
-ghost use Rattle.std.specs.Prelude.{◌≡◌, ◌≤◌, ◌^◌, Some, false, length};
+ghost use Rattle.std.specs.Prelude.{◌≡◌, ◌≤◌, ◌^◌, IfSome, Some, false, length};
 ghost use Rattle.express_schemas.specs.SchemaViews.{schema_of};
 ghost use Rattle.express_types.specs.Made.{IsMade};
 ghost use Rattle.checking.specs.Checks.{
   Checks,
   FileAnswers,
+  FileFailsAs,
+  SchemaFailsAs,
   SourceAnswers,
+  SourceFailsAs,
   is_device_fault,
   is_schema_device,
   is_file_device,
@@ -65,6 +68,7 @@ fn report_source<S: Source>(
         (S.to_come file.old) result }
     ensures failed { S.has_failed file.old ≡ false
         → S.has_failed file.new ≡ is_device_fault result }
+    ensures told { IfSome (S.fails file.old) (SourceFailsAs result) }
 {
     match read_whole(alloc, file, LIMIT) {
         Ok(bytes) => report(alloc, keys, graph, &bytes),
@@ -84,6 +88,7 @@ fn check_by<S: Source>(
     ensures no_schema_fault { is_schema_device result ≡ false }
     ensures file_fault { S.has_failed file.old ≡ false
         → S.has_failed file.new ≡ is_file_device result }
+    ensures told { IfSome (S.fails file.old) (FileFailsAs result) }
 {
     let tree = match read_schema(alloc, schema) {
         Ok(tree) => tree,
@@ -117,6 +122,9 @@ pub fn check<S: Source, F: Source>(
         → S.has_failed schema.new ≡ is_schema_device result }
     ensures file_fault { F.has_failed file.old ≡ false
         → F.has_failed file.new ≡ is_file_device result }
+    // A source that can't fail has no fault, and one that can't but fail has one where it is read.
+    ensures schema_told { IfSome (S.fails schema.old) (SchemaFailsAs result) }
+    ensures file_told { IfSome (F.fails file.old) (FileFailsAs result) }
 {
     match read_whole(alloc, schema, LIMIT) {
         Ok(bytes) => check_by(alloc, keys, &bytes, file),

@@ -35,8 +35,9 @@ pub trait Store<'p> {
         ensures fresh { Self.Reader.has_failed result ≡ false }
         ensures contents { Self.Reader.to_come result ≡ contents self.old path.now }
         ensures fails { Self.Reader.fails result ≡ fails self.old path.now }
-        // Opening a file changes none.
-        ensures kept { (other : List ℕ) → contents self.new other ≡ contents self.old other };
+        // Opening a file changes none, nor what is told of it.
+        ensures kept { (other : List ℕ) → contents self.new other ≡ contents self.old other }
+        ensures same { (other : List ℕ) → fails self.new other ≡ fails self.old other };
 
     /// A file for this path, made at the first write: that write fails where it can't be made.
     fn writer(&mut self, path: &'p str) -> Self::Writer

@@ -7,6 +7,7 @@ use Rattle.express_schemas.specs.declared.fault.SchemaFault.TheVariants as schem
 use Rattle.devices.specs.declared.device.WriteFault.{WriteFault}
 use Rattle.conformance.specs.declared.finding.Finding.{Finding}
 use Rattle.reports.specs.declared.report.Report.{Report}
+use Rattle.checking.specs.Checks.{Checks, FileFailsAs, SchemaFailsAs, is_file_device, is_schema_device}
 use Rattle.checking.specs.declared.fault.CheckFault.{CheckFault}
 use Rattle.checking.specs.declared.fault.CheckFault.TheVariants as check_faults
 use Rattle.command_line.specs.Commands.{AsksCheck, AsksNothing, AsksPlain}
@@ -250,16 +251,178 @@ check_ends (Err fault) out out' err err' status ends = (
   failure_printed err err' (check_line fault) (check_status fault) status ends.1,
 )
 
+-- ---- a check's devices
+
+-- a device's status is that of a fault of a source, or an output has failed
+abbrev pub Devices : Result Report CheckFault → Output → Output → Type 0
+Devices outcome out' err' = (is_schema_device outcome ≡ true) ⊎ (is_file_device outcome ≡ true)
+    ⊎ (out'.has_failed ≡ true) ⊎ (err'.has_failed ≡ true)
+
+report_devices : (report : Report) (out out' err err' : Output) (status : ℕ)
+    → Reports report out out' err err' status → status ≡ 4 → out.has_failed ≡ false → out'.has_failed ≡ true
+report_devices report out out' err err' status r is fresh = go r.sent (r.output_fails fresh) r.ends
+  where
+    go : (sent : Result Unit WriteFault) → out'.has_failed ≡ is_err sent
+        → MatchResult sent (λ _. (status ≡ report_status report) × (err' ≡ err))
+        (λ fault. Ends (Err (write_fault roles.Output fault)) err err' status) → out'.has_failed ≡ true
+    go (Ok x) told ends = elim (found_status report.findings.items status ends.0) [
+      | inl e ↦ absurd (omega (arith, e, is))
+      | inr e ↦ absurd (omega (arith, e, is))
+    ]
+    go (Err fault) told ends = told
+
+pub check_devices : (schema file : Option (List ℕ)) (outcome : Result Report CheckFault)
+    (out out' err err' : Output) (status : ℕ) → Checks schema file outcome
+    → EndsCheck outcome out out' err err' status → status ≡ 4 → out.has_failed ≡ false → err.has_failed ≡ false
+    → Devices outcome out' err'
+check_devices schema file (Ok report) out out' err err' status h e is fresh clean =
+    inr (inr (inl (report_devices report out out' err err' status e is fresh)))
+check_devices schema file (Err (check_faults.Schema (schemas.Text kind place))) out out' err err' status h e is fresh
+    clean = inr (inr (inr (device_printed err err' (check_line (check_faults.Schema (schemas.Text kind place))) 2 status
+    e.1 (λ no. omega (arith, no)) is clean)))
+check_devices schema file (Err (check_faults.Schema (schemas.Name kind name))) out out' err err' status h e is fresh
+    clean = inr (inr (inr (device_printed err err' (check_line (check_faults.Schema (schemas.Name kind name))) 2 status
+    e.1 (λ no. omega (arith, no)) is clean)))
+check_devices schema file (Err (check_faults.Schema schemas.Memory)) out out' err err' status h e is fresh clean =
+    inr (inr (inr (device_printed err err' (check_line (check_faults.Schema schemas.Memory)) 5 status e.1
+    (λ no. omega (arith, no)) is clean)))
+check_devices schema file (Err (check_faults.Other (faults.Text role kind place))) out out' err err' status h e is
+    fresh clean = inr (inr (inr (device_printed err err' (line_of (faults.Text role kind place)) 2 status e.1
+    (λ no. omega (arith, no)) is clean)))
+check_devices schema file (Err (check_faults.Other (faults.Device roles.Schema written))) out out' err err' status h e
+    is fresh clean = inl refl
+check_devices schema file (Err (check_faults.Other (faults.Device roles.File written))) out out' err err' status h e
+    is fresh clean = inr (inl refl)
+check_devices schema file (Err (check_faults.Other (faults.Device roles.Output written))) out out' err err' status h e
+    is fresh clean = absurd h
+check_devices schema file (Err (check_faults.Other (faults.Device roles.Certificate written))) out out' err err' status
+    h e is fresh clean = absurd h
+check_devices schema file (Err (check_faults.Other faults.Memory)) out out' err err' status h e is fresh clean =
+    inr (inr (inr (device_printed err err' (line_of faults.Memory) 5 status e.1 (λ no. omega (arith, no)) is clean)))
+
+-- a fault of a source is told as that
+pub source_met : (outcome : Result Report CheckFault) (out out' err err' : Output) (status : ℕ)
+    → (is_schema_device outcome ≡ true) ⊎ (is_file_device outcome ≡ true)
+    → EndsCheck outcome out out' err err' status → status ≡ 4
+source_met (Ok report) out out' err err' status (inl is) e = absurd (true≢false (sym is))
+source_met (Ok report) out out' err err' status (inr is) e = absurd (true≢false (sym is))
+source_met (Err (check_faults.Schema fault)) out out' err err' status (inl is) e = absurd (true≢false (sym is))
+source_met (Err (check_faults.Schema fault)) out out' err err' status (inr is) e = absurd (true≢false (sym is))
+source_met (Err (check_faults.Other (faults.Text role kind place))) out out' err err' status (inl is) e =
+    absurd (true≢false (sym is))
+source_met (Err (check_faults.Other (faults.Text role kind place))) out out' err err' status (inr is) e =
+    absurd (true≢false (sym is))
+source_met (Err (check_faults.Other (faults.Device role written))) out out' err err' status is e =
+    four status (status_printed err err' (line_of (faults.Device role written)) 4 status e.1)
+source_met (Err (check_faults.Other faults.Memory)) out out' err err' status (inl is) e = absurd (true≢false (sym is))
+source_met (Err (check_faults.Other faults.Memory)) out out' err err' status (inr is) e = absurd (true≢false (sym is))
+
+-- it is none of a source that can't fail
+schema_can : (outcome : Result Report CheckFault) → is_schema_device outcome ≡ true → SchemaFailsAs outcome false → ⊥
+schema_can (Ok report) is h = true≢false (sym is)
+schema_can (Err (check_faults.Schema fault)) is h = true≢false (sym is)
+schema_can (Err (check_faults.Other (faults.Text role kind place))) is h = true≢false (sym is)
+schema_can (Err (check_faults.Other (faults.Device role written))) is h = true≢false (sym is ∙ h)
+schema_can (Err (check_faults.Other faults.Memory)) is h = true≢false (sym is)
+
+file_can : (outcome : Result Report CheckFault) → is_file_device outcome ≡ true → FileFailsAs outcome false → ⊥
+file_can (Ok report) is h = true≢false (sym is)
+file_can (Err (check_faults.Schema fault)) is h = true≢false (sym is)
+file_can (Err (check_faults.Other (faults.Text role kind place))) is h = true≢false (sym is)
+file_can (Err (check_faults.Other (faults.Device roles.File written))) is h = true≢false h
+file_can (Err (check_faults.Other (faults.Device roles.Schema written))) is h = true≢false (sym is)
+file_can (Err (check_faults.Other (faults.Device roles.Output written))) is h = true≢false (sym is)
+file_can (Err (check_faults.Other (faults.Device roles.Certificate written))) is h = true≢false (sym is)
+file_can (Err (check_faults.Other faults.Memory)) is h = true≢false (sym is)
+
+check_device : (words : List (List ℕ)) (files : List ℕ → Stored) (schema file : List ℕ)
+    (out out' err err' : Output) (status : ℕ) → AsksCheck words schema file
+    → RunsCheck (files schema) (files file) out out' err err' status → status ≡ 4
+    → IsDevices words files out out' err err'
+check_device words files schema file out out' err err' status asks r is = λ fresh clean.
+    elim (check_devices (files schema).contents (files file).contents r.outcome out out' err err' status r.checks r.ends is
+    fresh clean) [
+      | inl met ↦ inr (inr (inr (
+        schema,
+        file,
+        asks,
+        inl (λ never. schema_can r.outcome met
+            (subst (λ o. IfSome o (SchemaFailsAs r.outcome)) never r.schema_fails)),
+      )))
+      | inr (inl met) ↦ inr (inr (inr (
+        schema,
+        file,
+        asks,
+        inr (λ never. file_can r.outcome met
+            (subst (λ o. IfSome o (FileFailsAs r.outcome)) never r.file_fails)),
+      )))
+      | inr (inr (inl failed)) ↦ inl failed
+      | inr (inr (inr failed)) ↦ inr (inl failed)
+    ]
+
+-- ---- a source of a check each read of which fails
+
+memory_status : (err err' : Output) (status : ℕ) → Prints err err' (line_of faults.Memory) 5 status
+    → (status ≡ 4) ⊎ (status ≡ 5)
+memory_status err err' status e = elim (status_printed err err' (line_of faults.Memory) 5 status e) [
+  | inl m ↦ inr m
+  | inr d ↦ inl d
+]
+
+schema_failing : (outcome : Result Report CheckFault) (out out' err err' : Output) (status : ℕ)
+    → SchemaFailsAs outcome true → EndsCheck outcome out out' err err' status → (status ≡ 4) ⊎ (status ≡ 5)
+schema_failing (Ok report) out out' err err' status is e = absurd (true≢false (sym is))
+schema_failing (Err (check_faults.Schema fault)) out out' err err' status is e = absurd (true≢false (sym is))
+schema_failing (Err (check_faults.Other (faults.Text role kind place))) out out' err err' status is e =
+    absurd (true≢false (sym is))
+schema_failing (Err (check_faults.Other (faults.Device role written))) out out' err err' status is e =
+    inl (four status (status_printed err err' (line_of (faults.Device role written)) 4 status e.1))
+schema_failing (Err (check_faults.Other faults.Memory)) out out' err err' status is e =
+    memory_status err err' status e.1
+
+pub schema_failed : (schema file : Stored) (out out' err err' : Output) (status : ℕ)
+    → RunsCheck schema file out out' err err' status → schema.fails ≡ Some true → (status ≡ 4) ⊎ (status ≡ 5)
+schema_failed schema file out out' err err' status r is = schema_failing r.outcome out out' err err' status
+    (subst (λ o. IfSome o (SchemaFailsAs r.outcome)) is r.schema_fails) r.ends
+
+-- the schema's fault comes first
+schema_status_is : (fault : SchemaFault) (status : ℕ)
+    → (status ≡ check_status (check_faults.Schema fault)) ⊎ (status ≡ 4)
+    → (status ≡ 2) ⊎ (status ≡ 4) ⊎ (status ≡ 5)
+schema_status_is (schemas.Text kind place) status (inl e) = inl e
+schema_status_is (schemas.Name kind name) status (inl e) = inl e
+schema_status_is schemas.Memory status (inl e) = inr (inr e)
+schema_status_is fault status (inr e) = inr (inl e)
+
+checked_failing : (outcome : Result Report CheckFault) (out out' err err' : Output) (status : ℕ)
+    → FileFailsAs outcome true → EndsCheck outcome out out' err err' status
+    → (status ≡ 2) ⊎ (status ≡ 4) ⊎ (status ≡ 5)
+checked_failing (Ok report) out out' err err' status is e = absurd (true≢false (sym is))
+checked_failing (Err (check_faults.Schema fault)) out out' err err' status is e = schema_status_is fault status
+    (status_printed err err' (check_line (check_faults.Schema fault)) (check_status (check_faults.Schema fault)) status
+    e.1)
+checked_failing (Err (check_faults.Other (faults.Text role kind place))) out out' err err' status is e =
+    absurd (true≢false (sym is))
+checked_failing (Err (check_faults.Other (faults.Device role written))) out out' err err' status is e =
+    inr (inl (four status (status_printed err err' (line_of (faults.Device role written)) 4 status e.1)))
+checked_failing (Err (check_faults.Other faults.Memory)) out out' err err' status is e =
+    inr (memory_status err err' status e.1)
+
+pub checked_failed : (schema file : Stored) (out out' err err' : Output) (status : ℕ)
+    → RunsCheck schema file out out' err err' status → file.fails ≡ Some true
+    → (status ≡ 2) ⊎ (status ≡ 4) ⊎ (status ≡ 5)
+checked_failed schema file out out' err err' status r is = checked_failing r.outcome out out' err err' status
+    (subst (λ o. IfSome o (FileFailsAs r.outcome)) is r.file_fails) r.ends
+
 pub check_says : (words : List (List ℕ)) (files : List ℕ → Stored) (schema file : List ℕ)
     (out out' err err' : Output) (status : ℕ) → AsksCheck words schema file
-    → RunsCheck (files schema).contents (files file).contents out out' err err' status
-    → Says words files out out' err err' status
+    → RunsCheck (files schema) (files file) out out' err err' status → Says words files out out' err err' status
 check_says words files schema file out out' err err' status asks r =
     let says = check_ends r.outcome out out' err err' status r.ends in
     record {
       is_status = says.0;
       unwritten = says.1;
-      device = (λ is fresh clean. inr (inr (inr (schema, file, asks))));
+      device = check_device words files schema file out out' err err' status asks r;
       out_failed = says.2;
       err_failed = says.3;
     }
@@ -300,13 +463,13 @@ runs_asked words (requests.Check schema file) files out out' err err' status pat
 pub checks_asked : (words : List (List ℕ)) (request : Request) (files : List ℕ → Stored)
     (out out' err err' : Output) (status : ℕ) (schema file : List ℕ)
     → AskFor words request → Does request files out out' err err' status → AsksCheck words schema file
-    → RunsCheck (files schema).contents (files file).contents out out' err err' status
+    → RunsCheck (files schema) (files file) out out' err err' status
 checks_asked words (requests.Plain path) files out out' err err' status schema file asks does other =
     absurd (not_both words path.now schema file asks other)
 checks_asked words (requests.Check s f) files out out' err err' status schema file asks does other =
     let same = checked_once words s.now f.now schema file asks other in
-    subst (λ p. RunsCheck (files p).contents (files file).contents out out' err err' status) same.0
-    (subst (λ p. RunsCheck (files s.now).contents (files p).contents out out' err err' status) same.1 does)
+    subst (λ p. RunsCheck (files p) (files file) out out' err err' status) same.0
+    (subst (λ p. RunsCheck (files s.now) (files p) out out' err err' status) same.1 does)
 
 -- ---- what was refused
 
@@ -337,14 +500,24 @@ memory_runs refusal file out out' err err' status is refuses =
     nothing_told None = tt
     nothing_told (Some each) = tt
 
-pub memory_checks : (refusal : Refusal) (schema file : Option (List ℕ)) (out out' err err' : Output) (status : ℕ)
+pub memory_checks : (refusal : Refusal) (schema file : Stored) (out out' err err' : Output) (status : ℕ)
     → refusal ≡ Memory → Refuses refusal out out' err err' status
     → RunsCheck schema file out out' err err' status
 memory_checks refusal schema file out out' err err' status is refuses = record {
   outcome = Err (check_faults.Other faults.Memory);
   checks = tt;
+  schema_fails = no_schema_told schema.fails;
+  file_fails = no_file_told file.fails;
   ends = subst (λ m. Refuses m out out' err err' status) is refuses;
 }
+  where
+    no_schema_told : (o : Option Bool) → IfSome o (SchemaFailsAs (Err (check_faults.Other faults.Memory)))
+    no_schema_told None = tt
+    no_schema_told (Some each) = tt
+
+    no_file_told : (o : Option Bool) → IfSome o (FileFailsAs (Err (check_faults.Other faults.Memory)))
+    no_file_told None = tt
+    no_file_told (Some each) = tt
 
 -- what is said of an output where nothing is done
 pub refused_unwritten : (old new : Option (List ℕ)) (status : ℕ) → (status ≡ 0) ⊎ ((status ≡ 4) ⊎ Keeps old new)

@@ -18,7 +18,7 @@ use Rattle.command_line.specs.declared.usage.Refusal.TheVariants.{Shown, Usage, 
 use Rattle.reports.specs.Lines.{report_text}
 use Rattle.reports.specs.SchemaLines.{schema_line}
 use Rattle.reports.specs.declared.report.Report.{Report}
-use Rattle.checking.specs.Checks.{Checks}
+use Rattle.checking.specs.Checks.{Checks, FileFailsAs, SchemaFailsAs}
 use Rattle.checking.specs.declared.fault.CheckFault.{CheckFault}
 use Rattle.checking.specs.declared.fault.CheckFault.TheVariants as check_faults
 use Rattle.stepmin.specs.Plain.{FailsAs, Plain, is_output_fault}
@@ -31,6 +31,10 @@ pub record Output : Type 0 where
 
 abbrev pub output : {S : Type 0} → (S → Option (List ℕ)) → (S → Bool) → S → Output
 output held has_failed sink = record { held = held sink; has_failed = has_failed sink }
+
+-- a source as a store tells its file
+abbrev pub told_by : {S : Type 0} → (S → Option (List ℕ)) → (S → Option Bool) → S → Stored
+told_by to_come fails source = record { contents = to_come source; fails = fails source }
 
 -- A front of the text went out.
 abbrev pub AppendsFront : Option (List ℕ) → Option (List ℕ) → List ℕ → Type 0
@@ -84,17 +88,20 @@ EndsCheck (Ok report) out out' err err' status = Reports report out out' err err
 EndsCheck (Err fault) out out' err err' status = (out' ≡ out) × Prints err err' (check_line fault) (check_status fault)
     status
 
--- The run checked a file against a schema, which hold these bytes, where they are told.
-pub record RunsCheck (schema file : Option (List ℕ)) (out out' err err' : Output) (status : ℕ) : Type 0 where
+-- The run checked a file against a schema. The schema, where it is told whether its reads fail, has failed just where
+-- they do, and so has the file, once the schema was read.
+pub record RunsCheck (schema file : Stored) (out out' err err' : Output) (status : ℕ) : Type 0 where
   pub outcome : Result Report CheckFault
-  pub checks : Checks schema file outcome
+  pub checks : Checks schema.contents file.contents outcome
+  pub schema_fails : IfSome schema.fails (SchemaFailsAs outcome)
+  pub file_fails : IfSome file.fails (FileFailsAs outcome)
   pub ends : EndsCheck outcome out out' err err' status
 
 -- What is asked for was done, in a store of these files.
 abbrev pub Does : Request → (List ℕ → Stored) → Output → Output → Output → Output → ℕ → Type 0
 Does (requests.Plain path) files out out' err err' status = RunsPlain (files path.now) out out' err err' status
-Does (requests.Check schema file) files out out' err err' status = RunsCheck (files schema.now).contents
-    (files file.now).contents out out' err err' status
+Does (requests.Check schema file) files out out' err err' status = RunsCheck (files schema.now) (files file.now) out
+    out' err err' status
 
 -- Nothing was done, and this was said for which the words call.
 abbrev pub RunsNothing : List (List ℕ) → Output → Output → Output → Output → ℕ → Type 0
@@ -104,7 +111,7 @@ RunsNothing words out out' err err' status = (refusal : Refusal) × CallFor word
 -- The words ask for a check, and the file was checked against the schema.
 abbrev pub RunsChecked : List (List ℕ) → (List ℕ → Stored) → Output → Output → Output → Output → ℕ → Type 0
 RunsChecked words files out out' err err' status = (schema : List ℕ) × (file : List ℕ) × AsksCheck words schema file
-    × RunsCheck (files schema).contents (files file).contents out out' err err' status
+    × RunsCheck (files schema) (files file) out out' err err' status
 
 -- The words ask for the normal text of a file, or for a check, and that was run; or they ask for nothing.
 abbrev pub Runs : List (List ℕ) → (List ℕ → Stored) → Output → Output → Output → Output → ℕ → Type 0
@@ -113,12 +120,17 @@ Runs words files out out' err err' status = ((path : List ℕ) × AsksPlain word
     ⊎ RunsChecked words files out out' err err' status
     ⊎ (AsksNothing words × RunsNothing words out out' err err' status)
 
--- The words ask for a file that can fail: it isn't told that no read of it does. Those of a check can.
-abbrev pub AsksFailing : List (List ℕ) → (List ℕ → Stored) → Type 0
-AsksFailing words files = ((path : List ℕ) × AsksPlain words path × ((files path).fails ≡ Some false → ⊥))
-    ⊎ ((schema : List ℕ) × (file : List ℕ) × AsksCheck words schema file)
+-- A file can fail: it isn't told that no read of it does.
+abbrev pub CanFail : Stored → Type 0
+CanFail file = file.fails ≡ Some false → ⊥
 
--- Where an output hasn't failed before, a device's status comes only where one has failed then, or the file can.
+-- The words ask for a file that can fail, or for a check of two of which one can.
+abbrev pub AsksFailing : List (List ℕ) → (List ℕ → Stored) → Type 0
+AsksFailing words files = ((path : List ℕ) × AsksPlain words path × CanFail (files path))
+    ⊎ ((schema : List ℕ) × (file : List ℕ) × AsksCheck words schema file
+    × (CanFail (files schema) ⊎ CanFail (files file)))
+
+-- Where no output has failed before, a device's status comes only where one has failed then, or a file can.
 abbrev pub IsDevices : List (List ℕ) → (List ℕ → Stored) → Output → Output → Output → Output → Type 0
 IsDevices words files out out' err err' = out.has_failed ≡ false → err.has_failed ≡ false
     → (out'.has_failed ≡ true) ⊎ (err'.has_failed ≡ true) ⊎ AsksFailing words files

@@ -1,8 +1,8 @@
 //! Whether a file conforms to a schema.
 
-ghost use Rattle.std.specs.Prelude.{◌≡◌};
+ghost use Rattle.std.specs.Prelude.{◌≡◌, ◌⊎◌, false, true};
 ghost use Rattle.reports.specs.SchemaLines.{schema_line};
-ghost use Rattle.stepmin.specs.Runs.{Prints, Reports, RunsCheck, check_line, output};
+ghost use Rattle.stepmin.specs.Runs.{Prints, Reports, RunsCheck, check_line, output, told_by};
 ghost use Rattle.stepmin.specs.Statuses.{check_status, report_status, schema_status};
 
 use crate::ending::{BROKEN, DEVICE, DONE, MEMORY, TEXT, report};
@@ -91,9 +91,21 @@ pub fn run_check<S: Source, F: Source, O: Sink, E: Sink>(
     out: &mut O,
     err: &mut E,
 ) -> u8
-    ensures { RunsCheck (S.to_come schema.old) (F.to_come file.old)
+    ensures runs { RunsCheck
+        (told_by S.to_come S.fails schema.old) (told_by F.to_come F.fails file.old)
         (output O.held O.has_failed out.old) (output O.held O.has_failed out.new)
         (output E.held E.has_failed err.old) (output E.held E.has_failed err.new) result }
+    // A device's status comes only where one fails in the run, if none had before.
+    ensures device { result ≡ 4
+        → S.has_failed schema.old ≡ false → F.has_failed file.old ≡ false
+        → O.has_failed out.old ≡ false → E.has_failed err.old ≡ false
+        → (S.has_failed schema.new ≡ true) ⊎ (F.has_failed file.new ≡ true)
+        ⊎ (O.has_failed out.new ≡ true) ⊎ (E.has_failed err.new ≡ true) }
+    // Where a source fails in the run, the status says so.
+    ensures schema_failed { S.has_failed schema.old ≡ false → S.has_failed schema.new ≡ true
+        → result ≡ 4 }
+    ensures file_failed { F.has_failed file.old ≡ false → F.has_failed file.new ≡ true
+        → result ≡ 4 }
 {
     match check(alloc, keys, schema, file) {
         Ok(findings) => print_findings(&findings, out, err),

@@ -118,7 +118,8 @@ pub fn run_command<'p, S: Store<'p>, O: Sink, E: Sink>(
     // Where they ask for a check, the file is checked against the schema, by what both hold.
     ensures check { (schema : List ℕ) → (file : List ℕ)
         → AsksCheck (texts words.now) schema file
-        → RunsCheck (S.contents store.old schema) (S.contents store.old file)
+        → RunsCheck (stored S.contents S.fails store.old schema)
+        (stored S.contents S.fails store.old file)
         (output O.held O.has_failed out.old) (output O.held O.has_failed out.new)
         (output E.held E.has_failed err.old) (output E.held E.has_failed err.new) result }
     // No file changes.
@@ -129,13 +130,20 @@ pub fn run_command<'p, S: Store<'p>, O: Sink, E: Sink>(
     // Nothing goes out but where all is done, and where a device fails.
     ensures unwritten { (result ≡ 0) ⊎ (result ≡ 1) ⊎ (result ≡ 4)
         ⊎ Keeps (O.held out.old) (O.held out.new) }
-    // A device's status comes where one failed, or where the file that is asked for can fail.
+    // A device's status comes where one failed, or where a file that is asked for can fail.
     ensures device { result ≡ 4 → IsDevices (texts words.now) (stored S.contents S.fails store.old)
         (output O.held O.has_failed out.old) (output O.held O.has_failed out.new)
         (output E.held E.has_failed err.old) (output E.held E.has_failed err.new) }
     // Where each read of the file fails or an output does, the status says so; or memory ran out.
     ensures file_failed { (path : List ℕ) → AsksPlain (texts words.now) path
         → S.fails store.old path ≡ Some true → (result ≡ 4) ⊎ (result ≡ 5) }
+    ensures schema_failed { (schema : List ℕ) → (file : List ℕ)
+        → AsksCheck (texts words.now) schema file
+        → S.fails store.old schema ≡ Some true → (result ≡ 4) ⊎ (result ≡ 5) }
+    // The file of a check isn't read where the text or a name of the schema is at fault.
+    ensures checked_failed { (schema : List ℕ) → (file : List ℕ)
+        → AsksCheck (texts words.now) schema file
+        → S.fails store.old file ≡ Some true → (result ≡ 2) ⊎ (result ≡ 4) ⊎ (result ≡ 5) }
     ensures out_failed { O.has_failed out.old ≡ false → O.has_failed out.new ≡ true → result ≡ 4 }
     ensures err_failed { E.has_failed err.old ≡ false → E.has_failed err.new ≡ true → result ≡ 4 }
 {

@@ -2,6 +2,7 @@ use Rattle.std.proofs.Common.{subst, sym, ◌∙◌}
 use Rattle.express_schemas.specs.SchemaViews.{schema_of}
 use Rattle.checking.specs.Checks.{FileAnswers}
 use Rattle.checking.proofs.Answering.{gives, no-device, of-source}
+use Rattle.checking.proofs.Failing.{file-told}
 use Rattle.checking.proofs.check.report_source.Goals as goal
 
 pub returns-in-Ok-clause-answers : goal.returns-in-Ok-clause-answers
@@ -14,3 +15,8 @@ pub returns-in-Ok-clause-failed : goal.returns-in-Ok-clause-failed
 returns-in-Ok-clause-failed g c = λ fine.
     c.in-Ok.ensures.failed fine
     ∙ sym (no-device (schema_of c.args.graph.names.schema.now) _ c.report.result c.report.ensures)
+
+pub returns-in-Ok-clause-told : goal.returns-in-Ok-clause-told
+returns-in-Ok-clause-told g c =
+    file-told (g.S.Source.fails c.args.file.now) c.report.result
+    (no-device (schema_of c.args.graph.names.schema.now) _ c.report.result c.report.ensures) c.in-Ok.ensures.told

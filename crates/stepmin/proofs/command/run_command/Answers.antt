@@ -1,7 +1,7 @@
 use Rattle.std.proofs.Common.{inl, inr, map, string_bytes}
 use Rattle.command_line.specs.Stores.{stored}
 use Rattle.command_line.proofs.Asking.{are_texts, asks_or_not}
-use Rattle.stepmin.proofs.Running.{asked_runs, asked_says, checks_asked, file_failed, memory_checks, memory_runs, none_asked, refused_device, refused_unwritten, runs_asked}
+use Rattle.stepmin.proofs.Running.{asked_runs, asked_says, checked_failed, checks_asked, file_failed, memory_checks, memory_runs, none_asked, refused_device, refused_unwritten, runs_asked, schema_failed}
 use Rattle.stepmin.proofs.command.run_command.Goals as goal
 
 pub returns-in-Ok-clause-unopened : goal.returns-in-Ok-clause-unopened
@@ -55,6 +55,14 @@ pub returns-in-Ok-clause-file_failed : goal.returns-in-Ok-clause-file_failed
 returns-in-Ok-clause-file_failed g c = λ path asks is.
     file_failed _ _ _ _ _ _ (returns-in-Ok-clause-plain g c path asks) is
 
+pub returns-in-Ok-clause-schema_failed : goal.returns-in-Ok-clause-schema_failed
+returns-in-Ok-clause-schema_failed g c = λ schema file asks is.
+    schema_failed _ _ _ _ _ _ _ (returns-in-Ok-clause-check g c schema file asks) is
+
+pub returns-in-Ok-clause-checked_failed : goal.returns-in-Ok-clause-checked_failed
+returns-in-Ok-clause-checked_failed g c = λ schema file asks is.
+    checked_failed _ _ _ _ _ _ _ (returns-in-Ok-clause-check g c schema file asks) is
+
 pub returns-in-Err-clause-plain : goal.returns-in-Err-clause-plain
 returns-in-Err-clause-plain g c = λ path asks.
     memory_runs c.in-Err.refusal _ _ _ _ _ c.refuse.result (c.in-Err.ensures.granted path asks)
@@ -68,6 +76,14 @@ returns-in-Err-clause-check g c = λ schema file asks.
 pub returns-in-Err-clause-file_failed : goal.returns-in-Err-clause-file_failed
 returns-in-Err-clause-file_failed g c = λ path asks is.
     file_failed _ _ _ _ _ _ (returns-in-Err-clause-plain g c path asks) is
+
+pub returns-in-Err-clause-schema_failed : goal.returns-in-Err-clause-schema_failed
+returns-in-Err-clause-schema_failed g c = λ schema file asks is.
+    schema_failed _ _ _ _ _ _ _ (returns-in-Err-clause-check g c schema file asks) is
+
+pub returns-in-Err-clause-checked_failed : goal.returns-in-Err-clause-checked_failed
+returns-in-Err-clause-checked_failed g c = λ schema file asks is.
+    checked_failed _ _ _ _ _ _ _ (returns-in-Err-clause-check g c schema file asks) is
 
 pub returns-in-Err-clause-device : goal.returns-in-Err-clause-device
 returns-in-Err-clause-device g c =
