@@ -25,7 +25,7 @@ some-is : (p q : Place) → Some p ≡ Some q → p ≡ q
 some-is p q h = cc
 
 module _ (all : List Place) (one : AreOne all) where
-  one-told : (y x : ℕ) (p q : Place) → slice_get all y ≡ Some p → slice_get all x ≡ Some q → eqb y x ≡ same_place p q
+  pub one-told : (y x : ℕ) (p q : Place) → slice_get all y ≡ Some p → slice_get all x ≡ Some q → eqb y x ≡ same_place p q
   one-told y x p q at here = by (eqb y x) refl (same_place p q) refl
     where
       by : (b : Bool) → eqb y x ≡ b → (c : Bool) → same_place p q ≡ c → b ≡ c

@@ -17,7 +17,7 @@ use Rattle.file_findings.specs.Rows.{rows_in, HasFormAmong, HaveForms}
 use Rattle.file_findings.specs.Making.{HaveFormsAmong}
 use Rattle.file_findings.specs.declared.rows.Rows.{Rows}
 
-counts-prop : (from : ℕ) (ss : List Section) (n : ℕ) → IsProp (CountsTo from ss n)
+pub counts-prop : (from : ℕ) (ss : List Section) (n : ℕ) → IsProp (CountsTo from ss n)
 counts-prop from [] n = ℕ_set from n
 counts-prop from (s ∷ ss) n = pair (counts-prop s.past ss n)
   where

@@ -84,7 +84,9 @@ fn push_node<'t: 'a, 'a>(
 }
 
 /// Pushes a reference, with the row that has its name.
-fn push_reference(
+///
+/// `AllocError` comes where memory runs out.
+pub fn push_reference(
     builder: &mut RowBuilder<'_, '_>,
     index: &RowIndex,
     name: u64,

@@ -1,19 +1,24 @@
 -- A file of which nothing is wrong, by its tables.
-use Rattle.std.specs.Prelude.{◌≡◌, ℕ, zero, suc, ◌<◌, List, [], ◌∷◌, length, map, Option, Some, slice_get, ◌⊎◌}
+use Rattle.std.specs.Prelude.{◌≡◌, ℕ, zero, suc, ◌<◌, ◌≤◌, List, [], ◌∷◌, length, map, Option, None, Some, slice_get, ◌⊎◌}
 use Rattle.std.proofs.Common.{refl, sym, ap, subst, ◌∙◌, arith}
 use Rattle.express_schemas.specs.Schemas.{Schema}
 use Rattle.express_schemas.specs.Profile.{Every}
 use Rattle.attribute_places.specs.Places.{all_places}
-use Rattle.step_structures.specs.Trees.{Row}
+use Rattle.step_structures.specs.Trees as trees
+use Rattle.step_structures.specs.Trees.{Trees, none, one, Row}
 use Rattle.step_exchange.specs.declared.structure.Exchange.{Exchange}
 use Rattle.step_exchange.specs.Exchanges.{structure}
 use Rattle.step_exchange.specs.Sections.{sections_of}
+use Rattle.step_values.specs.Building.{Kept}
+use Rattle.step_values.specs.ComputedAgreement.{size}
+use Rattle.step_values.specs.Targets.{LeadTo, ReferTo}
 use Rattle.step_values.specs.Values.{Values}
+use Rattle.step_values.specs.Views.{all_of}
 use Rattle.row_index.specs.Index.{found, place_of}
 use Rattle.type_graphs.specs.Names.{Name}
 use Rattle.type_graphs.specs.Attributes.{Place}
 use Rattle.conformance.specs.Bases.{Domain}
-use Rattle.conformance.specs.Entities.{Entities}
+use Rattle.conformance.specs.Entities.{Entities, records, parameters}
 use Rattle.conformance.specs.Fitting.{Target, absent}
 use Rattle.conformance.specs.Findings.{findings, target_in}
 use Rattle.conformance.specs.Populations.{population_of, instances_from}
@@ -22,12 +27,12 @@ use Rattle.instance_forms.specs.declared.form.Form.{Form}
 use Rattle.instance_forms.specs.Forms.{AreSlotsOf}
 use Rattle.parameter_fits.specs.References.{IsFound, AreFound}
 use Rattle.parameter_fits.proofs.Pointwise.{places_stand}
-use Rattle.file_findings.specs.Rows.{rows_in, AreRowsOf, HaveForms}
+use Rattle.file_findings.specs.Rows.{rows_in, AreRowsOf, HaveForms, AreNumbered as AreRowsNumbered}
 use Rattle.file_findings.specs.declared.rows.Rows.{Rows}
 use Rattle.file_findings.proofs.Placing.{names-are, rows-are}
-use Rattle.step_population.specs.Whole.{form_among, ArePlaced, IsWhole}
+use Rattle.step_population.specs.Whole.{form_among, slot_count, ArePlaced, AreNumbered, HaveSlots, IsWhole}
 use Rattle.step_population.specs.Seen.{instances_seen, section_numbers}
-use Rattle.step_population.specs.Making.{AreRowsReady, rows_by}
+use Rattle.step_population.specs.Making.{AreRowsReady, values_by, row_by, rows_by}
 use Rattle.step_population.proofs.Clean.{HasClean, AreClean, absent-or-found, last-none, rows-clean, rows-ready}
 use Rattle.step_population.proofs.Populating.{population-is}
 
@@ -49,6 +54,28 @@ made-length s d forms [] os h = refl
 made-length s d forms (r ∷ rs) [] h = absurd (omega (arith, h))
 made-length s d forms (r ∷ rs) (o ∷ os) h =
     let more = made-length s d forms rs os (omega (arith, h)) in omega (arith, more)
+
+values-few : (s : Schema) (d : Domain) (xs : List SlotForm) (ts : Trees)
+    → size (all_of (values_by s d xs ts)) ≤ length xs
+values-few s d [] ts = omega arith
+values-few s d (x ∷ xs) none = omega arith
+values-few s d (x ∷ xs) (one t ts) = let more = values-few s d xs ts in omega (arith, more)
+
+row-few : (s : Schema) (d : Domain) (o : Option Form) (f : trees.Form) → size (row_by s d o f) ≤ slot_count o
+row-few s d None f = omega arith
+row-few s d (Some x) f = values-few s d x.slots.items (parameters (records f))
+
+rows-few : (s : Schema) (d : Domain) (forms : List Form) (rs : List Row) (os : List (Option ℕ))
+    → HaveSlots forms os (rows_by s d forms rs os)
+rows-few s d forms [] [] = tt
+rows-few s d forms [] (o ∷ os) = tt
+rows-few s d forms (r ∷ rs) [] = tt
+rows-few s d forms (r ∷ rs) (o ∷ os) = (row-few s d (form_among forms o) r.form, rows-few s d forms rs os)
+
+forms-numbered : (s : Schema) (forms : List Form) → AreRowsNumbered s (map (λ (x : Form). x.types.items) forms)
+    → Every (AreNumbered s) forms
+forms-numbered s [] h = tt
+forms-numbered s (x ∷ forms) h = (h.0, forms-numbered s forms h.1)
 
 names-length : (rs : List Row) → length (map (λ (r : Row). r.name) rs) ≡ length rs
 names-length [] = refl
@@ -102,17 +129,6 @@ module _ (s : Schema) (d : Domain) (en : Entities) where
       rows-are-ready = rows-ready s d en targets (found t.index) leads t.forms.items (rows_in x) t.form_of.items clean
 
       module _ (rows-now : List Values) (made : rows-now ≡ rows_by s d t.forms.items (rows_in x) t.form_of.items) where
-        pub all-whole : IsWhole s x.names t rows-now
-        all-whole = record {
-          index = index-names;
-          forms = as-many-forms;
-          values = ap length made
-              ∙ made-length s d t.forms.items (rows_in x) t.form_of.items
-              (have-length s en t (rows_in x) t.form_of.items rows.forms)
-              ∙ sym (names-length (rows_in x)) ∙ ap length (names-are x);
-          placed = all-placed (rows_in x) t.form_of.items clean;
-        }
-
         pub seen-is : instances_seen s t.forms.items x.names (section_numbers 0 0 x.sections.items) t.form_of.items rows-now
             ≡ population_of s d en (structure x)
         seen-is =
@@ -121,3 +137,21 @@ module _ (s : Schema) (d : Domain) (en : Entities) where
             ∙ population-is s d en targets (found t.index) leads t.forms.items x.sections.items (rows_in x)
             t.form_of.items clean
             ∙ ap (λ rs. instances_from s d en 0 (sections_of 0 x.sections.items rs)) (rows-are x)
+
+      module _ (now : Kept) (made : now.rows ≡ rows_by s d t.forms.items (rows_in x) t.form_of.items)
+          (led : LeadTo x.names now.targets) (refers : ReferTo x.names now.rows) where
+        pub all-whole : IsWhole s x.names t now
+        all-whole = record {
+          index = index-names;
+          forms = as-many-forms;
+          values = ap length made
+              ∙ made-length s d t.forms.items (rows_in x) t.form_of.items
+              (have-length s en t (rows_in x) t.form_of.items rows.forms)
+              ∙ sym (names-length (rows_in x)) ∙ ap length (names-are x);
+          placed = all-placed (rows_in x) t.form_of.items clean;
+          numbered = forms-numbered s t.forms.items (subst (AreRowsNumbered s) (sym rows.types) rows.numbered);
+          slots = subst (HaveSlots t.forms.items t.form_of.items) (sym made)
+              (rows-few s d t.forms.items (rows_in x) t.form_of.items);
+          leads = led;
+          refers = refers;
+        }

@@ -3,3 +3,9 @@ pub mod Clean
 pub mod Populating
 pub mod Judged
 pub mod Verdicts
+pub mod Found
+pub mod Ordered
+pub mod Orders
+pub mod Headed
+pub mod Copied
+pub mod RowsMade

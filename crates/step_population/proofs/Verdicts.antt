@@ -6,7 +6,8 @@ use Rattle.express_schemas.specs.Schemas.{Schema}
 use Rattle.schema_names.specs.declared.names.Names.{Names}
 use Rattle.step_exchange.specs.declared.structure.Exchange.{Exchange}
 use Rattle.step_exchange.specs.Exchanges.{structure}
-use Rattle.step_values.specs.Values.{Values}
+use Rattle.step_values.specs.Building.{Kept}
+use Rattle.step_values.specs.Targets.{LeadTo, ReferTo}
 use Rattle.row_index.specs.Index.{found}
 use Rattle.base_types.specs.declared.lookup.Bases.{Bases}
 use Rattle.base_types.specs.Seen.{schema_at}
@@ -71,18 +72,19 @@ module _ (n : Names) (k : Knowledge) (b : Bases) (x : Exchange) (t : Rows) (same
           (sym same-bases)
           (rows-are-ready (schema_by n) d-is.0 en-is.0 x t are-rows (sym told-so ∙ none))
 
-      module _ (vss : List Values) (made : (d : Domain) → IsDomain (schema_at b) d
-          → vss ≡ rows_by (schema_at b) d t.forms.items (rows_in x) t.form_of.items) where
-        made-so : vss ≡ rows_by (schema_by n) d-is.0 t.forms.items (rows_in x) t.form_of.items
+      module _ (now : Kept) (made : (d : Domain) → IsDomain (schema_at b) d
+          → now.rows ≡ rows_by (schema_at b) d t.forms.items (rows_in x) t.form_of.items)
+          (leads : LeadTo x.names now.targets) (refers : ReferTo x.names now.rows) where
+        made-so : now.rows ≡ rows_by (schema_by n) d-is.0 t.forms.items (rows_in x) t.form_of.items
         made-so =
             subst (λ m. (d : Domain) → IsDomain (schema_by m) d
-            → vss ≡ rows_by (schema_by m) d t.forms.items (rows_in x) t.form_of.items) same-bases made d-is.0 d-is.1
+            → now.rows ≡ rows_by (schema_by m) d t.forms.items (rows_in x) t.form_of.items) same-bases made d-is.0 d-is.1
 
-        pub whole-is : IsWhole (schema_by n) x.names t vss
+        pub whole-is : IsWhole (schema_by n) x.names t now
         whole-is =
-            all-whole (schema_by n) d-is.0 en-is.0 x t are-rows (sym told-so ∙ none) vss made-so
+            all-whole (schema_by n) d-is.0 en-is.0 x t are-rows (sym told-so ∙ none) now made-so leads refers
 
         pub population-so : instances_seen (schema_by n) t.forms.items x.names (section_numbers 0 0 x.sections.items)
-            t.form_of.items vss ≡ population_of (schema_by n) d-is.0 en-is.0 (structure x)
+            t.form_of.items now.rows ≡ population_of (schema_by n) d-is.0 en-is.0 (structure x)
         population-so =
-            seen-is (schema_by n) d-is.0 en-is.0 x t are-rows (sym told-so ∙ none) vss made-so
+            seen-is (schema_by n) d-is.0 en-is.0 x t are-rows (sym told-so ∙ none) now.rows made-so

@@ -1,11 +1,12 @@
 -- The instances that the tables of a population are.
 use Rattle.std.specs.Prelude.{ℕ, suc, ◌-◌, List, [], ◌∷◌, ◌++◌, map, Option, None, Some, slice_get}
-use Rattle.std.specs.List.{repeat}
+use Rattle.std.specs.List.{repeat, sum_by}
 use Rattle.express_schemas.specs.Schemas.{Schema}
 use Rattle.express_schemas.specs.SchemaViews.{schema_of}
 use Rattle.type_graphs.specs.Attributes.{Place}
 use Rattle.attribute_places.specs.Places.{all_places}
 use Rattle.step_exchange.specs.declared.section.Section.{Section}
+use Rattle.step_values.specs.NodeCounts.{nodes_of}
 use Rattle.step_values.specs.Values.{Values, more}
 use Rattle.base_types.specs.Seen.{name_at}
 use Rattle.instance_forms.specs.declared.form.SlotForm.{SlotForm}
@@ -52,3 +53,7 @@ abbrev pub population_seen : Population → List Instance
 population_seen p =
     instances_seen (schema_of p.graph.now.names.schema.now) p.rows.forms.items p.exchange.now.names
     (section_numbers 0 0 p.exchange.now.sections.items) p.rows.form_of.items p.values.rows
+
+-- how many nodes the values of instances have
+abbrev pub nodes_seen : List Instance → ℕ
+nodes_seen is = sum_by (λ (i : Instance). sum_by (λ (x : Slot). nodes_of x.value) i.slots) is

@@ -9,6 +9,7 @@ ghost use Rattle.step_exchange.specs.Views.{
   form_in,
   rows_with,
 };
+ghost use Rattle.step_values.specs.Targets.{LeadTo, ReferTo};
 ghost use Rattle.row_index.specs.Index.{found};
 ghost use Rattle.base_types.specs.Seen.{schema_at};
 ghost use Rattle.base_types.specs.Tables.{AreBases};
@@ -238,9 +239,11 @@ pub fn values_of<'b, 'r>(
     requires matched { length rows.now.form_of.items ≡ length exchange.now.names }
     requires ready { AreRowsReady (schema_at bases) (found rows.now.index) rows.now.forms.items
         (rows_in exchange.now) rows.now.form_of.items }
-    ensures { IfOk result (λ v. (d : Domain) → IsDomain (schema_at bases.entry) d
+    ensures rows { IfOk result (λ v. (d : Domain) → IsDomain (schema_at bases.entry) d
         → v.rows ≡ rows_by (schema_at bases.entry) d rows.now.forms.items
         (rows_in exchange.now) rows.now.form_of.items) }
+    ensures leads { IfOk result (λ v. LeadTo exchange.now.names v.targets) }
+    ensures refers { IfOk result (λ v. ReferTo exchange.now.names v.rows) }
 {
     let maker = maker_of(bases, rows);
     let names = exchange.names.as_slice();

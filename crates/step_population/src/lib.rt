@@ -3,6 +3,9 @@
 #![tactic(auto)]
 
 pub mod building;
+mod copying;
+mod ordering;
+mod plain;
 pub mod populate;
 pub mod population;
 pub mod reading;

@@ -1,8 +1,6 @@
 //! Whether an exchange structure conforms to a schema, and its population.
 
 ghost use Rattle.std.specs.Prelude.{IfOk};
-ghost use Rattle.express_schemas.specs.SchemaViews.{schema_of};
-ghost use Rattle.step_exchange.specs.Exchanges.{structure};
 ghost use Rattle.express_types.specs.Made.{IsMade};
 ghost use Rattle.step_population.specs.Verdicts.{IsVerdict};
 
@@ -38,8 +36,7 @@ pub fn populate<'r, 't, 's, 'a>(
     exchange: &'r Exchange<'a>,
 ) -> Result<Verdict<'r, 't, 's, 'a>, AllocError>
     requires made { IsMade graph.now }
-    ensures { IfOk result (IsVerdict (schema_of graph.now.names.schema.now)
-        (structure exchange.now)) }
+    ensures { IfOk result (IsVerdict graph.now exchange.now) }
 {
     let tables = SchemaTables::of(alloc, &*graph)?;
     let known = tables.knowledge(&*graph);

@@ -14,9 +14,9 @@ pub struct Population<'r, 't, 's, 'a> {
     pub graph: &'r TypeGraph<'t, 's>,
     pub exchange: &'r Exchange<'a>,
     /// The forms of its instances.
-    pub rows: Rows,
+    pub(crate) rows: Rows,
     /// For each instance the values of its attributes, in the order of its form.
-    pub values: ValueRows<'r>,
+    pub(crate) values: ValueRows<'r>,
     pub ghost whole: { ∥ IsWhole (schema_of graph.now.names.schema.now) exchange.now.names rows
-        values.rows ∥₁ },
+        values ∥₁ },
 }

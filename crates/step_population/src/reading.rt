@@ -1,11 +1,86 @@
 //! What a typed population says of its instances.
 
+ghost use Rattle.std.specs.Prelude.{◌≡◌, ◌<◌, ◌≤◌, None, length, map};
+ghost use Rattle.columns.specs.Nodes.{IsColumn};
+ghost use Rattle.step_values.specs.Cells.{value_nodes};
+ghost use Rattle.step_values.specs.Targets.{LeadTo, targets_of};
+ghost use Rattle.express_schemas.specs.SchemaViews.{schema_of};
+ghost use Rattle.attribute_places.specs.Places.{all_places};
+ghost use Rattle.instance_forms.specs.declared.form.SlotForm.{SlotForm};
+ghost use Rattle.row_index.specs.Index.{place_of};
+ghost use Rattle.base_types.specs.Seen.{name_at};
+ghost use Rattle.conformance.specs.Populations.{value_of, types_at};
+ghost use Rattle.step_population.specs.Seen.{place_at, population_seen, nodes_seen};
+
+use crate::building::form_at;
 use crate::population::Population;
+use instance_forms::form::SlotForm;
 use step_values::cell::Cell;
+use step_values::slot::Slot;
+
+/// Where the attribute of a place stands among these, counted from 0.
+pub(crate) fn position_of(slots: &[SlotForm], place: u32) -> Option<usize>
+    ensures { result ≡ place_of (map (λ (x : SlotForm). x.place) slots.now) place }
+{
+    for i in 0..slots.len() {
+        if slots[i].place == place {
+            return Some(i);
+        }
+    }
+    None
+}
 
 impl<'r, 't, 's, 'a> Population<'r, 't, 's, 'a> {
-    /// The whole column of cells, one for each node of a value. It takes no memory.
-    pub fn cells(&self) -> &[Cell<'r>] {
+    /// How many instances there are.
+    pub fn len(&self) -> usize
+        ensures { result ≡ length (population_seen self.now) }
+    {
+        self.exchange.names.len()
+    }
+
+    /// The value that the instance of a name has of the attribute of this number; none where there
+    /// is no such instance or attribute, or it has no value of it. It takes no memory.
+    pub fn value(&self, name: u64, place: u32) -> Option<Slot<'_, 'r>>
+        ensures there { place < length (all_places (schema_of self.now.graph.now.names.schema.now))
+            → result ≡ value_of (population_seen self.now) name
+            (place_at (schema_of self.now.graph.now.names.schema.now) place) }
+        ensures beyond { length (all_places (schema_of self.now.graph.now.names.schema.now)) ≤ place
+            → result ≡ None }
+    {
+        let Some(row) = self.rows.index.find(name) else {
+            return None;
+        };
+        let Some(form) = form_at(&self.rows, row as usize) else {
+            return None;
+        };
+        let Some(position) = position_of(&form.slots, place) else {
+            return None;
+        };
+        self.values.row(row as usize).item(position)
+    }
+
+    /// The numbers of the types of the instance of a name, in the order of the schema; none where
+    /// there is no such instance. It takes no memory.
+    pub fn types_of(&self, name: u64) -> &[u32]
+        ensures { map (name_at (schema_of self.now.graph.now.names.schema.now)) result.now
+            ≡ types_at (population_seen self.now) name }
+    {
+        let Some(row) = self.rows.index.find(name) else {
+            return &[];
+        };
+        match form_at(&self.rows, row as usize) {
+            Some(form) => &form.types,
+            None => &[],
+        }
+    }
+
+    /// The whole column of cells, one for each node of a value, what is inside each before it, and
+    /// in each reference the row that it names. It takes no memory.
+    pub fn cells(&self) -> &[Cell<'r>]
+        ensures column { IsColumn value_nodes result.now }
+        ensures count { length result.now ≡ nodes_seen (population_seen self.now) }
+        ensures references { ∥ LeadTo self.now.exchange.now.names (targets_of result.now) ∥₁ }
+    {
         self.values.cells()
     }
 }

@@ -6,6 +6,7 @@ ghost use Rattle.std.specs.Str.{bytes_eq};
 
 mod checks;
 mod lines;
+mod populations;
 mod sources;
 mod texts;
 

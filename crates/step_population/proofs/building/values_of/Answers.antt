@@ -1,8 +1,13 @@
-use Rattle.std.proofs.Common.{◌≡◌, ◌∙◌, refl, sym, ap, subst, drop}
+use Rattle.std.proofs.Common.{◌≡◌, ◌∙◌, ℕ, List, [], refl, sym, ap, subst, drop}
+use Rattle.conformance.specs.Bases.{Domain, IsDomain}
+use Rattle.base_types.specs.Seen.{schema_at}
+use Rattle.step_values.specs.Values.{Values}
+use Rattle.step_values.specs.Targets.{LeadTo, ReferTo}
+use Rattle.step_population.specs.declared.building.Maker.{Maker}
 use Rattle.step_values.specs.Building.{Building}
 use Rattle.row_index.specs.Index.{found}
 use Rattle.parameter_fits.specs.References.{AreFound}
-use Rattle.step_population.specs.Making.{IsMaker}
+use Rattle.step_population.specs.Making.{IsMaker, AddsRows, schema_of_maker}
 use Rattle.step_exchange.specs.Views.{rows_with}
 use Rattle.file_findings.specs.Rows.{rows_in}
 use Rattle.file_findings.proofs.Placing.{rows-are}
@@ -41,8 +46,33 @@ finish-requires c =
     c.maker_of-maker.ensures.index rows.forms.items ws ws rows.form_of.items refl c.as_slice-names.result.now
     c.new-builder.result c.push_rows.new.builder c.new-builder.ensures c.in_ok-push_rows.ensures some.0 some.1).1
 
-pub returns : goal.returns
-returns c = λ d is.
+-- the names over which rows were made
+made-names : (m : Maker) (new : Building) (rows : Domain → List Values) (names : List ℕ)
+    (some : (d : Domain) × IsDomain (schema_of_maker m) d) (old : Building) → AddsRows m old new rows
+    → old ≡ record { names = names; rows = []; pending = [] } → new.names ≡ names
+made-names m new rows names some old adds first =
+    ap (λ (b : Building). b.names) (adds some.0 some.1) ∙ ap (λ (b : Building). b.names) first
+
+pub returns-clause-leads : goal.returns-clause-leads
+returns-clause-leads c =
+    let some = c.requires.bases.1.exists in
+    let m = c.maker_of-maker.result in
+    let is = subst (λ b. IsDomain (schema_at b) some.0) (sym c.maker_of-maker.ensures.bases) some.1 in
+    subst (λ ns. LeadTo ns c.finish.result.targets)
+    (made-names m c.push_rows.new.builder _ c.as_slice-names.result.now (some.0, is) c.new-builder.result
+    c.in_ok-push_rows.ensures c.new-builder.ensures ∙ c.as_slice-names.ensures) c.finish.ensures.targets
+
+pub returns-clause-refers : goal.returns-clause-refers
+returns-clause-refers c =
+    let some = c.requires.bases.1.exists in
+    let m = c.maker_of-maker.result in
+    let is = subst (λ b. IsDomain (schema_at b) some.0) (sym c.maker_of-maker.ensures.bases) some.1 in
+    subst (λ ns. ReferTo ns c.finish.result.rows)
+    (made-names m c.push_rows.new.builder _ c.as_slice-names.result.now (some.0, is) c.new-builder.result
+    c.in_ok-push_rows.ensures c.new-builder.ensures ∙ c.as_slice-names.ensures) c.finish.ensures.closed
+
+pub returns-clause-rows : goal.returns-clause-rows
+returns-clause-rows c = λ d is.
     let x = c.args.exchange.now in
     let rows = c.args.rows.now in
     let ws = rows_with c.as_slice-names.result.now c.split-instances.result.1 in

@@ -1,4 +1,4 @@
-use Rattle.std.proofs.Common.{rules, length, vec_len, ◌≡◌, ◌∙◌, ◌<◌, sym, arith}
+use Rattle.std.proofs.Common.{refl, rules, length, vec_len, ◌≡◌, ◌∙◌, ◌<◌, sym, arith}
 use Rattle.step_population.proofs.Verdicts.{empty-so, full-so, en-is, d-is, index-is, matched-is, told-so, ready-is, whole-is, population-so}
 use Rattle.step_population.proofs.populate.populate.Goals as goal
 
@@ -47,7 +47,7 @@ invariant_of-result c = record {
       c.knowledge-known.ensures.same c.bases-bases.ensures.same c.entities_are_said.ensures
       c.bases-bases.ensures.bases.1.exists c.in_ok-rows.ensures c.in_ok-found.found.items c.in_ok-found.ensures (empty-so c.in_ok-found.found.items c.len-wrong.result
       (c.len-wrong.ensures ∙ sym (let whole : length c.in_ok-found.found.items ≡ vec_len c.in_ok-found.found = search rules in whole)) (omega arith))
-      c.in_ok-values.values.rows c.in_ok-values.ensures ∣₁;
+      c.in_ok-values.values c.in_ok-values.ensures.rows c.in_ok-values.ensures.leads c.in_ok-values.ensures.refers ∣₁;
 }
 
 pub returns : goal.returns
@@ -58,18 +58,22 @@ returns c =
     let en = en-is c.args.graph.now.names c.knowledge-known.result c.bases-bases.result c.args.exchange.now c.in_ok-rows.rows
     c.knowledge-known.ensures.same c.bases-bases.ensures.same c.entities_are_said.ensures
     c.bases-bases.ensures.bases.1.exists c.in_ok-rows.ensures in (
-      d.0,
-      en.0,
-      d.1,
-      en.1,
-      sym (told-so c.args.graph.now.names c.knowledge-known.result c.bases-bases.result c.args.exchange.now c.in_ok-rows.rows
-          c.knowledge-known.ensures.same c.bases-bases.ensures.same c.entities_are_said.ensures
-          c.bases-bases.ensures.bases.1.exists c.in_ok-rows.ensures
-          c.in_ok-found.found.items c.in_ok-found.ensures) ∙ empty-so c.in_ok-found.found.items c.len-wrong.result
-          (c.len-wrong.ensures ∙ sym (let whole : length c.in_ok-found.found.items ≡ vec_len c.in_ok-found.found = search rules in whole)) (omega arith),
-      population-so c.args.graph.now.names c.knowledge-known.result c.bases-bases.result c.args.exchange.now c.in_ok-rows.rows
-          c.knowledge-known.ensures.same c.bases-bases.ensures.same c.entities_are_said.ensures
-          c.bases-bases.ensures.bases.1.exists c.in_ok-rows.ensures c.in_ok-found.found.items c.in_ok-found.ensures (empty-so c.in_ok-found.found.items c.len-wrong.result
-          (c.len-wrong.ensures ∙ sym (let whole : length c.in_ok-found.found.items ≡ vec_len c.in_ok-found.found = search rules in whole)) (omega arith))
-          c.in_ok-values.values.rows c.in_ok-values.ensures,
+      refl,
+      refl,
+      (
+        d.0,
+        en.0,
+        d.1,
+        en.1,
+        sym (told-so c.args.graph.now.names c.knowledge-known.result c.bases-bases.result c.args.exchange.now c.in_ok-rows.rows
+            c.knowledge-known.ensures.same c.bases-bases.ensures.same c.entities_are_said.ensures
+            c.bases-bases.ensures.bases.1.exists c.in_ok-rows.ensures
+            c.in_ok-found.found.items c.in_ok-found.ensures) ∙ empty-so c.in_ok-found.found.items c.len-wrong.result
+            (c.len-wrong.ensures ∙ sym (let whole : length c.in_ok-found.found.items ≡ vec_len c.in_ok-found.found = search rules in whole)) (omega arith),
+        population-so c.args.graph.now.names c.knowledge-known.result c.bases-bases.result c.args.exchange.now c.in_ok-rows.rows
+            c.knowledge-known.ensures.same c.bases-bases.ensures.same c.entities_are_said.ensures
+            c.bases-bases.ensures.bases.1.exists c.in_ok-rows.ensures c.in_ok-found.found.items c.in_ok-found.ensures (empty-so c.in_ok-found.found.items c.len-wrong.result
+            (c.len-wrong.ensures ∙ sym (let whole : length c.in_ok-found.found.items ≡ vec_len c.in_ok-found.found = search rules in whole)) (omega arith))
+            c.in_ok-values.values c.in_ok-values.ensures.rows c.in_ok-values.ensures.leads c.in_ok-values.ensures.refers,
+      ),
     )

@@ -1,0 +1,17 @@
+use Rattle.std.proofs.Common.{◌∙◌, sym, subst}
+use Rattle.std.proofs.Math.Logic.{∥∥₁_map}
+use Rattle.express_schemas.specs.SchemaViews.{schema_of}
+use Rattle.step_values.specs.Targets.{LeadTo}
+use Rattle.step_population.specs.Whole.{IsWhole}
+use Rattle.step_population.proofs.Found.{population-nodes}
+use Rattle.step_population.proofs.population.Population.cells.Goals as goal
+
+pub returns-clause-count : goal.returns-clause-count
+returns-clause-count c = c.cells.ensures.count ∙ population-nodes c.args.self.now
+
+pub returns-clause-references : goal.returns-clause-references
+returns-clause-references c =
+    let p = c.args.self.now in
+    ∥∥₁_map p.whole
+    (λ (w : IsWhole (schema_of p.graph.now.names.schema.now) p.exchange.now.names p.rows p.values).
+    subst (LeadTo p.exchange.now.names) (sym c.cells.ensures.targets) w.leads)
