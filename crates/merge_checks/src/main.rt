@@ -13,3 +13,5 @@ mod rings;
 mod tables;
 #[cfg(test)]
 mod values;
+
+fn main(_rt: HostRuntime) {}

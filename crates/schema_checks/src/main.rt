@@ -13,3 +13,5 @@ mod schemas;
 mod tokens;
 #[cfg(test)]
 mod values;
+
+fn main(_rt: HostRuntime) {}

@@ -10,3 +10,5 @@ mod shapes;
 mod unchecked;
 #[cfg(test)]
 mod values;
+
+fn main(_rt: HostRuntime) {}

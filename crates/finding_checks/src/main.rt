@@ -3,3 +3,5 @@
 
 #[cfg(test)]
 mod findings;
+
+fn main(_rt: HostRuntime) {}
