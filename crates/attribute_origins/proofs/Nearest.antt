@@ -8,10 +8,10 @@ use Rattle.type_graphs.specs.Names.{Name, Among, IsEntity, IsEntityAt}
 use Rattle.type_graphs.specs.Attributes.{AreLines, IsNearest}
 use Rattle.schema_names.specs.Numbers.{number_of, HasNumber, IsAt}
 use Rattle.schema_names.proofs.Numbers.{what-stands, stands-at, each-number}
-use Rattle.schema_demands.proofs.Having.{included, includes-it}
-use Rattle.schema_demands.specs.declared.attributes.Meant.{Meant}
+use Rattle.own_attributes.proofs.Having.{included, includes-it}
+use Rattle.own_attributes.specs.declared.attributes.Meant.{Meant}
 use Rattle.attribute_origins.specs.Lines.{HaveLines}
-use Rattle.schema_demands.specs.Owned.{includes, names_meant, names_in, declares_in, declares_at}
+use Rattle.own_attributes.specs.Owned.{includes, names_meant, names_in, declares_in, declares_at}
 use Rattle.attribute_origins.specs.Origins.{IsNumberOf}
 use Rattle.attribute_origins.proofs.Firsts.{find-once, first-forth, first-back}
 

@@ -9,10 +9,10 @@ ghost use Rattle.type_graphs.specs.Names.{Name, IsEntity, DeclaresExplicit};
 ghost use Rattle.type_graphs.specs.Attributes.{IsNearest, IsOrigin};
 ghost use Rattle.schema_names.specs.Numbers.{HasNumber};
 ghost use Rattle.attribute_origins.specs.Lines.{HaveLines};
-ghost use Rattle.schema_demands.specs.Owned.{declares_at};
+ghost use Rattle.own_attributes.specs.Owned.{declares_at};
 ghost use Rattle.attribute_origins.specs.Origins.{IsNumberOf};
 
-use schema_demands::attributes::{Meant, declares_at};
+use own_attributes::attributes::{Meant, declares_at};
 use schema_names::names::Names;
 use step_literals::literal::Word;
 

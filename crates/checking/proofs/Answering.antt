@@ -8,7 +8,7 @@ use Rattle.express_schemas.specs.Schemas.{Schema}
 use Rattle.express_schemas.specs.Texts.{ReadsAs, IsFaultOf}
 use Rattle.express_schemas.specs.declared.fault.SchemaFault.{SchemaFault}
 use Rattle.express_schemas.specs.declared.fault.SchemaFault.TheVariants as schemas
-use Rattle.express_types.specs.Resolving.{IsNameFault}
+use Rattle.resolved_types.specs.Resolving.{IsNameFault}
 use Rattle.step_structures.specs.Trees.{Row, rows_of}
 use Rattle.step_exchange.specs.Exchanges.{structure}
 use Rattle.step_exchange.specs.declared.structure.Exchange.{Exchange}

@@ -12,7 +12,7 @@ use Rattle.step_structures.specs.declared.fault.LeftOut.TheVariants.{TooLarge}
 use Rattle.step_structures.specs.Texts.{ReadsAs, IsFirstFault}
 use Rattle.step_structures.specs.Trees.{File}
 use Rattle.type_graphs.specs.Faults.{IsResolved}
-use Rattle.express_types.specs.Resolving.{IsNameFault}
+use Rattle.resolved_types.specs.Resolving.{IsNameFault}
 use Rattle.command_line.specs.declared.fault.Role.TheVariants as roles
 use Rattle.command_line.specs.declared.fault.Fault.{Fault}
 use Rattle.command_line.specs.declared.fault.Fault.TheVariants as faults

@@ -2,7 +2,7 @@
 
 ghost use Rattle.std.specs.Prelude.{◌≡◌, ◌≤◌, ◌^◌, IfSome, Some, false, length};
 ghost use Rattle.express_schemas.specs.SchemaViews.{schema_of};
-ghost use Rattle.express_types.specs.Made.{IsMade};
+ghost use Rattle.resolved_types.specs.Made.{IsMade};
 ghost use Rattle.checking.specs.Checks.{
   Checks,
   FileAnswers,
@@ -35,15 +35,15 @@ fn report(
     graph: TypeGraph<'_, '_>,
     bytes: &[u8],
 ) -> Result<Report, Fault>
-    requires made { IsMade graph }
+    requires made { IsMade graph.types }
     requires within { length bytes.now ≤ 2 ^ 40 }
-    ensures { FileAnswers (schema_of graph.entry.names.schema.now) bytes.now result }
+    ensures { FileAnswers (schema_of graph.entry.types.names.schema.now) bytes.now result }
 {
     let exchange = match read_exchange(alloc, keys, bytes) {
         Ok(exchange) => exchange,
         Err(fault) => return Err(Fault::of_text(Role::File, fault)),
     };
-    let findings = match file_findings(alloc, keys, &graph, &exchange) {
+    let findings = match file_findings(alloc, keys, &graph.types, &exchange) {
         Ok(findings) => findings,
         Err(_) => return Err(Fault::Memory),
     };
@@ -63,8 +63,8 @@ fn report_source<S: Source>(
     graph: TypeGraph<'_, '_>,
     file: &mut S,
 ) -> Result<Report, Fault>
-    requires made { IsMade graph }
-    ensures answers { SourceAnswers (schema_of graph.entry.names.schema.now)
+    requires made { IsMade graph.types }
+    ensures answers { SourceAnswers (schema_of graph.entry.types.names.schema.now)
         (S.to_come file.old) result }
     ensures failed { S.has_failed file.old ≡ false
         → S.has_failed file.new ≡ is_device_fault result }

@@ -14,9 +14,9 @@ use Rattle.type_graphs.proofs.Lists.{among-left, among-right, among-map, AreFres
 use Rattle.schema_names.specs.Numbers.{AreAt}
 use Rattle.schema_names.proofs.Items.{front-at, back-at}
 use Rattle.schema_names.proofs.Rows.{map-joined, flat-joined}
-use Rattle.schema_demands.specs.Owned.{is_own}
-use Rattle.schema_demands.proofs.Owning.{own-listed}
-use Rattle.schema_demands.proofs.Having.{included, includes-it}
+use Rattle.own_attributes.specs.Owned.{is_own}
+use Rattle.own_attributes.proofs.Owning.{own-listed}
+use Rattle.own_attributes.proofs.Having.{included, includes-it}
 use Rattle.data_types.specs.Numbered.{attribute_types, explicit_types, derived_types, all_data_types}
 use Rattle.declared_attributes.specs.Redeclaring.{IsFirstTypeAt}
 use Rattle.declared_attributes.specs.Searching.{Typing, explicit_typing, derived_typing, inverse_typing, typings, types_own, number_where}

@@ -4,7 +4,7 @@ use Rattle.std.specs.List.{list_any}
 use Rattle.express_schemas.specs.Schemas.{Entity, Attribute, Explicit, Derived, Inverse, DataType}
 use Rattle.type_graphs.specs.Names.{Name, listed}
 use Rattle.type_graphs.specs.Attributes.{collected}
-use Rattle.schema_demands.specs.Owned.{is_own}
+use Rattle.own_attributes.specs.Owned.{is_own}
 
 -- attributes that are declared together, and their data type
 abbrev pub Typing : Type 0

@@ -17,7 +17,7 @@ ghost use Rattle.type_graphs.specs.Names.{Name, IsEntity};
 ghost use Rattle.type_graphs.specs.Faults.{IsResolved};
 ghost use Rattle.type_graphs.specs.Attributes.{IsOrigin, HasFirstShape};
 ghost use Rattle.schema_names.specs.Numbers.{HasNumber, AreRowsOf};
-ghost use Rattle.schema_demands.specs.Owned.{is_own};
+ghost use Rattle.own_attributes.specs.Owned.{is_own};
 ghost use Rattle.data_types.specs.Numbered.{whole_types, all_data_types};
 ghost use Rattle.type_shapes.specs.Alike.{IsTable};
 ghost use Rattle.alike_types.specs.Shaped.{AreShapes, IsKnown, DecidesAlike};

@@ -6,7 +6,7 @@ use Rattle.digraph.proofs.Searching.{reached-within}
 use Rattle.express_schemas.specs.Schemas.{Schema}
 use Rattle.schema_names.specs.Edges.{supertypes_in}
 use Rattle.schema_names.proofs.Edges.{is-graph}
-use Rattle.schema_demands.specs.Above.{AreAbove}
+use Rattle.own_attributes.specs.Above.{AreAbove}
 
 pub above-graph : (s : Schema) (rows : Graph) → AreAbove s rows → IsGraph rows
 above-graph s rows h a b step =

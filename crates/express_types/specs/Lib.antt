@@ -1,4 +1,1 @@
-pub mod Graphs
-pub mod Resolving
 pub mod Judging
-pub mod Made

@@ -4,8 +4,7 @@ ghost use Rattle.std.specs.Prelude.{◌≡◌, IfOk, length};
 ghost use Rattle.digraph.specs.Graphs.{graph_of};
 ghost use Rattle.express_schemas.specs.SchemaViews.{schema_of};
 ghost use Rattle.type_graphs.specs.Faults.{IsResolved};
-ghost use Rattle.schema_names.specs.Edges.{IsGraphOf, supertypes_in};
-ghost use Rattle.schema_demands.specs.Above.{AreAbove};
+ghost use Rattle.own_attributes.specs.Above.{AreAbove};
 ghost use Rattle.taken_attributes.specs.Taking.{IsKnown, schema_in};
 ghost use Rattle.enumeration_items.specs.Items.{AreItems};
 ghost use Rattle.attribute_origins.specs.Lines.{HaveLines};
@@ -21,7 +20,7 @@ use declared_attributes::attributes::Attributes;
 use derivation_ranks::asked::first_derivations;
 use digraph::closures::{closure, reversal};
 use enumeration_items::items::Items;
-use schema_names::graphs::part_graph;
+use schema_names::graphs::{part_graph, supertype_graph};
 use schema_names::names::Names;
 use std::alloc::{AllocError, Global};
 use std::hash::RandomState;
@@ -56,6 +55,18 @@ fn make_types(alloc: Global, names: &Names<'_, '_>) -> Result<Types, AllocError>
     })
 }
 
+/// The line of each entity: itself, then the lines of its supertypes in turn.
+fn lines_of(alloc: Global, names: &Names<'_, '_>) -> Result<Vec<Vec<u32>>, AllocError>
+    requires resolved { IsResolved (schema_of names.now.schema.now) }
+    ensures lines { IfOk result (λ rows. HaveLines (schema_of names.now.schema.now)
+        (graph_of rows.items)) }
+    ensures each { IfOk result (λ rows. length rows.items
+        ≡ length names.now.schema.now.declarations.items) }
+{
+    let supertypes = supertype_graph(alloc, names)?;
+    lines(alloc, names, &supertypes)
+}
+
 /// What names mean in the expressions of a schema, beside its data types.
 #[derive(Drop)]
 struct Meanings<'a> {
@@ -71,17 +82,14 @@ fn make_meanings<'a>(
     keys: RandomState,
     names: &Names<'_, 'a>,
     types: &Types,
-    supertypes: &[Vec<u32>],
     above: &[Vec<u32>],
 ) -> Result<Meanings<'a>, AllocError>
     requires resolved { IsResolved (schema_of names.now.schema.now) }
     requires types { AreTypes (schema_of names.now.schema.now) types.now }
-    requires drawn { IsGraphOf (schema_of names.now.schema.now) supertypes_in
-        (graph_of supertypes.now) }
     requires above { AreAbove (schema_of names.now.schema.now) (graph_of above.now) }
     ensures { IfOk result (AreMeanings (schema_of names.now.schema.now) (graph_of above.now)) }
 {
-    let lines = lines(alloc, names, supertypes)?;
+    let lines = lines_of(alloc, names)?;
     let below = reversal(alloc, above)?;
     let attributes = Attributes::of(alloc, keys, names, &types.data_types, &lines, &types.shapes)?;
     let items = Items::of(alloc, keys, names)?;
@@ -138,23 +146,20 @@ fn judge_by<'r, 't, 'a>(
     })
 }
 
-/// What is found of the bodies of a schema whose names are resolved, over the graph of its SUBTYPE
-/// OF and the rows of all that it leads to. Names are hashed by these keys.
+/// What is found of the bodies of a schema whose names are resolved, over the rows of all that its
+/// SUBTYPE OF leads to. Names are hashed by these keys.
 pub(crate) fn judge<'r, 't, 'a>(
     alloc: Global,
     keys: RandomState,
     names: &'r Names<'t, 'a>,
-    supertypes: &[Vec<u32>],
     above: &'r [Vec<u32>],
 ) -> Result<Judged, AllocError>
     requires resolved { IsResolved (schema_of names.now.schema.now) }
-    requires drawn { IsGraphOf (schema_of names.now.schema.now) supertypes_in
-        (graph_of supertypes.now) }
     requires above { AreAbove (schema_of names.now.schema.now) (graph_of above.now) }
     ensures { IfOk result (IsJudged (schema_of names.now.schema.now)) }
 {
     let types = make_types(alloc, names)?;
-    let meanings = make_meanings(alloc, keys, names, &types, supertypes, above)?;
+    let meanings = make_meanings(alloc, keys, names, &types, above)?;
     let known = Known {
         tables: Tables {
             names,

@@ -1,101 +1,31 @@
-//! Resolving the names of a schema (ISO 10303-11, 8, 9 and 10).
+//! Resolving the names of a schema, with what is found of its bodies (ISO 10303-11, 8, 9 and 10).
 
 ghost use Rattle.std.specs.Prelude.{◌≡◌, IfOk, MatchResult};
-ghost use Rattle.std.specs.String.{string_bytes};
-ghost use Rattle.digraph.specs.Graphs.{graph_of};
-ghost use Rattle.express_trees.specs.Views.{capitals};
 ghost use Rattle.express_schemas.specs.SchemaViews.{schema_of};
 ghost use Rattle.type_graphs.specs.Faults.{IsResolved};
-ghost use Rattle.schema_demands.specs.Above.{AreAbove};
-ghost use Rattle.express_types.specs.Made.{IsMade};
-ghost use Rattle.express_types.specs.Resolving.{IsFound, IsResolution, IsSaid, IsNameFault};
+ghost use Rattle.resolved_types.specs.Made.{IsMade};
+ghost use Rattle.resolved_types.specs.Resolving.{IsNameFault};
 
 use crate::graph::TypeGraph;
-use crate::making::type_graph;
-use digraph::closures::closure;
-use express_schemas::fault::{NameFault, SchemaFault};
+use crate::judging::judge;
+use express_schemas::fault::SchemaFault;
 use express_schemas::tree::SchemaTree;
-use schema_demands::demands::check_demands;
-use schema_faults::cycles::{first_own_part, first_own_supertype};
-use schema_faults::duplicates::first_duplicate;
-use schema_names::capitals::in_capitals;
-use schema_names::graphs::supertype_graph;
-use schema_names::names::Names;
+use resolved_types::resolving::resolve_types;
+use resolved_types::types::ResolvedTypes;
 use std::alloc::{AllocError, Global};
 use std::hash::RandomState;
-use step_literals::literal::Word;
 
-/// A name, and what is wrong with it.
-#[derive(Clone, Copy)]
-struct Faulty<'a> {
-    kind: NameFault,
-    name: Word<'a>,
-}
-
-/// The fault that is answered, where there is one: the least, at its first name in the text.
-fn first_fault<'a>(
+/// What a schema says, where its types are these. Names are hashed by these keys.
+fn type_graph<'t, 'a>(
     alloc: Global,
     keys: RandomState,
-    names: &Names<'_, 'a>,
-    above: &[Vec<u32>],
-) -> Result<Option<Faulty<'a>>, AllocError>
-    requires { AreAbove (schema_of names.now.schema.now) (graph_of above.now) }
-    ensures { IfOk result (IsFound (schema_of names.now.schema.now)) }
+    types: ResolvedTypes<'t, 'a>,
+) -> Result<TypeGraph<'t, 'a>, AllocError>
+    requires { IsMade types }
+    ensures { IfOk result (λ g. g.types ≡ types.entry) }
 {
-    if let Err(name) = check_demands(names, above) {
-        let kind = NameFault::UnknownName;
-        return Ok(Some(Faulty { kind, name }));
-    }
-    if let Some(name) = first_duplicate(alloc, keys, names)? {
-        let kind = NameFault::DuplicateName;
-        return Ok(Some(Faulty { kind, name }));
-    }
-    if let Some(name) = first_own_supertype(alloc, names)? {
-        let kind = NameFault::SupertypeCycle;
-        return Ok(Some(Faulty { kind, name }));
-    }
-    if let Some(name) = first_own_part(alloc, names)? {
-        let kind = NameFault::TypeCycle;
-        return Ok(Some(Faulty { kind, name }));
-    }
-    Ok(None)
-}
-
-/// What is found of a schema: its types, or a name with what is wrong with it.
-enum Resolution<'t, 'a> {
-    Resolved(TypeGraph<'t, 'a>),
-    Faulty(Faulty<'a>),
-}
-
-/// The types of a schema, or the fault that is answered.
-fn try_resolve<'t, 'a>(
-    alloc: Global,
-    keys: RandomState,
-    schema: &'t SchemaTree<'a>,
-) -> Result<Resolution<'t, 'a>, AllocError>
-    ensures { IfOk result (IsResolution schema.entry.now) }
-{
-    let names = Names::of(alloc, keys, schema)?;
-    let supertypes = supertype_graph(alloc, &names)?;
-    let above = closure(alloc, &supertypes)?;
-    if let Some(faulty) = first_fault(alloc, keys, &names, &above)? {
-        return Ok(Resolution::Faulty(faulty));
-    }
-    let graph = type_graph(alloc, keys, names, &supertypes, above)?;
-    Ok(Resolution::Resolved(graph))
-}
-
-/// The fault that says what is wrong with a name; where there is no memory for it, that.
-fn name_fault(alloc: Global, faulty: Faulty<'_>) -> SchemaFault
-    ensures { IsSaid faulty.entry.kind (capitals faulty.entry.name) result }
-{
-    match in_capitals(alloc, faulty.name) {
-        Ok(name) => SchemaFault::Name {
-            kind: faulty.kind,
-            name,
-        },
-        Err(_) => SchemaFault::Memory,
-    }
+    let judged = judge(alloc, keys, &types.names, &types.above)?;
+    Ok(TypeGraph { types, judged })
 }
 
 /// The types of a schema, where its names are resolved (ISO 10303-11, 8, 9 and 10).
@@ -112,13 +42,13 @@ pub fn resolve<'t, 'a>(
 ) -> Result<TypeGraph<'t, 'a>, SchemaFault>
     ensures resolved { MatchResult result (λ g. IsResolved (schema_of schema.entry.now))
         (IsNameFault (schema_of schema.entry.now)) }
-    ensures same { IfOk result (λ g. g.names.schema.now ≡ schema.entry.now) }
+    ensures same { IfOk result (λ g. g.types.names.schema.now ≡ schema.entry.now) }
     // Its tables are those of the schema.
-    ensures made { IfOk result IsMade }
+    ensures made { IfOk result (λ g. IsMade g.types) }
 {
-    match try_resolve(alloc, keys, schema) {
-        Ok(Resolution::Resolved(graph)) => Ok(graph),
-        Ok(Resolution::Faulty(faulty)) => Err(name_fault(alloc, faulty)),
+    let types = resolve_types(alloc, keys, schema)?;
+    match type_graph(alloc, keys, types) {
+        Ok(graph) => Ok(graph),
         Err(_) => Err(SchemaFault::Memory),
     }
 }

@@ -11,7 +11,7 @@ use Rattle.type_graphs.specs.Faults.{IsResolved}
 use Rattle.schema_names.specs.Numbers.{number_of, HasNumber}
 use Rattle.schema_names.proofs.Numbers.{stands-at}
 use Rattle.schema_names.proofs.Edges.{within}
-use Rattle.schema_demands.specs.Above.{AreAbove}
+use Rattle.own_attributes.specs.Above.{AreAbove}
 use Rattle.base_types.specs.Seen.{name_at}
 use Rattle.conformance.specs.Fitting.{among, entity_names}
 use Rattle.conformance.specs.Entities.{Entities, AreEntities, is_abstract, is_abstract_in, is_leaf, how_many, one_ofs, abstract_leaves, missing_supertypes, broken_one_ofs}

@@ -11,7 +11,7 @@ use Rattle.type_graphs.proofs.Bools.{or-left, or-right}
 use Rattle.type_graphs.proofs.Recursion.{make_places, solution}
 use Rattle.schema_names.specs.Numbers.{number_of, HasNumber}
 use Rattle.schema_names.proofs.Numbers.{each-number}
-use Rattle.schema_demands.specs.Above.{AreAbove}
+use Rattle.own_attributes.specs.Above.{AreAbove}
 use Rattle.attribute_uses.specs.Uses.{AreSaid}
 use Rattle.conformance.specs.Entities.{Entities, AreEntities}
 use Rattle.instance_forms.proofs.Kindred.{either, below-entity, above-forth, above-back}

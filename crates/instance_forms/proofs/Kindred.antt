@@ -12,7 +12,7 @@ use Rattle.type_graphs.proofs.Recursion.{supertype-is-entity}
 use Rattle.schema_names.specs.Numbers.{HasNumber}
 use Rattle.schema_names.proofs.Numbers.{one-name}
 use Rattle.schema_names.proofs.Edges.{below-forth, below-back}
-use Rattle.schema_demands.specs.Above.{AreAbove}
+use Rattle.own_attributes.specs.Above.{AreAbove}
 use Rattle.conformance.specs.Entities.{Entities, AreEntities}
 use Rattle.instance_forms.proofs.Naming.{same-test, same-number, equals-itself, one-number-of}
 

@@ -5,7 +5,7 @@ use Rattle.express_schemas.specs.Schemas.{Schema, Declaration, type, entity, ski
 use Rattle.type_graphs.specs.Names.{Name}
 use Rattle.express_schemas.specs.SchemaViews.{schema_of}
 use Rattle.type_graphs.specs.Faults.{IsResolved}
-use Rattle.schema_demands.specs.Above.{AreAbove}
+use Rattle.own_attributes.specs.Above.{AreAbove}
 use Rattle.schema_names.specs.Numbers.{number_of}
 use Rattle.attribute_places.specs.Places.{places_of, all_places, AreRows, HavePlaces}
 use Rattle.attribute_uses.specs.Uses.{AreUses}

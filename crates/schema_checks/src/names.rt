@@ -4,8 +4,8 @@ use crate::schemas::{GEO, SKIPPED, joined};
 use attribute_places::attributes::Place;
 use express_schemas::fault::{NameFault, SchemaFault};
 use express_text::read_schema;
-use express_types::graph::TypeGraph;
-use express_types::resolving::resolve;
+use resolved_types::resolving::resolve_types;
+use resolved_types::types::ResolvedTypes;
 use std::alloc::{AllocError, Global};
 use std::hash::RandomState;
 use std::test::Fail;
@@ -76,7 +76,7 @@ fn is_answered(alloc: Global, keys: RandomState, row: FaultRow) -> bool {
     let Ok(schema) = read_schema(alloc, text) else {
         return false;
     };
-    match resolve(alloc, keys, &schema) {
+    match resolve_types(alloc, keys, &schema) {
         Err(SchemaFault::Name { kind, name }) => kind == wanted && name.as_str() == called,
         _ => false,
     }
@@ -99,11 +99,11 @@ fn faults_of_names_are_the_least(rt: HostRuntime) -> Result<(), Fail> {
 }
 
 // The number of an entity of this name.
-fn number(graph: &TypeGraph<'_, '_>, name: &[u8]) -> Option<u32> {
+fn number(types: &ResolvedTypes<'_, '_>, name: &[u8]) -> Option<u32> {
     let Ok(word) = Word::read(name) else {
         return None;
     };
-    graph.find(word)
+    types.find(word)
 }
 
 fn is_place(place: &Place<'_>, entity: &[u8], attribute: &[u8]) -> bool {
@@ -126,24 +126,24 @@ fn are_places(places: &[Place<'_>], numbers: &[u32], wanted: &[(&[u8], &[u8])]) 
     true
 }
 
-fn has_places(graph: &TypeGraph<'_, '_>, name: &[u8], wanted: &[(&[u8], &[u8])]) -> bool {
-    let Some(number) = number(graph, name) else {
+fn has_places(types: &ResolvedTypes<'_, '_>, name: &[u8], wanted: &[(&[u8], &[u8])]) -> bool {
+    let Some(number) = number(types, name) else {
         return false;
     };
-    if (number as usize) >= graph.names.schema.declarations.len() {
+    if (number as usize) >= types.names.schema.declarations.len() {
         return false;
     }
-    are_places(&graph.places.attributes, graph.places(number), wanted)
+    are_places(&types.places.attributes, types.places(number), wanted)
 }
 
-fn is_kind(graph: &TypeGraph<'_, '_>, lower: &[u8], upper: &[u8]) -> bool {
-    let (Some(lower), Some(upper)) = (number(graph, lower), number(graph, upper)) else {
+fn is_kind(types: &ResolvedTypes<'_, '_>, lower: &[u8], upper: &[u8]) -> bool {
+    let (Some(lower), Some(upper)) = (number(types, lower), number(types, upper)) else {
         return false;
     };
-    if (lower as usize) >= graph.names.schema.declarations.len() {
+    if (lower as usize) >= types.names.schema.declarations.len() {
         return false;
     }
-    graph.is_kind_of(lower, upper)
+    types.is_kind_of(lower, upper)
 }
 
 #[test]
@@ -154,18 +154,18 @@ fn geo_is_resolved(rt: HostRuntime) -> Result<(), Fail> {
     let Ok(schema) = read_schema(alloc, &text) else {
         panic!(rt; "no schema");
     };
-    let Ok(graph) = resolve(alloc, keys, &schema) else {
+    let Ok(types) = resolve_types(alloc, keys, &schema) else {
         panic!(rt; "names that aren't resolved");
     };
     assert!(rt;
         has_places(
-            &graph,
+            &types,
             b"plain_mark",
             &[(b"shape", b"label"), (b"marked", b"look")]
         )
     );
-    assert!(rt; is_kind(&graph, b"plain_mark", b"shape") && is_kind(&graph, b"loop", b"loop"));
-    assert!(rt; !is_kind(&graph, b"shape", b"plain_mark") && !is_kind(&graph, b"loop", b"group"));
+    assert!(rt; is_kind(&types, b"plain_mark", b"shape") && is_kind(&types, b"loop", b"loop"));
+    assert!(rt; !is_kind(&types, b"shape", b"plain_mark") && !is_kind(&types, b"loop", b"group"));
     Ok(())
 }
 
@@ -180,10 +180,10 @@ fn places_come_once(rt: HostRuntime) -> Result<(), Fail> {
     let Ok(schema) = read_schema(alloc, DIAMOND) else {
         panic!(rt; "no schema");
     };
-    let Ok(graph) = resolve(alloc, keys, &schema) else {
+    let Ok(types) = resolve_types(alloc, keys, &schema) else {
         panic!(rt; "names that aren't resolved");
     };
     let wanted: &[(&[u8], &[u8])] = &[(b"a", b"x"), (b"b", b"y"), (b"c", b"z"), (b"d", b"w")];
-    assert!(rt; has_places(&graph, b"d", wanted));
+    assert!(rt; has_places(&types, b"d", wanted));
     Ok(())
 }

@@ -13,12 +13,13 @@ use Rattle.type_graphs.proofs.Lists.{first-step}
 use Rattle.schema_names.specs.Numbers.{number_of, HasNumber}
 use Rattle.schema_names.proofs.Numbers.{one-name, each-number}
 use Rattle.schema_names.proofs.Edges.{below-forth, below-back}
-use Rattle.schema_demands.specs.declared.attributes.Meant.TheVariants.{All, Explicit}
-use Rattle.schema_demands.specs.Above.{AreAbove}
+use Rattle.own_attributes.specs.declared.attributes.Meant.TheVariants.{All, Explicit}
+use Rattle.own_attributes.specs.Above.{AreAbove}
 use Rattle.schema_demands.specs.Checks.{IsFirstUnmet}
-use Rattle.schema_demands.specs.Owned.{has_meant, HasMeant}
-use Rattle.schema_demands.specs.Kinds.{is_or_leads, is_kind, is_inherited_at, is_inherited, is_inverted_at, is_inverted}
-use Rattle.schema_demands.proofs.Having.{right-holds, has-none, has-forth, has-back}
+use Rattle.own_attributes.specs.Owned.{has_meant, HasMeant}
+use Rattle.schema_demands.specs.Kinds.{is_kind, is_inherited_at, is_inherited, is_inverted_at, is_inverted}
+use Rattle.own_attributes.specs.Above.{is_or_leads}
+use Rattle.own_attributes.proofs.Having.{right-holds, has-none, has-forth, has-back}
 
 both : (p q : Bool) → (p && q) ≡ true → (p ≡ true) × (q ≡ true)
 both true q e = (refl, e)

@@ -1,17 +1,13 @@
 -- Kinds and attributes by number, over the rows of all that SUBTYPE OF leads to.
-use Rattle.std.specs.Prelude.{ℕ, Bool, false, ◌||◌, ◌&&◌, List, Option, None, Some, eqb}
+use Rattle.std.specs.Prelude.{ℕ, Bool, false, ◌&&◌, List, Option, None, Some}
 use Rattle.std.specs.List.{list_any}
-use Rattle.digraph.specs.Graphs.{Graph, has, next}
+use Rattle.digraph.specs.Graphs.{Graph}
 use Rattle.express_schemas.specs.Schemas.{Schema}
 use Rattle.type_graphs.specs.Names.{Name}
 use Rattle.schema_names.specs.Numbers.{number_of}
-use Rattle.schema_demands.specs.declared.attributes.Meant.TheVariants.{All, Explicit}
-use Rattle.schema_demands.specs.Owned.{has_meant}
-
--- whether two numbers are one, or the rows lead from the one to the other; never from no number
-abbrev pub is_or_leads : Graph → Option ℕ → ℕ → Bool
-is_or_leads above None j = false
-is_or_leads above (Some i) j = eqb i j || has (next above i) j
+use Rattle.own_attributes.specs.declared.attributes.Meant.TheVariants.{All, Explicit}
+use Rattle.own_attributes.specs.Above.{is_or_leads}
+use Rattle.own_attributes.specs.Owned.{has_meant}
 
 -- whether a name is a kind of what has the number j
 abbrev pub is_kind : Schema → Graph → ℕ → Name → Bool

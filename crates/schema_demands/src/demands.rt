@@ -6,7 +6,7 @@ ghost use Rattle.express_schemas.specs.Views.{declaration_of as declaration_seen
 ghost use Rattle.express_schemas.specs.SchemaViews.{schema_of};
 ghost use Rattle.type_graphs.specs.Faults.{demands_of_declaration, demands};
 ghost use Rattle.schema_demands.specs.Checks.{Checks};
-ghost use Rattle.schema_demands.specs.Above.{AreAbove};
+ghost use Rattle.own_attributes.specs.Above.{AreAbove};
 
 use crate::entities::check_entity_declaration;
 use crate::types::check_underlying;

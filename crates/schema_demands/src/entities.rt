@@ -17,7 +17,7 @@ ghost use Rattle.type_graphs.specs.Faults.{
   demands_of_entity,
 };
 ghost use Rattle.schema_demands.specs.Checks.{Checks};
-ghost use Rattle.schema_demands.specs.Above.{AreAbove};
+ghost use Rattle.own_attributes.specs.Above.{AreAbove};
 ghost use Rattle.schema_demands.specs.Clauses.{
   of_subtype_clause,
   of_explicit_clauses,

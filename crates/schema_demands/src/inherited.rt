@@ -4,9 +4,9 @@ ghost use Rattle.std.specs.Prelude.{◌≡◌};
 ghost use Rattle.digraph.specs.Graphs.{graph_of};
 ghost use Rattle.express_trees.specs.Views.{capitals};
 ghost use Rattle.express_schemas.specs.SchemaViews.{schema_of};
-ghost use Rattle.schema_demands.specs.Owned.{has_meant};
+ghost use Rattle.own_attributes.specs.Owned.{has_meant};
 
-use crate::attributes::{Meant, declares_at};
+use own_attributes::attributes::{Meant, declares_at};
 use schema_names::names::Names;
 use step_literals::literal::Word;
 

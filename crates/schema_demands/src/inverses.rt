@@ -7,7 +7,7 @@ ghost use Rattle.express_schemas.specs.Views.{inverse_of};
 ghost use Rattle.express_schemas.specs.SchemaViews.{schema_of};
 ghost use Rattle.type_graphs.specs.Faults.{inverted};
 ghost use Rattle.schema_demands.specs.Checks.{Checks};
-ghost use Rattle.schema_demands.specs.Above.{AreAbove};
+ghost use Rattle.own_attributes.specs.Above.{AreAbove};
 ghost use Rattle.schema_demands.specs.Clauses.{demands_of_inverted, demands_of_own_inverse};
 
 use crate::kinds::is_inverted;

@@ -6,10 +6,11 @@ ghost use Rattle.digraph.specs.Graphs.{graph_of};
 ghost use Rattle.express_trees.specs.Views.{capitals};
 ghost use Rattle.express_schemas.specs.Views.{names_of};
 ghost use Rattle.express_schemas.specs.SchemaViews.{schema_of};
-ghost use Rattle.schema_demands.specs.Kinds.{is_or_leads, is_kind, is_inherited, is_inverted};
+ghost use Rattle.schema_demands.specs.Kinds.{is_kind, is_inherited, is_inverted};
+ghost use Rattle.own_attributes.specs.Above.{is_or_leads};
 
-use crate::attributes::Meant;
 use crate::inherited::has;
+use own_attributes::attributes::Meant;
 use schema_names::names::Names;
 use step_literals::literal::Word;
 

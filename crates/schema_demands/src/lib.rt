@@ -1,7 +1,6 @@
 //! What the names of a schema are asked to be where they stand (ISO 10303-11, 8 and 9).
 #![tactic(auto)]
 
-pub mod attributes;
 pub mod demands;
 mod entities;
 mod inherited;

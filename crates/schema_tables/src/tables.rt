@@ -1,7 +1,7 @@
 //! The tables of a schema.
 
 ghost use Rattle.std.specs.Prelude.{◌≡◌, IfOk};
-ghost use Rattle.express_types.specs.Made.{IsMade};
+ghost use Rattle.resolved_types.specs.Made.{IsMade};
 ghost use Rattle.base_types.specs.Tables.{AreBases};
 ghost use Rattle.instance_forms.specs.Knowing.{AreKnown};
 ghost use Rattle.schema_tables.specs.Tables.{AreTables};
@@ -13,9 +13,9 @@ use attribute_uses::uses::{Sources, Uses, attribute_uses};
 use base_types::lookup::Bases;
 use base_types::table::{BaseTypes, base_types};
 use data_types::forms::data_types;
-use express_types::graph::TypeGraph;
 use instance_forms::knowledge::Knowledge;
 use instance_forms::making::one_ofs;
+use resolved_types::types::ResolvedTypes;
 use schema_names::graphs::{part_graph, supertype_graph};
 use std::alloc::{AllocError, Global};
 
@@ -32,11 +32,11 @@ pub struct SchemaTables {
 
 impl SchemaTables {
     /// The tables of a schema whose types are these.
-    pub fn of(alloc: Global, graph: &TypeGraph<'_, '_>) -> Result<SchemaTables, AllocError>
-        requires made { IsMade graph.now }
-        ensures { IfOk result (AreTables graph.now) }
+    pub fn of(alloc: Global, types: &ResolvedTypes<'_, '_>) -> Result<SchemaTables, AllocError>
+        requires made { IsMade types.now }
+        ensures { IfOk result (AreTables types.now) }
     {
-        let names = &graph.names;
+        let names = &types.names;
         let forms = data_types(alloc, names)?;
         let parts = part_graph(alloc, names)?;
         let base_types = base_types(alloc, names, &forms, &parts)?;
@@ -65,30 +65,33 @@ impl SchemaTables {
     }
 
     /// What is asked of values.
-    pub fn bases<'r, 't, 'a>(&'r self, graph: &'r TypeGraph<'t, 'a>) -> Bases<'r, 't, 'a>
-        requires made { IsMade graph.now }
-        requires tables { AreTables graph.now self.now }
+    pub fn bases<'r, 't, 'a>(&'r self, types: &'r ResolvedTypes<'t, 'a>) -> Bases<'r, 't, 'a>
+        requires made { IsMade types.now }
+        requires tables { AreTables types.now self.now }
         ensures bases { AreBases result }
-        ensures same { result.names.now ≡ graph.now.names }
+        ensures same { result.names.now ≡ types.now.names }
     {
         Bases {
-            names: &graph.names,
+            names: &types.names,
             table: &self.base_types,
         }
     }
 
     /// What is asked of instances.
-    pub fn knowledge<'r, 't, 'a>(&'r self, graph: &'r TypeGraph<'t, 'a>) -> Knowledge<'r, 't, 'a>
-        requires made { IsMade graph.now }
-        requires tables { AreTables graph.now self.now }
+    pub fn knowledge<'r, 't, 'a>(
+        &'r self,
+        types: &'r ResolvedTypes<'t, 'a>,
+    ) -> Knowledge<'r, 't, 'a>
+        requires made { IsMade types.now }
+        requires tables { AreTables types.now self.now }
         ensures known { AreKnown result }
-        ensures same { result.names.now ≡ graph.now.names }
+        ensures same { result.names.now ≡ types.now.names }
     {
         Knowledge {
-            names: &graph.names,
-            above: &graph.above,
-            attributes: &graph.places.attributes,
-            places: &graph.places.rows,
+            names: &types.names,
+            above: &types.above,
+            attributes: &types.places.attributes,
+            places: &types.places.rows,
             own: &self.own,
             uses: &self.uses,
             one_ofs: &self.one_ofs,

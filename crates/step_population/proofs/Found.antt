@@ -139,10 +139,10 @@ pub record IsKept (p : Population) : Type 0 where
   pub sections : length (section_numbers 0 0 p.exchange.now.sections.items) ≡ length p.exchange.now.names
   pub forms : length p.rows.form_of.items ≡ length p.exchange.now.names
   pub values : length p.values.rows ≡ length p.exchange.now.names
-  pub placed : Every (λ o. ArePlaced (schema_of p.graph.now.names.schema.now) (form_among p.rows.forms.items o))
+  pub placed : Every (λ o. ArePlaced (schema_of p.types.now.names.schema.now) (form_among p.rows.forms.items o))
       p.rows.form_of.items
-  pub one : AreOne (all_places (schema_of p.graph.now.names.schema.now))
-  pub numbered : Every (AreNumbered (schema_of p.graph.now.names.schema.now)) p.rows.forms.items
+  pub one : AreOne (all_places (schema_of p.types.now.names.schema.now))
+  pub numbered : Every (AreNumbered (schema_of p.types.now.names.schema.now)) p.rows.forms.items
   pub refers : ReferTo p.exchange.now.names p.values.rows
 
 pub kept : (p : Population) → IsKept p
@@ -152,11 +152,11 @@ kept p = record {
       (λ c. all-numbers p.exchange.now.sections.items (length p.exchange.now.names) c);
   forms = ∥∥₁_elim p.whole (ℕ_set _ _) (λ w. w.forms);
   values = ∥∥₁_elim p.whole (ℕ_set _ _) (λ w. w.values);
-  placed = ∥∥₁_elim p.whole (every-prop _ (λ o. placed-prop (schema_of p.graph.now.names.schema.now)
+  placed = ∥∥₁_elim p.whole (every-prop _ (λ o. placed-prop (schema_of p.types.now.names.schema.now)
       (form_among p.rows.forms.items o)) p.rows.form_of.items) (λ w. w.placed);
-  one = λ a b q e f. ∥∥₁_elim p.graph.now.resolved (ℕ_set _ _)
-      (λ r. places-are-one (schema_of p.graph.now.names.schema.now) r.once a b q e f);
-  numbered = ∥∥₁_elim p.whole (every-prop _ (numbered-prop (schema_of p.graph.now.names.schema.now)) p.rows.forms.items)
+  one = λ a b q e f. ∥∥₁_elim p.types.now.resolved (ℕ_set _ _)
+      (λ r. places-are-one (schema_of p.types.now.names.schema.now) r.once a b q e f);
+  numbered = ∥∥₁_elim p.whole (every-prop _ (numbered-prop (schema_of p.types.now.names.schema.now)) p.rows.forms.items)
       (λ w. w.numbered);
   refers = named-rows p.exchange.now.names p.values.rows
       (∥∥₁_elim p.whole (all-there-prop p.exchange.now.names p.values.rows)
@@ -384,7 +384,7 @@ module _ (s : Schema) where
 -- the value and the types of an instance of a population, by its row
 module _ (p : Population) where
   abbrev pub schema_seen : Schema
-  schema_seen = schema_of p.graph.now.names.schema.now
+  schema_seen = schema_of p.types.now.names.schema.now
 
   is-kept : IsKept p
   is-kept = kept p

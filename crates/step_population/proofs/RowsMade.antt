@@ -181,17 +181,17 @@ picked-length orders (o ∷ os) (vs ∷ vss) h = ap suc (picked-length orders os
 
 -- the rows that a population is made into
 module _ (p : Population) (forms : List Form) (forms-are : forms ≡ p.rows.forms.items) (orders : List Order)
-    (ordered : AreOrders (schema_of p.graph.now.names.schema.now) forms orders) (ns : List ℕ)
+    (ordered : AreOrders (schema_of p.types.now.names.schema.now) forms orders) (ns : List ℕ)
     (names-are : ns ≡ p.exchange.now.names) (ks : List ℕ)
     (sections-are : ks ≡ section_numbers 0 0 p.exchange.now.sections.items) (os : List (Option ℕ))
     (numbers-are : os ≡ p.rows.form_of.items) (hs : List RowHead) (heads : AreHeads orders ks ns os hs) where
   pub made-rows : (rows : List Values) → rows ≡ rows_picked orders p.rows.form_of.items p.values.rows → (qs : List Row)
       → AllZip IsSettled (rows_from hs rows) qs
-      → AreRowsOf (schema_of p.graph.now.names.schema.now) (population_seen p) qs
+      → AreRowsOf (schema_of p.types.now.names.schema.now) (population_seen p) qs
   made-rows rows made qs z =
       let k = kept p in
-      rows-are (schema_of p.graph.now.names.schema.now) k.one p.rows.forms.items orders
-      (subst (λ fs. AreOrders (schema_of p.graph.now.names.schema.now) fs orders) forms-are ordered)
+      rows-are (schema_of p.types.now.names.schema.now) k.one p.rows.forms.items orders
+      (subst (λ fs. AreOrders (schema_of p.types.now.names.schema.now) fs orders) forms-are ordered)
       p.exchange.now.names (section_numbers 0 0 p.exchange.now.sections.items) p.rows.form_of.items p.values.rows hs qs
       k.values
       (subst (λ ys. AreHeads orders (section_numbers 0 0 p.exchange.now.sections.items) ys p.rows.form_of.items hs) names-are

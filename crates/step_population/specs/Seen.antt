@@ -51,7 +51,7 @@ section_numbers from k (x ∷ xs) = repeat (x.past - from) (k ∷ []) ++ section
 
 abbrev pub population_seen : Population → List Instance
 population_seen p =
-    instances_seen (schema_of p.graph.now.names.schema.now) p.rows.forms.items p.exchange.now.names
+    instances_seen (schema_of p.types.now.names.schema.now) p.rows.forms.items p.exchange.now.names
     (section_numbers 0 0 p.exchange.now.sections.items) p.rows.form_of.items p.values.rows
 
 -- how many nodes the values of instances have

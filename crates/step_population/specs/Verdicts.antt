@@ -2,7 +2,7 @@
 use Rattle.std.specs.Prelude.{◌≡◌, ◌≢◌, List, []}
 use Rattle.express_schemas.specs.Schemas.{Schema}
 use Rattle.express_schemas.specs.SchemaViews.{schema_of}
-use Rattle.express_types.specs.declared.graph.TypeGraph.{TypeGraph}
+use Rattle.resolved_types.specs.declared.types.ResolvedTypes.{ResolvedTypes}
 use Rattle.step_structures.specs.Trees.{File}
 use Rattle.conformance.specs.Bases.{Domain, IsDomain}
 use Rattle.conformance.specs.Entities.{Entities, AreEntities}
@@ -26,7 +26,7 @@ IsFaulty s f fs = (d : Domain) × (en : Entities) × IsDomain s d × AreEntities
     × (fs ≡ findings s d en f) × (fs ≢ [])
 
 -- .. of an exchange structure, by the types of its schema
-abbrev pub IsVerdict : TypeGraph → Exchange → Verdict → Type 0
-IsVerdict g x (Typed p) = (p.graph.now ≡ g) × (p.exchange.now ≡ x)
-    × IsTyped (schema_of g.names.schema.now) (structure x) (population_seen p)
-IsVerdict g x (Faulty fs) = IsFaulty (schema_of g.names.schema.now) (structure x) fs.items
+abbrev pub IsVerdict : ResolvedTypes → Exchange → Verdict → Type 0
+IsVerdict t x (Typed p) = (p.types.now ≡ t) × (p.exchange.now ≡ x)
+    × IsTyped (schema_of t.names.schema.now) (structure x) (population_seen p)
+IsVerdict t x (Faulty fs) = IsFaulty (schema_of t.names.schema.now) (structure x) fs.items

@@ -181,10 +181,10 @@ impl<'r, 't, 's: 'r, 'a> Population<'r, 't, 's, 'a> {
     ///
     /// `AllocError` comes where memory runs out.
     pub fn plain(&self, alloc: Global, keys: RandomState) -> Result<Plain<'r>, AllocError>
-        ensures { IfOk result (λ p. AreRowsOf (schema_of self.now.graph.now.names.schema.now)
+        ensures { IfOk result (λ p. AreRowsOf (schema_of self.now.types.now.names.schema.now)
             (population_seen self.now) p) }
     {
-        let types = &self.graph.names;
+        let types = &self.types.names;
         let explicit = explicit_attributes(alloc, types.schema)?;
         let orders = orders(alloc, types, &explicit.own, &self.rows.forms)?;
         let names = self.exchange.names.as_slice();

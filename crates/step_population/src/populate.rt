@@ -1,16 +1,16 @@
 //! Whether an exchange structure conforms to a schema, and its population.
 
 ghost use Rattle.std.specs.Prelude.{IfOk};
-ghost use Rattle.express_types.specs.Made.{IsMade};
+ghost use Rattle.resolved_types.specs.Made.{IsMade};
 ghost use Rattle.step_population.specs.Verdicts.{IsVerdict};
 
 use crate::building::values_of;
 use crate::population::Population;
 use conformance::finding::Finding;
-use express_types::graph::TypeGraph;
 use file_findings::findings::findings;
 use file_findings::rows::rows_of;
 use instance_forms::making::entities_are_said;
+use resolved_types::types::ResolvedTypes;
 use schema_tables::tables::SchemaTables;
 use std::alloc::{AllocError, Global};
 use std::hash::RandomState;
@@ -32,15 +32,15 @@ pub enum Verdict<'r, 't, 's, 'a> {
 pub fn populate<'r, 't, 's, 'a>(
     alloc: Global,
     keys: RandomState,
-    graph: &'r TypeGraph<'t, 's>,
+    types: &'r ResolvedTypes<'t, 's>,
     exchange: &'r Exchange<'a>,
 ) -> Result<Verdict<'r, 't, 's, 'a>, AllocError>
-    requires made { IsMade graph.now }
-    ensures { IfOk result (IsVerdict graph.now exchange.now) }
+    requires made { IsMade types.now }
+    ensures { IfOk result (IsVerdict types.now exchange.now) }
 {
-    let tables = SchemaTables::of(alloc, &*graph)?;
-    let known = tables.knowledge(&*graph);
-    let bases = tables.bases(&*graph);
+    let tables = SchemaTables::of(alloc, &*types)?;
+    let known = tables.knowledge(&*types);
+    let bases = tables.bases(&*types);
     entities_are_said(known);
     let rows = rows_of(alloc, keys, known, &*exchange)?;
     let found = findings(alloc, known, bases, &rows, &*exchange)?;
@@ -50,7 +50,7 @@ pub fn populate<'r, 't, 's, 'a>(
     }
     let values = values_of(alloc, bases, &rows, exchange)?;
     Ok(Verdict::Typed(Population {
-        graph,
+        types,
         exchange,
         rows,
         values,

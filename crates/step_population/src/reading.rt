@@ -41,10 +41,10 @@ impl<'r, 't, 's, 'a> Population<'r, 't, 's, 'a> {
     /// The value that the instance of a name has of the attribute of this number; none where there
     /// is no such instance or attribute, or it has no value of it. It takes no memory.
     pub fn value(&self, name: u64, place: u32) -> Option<Slot<'_, 'r>>
-        ensures there { place < length (all_places (schema_of self.now.graph.now.names.schema.now))
+        ensures there { place < length (all_places (schema_of self.now.types.now.names.schema.now))
             → result ≡ value_of (population_seen self.now) name
-            (place_at (schema_of self.now.graph.now.names.schema.now) place) }
-        ensures beyond { length (all_places (schema_of self.now.graph.now.names.schema.now)) ≤ place
+            (place_at (schema_of self.now.types.now.names.schema.now) place) }
+        ensures beyond { length (all_places (schema_of self.now.types.now.names.schema.now)) ≤ place
             → result ≡ None }
     {
         let Some(row) = self.rows.index.find(name) else {
@@ -62,7 +62,7 @@ impl<'r, 't, 's, 'a> Population<'r, 't, 's, 'a> {
     /// The numbers of the types of the instance of a name, in the order of the schema; none where
     /// there is no such instance. It takes no memory.
     pub fn types_of(&self, name: u64) -> &[u32]
-        ensures { map (name_at (schema_of self.now.graph.now.names.schema.now)) result.now
+        ensures { map (name_at (schema_of self.now.types.now.names.schema.now)) result.now
             ≡ types_at (population_seen self.now) name }
     {
         let Some(row) = self.rows.index.find(name) else {

@@ -6,7 +6,6 @@ ghost use Rattle.std.specs.Str.{bytes_eq};
 
 mod checks;
 mod lines;
-mod populations;
 mod sources;
 mod texts;
 

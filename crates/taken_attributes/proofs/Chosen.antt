@@ -11,8 +11,8 @@ use Rattle.type_graphs.specs.Sets.{of_set, of_entity, MayTake, TakesTwo, IsUncle
 use Rattle.type_graphs.proofs.Lists.{first-step}
 use Rattle.schema_names.specs.Numbers.{number_of, HasNumber}
 use Rattle.schema_names.proofs.Numbers.{one-name, each-number}
-use Rattle.schema_demands.specs.Above.{AreAbove}
-use Rattle.schema_demands.specs.Kinds.{is_or_leads}
+use Rattle.own_attributes.specs.Above.{AreAbove}
+use Rattle.own_attributes.specs.Above.{is_or_leads}
 use Rattle.declared_attributes.specs.declared.declaration.AttributeDeclaration.{AttributeDeclaration}
 use Rattle.declared_attributes.specs.Declarations.{AreDeclarations, IsDeclaredBy}
 use Rattle.taken_attributes.specs.Entities.{OfNumbers}

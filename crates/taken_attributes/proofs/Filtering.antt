@@ -5,7 +5,7 @@ use Rattle.std.proofs.Common.{refl, inl, inr, ap, sym, subst, ◌∙◌, arith}
 use Rattle.digraph.proofs.Searching.{either, left-holds}
 use Rattle.type_graphs.specs.Names.{OneOf, Among}
 use Rattle.schema_names.proofs.Rows.{take-more, filter-joined}
-use Rattle.schema_demands.proofs.Having.{right-holds}
+use Rattle.own_attributes.proofs.Having.{right-holds}
 
 pub some-is : {A : Type 0} (x y : A) → Some x ≡ Some y → x ≡ y
 some-is x y h = cc

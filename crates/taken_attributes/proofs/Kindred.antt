@@ -15,9 +15,9 @@ use Rattle.schema_names.specs.Edges.{supertypes_in}
 use Rattle.schema_names.proofs.Numbers.{one-name, each-number}
 use Rattle.schema_names.proofs.Edges.{below-forth, below-back}
 use Rattle.attribute_places.proofs.OwnNumbers.{own-number-of}
-use Rattle.schema_demands.specs.Above.{AreAbove}
-use Rattle.schema_demands.specs.Kinds.{is_or_leads}
-use Rattle.schema_demands.proofs.Having.{right-holds}
+use Rattle.own_attributes.specs.Above.{AreAbove}
+use Rattle.own_attributes.specs.Above.{is_or_leads}
+use Rattle.own_attributes.proofs.Having.{right-holds}
 use Rattle.data_types.specs.declared.values.Atom.{Atom as Numbered}
 use Rattle.data_types.specs.declared.values.Atom.TheVariants as atoms
 use Rattle.data_types.specs.Values.{Holds}

@@ -2,7 +2,7 @@
 use Rattle.std.specs.Prelude.{ℕ, Bool, false, true, cond, not, ◌&&◌, List, [], ◌∷◌, Option, None, Some, eqb, find, filter}
 use Rattle.std.specs.List.{list_any}
 use Rattle.digraph.specs.Graphs.{Graph}
-use Rattle.schema_demands.specs.Kinds.{is_or_leads}
+use Rattle.own_attributes.specs.Above.{is_or_leads}
 use Rattle.declared_attributes.specs.declared.declaration.AttributeDeclaration.{AttributeDeclaration}
 
 -- whether i is a kind of the entity whose attribute this is

@@ -8,7 +8,7 @@ use Rattle.type_graphs.specs.Faults.{IsResolved}
 use Rattle.type_graphs.specs.Shapes.{Atom}
 use Rattle.type_graphs.specs.Attributes.{Derivation}
 use Rattle.type_graphs.specs.Sets.{Set, AttributeReference, MayTake, IsUnclear, OfTaken, MayUse}
-use Rattle.schema_demands.specs.Above.{AreAbove}
+use Rattle.own_attributes.specs.Above.{AreAbove}
 use Rattle.data_types.specs.declared.values.Atom.{Atom as Numbered}
 use Rattle.data_types.specs.Values.{Holds, AreTables, schema_at}
 use Rattle.declared_attributes.specs.Derivations.{HoldsDerivation}

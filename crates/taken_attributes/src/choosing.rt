@@ -3,7 +3,7 @@
 ghost use Rattle.std.specs.Prelude.{◌≡◌, not, Some, IfOk};
 ghost use Rattle.std.specs.List.{list_any};
 ghost use Rattle.digraph.specs.Graphs.{graph_of};
-ghost use Rattle.schema_demands.specs.Kinds.{is_or_leads};
+ghost use Rattle.own_attributes.specs.Above.{is_or_leads};
 ghost use Rattle.taken_attributes.specs.Choosing.{
   is_of_any,
   of_entities,

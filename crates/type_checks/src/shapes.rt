@@ -49,13 +49,13 @@ fn are_alike(
     let Ok(graph) = resolve(alloc, keys, schema) else {
         return None;
     };
-    let Ok(data_types) = data_types(alloc, &graph.names) else {
+    let Ok(data_types) = data_types(alloc, &graph.types.names) else {
         return None;
     };
-    let Ok(parts) = part_graph(alloc, &graph.names) else {
+    let Ok(parts) = part_graph(alloc, &graph.types.names) else {
         return None;
     };
-    let Ok(shapes) = shapes(alloc, &graph.names, &data_types, &parts) else {
+    let Ok(shapes) = shapes(alloc, &graph.types.names, &data_types, &parts) else {
         return None;
     };
     if (first as usize) >= shapes.len() || (second as usize) >= shapes.len() {

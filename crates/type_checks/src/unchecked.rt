@@ -230,7 +230,7 @@ fn has_rank(graph: &TypeGraph<'_, '_>, row: RankRow) -> bool {
     let Some(number) = graph.find(entity) else {
         return false;
     };
-    if (number as usize) >= graph.names.schema.declarations.len() {
+    if (number as usize) >= graph.types.names.schema.declarations.len() {
         return false;
     }
     graph.rank(number, attribute) == wanted

@@ -130,10 +130,10 @@ fn answers(
     let Ok(graph) = resolve(alloc, keys, schema) else {
         return None;
     };
-    let Ok(supertypes) = supertype_graph(alloc, &graph.names) else {
+    let Ok(supertypes) = supertype_graph(alloc, &graph.types.names) else {
         return None;
     };
-    let Ok(lines) = lines(alloc, &graph.names, &supertypes) else {
+    let Ok(lines) = lines(alloc, &graph.types.names, &supertypes) else {
         return None;
     };
     let number = graph.find(entity)?;
@@ -141,8 +141,8 @@ fn answers(
         return None;
     }
     Some((
-        origin(&graph.names, &lines, number, attribute),
-        inverted(&graph.names, &lines, number, attribute),
+        origin(&graph.types.names, &lines, number, attribute),
+        inverted(&graph.types.names, &lines, number, attribute),
     ))
 }
 

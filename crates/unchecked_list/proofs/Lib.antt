@@ -3,7 +3,5 @@ pub mod Counted
 pub mod Standing
 pub mod Deriving
 pub mod SelfSets
-pub mod Told
-pub mod Members
-pub mod Holding
 pub mod Reshaped
+pub mod Told

@@ -23,7 +23,7 @@ use Rattle.alike_types.specs.Shaped.{IsKnown}
 use Rattle.alike_types.specs.Laws.{DataTypesAreKnown}
 use Rattle.declared_attributes.specs.Redeclaring.{IsRedeclaredAt}
 use Rattle.unchecked_list.specs.Places.{IsDataTypeAt, AreDataTypesAt}
-use Rattle.unchecked_list.proofs.Holding.{written-name}
+use Rattle.unique_attributes.proofs.Holding.{written-name}
 
 -- what stands at a number of a row
 at-row : {A : Type 0} (all : List A) (row : List ℕ) (xs : List A) (j : ℕ) (x : A) → AreAt all row xs

@@ -7,6 +7,5 @@ mod explicits;
 pub mod findings;
 pub mod list;
 mod listing;
-mod naming;
 mod rules;
 mod uniques;

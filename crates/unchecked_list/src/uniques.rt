@@ -1,55 +1,22 @@
 //! Uniqueness rules (ISO 10303-11, 9.2.2.1).
 
-ghost use Rattle.std.specs.Prelude.{◌≡◌, ◌∷◌, [], IfOk, OnOk, map};
+ghost use Rattle.std.specs.Prelude.{◌≡◌, ◌∷◌, [], OnOk, map};
 ghost use Rattle.express_trees.specs.Views.{capitals};
-ghost use Rattle.express_schemas.specs.Views.{attribute_of, unique_of};
+ghost use Rattle.express_schemas.specs.Views.{unique_of};
 ghost use Rattle.type_graphs.specs.Names.{Name, IsEntity};
 ghost use Rattle.type_graphs.specs.Parts.{parts_of_uniques};
 ghost use Rattle.schema_names.specs.Numbers.{HasNumber};
 ghost use Rattle.unchecked_parts.specs.Adding.{Adds, unchecked_in};
 ghost use Rattle.unchecked_list.specs.Findings.{AreFound, schema_found};
-ghost use Rattle.unchecked_list.specs.Naming.{IsNaming, both, reason_by};
+ghost use Rattle.unchecked_list.specs.Listing.{reason_by};
 
 use crate::findings::Findings;
 use crate::listing::{Holder, add_for, rule_label};
-use crate::naming::{Naming, naming_of};
-use express_schemas::tree::{Attribute, Unique};
+use express_schemas::tree::Unique;
 use std::alloc::{AllocError, Global};
 use type_graphs::unchecked::{PartKind, Reason};
 use unchecked_parts::list::Unchecked;
-
-/// What is found of both.
-fn both(first: Naming, second: Naming) -> Naming
-    ensures { result ≡ both first second }
-{
-    Naming {
-        is_other: first.is_other || second.is_other,
-        is_not_one: first.is_not_one || second.is_not_one,
-    }
-}
-
-/// What is found of the attributes in a rule of the entity of this number.
-fn naming_of_all(
-    alloc: Global,
-    findings: Findings<'_, '_, '_>,
-    entity: u32,
-    attributes: &[Attribute<'_>],
-) -> Result<Naming, AllocError>
-    requires found { AreFound findings }
-    ensures { (e : Name) → HasNumber (schema_found findings.entry) e entity
-        → IsEntity (schema_found findings.entry) e
-        → IfOk result (IsNaming (schema_found findings.entry) e (map attribute_of attributes.now)) }
-{
-    let mut found = Naming {
-        is_other: false,
-        is_not_one: false,
-    };
-    for attribute in attributes {
-        let next = naming_of(alloc, findings, entity, *attribute)?;
-        found = both(found, next);
-    }
-    Ok(found)
-}
+use unique_attributes::naming::{Naming, naming_of_all};
 
 /// The reason that is given for what is found, if there is one.
 fn reason_by(naming: Naming) -> Option<Reason>
@@ -80,7 +47,7 @@ fn add_unique(
         (capitals holder.entry.name) number (unique_of unique.now ∷ []))
         (unchecked_in list.old.items) (unchecked_in list.new.items)) }
 {
-    let naming = naming_of_all(alloc, findings, holder.number, &unique.attributes)?;
+    let naming = naming_of_all(alloc, findings.known, holder.number, &unique.attributes)?;
     let label = rule_label(holder.name, unique.label, number);
     add_for(alloc, list, PartKind::Unique, label, reason_by(naming))
 }

@@ -3,7 +3,7 @@ use Rattle.std.proofs.lemmas.Iterator.Search.{find_from_yields_List}
 use Rattle.std.proofs.lemmas.Iterator.{YieldsList-from_slice}
 use Rattle.express_trees.specs.Views.{capitals}
 use Rattle.express_schemas.specs.SchemaViews.{schema_of}
-use Rattle.schema_demands.specs.Owned.{declares_at}
+use Rattle.own_attributes.specs.Owned.{declares_at}
 use Rattle.attribute_origins.proofs.origins.nearest.Goals as goal
 
 pub returns : goal.returns

@@ -4,8 +4,8 @@ use Rattle.digraph.specs.Graphs.{graph_of}
 use Rattle.digraph.proofs.RowLists.{row-is}
 use Rattle.express_trees.specs.Views.{capitals}
 use Rattle.express_schemas.specs.SchemaViews.{schema_of}
-use Rattle.schema_demands.specs.declared.attributes.Meant.TheVariants.{All}
-use Rattle.schema_demands.specs.Owned.{declares_at}
+use Rattle.own_attributes.specs.declared.attributes.Meant.TheVariants.{All}
+use Rattle.own_attributes.specs.Owned.{declares_at}
 use Rattle.attribute_origins.proofs.Nearest.{nearest-is}
 use Rattle.attribute_origins.proofs.origins.origin.Goals as goal
 

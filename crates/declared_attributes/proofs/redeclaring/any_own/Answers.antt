@@ -3,8 +3,8 @@ use Rattle.std.proofs.lemmas.Iterator.Search.{any_from_yields_List}
 use Rattle.std.proofs.lemmas.Iterator.{YieldsList-from_slice}
 use Rattle.express_trees.specs.Views.{capitals}
 use Rattle.express_schemas.specs.Views.{attribute_of}
-use Rattle.schema_demands.specs.Owned.{is_own}
-use Rattle.schema_demands.proofs.Owning.{any-mapped}
+use Rattle.own_attributes.specs.Owned.{is_own}
+use Rattle.own_attributes.proofs.Owning.{any-mapped}
 use Rattle.declared_attributes.proofs.redeclaring.any_own.Goals as goal
 
 pub returns : goal.returns

@@ -3,7 +3,7 @@ use Rattle.std.proofs.lemmas.Iterator.Search.{position_from_yields_List}
 use Rattle.std.proofs.lemmas.Iterator.{YieldsList-from_slice}
 use Rattle.express_trees.specs.Views.{capitals}
 use Rattle.express_schemas.specs.Views.{derived_of}
-use Rattle.schema_demands.specs.Owned.{is_own}
+use Rattle.own_attributes.specs.Owned.{is_own}
 use Rattle.declared_attributes.specs.Searching.{types_own, derived_typing}
 use Rattle.declared_attributes.proofs.FirstTypes.{sought-none, sought-some, types-own-alone}
 use Rattle.declared_attributes.proofs.redeclaring.derived_type.Goals as goal

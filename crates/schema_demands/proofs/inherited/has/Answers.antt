@@ -5,7 +5,7 @@ use Rattle.std.proofs.lemmas.Iterator.{YieldsList-from_slice}
 use Rattle.digraph.proofs.RowLists.{row-is}
 use Rattle.express_trees.specs.Views.{capitals}
 use Rattle.express_schemas.specs.SchemaViews.{schema_of}
-use Rattle.schema_demands.specs.Owned.{declares_at}
+use Rattle.own_attributes.specs.Owned.{declares_at}
 use Rattle.schema_demands.proofs.inherited.has.Goals as goal
 
 pub returns : goal.returns

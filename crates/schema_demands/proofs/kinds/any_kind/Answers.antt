@@ -5,7 +5,7 @@ use Rattle.digraph.specs.Graphs.{graph_of}
 use Rattle.express_trees.specs.Views.{capitals}
 use Rattle.express_schemas.specs.SchemaViews.{schema_of}
 use Rattle.schema_demands.specs.Kinds.{is_kind}
-use Rattle.schema_demands.proofs.Owning.{any-mapped}
+use Rattle.own_attributes.proofs.Owning.{any-mapped}
 use Rattle.schema_demands.proofs.kinds.any_kind.Goals as goal
 
 pub returns : goal.returns

@@ -4,10 +4,10 @@ use Rattle.step_population.proofs.populate.populate.Goals as goal
 
 pub returns-then-wrong-gt0 : goal.returns-then-wrong-gt0
 returns-then-wrong-gt0 c =
-    let d = d-is c.args.graph.now.names c.knowledge-known.result c.bases-bases.result c.args.exchange.now c.in_ok-rows.rows
+    let d = d-is c.args.types.now.names c.knowledge-known.result c.bases-bases.result c.args.exchange.now c.in_ok-rows.rows
     c.knowledge-known.ensures.same c.bases-bases.ensures.same c.entities_are_said.ensures
     c.bases-bases.ensures.bases.1.exists c.in_ok-rows.ensures in
-    let en = en-is c.args.graph.now.names c.knowledge-known.result c.bases-bases.result c.args.exchange.now c.in_ok-rows.rows
+    let en = en-is c.args.types.now.names c.knowledge-known.result c.bases-bases.result c.args.exchange.now c.in_ok-rows.rows
     c.knowledge-known.ensures.same c.bases-bases.ensures.same c.entities_are_said.ensures
     c.bases-bases.ensures.bases.1.exists c.in_ok-rows.ensures in
     let more : 0 < c.len-wrong.result = omega arith in (
@@ -15,7 +15,7 @@ returns-then-wrong-gt0 c =
       en.0,
       d.1,
       en.1,
-      told-so c.args.graph.now.names c.knowledge-known.result c.bases-bases.result c.args.exchange.now c.in_ok-rows.rows
+      told-so c.args.types.now.names c.knowledge-known.result c.bases-bases.result c.args.exchange.now c.in_ok-rows.rows
           c.knowledge-known.ensures.same c.bases-bases.ensures.same c.entities_are_said.ensures
           c.bases-bases.ensures.bases.1.exists c.in_ok-rows.ensures
           c.in_ok-found.found.items c.in_ok-found.ensures,
@@ -24,26 +24,26 @@ returns-then-wrong-gt0 c =
 
 pub values_of-requires-clause-index : goal.values_of-requires-clause-index
 values_of-requires-clause-index c =
-    index-is c.args.graph.now.names c.knowledge-known.result c.bases-bases.result c.args.exchange.now c.in_ok-rows.rows
+    index-is c.args.types.now.names c.knowledge-known.result c.bases-bases.result c.args.exchange.now c.in_ok-rows.rows
     c.knowledge-known.ensures.same c.bases-bases.ensures.same c.entities_are_said.ensures
     c.bases-bases.ensures.bases.1.exists c.in_ok-rows.ensures
 
 pub values_of-requires-clause-matched : goal.values_of-requires-clause-matched
 values_of-requires-clause-matched c =
-    matched-is c.args.graph.now.names c.knowledge-known.result c.bases-bases.result c.args.exchange.now c.in_ok-rows.rows
+    matched-is c.args.types.now.names c.knowledge-known.result c.bases-bases.result c.args.exchange.now c.in_ok-rows.rows
     c.knowledge-known.ensures.same c.bases-bases.ensures.same c.entities_are_said.ensures
     c.bases-bases.ensures.bases.1.exists c.in_ok-rows.ensures
 
 pub values_of-requires-clause-ready : goal.values_of-requires-clause-ready
 values_of-requires-clause-ready c =
-    ready-is c.args.graph.now.names c.knowledge-known.result c.bases-bases.result c.args.exchange.now c.in_ok-rows.rows
+    ready-is c.args.types.now.names c.knowledge-known.result c.bases-bases.result c.args.exchange.now c.in_ok-rows.rows
     c.knowledge-known.ensures.same c.bases-bases.ensures.same c.entities_are_said.ensures
     c.bases-bases.ensures.bases.1.exists c.in_ok-rows.ensures c.in_ok-found.found.items c.in_ok-found.ensures (empty-so c.in_ok-found.found.items c.len-wrong.result
     (c.len-wrong.ensures ∙ sym (let whole : length c.in_ok-found.found.items ≡ vec_len c.in_ok-found.found = search rules in whole)) (omega arith))
 
 pub invariant_of-result : goal.invariant_of-result
 invariant_of-result c = record {
-  whole = ∣ whole-is c.args.graph.now.names c.knowledge-known.result c.bases-bases.result c.args.exchange.now c.in_ok-rows.rows
+  whole = ∣ whole-is c.args.types.now.names c.knowledge-known.result c.bases-bases.result c.args.exchange.now c.in_ok-rows.rows
       c.knowledge-known.ensures.same c.bases-bases.ensures.same c.entities_are_said.ensures
       c.bases-bases.ensures.bases.1.exists c.in_ok-rows.ensures c.in_ok-found.found.items c.in_ok-found.ensures (empty-so c.in_ok-found.found.items c.len-wrong.result
       (c.len-wrong.ensures ∙ sym (let whole : length c.in_ok-found.found.items ≡ vec_len c.in_ok-found.found = search rules in whole)) (omega arith))
@@ -52,10 +52,10 @@ invariant_of-result c = record {
 
 pub returns : goal.returns
 returns c =
-    let d = d-is c.args.graph.now.names c.knowledge-known.result c.bases-bases.result c.args.exchange.now c.in_ok-rows.rows
+    let d = d-is c.args.types.now.names c.knowledge-known.result c.bases-bases.result c.args.exchange.now c.in_ok-rows.rows
     c.knowledge-known.ensures.same c.bases-bases.ensures.same c.entities_are_said.ensures
     c.bases-bases.ensures.bases.1.exists c.in_ok-rows.ensures in
-    let en = en-is c.args.graph.now.names c.knowledge-known.result c.bases-bases.result c.args.exchange.now c.in_ok-rows.rows
+    let en = en-is c.args.types.now.names c.knowledge-known.result c.bases-bases.result c.args.exchange.now c.in_ok-rows.rows
     c.knowledge-known.ensures.same c.bases-bases.ensures.same c.entities_are_said.ensures
     c.bases-bases.ensures.bases.1.exists c.in_ok-rows.ensures in (
       refl,
@@ -65,12 +65,12 @@ returns c =
         en.0,
         d.1,
         en.1,
-        sym (told-so c.args.graph.now.names c.knowledge-known.result c.bases-bases.result c.args.exchange.now c.in_ok-rows.rows
+        sym (told-so c.args.types.now.names c.knowledge-known.result c.bases-bases.result c.args.exchange.now c.in_ok-rows.rows
             c.knowledge-known.ensures.same c.bases-bases.ensures.same c.entities_are_said.ensures
             c.bases-bases.ensures.bases.1.exists c.in_ok-rows.ensures
             c.in_ok-found.found.items c.in_ok-found.ensures) ∙ empty-so c.in_ok-found.found.items c.len-wrong.result
             (c.len-wrong.ensures ∙ sym (let whole : length c.in_ok-found.found.items ≡ vec_len c.in_ok-found.found = search rules in whole)) (omega arith),
-        population-so c.args.graph.now.names c.knowledge-known.result c.bases-bases.result c.args.exchange.now c.in_ok-rows.rows
+        population-so c.args.types.now.names c.knowledge-known.result c.bases-bases.result c.args.exchange.now c.in_ok-rows.rows
             c.knowledge-known.ensures.same c.bases-bases.ensures.same c.entities_are_said.ensures
             c.bases-bases.ensures.bases.1.exists c.in_ok-rows.ensures c.in_ok-found.found.items c.in_ok-found.ensures (empty-so c.in_ok-found.found.items c.len-wrong.result
             (c.len-wrong.ensures ∙ sym (let whole : length c.in_ok-found.found.items ≡ vec_len c.in_ok-found.found = search rules in whole)) (omega arith))

@@ -8,7 +8,7 @@ use Rattle.body_reasons.specs.Judging.{IsFirstReason}
 use Rattle.unchecked_parts.specs.Adding.{unchecked_in}
 use Rattle.unchecked_list.specs.Findings.{schema_found}
 use Rattle.unchecked_list.specs.Listing.{given}
-use Rattle.unchecked_list.specs.Naming.{IsNaming}
+use Rattle.unique_attributes.specs.Naming.{IsNaming}
 use Rattle.unchecked_list.proofs.Reasoned.{adds-given}
 use Rattle.unchecked_list.proofs.Told.{unique-reason}
 use Rattle.unchecked_list.proofs.uniques.add_unique.Goals as goal

@@ -5,4 +5,4 @@ use Rattle.express_types.proofs.graph.TypeGraph.into_unchecked.Goals as goal
 
 pub returns : goal.returns
 returns c =
-    ∥∥₁_map c.args.self.judged_is (λ (j : IsJudged (schema_of c.args.self.names.schema.now) c.args.self.judged). j.unchecked)
+    ∥∥₁_map c.args.self.judged_is (λ (j : IsJudged (schema_of c.args.self.types.names.schema.now) c.args.self.judged). j.unchecked)

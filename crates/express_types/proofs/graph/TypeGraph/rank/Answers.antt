@@ -8,7 +8,7 @@ use Rattle.express_types.proofs.graph.TypeGraph.rank.Goals as goal
 
 pub rank_at-requires : goal.rank_at-requires
 rank_at-requires c =
-    let s = schema_of c.args.self.now.names.schema.now in
+    let s = schema_of c.args.self.now.types.names.schema.now in
     let judged = c.args.self.now.judged_is in
     record {
       firsts = ∥∥₁_map judged (λ (j : IsJudged s c.args.self.now.judged).

@@ -8,7 +8,7 @@ use Rattle.express_types.proofs.graph.TypeGraph.unchecked.Goals as goal
 
 pub returns : goal.returns
 returns c =
-    let s = schema_of c.args.self.now.names.schema.now in
+    let s = schema_of c.args.self.now.types.names.schema.now in
     ∥∥₁_map c.args.self.now.judged_is
     (λ (j : IsJudged s c.args.self.now.judged).
     subst (λ us. AreUnchecked s (unchecked_in us)) (sym c.deref.ensures.value) j.unchecked)

@@ -8,7 +8,7 @@ pub returns : goal.returns
 returns c = record {
   base_types = c.in_ok-base_types.ensures;
   uses = c.in_ok-uses.ensures;
-  own = subst (λ all. AreRows all (schema_of c.args.graph.now.names.schema.now).declarations
+  own = subst (λ all. AreRows all (schema_of c.args.types.now.names.schema.now).declarations
       (graph_of c.in_ok-explicit.explicit.own.items)) c.in_ok-explicit.ensures.places c.in_ok-explicit.ensures.own;
   one_ofs = c.in_ok-one_ofs.ensures;
 }

@@ -13,5 +13,5 @@ pub returns-clause-references : goal.returns-clause-references
 returns-clause-references c =
     let p = c.args.self.now in
     ∥∥₁_map p.whole
-    (λ (w : IsWhole (schema_of p.graph.now.names.schema.now) p.exchange.now.names p.rows p.values).
+    (λ (w : IsWhole (schema_of p.types.now.names.schema.now) p.exchange.now.names p.rows p.values).
     subst (LeadTo p.exchange.now.names) (sym c.cells.ensures.targets) w.leads)

@@ -15,7 +15,7 @@ use Rattle.step_population.proofs.population.Population.plain.Goals as goal
 
 pub orders-requires-clause-numbered : goal.orders-requires-clause-numbered
 orders-requires-clause-numbered c =
-    subst (Every (AreNumbered (schema_of c.args.self.now.graph.now.names.schema.now))) (sym c.deref-2.ensures.value)
+    subst (Every (AreNumbered (schema_of c.args.self.now.types.now.names.schema.now))) (sym c.deref-2.ensures.value)
     (kept c.args.self.now).numbered
 
 pub ordered_values-requires-clause-indexed : goal.ordered_values-requires-clause-indexed

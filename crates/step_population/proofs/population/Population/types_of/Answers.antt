@@ -11,14 +11,14 @@ returns-in_default c = sym (no-types c.args.self.now c.args.name (sym c.find.ens
 pub returns-in-Some-form_at : goal.returns-in-Some-form_at
 returns-in-Some-form_at c =
     let p = c.args.self.now in
-    ap (map (name_at (schema_of p.graph.now.names.schema.now))) c.deref.ensures.value
+    ap (map (name_at (schema_of p.types.now.names.schema.now))) c.deref.ensures.value
     ∙ sym (types-of-row p c.args.name c.in-Some.row (sym c.find.ensures ∙ c.in-Some.is)
     (option_copied c.form_at.result) c.form_at.ensures
-    ∙ ap (λ o. map (name_at (schema_of p.graph.now.names.schema.now)) (types_by_form (option_copied o))) c.in-Some-form_at.is)
+    ∙ ap (λ o. map (name_at (schema_of p.types.now.names.schema.now)) (types_by_form (option_copied o))) c.in-Some-form_at.is)
 
 pub returns-in-None : goal.returns-in-None
 returns-in-None c =
     let p = c.args.self.now in
     sym (types-of-row p c.args.name c.in-Some.row (sym c.find.ensures ∙ c.in-Some.is)
     (option_copied c.form_at.result) c.form_at.ensures
-    ∙ ap (λ o. map (name_at (schema_of p.graph.now.names.schema.now)) (types_by_form (option_copied o))) c.in-None.is)
+    ∙ ap (λ o. map (name_at (schema_of p.types.now.names.schema.now)) (types_by_form (option_copied o))) c.in-None.is)

@@ -15,12 +15,12 @@ one-row o p x y e f = cc
 pub returns-in_default-clause-there : goal.returns-in_default-clause-there
 returns-in_default-clause-there c = λ lt.
     sym (no-value c.args.self.now c.args.name
-    (place_at (schema_of c.args.self.now.graph.now.names.schema.now) c.args.place) (sym c.find.ensures ∙ c.in_default.is))
+    (place_at (schema_of c.args.self.now.types.now.names.schema.now) c.args.place) (sym c.find.ensures ∙ c.in_default.is))
 
 pub returns-in_default-form_at-clause-there : goal.returns-in_default-form_at-clause-there
 returns-in_default-form_at-clause-there c = λ lt.
     let p = c.args.self.now in
-    let s = schema_of p.graph.now.names.schema.now in
+    let s = schema_of p.types.now.names.schema.now in
     let e = sym c.find.ensures ∙ c.in-Some.is in
     let vs = (instance-there p c.args.name c.in-Some.row e).values in
     sym (value-of-row p c.args.name c.in-Some.row e (option_copied c.form_at.result) c.form_at.ensures c.args.place lt
@@ -29,7 +29,7 @@ returns-in_default-form_at-clause-there c = λ lt.
 pub returns-in_default-position_of-clause-there : goal.returns-in_default-position_of-clause-there
 returns-in_default-position_of-clause-there c = λ lt.
     let p = c.args.self.now in
-    let s = schema_of p.graph.now.names.schema.now in
+    let s = schema_of p.types.now.names.schema.now in
     let e = sym c.find.ensures ∙ c.in-Some.is in
     let vs = (instance-there p c.args.name c.in-Some.row e).values in
     sym (value-of-row p c.args.name c.in-Some.row e (option_copied c.form_at.result) c.form_at.ensures c.args.place lt
@@ -46,7 +46,7 @@ row-requires c =
 pub returns-clause-there : goal.returns-clause-there
 returns-clause-there c = λ lt.
     let p = c.args.self.now in
-    let s = schema_of p.graph.now.names.schema.now in
+    let s = schema_of p.types.now.names.schema.now in
     let e = sym c.find.ensures ∙ c.in-Some.is in
     let there = instance-there p c.args.name c.in-Some.row e in
     let row = one-row (slice_get p.values.rows c.in-Some.row) None c.row.result there.values c.row.ensures there.at_values in
@@ -60,7 +60,7 @@ returns-clause-there c = λ lt.
 pub returns-clause-beyond : goal.returns-clause-beyond
 returns-clause-beyond c = λ le.
     let p = c.args.self.now in
-    let s = schema_of p.graph.now.names.schema.now in
+    let s = schema_of p.types.now.names.schema.now in
     let e = sym c.find.ensures ∙ c.in-Some.is in
     let there = instance-there p c.args.name c.in-Some.row e in
     let row = one-row (slice_get p.values.rows c.in-Some.row) None c.row.result there.values c.row.ensures there.at_values in

@@ -1,0 +1,3 @@
+pub mod Graphs
+pub mod Resolving
+pub mod Made
