@@ -17,17 +17,17 @@ use Rattle.type_graphs.specs.declared.unchecked.Reason.{Reason}
 use Rattle.type_graphs.specs.declared.unchecked.PartKind.TheVariants as parts
 use Rattle.type_graphs.specs.declared.unchecked.Reason.TheVariants as reasons
 use Rattle.type_graphs.specs.Names.{Name, IsFirst, IsMadeOf, IsEntity, IsType, IsBelow, IsKindOf, IsEntityAt, IsTypeAt, IsSubtypeOf, listed, Among, entities, supertypes_of, explicit_names}
-use Rattle.type_graphs.specs.Faults.{Demand, IsMet, a_type, an_entity, inherited, inverted, demands, declared, Declared, StandsTwice, IsFault, IsOwnSupertype}
+use Rattle.type_graphs.specs.Faults.{Demand, IsMet, a_type, an_entity, inherited, inverted, demands, declared, Declared, IsFirstAgain, IsFault, IsOwnSupertype}
 use Rattle.type_graphs.specs.Shapes.{AreAlike, KeepsShapes, HasShape, AreOne, Shape, of_lists, an_aggregate}
 use Rattle.type_graphs.specs.Attributes.{Place, IsPlaces, Derivation, IsNth, IsOrigin}
 use Rattle.type_graphs.specs.Reasons.{SaysName, BodyMayUse, HasBadKind, MayBeDeep, HasUnclearName}
-use Rattle.type_graphs.specs.Sets.{Set, of_set, May, MayTake, TakesTwo, Variable, IsVariable, Meaning, itself, variable, attribute_of_self, item_of_type, item, Means}
+use Rattle.type_graphs.specs.Sets.{May, MayTake, TakesTwo, itself, variable, attribute_of_self, item_of_type, item}
 use Rattle.type_graphs.specs.Shapes as shapes
 use Rattle.type_graphs.specs.Ranks.{Self, Uses, LeadsToItself, HasReason, IsRank, IsDerivedAt}
-use Rattle.type_graphs.proofs.Lists.{first-holds, fresh-once, last-step}
+use Rattle.type_graphs.proofs.Lists.{again-twice, fresh-once, last-step}
 use Rattle.type_graphs.proofs.Supertypes.{entity-name}
 use Rattle.type_graphs.proofs.Bools.{both-hold}
-use Rattle.type_graphs.proofs.Facts.{is-declarer, named-in}
+use Rattle.type_graphs.proofs.Facts.{is-declarer, named-in, of_self, takes-own, means-attribute}
 use Rattle.type_graphs.specs.Parts.{Unchecked, all_reasons, AreUnchecked}
 
 -- An entity with these supertypes and attributes, and nothing else.
@@ -134,14 +134,18 @@ abbrev second : Schema
 second = schema (entity (an A [] []) ∷ entity (an A [] []) ∷ [])
 
 duplicate-name : IsFault second DuplicateName A
-duplicate-name = ((λ n h. h.1), (0, inl (inl (refl, inl refl), refl)))
+duplicate-name = ((λ n h. h.1), (0, inr ((λ m. m), inl (inl refl, refl))))
 
--- of a, b, b, a the first is answered, though b comes again before it
+-- of a, b, b, a the name that is repeated first is answered, though a stands before it
 abbrev nested : Schema
 nested = schema (entity (an A [] []) ∷ entity (an B [] []) ∷ entity (an B [] []) ∷ entity (an A [] []) ∷ [])
 
-first-of-duplicates : IsFault nested DuplicateName A
-first-of-duplicates = ((λ n h. h.1), (0, inl (inl (refl, inr (inr (inl refl))), refl)))
+first-repeated : IsFault nested DuplicateName B
+first-repeated = ((λ n h. h.1), (0, inr ((λ m. m), inr (fresh, inl (inl refl, refl)))))
+  where
+    fresh : Among (name-declared B) (name-declared A ∷ []) → ⊥
+    fresh (inl e) = differ (sym (ap (λ (p : Declared). bytes_eq p.1 B) e))
+    fresh (inr k) = k
 
 -- ENTITY a; END_ENTITY; ENTITY a; x : b; END_ENTITY; shows two faults, and the least is answered
 abbrev both : Schema
@@ -182,8 +186,8 @@ cycle-of-supertypes = (
     known (inr (_, inl h)) = h.0 (an A (B ∷ []) [], refl)
     known (inr (_, inr (_, h))) = h
 
-    apart : {x : Declared} → IsFirst (StandsTwice (declared third)) (declared third) x → ⊥
-    apart {x} h = fresh-once (declared third) (fresh, ((λ k. k), tt)) x (first-holds (StandsTwice (declared third)) (declared third) x h)
+    apart : {x : Declared} → IsFirstAgain [] (declared third) x → ⊥
+    apart {x} h = fresh-once (declared third) (fresh, ((λ k. k), tt)) x (again-twice (declared third) x h)
       where
         fresh : Among (name-declared A) (name-declared B ∷ []) → ⊥
         fresh (inl e) = differ (ap (λ (p : Declared). bytes_eq p.1 B) e)
@@ -206,8 +210,8 @@ cycle-of-types =
     known (inr (_, inl h)) = h.0 (inl (record { name = A; underlying = select (B ∷ []); rules = None }, refl))
     known (inr (_, inr (_, h))) = h
 
-    apart : {x : Declared} → IsFirst (StandsTwice (declared fourth)) (declared fourth) x → ⊥
-    apart {x} h = fresh-once (declared fourth) (fresh, ((λ k. k), tt)) x (first-holds (StandsTwice (declared fourth)) (declared fourth) x h)
+    apart : {x : Declared} → IsFirstAgain [] (declared fourth) x → ⊥
+    apart {x} h = fresh-once (declared fourth) (fresh, ((λ k. k), tt)) x (again-twice (declared fourth) x h)
       where
         fresh : Among (name-declared A) (name-declared B ∷ []) → ⊥
         fresh (inl e) = differ (ap (λ (p : Declared). bytes_eq p.1 B) e)
@@ -376,14 +380,8 @@ looping =
 abbrev loop : Schema
 loop = schema (entity looping ∷ [])
 
--- a bare name that is no variable and that an entity of SELF has
-is-attribute : (s : Schema) (self : Set) (vs : List Variable) (n p : Name) (qs : Qualifiers)
-    → (IsVariable vs n → ⊥) → MayTake s (of_set self n) p
-    → Means s self vs (trees.named n) qs attribute_of_self
-is-attribute s self vs n p qs free taken = inr ((λ h. h), inr (free, inl ((p, taken), refl)))
-
-takes-x : MayTake loop (of_set (Self A) X) A
-takes-x = (A, refl, (inl refl, (looping, refl, inl refl)))
+takes-x : MayTake loop (of_self loop A X) A
+takes-x = takes-own loop A X (looping, refl, inl refl)
 
 uses-itself : Uses loop (A, 0) (A, 0)
 uses-itself = (
@@ -391,7 +389,7 @@ uses-itself = (
   (looping, refl, refl),
   inl (
     attribute_of_self,
-    is-attribute loop (Self A) [] X A plain (λ h. h) takes-x,
+    means-attribute loop (Self A) [] X A plain (λ h. h) takes-x,
     inl (A, takes-x, (x, (looping, refl, refl), inl (refl, refl))),
   ),
 )
@@ -450,13 +448,13 @@ compares-aggregates = inl (deep, deep)
     point : Entity
     point = an A [] (with_one X (list None false (real None)))
 
-    taken : MayTake points (of_set (Self A) X) A
-    taken = (A, refl, (inl refl, (point, refl, inl refl)))
+    taken : MayTake points (of_self points A X) A
+    taken = takes-own points A X (point, refl, inl refl)
 
     atom : May points (Self A) [] (own_name X) (shapes.value (an_aggregate (real None)) false)
     atom = (
       attribute_of_self,
-      is-attribute points (Self A) [] X A plain (λ h. h) taken,
+      means-attribute points (Self A) [] X A plain (λ h. h) taken,
       (
         A,
         list None false (real None),
@@ -497,7 +495,7 @@ is-looping p e at = by (entity-name loop p e at)
     by (inl same, told) = sym (ap (λ (x : Entity). x.name) same ∙ told)
     by (inr h, told) = elim h [ ]
 
-takes-one : TakesTwo loop (of_set (Self A) X) → ⊥
+takes-one : TakesTwo loop (of_self loop A X) → ⊥
 takes-one (e, p, q, m, (k, (c, at, h)), (l, (d, be, g)), apart) =
     apart (is-looping p c at ∙ sym (is-looping q d be))
 

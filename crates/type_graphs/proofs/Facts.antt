@@ -1,15 +1,12 @@
 -- Facts of a schema that is given, by going over its declarations.
-use Rattle.std.specs.Prelude.{◌≡◌, ℕ, zero, suc, ◌^◌, ◌<◌, Bool, true, false, cond, List, [], ◌∷◌, map, flat_map, ℤ, pos, ◌+ℤ◌, ◌*ℤ◌, FitsSigned, bytes_eq, ◌⊎◌}
-use Rattle.std.specs.Int.{w64}
+use Rattle.std.specs.Prelude.{◌≡◌, ℕ, zero, suc, ◌^◌, ◌<◌, Bool, true, false, cond, List, [], ◌∷◌, map, flat_map, pos, ◌+ℤ◌, ◌*ℤ◌, bytes_eq, ◌⊎◌}
 use Rattle.std.specs.List.{list_any}
 use Rattle.std.proofs.Common.{refl, inl, inr, ap, sym, subst, ◌∙◌, arith}
 use Rattle.std.proofs.lemmas.Int.{ints}
 use Rattle.step_literals.specs.Decimals.{mantissa, exponent, units, finest, ten_to, IsWorth}
-use Rattle.step_literals.specs.MagnitudeLemmas.{ten_pos}
-use Rattle.step_literals.proofs.UnitLemmas.{times_cancel}
 use Rattle.express_trees.specs.Trees.{Tree, Root, Qualifiers}
 use Rattle.express_trees.specs.Trees as trees
-use Rattle.express_schemas.specs.Schemas.{Schema, TypeDeclaration, Entity, Derived, Attribute, own, redeclared, parsed}
+use Rattle.express_schemas.specs.Schemas.{Schema, TypeDeclaration, Entity, Derived, own, parsed}
 use Rattle.express_schemas.specs.Profile.{Every}
 use Rattle.type_graphs.specs.declared.unchecked.Reason.{Reason}
 use Rattle.type_graphs.specs.declared.unchecked.Reason.TheVariants as reasons
@@ -17,7 +14,7 @@ use Rattle.type_graphs.specs.Names.{Name, IsOrLeads, OneOf, Among, listed, entit
 use Rattle.type_graphs.specs.Faults.{items_of}
 use Rattle.type_graphs.specs.Shapes.{Atom}
 use Rattle.type_graphs.specs.Attributes.{Derivation, IsNth, IsDerivation, IsRedeclaration, Derives}
-use Rattle.type_graphs.specs.Sets.{Set, AttributeReference, of_set, of_entity, attribute_name, MayTake, IsUnclear, MayUse, Variable, IsVariable, Meaning, itself, variable, attribute_of_self, item_of_type, item, MayMean, Means, path, IsItemOf, OfReference, IsUnclearReference, ReferenceMayUse}
+use Rattle.type_graphs.specs.Sets.{Set, WithSubtypes, AttributeReference, of_set, of_entity, attribute_name, MayTake, IsUnclear, MayUse, Variable, IsVariable, Meaning, itself, variable, attribute_of_self, item_of_type, item, MayMean, Means, path, IsItemOf, OfReference, IsUnclearReference, ReferenceMayUse}
 use Rattle.type_graphs.specs.Reasons.{HasLooseAggregate, HasUnclearName, HasBadTypeof, HasBadKind, BodyMayUse, GivesReason}
 use Rattle.type_graphs.specs.Ranks.{Self, Uses, LeadsToItself, IsFaulty, IsSetAside, HasReason, derived_name}
 use Rattle.type_graphs.specs.Parts.{IsBeyond}
@@ -80,6 +77,14 @@ one-declarer s p q a one h = by (subst (λ ns. Among q ns) one (is-declarer s q 
     by (inl e) = e
     by (inr k) = elim k [ ]
 
+-- `SELF.a`, or a alone, in the entity e
+abbrev pub of_self : Schema → Name → Name → AttributeReference
+of_self s e a = of_set (WithSubtypes s (Self e)) a
+
+-- .. takes the attribute that e itself declares
+pub takes-own : (s : Schema) (e a : Name) → Declares s e a → MayTake s (of_self s e a) e
+takes-own s e a h = (e, (e, refl, inl refl), (inl refl, h))
+
 -- a name that one entity declares, and that is taken
 pub clear : (s : Schema) (q : AttributeReference) (p : Name) → declarers s (attribute_name q) ≡ p ∷ [] → MayTake s q p → IsUnclear s q → ⊥
 clear s q p one taken (inl lost) = lost p taken
@@ -135,7 +140,8 @@ module _ (s : Schema) (self : Set) (vs : List Variable) (r : Root) (qs : Qualifi
   may-only x h = alone (λ k. (path s self vs r qs k).may x) h
 
 pub means-attribute : (s : Schema) (self : Set) (vs : List Variable) (n p : Name) (qs : Qualifiers)
-    → (IsVariable vs n → ⊥) → MayTake s (of_set self n) p → Means s self vs (trees.named n) qs attribute_of_self
+    → (IsVariable vs n → ⊥) → MayTake s (of_set (WithSubtypes s self) n) p
+    → Means s self vs (trees.named n) qs attribute_of_self
 means-attribute s self vs n p qs free taken = inr (never, inr (free, inl ((p, taken), refl)))
 
 pub means-variable : (s : Schema) (self : Set) (vs : List Variable) (n : Name) (qs : Qualifiers)

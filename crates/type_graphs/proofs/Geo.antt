@@ -1,10 +1,10 @@
 -- A schema of points, placements and shapes.
-use Rattle.std.specs.Prelude.{Bool, false, true, List, [], ◌∷◌, ◌++◌, Option, None, Some, codes}
+use Rattle.std.specs.Prelude.{false, true, List, [], ◌∷◌, ◌++◌, Option, None, Some, codes}
 use Rattle.express_trees.specs.declared.tree.Function.TheVariants as functions
 use Rattle.express_trees.specs.declared.tree.Relation.TheVariants as relations
 use Rattle.express_trees.specs.Trees.{Tree, reference, comparison, call, query, literal, plain, attribute, number, whole, decimal, text}
 use Rattle.express_trees.specs.Trees as trees
-use Rattle.express_schemas.specs.Schemas.{Schema, Declaration, type, entity, TypeDeclaration, Entity, own, redeclared, Explicit, Derived, Inverse, in_set, Unique, Rule, parsed, DataType, named, integer, real, string, list, set, Bounds, value, unlimited, width, Underlying, enumeration, select, data_type, unsaid, of_one_of}
+use Rattle.express_schemas.specs.Schemas.{Schema, Declaration, type, entity, TypeDeclaration, Entity, own, redeclared, Explicit, Derived, Inverse, in_set, Rule, parsed, DataType, named, integer, real, string, list, set, Bounds, value, unlimited, width, enumeration, select, data_type, unsaid, of_one_of}
 use Rattle.type_graphs.specs.Names.{Name}
 
 abbrev pub LEN_M : Name

@@ -1,5 +1,5 @@
 -- What isn't checked of a schema of points, placements and shapes: nothing; and with faulty rules in it, those alone.
-use Rattle.std.specs.Prelude.{◌≡◌, ℕ, ◌^◌, ◌<◌, Bool, true, false, List, [], ◌∷◌, ◌++◌, map, drop, None, Some, ℤ, pos, bytes_eq, codes, ◌⊎◌}
+use Rattle.std.specs.Prelude.{◌≡◌, ℕ, ◌<◌, Bool, true, false, List, [], ◌∷◌, map, drop, None, Some, pos, bytes_eq, codes}
 use Rattle.std.proofs.Common.{refl, inl, inr, ap, sym, subst, ◌∙◌, arith}
 use Rattle.std.specs.Str.{is_utf8, chars}
 use Rattle.step_literals.specs.declared.literal.items.Item.{Item}
@@ -7,24 +7,22 @@ use Rattle.step_literals.specs.declared.literal.items.Item.TheVariants.{Code}
 use Rattle.step_literals.proofs.StringLemmas.{unique}
 use Rattle.express_lexis.specs.Meanings.{characters_of}
 use Rattle.step_literals.specs.Decimals.{mantissa, exponent, IsWorth}
-use Rattle.express_trees.specs.declared.tree.Function.TheVariants as functions
-use Rattle.express_trees.specs.declared.tree.Relation.TheVariants as relations
 use Rattle.express_trees.specs.Trees.{Tree, reference, comparison, call, query, literal, text, plain, attribute}
 use Rattle.express_trees.specs.Trees as trees
-use Rattle.express_schemas.specs.Schemas.{Schema, Entity, DataType, named, own, Derived, parsed}
+use Rattle.express_schemas.specs.Schemas.{Schema, Entity, named, own, Derived, parsed}
 use Rattle.type_graphs.specs.declared.unchecked.PartKind.{PartKind}
 use Rattle.type_graphs.specs.declared.unchecked.PartKind.TheVariants as parts
 use Rattle.type_graphs.specs.declared.unchecked.Reason.{Reason}
 use Rattle.type_graphs.specs.declared.unchecked.Reason.TheVariants as reasons
-use Rattle.type_graphs.specs.Names.{Name, Among, IsFirst, listed, attribute_names, IsEntityAt, Declares, DeclaresExplicit}
+use Rattle.type_graphs.specs.Names.{Name, Among, IsFirst, listed, attribute_names, IsEntityAt, DeclaresExplicit}
 use Rattle.type_graphs.specs.Shapes.{Sort, Atom, a_number, IsOverSelect}
 use Rattle.type_graphs.specs.Shapes as shapes
 use Rattle.type_graphs.specs.Attributes.{Derivation, IsNth}
-use Rattle.type_graphs.specs.Sets.{Set, Only, WithSubtypes, AttributeReference, of_set, MayTake, IsUnclear, MayUse, OfTaken, Variable, Meaning, itself, variable, attribute_of_self, item_of_type, item, MayMean, Means, IsUnclearReference, ReferenceMayUse, May}
+use Rattle.type_graphs.specs.Sets.{Only, WithSubtypes, AttributeReference, of_set, MayTake, OfTaken, Variable, Meaning, itself, variable, attribute_of_self, item_of_type, item, MayMean, Means, IsUnclearReference, ReferenceMayUse, May}
 use Rattle.type_graphs.specs.Reasons.{SaysName, IsTypeTest, MayBeDeep, MayBeUnordered, IsUnordered, BodyMayUse, bound_to, GivesReason}
 use Rattle.type_graphs.specs.Ranks.{Self, Uses, IsSetAside, HasReason, IsFirstFor, IsRankAt}
 use Rattle.type_graphs.specs.Parts.{Unchecked, Lists, AreUnchecked, all_reasons, for_each, parts_of_declaration, IsBeyond, NamesAttribute, NamesOther, NamesNotOne, UniqueHasReason}
-use Rattle.type_graphs.proofs.Facts.{neither, never, declarers, derivers, one-declarer, clear, uses-none, uses-one, clear-reference, uses-only, means-attribute, means-variable, no-reason, not-set-aside, is-declarer, item-among, no-uses, is-within}
+use Rattle.type_graphs.proofs.Facts.{neither, never, declarers, derivers, one-declarer, of_self, takes-own, clear, uses-none, uses-one, clear-reference, uses-only, means-attribute, means-variable, no-reason, not-set-aside, is-declarer, item-among, no-uses, is-within}
 use Rattle.type_graphs.proofs.Geo.{POINT, DIRECTION, PLACEMENT, GROUP, PLAIN_MARK, COORDS, RATIOS, DIM, LOCATION, AXIS, R, point, direction, placement, group, plain_label, behind_points, coords_type, real_type, dim_tree, some_ratio, as_many, name_tree, geo, A, B, NOTHING, AMOUNT, a_by_b, b_by_a, same_coords, some_nothing, is_amount, busy_point, busy, LEN_M, ANGLE_M, amount}
 
 -- numbers alone
@@ -67,8 +65,8 @@ pub record IsGeo (s : Schema) : Type 0 where
   pub one_dim : derivers s DIM ≡ DIRECTION ∷ []
 
 module _ (s : Schema) (known : IsGeo s) where
-  takes-ratios : MayTake s (of_set (Self DIRECTION) RATIOS) DIRECTION
-  takes-ratios = (DIRECTION, refl, (inl refl, (direction, known.is_direction, inl refl)))
+  takes-ratios : MayTake s (of_self s DIRECTION RATIOS) DIRECTION
+  takes-ratios = takes-own s DIRECTION RATIOS (direction, known.is_direction, inl refl)
 
   means-ratios : Means s (Self DIRECTION) [] (trees.named RATIOS) plain attribute_of_self
   means-ratios = means-attribute s (Self DIRECTION) [] RATIOS DIRECTION plain never takes-ratios
@@ -76,11 +74,11 @@ module _ (s : Schema) (known : IsGeo s) where
   clear-ratios : IsUnclearReference s (Self DIRECTION) [] (trees.named RATIOS) plain → ⊥
   clear-ratios =
       clear-reference s (Self DIRECTION) [] (trees.named RATIOS) plain attribute_of_self means-ratios
-      (neither (clear s (of_set (Self DIRECTION) RATIOS) DIRECTION known.ratios takes-ratios) never)
+      (neither (clear s (of_self s DIRECTION RATIOS) DIRECTION known.ratios takes-ratios) never)
 
   unused-ratios : (u : Derivation) → ReferenceMayUse s (Self DIRECTION) u [] (trees.named RATIOS) plain → ⊥
   unused-ratios u h =
-      neither (uses-none s u (of_set (Self DIRECTION) RATIOS) known.no_ratios) never
+      neither (uses-none s u (of_self s DIRECTION RATIOS) known.no_ratios) never
       (uses-only s (Self DIRECTION) [] (trees.named RATIOS) plain attribute_of_self means-ratios u h)
 
   pub unused-dim : (u : Derivation) → BodyMayUse s (Self DIRECTION) (parsed dim_tree) u → ⊥
@@ -132,10 +130,10 @@ module _ (s : Schema) (known : IsGeo s) where
       (neither never (neither (neither (unused-r u) never) never)))) never) uses)
 
   -- axis.dim = SIZEOF(location.coords)
-  takes-axis : MayTake s (of_set (Self PLACEMENT) AXIS) PLACEMENT
-  takes-axis = (PLACEMENT, refl, (inl refl, (placement, known.is_placement, inr (inl refl))))
+  takes-axis : MayTake s (of_self s PLACEMENT AXIS) PLACEMENT
+  takes-axis = takes-own s PLACEMENT AXIS (placement, known.is_placement, inr (inl refl))
 
-  axis-is-direction : OfTaken s (of_set (Self PLACEMENT) AXIS) (shapes.instance DIRECTION)
+  axis-is-direction : OfTaken s (of_self s PLACEMENT AXIS) (shapes.instance DIRECTION)
   axis-is-direction = (
     PLACEMENT,
     named DIRECTION,
@@ -145,7 +143,7 @@ module _ (s : Schema) (known : IsGeo s) where
   )
 
   abbrev a-dim : AttributeReference
-  a-dim = of_set (WithSubtypes s (OfTaken s (of_set (Self PLACEMENT) AXIS))) DIM
+  a-dim = of_set (WithSubtypes s (OfTaken s (of_self s PLACEMENT AXIS))) DIM
 
   takes-dim : MayTake s a-dim DIRECTION
   takes-dim =
@@ -157,20 +155,20 @@ module _ (s : Schema) (known : IsGeo s) where
   clear-axis : IsUnclearReference s (Self PLACEMENT) [] (trees.named AXIS) (attribute DIM plain) → ⊥
   clear-axis =
       clear-reference s (Self PLACEMENT) [] (trees.named AXIS) (attribute DIM plain) attribute_of_self means-axis
-      (neither (clear s (of_set (Self PLACEMENT) AXIS) PLACEMENT known.axis takes-axis)
+      (neither (clear s (of_self s PLACEMENT AXIS) PLACEMENT known.axis takes-axis)
       (neither (clear s a-dim DIRECTION known.dim takes-dim) never))
 
   used-axis : (u : Derivation) → ReferenceMayUse s (Self PLACEMENT) u [] (trees.named AXIS) (attribute DIM plain)
       → IsSetAside s u → ⊥
   used-axis (e, n) h aside =
-      neither (uses-none s (e, n) (of_set (Self PLACEMENT) AXIS) known.no_axis) (neither (λ k. dim-stays n
+      neither (uses-none s (e, n) (of_self s PLACEMENT AXIS) known.no_axis) (neither (λ k. dim-stays n
       (subst (λ x. IsSetAside s (x, n)) (sym (uses-one s e DIRECTION n a-dim known.one_dim k)) aside)) never)
       (uses-only s (Self PLACEMENT) [] (trees.named AXIS) (attribute DIM plain) attribute_of_self means-axis (e, n) h)
 
-  takes-location : MayTake s (of_set (Self PLACEMENT) LOCATION) PLACEMENT
-  takes-location = (PLACEMENT, refl, (inl refl, (placement, known.is_placement, inl refl)))
+  takes-location : MayTake s (of_self s PLACEMENT LOCATION) PLACEMENT
+  takes-location = takes-own s PLACEMENT LOCATION (placement, known.is_placement, inl refl)
 
-  location-is-point : OfTaken s (of_set (Self PLACEMENT) LOCATION) (shapes.instance POINT)
+  location-is-point : OfTaken s (of_self s PLACEMENT LOCATION) (shapes.instance POINT)
   location-is-point = (
     PLACEMENT,
     named POINT,
@@ -180,7 +178,7 @@ module _ (s : Schema) (known : IsGeo s) where
   )
 
   abbrev some-coords : AttributeReference
-  some-coords = of_set (WithSubtypes s (OfTaken s (of_set (Self PLACEMENT) LOCATION))) COORDS
+  some-coords = of_set (WithSubtypes s (OfTaken s (of_self s PLACEMENT LOCATION))) COORDS
 
   takes-coords : MayTake s some-coords POINT
   takes-coords = (POINT, (POINT, location-is-point, inl refl), (inl refl, known.is_point))
@@ -192,13 +190,13 @@ module _ (s : Schema) (known : IsGeo s) where
   clear-location : IsUnclearReference s (Self PLACEMENT) [] (trees.named LOCATION) (attribute COORDS plain) → ⊥
   clear-location =
       clear-reference s (Self PLACEMENT) [] (trees.named LOCATION) (attribute COORDS plain) attribute_of_self
-      means-location (neither (clear s (of_set (Self PLACEMENT) LOCATION) PLACEMENT known.location takes-location)
+      means-location (neither (clear s (of_self s PLACEMENT LOCATION) PLACEMENT known.location takes-location)
       (neither (clear s some-coords POINT known.coords takes-coords) never))
 
   unused-location : (u : Derivation)
       → ReferenceMayUse s (Self PLACEMENT) u [] (trees.named LOCATION) (attribute COORDS plain) → ⊥
   unused-location u h =
-      neither (uses-none s u (of_set (Self PLACEMENT) LOCATION) known.no_location)
+      neither (uses-none s u (of_self s PLACEMENT LOCATION) known.no_location)
       (neither (uses-none s u some-coords known.no_coords) never)
       (uses-only s (Self PLACEMENT) [] (trees.named LOCATION) (attribute COORDS plain) attribute_of_self
       means-location u h)
@@ -343,8 +341,8 @@ busy-is-geo =
       one_dim = refl;
     }
 
-takes : (a : Name) → Among a (attribute_names busy_point) → MayTake busy (of_set (Self POINT) a) POINT
-takes a m = (POINT, refl, (inl refl, (busy_point, refl, m)))
+takes : (a : Name) → Among a (attribute_names busy_point) → MayTake busy (of_self busy POINT a) POINT
+takes a m = takes-own busy POINT a (busy_point, refl, m)
 
 means : (a : Name) → Among a (attribute_names busy_point)
     → Means busy (Self POINT) [] (trees.named a) plain attribute_of_self
@@ -354,7 +352,7 @@ is-clear : (a : Name) → Among a (attribute_names busy_point) → declarers bus
     → IsUnclearReference busy (Self POINT) [] (trees.named a) plain → ⊥
 is-clear a m one =
     clear-reference busy (Self POINT) [] (trees.named a) plain attribute_of_self (means a m)
-    (neither (clear busy (of_set (Self POINT) a) POINT one (takes a m)) never)
+    (neither (clear busy (of_self busy POINT a) POINT one (takes a m)) never)
 
 uses : (a : Name) → Among a (attribute_names busy_point) → (n : ℕ) (d : Derived)
     → IsNth (a_by_b ∷ b_by_a ∷ []) n d → d.attribute ≡ own a

@@ -1,14 +1,13 @@
 -- The names of a schema of points, placements and shapes are resolved.
-use Rattle.std.specs.Prelude.{◌≡◌, ℕ, ◌<◌, Bool, true, false, cond, ◌==◌, not, ◌&&◌, ◌||◌, List, [], ◌∷◌, Some, bytes_eq, codes, ◌⊎◌}
+use Rattle.std.specs.Prelude.{◌≡◌, ℕ, ◌<◌, Bool, true, false, cond, ◌==◌, not, ◌&&◌, ◌||◌, List, [], ◌∷◌, bytes_eq}
 use Rattle.std.specs.List.{list_any}
-use Rattle.std.proofs.Common.{refl, inl, inr, ap, sym, subst, ◌∙◌, arith}
+use Rattle.std.proofs.Common.{refl, inl, inr, ap, sym, subst, arith}
 use Rattle.std.proofs.lemmas.Slice.Eq.{bytes_eq-Decides}
 use Rattle.digraph.specs.Graphs.{Chain, Leads}
-use Rattle.express_schemas.specs.Schemas.{Schema, Declaration, type, entity, TypeDeclaration, Entity, Underlying, enumeration, select, data_type, DataType, named, real, list, set, string, integer}
-use Rattle.express_schemas.specs.Schemas as schemas
+use Rattle.express_schemas.specs.Schemas.{TypeDeclaration, Entity, Underlying, enumeration, select, data_type, DataType, named, integer}
 use Rattle.express_schemas.specs.Profile.{Every}
-use Rattle.type_graphs.specs.Names.{Name, Among, entities, types, supertypes_of, IsEntityAt, IsSubtypeOf, IsBelow, Renames, HasItem, IsMadeOf}
-use Rattle.type_graphs.specs.Faults.{Declared, declared, IsMet, demands, StandsTwice, IsResolved}
+use Rattle.type_graphs.specs.Names.{Name, Among, entities, types, supertypes_of, IsSubtypeOf, Renames, HasItem, IsMadeOf}
+use Rattle.type_graphs.specs.Faults.{Declared, declared, IsMet, demands, IsResolved}
 use Rattle.type_graphs.proofs.Lists.{AreFresh, fresh-once, every-at}
 use Rattle.type_graphs.proofs.Bools.{both-hold, or-left, or-right}
 use Rattle.type_graphs.proofs.Supertypes.{entity-name}

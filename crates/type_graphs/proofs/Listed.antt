@@ -1,5 +1,5 @@
 -- A part has one reason at most, and a schema one list of unchecked parts.
-use Rattle.std.specs.Prelude.{◌≡◌, List, [], ◌∷◌, ◌⊎◌}
+use Rattle.std.specs.Prelude.{◌≡◌, List, [], ◌∷◌}
 use Rattle.std.proofs.Common.{refl, inl, inr, sym, ◌∙◌}
 use Rattle.type_graphs.specs.declared.unchecked.PartKind.{PartKind}
 use Rattle.type_graphs.specs.declared.unchecked.Reason.{Reason}

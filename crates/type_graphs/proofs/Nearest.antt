@@ -1,14 +1,14 @@
 -- Where the names are resolved, `SELF\entity.attribute` means one attribute, and an inverse attribute inverts one.
 use Rattle.std.specs.Prelude.{◌≡◌, Bool, true, false, List, [], ◌∷◌, ◌++◌, map, flat_map, Option, Some, None, bytes_eq, ◌⊎◌}
-use Rattle.std.proofs.Common.{refl, inl, inr, ap, sym, subst, ◌∙◌}
+use Rattle.std.proofs.Common.{refl, inl, inr, sym, subst, ◌∙◌}
 use Rattle.std.proofs.lemmas.Slice.Eq.{bytes_eq-Decides}
 use Rattle.digraph.specs.Graphs.{Chain}
-use Rattle.express_schemas.specs.Schemas.{Schema, Declaration, type, entity, skipped, Entity, Attribute, own, Inverse}
-use Rattle.type_graphs.specs.Names.{Name, Among, IsFirst, listed, entities, supertypes_of, attribute_names, explicit_names, declaration_of, IsEntity, IsEntityAt, IsSubtypeOf, IsKindOf, Declares, DeclaresExplicit, HasAttribute, HasExplicit}
+use Rattle.express_schemas.specs.Schemas.{Schema, Declaration, type, entity, skipped, Entity, Inverse}
+use Rattle.type_graphs.specs.Names.{Name, Among, IsFirst, listed, entities, supertypes_of, attribute_names, explicit_names, declaration_of, IsEntity, IsEntityAt, IsSubtypeOf, IsKindOf, HasExplicit}
 use Rattle.type_graphs.specs.Faults.{Demand, an_entity, inverted, IsMet, demands, demands_of_declaration, demands_of_supertype, demands_of_explicit, demands_of_derived, demands_of_inverse, demands_of_holder, holder_of, IsResolved}
-use Rattle.type_graphs.specs.Attributes.{AreLines, IsNearest, IsOrigin, IsInverted}
+use Rattle.type_graphs.specs.Attributes.{AreLines, IsNearest, IsInverted}
 use Rattle.type_graphs.specs.Laws.{OriginsAreOne, InvertedAreOne}
-use Rattle.type_graphs.proofs.Lists.{among-left, among-right, among-map, among-flat, every-at, first-is-one, first-exists}
+use Rattle.type_graphs.proofs.Lists.{among-right, among-flat, every-at, first-is-one, first-exists}
 use Rattle.type_graphs.proofs.Recursion.{equation, make_line, solution, solutions-are-one, declared-entity}
 use Rattle.type_graphs.proofs.Supertypes.{entity-name}
 

@@ -1,27 +1,27 @@
 -- What isn't checked of small schemas.
-use Rattle.std.specs.Prelude.{◌≡◌, Bool, true, false, cond, List, [], ◌∷◌, Option, None, Some, bytes_eq, codes, ◌⊎◌}
+use Rattle.std.specs.Prelude.{◌≡◌, true, false, cond, List, [], ◌∷◌, None, Some, bytes_eq, codes}
 use Rattle.std.specs.Str.{is_utf8, chars}
-use Rattle.std.proofs.Common.{refl, inl, inr, ap, sym, subst, ◌∙◌}
-use Rattle.digraph.specs.Graphs.{Leads}
+use Rattle.std.proofs.Common.{refl, inl, inr, ap, sym, subst}
+use Rattle.express_trees.specs.declared.tree.Function.TheVariants as functions
 use Rattle.express_trees.specs.declared.tree.Relation.TheVariants as relations
-use Rattle.express_trees.specs.Trees.{Tree, reference, comparison, literal, plain, text}
+use Rattle.express_trees.specs.Trees.{Tree, reference, comparison, call, literal, plain, text}
 use Rattle.express_trees.specs.Trees as trees
 use Rattle.express_schemas.specs.Runs.{ended}
-use Rattle.express_schemas.specs.Schemas.{Schema, Declaration, type, entity, TypeDeclaration, Entity, own, redeclared, Explicit, Derived, Inverse, alone, Unique, parsed, DataType, named, integer, real, string, width, Underlying, enumeration, data_type, of_other}
+use Rattle.express_schemas.specs.Schemas.{Schema, Declaration, type, entity, TypeDeclaration, Entity, own, redeclared, Derived, Inverse, alone, parsed, DataType, named, integer, real, string, width, enumeration, data_type, of_other}
 use Rattle.type_graphs.specs.declared.unchecked.PartKind.{PartKind}
 use Rattle.type_graphs.specs.declared.unchecked.PartKind.TheVariants as parts
 use Rattle.type_graphs.specs.declared.unchecked.Reason.{Reason}
 use Rattle.type_graphs.specs.declared.unchecked.Reason.TheVariants as reasons
-use Rattle.type_graphs.specs.Names.{Name, Among, supertypes_of, IsFirst, IsOrLeads, IsEntityAt, IsSubtypeOf, IsKindOf, Renames, DeclaresExplicit, explicit_names, attribute_names}
+use Rattle.type_graphs.specs.Names.{Name, IsFirst, IsEntityAt, Renames, DeclaresExplicit, explicit_names}
 use Rattle.type_graphs.specs.Shapes.{Shape, of_numbers, of_strings, IsShapeAt, HasShape, AreOne, AreAlike, Sort, Atom, an_item}
 use Rattle.type_graphs.specs.Shapes as shapes
-use Rattle.type_graphs.specs.Attributes.{AreLines, IsOrigin, DeclaresAs, IsFirstType, HasFirstShape}
-use Rattle.type_graphs.specs.Sets.{Only, of_set, MayTake, itself, variable, attribute_of_self, item_of_type, item, Means, IsUnclearReference, May, OfReference}
-use Rattle.type_graphs.specs.Reasons.{IsTypeTest, MayBeDeep, MayBeUnordered}
+use Rattle.type_graphs.specs.Attributes.{Derivation, IsOrigin, DeclaresAs, IsFirstType, HasFirstShape}
+use Rattle.type_graphs.specs.Sets.{MayTake, attribute_of_self, item, Means, IsItemOf, OfReference, IsUnclearReference, ReferenceMayUse}
+use Rattle.type_graphs.specs.Reasons.{IsTypeTest, MayBeDeep}
 use Rattle.type_graphs.specs.Ranks.{Self, derived_name}
-use Rattle.type_graphs.specs.Parts.{Unchecked, AreUnchecked, all_reasons, HasOtherShape, NamesOther, UniqueHasReason}
+use Rattle.type_graphs.specs.Parts.{Unchecked, AreUnchecked, all_reasons, HasOtherShape, NamesOther}
 use Rattle.type_graphs.proofs.Lists.{first-step}
-use Rattle.type_graphs.proofs.Facts.{neither, never, named-in, is-declarer, one-declarer, declarers, clear, uses-none, clear-reference, uses-only, may-only, means-attribute, no-reason}
+use Rattle.type_graphs.proofs.Facts.{neither, never, named-in, is-declarer, derivers, of_self, takes-own, clear, uses-none, clear-reference, uses-only, may-only, means-attribute, no-reason}
 use Rattle.type_graphs.proofs.Geo.{bare, having, rule, name_tree, number_tree, POINT, point, geo, FINISH, A, B}
 
 differ : true ≡ false → ⊥
@@ -168,7 +168,7 @@ odd-lists =
     )
 
 -- TYPE finish = ENUMERATION OF (rough, fine); END_TYPE;
--- ENTITY a; f : finish; WHERE wr1 : f = rough; wr2 : rough < 1; END_ENTITY;
+-- ENTITY a; f : finish; WHERE wr1 : f = fine; wr2 : fine < 1; wr3 : EXISTS(rough); END_ENTITY;
 -- ENTITY b SUBTYPE OF (a); rough : REAL; END_ENTITY;
 abbrev F : Name
 F = codes "F"
@@ -176,20 +176,26 @@ F = codes "F"
 abbrev ROUGH : Name
 ROUGH = codes "ROUGH"
 
-abbrev finish : TypeDeclaration
-finish = record { name = FINISH; underlying = enumeration (ROUGH ∷ codes "FINE" ∷ []); rules = None }
+abbrev FINE : Name
+FINE = codes "FINE"
 
-abbrev is_rough : Tree
-is_rough = comparison (name_tree F) relations.Equal (name_tree ROUGH)
+abbrev finish : TypeDeclaration
+finish = record { name = FINISH; underlying = enumeration (ROUGH ∷ FINE ∷ []); rules = None }
+
+abbrev is_fine : Tree
+is_fine = comparison (name_tree F) relations.Equal (name_tree FINE)
 
 abbrev below_one : Tree
-below_one = comparison (name_tree ROUGH) relations.Less (number_tree (codes "1"))
+below_one = comparison (name_tree FINE) relations.Less (number_tree (codes "1"))
+
+abbrev has_rough : Tree
+has_rough = call functions.Exists (name_tree ROUGH)
 
 abbrev finished : Entity
 finished =
     record (bare A) {
       explicits = having F (named FINISH) ∷ [];
-      rules = Some (rule (codes "WR1") is_rough ∷ rule (codes "WR2") below_one ∷ []);
+      rules = Some (rule (codes "WR1") is_fine ∷ rule (codes "WR2") below_one ∷ rule (codes "WR3") has_rough ∷ []);
     }
 
 abbrev measured : Entity
@@ -198,49 +204,56 @@ measured = record (bare B) { subtype_of = Some (A ∷ []); explicits = having RO
 abbrev finishes : Schema
 finishes = schema (type finish ∷ entity finished ∷ entity measured ∷ [])
 
--- a is no b
-not-above : IsKindOf finishes A B → ⊥
-not-above (inl e) = differ (sym (ap (λ n. bytes_eq n B) e))
-not-above (inr way) = by (first-step (IsSubtypeOf finishes) A B way).1
+-- `fine` is the item, since no entity has an attribute of this name
+means-item : Means finishes (Self A) [] (trees.named FINE) plain item
+means-item = inr (never, inr (never, inr (no-attribute, inr (never, inl ((FINISH, is-item), refl)))))
   where
-    same : (e : Entity) → IsEntityAt finishes A e → finished ≡ e
-    same e at = cc
+    no-attribute : ((p : Name) × MayTake finishes (of_self finishes A FINE) p) → ⊥
+    no-attribute (p, (e, is, (kind, declares))) = is-declarer finishes p FINE declares
 
-    by : {m : Name} → IsSubtypeOf finishes A m → ⊥
-    by {m} (e, at, h) = subst (λ x. Among m (supertypes_of x)) (sym (same e at)) h
+    is-item : IsItemOf finishes FINISH FINE
+    is-item = (FINISH, ROUGH ∷ FINE ∷ [], inl refl, (finish, refl, refl), inr (inl refl))
 
--- in a, `rough` is the item, though b has an attribute of this name
-means-item : Means finishes (Self A) [] (trees.named ROUGH) plain item
-means-item = inr (never, inr (never, inr (no-attribute, inr (never, inl ((FINISH, (FINISH, ROUGH ∷ codes "FINE" ∷ [], inl refl, (finish, refl, refl), inl refl)), refl)))))
-  where
-    instance_name : Atom → Name
-    instance_name (shapes.instance n) = n
-    instance_name (shapes.value x w) = []
+-- `rough` is the attribute that b alone has, and not the item
+takes-rough : MayTake finishes (of_self finishes A ROUGH) B
+takes-rough = (B, (A, refl, inr ([], (measured, refl, inl refl))), (inl refl, (measured, refl, inl refl)))
 
-    no-attribute : ((p : Name) × MayTake finishes (of_set (Self A) ROUGH) p) → ⊥
-    no-attribute (p, (e, is, (kind, declares))) =
-        not-above (subst (λ n. IsKindOf finishes n B) (ap instance_name is)
-        (subst (λ n. IsKindOf finishes e n) (sym (one-declarer finishes B p ROUGH refl declares)) kind))
+means-rough : Means finishes (Self A) [] (trees.named ROUGH) plain attribute_of_self
+means-rough = means-attribute finishes (Self A) [] ROUGH B plain never takes-rough
 
-takes-f : MayTake finishes (of_set (Self A) F) A
-takes-f = (A, refl, (inl refl, (finished, refl, inl refl)))
+clear-rough : IsUnclearReference finishes (Self A) [] (trees.named ROUGH) plain → ⊥
+clear-rough =
+    clear-reference finishes (Self A) [] (trees.named ROUGH) plain attribute_of_self means-rough
+    (neither (clear finishes (of_self finishes A ROUGH) B refl takes-rough) never)
+
+takes-f : MayTake finishes (of_self finishes A F) A
+takes-f = takes-own finishes A F (finished, refl, inl refl)
+
+means-f : Means finishes (Self A) [] (trees.named F) plain attribute_of_self
+means-f = means-attribute finishes (Self A) [] F A plain never takes-f
 
 clear-f : IsUnclearReference finishes (Self A) [] (trees.named F) plain → ⊥
 clear-f =
-    clear-reference finishes (Self A) [] (trees.named F) plain attribute_of_self
-    (means-attribute finishes (Self A) [] F A plain never takes-f)
-    (neither (clear finishes (of_set (Self A) F) A refl takes-f) never)
+    clear-reference finishes (Self A) [] (trees.named F) plain attribute_of_self means-f
+    (neither (clear finishes (of_self finishes A F) A refl takes-f) never)
 
-clear-rough : IsUnclearReference finishes (Self A) [] (trees.named ROUGH) plain → ⊥
-clear-rough = clear-reference finishes (Self A) [] (trees.named ROUGH) plain item means-item never
+-- nothing is derived
+unused : (a : Name) → Means finishes (Self A) [] (trees.named a) plain attribute_of_self
+    → derivers finishes a ≡ [] → (u : Derivation) → ReferenceMayUse finishes (Self A) u [] (trees.named a) plain → ⊥
+unused a means none u h =
+    neither (uses-none finishes u (of_self finishes A a) none) never
+    (uses-only finishes (Self A) [] (trees.named a) plain attribute_of_self means u h)
 
-not-deep : MayBeDeep (OfReference finishes (Self A) [] (trees.named ROUGH) plain) → ⊥
-not-deep (inl (e, h)) = unlike (may-only finishes (Self A) [] (trees.named ROUGH) plain item means-item (shapes.instance e) h)
+clear-fine : IsUnclearReference finishes (Self A) [] (trees.named FINE) plain → ⊥
+clear-fine = clear-reference finishes (Self A) [] (trees.named FINE) plain item means-item never
+
+not-deep : MayBeDeep (OfReference finishes (Self A) [] (trees.named FINE) plain) → ⊥
+not-deep (inl (e, h)) = unlike (may-only finishes (Self A) [] (trees.named FINE) plain item means-item (shapes.instance e) h)
   where
     unlike : shapes.instance e ≡ shapes.value an_item false → ⊥
     unlike q = cc
 not-deep (inr (k, w, h)) =
-    unlike (may-only finishes (Self A) [] (trees.named ROUGH) plain item means-item
+    unlike (may-only finishes (Self A) [] (trees.named FINE) plain item means-item
     (shapes.value (shapes.an_aggregate k) w) h)
   where
     unlike : shapes.value (shapes.an_aggregate k) w ≡ shapes.value an_item false → ⊥
@@ -249,15 +262,13 @@ not-deep (inr (k, w, h)) =
 finishes-list : AreUnchecked finishes (part parts.Where (codes "A.WR2") reasons.Kind ∷ [])
 finishes-list =
     inr (
-      no-reason finishes (Self A) is_rough
+      no-reason finishes (Self A) is_fine
           (neither never (neither (neither never never) (neither never never)))
-          (neither never (neither (neither clear-f never) (neither clear-rough never)))
+          (neither never (neither (neither clear-f never) (neither clear-fine never)))
           (neither never (neither (neither never never) (neither never never)))
           (neither (λ h. not-deep h.1) (neither (neither never never) (neither never never)))
-          (λ u uses aside. neither never (neither (neither (λ h. neither (uses-none finishes u (of_set (Self A) F) refl) never
-          (uses-only finishes (Self A) [] (trees.named F) plain attribute_of_self
-          (means-attribute finishes (Self A) [] F A plain never takes-f) u h)) never)
-          (neither (λ h. uses-only finishes (Self A) [] (trees.named ROUGH) plain item means-item u h) never)) uses),
+          (λ u uses aside. neither never (neither (neither (unused F means-f refl u) never)
+          (neither (λ h. uses-only finishes (Self A) [] (trees.named FINE) plain item means-item u h) never)) uses),
       inl (
         reasons.Kind,
         inr (
@@ -265,7 +276,7 @@ finishes-list =
           inr (
             neither never (neither (neither never never) never),
             inr (
-              neither never (neither (neither clear-rough never) never),
+              neither never (neither (neither clear-fine never) never),
               inr (
                 neither never (neither (neither never never) never),
                 inl (inl (inl (an_item, false, tt, (item, means-item, refl))), refl),
@@ -275,7 +286,15 @@ finishes-list =
         ),
         [],
         refl,
-        refl,
+        inr (
+          no-reason finishes (Self A) has_rough
+              (neither never (neither never never))
+              (neither never (neither clear-rough never))
+              (neither never (neither never never))
+              (neither never (neither never never))
+              (λ u uses aside. neither never (neither (unused ROUGH means-rough refl u) never) uses),
+          refl,
+        ),
       ),
     )
 

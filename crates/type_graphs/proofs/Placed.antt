@@ -1,17 +1,17 @@
 -- Places of attributes.
-use Rattle.std.specs.Prelude.{◌≡◌, Bool, true, false, cond, ◌&&◌, ◌||◌, List, [], ◌∷◌, ◌++◌, flat_map, bytes_eq, ◌⊎◌}
+use Rattle.std.specs.Prelude.{◌≡◌, Bool, true, false, cond, ◌||◌, List, [], ◌∷◌, ◌++◌, flat_map, bytes_eq, ◌⊎◌}
 use Rattle.std.specs.List.{IsDistinct, AllByRecursion, list_any}
 use Rattle.std.proofs.Common.{refl, inl, inr, ap, sym, subst, ◌∙◌}
 use Rattle.std.proofs.lemmas.Slice.Eq.{bytes_eq-Decides}
 use Rattle.digraph.specs.Graphs.{Chain}
-use Rattle.express_schemas.specs.Schemas.{Schema, Entity}
-use Rattle.type_graphs.specs.Names.{Name, Among, explicit_names, supertypes_of, IsEntityAt, IsSubtypeOf, IsKindOf, DeclaresExplicit}
+use Rattle.express_schemas.specs.Schemas.{Schema}
+use Rattle.type_graphs.specs.Names.{Name, Among, explicit_names, supertypes_of, IsSubtypeOf, IsKindOf, DeclaresExplicit}
 use Rattle.type_graphs.specs.Attributes.{Place, same_place, without, once, own_places, ArePlaces, IsPlaces}
 use Rattle.type_graphs.specs.Laws.{PlacesStandOnce, PlacesAreOne, ExplicitHavePlaces}
 use Rattle.type_graphs.proofs.Lists.{among-left, among-right, among-map, among-flat}
 use Rattle.type_graphs.proofs.Bools.{both-hold, is-false, or-left, or-right}
 use Rattle.type_graphs.proofs.Supertypes.{entity-name}
-use Rattle.type_graphs.proofs.Recursion.{equation, make_places, Solves, solution, solutions-are-one}
+use Rattle.type_graphs.proofs.Recursion.{equation, make_places, solution, solutions-are-one}
 
 -- places that are told to be the same are one
 pair : (a b c d : Name) → a ≡ c → b ≡ d → ◌≡◌ {A = Place} (a, b) (c, d)

@@ -1,10 +1,10 @@
 -- Who is a kind of whom.
-use Rattle.std.specs.Prelude.{◌≡◌, ℕ, ◌+◌, Bool, true, false, cond, List, [], ◌∷◌, map, Some, bytes_eq}
+use Rattle.std.specs.Prelude.{◌≡◌, ℕ, ◌+◌, Bool, true, false, cond, List, [], ◌∷◌, Some, bytes_eq}
 use Rattle.std.proofs.Common.{refl, inl, inr, ap, sym, subst, ◌∙◌}
 use Rattle.std.proofs.lemmas.Slice.Eq.{bytes_eq-Decides}
 use Rattle.express_schemas.specs.Schemas.{Schema, Declaration, type, entity, skipped, Entity}
 use Rattle.type_graphs.specs.Names.{Name, Among, entities_of, entities, declaration_of, declared_name, is_named, IsEntityAt, IsSubtypeOf, IsBelow, IsKindOf}
-use Rattle.type_graphs.specs.Faults.{IsResolved, declared_from, declared, in_scope, items_of, Declared}
+use Rattle.type_graphs.specs.Faults.{declared_from, declared, in_scope, items_of, Declared}
 use Rattle.type_graphs.specs.Names.{attribute_names}
 use Rattle.type_graphs.specs.Laws.{KindsAreOrdered, KindsAreApart, SupertypesDecideKinds, OrderDecidesNoKinds}
 use Rattle.type_graphs.proofs.Lists.{among-right, leads-kept, leads-joined, AreFresh, none-twice, are-fresh, fresh-right}

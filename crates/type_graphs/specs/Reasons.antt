@@ -5,7 +5,6 @@ use Rattle.express_lexis.specs.Meanings.{simple_text, characters_of, encoded_tex
 use Rattle.express_trees.specs.declared.tree.Function.TheVariants as functions
 use Rattle.express_trees.specs.declared.tree.Relation.TheVariants as relations
 use Rattle.express_trees.specs.Trees.{Tree, Trees, Alternatives, Qualifiers, Root, Literal, literal, signed, reference, parenthesized, aggregate, interval, query, call, nvl, negation, conjunction, disjunction, comparison, none, one, finish, another, plain, attribute, group, index, text, codes_of_text}
-use Rattle.express_trees.specs.Trees as trees
 use Rattle.express_schemas.specs.Schemas.{Schema, DataType, named, Body, parsed, set_aside}
 use Rattle.type_graphs.specs.declared.unchecked.Reason.{Reason}
 use Rattle.type_graphs.specs.declared.unchecked.Reason.TheVariants as reasons

@@ -122,12 +122,13 @@ pub data Meaning : Type 0 where
   item_of_type : Meaning
   item : Meaning
 
--- With the set of SELF and the variables around it. A bare name is an attribute where an entity that SELF may be has
--- it; what subtypes alone have is written `SELF.name` (ISO 10303-11, 10.2 and 12.7.1).
+-- With the set of SELF and the variables around it. A bare name is a variable, else `SELF.name`, also where a subtype
+-- alone has such an attribute, else the type of `type.item`, else an item of an enumeration (ISO 10303-11, 10.2 and
+-- 12.7.1).
 abbrev pub MayMean : Schema → Set → List Variable → Root → Qualifiers → Meaning → Type 0
 MayMean s self vs trees.own qs itself = Unit {0}
 MayMean s self vs (trees.named n) qs variable = IsVariable vs n
-MayMean s self vs (trees.named n) qs attribute_of_self = (p : Name) × MayTake s (of_set self n) p
+MayMean s self vs (trees.named n) qs attribute_of_self = (p : Name) × MayTake s (of_set (WithSubtypes s self) n) p
 MayMean s self vs (trees.named n) (attribute i qs) item_of_type = IsItemOf s n i
 MayMean s self vs (trees.named n) qs item = (t : Name) × IsItemOf s t n
 MayMean s self vs r qs m = ⊥
@@ -137,12 +138,12 @@ abbrev pub Means : Schema → Set → List Variable → Root → Qualifiers → 
 Means s self vs r qs m =
     IsFirst (MayMean s self vs r qs) (itself ∷ variable ∷ attribute_of_self ∷ item_of_type ∷ item ∷ []) m
 
--- the path of a reference with this meaning; the first qualifier of `type.item` belongs to its meaning
+-- The path of a reference with this meaning. That of an attribute of SELF is the one of `SELF.name`; the first qualifier
+-- of `type.item` belongs to its meaning.
 abbrev pub path : Schema → Set → List Variable → Root → Qualifiers → Meaning → Path
 path s self vs trees.own qs itself = path_behind s self qs
 path s self vs (trees.named n) qs variable = path_behind s (OfVariable vs n) qs
-path s self vs (trees.named n) qs attribute_of_self =
-    with_attribute (of_set self n) (path_behind s (OfTaken s (of_set self n)) qs)
+path s self vs (trees.named n) qs attribute_of_self = path_behind s self (attribute n qs)
 path s self vs (trees.named n) (attribute i qs) item_of_type = path_behind s (Only an_item) qs
 path s self vs (trees.named n) qs item = path_behind s (Only an_item) qs
 path s self vs r qs m = record { attributes = []; may = Empty }
