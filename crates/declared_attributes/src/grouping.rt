@@ -56,12 +56,13 @@ fn row_count(rows: &[Vec<AttributeDeclaration>]) -> Result<u32, AllocError>
     }
 }
 
-/// Adds an empty row.
+/// Adds an empty row, with room for one: most names have one attribute.
 fn add_row(alloc: Global, rows: &mut Vec<Vec<AttributeDeclaration>>) -> Result<(), AllocError>
     ensures { OnOk result (map (λ v. v.items) rows.new.items
         ≡ map (λ v. v.items) rows.old.items ++ [] ∷ []) }
 {
-    rows.push(Vec::new(alloc))?;
+    let row = Vec::with_capacity(alloc, 1)?;
+    rows.push(row)?;
     Ok(())
 }
 

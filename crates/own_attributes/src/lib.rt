@@ -2,4 +2,5 @@
 //! above it (ISO 10303-11, 9.2.3.3).
 #![tactic(auto)]
 
+pub mod above;
 pub mod attributes;

@@ -1,31 +1,18 @@
 //! Who is a kind of whom, and which attributes are inherited (ISO 10303-11, 9.2.3).
 
-ghost use Rattle.std.specs.Prelude.{◌≡◌, Some};
+ghost use Rattle.std.specs.Prelude.{◌≡◌};
 ghost use Rattle.std.specs.List.{list_any};
 ghost use Rattle.digraph.specs.Graphs.{graph_of};
 ghost use Rattle.express_trees.specs.Views.{capitals};
 ghost use Rattle.express_schemas.specs.Views.{names_of};
 ghost use Rattle.express_schemas.specs.SchemaViews.{schema_of};
 ghost use Rattle.schema_demands.specs.Kinds.{is_kind, is_inherited, is_inverted};
-ghost use Rattle.own_attributes.specs.Above.{is_or_leads};
 
 use crate::inherited::has;
+use own_attributes::above::is_or_leads;
 use own_attributes::attributes::Meant;
 use schema_names::names::Names;
 use step_literals::literal::Word;
-
-/// Whether two numbers are one, or a row leads from the one to the other.
-fn is_or_leads(above: &[Vec<u32>], lower: u32, upper: u32) -> bool
-    ensures { result ≡ is_or_leads (graph_of above.now) (Some lower) upper }
-{
-    if lower == upper {
-        return true;
-    }
-    match above.get(lower as usize) {
-        Some(uppers) => uppers.contains(&upper),
-        None => false,
-    }
-}
 
 /// Whether a name is a kind of what has a number.
 fn is_kind(names: &Names<'_, '_>, above: &[Vec<u32>], name: Word<'_>, upper: u32) -> bool

@@ -1,9 +1,8 @@
 //! Which declarations of attributes are taken (ISO 10303-11, 12.7.3 and 12.7.4).
 
-ghost use Rattle.std.specs.Prelude.{◌≡◌, not, Some, IfOk};
+ghost use Rattle.std.specs.Prelude.{◌≡◌, not, IfOk};
 ghost use Rattle.std.specs.List.{list_any};
 ghost use Rattle.digraph.specs.Graphs.{graph_of};
-ghost use Rattle.own_attributes.specs.Above.{is_or_leads};
 ghost use Rattle.taken_attributes.specs.Choosing.{
   is_of_any,
   of_entities,
@@ -21,20 +20,8 @@ ghost use Rattle.taken_attributes.specs.Choosing.{
 ghost use Rattle.taken_attributes.specs.Gathering.{is_any};
 
 use declared_attributes::declaration::AttributeDeclaration;
+use own_attributes::above::is_or_leads;
 use std::alloc::{AllocError, Global};
-
-/// Whether one number is another, or its row leads there.
-fn is_kind(above: &[Vec<u32>], entity: u32, other: u32) -> bool
-    ensures { result ≡ is_or_leads (graph_of above.now) (Some entity) other }
-{
-    if entity == other {
-        return true;
-    }
-    match above.get(entity as usize) {
-        Some(uppers) => uppers.contains(&other),
-        None => false,
-    }
-}
 
 /// Whether one of some entities has an attribute.
 fn is_of_any(above: &[Vec<u32>], entities: &[u32], declaration: AttributeDeclaration) -> bool
@@ -42,7 +29,7 @@ fn is_of_any(above: &[Vec<u32>], entities: &[u32], declaration: AttributeDeclara
 {
     entities
         .iter()
-        .any(|entity| is_kind(above, *entity, declaration.entity))
+        .any(|entity| is_or_leads(above, *entity, declaration.entity))
 }
 
 /// The attributes that some entities have.
@@ -74,7 +61,7 @@ fn first_of(
 {
     declarations
         .iter()
-        .find(|each| is_kind(above, entity, each.entity))
+        .find(|each| is_or_leads(above, entity, each.entity))
         .copied()
 }
 
@@ -87,7 +74,7 @@ fn has_another(
 ) -> bool
     ensures { result ≡ has_another (graph_of above.now) declarations.now entity first }
 {
-    declarations.iter().any(|each| each.entity != first && is_kind(above, entity, each.entity))
+    declarations.iter().any(|each| each.entity != first && is_or_leads(above, entity, each.entity))
 }
 
 /// Whether an entity has attributes that two entities declare.

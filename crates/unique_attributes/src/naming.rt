@@ -25,6 +25,7 @@ ghost use Rattle.unique_attributes.specs.Naming.{IsNaming, both};
 
 use declared_attributes::declaration::AttributeDeclaration;
 use express_schemas::tree::Attribute;
+use own_attributes::above::is_or_leads;
 use own_attributes::attributes::{Meant, declares_at};
 use schema_names::names::Names;
 use std::alloc::{AllocError, Global};
@@ -38,19 +39,6 @@ pub struct Naming {
     pub is_other: bool,
     /// Whether one of them names no attribute, or several.
     pub is_not_one: bool,
-}
-
-/// Whether two numbers are one, or a row leads from the one to the other.
-fn is_or_leads(above: &[Vec<u32>], lower: u32, upper: u32) -> bool
-    ensures { result ≡ is_or_leads (graph_of above.now) (Some lower) upper }
-{
-    if lower == upper {
-        return true;
-    }
-    match above.get(lower as usize) {
-        Some(uppers) => uppers.contains(&upper),
-        None => false,
-    }
 }
 
 /// Adds the number of an entity, where another one is a kind of it.
