@@ -17,14 +17,14 @@ use Rattle.type_graphs.specs.declared.unchecked.Reason.{Reason}
 use Rattle.type_graphs.specs.declared.unchecked.PartKind.TheVariants as parts
 use Rattle.type_graphs.specs.declared.unchecked.Reason.TheVariants as reasons
 use Rattle.type_graphs.specs.Names.{Name, IsFirst, IsMadeOf, IsEntity, IsType, IsBelow, IsKindOf, IsEntityAt, IsTypeAt, IsSubtypeOf, listed, Among, entities, supertypes_of, explicit_names}
-use Rattle.type_graphs.specs.Faults.{Demand, IsMet, a_type, an_entity, inherited, inverted, demands, declared, Declared, StandsTwice, IsFault, IsOwnSupertype}
+use Rattle.type_graphs.specs.Faults.{Demand, IsMet, a_type, an_entity, inherited, inverted, demands, declared, Declared, IsFirstAgain, IsFault, IsOwnSupertype}
 use Rattle.type_graphs.specs.Shapes.{AreAlike, KeepsShapes, HasShape, AreOne, Shape, of_lists, an_aggregate}
 use Rattle.type_graphs.specs.Attributes.{Place, IsPlaces, Derivation, IsNth, IsOrigin}
 use Rattle.type_graphs.specs.Reasons.{SaysName, BodyMayUse, HasBadKind, MayBeDeep, HasUnclearName}
 use Rattle.type_graphs.specs.Sets.{Set, of_set, May, MayTake, TakesTwo, Variable, IsVariable, Meaning, itself, variable, attribute_of_self, item_of_type, item, Means}
 use Rattle.type_graphs.specs.Shapes as shapes
 use Rattle.type_graphs.specs.Ranks.{Self, Uses, LeadsToItself, HasReason, IsRank, IsDerivedAt}
-use Rattle.type_graphs.proofs.Lists.{first-holds, fresh-once, last-step}
+use Rattle.type_graphs.proofs.Lists.{again-twice, fresh-once, last-step}
 use Rattle.type_graphs.proofs.Supertypes.{entity-name}
 use Rattle.type_graphs.proofs.Bools.{both-hold}
 use Rattle.type_graphs.proofs.Facts.{is-declarer, named-in}
@@ -134,14 +134,18 @@ abbrev second : Schema
 second = schema (entity (an A [] []) ∷ entity (an A [] []) ∷ [])
 
 duplicate-name : IsFault second DuplicateName A
-duplicate-name = ((λ n h. h.1), (0, inl (inl (refl, inl refl), refl)))
+duplicate-name = ((λ n h. h.1), (0, inr ((λ m. m), inl (inl refl, refl))))
 
--- of a, b, b, a the first is answered, though b comes again before it
+-- of a, b, b, a the name that is repeated first is answered, though a stands before it
 abbrev nested : Schema
 nested = schema (entity (an A [] []) ∷ entity (an B [] []) ∷ entity (an B [] []) ∷ entity (an A [] []) ∷ [])
 
-first-of-duplicates : IsFault nested DuplicateName A
-first-of-duplicates = ((λ n h. h.1), (0, inl (inl (refl, inr (inr (inl refl))), refl)))
+first-repeated : IsFault nested DuplicateName B
+first-repeated = ((λ n h. h.1), (0, inr ((λ m. m), inr (fresh, inl (inl refl, refl)))))
+  where
+    fresh : Among (name-declared B) (name-declared A ∷ []) → ⊥
+    fresh (inl e) = differ (sym (ap (λ (p : Declared). bytes_eq p.1 B) e))
+    fresh (inr k) = k
 
 -- ENTITY a; END_ENTITY; ENTITY a; x : b; END_ENTITY; shows two faults, and the least is answered
 abbrev both : Schema
@@ -182,8 +186,8 @@ cycle-of-supertypes = (
     known (inr (_, inl h)) = h.0 (an A (B ∷ []) [], refl)
     known (inr (_, inr (_, h))) = h
 
-    apart : {x : Declared} → IsFirst (StandsTwice (declared third)) (declared third) x → ⊥
-    apart {x} h = fresh-once (declared third) (fresh, ((λ k. k), tt)) x (first-holds (StandsTwice (declared third)) (declared third) x h)
+    apart : {x : Declared} → IsFirstAgain [] (declared third) x → ⊥
+    apart {x} h = fresh-once (declared third) (fresh, ((λ k. k), tt)) x (again-twice (declared third) x h)
       where
         fresh : Among (name-declared A) (name-declared B ∷ []) → ⊥
         fresh (inl e) = differ (ap (λ (p : Declared). bytes_eq p.1 B) e)
@@ -206,8 +210,8 @@ cycle-of-types =
     known (inr (_, inl h)) = h.0 (inl (record { name = A; underlying = select (B ∷ []); rules = None }, refl))
     known (inr (_, inr (_, h))) = h
 
-    apart : {x : Declared} → IsFirst (StandsTwice (declared fourth)) (declared fourth) x → ⊥
-    apart {x} h = fresh-once (declared fourth) (fresh, ((λ k. k), tt)) x (first-holds (StandsTwice (declared fourth)) (declared fourth) x h)
+    apart : {x : Declared} → IsFirstAgain [] (declared fourth) x → ⊥
+    apart {x} h = fresh-once (declared fourth) (fresh, ((λ k. k), tt)) x (again-twice (declared fourth) x h)
       where
         fresh : Among (name-declared A) (name-declared B ∷ []) → ⊥
         fresh (inl e) = differ (ap (λ (p : Declared). bytes_eq p.1 B) e)

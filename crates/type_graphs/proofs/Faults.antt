@@ -6,10 +6,10 @@ use Rattle.express_schemas.specs.Schemas.{Schema, Declaration, type, entity, ski
 use Rattle.express_schemas.specs.declared.fault.NameFault.{NameFault}
 use Rattle.express_schemas.specs.declared.fault.NameFault.TheVariants.{UnknownName, DuplicateName, SupertypeCycle, TypeCycle}
 use Rattle.type_graphs.specs.Names.{Name, Among, entities, types, types_of, IsType, IsTypeAt, IsSubtypeOf, IsBelow, HasItem, IsMadeOf}
-use Rattle.type_graphs.specs.Faults.{Demand, Declared, IsMet, demands, declared, asked, StandsTwice, IsAboveItself, IsMadeOfItself, IsUnknown, IsDuplicate, IsFault, IsFreeOf, IsResolved}
+use Rattle.type_graphs.specs.Faults.{Demand, Declared, IsMet, demands, declared, asked, IsAboveItself, IsMadeOfItself, IsUnknown, IsDuplicate, IsFault, IsFreeOf, IsResolved}
 use Rattle.express_schemas.specs.Profile.{Every}
 use Rattle.type_graphs.specs.Laws.{FaultsAreOne}
-use Rattle.type_graphs.proofs.Lists.{among-map, every-at, every-may-hold, none-holds, none-twice, first-is-one, first-holds, first-among, first-step}
+use Rattle.type_graphs.proofs.Lists.{among-map, every-at, every-may-hold, none-holds, none-twice, again-is-one, again-twice, first-is-one, first-holds, first-among, first-step}
 use Rattle.type_graphs.proofs.Supertypes.{found, entity-name}
 
 unknown-is-one : (s : Schema) (m n : Name) → IsUnknown s m → IsUnknown s n → m ≡ n
@@ -19,7 +19,7 @@ unknown-is-one s m n (d, f, x) (e, g, y) =
 
 duplicate-is-one : (s : Schema) (m n : Name) → IsDuplicate s m → IsDuplicate s n → m ≡ n
 duplicate-is-one s m n (i, f) (j, g) =
-    ap (λ (d : Declared). d.1) (first-is-one (StandsTwice (declared s)) (declared s) (i, m) (j, n) f g)
+    ap (λ (d : Declared). d.1) (again-is-one [] (declared s) (i, m) (j, n) f g)
 
 -- what leads to itself is declared
 entity-named : (s : Schema) (n : Name) → IsBelow s n n → Among n (map (λ (e : Entity). e.name) (entities s))
@@ -102,7 +102,7 @@ faults-are-one s = (one, none, some)
 
     none : (f : NameFault) (n : Name) → IsFault s f n → IsResolved s → ⊥
     none UnknownName n h r = none-unknown s r.known n h
-    none DuplicateName n h r = r.once (h.1.0, n) (first-holds _ _ (h.1.0, n) h.1.1)
+    none DuplicateName n h r = r.once (h.1.0, n) (again-twice (declared s) (h.1.0, n) h.1.1)
     none SupertypeCycle n h r = r.no_supertype_cycle n (first-holds _ _ n h.2)
     none TypeCycle n h r = r.no_type_cycle n (first-holds _ _ n h.3)
 

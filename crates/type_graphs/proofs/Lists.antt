@@ -4,7 +4,7 @@ use Rattle.std.proofs.Common.{refl, inl, inr, ap, sym, subst}
 use Rattle.digraph.specs.Graphs.{Chain, Leads}
 use Rattle.express_schemas.specs.Profile.{Every}
 use Rattle.type_graphs.specs.Names.{Among, IsFirst}
-use Rattle.type_graphs.specs.Faults.{StandsTwice}
+use Rattle.type_graphs.specs.Faults.{StandsTwice, IsFirstAgain}
 
 -- in joined lists
 pub among-left : {A : Type 0} (x : A) (xs ys : List A) → Among x xs → Among x (xs ++ ys)
@@ -114,15 +114,57 @@ abbrev pub AreFresh : {A : Type 0} → List A → Type 0
 AreFresh [] = Unit {0}
 AreFresh (x ∷ xs) = (Among x xs → ⊥) × AreFresh xs
 
-twice-among : {A : Type 0} (xs : List A) (x : A) → StandsTwice xs x → Among x xs
-twice-among [] x h = elim h [ ]
-twice-among (y ∷ ys) x (inl h) = inl h.0
-twice-among (y ∷ ys) x (inr h) = inr (twice-among ys x h)
+-- one is the first that comes again
+pub again-is-one : {A : Type 0} (before xs : List A) (x y : A) → IsFirstAgain before xs x → IsFirstAgain before xs y
+    → x ≡ y
+again-is-one before [] x y h k = elim h [ ]
+again-is-one before (z ∷ zs) x y (inl h) (inl k) = subst (λ w. w ≡ y) h.1 k.1
+again-is-one before (z ∷ zs) x y (inl h) (inr k) = absurd (k.0 h.0)
+again-is-one before (z ∷ zs) x y (inr h) (inl k) = absurd (h.0 k.0)
+again-is-one before (z ∷ zs) x y (inr h) (inr k) = again-is-one (z ∷ before) zs x y h.1 k.1
 
--- where no item is the first that stands twice, none does
-pub none-twice : {A : Type 0} (xs : List A) → ((x : A) → IsFirst (StandsTwice xs) xs x → ⊥) → (x : A)
+-- what comes again came before the list, or stands in it twice
+again-among : {A : Type 0} (before xs : List A) (x : A) → IsFirstAgain before xs x
+    → (Among x before × Among x xs) ⊎ StandsTwice xs x
+again-among before [] x h = elim h [ ]
+again-among before (y ∷ ys) x (inl h) = inl (subst (λ z. Among z before) h.1 h.0, inl h.1)
+again-among {A} before (y ∷ ys) x (inr h) = put (again-among (y ∷ before) ys x h.1)
+  where
+    put : (Among x (y ∷ before) × Among x ys) ⊎ StandsTwice ys x
+        → (Among x before × Among x (y ∷ ys)) ⊎ StandsTwice (y ∷ ys) x
+    put (inl (inl e, m)) = inr (inl (e, m))
+    put (inl (inr b, m)) = inl (b, inr m)
+    put (inr t) = inr (inr t)
+
+pub again-twice : {A : Type 0} (xs : List A) (x : A) → IsFirstAgain [] xs x → StandsTwice xs x
+again-twice {A} xs x h = put (again-among [] xs x h)
+  where
+    put : (Among x [] × Among x xs) ⊎ StandsTwice xs x → StandsTwice xs x
+    put (inl m) = absurd m.0
+    put (inr t) = t
+
+-- where no item is the first that comes again, none is so behind the first item
+pub none-behind : {A : Type 0} (before : List A) (y : A) (ys : List A)
+    → ((x : A) → IsFirstAgain before (y ∷ ys) x → ⊥) → (x : A) → IsFirstAgain (y ∷ before) ys x → ⊥
+none-behind before y ys h x f = h x (inr ((λ n. h y (inl (n, refl))), f))
+
+-- .. none came before, and none stands twice
+none-before : {A : Type 0} (before xs : List A) → ((x : A) → IsFirstAgain before xs x → ⊥) → (x : A) → Among x before
+    → Among x xs → ⊥
+none-before before [] h x b m = elim m [ ]
+none-before before (y ∷ ys) h x b (inl e) = h y (inl (subst (λ z. Among z before) (sym e) b, refl))
+none-before before (y ∷ ys) h x b (inr m) =
+    none-before (y ∷ before) ys (none-behind before y ys h) x (inr b) m
+
+none-again : {A : Type 0} (before xs : List A) → ((x : A) → IsFirstAgain before xs x → ⊥) → (x : A)
     → StandsTwice xs x → ⊥
-none-twice xs h x t = none-holds (StandsTwice xs) xs h x (twice-among xs x t) t
+none-again before [] h x t = t
+none-again before (y ∷ ys) h x (inl t) =
+    none-before (y ∷ before) ys (none-behind before y ys h) x (inl t.0) t.1
+none-again before (y ∷ ys) h x (inr t) = none-again (y ∷ before) ys (none-behind before y ys h) x t
+
+pub none-twice : {A : Type 0} (xs : List A) → ((x : A) → IsFirstAgain [] xs x → ⊥) → (x : A) → StandsTwice xs x → ⊥
+none-twice xs h x t = none-again [] xs h x t
 
 pub are-fresh : {A : Type 0} (xs : List A) → ((x : A) → StandsTwice xs x → ⊥) → AreFresh xs
 are-fresh [] h = tt

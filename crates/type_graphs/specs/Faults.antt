@@ -122,9 +122,15 @@ StandsTwice (y ∷ ys) x = ((y ≡ x) × Among x ys) ⊎ StandsTwice ys x
 abbrev pub IsUnknown : Schema → Name → Type 0
 IsUnknown s n = (d : Demand) × IsFirst (λ (d : Demand). IsMet s d → ⊥) (demands s) d × (asked d ≡ n)
 
--- the first name that is declared twice in its scope
+-- x is the first of a list that stands before it already: among these, or earlier in the list
+abbrev pub IsFirstAgain : {A : Type 0} → List A → List A → A → Type 0
+IsFirstAgain before [] x = ⊥
+IsFirstAgain before (y ∷ ys) x =
+    (Among y before × (y ≡ x)) ⊎ ((Among y before → ⊥) × IsFirstAgain (y ∷ before) ys x)
+
+-- the name of the first declaration that repeats one of its scope
 abbrev pub IsDuplicate : Schema → Name → Type 0
-IsDuplicate s n = (scope : ℕ) × IsFirst (StandsTwice (declared s)) (declared s) (scope, n)
+IsDuplicate s n = (scope : ℕ) × IsFirstAgain [] (declared s) (scope, n)
 
 -- an entity is a proper supertype of itself (ISO 10303-11, 9.2.3)
 abbrev pub IsAboveItself : Schema → Name → Type 0
