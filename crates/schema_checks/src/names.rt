@@ -25,6 +25,19 @@ const FAULTS: &'static [FaultRow] = &[
         NameFault::DuplicateName,
         "A",
     ),
+    // The first declaration that repeats a name, though another name stands before it.
+    (
+        b"SCHEMA s; ENTITY a; END_ENTITY; ENTITY b; END_ENTITY; ENTITY b; END_ENTITY;
+        ENTITY a; END_ENTITY; END_SCHEMA;",
+        NameFault::DuplicateName,
+        "B",
+    ),
+    // An attribute that comes again before the name of its entity does.
+    (
+        b"SCHEMA s; ENTITY a; x : REAL; x : REAL; END_ENTITY; ENTITY a; END_ENTITY; END_SCHEMA;",
+        NameFault::DuplicateName,
+        "X",
+    ),
     (
         b"SCHEMA s; ENTITY a SUBTYPE OF (b); END_ENTITY; ENTITY b SUBTYPE OF (a); END_ENTITY;
         END_SCHEMA;",

@@ -1,11 +1,11 @@
--- What is seen of a schema from its end, part by part.
-use Rattle.std.specs.Prelude.{◌≡◌, ℕ, ◌+◌, ◌-◌, ◌<◌, ◌≤◌, List, [], ◌∷◌, ◌++◌, map, flat_map, Option, None, Some, MatchOption, Vec, length, get_or, drop}
-use Rattle.std.proofs.Common.{refl, ap, sym, subst, ◌∙◌, arith, suc}
-use Rattle.std.proofs.Math.Seq.{drop-cons}
+-- What is seen of a schema from its beginning, part by part.
+use Rattle.std.specs.Prelude.{◌≡◌, ℕ, ◌+◌, ◌<◌, ◌≤◌, List, [], ◌∷◌, ◌++◌, map, flat_map, Option, None, Some, MatchOption, length, get_or, take}
+use Rattle.std.proofs.Common.{refl, ap, sym, subst, ◌∙◌, arith}
+use Rattle.std.proofs.lemmas.List.{append_assoc, append-nil, flat_map_more, length-map, length-take-le, take_all}
 use Rattle.step_literals.specs.declared.literal.Word.{Word}
 use Rattle.express_trees.specs.Views.{capitals}
 use Rattle.express_schemas.specs.Schemas as trees
-use Rattle.express_schemas.specs.Views.{names_of, attribute_of, explicit_of, derived_of, inverse_of, entity_of, if_some}
+use Rattle.express_schemas.specs.Views.{names_of, attribute_of, explicit_of, derived_of, inverse_of, entity_of}
 use Rattle.express_schemas.specs.declared.fault.NameFault.TheVariants.{DuplicateName}
 use Rattle.express_schemas.specs.declared.tree.Attribute.{Attribute}
 use Rattle.express_schemas.specs.declared.tree.Attribute.TheVariants.{Unqualified, Redeclared}
@@ -13,92 +13,74 @@ use Rattle.express_schemas.specs.declared.tree.Explicit.{Explicit}
 use Rattle.express_schemas.specs.declared.tree.Derived.{Derived}
 use Rattle.express_schemas.specs.declared.tree.Inverse.{Inverse}
 use Rattle.express_schemas.specs.declared.tree.Entity.{Entity}
-use Rattle.type_graphs.specs.Names.{Name, listed, own_names, explicit_names, derived_names, inverse_names, attribute_names}
-use Rattle.type_graphs.specs.Faults.{Declared, StandsTwice, in_scope, declared_from, declared}
-use Rattle.type_graphs.proofs.Lists.{first-holds}
-use Rattle.schema_names.proofs.Rows.{map-joined}
+use Rattle.type_graphs.specs.Names.{Name, own_names, explicit_names, derived_names, inverse_names, attribute_names}
+use Rattle.type_graphs.specs.Faults.{Declared, in_scope, declared_from, declared}
+use Rattle.schema_names.proofs.Rows.{map-joined, take-more}
 use Rattle.schema_names.proofs.Clauses.{clause-listed}
 use Rattle.schema_faults.specs.Shown.{IsShown}
-use Rattle.schema_faults.specs.Twice.{IsSeen, Sees, IsFirstTwice}
+use Rattle.schema_faults.specs.Repeated.{IsSeen, Sees, IsFirstRepeated}
 use Rattle.schema_faults.specs.Parts.{word_in, own_in, explicit_in, derived_in, inverse_in, declared_in}
 use Rattle.schema_faults.specs.declared.seen.Seen.{Seen}
 
-joined-on : {A : Type 0} (xs ys zs : List A) → (xs ++ ys) ++ zs ≡ xs ++ (ys ++ zs)
-joined-on [] ys zs = refl
-joined-on (x ∷ xs) ys zs = ap (λ ws. x ∷ ws) (joined-on xs ys zs)
+-- one part, and then the one behind it
+pub sees-on : (a b c : Seen) (ys zs : List Declared) → Sees a b ys → Sees b c zs → Sees a c (ys ++ zs)
+sees-on a b c ys zs h k xs s = subst (IsSeen c) (append_assoc xs ys zs) (k (xs ++ ys) (h xs s))
 
--- one part, and then the one before it
-pub sees-on : (a b c : Seen) (ys zs : List Declared) → Sees a b ys → Sees b c zs → Sees a c (zs ++ ys)
-sees-on a b c ys zs h k xs s = subst (IsSeen c) (sym (joined-on zs ys xs)) (k (ys ++ xs) (h xs s))
-
--- one item of a list, and those behind it
-pub sees-item : {A : Type 0} (f : A → List Declared) (xs : List A) (j : ℕ) (a b c : Seen) (x : A) → 0 < j
-    → j ≤ length xs → x ≡ get_or xs (j - 1) x → Sees a b (flat_map f (drop j xs)) → Sees b c (f x)
-    → Sees a c (flat_map f (drop (j - 1) xs))
-sees-item f xs j a b c x some within at h k =
-    subst (Sees a c) (sym split) (sees-on a b c (flat_map f (drop j xs)) (f x) h k)
+-- items of a list, and the one behind them
+pub sees-item : {A : Type 0} (f : A → List Declared) (xs : List A) (i : ℕ) (a b c : Seen) (x : A) → i < length xs
+    → x ≡ get_or xs i x → Sees a b (flat_map f (take i xs)) → Sees b c (f x) → Sees a c (flat_map f (take (i + 1) xs))
+sees-item f xs i a b c x lt at h k = subst (Sees a c) split (sees-on a b c (flat_map f (take i xs)) (f x) h k)
   where
-    lt : j - 1 < length xs
-    lt = omega (arith, some, within)
-
-    next : suc (j - 1) ≡ j
-    next = omega (arith, some)
-
-    split : flat_map f (drop (j - 1) xs) ≡ f x ++ flat_map f (drop j xs)
-    split =
-        ap (flat_map f) (drop-cons xs (j - 1) x lt)
-        ∙ ap (λ y. f y ++ flat_map f (drop (suc (j - 1)) xs)) (sym at)
-        ∙ ap (λ i. f x ++ flat_map f (drop i xs)) next
-
--- a declaration, and those behind it
-pub sees-declaration : {A : Type 0} (v : A → trees.Declaration) (xs : List A) (j : ℕ) (a b c : Seen) (x : A) → 0 < j
-    → j ≤ length xs → x ≡ get_or xs (j - 1) x → Sees a b (declared_from (j + 1) (map v (drop j xs)))
-    → Sees b c (declared_in (j - 1 + 1) (v x)) → Sees a c (declared_from (j - 1 + 1) (map v (drop (j - 1) xs)))
-sees-declaration v xs j a b c x some within at h k =
-    subst (Sees a c) (sym split)
-    (sees-on a b c (declared_from (j + 1) (map v (drop j xs))) (declared_in (j - 1 + 1) (v x)) h k)
-  where
-    lt : j - 1 < length xs
-    lt = omega (arith, some, within)
-
-    next : suc (j - 1) ≡ j
-    next = omega (arith, some)
-
-    more : j - 1 + 1 + 1 ≡ j + 1
-    more = omega (arith, some)
-
-    front : (n : ℕ) (d : trees.Declaration) (ds : List trees.Declaration)
-        → declared_from n (d ∷ ds) ≡ declared_in n d ++ declared_from (n + 1) ds
-    front n (trees.type t) ds = refl
-    front n (trees.entity e) ds = refl
-    front n (trees.skipped p) ds = refl
-
-    split : declared_from (j - 1 + 1) (map v (drop (j - 1) xs))
-        ≡ declared_in (j - 1 + 1) (v x) ++ declared_from (j + 1) (map v (drop j xs))
-    split =
-        ap (λ ys. declared_from (j - 1 + 1) (map v ys)) (drop-cons xs (j - 1) x lt)
-        ∙ ap (λ y. declared_from (j - 1 + 1) (v y ∷ map v (drop (suc (j - 1)) xs))) (sym at)
-        ∙ ap (λ i. declared_from (j - 1 + 1) (v x ∷ map v (drop i xs))) next
-        ∙ front (j - 1 + 1) (v x) (map v (drop j xs))
-        ∙ ap (λ n. declared_in (j - 1 + 1) (v x) ++ declared_from n (map v (drop j xs))) more
+    split : flat_map f (take i xs) ++ f x ≡ flat_map f (take (i + 1) xs)
+    split = flat_map_more f [] (take i xs) x ∙ ap (flat_map f) (sym (take-more xs i x lt at))
 
 -- all of a list
-pub sees-whole : (F : ℕ → List Declared) (j : ℕ) (a b : Seen) → j ≤ 0 → Sees a b (F j) → Sees a b (F 0)
-sees-whole F j a b none h = let e : j ≡ 0 = omega (arith, none) in subst (λ i. Sees a b (F i)) e h
+pub sees-whole : {A : Type 0} (F : List A → List Declared) (xs : List A) (i : ℕ) (a b : Seen) → length xs ≤ i
+    → Sees a b (F (take i xs)) → Sees a b (F xs)
+sees-whole F xs i a b all h = subst (λ ys. Sees a b (F ys)) (take_all i xs all) h
 
--- the first that stands twice is the name that is answered
-joined-none : {A : Type 0} (xs : List A) → xs ++ [] ≡ xs
-joined-none [] = refl
-joined-none (x ∷ xs) = ap (λ ys. x ∷ ys) (joined-none xs)
+-- declarations, and the one behind them
+declared-first : (n : ℕ) (d : trees.Declaration) (ds : List trees.Declaration)
+    → declared_from n (d ∷ ds) ≡ declared_in n d ++ declared_from (n + 1) ds
+declared-first n (trees.type t) ds = refl
+declared-first n (trees.entity e) ds = refl
+declared-first n (trees.skipped p) ds = refl
 
+declared-last : (n m : ℕ) (ds : List trees.Declaration) (d : trees.Declaration) → m ≡ n + length ds
+    → declared_from n (ds ++ d ∷ []) ≡ declared_from n ds ++ declared_in m d
+declared-last n m [] d at =
+    let same : n ≡ m = omega (arith, at) in
+    declared-first n d [] ∙ append-nil (declared_in n d) ∙ ap (λ k. declared_in k d) same
+declared-last n m (e ∷ ds) d at =
+    declared-first n e (ds ++ d ∷ [])
+    ∙ ap (λ ys. declared_in n e ++ ys) (declared-last (n + 1) m ds d (omega (arith, at)))
+    ∙ sym (append_assoc (declared_in n e) (declared_from (n + 1) ds) (declared_in m d))
+    ∙ ap (λ ys. ys ++ declared_in m d) (sym (declared-first n e ds))
+
+pub sees-declaration : {A : Type 0} (v : A → trees.Declaration) (xs : List A) (i : ℕ) (a b c : Seen) (x : A)
+    → i < length xs → x ≡ get_or xs i x → Sees a b (declared_from 1 (map v (take i xs)))
+    → Sees b c (declared_in (i + 1) (v x)) → Sees a c (declared_from 1 (map v (take (i + 1) xs)))
+sees-declaration v xs i a b c x lt at h k =
+    subst (Sees a c) split
+    (sees-on a b c (declared_from 1 (map v (take i xs))) (declared_in (i + 1) (v x)) h k)
+  where
+    place : i + 1 ≡ 1 + length (map v (take i xs))
+    place = omega (arith, length-map (take i xs) v, length-take-le i xs, lt)
+
+    split : declared_from 1 (map v (take i xs)) ++ declared_in (i + 1) (v x)
+        ≡ declared_from 1 (map v (take (i + 1) xs))
+    split =
+        sym (declared-last 1 (i + 1) (map v (take i xs)) (v x) place)
+        ∙ ap (declared_from 1) (sym (map-joined v (take i xs) (x ∷ [])))
+        ∙ ap (λ ys. declared_from 1 (map v ys)) (sym (take-more xs i x lt at))
+
+-- the first that is repeated is the name that is answered
 pub duplicate-shown : (s : trees.Schema) (a b : Seen) → IsSeen a [] → Sees a b (declared s)
     → IsShown s DuplicateName b.duplicate
-duplicate-shown s a b start h = shown b.duplicate (subst (IsSeen b) (joined-none (declared s)) (h [] start)).first
+duplicate-shown s a b start h = shown b.duplicate (h [] start).first
   where
-    shown : (o : Option Word) → IsFirstTwice (declared s) o → IsShown s DuplicateName o
-    shown None none =
-        λ n (scope, first).
-        none (scope, n) (first-holds (StandsTwice (declared s)) (declared s) (scope, n) first)
+    shown : (o : Option Word) → IsFirstRepeated (declared s) o → IsShown s DuplicateName o
+    shown None none = λ n (scope, first). none (scope, n) first
     shown (Some w) first = first
 
 -- the names of one scope
@@ -144,18 +126,16 @@ inverses-are k (x ∷ xs) =
     ap (λ ds. inverse_in k x ++ ds) (inverses-are k xs)
     ∙ own-first k x.attribute (map (λ (i : trees.Inverse). i.attribute) (map inverse_of xs))
 
--- the attributes of an entity, the last clause first
+-- the attributes of an entity, clause by clause
 pub sees-attributes : (k : ℕ) (e : Entity) (ds : List Derived) (is : List Inverse) (a b c d : Seen)
     → MatchOption e.derived (ds ≡ []) (λ v. ds ≡ v.items) → MatchOption e.inverses (is ≡ []) (λ v. is ≡ v.items)
-    → Sees a b (flat_map (inverse_in k) is) → Sees b c (flat_map (derived_in k) ds)
-    → Sees c d (flat_map (explicit_in k) e.explicits.items)
-    → Sees a d (in_scope k (attribute_names (entity_of e)))
+    → Sees a b (flat_map (explicit_in k) e.explicits.items) → Sees b c (flat_map (derived_in k) ds)
+    → Sees c d (flat_map (inverse_in k) is) → Sees a d (in_scope k (attribute_names (entity_of e)))
 sees-attributes k e ds is a b c d derived inverses h1 h2 h3 =
     subst (Sees a d) names
-    (sees-on a c d (derivations ++ inversions) explicits
-    (sees-on a b c inversions derivations
-    (subst (Sees a b) inversion h1) (subst (Sees b c) derivation h2))
-    (subst (Sees c d) (explicits-are k e.explicits.items) h3))
+    (sees-on a c d (explicits ++ derivations) inversions
+    (sees-on a b c explicits derivations (subst (Sees a b) (explicits-are k e.explicits.items) h1)
+    (subst (Sees b c) derivation h2)) (subst (Sees c d) inversion h3))
   where
     explicits : List Declared
     explicits = in_scope k (explicit_names (entity_of e))
@@ -178,10 +158,9 @@ sees-attributes k e ds is a b c d derived inverses h1 h2 h3 =
         ∙ ap (λ ts. in_scope k (own_names (map (λ (t : trees.Inverse). t.attribute) ts)))
         (clause-listed inverse_of e.inverses is inverses)
 
-    names : explicits ++ (derivations ++ inversions) ≡ in_scope k (attribute_names (entity_of e))
+    names : (explicits ++ derivations) ++ inversions ≡ in_scope k (attribute_names (entity_of e))
     names =
-        sym (joined-on explicits derivations inversions)
-        ∙ ap (λ ns. ns ++ inversions)
+        ap (λ ns. ns ++ inversions)
         (sym (map-joined (λ (m : Name). (k, m)) (explicit_names (entity_of e)) (derived_names (entity_of e))))
         ∙ sym (map-joined (λ (m : Name). (k, m)) (explicit_names (entity_of e) ++ derived_names (entity_of e))
         (inverse_names (entity_of e)))

@@ -1,15 +1,17 @@
--- What was seen from the end of the text.
-use Rattle.std.specs.Prelude.{◌≡◌, ℕ, Bool, true, false, cond, not, ◌||◌, ◌&&◌, nat_eq, bytes_eq, List, [], ◌∷◌, Option, None, Some, ◌⊎◌}
+-- What was seen from the beginning of the text.
+use Rattle.std.specs.Prelude.{◌≡◌, ℕ, Bool, true, false, cond, not, ◌||◌, ◌&&◌, nat_eq, bytes_eq, List, [], ◌∷◌, ◌++◌, Option, None, Some, ◌⊎◌}
 use Rattle.std.specs.List.{list_any}
+use Rattle.std.specs.Option.{option_or}
 use Rattle.std.proofs.Common.{refl, inl, inr, ap, sym, subst, ◌∙◌, arith}
 use Rattle.std.proofs.lemmas.Slice.Eq.{bytes_eq-Decides}
 use Rattle.std.proofs.lemmas.Bool.Decides.{nat_tests}
 use Rattle.indexmap.specs.IndexSet.{contains, Updates}
 use Rattle.step_literals.specs.declared.literal.Word.{Word}
 use Rattle.express_trees.specs.Views.{capitals}
-use Rattle.type_graphs.specs.Names.{Among, IsFirst}
-use Rattle.type_graphs.specs.Faults.{Declared, StandsTwice}
-use Rattle.schema_faults.specs.Twice.{IsSeen, IsFirstTwice, same_entry, stands_for}
+use Rattle.type_graphs.specs.Names.{Among}
+use Rattle.type_graphs.specs.Faults.{Declared, IsFirstAgain}
+use Rattle.type_graphs.proofs.Lists.{none-behind}
+use Rattle.schema_faults.specs.Repeated.{IsSeen, IsFirstRepeated, same_entry, stands_for}
 use Rattle.schema_faults.specs.declared.seen.Seen.{Seen}
 
 both : (p q : Bool) → (p && q) ≡ true → (p ≡ true) × (q ≡ true)
@@ -64,70 +66,99 @@ are-seen p [] m = elim m [ ]
 are-seen p (x ∷ xs) (inl e) = left-so (stands_for p x) (list_any (stands_for p) xs) (same-is p x e)
 are-seen p (x ∷ xs) (inr m) = right-so (stands_for p x) (list_any (stands_for p) xs) (are-seen p xs m)
 
--- of two tests that say the same
-first-like : {A : Type 0} (P Q : A → Type 0) (xs : List A) (x : A) → ((y : A) → P y → Q y) → ((y : A) → Q y → P y)
-    → IsFirst P xs x → IsFirst Q xs x
-first-like P Q [] x to from h = elim h [ ]
-first-like P Q (y ∷ ys) x to from (inl h) = inl (to y h.0, h.1)
-first-like P Q (y ∷ ys) x to from (inr h) = inr ((λ q. h.0 (from y q)), first-like P Q ys x to from h.1)
+-- what comes again does so whatever is behind the list
+again-kept : {A : Type 0} (before xs ys : List A) (x : A) → IsFirstAgain before xs x → IsFirstAgain before (xs ++ ys) x
+again-kept before [] ys x h = elim h [ ]
+again-kept before (z ∷ zs) ys x (inl h) = inl h
+again-kept before (z ∷ zs) ys x (inr h) = inr (h.0, again-kept (z ∷ before) zs ys x h.1)
 
-twice-among : {A : Type 0} (xs : List A) (x : A) → StandsTwice xs x → Among x xs
-twice-among [] x h = elim h [ ]
-twice-among (y ∷ ys) x (inl h) = inl h.0
-twice-among (y ∷ ys) x (inr h) = inr (twice-among ys x h)
+-- where none comes again, the next item is the first one, if it is there already
+again-last : {A : Type 0} (before xs : List A) (y : A) → ((x : A) → IsFirstAgain before xs x → ⊥)
+    → Among y before ⊎ Among y xs → IsFirstAgain before (xs ++ y ∷ []) y
+again-last before [] y none (inl m) = inl (m, refl)
+again-last before [] y none (inr m) = elim m [ ]
+again-last {A} before (z ∷ zs) y none m =
+    inr ((λ b. none z (inl (b, refl))), again-last (z ∷ before) zs y (none-behind before z zs none) (shift m))
+  where
+    shift : Among y before ⊎ Among y (z ∷ zs) → Among y (z ∷ before) ⊎ Among y zs
+    shift (inl b) = inl (inr b)
+    shift (inr (inl e)) = inl (inl e)
+    shift (inr (inr k)) = inr k
 
--- behind a name that stands once
-not-twice : {A : Type 0} (y : A) (xs : List A) → (Among y xs → ⊥) → (x : A) → StandsTwice (y ∷ xs) x
-    → StandsTwice xs x
-not-twice y xs once x (inl h) = absurd (once (subst (λ z. Among z xs) (sym h.0) h.1))
-not-twice y xs once x (inr h) = h
+-- .. and else there is none
+none-last : {A : Type 0} (before xs : List A) (y : A) → ((x : A) → IsFirstAgain before xs x → ⊥)
+    → (Among y before → ⊥) → (Among y xs → ⊥) → (x : A) → IsFirstAgain before (xs ++ y ∷ []) x → ⊥
+none-last before [] y none b m x (inl h) = b h.0
+none-last before [] y none b m x (inr h) = h.1
+none-last before (z ∷ zs) y none b m x (inl h) = none z (inl (h.0, refl))
+none-last {A} before (z ∷ zs) y none b m x (inr h) =
+    none-last (z ∷ before) zs y (none-behind before z zs none) apart (λ k. m (inr k)) x h.1
+  where
+    apart : Among y (z ∷ before) → ⊥
+    apart (inl e) = m (inl e)
+    apart (inr k) = b k
 
-first-behind : {A : Type 0} (y : A) (xs : List A) → (Among y xs → ⊥) → (x : A) → IsFirst (StandsTwice xs) xs x
-    → IsFirst (StandsTwice (y ∷ xs)) (y ∷ xs) x
-first-behind y xs once x h =
-    inr (
-      (λ t. once (twice-among xs y (not-twice y xs once y t))),
-      first-like (StandsTwice xs) (StandsTwice (y ∷ xs)) xs x (λ z t. inr t) (not-twice y xs once) h,
-    )
+next-first : (xs : List Declared) (y : Declared) (o : Option Word) → (Among y xs → ⊥) → IsFirstRepeated xs o
+    → IsFirstRepeated (xs ++ y ∷ []) o
+next-first xs y None fresh h = none-last [] xs y h (λ b. b) fresh
+next-first xs y (Some w) fresh h = (h.0, again-kept [] xs (y ∷ []) (h.0, capitals w) h.1)
 
-kept-first : (y : Declared) (xs : List Declared) (o : Option Word) → (Among y xs → ⊥) → IsFirstTwice xs o
-    → IsFirstTwice (y ∷ xs) o
-kept-first y xs None once h = λ x t. h x (not-twice y xs once x t)
-kept-first y xs (Some w) once h = (h.0, first-behind y xs once (h.0, capitals w) h.1)
+repeated-first : (xs : List Declared) (scope : ℕ) (word : Word) (o : Option Word) → Among (scope, capitals word) xs
+    → IsFirstRepeated xs o → IsFirstRepeated (xs ++ (scope, capitals word) ∷ []) (option_or o (Some word))
+repeated-first xs scope word None m h = (scope, again-last [] xs (scope, capitals word) h (inr m))
+repeated-first xs scope word (Some w) m h =
+    (h.0, again-kept [] xs ((scope, capitals word) ∷ []) (h.0, capitals w) h.1)
 
-cond-or : (b c : Bool) → cond b true c ≡ (b || c)
-cond-or true c = refl
-cond-or false c = refl
+-- a test that holds of one, and of one more
+or-more : (b c d e : Bool) → b ≡ (c || d) → (e || b) ≡ ((e || c) || d)
+or-more b c d true h = refl
+or-more b c d false h = h
+
+any-more : {A : Type 0} (f : A → Bool) (xs : List A) (y : A) → list_any f (xs ++ y ∷ []) ≡ (list_any f xs || f y)
+any-more f [] y = or-false (f y)
+  where
+    or-false : (b : Bool) → (b || false) ≡ b
+    or-false true = refl
+    or-false false = refl
+any-more f (x ∷ xs) y = or-more (list_any f (xs ++ y ∷ [])) (list_any f xs) (f y) (f x) (any-more f xs y)
+
+cond-or : (b c : Bool) → cond b true c ≡ (c || b)
+cond-or true true = refl
+cond-or true false = refl
+cond-or false true = refl
+cond-or false false = refl
 
 -- one name more
 module _ (old new : Seen) (scope : ℕ) (word : Word)
     (updates : Updates same_entry old.names new.names (scope, word) true) (xs : List Declared)
     (seen : IsSeen old xs) where
   has-more : (p : ℕ × Word)
-      → contains same_entry new.names p ≡ list_any (stands_for p) ((scope, capitals word) ∷ xs)
+      → contains same_entry new.names p ≡ list_any (stands_for p) (xs ++ (scope, capitals word) ∷ [])
   has-more p =
       updates.0 p ∙ ap (cond (same_entry (scope, word) p) true) (seen.has p)
       ∙ cond-or (same_entry (scope, word) p) (list_any (stands_for p) xs)
+      ∙ sym (any-more (stands_for p) xs (scope, capitals word))
 
   pub seen-new : contains same_entry old.names (scope, word) ≡ false → new.duplicate ≡ old.duplicate
-      → IsSeen new ((scope, capitals word) ∷ xs)
+      → IsSeen new (xs ++ (scope, capitals word) ∷ [])
   seen-new absent same = record {
     has = has-more;
     first =
-        subst (IsFirstTwice ((scope, capitals word) ∷ xs)) (sym same)
-        (kept-first (scope, capitals word) xs old.duplicate
+        subst (IsFirstRepeated (xs ++ (scope, capitals word) ∷ [])) (sym same)
+        (next-first xs (scope, capitals word) old.duplicate
         (λ m.
         let here = are-seen (scope, word) xs m in
         let there = sym absent ∙ seen.has (scope, word) ∙ here in absurd (cc)) seen.first);
   }
 
-  pub seen-again : contains same_entry old.names (scope, word) ≡ true → new.duplicate ≡ Some word
-      → IsSeen new ((scope, capitals word) ∷ xs)
+  pub seen-again : contains same_entry old.names (scope, word) ≡ true
+      → new.duplicate ≡ option_or old.duplicate (Some word) → IsSeen new (xs ++ (scope, capitals word) ∷ [])
   seen-again present same = record {
     has = has-more;
     first =
-        subst (IsFirstTwice ((scope, capitals word) ∷ xs)) (sym same)
-        (scope, inl (inl (refl, from-seen (scope, word) xs (sym (seen.has (scope, word)) ∙ present)), refl));
+        subst (IsFirstRepeated (xs ++ (scope, capitals word) ∷ [])) (sym same)
+        (repeated-first xs scope word old.duplicate
+        (from-seen (scope, word) xs (sym (seen.has (scope, word)) ∙ present)) seen.first);
   }
 
 -- whether it was new
@@ -139,9 +170,9 @@ pub was-not : (new there : Bool) → new ≡ not there → new ≡ true → ther
 was-not new true e f = absurd (cc)
 was-not new false e f = refl
 
--- before the last name
+-- before the first name
 pub seen-nothing : (a : Seen) → a.names.keys ≡ [] → a.duplicate ≡ None → IsSeen a []
 seen-nothing a empty none = record {
   has = λ p. ap (list_any (same_entry p)) empty;
-  first = subst (IsFirstTwice []) (sym none) (λ x t. t);
+  first = subst (IsFirstRepeated []) (sym none) (λ x t. t);
 }

@@ -1,4 +1,4 @@
 pub mod Shown
-pub mod Twice
+pub mod Repeated
 pub mod Parts
 pub mod FirstNamed

@@ -13,8 +13,8 @@ use std::alloc::{AllocError, Global};
 use std::hash::RandomState;
 use step_literals::literal::Word;
 
-/// The first name, in the order of the text, that is declared twice in its scope
-/// (ISO 10303-11, 10.1).
+/// The name of the first declaration, in the order of the text, whose name is declared already in
+/// its scope (ISO 10303-11, 10.1): of `a`, `b`, `b`, `a` it is `b`.
 ///
 /// It takes time for each name that is declared once. Names are hashed by these keys.
 pub fn first_duplicate<'a>(

@@ -1,4 +1,4 @@
-//! What each part of a schema declares, from the last name to the first.
+//! What each part of a schema declares, from the first name to the last.
 
 ghost use Rattle.std.specs.Prelude.{ℕ, ◌+◌, ◌<◌, ◌^◌, map, flat_map, length, OnOk};
 ghost use Rattle.express_schemas.specs.Views.{
@@ -8,7 +8,7 @@ ghost use Rattle.express_schemas.specs.Views.{
 };
 ghost use Rattle.type_graphs.specs.Names.{attribute_names};
 ghost use Rattle.type_graphs.specs.Faults.{in_scope, items_of, declared_from};
-ghost use Rattle.schema_faults.specs.Twice.{Sees};
+ghost use Rattle.schema_faults.specs.Repeated.{Sees};
 ghost use Rattle.schema_faults.specs.Parts.{
   word_in,
   own_in,
@@ -29,8 +29,8 @@ use step_literals::literal::Word;
 fn see_words<'a>(seen: &mut Seen<'a>, scope: u32, words: &[Word<'a>]) -> Result<(), AllocError>
     ensures { OnOk result (Sees seen.old seen.new (flat_map (word_in scope) words.now)) }
 {
-    for i in (0..words.len()).rev() {
-        see(seen, scope, words[i])?;
+    for word in words {
+        see(seen, scope, *word)?;
     }
     Ok(())
 }
@@ -53,8 +53,8 @@ fn see_each_own<'a>(
 ) -> Result<(), AllocError>
     ensures { OnOk result (Sees seen.old seen.new (flat_map (own_in scope) attributes.now)) }
 {
-    for i in (0..attributes.len()).rev() {
-        see_own(seen, scope, attributes[i])?;
+    for attribute in attributes {
+        see_own(seen, scope, *attribute)?;
     }
     Ok(())
 }
@@ -67,8 +67,8 @@ fn see_explicits<'a>(
 ) -> Result<(), AllocError>
     ensures { OnOk result (Sees seen.old seen.new (flat_map (explicit_in scope) explicits.now)) }
 {
-    for i in (0..explicits.len()).rev() {
-        see_each_own(seen, scope, &explicits[i].attributes)?;
+    for explicit in explicits {
+        see_each_own(seen, scope, &explicit.attributes)?;
     }
     Ok(())
 }
@@ -77,12 +77,12 @@ fn see_explicits<'a>(
 fn see_derived<'a>(
     seen: &mut Seen<'a>,
     scope: u32,
-    derived: &[Derived<'a>],
+    deriveds: &[Derived<'a>],
 ) -> Result<(), AllocError>
-    ensures { OnOk result (Sees seen.old seen.new (flat_map (derived_in scope) derived.now)) }
+    ensures { OnOk result (Sees seen.old seen.new (flat_map (derived_in scope) deriveds.now)) }
 {
-    for i in (0..derived.len()).rev() {
-        see_own(seen, scope, derived[i].attribute)?;
+    for derived in deriveds {
+        see_own(seen, scope, derived.attribute)?;
     }
     Ok(())
 }
@@ -95,8 +95,8 @@ fn see_inverses<'a>(
 ) -> Result<(), AllocError>
     ensures { OnOk result (Sees seen.old seen.new (flat_map (inverse_in scope) inverses.now)) }
 {
-    for i in (0..inverses.len()).rev() {
-        see_own(seen, scope, inverses[i].attribute)?;
+    for inverse in inverses {
+        see_own(seen, scope, inverse.attribute)?;
     }
     Ok(())
 }
@@ -110,9 +110,9 @@ fn see_attributes<'a>(
     ensures { OnOk result
         (Sees seen.old seen.new (in_scope scope (attribute_names (entity_of entity.now)))) }
 {
-    see_inverses(seen, scope, entity.inverse_attributes())?;
+    see_explicits(seen, scope, &entity.explicits)?;
     see_derived(seen, scope, entity.derived_attributes())?;
-    see_explicits(seen, scope, &entity.explicits)
+    see_inverses(seen, scope, entity.inverse_attributes())
 }
 
 /// The items of an enumeration; none of another type.
@@ -141,12 +141,12 @@ fn see_declaration<'a>(
 {
     match declaration {
         Declaration::Type(declared) => {
-            see_items(seen, scope, &declared.underlying)?;
-            see(seen, 0, declared.name)
+            see(seen, 0, declared.name)?;
+            see_items(seen, scope, &declared.underlying)
         }
         Declaration::Entity(entity) => {
-            see_attributes(seen, scope, entity)?;
-            see(seen, 0, entity.name)
+            see(seen, 0, entity.name)?;
+            see_attributes(seen, scope, entity)
         }
         Declaration::Skipped(_) => Ok(()),
     }
@@ -161,7 +161,7 @@ pub(crate) fn see_all<'a>(
     ensures { OnOk result
         (Sees seen.old seen.new (declared_from 1 (map declaration_seen declarations.now))) }
 {
-    for i in (0..declarations.len()).rev() {
+    for i in 0..declarations.len() {
         see_declaration(seen, i as u32 + 1, &declarations[i])?;
     }
     Ok(())

@@ -1,9 +1,8 @@
-use Rattle.std.proofs.Common.{map, drop, ◌+◌}
+use Rattle.std.proofs.Common.{map, take}
 use Rattle.express_schemas.specs.Views.{declaration_of as declaration_seen}
 use Rattle.type_graphs.specs.Faults.{declared_from}
-use Rattle.schema_faults.specs.Twice.{Sees}
+use Rattle.schema_faults.specs.Repeated.{Sees}
 use Rattle.schema_faults.proofs.parts.see_all.Given as goal
 
 abbrev pub invariant-loop-i : goal.invariant-loop-i
-invariant-loop-i l =
-    Sees l.fn.seen l.seen (declared_from (l.i + 1) (map declaration_seen (drop l.i l.declarations)))
+invariant-loop-i l = Sees l.fn.seen l.seen (declared_from 1 (map declaration_seen (take l.i l.declarations)))

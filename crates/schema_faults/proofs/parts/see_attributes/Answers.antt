@@ -2,8 +2,8 @@ use Rattle.std.proofs.Common.{subst, flat_map}
 use Rattle.express_schemas.specs.Views.{entity_of}
 use Rattle.type_graphs.specs.Names.{attribute_names}
 use Rattle.type_graphs.specs.Faults.{in_scope}
-use Rattle.schema_faults.specs.Twice.{Sees}
-use Rattle.schema_faults.specs.Parts.{explicit_in}
+use Rattle.schema_faults.specs.Repeated.{Sees}
+use Rattle.schema_faults.specs.Parts.{explicit_in, inverse_in}
 use Rattle.schema_faults.proofs.Turning.{ok-also}
 use Rattle.schema_faults.proofs.Declaring.{sees-attributes}
 use Rattle.schema_faults.proofs.parts.see_attributes.Goals as goal
@@ -12,11 +12,11 @@ pub returns : goal.returns
 returns c =
     let k = c.args.scope in
     let e = c.args.entity.now in
-    ok-also (λ _. Sees c.see_derived.new.seen c.see_explicits.new.seen (flat_map (explicit_in k) c.deref.result.now))
-    (λ _. Sees c.args.seen.now c.see_explicits.new.seen (in_scope k (attribute_names (entity_of e))))
+    let is = c.inverse_attributes.result.now in
+    ok-also (λ _. Sees c.see_derived.new.seen c.see_inverses.new.seen (flat_map (inverse_in k) is))
+    (λ _. Sees c.args.seen.now c.see_inverses.new.seen (in_scope k (attribute_names (entity_of e))))
     (λ _ h.
-    sees-attributes k e c.derived_attributes.result.now c.inverse_attributes.result.now c.args.seen.now
-    c.see_inverses.new.seen c.see_derived.new.seen c.see_explicits.new.seen c.derived_attributes.ensures
-    c.inverse_attributes.ensures c.in_ok-see_inverses.ensures c.in_ok-see_derived.ensures
-    (subst (λ xs. Sees c.see_derived.new.seen c.see_explicits.new.seen (flat_map (explicit_in k) xs))
-    c.deref.ensures.value h)) c.see_explicits.result c.see_explicits.ensures
+    sees-attributes k e c.derived_attributes.result.now is c.args.seen.now c.see_explicits.new.seen
+    c.see_derived.new.seen c.see_inverses.new.seen c.derived_attributes.ensures c.inverse_attributes.ensures
+    (subst (λ xs. Sees c.args.seen.now c.see_explicits.new.seen (flat_map (explicit_in k) xs)) c.deref.ensures.value
+    c.in_ok-see_explicits.ensures) c.in_ok-see_derived.ensures h) c.see_inverses.result c.see_inverses.ensures

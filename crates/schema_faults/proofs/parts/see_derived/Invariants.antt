@@ -1,7 +1,7 @@
-use Rattle.std.proofs.Common.{flat_map, drop}
-use Rattle.schema_faults.specs.Twice.{Sees}
+use Rattle.std.proofs.Common.{flat_map, take}
+use Rattle.schema_faults.specs.Repeated.{Sees}
 use Rattle.schema_faults.specs.Parts.{derived_in}
 use Rattle.schema_faults.proofs.parts.see_derived.Given as goal
 
-abbrev pub invariant-loop-i : goal.invariant-loop-i
-invariant-loop-i l = Sees l.fn.seen l.seen (flat_map (derived_in l.scope) (drop l.i l.derived))
+abbrev pub invariant-loop-derived : goal.invariant-loop-derived
+invariant-loop-derived l = Sees l.fn.seen l.seen (flat_map (derived_in l.scope) (take l.derived-index l.deriveds))

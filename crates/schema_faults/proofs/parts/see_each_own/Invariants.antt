@@ -1,7 +1,7 @@
-use Rattle.std.proofs.Common.{flat_map, drop}
-use Rattle.schema_faults.specs.Twice.{Sees}
+use Rattle.std.proofs.Common.{flat_map, take}
+use Rattle.schema_faults.specs.Repeated.{Sees}
 use Rattle.schema_faults.specs.Parts.{own_in}
 use Rattle.schema_faults.proofs.parts.see_each_own.Given as goal
 
-abbrev pub invariant-loop-i : goal.invariant-loop-i
-invariant-loop-i l = Sees l.fn.seen l.seen (flat_map (own_in l.scope) (drop l.i l.attributes))
+abbrev pub invariant-loop-attribute : goal.invariant-loop-attribute
+invariant-loop-attribute l = Sees l.fn.seen l.seen (flat_map (own_in l.scope) (take l.attribute-index l.attributes))

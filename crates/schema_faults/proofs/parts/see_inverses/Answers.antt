@@ -1,17 +1,15 @@
-use Rattle.std.proofs.Common.{flat_map, drop, subst, sym}
-use Rattle.schema_faults.specs.Twice.{Sees}
+use Rattle.std.proofs.Common.{flat_map}
 use Rattle.schema_faults.specs.Parts.{inverse_in}
 use Rattle.schema_faults.proofs.Declaring.{sees-item, sees-whole}
 use Rattle.schema_faults.proofs.parts.see_inverses.Goals as goal
 
-pub loop-i-preserved : goal.loop-i-preserved
-loop-i-preserved c =
-    sees-item (inverse_in c.args.scope) c.args.inverses.now c.loop-i.i c.args.seen.now c.loop-i.seen c.see_own.new.seen
-    c.index-inverses-i.result c.loop-i-test.true c.loop-i.auto.i c.index-inverses-i.is c.loop-i.invariant
-    (subst (λ x. Sees c.loop-i.seen c.see_own.new.seen (inverse_in c.args.scope x)) (sym c.index-inverses-i.is)
-    c.in_ok-see_own.ensures)
+pub loop-inverse-preserved : goal.loop-inverse-preserved
+loop-inverse-preserved c =
+    sees-item (inverse_in c.args.scope) c.args.inverses.now c.loop-inverse.inverse-index c.args.seen.now
+    c.loop-inverse.seen c.see_own.new.seen c.inverse-item.result c.loop-inverse-test.true c.inverse-item.is
+    c.loop-inverse.invariant c.in_ok-see_own.ensures
 
 pub returns : goal.returns
 returns c =
-    sees-whole (λ j. flat_map (inverse_in c.args.scope) (drop j c.args.inverses.now)) c.loop-i.i c.args.seen.now
-    c.loop-i.seen c.loop-i-test.false c.loop-i.invariant
+    sees-whole (flat_map (inverse_in c.args.scope)) c.args.inverses.now c.loop-inverse.inverse-index c.args.seen.now
+    c.loop-inverse.seen c.loop-inverse-test.false c.loop-inverse.invariant

@@ -1,5 +1,5 @@
 use Rattle.std.proofs.Common.{OnOk, subst, sym}
-use Rattle.schema_faults.specs.Twice.{Sees}
+use Rattle.schema_faults.specs.Repeated.{Sees}
 use Rattle.schema_faults.specs.Parts.{own_in}
 use Rattle.schema_faults.proofs.parts.see_own.Goals as goal
 

@@ -5,7 +5,7 @@ use Rattle.schema_faults.proofs.seen.see.Goals as goal
 pub returns-then-not-branch : goal.returns-then-not-branch
 returns-then-not-branch c xs seen =
     seen-again c.args.seen.now _ c.args.scope c.args.name c.in_ok-insert.ensures.updates xs seen
-    (was-there _ _ c.in_ok-insert.ensures.added c.if-not-branch.true) refl
+    (was-there _ _ c.in_ok-insert.ensures.added c.if-not-branch.true) c.or-seen.ensures
 
 pub returns-else-not-branch : goal.returns-else-not-branch
 returns-else-not-branch c xs seen =

@@ -1,0 +1,30 @@
+-- What is declared up to some place of a schema, and the first name of it that is repeated.
+use Rattle.std.specs.Prelude.{◌≡◌, ℕ, Bool, ◌&&◌, nat_eq, bytes_eq, List, [], ◌++◌, Option, None, Some}
+use Rattle.std.specs.List.{list_any}
+use Rattle.indexmap.specs.IndexSet.{contains}
+use Rattle.step_literals.specs.declared.literal.Word.{Word}
+use Rattle.express_trees.specs.Views.{capitals}
+use Rattle.type_graphs.specs.Faults.{Declared, IsFirstAgain}
+use Rattle.schema_names.specs.Words.{same_word}
+use Rattle.schema_faults.specs.declared.seen.Seen.{Seen}
+
+-- a word in its scope
+abbrev pub same_entry : ℕ × Word → ℕ × Word → Bool
+same_entry p q = nat_eq p.0 q.0 && same_word p.1 q.1
+
+abbrev pub stands_for : ℕ × Word → Declared → Bool
+stands_for p d = nat_eq d.0 p.0 && bytes_eq d.1 (capitals p.1)
+
+-- the first that stands before it already, if there is one
+abbrev pub IsFirstRepeated : List Declared → Option Word → Type 0
+IsFirstRepeated xs None = (x : Declared) → IsFirstAgain [] xs x → ⊥
+IsFirstRepeated xs (Some w) = (scope : ℕ) × IsFirstAgain [] xs (scope, capitals w)
+
+-- these were seen, from the first to the last
+pub record IsSeen (seen : Seen) (xs : List Declared) : Type 0 where
+  pub has : (p : ℕ × Word) → contains same_entry seen.names p ≡ list_any (stands_for p) xs
+  pub first : IsFirstRepeated xs seen.duplicate
+
+-- .. and now these too, behind the others
+abbrev pub Sees : Seen → Seen → List Declared → Type 0
+Sees old new ys = (xs : List Declared) → IsSeen old xs → IsSeen new (xs ++ ys)
