@@ -102,7 +102,7 @@ fn name_fault(alloc: Global, faulty: Faulty<'_>) -> SchemaFault
 ///
 /// The error is the least of the four faults of names, at its first name in the text, or `Memory`:
 /// `UnknownName` at a name that is not what its place asks for, `DuplicateName` at one that is
-/// declared twice in its scope, `SupertypeCycle` at an entity that is its own supertype,
+/// declared already in its scope, `SupertypeCycle` at an entity that is its own supertype,
 /// `TypeCycle` at a defined type that is made of itself. It is never a fault of the text. Names are
 /// hashed by these keys, which the author of the text must not know.
 pub fn resolve_types<'t, 'a>(
