@@ -9,7 +9,7 @@ use Rattle.express_schemas.specs.Schemas.{Schema}
 use Rattle.type_graphs.specs.Names.{Name, OneOf, IsFirst}
 use Rattle.type_graphs.specs.Shapes.{Atom, an_item}
 use Rattle.type_graphs.specs.Attributes.{Derivation}
-use Rattle.type_graphs.specs.Sets.{Set, Only, Variable, IsVariable, IsItemOf, of_set, MayTake, IsUnclear, MayUse, path_behind, path, Meaning, itself, variable, attribute_of_self, item_of_type, item, MayMean, Means, OfReference, IsUnclearReference, ReferenceMayUse}
+use Rattle.type_graphs.specs.Sets.{Set, Only, Variable, IsVariable, IsItemOf, WithSubtypes, of_set, MayTake, IsUnclear, MayUse, path_behind, path, Meaning, itself, variable, attribute_of_self, item_of_type, item, MayMean, Means, OfReference, IsUnclearReference, ReferenceMayUse}
 use Rattle.data_types.specs.Values.{Holds}
 use Rattle.declared_attributes.specs.Derivations.{HoldsDerivation}
 use Rattle.taken_attributes.specs.Taking.{IsSet}
@@ -97,12 +97,12 @@ module _ (s : Schema) (self : Set) (vs : List Variable) where
     means-variable qs h = inr (λ e. e, inl (h, refl))
 
     module _ (other : IsVariable vs n → ⊥) where
-      pub means-attribute : (qs : Qualifiers) → (p : Name) × MayTake s (of_set self n) p
+      pub means-attribute : (qs : Qualifiers) → (p : Name) × MayTake s (of_set (WithSubtypes s self) n) p
           → Means s self vs (named n) qs attribute_of_self
       means-attribute qs h = inr (λ e. e, inr (other, inl (h, refl)))
 
-      module _ (none : (p : Name) → MayTake s (of_set self n) p → ⊥) where
-        no-attribute : (p : Name) × MayTake s (of_set self n) p → ⊥
+      module _ (none : (p : Name) → MayTake s (of_set (WithSubtypes s self) n) p → ⊥) where
+        no-attribute : (p : Name) × MayTake s (of_set (WithSubtypes s self) n) p → ⊥
         no-attribute (p, h) = none p h
 
         pub means-type : (qs : Qualifiers) → BeginWithItem s n qs → Means s self vs (named n) qs item_of_type

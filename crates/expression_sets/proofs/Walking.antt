@@ -15,7 +15,7 @@ use Rattle.declared_attributes.specs.Derivations.{HasDerivation, HoldsDerivation
 use Rattle.taken_attributes.specs.declared.taken.Taken.{Taken}
 use Rattle.taken_attributes.specs.Taking.{IsSet, IsTaken}
 use Rattle.expression_sets.specs.declared.references.Reference.{Reference}
-use Rattle.expression_sets.specs.Paths.{IsPath, GoesAlong, GoesOn, Joins, path_behind_own}
+use Rattle.expression_sets.specs.Paths.{IsPath, GoesAlong, GoesOn, Joins}
 use Rattle.expression_sets.proofs.Agreeing.{Same, same-itself, same-back, SameReference, SameReferences, SamePath, references-back, one-of-to, unclear-to, use-to, behind-same}
 
 one-left {ℓ} : {A : Type ℓ} (U : A → Type 0) (xs ys : List A) → OneOf U xs → OneOf U (xs ++ ys)

@@ -3,7 +3,7 @@ use Rattle.std.specs.Prelude.{List}
 use Rattle.express_trees.specs.Trees.{Qualifiers, attribute, named}
 use Rattle.express_schemas.specs.Schemas.{Schema}
 use Rattle.type_graphs.specs.Names.{Name}
-use Rattle.type_graphs.specs.Sets.{Set, Variable, IsVariable, OfVariable, IsItemOf, MayMean, Means, variable, attribute_of_self, item_of_type, item, of_set}
+use Rattle.type_graphs.specs.Sets.{Set, Variable, IsVariable, OfVariable, IsItemOf, MayMean, Means, variable, attribute_of_self, item_of_type, item, of_set, WithSubtypes}
 use Rattle.type_graphs.specs.Sets as sets
 use Rattle.taken_attributes.specs.Taking.{IsSet, IsTaken}
 use Rattle.expression_sets.specs.declared.scope.Variable.{Variable as Numbered}
@@ -24,7 +24,7 @@ abbrev pub IsMeaning : Schema → Set → List Variable → Name → Qualifiers 
 IsMeaning s self vs n qs (meanings.Variable may) =
     Means s self vs (named n) qs variable × IsSet s (OfVariable vs n) may.items
 IsMeaning s self vs n qs (meanings.Attribute t) =
-    Means s self vs (named n) qs attribute_of_self × IsTaken s (of_set self n) t
+    Means s self vs (named n) qs attribute_of_self × IsTaken s (of_set (WithSubtypes s self) n) t
 IsMeaning s self vs n qs meanings.ItemOfType = Means s self vs (named n) qs item_of_type
 IsMeaning s self vs n qs meanings.Item = Means s self vs (named n) qs item
 IsMeaning s self vs n qs meanings.Nothing = (m : sets.Meaning) → MayMean s self vs (named n) qs m → ⊥

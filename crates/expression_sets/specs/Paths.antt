@@ -2,9 +2,9 @@
 use Rattle.std.specs.Prelude.{◌≡◌, ◌||◌, ◌++◌, ◌↔◌, ◌⊎◌, IsTrue}
 use Rattle.express_trees.specs.Trees.{Qualifiers}
 use Rattle.express_schemas.specs.Schemas.{Schema}
-use Rattle.type_graphs.specs.Names.{Name, OneOf}
+use Rattle.type_graphs.specs.Names.{OneOf}
 use Rattle.type_graphs.specs.Attributes.{Derivation}
-use Rattle.type_graphs.specs.Sets.{Set, Path, of_set, IsUnclear, MayUse, OfTaken, path_behind, with_attribute}
+use Rattle.type_graphs.specs.Sets.{Path, IsUnclear, MayUse, path_behind}
 use Rattle.data_types.specs.Values.{Holds}
 use Rattle.declared_attributes.specs.Derivations.{HoldsDerivation}
 use Rattle.taken_attributes.specs.Taking.{IsSet}
@@ -33,8 +33,3 @@ pub record Joins (old : Reference) (t : Taken) (new : Reference) : Type 0 where
   pub unclear : new.is_unclear ≡ old.is_unclear || t.is_unclear
   pub may : new.may.items ≡ t.may.items
   pub uses : new.uses.items ≡ old.uses.items ++ t.uses.items
-
--- the path of an attribute of SELF
-abbrev pub path_behind_own : Schema → Set → Name → Qualifiers → Path
-path_behind_own s self n qs =
-    with_attribute (of_set self n) (path_behind s (OfTaken s (of_set self n)) qs)

@@ -3,7 +3,7 @@
 ghost use Rattle.std.specs.Prelude.{◌↔◌, IfOk, IsTrue};
 ghost use Rattle.express_trees.specs.Views.{capitals, qualifiers_of};
 ghost use Rattle.type_graphs.specs.Names.{Name};
-ghost use Rattle.type_graphs.specs.Sets.{IsVariable, MayTake, of_set};
+ghost use Rattle.type_graphs.specs.Sets.{IsVariable, MayTake, WithSubtypes, of_set};
 ghost use Rattle.data_types.specs.Values.{AreTables, schema_at};
 ghost use Rattle.expression_sets.specs.Scopes.{IsScope, schema_around, own_in, variables_in};
 ghost use Rattle.expression_sets.specs.Meanings.{IsMeaning, BeginWithItem};
@@ -15,7 +15,7 @@ use enumeration_items::items::is_item_of;
 use express_trees::tree::Qualifier;
 use std::alloc::{AllocError, Global};
 use step_literals::literal::Word;
-use taken_attributes::references::take_of_own;
+use taken_attributes::references::take_of_any;
 use taken_attributes::taken::Taken;
 
 /// What a name means that begins a reference (ISO 10303-11, 12.7).
@@ -23,7 +23,7 @@ use taken_attributes::taken::Taken;
 pub(crate) enum Meaning {
     /// A variable of a QUERY, and what it may be.
     Variable(Vec<Atom>),
-    /// An attribute of SELF.
+    /// An attribute of SELF, of a subtype too.
     Attribute(Taken),
     /// The item of a type that stands behind the dot.
     ItemOfType,
@@ -57,7 +57,8 @@ fn item_meaning(scope: Scope<'_, '_, '_>, name: Word<'_>, qualifiers: &[Qualifie
     requires scope { IsScope scope }
     ensures { (IsVariable (variables_in scope.entry) (capitals name.entry) → ⊥)
         → ((p : Name) → MayTake (schema_around scope.entry)
-        (of_set (own_in scope.entry) (capitals name.entry)) p → ⊥)
+        (of_set (WithSubtypes (schema_around scope.entry) (own_in scope.entry))
+        (capitals name.entry)) p → ⊥)
         → IsMeaning (schema_around scope.entry) (own_in scope.entry) (variables_in scope.entry)
         (capitals name.entry) (qualifiers_of qualifiers.now) result }
 {
@@ -85,7 +86,7 @@ pub(crate) fn meaning_of(
     if let Some(variable) = find_variable(scope.variables, name) {
         return Ok(Meaning::Variable(Vec::from_slice(alloc, &variable.may)?));
     }
-    let taken = take_of_own(alloc, scope.known, scope.own, name)?;
+    let taken = take_of_any(alloc, scope.known, scope.own, name)?;
     if taken.is_some {
         Ok(Meaning::Attribute(taken))
     } else {

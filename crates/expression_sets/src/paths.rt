@@ -1,14 +1,15 @@
 //! The qualifiers of references.
 
 ghost use Rattle.std.specs.Prelude.{List, ◌∷◌, [], IfOk, OnOk};
+ghost use Rattle.express_trees.specs.Trees.{attribute};
 ghost use Rattle.express_trees.specs.Views.{selection_of, selections_of, qualifiers_of};
-ghost use Rattle.type_graphs.specs.Sets.{Only, of_set, path_behind};
+ghost use Rattle.type_graphs.specs.Sets.{Only, WithSubtypes, of_set, path_behind};
 ghost use Rattle.type_graphs.specs.Names.{Name};
 ghost use Rattle.data_types.specs.declared.values.Atom.{Atom as Numbered};
 ghost use Rattle.type_graphs.specs.Shapes.{an_item};
 ghost use Rattle.data_types.specs.Values.{Holds};
 ghost use Rattle.taken_attributes.specs.Taking.{IsKnown, IsTaken, schema_in};
-ghost use Rattle.expression_sets.specs.Paths.{GoesOn, IsPath, Joins, path_behind_own};
+ghost use Rattle.expression_sets.specs.Paths.{GoesOn, IsPath, Joins};
 
 use crate::atoms::add_sort;
 use crate::references::Reference;
@@ -109,7 +110,7 @@ pub(crate) fn select_of_item(
     select(alloc, known, may, qualifiers)
 }
 
-/// What qualifiers select of the value of an attribute, with the attribute.
+/// What qualifiers select of the value of an attribute of SELF, with the attribute.
 pub(crate) fn select_of_taken(
     alloc: Global,
     known: Known<'_, '_, '_>,
@@ -118,9 +119,10 @@ pub(crate) fn select_of_taken(
 ) -> Result<Reference, AllocError>
     requires known { IsKnown known }
     ensures { (own : List Numbered) (n : Name)
-        → IsTaken (schema_in known.entry) (of_set (Holds (schema_in known.entry) own) n) taken
-        → IfOk result (IsPath (schema_in known.entry) (path_behind_own (schema_in known.entry)
-        (Holds (schema_in known.entry) own) n (qualifiers_of qualifiers.now))) }
+        → IsTaken (schema_in known.entry) (of_set (WithSubtypes (schema_in known.entry)
+        (Holds (schema_in known.entry) own)) n) taken
+        → IfOk result (IsPath (schema_in known.entry) (path_behind (schema_in known.entry)
+        (Holds (schema_in known.entry) own) (attribute n (qualifiers_of qualifiers.now)))) }
 {
     let begun = Reference {
         is_unclear: taken.is_unclear,

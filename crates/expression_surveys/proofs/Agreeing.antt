@@ -152,7 +152,8 @@ module _ (s : Schema) (M N : Set) (h : Same M N) where
   mean-same vs ws k (trees.named n) qs itself = same
   mean-same vs ws k (trees.named n) qs variable = variable-same vs ws k n
   mean-same vs ws k (trees.named n) qs attribute_of_self =
-      ((λ e. (e.0, (take-same s M N h n e.0).0 e.1)), (λ e. (e.0, (take-same s M N h n e.0).1 e.1)))
+      let take = take-same s (WithSubtypes s M) (WithSubtypes s N) (subtypes-same s M N h) n in
+      ((λ e. (e.0, (take e.0).0 e.1)), (λ e. (e.0, (take e.0).1 e.1)))
   mean-same vs ws k (trees.named n) plain item_of_type = same
   mean-same vs ws k (trees.named n) (attribute i qs) item_of_type = same
   mean-same vs ws k (trees.named n) (group e a qs) item_of_type = same
@@ -175,8 +176,7 @@ module _ (s : Schema) (M N : Set) (h : Same M N) where
   path-same vs ws k (trees.named n) qs itself = λ x. same
   path-same vs ws k (trees.named n) qs variable =
       behind-same s qs (OfVariable vs n) (OfVariable ws n) (of-variable-same vs ws k n)
-  path-same vs ws k (trees.named n) qs attribute_of_self =
-      behind-same s qs (OfTaken s (of_set M n)) (OfTaken s (of_set N n)) (taken-same s M N h n)
+  path-same vs ws k (trees.named n) qs attribute_of_self = behind-same s (attribute n qs) M N h
   path-same vs ws k (trees.named n) plain item_of_type = λ x. same
   path-same vs ws k (trees.named n) (attribute i qs) item_of_type = λ x. same
   path-same vs ws k (trees.named n) (group e a qs) item_of_type = λ x. same
@@ -202,9 +202,7 @@ module _ (s : Schema) (M N : Set) (h : Same M N) where
     one-same vs ws k (trees.named n) qs itself = same
     one-same vs ws k (trees.named n) qs variable =
         one-behind s P alike qs (OfVariable vs n) (OfVariable ws n) (of-variable-same vs ws k n)
-    one-same vs ws k (trees.named n) qs attribute_of_self =
-        either (alike M N h n)
-        (one-behind s P alike qs (OfTaken s (of_set M n)) (OfTaken s (of_set N n)) (taken-same s M N h n))
+    one-same vs ws k (trees.named n) qs attribute_of_self = one-behind s P alike (attribute n qs) M N h
     one-same vs ws k (trees.named n) plain item_of_type = same
     one-same vs ws k (trees.named n) (attribute i qs) item_of_type = same
     one-same vs ws k (trees.named n) (group e a qs) item_of_type = same

@@ -33,24 +33,9 @@ fn take_of_numbers(
     gather(alloc, known.tables, &taken, is_unclear)
 }
 
-/// The attribute of a bare name, in an instance that may be these: one that an entity of these has
-/// (ISO 10303-11, 12.7.1).
-pub fn take_of_own(
-    alloc: Global,
-    known: Known<'_, '_, '_>,
-    atoms: &[Atom],
-    name: Word<'_>,
-) -> Result<Taken, AllocError>
-    requires known { IsKnown known }
-    ensures { IfOk result (IsTaken (schema_in known.entry)
-        (of_set (Holds (schema_in known.entry) atoms.now) (capitals name.entry))) }
-{
-    let entities = entity_numbers(alloc, atoms)?;
-    take_of_numbers(alloc, known, &entities, name)
-}
-
-/// The attribute of a name behind a dot, after a value that may be these: one that an entity of
-/// these or a subtype has (ISO 10303-11, 12.7.3).
+/// The attribute of a name behind a dot, after a value that may be these, or of a bare name where
+/// SELF may be these: one that an entity of these or a subtype has (ISO 10303-11, 12.7.1 and
+/// 12.7.3).
 pub fn take_of_any(
     alloc: Global,
     known: Known<'_, '_, '_>,

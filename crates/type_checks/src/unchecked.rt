@@ -141,6 +141,16 @@ const ROWS: &'static [Row] = &[
         },
         &[(PartKind::Redeclared, "ODD.CORNERS", Reason::Profile)],
     ),
+    // what a subtype alone has, also where an item has the name
+    (
+        Clauses {
+            of_point: b"",
+            of_solid: b"",
+            at_end: b"ENTITY sign; WHERE wr1 : EXISTS(ink); wr2 : ink > 0.0; wr3 : rough < 1; END_ENTITY;
+ ENTITY painted SUBTYPE OF (sign); ink : REAL; rough : REAL; END_ENTITY;",
+        },
+        &[],
+    ),
 ];
 
 // The schema with these clauses.

@@ -1,13 +1,13 @@
 use Rattle.std.proofs.Common.{IfOk, drop, sym, subst, refl}
 use Rattle.std.proofs.lemmas.Result.{IfOk-weaker}
-use Rattle.express_trees.specs.Trees.{named}
+use Rattle.express_trees.specs.Trees.{attribute, named}
 use Rattle.express_trees.specs.Views.{capitals, qualifiers_of}
 use Rattle.type_graphs.specs.Shapes.{an_item}
 use Rattle.type_graphs.specs.Sets.{Only, OfVariable, path_behind, variable, attribute_of_self, item_of_type, item}
 use Rattle.data_types.specs.Values.{Holds}
 use Rattle.expression_sets.specs.Scopes.{IsReferred, schema_around, own_in, variables_in}
 use Rattle.expression_sets.specs.Meanings.{IsMeaning}
-use Rattle.expression_sets.specs.Paths.{IsPath, path_behind_own}
+use Rattle.expression_sets.specs.Paths.{IsPath}
 use Rattle.expression_sets.proofs.Walking.{behind-alike, list-same}
 use Rattle.expression_sets.proofs.Choosing.{referred, unreferred, may-mean, path-of-type, rest-is}
 use Rattle.expression_sets.proofs.references.refer_by_name.Goals as goal
@@ -33,7 +33,7 @@ returns-in-Attribute c =
     let n = capitals c.args.name in
     let qs = qualifiers_of c.args.qualifiers.now in
     let m = subst (IsMeaning s self vs n qs) c.in-Attribute.is c.in_ok-may.ensures in
-    IfOk-weaker c.select_of_taken.result (λ t. IsPath s (path_behind_own s self n qs) t) (λ t. IsReferred s self vs (named n) qs t)
+    IfOk-weaker c.select_of_taken.result (λ t. IsPath s (path_behind s self (attribute n qs)) t) (λ t. IsReferred s self vs (named n) qs t)
     (λ t h. referred s self vs (named n) qs attribute_of_self t m.0 h)
     (c.select_of_taken.ensures c.args.scope.own.now n m.1)
 
