@@ -2,9 +2,11 @@
 use Rattle.std.specs.Prelude.{◌≡◌, ℕ, zero, suc, ◌==◌, ◌&&◌, Bool, true, false, cond, List, [], ◌∷◌, ◌++◌, map, flat_map, Option, None, Some, ◌⊎◌}
 use Rattle.std.specs.Option.{option_map}
 use Rattle.std.proofs.Common.{refl, sym, ap, subst, ◌∙◌, inl, inr}
+use Rattle.express_schemas.specs.Profile.{Every}
 use Rattle.express_schemas.specs.Schemas.{Schema}
 use Rattle.type_graphs.specs.Names.{Name}
 use Rattle.type_graphs.specs.Attributes.{Place}
+use Rattle.type_graphs.specs.Faults.{IsResolved}
 use Rattle.step_structures.specs.Words.{name}
 use Rattle.step_structures.specs.Trees.{Tree, leaf, typed, group, Trees, none, one, Row}
 use Rattle.row_index.specs.Index.{place_of}
@@ -13,7 +15,7 @@ use Rattle.conformance.specs.declared.finding.Finding.{Finding}
 use Rattle.conformance.specs.declared.finding.FindingKind.{FindingKind}
 use Rattle.conformance.specs.declared.finding.FindingKind.TheVariants.{UnknownEntity, AbstractInstance, MissingSupertype, OneOfBroken, ParameterCount, MisplacedStar}
 use Rattle.conformance.specs.Bases.{Domain, base}
-use Rattle.conformance.specs.Entities.{Entities, records, parameters, types_of, places_of, unknown_entities, abstract_leaves, missing_supertypes, broken_one_ofs, wrong_counts, is_optional, data_types}
+use Rattle.conformance.specs.Entities.{Entities, AreEntities, records, parameters, types_of, places_of, unknown_entities, abstract_leaves, missing_supertypes, broken_one_ofs, wrong_counts, is_optional, data_types}
 use Rattle.conformance.specs.Fitting.{Target, absent, or_else, is_dollar, is_star_or_dollar, misfit}
 use Rattle.conformance.specs.Findings.{whole, or_next, at_place, misfit_of, misfit_at, misfits_from, row_findings, target_in, target_form}
 use Rattle.instance_forms.specs.declared.form.SlotForm.{SlotForm}
@@ -21,11 +23,12 @@ use Rattle.instance_forms.specs.declared.form.Form.{Form}
 use Rattle.instance_forms.specs.Forms.{AreSlotsOf, IsSlotOf, IsFormOf}
 use Rattle.parameter_fits.specs.References.{IsFound, RefersWithin}
 use Rattle.parameter_fits.proofs.Pointwise.{fitting_refers}
-use Rattle.file_findings.specs.Rows.{HasFormAmong, HaveForms}
+use Rattle.file_findings.specs.Rows.{HasTypes, HasFormAmong, HaveForms}
 use Rattle.file_findings.specs.declared.rows.Rows.{Rows}
 use Rattle.file_findings.proofs.Records.{some-unknown}
 use Rattle.step_population.specs.Whole.{form_among}
 use Rattle.step_population.specs.Making.{AreReady, IsRowReady, AreRowsReady}
+use Rattle.step_population.proofs.Typed.{HasType, all-typed}
 
 -- no list of some that are joined has an item
 pub first-none : {A : Type 0} (xs ys : List A) → xs ++ ys ≡ [] → xs ≡ []
@@ -118,27 +121,29 @@ module _ (s : Schema) (d : Domain) (en : Entities) (target : ℕ → Target) (fi
       by false dollar o h = asked-refers k ks x h
 
   pub slots-ready : (n from : ℕ) (types : List Name) (ps : List Place) (slots : List SlotForm) (ts : Trees)
-      → AreSlotsOf s en types ps slots → misfits_from s d en target n from types ps ts ≡ [] → AreReady s find slots ts
-  slots-ready n from types ps [] ts h e = tt
-  slots-ready n from types [] (x ∷ xs) ts h e = absurd h
-  slots-ready n from types (p ∷ ps) (x ∷ xs) none h e = tt
-  slots-ready n from types (p ∷ ps) (x ∷ xs) (one t ts) h e =
+      → AreSlotsOf s en types ps slots → Every (HasType s en types) ps
+      → misfits_from s d en target n from types ps ts ≡ [] → AreReady s find slots ts
+  slots-ready n from types ps [] ts h k e = tt
+  slots-ready n from types [] (x ∷ xs) ts h k e = absurd h
+  slots-ready n from types (p ∷ ps) (x ∷ xs) none h k e = tt
+  slots-ready n from types (p ∷ ps) (x ∷ xs) (one t ts) h k e =
       let fits = no-kind n (suc from) (misfit_at s d en target types p t) (first-none
       (at_place n (suc from) (misfit_at s d en target types p t))
       (misfits_from s d en target n (suc from) types ps ts) e) in (
         record {
           known = h.0.1.known;
-          within = λ derived k ks items. slot-refers types p x t h.0.1 fits derived k ks items;
+          typed = λ derived free. k.0 (sym h.0.1.data_types ∙ ap (map (type_at s)) free);
+          within = λ derived j js items. slot-refers types p x t h.0.1 fits derived j js items;
         },
-        slots-ready n (suc from) types ps xs ts h.1
+        slots-ready n (suc from) types ps xs ts h.1 k.1
             (last-none (at_place n (suc from) (misfit_at s d en target types p t))
             (misfits_from s d en target n (suc from) types ps ts) e),
       )
 
-  -- an instance has a form, and its parameters fit
+  -- an instance has a form, its keywords are entities, and its parameters fit
   abbrev pub HasClean : List Form → Row → Option ℕ → Type 0
   HasClean forms r o =
-      (x : Form) × (form_among forms o ≡ Some x) × IsFormOf s en r.form x
+      (x : Form) × (form_among forms o ≡ Some x) × IsFormOf s en r.form x × HasTypes s r.form
       × (misfits_from s d en target r.name 0 (types_of s en r.form) (places_of s en r.form)
       (parameters (records r.form)) ≡ [])
 
@@ -163,6 +168,7 @@ module _ (s : Schema) (d : Domain) (en : Entities) (target : ℕ → Target) (fi
     x,
     at,
     is,
+    types,
     next-last (whole r.name ParameterCount (wrong_counts s en r.form)) (told-of r)
         (next-last (types-of r) (or_next (whole r.name ParameterCount (wrong_counts s en r.form)) (told-of r))
         (next-last (whole r.name UnknownEntity (unknown_entities s en r.form))
@@ -186,15 +192,17 @@ module _ (s : Schema) (d : Domain) (en : Entities) (target : ℕ → Target) (fi
         (last-none (row_findings s d en target r) (flat_map (row_findings s d en target) rs) e),
   )
 
-  row-is-ready : (forms : List Form) (r : Row) (o : Option ℕ) → HasClean forms r o
-      → IsRowReady s find (form_among forms o) r.form
-  row-is-ready forms r o (x, at, is, fits) =
-      subst (λ g. IsRowReady s find g r.form) (sym at)
-      (slots-ready r.name 0 (types_of s en r.form) (places_of s en r.form) x.slots.items (parameters (records r.form))
-      is.slots fits)
+  -- their values can be made, where the names of the schema are resolved
+  module _ (resolved : IsResolved s) (are : AreEntities s en) where
+    row-is-ready : (forms : List Form) (r : Row) (o : Option ℕ) → HasClean forms r o
+        → IsRowReady s find (form_among forms o) r.form
+    row-is-ready forms r o (x, at, is, types, fits) =
+        subst (λ g. IsRowReady s find g r.form) (sym at)
+        (slots-ready r.name 0 (types_of s en r.form) (places_of s en r.form) x.slots.items (parameters (records r.form))
+        is.slots (all-typed s en resolved are r.form types) fits)
 
-  pub rows-ready : (forms : List Form) (rs : List Row) (os : List (Option ℕ)) → AreClean forms rs os
-      → AreRowsReady s find forms rs os
-  rows-ready forms [] os h = tt
-  rows-ready forms (r ∷ rs) [] h = tt
-  rows-ready forms (r ∷ rs) (o ∷ os) h = (row-is-ready forms r o h.0, rows-ready forms rs os h.1)
+    pub rows-ready : (forms : List Form) (rs : List Row) (os : List (Option ℕ)) → AreClean forms rs os
+        → AreRowsReady s find forms rs os
+    rows-ready forms [] os h = tt
+    rows-ready forms (r ∷ rs) [] h = tt
+    rows-ready forms (r ∷ rs) (o ∷ os) h = (row-is-ready forms r o h.0, rows-ready forms rs os h.1)

@@ -17,8 +17,9 @@ use Rattle.step_values.specs.Views.{all_of}
 use Rattle.row_index.specs.Index.{found, place_of}
 use Rattle.type_graphs.specs.Names.{Name}
 use Rattle.type_graphs.specs.Attributes.{Place}
+use Rattle.type_graphs.specs.Faults.{IsResolved}
 use Rattle.conformance.specs.Bases.{Domain}
-use Rattle.conformance.specs.Entities.{Entities, records, parameters}
+use Rattle.conformance.specs.Entities.{Entities, AreEntities, records, parameters}
 use Rattle.conformance.specs.Fitting.{Target, absent}
 use Rattle.conformance.specs.Findings.{findings, target_in}
 use Rattle.conformance.specs.Populations.{population_of, instances_from}
@@ -99,7 +100,7 @@ module _ (s : Schema) (d : Domain) (en : Entities) where
 
     row-placed : (r : Row) (o : Option ℕ) → HasClean s d en targets (found t.index) leads t.forms.items r o
         → ArePlaced s (form_among t.forms.items o)
-    row-placed r o (f, at, is, fits) = subst (ArePlaced s) (sym at) (slots-placed _ _ f.slots.items is.slots)
+    row-placed r o (f, at, is, types, fits) = subst (ArePlaced s) (sym at) (slots-placed _ _ f.slots.items is.slots)
 
     all-placed : (rs : List Row) (os : List (Option ℕ))
         → AreClean s d en targets (found t.index) leads t.forms.items rs os
@@ -125,8 +126,10 @@ module _ (s : Schema) (d : Domain) (en : Entities) where
       unfolding targets
       clean = rows-clean s d en targets (found t.index) leads t (rows_in x) t.form_of.items rows.forms (last-none _ _ none)
 
-      pub rows-are-ready : AreRowsReady s (found t.index) t.forms.items (rows_in x) t.form_of.items
-      rows-are-ready = rows-ready s d en targets (found t.index) leads t.forms.items (rows_in x) t.form_of.items clean
+      pub rows-are-ready : IsResolved s → AreEntities s en
+          → AreRowsReady s (found t.index) t.forms.items (rows_in x) t.form_of.items
+      rows-are-ready resolved are =
+          rows-ready s d en targets (found t.index) leads resolved are t.forms.items (rows_in x) t.form_of.items clean
 
       module _ (rows-now : List Values) (made : rows-now ≡ rows_by s d t.forms.items (rows_in x) t.form_of.items) where
         pub seen-is : instances_seen s t.forms.items x.names (section_numbers 0 0 x.sections.items) t.form_of.items rows-now

@@ -1,4 +1,5 @@
 pub mod Turns
+pub mod Typed
 pub mod Clean
 pub mod Populating
 pub mod Judged

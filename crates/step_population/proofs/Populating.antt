@@ -69,7 +69,7 @@ module _ (s : Schema) (d : Domain) (en : Entities) where
       (forms : List Form) where
     first-is : (k : ℕ) (r : Row) (o : Option ℕ) → HasClean s d en target find leads forms r o
         → instance_seen s r.name k (form_among forms o) (row_by s d (form_among forms o) r.form) ≡ instance_of s d en k r
-    first-is k r o (x, at, is, fits) =
+    first-is k r o (x, at, is, types, fits) =
         ap (λ f. instance_seen s r.name k f (row_by s d f r.form)) at ∙ instance-is k r x is
 
     all-seen : (ks : List ℕ) (rs : List Row) (os : List (Option ℕ)) → AreClean s d en target find leads forms rs os

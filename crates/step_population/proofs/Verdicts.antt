@@ -3,6 +3,7 @@ use Rattle.std.specs.Prelude.{◌≡◌, ℕ, ◌<◌, ◌≤◌, List, [], ◌�
 use Rattle.std.proofs.Common.{refl, sym, subst, ◌∙◌, arith}
 use Rattle.express_schemas.specs.SchemaViews.{schema_of}
 use Rattle.express_schemas.specs.Schemas.{Schema}
+use Rattle.type_graphs.specs.Faults.{IsResolved}
 use Rattle.schema_names.specs.declared.names.Names.{Names}
 use Rattle.step_exchange.specs.declared.structure.Exchange.{Exchange}
 use Rattle.step_exchange.specs.Exchanges.{structure}
@@ -11,6 +12,7 @@ use Rattle.step_values.specs.Targets.{LeadTo, ReferTo}
 use Rattle.row_index.specs.Index.{found}
 use Rattle.base_types.specs.declared.lookup.Bases.{Bases}
 use Rattle.base_types.specs.Seen.{schema_at}
+use Rattle.base_types.specs.Tables.{AreBases}
 use Rattle.conformance.specs.declared.finding.Finding.{Finding}
 use Rattle.conformance.specs.Bases.{Domain, IsDomain}
 use Rattle.conformance.specs.Entities.{Entities, AreEntities}
@@ -39,13 +41,16 @@ schema_by n = schema_of n.schema.now
 
 module _ (n : Names) (k : Knowledge) (b : Bases) (x : Exchange) (t : Rows) (same : k.names.now ≡ n)
     (same-bases : b.names.now ≡ n) (said : (en : Entities) × AreEntities (schema_in k) en)
-    (some : (d : Domain) × IsDomain (schema_at b) d)
+    (bases : AreBases b)
     (rows : (en : Entities) → AreEntities (schema_in k) en → AreRowsOf (schema_in k) en (rows_in x) t) where
   pub en-is : (en : Entities) × AreEntities (schema_by n) en
   en-is = subst (λ m. (en : Entities) × AreEntities (schema_by m) en) same said
 
   pub d-is : (d : Domain) × IsDomain (schema_by n) d
-  d-is = subst (λ m. (d : Domain) × IsDomain (schema_by m) d) same-bases some
+  d-is = subst (λ m. (d : Domain) × IsDomain (schema_by m) d) same-bases bases.1.exists
+
+  resolved-is : IsResolved (schema_by n)
+  resolved-is = subst (λ m. IsResolved (schema_by m)) same-bases bases.0
 
   are-rows : AreRowsOf (schema_by n) en-is.0 (rows_in x) t
   are-rows =
@@ -70,7 +75,7 @@ module _ (n : Names) (k : Knowledge) (b : Bases) (x : Exchange) (t : Rows) (same
       ready-is =
           subst (λ m. AreRowsReady (schema_by m) (found t.index) t.forms.items (rows_in x) t.form_of.items)
           (sym same-bases)
-          (rows-are-ready (schema_by n) d-is.0 en-is.0 x t are-rows (sym told-so ∙ none))
+          (rows-are-ready (schema_by n) d-is.0 en-is.0 x t are-rows (sym told-so ∙ none) resolved-is en-is.1)
 
       module _ (now : Kept) (made : (d : Domain) → IsDomain (schema_at b) d
           → now.rows ≡ rows_by (schema_at b) d t.forms.items (rows_in x) t.form_of.items)

@@ -48,9 +48,11 @@ module _ (s : Schema) (d : Domain) where
   rows_by forms (r ∷ rs) (f ∷ fs) = row_by (form_among forms f) r.form ∷ rows_by forms rs fs
 
 module _ (s : Schema) (find : ℕ → Option ℕ) where
-  -- the value of an attribute can be made: its data types are known, and each reference in a value of one is found
+  -- The value of an attribute can be made: its data types are known, and where it isn't derived it has one and each
+  -- reference in its value is found.
   pub record IsReady (x : SlotForm) (t : Tree) : Type 0 where
     pub known : Every (λ k. IsKnown s (type_at s k)) x.data_types.items
+    pub typed : x.is_derived ≡ false → x.data_types.items ≡ [] → ⊥
     pub within : x.is_derived ≡ false → (k : ℕ) (ks : List ℕ) → x.data_types.items ≡ k ∷ ks → RefersWithin find t
 
   abbrev pub AreReady : List SlotForm → Trees → Type 0

@@ -53,8 +53,7 @@ pub struct Maker<'r, 't, 'a> {
 }
 
 /// Pushes the value of an attribute, by its parameter: one that is derived, however it is spelt, or
-/// a value of the first of its data types. An attribute that isn't derived has one; the answer for
-/// one that has none is want of memory.
+/// a value of the first of its data types.
 fn push_slot<'p: 'v, 'v>(
     builder: &mut RowBuilder<'_, 'v>,
     maker: &Maker<'_, '_, '_>,
@@ -69,10 +68,8 @@ fn push_slot<'p: 'v, 'v>(
     if slot.is_derived {
         return builder.push_derived();
     }
-    let Some(number) = slot.data_types.first() else {
-        return Err(AllocError);
-    };
-    let base = maker.bases.of_number(*number);
+    let number = slot.data_types[0];
+    let base = maker.bases.of_number(number);
     push_value(builder, maker.bases, base, maker.index, param)
 }
 
