@@ -146,7 +146,8 @@ const ROWS: &'static [Row] = &[
         Clauses {
             of_point: b"",
             of_solid: b"",
-            at_end: b"ENTITY sign; WHERE wr1 : EXISTS(ink); wr2 : ink > 0.0; wr3 : rough < 1; END_ENTITY;
+            at_end: b"ENTITY sign;
+ WHERE wr1 : EXISTS(ink); wr2 : ink > 0.0; wr3 : rough < 1; END_ENTITY;
  ENTITY painted SUBTYPE OF (sign); ink : REAL; rough : REAL; END_ENTITY;",
         },
         &[],
