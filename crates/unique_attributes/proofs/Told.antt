@@ -1,5 +1,5 @@
 -- What is found of attributes in a UNIQUE rule.
-use Rattle.std.specs.Prelude.{◌≡◌, Bool, false, ◌||◌, ◌⊎◌, ◌↔◌, IsTrue, List, [], ◌∷◌, ◌++◌}
+use Rattle.std.specs.Prelude.{◌≡◌, Bool, true, false, ◌||◌, ◌⊎◌, ◌↔◌, IsTrue, List, [], ◌∷◌, ◌++◌}
 use Rattle.std.proofs.Common.{inl, inr}
 use Rattle.digraph.proofs.Searching.{either, left-holds}
 use Rattle.express_schemas.specs.Schemas.{Schema, Attribute}
