@@ -6,53 +6,25 @@ use Rattle.step_values.specs.Values.{Value, leaf, reference, typed, sequence, ba
 use Rattle.step_values.specs.References.{EachReference, EachReferenceOf}
 use Rattle.express_schemas.specs.Schemas.{Schema, DataType}
 use Rattle.type_graphs.specs.Names.{OneOf, Among}
-use Rattle.type_graphs.proofs.Lists.{every-at, every-of}
+use Rattle.type_graphs.proofs.Lists.{every-of}
 use Rattle.conformance.specs.Bases.{Base, Domain, base}
 use Rattle.conformance.specs.Entities.{data_types}
 use Rattle.conformance.specs.Populations.{Slot}
-use Rattle.conforming_values.specs.Apart.{Occurs, OccursIn, KeepsApart, KeepEachApart}
+use Rattle.conforming_values.specs.Apart.{OccursIn, KeepsApart, KeepEachApart}
 use Rattle.conforming_values.specs.Images.{KeepsSlotApart}
 use Rattle.conforming_values.specs.Standing.{InBag, InBagOf, StandsInBag}
-use Rattle.population_rules.specs.Elements.{AnElement, Is, StandsWithin, IsAnotherOfClass, HasUnique, HasUniqueAmong}
+use Rattle.population_rules.specs.Elements.{AnElement, IsReferenceTo, StandsWithin, IsAnotherOfClass, HasUnique, HasUniqueAmong}
 use Rattle.population_rules.specs.Pins.{StandsInsideUnique, StandsBesideItsClass}
 use Rattle.population_rules.specs.Laws.{names, GentlePinsKeepApart}
+use Rattle.population_rules.proofs.There.{at_in, bag_occurs_in, reference_named}
 use Rattle.population_rules.proofs.Standing.{one_is, an_other, occurs_is_in}
-
--- what stands in a SET or BAG stands in the value
-mutual
-  bag_occurs : (y : ℕ) (v : Value) → InBag y v → Occurs y v
-  bag_occurs y (leaf a) h = h
-  bag_occurs y (reference z) h = absurd h
-  bag_occurs y (typed n v) h = bag_occurs y v h
-  bag_occurs y (sequence vs) h = bag_occurs_in y vs h
-  bag_occurs y (bag vs) h = h
-
-  bag_occurs_in : (y : ℕ) (vs : Values) → InBagOf y vs → OccursIn y vs
-  bag_occurs_in y none h = h
-  bag_occurs_in y (more v vs) (inl h) = inl (bag_occurs y v h)
-  bag_occurs_in y (more v vs) (inr h) = inr (bag_occurs_in y vs h)
-
--- what holds of each reference holds of what stands in the value
-module _ (P : ℕ → Type 0) where
-  mutual
-    at : (y : ℕ) (v : Value) → EachReference P v → Occurs y v → P y
-    at y (leaf a) f h = absurd h
-    at y (reference z) f h = rw h f
-    at y (typed n v) f h = at y v f h
-    at y (sequence vs) f h = at_in y vs f h
-    at y (bag vs) f h = at_in y vs f h
-
-    at_in : (y : ℕ) (vs : Values) → EachReferenceOf P vs → OccursIn y vs → P y
-    at_in y none f h = absurd h
-    at_in y (more v vs) f (inl h) = at y v f.0 h
-    at_in y (more v vs) f (inr h) = at_in y vs f.1 h
 
 -- Here is what is there, pins are what is told apart from all else, and E relates what h leads to one.
 module _ (s : Schema) (d : Domain) (h : ℕ → ℕ) (E : ℕ → ℕ → Bool) (Here Pinned : ℕ → Type 0)
     (alone : (y z : ℕ) → Here y → Here z → Pinned z → h y ≡ h z → y ≡ z)
     (one : (y z : ℕ) → Here y → Here z → h y ≡ h z → E y z ≡ true) where
   abbrev Beside : ℕ → Values → Type 0
-  Beside y vs = AnElement (Is y) vs × AnElement (IsAnotherOfClass E y) vs
+  Beside y vs = AnElement (IsReferenceTo y) vs × AnElement (IsAnotherOfClass E y) vs
 
   apart : (vs : Values) → EachReferenceOf Here vs → ((y : ℕ) → AnElement (StandsWithin y) vs → Pinned y)
       → ((y : ℕ) → Beside y vs → Pinned y) → (y z : ℕ) → OccursIn y vs → OccursIn z vs → h y ≡ h z → y ≡ z
@@ -64,13 +36,14 @@ module _ (s : Schema) (d : Domain) (h : ℕ → ℕ) (E : ℕ → ℕ → Bool) 
       n : Here z
       n = at_in Here z vs here q
 
-      elements : AnElement (Is y) vs → AnElement (Is z) vs → (y ≡ z) ⊎ (y ≡ z → ⊥) → y ≡ z
+      elements : AnElement (IsReferenceTo y) vs → AnElement (IsReferenceTo z) vs → (y ≡ z) ⊎ (y ≡ z → ⊥) → y ≡ z
       elements i j (inl same) = same
       elements i j (inr differ) =
-          sym (alone z y n m (beside y (i, an_other (λ v k. (z, k, (λ f. differ (sym f)), one y z m n e)) vs j)) (sym e))
+          sym (alone z y n m
+          (beside y (i, an_other (λ v k. (z, k, (λ f. differ (sym f)), one y z m n e)) vs j)) (sym e))
 
-      by : AnElement (Is y) vs ⊎ AnElement (StandsWithin y) vs → AnElement (Is z) vs ⊎ AnElement (StandsWithin z) vs
-          → y ≡ z
+      by : AnElement (IsReferenceTo y) vs ⊎ AnElement (StandsWithin y) vs
+          → AnElement (IsReferenceTo z) vs ⊎ AnElement (StandsWithin z) vs → y ≡ z
       by (inr w) j = sym (alone z y n m (within y w) (sym e))
       by (inl i) (inr w) = alone y z m n (within z w) e
       by (inl i) (inl j) = elements i j (cases_eq y z)
@@ -103,17 +76,17 @@ module _ (s : Schema) (d : Domain) (h : ℕ → ℕ) (E : ℕ → ℕ → Bool) 
     )
 
 pub gentle_pins_keep_apart : GentlePinsKeepApart
-gentle_pins_keep_apart s d en rules chosen is E h pinned gentle alone one i m closed =
+gentle_pins_keep_apart s d en rules chosen is E h pinned gentle alone one closed i m =
     every-of (KeepsSlotApart s d en h i.types) i.slots (λ x n. every-of
     (λ (k : DataType). KeepsApart s d h (base d k) x.value) (data_types s en i.types x.place) (λ k o.
     kept_apart s d h E (λ y. Among y (names is)) (λ y. IsTrue (pinned y)) alone one (base d k) x.value
-    (every-at (λ (z : Slot). EachReference (λ y. Among y (names is)) z.value) x i.slots closed n)
+    (reference_named is closed i m x n)
     (λ y p. gentle y (inl (inl (inr (inl (one_is (StandsInBag s d en y) i is m
     (one_is (λ (z : Slot). InBag y z.value) x i.slots n p)))))))
     (λ y p. gentle y (inl (inr (one_is (StandsInsideUnique s d en y) i is m (in_slot x k n o
     (AnElement (StandsWithin y)) p)))))
     (λ y p. gentle y (inr (one_is (StandsBesideItsClass s d en E y) i is m (in_slot x k n o
-    (λ vs. AnElement (Is y) vs × AnElement (IsAnotherOfClass E y) vs) p))))))
+    (λ vs. AnElement (IsReferenceTo y) vs × AnElement (IsAnotherOfClass E y) vs) p))))))
   where
     in_slot : (x : Slot) (k : DataType) → Among x i.slots → Among k (data_types s en i.types x.place)
         → (P : Values → Type 0) → HasUnique s d P (base d k) x.value

@@ -13,7 +13,7 @@ use Rattle.conformance.specs.Populations.{Slot, Instance, slot_at, types_at}
 use Rattle.conforming_values.specs.Apart.{Occurs, OccursIn}
 use Rattle.conforming_values.specs.Standing.{InBag, InBagOf, StandsInBag}
 use Rattle.population_rules.specs.Rules.{UniqueRule, InverseAttribute, Rules}
-use Rattle.population_rules.specs.Elements.{AnElement, Is, StandsWithin, IsAnotherOfClass, HasUnique, HasUniqueAmong, HasUniqueValue}
+use Rattle.population_rules.specs.Elements.{AnElement, IsReferenceTo, StandsWithin, IsAnotherOfClass, HasUnique, HasUniqueAmong, HasUniqueValue}
 use Rattle.population_rules.specs.Pins.{HasUnchosenLeaf, OccursAt, IsInKey, Refers, IsInverseSide, StandsInsideUnique, StandsBesideItsClass, IsPinnedElsewhere, IsWeaklyPinned, IsGentlyPinned}
 use Rattle.population_rules.specs.Laws.{PinsHaveTests}
 use Rattle.population_rules.proofs.Decided.{Decided, test, test_decides, either_decided, both_decided, not_decided, one_decided, true_decided, false_decided, same_decided, some_decided}
@@ -63,7 +63,7 @@ pub one_referred : (y z : ℕ) → reference z ≡ reference y → z ≡ y
 unfolding referred
 one_referred y z e = ap (referred 0) e
 
-abbrev refers_by : (y z : ℕ) → Decided (z ≡ y) → Decided (Is y (reference z))
+abbrev refers_by : (y z : ℕ) → Decided (z ≡ y) → Decided (IsReferenceTo y (reference z))
 refers_by y z (inl e) = inl (ap reference e)
 refers_by y z (inr n) = inr (λ h. n (one_referred y z h))
 
@@ -71,10 +71,10 @@ abbrev is_reference : Value → Bool
 is_reference (reference z) = true
 is_reference _ = false
 
-pub no_reference : (y : ℕ) (v : Value) → is_reference v ≡ false → Is y v → ⊥
+pub no_reference : (y : ℕ) (v : Value) → is_reference v ≡ false → IsReferenceTo y v → ⊥
 no_reference y v other e = both_ways (is_reference v) other (ap is_reference e)
 
-abbrev is_decided : (y : ℕ) (v : Value) → Decided (Is y v)
+abbrev is_decided : (y : ℕ) (v : Value) → Decided (IsReferenceTo y v)
 is_decided y (reference z) = refers_by y z (same_decided z y)
 is_decided y (leaf a) = inr (no_reference y (leaf a) refl)
 is_decided y (typed n v) = inr (no_reference y (typed n v) refl)
@@ -200,8 +200,8 @@ module _ (s : Schema) (d : Domain) (en : Entities) (y : ℕ) where
 
   abbrev beside_decided : (E : ℕ → ℕ → Bool) (i : Instance) → Decided (StandsBesideItsClass s d en E y i)
   beside_decided E i =
-      value_decided s d (λ vs. AnElement (Is y) vs × AnElement (IsAnotherOfClass E y) vs)
-      (λ vs. both_decided (element_decided (Is y) (is_decided y) vs)
+      value_decided s d (λ vs. AnElement (IsReferenceTo y) vs × AnElement (IsAnotherOfClass E y) vs)
+      (λ vs. both_decided (element_decided (IsReferenceTo y) (is_decided y) vs)
       (element_decided (IsAnotherOfClass E y) (another_decided E y) vs)) en i
 
   abbrev leaf_decided : (chosen types : List Name) → Decided (HasUnchosenLeaf s en chosen types)

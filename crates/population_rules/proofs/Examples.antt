@@ -4,13 +4,13 @@ use Rattle.std.proofs.Common.{refl}
 use Rattle.step_values.specs.Leaves as leaves
 use Rattle.step_values.specs.Values as values
 use Rattle.step_values.specs.Values.{leaf, reference, sequence, none, more}
-use Rattle.express_schemas.specs.Schemas.{own, DataType, named}
+use Rattle.express_schemas.specs.Schemas.{Unique, own, DataType, named}
 use Rattle.express_schemas.specs.Schemas as schemas
 use Rattle.type_graphs.specs.Names.{Name}
 use Rattle.type_graphs.proofs.Geo.{geo, LOOP, GROUP, NOTE, NODE, BUNDLE, POINT, PLACEMENT, DIRECTION}
 use Rattle.conformance.specs.Entities.{Entities}
 use Rattle.conformance.specs.Populations.{Instance}
-use Rattle.population_rules.specs.Rules.{alone, in_set, in_bag, InverseAttribute, Rules, statements_from}
+use Rattle.population_rules.specs.Rules.{alone, in_set, in_bag, InverseAttribute, Rules, Statement, statements_from}
 use Rattle.population_rules.specs.Referring.{inverse_value, inverse_of}
 use Rattle.population_rules.specs.Findings.{Breach, unique_findings, inverse_findings}
 use Rattle.population_rules.specs.Choices.{usual, given, chosen_names, unknown_choice}
@@ -92,8 +92,10 @@ two_are_too_many : inverse_findings one_alone two_notes ≡ too_many ∷ []
 two_are_too_many = refl
 
 -- a bound that isn't checked limits nothing
-no_bounds : inverse_findings (record { uniques = []; inverses = record the_notes { gathering = in_set None None } ∷ [] })
-    two_notes ≡ []
+abbrev any_number : Rules
+any_number = record { uniques = []; inverses = record the_notes { gathering = in_set None None } ∷ [] }
+
+no_bounds : inverse_findings any_number two_notes ≡ []
 no_bounds = refl
 
 -- A point, a placement, and groups of these identifiers.
@@ -137,12 +139,19 @@ aside = record { uniques = record one_id { is_checked = false } ∷ []; inverses
 set_aside : unique_findings aside groups ≡ []
 set_aside = refl
 
--- the labels of three rules
-labels : statements_from GROUP 1 (record { label = None; attributes = [] } ∷ record { label = Some (codes "UR1"); attributes = [] }
-    ∷ record { label = None; attributes = [] } ∷ [])
-    ≡ record { entity = GROUP; label = 63 ∷ decimal 1; attributes = [] }
-    ∷ record { entity = GROUP; label = codes "UR1"; attributes = [] }
-    ∷ record { entity = GROUP; label = 63 ∷ decimal 3; attributes = [] } ∷ []
+-- UNIQUE id; ur1 : id; id;
+abbrev unlabelled : Unique
+unlabelled = record { label = None; attributes = own (codes "ID") ∷ [] }
+
+abbrev written : List Unique
+written = unlabelled ∷ record unlabelled { label = Some (codes "UR1") } ∷ unlabelled ∷ []
+
+abbrev labelled : Name → Statement
+labelled n = record { entity = GROUP; label = n; attributes = own (codes "ID") ∷ [] }
+
+-- `?1`, UR1 and `?3`
+labels : statements_from GROUP 1 written
+    ≡ labelled (63 ∷ decimal 1) ∷ labelled (codes "UR1") ∷ labelled (63 ∷ decimal 3) ∷ []
 labels = refl
 
 -- The names that are pinned.

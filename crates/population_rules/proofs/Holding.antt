@@ -55,7 +55,7 @@ at_name x (z ∷ is) h (inr m) =
     (differs z.name x is (IsDistinct-head (◌==◌) z.name (names is) h) m)
     ∙ at_name x is (IsDistinct-tail (◌==◌) z.name (names is) h) m
 
-named_at : (y : ℕ) (is : List Instance) (n : Name) → IsTrue (among n (types_at is y))
+pub named_at : (y : ℕ) (is : List Instance) (n : Name) → IsTrue (among n (types_at is y))
     → (x : Instance) × Among x is × (x.name ≡ y) × IsTrue (among n x.types)
 named_at y [] n h = absurd (cc)
 named_at y (x ∷ is) n h = by (x.name == y) refl h (named_at y is n)

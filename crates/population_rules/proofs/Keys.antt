@@ -171,7 +171,8 @@ module _ (u : UniqueRule) where
   )
     where
       first : Behind [] is x
-          → (before : List Instance) × (after : List Instance) × (is ≡ before ++ x ∷ after) × OneOf (ShareKey u x) before
+          → (before : List Instance) × (after : List Instance) × (is ≡ before ++ x ∷ after)
+          × OneOf (ShareKey u x) before
       first (before, after, e, inl k) = (before, after, e, k)
       first (before, after, e, inr k) = elim k [ ]
 
@@ -186,7 +187,8 @@ module _ (u : UniqueRule) where
   repeats_none before (x ∷ xs) h k =
       ap (λ (b : Bool). cond b (x ∷ repeats u (x ∷ before) xs) (repeats u (x ∷ before) xs)) (shared_none x before h.0)
       ∙ repeats_none (x ∷ before) xs
-      (every_both (SharesNone before) (λ z. ShareKey u z x → ⊥) (SharesNone (x ∷ before)) (λ z n m. (m, n)) xs h.1 k.0) k.1
+      (every_both (SharesNone before) (λ z. ShareKey u z x → ⊥) (SharesNone (x ∷ before)) (λ z n m. (m, n)) xs h.1 k.0)
+      k.1
 
   nothing : (xs : List Instance) → Every (SharesNone []) xs
   nothing [] = tt

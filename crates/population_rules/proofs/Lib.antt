@@ -1,5 +1,6 @@
 pub mod Standing
 pub mod Pinning
+pub mod There
 pub mod Apart
 pub mod Counting
 pub mod Holding
@@ -9,4 +10,5 @@ pub mod Deciding
 pub mod GeoRules
 pub mod Samples
 pub mod Oneness
+mod TwoMeanings
 mod Examples

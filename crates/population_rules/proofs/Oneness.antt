@@ -147,7 +147,8 @@ module _ (s : Schema) where
       rw (one_breaches s x u v h.0 k.0 is, all_breaches is xs us vs h.1 k.1) refl
 
   in_all_keys : (is : List Instance) (y : ℕ) (xs : List Statement) (us vs : List UniqueRule)
-      → InTurn (IsUniqueRule s) xs us → InTurn (IsUniqueRule s) xs vs → OneOf (IsInKey is y) us → OneOf (IsInKey is y) vs
+      → InTurn (IsUniqueRule s) xs us → InTurn (IsUniqueRule s) xs vs → OneOf (IsInKey is y) us
+      → OneOf (IsInKey is y) vs
   in_all_keys is y xs [] vs h k g = elim g [ ]
   in_all_keys is y [] (u ∷ us) vs h k g = elim h [ ]
   in_all_keys is y (x ∷ xs) (u ∷ us) [] h k g = elim k [ ]

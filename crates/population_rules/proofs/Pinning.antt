@@ -35,8 +35,8 @@ elements_are_told_apart s d en rules chosen is E R pinned rows gentle keeps with
     by : (y ≡ z) ⊎ (y ≡ z → ⊥) → y ≡ z
     by (inl same) = same
     by (inr differ) =
-        let is_pinned = gentle y (inr (some_other (together_beside s d en E y z (λ e. differ (sym e)) (within y z related))
-        is together)) in
+        let beside = together_beside s d en E y z (λ e. differ (sym e)) (within y z related) in
+        let is_pinned = gentle y (inr (some_other beside is together)) in
         (keeps y z related).0.same_if_pinned (or_left (pinned y) (pinned z) is_pinned)
 
 -- a relation that keeps, with the identity, keeps under fewer pins

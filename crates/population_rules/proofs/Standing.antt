@@ -10,7 +10,7 @@ use Rattle.conformance.specs.Entities.{Entities, data_types}
 use Rattle.conformance.specs.Populations.{Slot, Instance}
 use Rattle.conforming_values.specs.Apart.{Occurs, OccursIn}
 use Rattle.conforming_values.specs.Standing.{InBag, InBagOf, InUnique, InUniqueOf, StandsInUnique}
-use Rattle.population_rules.specs.Elements.{AnElement, Is, StandsWithin, IsAnotherOfClass, HasUnique, HasUniqueAmong, HasUniqueValue}
+use Rattle.population_rules.specs.Elements.{AnElement, IsReferenceTo, StandsWithin, IsAnotherOfClass, HasUnique, HasUniqueAmong, HasUniqueValue}
 use Rattle.population_rules.specs.Pins.{StandsInsideUnique, StandsBesideItsClass, StandTogether}
 
 pub either : {P Q R S : Type 0} → (P → R) → (Q → S) → P ⊎ Q → R ⊎ S
@@ -54,18 +54,19 @@ element_occurs y P f (more v vs) (inr h) = inr (element_occurs y P f vs h)
 pub within_occurs : (y : ℕ) (vs : Values) → AnElement (StandsWithin y) vs → OccursIn y vs
 within_occurs y vs h = element_occurs y (StandsWithin y) (occurs_within y) vs h
 
-pub is_occurs : (y : ℕ) (vs : Values) → AnElement (Is y) vs → OccursIn y vs
-is_occurs y vs h = element_occurs y (Is y) (λ v e. subst (Occurs y) (sym e) refl) vs h
+pub is_occurs : (y : ℕ) (vs : Values) → AnElement (IsReferenceTo y) vs → OccursIn y vs
+is_occurs y vs h = element_occurs y (IsReferenceTo y) (λ v e. subst (Occurs y) (sym e) refl) vs h
 
 -- .. and what stands in a collection is an element of it, or stands within one
-pub occurs_is : (y : ℕ) (v : Value) → Occurs y v → Is y v ⊎ StandsWithin y v
+pub occurs_is : (y : ℕ) (v : Value) → Occurs y v → IsReferenceTo y v ⊎ StandsWithin y v
 occurs_is y (leaf a) h = elim h [ ]
 occurs_is y (reference z) h = inl (subst (λ w. reference w ≡ reference y) h refl)
 occurs_is y (typed n v) h = inr h
 occurs_is y (sequence vs) h = inr h
 occurs_is y (bag vs) h = inr h
 
-pub occurs_is_in : (y : ℕ) (vs : Values) → OccursIn y vs → AnElement (Is y) vs ⊎ AnElement (StandsWithin y) vs
+pub occurs_is_in : (y : ℕ) (vs : Values) → OccursIn y vs
+    → AnElement (IsReferenceTo y) vs ⊎ AnElement (StandsWithin y) vs
 occurs_is_in y none h = elim h [ ]
 occurs_is_in y (more v vs) (inl h) = either inl inl (occurs_is y v h)
 occurs_is_in y (more v vs) (inr h) = either inr inr (occurs_is_in y vs h)
@@ -117,13 +118,14 @@ module _ (s : Schema) (d : Domain) where
   pub beside_stands : (en : Entities) (E : ℕ → ℕ → Bool) (y : ℕ) (i : Instance) → StandsBesideItsClass s d en E y i
       → StandsInUnique s d en y i
   beside_stands en E y i h =
-      stands_in y (λ vs. AnElement (Is y) vs × AnElement (IsAnotherOfClass E y) vs) (λ vs p. is_occurs y vs p.0) en i h
+      stands_in y (λ vs. AnElement (IsReferenceTo y) vs × AnElement (IsAnotherOfClass E y) vs)
+      (λ vs p. is_occurs y vs p.0) en i h
 
   pub together_beside : (en : Entities) (E : ℕ → ℕ → Bool) (y z : ℕ) → z ≢ y → E y z ≡ true → (i : Instance)
       → StandTogether s d en y z i → StandsBesideItsClass s d en E y i
   together_beside en E y z differ one i h =
-      value_other (λ vs. AnElement (Is y) vs × AnElement (Is z) vs)
-      (λ vs. AnElement (Is y) vs × AnElement (IsAnotherOfClass E y) vs)
+      value_other (λ vs. AnElement (IsReferenceTo y) vs × AnElement (IsReferenceTo z) vs)
+      (λ vs. AnElement (IsReferenceTo y) vs × AnElement (IsAnotherOfClass E y) vs)
       (λ vs p. (p.0, an_other (λ v e. (z, e, differ, one)) vs p.1)) en i h
 
 -- what holds of all that stands in a value holds of its references

@@ -14,9 +14,9 @@ abbrev pub AnElement : (Value → Type 0) → Values → Type 0
 AnElement P none = ⊥
 AnElement P (more v vs) = P v ⊎ AnElement P vs
 
--- the value is the instance y itself
-abbrev pub Is : ℕ → Value → Type 0
-Is y v = v ≡ reference y
+-- the value is a reference to y
+abbrev pub IsReferenceTo : ℕ → Value → Type 0
+IsReferenceTo y v = v ≡ reference y
 
 -- y stands in the value, which isn't y itself
 abbrev pub StandsWithin : ℕ → Value → Type 0
@@ -28,7 +28,7 @@ StandsWithin y (bag vs) = OccursIn y vs
 
 -- the value is another instance, which the relation puts into one class with y
 abbrev pub IsAnotherOfClass : (ℕ → ℕ → Bool) → ℕ → Value → Type 0
-IsAnotherOfClass E y v = (z : ℕ) × Is z v × (z ≢ y) × (E y z ≡ true)
+IsAnotherOfClass E y v = (z : ℕ) × IsReferenceTo z v × (z ≢ y) × (E y z ≡ true)
 
 module _ (s : Schema) (d : Domain) where
   -- P holds of the elements of a LIST or ARRAY OF UNIQUE that the value is, or that stands in it at any depth, by the

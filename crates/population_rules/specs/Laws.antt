@@ -32,6 +32,11 @@ RulesAreOne = (s : Schema) (d : Domain) (en : Entities) (p q : Rules) → IsReso
 abbrev pub names : List Instance → List ℕ
 names is = map (λ (x : Instance). x.name) is
 
+-- each reference names an instance
+abbrev pub IsClosed : List Instance → Type 0
+IsClosed is =
+    Every (λ (i : Instance). Every (λ (x : Slot). EachReference (λ y. Among y (names is)) x.value) i.slots) is
+
 -- A value refers to an instance exactly where it does so at least once.
 abbrev pub ReferencesAreCounted : Type 0
 ReferencesAreCounted = (y : ℕ) (v : Value) → Occurs y v ↔ (0 < times y v)
@@ -94,6 +99,11 @@ PinsHaveTests = (s : Schema) (d : Domain) (en : Entities) (rules : Rules) (chose
     × ((E : ℕ → ℕ → Bool) → (gentle : ℕ → Bool)
     × ((y : ℕ) → IsTrue (gentle y) ↔ IsGentlyPinned s d en rules chosen is E y))
 
+-- What is pinned is an instance, where each reference names one.
+abbrev pub PinnedAreThere : Type 0
+PinnedAreThere = (s : Schema) (d : Domain) (en : Entities) (rules : Rules) (chosen : List Name) (is : List Instance)
+    → IsClosed is → (y : ℕ) → IsPlainlyPinned s d en rules chosen is y → Among y (names is)
+
 -- Whatever else is pinned, each reference in a SET or BAG names a pinned instance.
 abbrev pub BagReferencesArePinned : Type 0
 BagReferencesArePinned = (s : Schema) (d : Domain) (en : Entities) (rules : Rules) (chosen : List Name)
@@ -126,13 +136,12 @@ ElementsAreNotMerged = (s : Schema) (d : Domain) (en : Entities) (rules : Rules)
     → IsValueEquality rows weak E → IsValueEquality rows gentle F
     → (y z : ℕ) → OneOf (StandTogether s d en y z) is → F y z ≡ true → y ≡ z
 
--- A map that leads nothing else to where it leads a gently pinned instance, and only instances of one class to one, keeps
--- the elements of SETs, and of what is OF UNIQUE, apart.
+-- A map that leads nothing else to where it leads a gently pinned instance, and only instances of one class to one,
+-- keeps the elements of SETs, and of what is OF UNIQUE, apart.
 abbrev pub GentlePinsKeepApart : Type 0
 GentlePinsKeepApart = (s : Schema) (d : Domain) (en : Entities) (rules : Rules) (chosen : List Name)
     (is : List Instance) (E : ℕ → ℕ → Bool) (h : ℕ → ℕ) (pinned : ℕ → Bool)
     → ((y : ℕ) → IsGentlyPinned s d en rules chosen is E y → IsTrue (pinned y))
     → ((y z : ℕ) → Among y (names is) → Among z (names is) → IsTrue (pinned z) → h y ≡ h z → y ≡ z)
     → ((y z : ℕ) → Among y (names is) → Among z (names is) → h y ≡ h z → E y z ≡ true)
-    → (i : Instance) → Among i is → Every (λ (x : Slot). EachReference (λ y. Among y (names is)) x.value) i.slots
-    → KeepsInstanceApart s d en h i
+    → IsClosed is → (i : Instance) → Among i is → KeepsInstanceApart s d en h i

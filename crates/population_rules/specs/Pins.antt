@@ -11,7 +11,7 @@ use Rattle.conformance.specs.Populations.{Instance, slot_at, types_at}
 use Rattle.conforming_values.specs.Apart.{Occurs}
 use Rattle.conforming_values.specs.Standing.{StandsInBag, StandsInUnique}
 use Rattle.population_rules.specs.Rules.{UniqueRule, InverseAttribute, Rules}
-use Rattle.population_rules.specs.Elements.{AnElement, Is, StandsWithin, IsAnotherOfClass, HasUniqueValue}
+use Rattle.population_rules.specs.Elements.{AnElement, IsReferenceTo, StandsWithin, IsAnotherOfClass, HasUniqueValue}
 
 -- one of the types that no other is below isn't chosen
 abbrev pub HasUnchosenLeaf : Schema → Entities → List Name → List Name → Type 0
@@ -49,11 +49,11 @@ module _ (s : Schema) (d : Domain) (en : Entities) where
   -- y is an element of a LIST or ARRAY OF UNIQUE of i, and so is another instance of its class
   abbrev pub StandsBesideItsClass : (ℕ → ℕ → Bool) → ℕ → Instance → Type 0
   StandsBesideItsClass E y i =
-      HasUniqueValue s d en (λ vs. AnElement (Is y) vs × AnElement (IsAnotherOfClass E y) vs) i
+      HasUniqueValue s d en (λ vs. AnElement (IsReferenceTo y) vs × AnElement (IsAnotherOfClass E y) vs) i
 
   -- y and z are elements of one LIST or ARRAY OF UNIQUE of i
   abbrev pub StandTogether : ℕ → ℕ → Instance → Type 0
-  StandTogether y z i = HasUniqueValue s d en (λ vs. AnElement (Is y) vs × AnElement (Is z) vs) i
+  StandTogether y z i = HasUniqueValue s d en (λ vs. AnElement (IsReferenceTo y) vs × AnElement (IsReferenceTo z) vs) i
 
   module _ (rules : Rules) (chosen : List Name) (is : List Instance) where
     -- whatever is asked of the elements of what is OF UNIQUE

@@ -72,7 +72,8 @@ abbrev pub is_own : Attribute → Bool
 is_own (own a) = true
 is_own (redeclared q a) = false
 
--- The inverse attributes, each with the entity that declares it. A redeclared one is set aside; the first one stands.
+-- The inverse attributes, each with the entity that declares it. A redeclaration is set aside, and the first
+-- declaration stands (ISO 10303-11, 9.2.3.4).
 abbrev pub declared_inverses : Schema → List (Name × Inverse)
 declared_inverses s =
     flat_map (λ (e : Entity). map (λ (i : Inverse). (e.name, i)) (filter (λ (i : Inverse). is_own i.attribute)

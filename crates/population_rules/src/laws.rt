@@ -5,7 +5,7 @@ ghost use Rattle.population_rules.specs.Laws.{InverseSidesAreHeld, RepeatsComeLa
 ghost use Rattle.population_rules.specs.Laws.{NoFindingExactlyWhereKeysAreUnique};
 ghost use Rattle.population_rules.specs.Laws.{NoFindingExactlyWhereBoundsHold};
 ghost use Rattle.population_rules.specs.Laws.{WeakPinsAreGentle, GentlePinsArePlain, PinsHaveTests};
-ghost use Rattle.population_rules.specs.Laws.{BagReferencesArePinned, ElementsAreToldApart};
+ghost use Rattle.population_rules.specs.Laws.{PinnedAreThere, BagReferencesArePinned, ElementsAreToldApart};
 ghost use Rattle.population_rules.specs.Laws.{PinsPartClasses, ElementsAreNotMerged, GentlePinsKeepApart};
 
 /// The rules of a schema leave no choice of what breaks them, and of what is pinned.
@@ -60,6 +60,11 @@ pub fn gentle_pins_are_plain()
 /// There is a test of weak pins, and one of gentle pins for each test of classes.
 pub fn pins_have_tests()
     ensures { PinsHaveTests }
+{}
+
+/// What is pinned is an instance, where each reference names one.
+pub fn pinned_are_there()
+    ensures { PinnedAreThere }
 {}
 
 /// Each reference in a SET or BAG names an instance that is pinned, by the weak rules and by all
