@@ -169,6 +169,9 @@ abbrev gentle : (ℕ → ℕ → Bool) → List Name → List Instance → List 
 gentle E chosen is = gentle_by geo_entities geo_rules chosen is E
 
 -- an inverse attribute that holds an instance pins both sides, and no other placement
+a_note_on_a_placement : weak (POINT ∷ PLACEMENT ∷ []) one_note ≡ 4 ∷ 5 ∷ []
+a_note_on_a_placement = refl
+
 a_note_on_one : weak (POINT ∷ PLACEMENT ∷ NOTE ∷ []) one_note ≡ 4 ∷ 5 ∷ []
 a_note_on_one = refl
 
@@ -205,6 +208,9 @@ corners = refl
 -- #1 and #2 are of one class
 abbrev alike_at : ℕ → ℕ → ℕ → ℕ → Bool
 alike_at m n y z = (y == z) || (((y == m) && (z == n)) || ((y == n) && (z == m)))
+
+beside_and_unchosen : gentle (alike_at 1 2) (POINT ∷ []) a_corner_twice ≡ 1 ∷ 2 ∷ 4 ∷ []
+beside_and_unchosen = refl
 
 beside_their_like : gentle (alike_at 1 2) (POINT ∷ LOOP ∷ []) a_corner_twice ≡ 1 ∷ 2 ∷ []
 beside_their_like = refl

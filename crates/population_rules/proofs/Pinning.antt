@@ -5,13 +5,15 @@ use Rattle.std.proofs.lemmas.Bool.{and_parts, and_from, or_cases, or_left, or_ri
 use Rattle.step_values.proofs.References.{each_weaker_of}
 use Rattle.step_values.proofs.Agreement.{agree_each_refl, agree_each_trans}
 use Rattle.step_equal.specs.Rows.{Row, row_at, IsName, IsPopulation}
-use Rattle.step_equal.specs.Keeping.{under, AreAlike, AgreeUnder, Keeps}
+use Rattle.step_equal.specs.Keeping.{under, AreAlike, AgreeUnder, Keeps, ValueEqual}
+use Rattle.step_equal.specs.Images.{kernel}
+use Rattle.step_equal.proofs.Kernels.{kernel_from, kernels_are_congruences}
 use Rattle.step_equal.proofs.Lookup.{held_name, name_held}
 use Rattle.step_equal.proofs.Pairs.{alike_refl, agree_under_refl}
 use Rattle.step_equal.proofs.Congruences.{value_equality_is_congruence}
 use Rattle.conformance.specs.Populations.{Slot}
 use Rattle.conforming_values.specs.Standing.{InBag, StandsInBag}
-use Rattle.population_rules.specs.Laws.{WeakPinsAreGentle, GentlePinsArePlain, BagReferencesArePinned, ElementsAreToldApart, PinsPartClasses, ElementsAreNotMerged}
+use Rattle.population_rules.specs.Laws.{WeakPinsAreGentle, GentlePinsArePlain, BagReferencesArePinned, ElementsAreToldApart, PinsPartClasses, ImagesStayInClasses, ElementsAreNotMerged}
 use Rattle.population_rules.proofs.Standing.{some_other, one_is, inside_stands, beside_stands, together_beside, bags_held}
 
 pub weak_pins_are_gentle : WeakPinsAreGentle
@@ -124,14 +126,21 @@ module _ (rows : List Row) (few many : ℕ → Bool) (population : IsPopulation 
             subst (λ w. AreAlike rows few x w × AgreeUnder rows few widened x w) same.1
             (alike_refl rows few x same.0, agree_under_refl rows few widened population widened_self x same.0)
 
+  -- so does value equality
+  less_equal : (y z : ℕ) → ValueEqual rows many y z → ValueEqual rows few y z
+  less_equal y z h = (widened h.0 h.2, widened_old h.0 h.2 y z h.1, widened_keeps h.0 h.2)
+
 pub pins_part_classes : PinsPartClasses
 pins_part_classes rows few many E F population more few_is many_is y z related =
-    let found = (many_is y z).0 related in
-    (few_is y z).1 (
-      widened rows few many population more found.0 found.2,
-      widened_old rows few many population more found.0 found.2 y z found.1,
-      widened_keeps rows few many population more found.0 found.2,
-    )
+    (few_is y z).1 (less_equal rows few many population more y z ((many_is y z).0 related))
+
+pub images_stay_in_classes : ImagesStayInClasses
+images_stay_in_classes P Q few many E h population bags more image few_is y z n m e =
+    (few_is y z).1 (less_equal P few many population more y z (
+      kernel P h,
+      kernel_from P h y z (record { left = n; right = m; image = e }),
+      (kernels_are_congruences P Q many h population bags image).keeps,
+    ))
 
 pub elements_are_not_merged : ElementsAreNotMerged
 elements_are_not_merged s d en rules chosen is rows weak gentle E F population weakly gently weak_is gentle_is y z

@@ -3,7 +3,8 @@ use Rattle.std.specs.Prelude.{◌≡◌, ⊤, ℕ, ◌<◌, ◌==◌, Bool, IsTr
 use Rattle.std.specs.List.{IsDistinct}
 use Rattle.step_values.specs.Values.{Value, Values, AgreeEach}
 use Rattle.step_values.specs.References.{EachReference, EachBagReference}
-use Rattle.step_equal.specs.Rows.{Row, IsPopulation}
+use Rattle.step_equal.specs.Rows.{Row, IsName, IsPopulation, BagsArePinned}
+use Rattle.step_equal.specs.Images.{IsImage}
 use Rattle.step_equal.specs.Keeping.{Keeps, IsValueEquality}
 use Rattle.express_schemas.specs.Schemas.{Schema}
 use Rattle.express_schemas.specs.Profile.{Every}
@@ -125,6 +126,13 @@ abbrev pub PinsPartClasses : Type 0
 PinsPartClasses = (rows : List Row) (few many : ℕ → Bool) (E F : ℕ → ℕ → Bool) → IsPopulation rows
     → ((y : ℕ) → IsTrue (few y) → IsTrue (many y)) → IsValueEquality rows few E → IsValueEquality rows many F
     → (y z : ℕ) → F y z ≡ true → E y z ≡ true
+
+-- An image under more pins leads only instances of one class under fewer pins to one, where bags refer to pinned
+-- instances alone.
+abbrev pub ImagesStayInClasses : Type 0
+ImagesStayInClasses = (P Q : List Row) (few many : ℕ → Bool) (E : ℕ → ℕ → Bool) (h : ℕ → ℕ) → IsPopulation P
+    → BagsArePinned P many → ((y : ℕ) → IsTrue (few y) → IsTrue (many y)) → IsImage P Q h many
+    → IsValueEquality P few E → (y z : ℕ) → IsName P y → IsName P z → h y ≡ h z → E y z ≡ true
 
 -- So where the classes are those of value equality under weak pins, value equality under gentle pins relates no two
 -- elements of what is OF UNIQUE.

@@ -6,7 +6,8 @@ ghost use Rattle.population_rules.specs.Laws.{NoFindingExactlyWhereKeysAreUnique
 ghost use Rattle.population_rules.specs.Laws.{NoFindingExactlyWhereBoundsHold};
 ghost use Rattle.population_rules.specs.Laws.{WeakPinsAreGentle, GentlePinsArePlain, PinsHaveTests};
 ghost use Rattle.population_rules.specs.Laws.{PinnedAreThere, BagReferencesArePinned, ElementsAreToldApart};
-ghost use Rattle.population_rules.specs.Laws.{PinsPartClasses, ElementsAreNotMerged, GentlePinsKeepApart};
+ghost use Rattle.population_rules.specs.Laws.{PinsPartClasses, ImagesStayInClasses};
+ghost use Rattle.population_rules.specs.Laws.{ElementsAreNotMerged, GentlePinsKeepApart};
 
 /// The rules of a schema leave no choice of what breaks them, and of what is pinned.
 pub fn rules_are_one()
@@ -82,6 +83,12 @@ pub fn elements_are_told_apart()
 /// What value equality relates it relates under fewer pins too.
 pub fn pins_part_classes()
     ensures { PinsPartClasses }
+{}
+
+/// An image under more pins leads only instances of one class of value equality under fewer pins to
+/// one.
+pub fn images_stay_in_classes()
+    ensures { ImagesStayInClasses }
 {}
 
 /// Value equality under the gentle pins of the classes of value equality under weak pins relates no
