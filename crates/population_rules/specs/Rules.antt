@@ -3,7 +3,7 @@ use Rattle.std.specs.Prelude.{◌≡◌, ⊤, ℕ, ◌+◌, ℤ, Bool, true, fal
 use Rattle.express_schemas.specs.Schemas as schemas
 use Rattle.express_schemas.specs.Schemas.{Schema, Entity, Attribute, own, redeclared, Inverse, Unique, Collection}
 use Rattle.type_graphs.specs.declared.unchecked.Reason.{Reason}
-use Rattle.type_graphs.specs.Names.{Name, OneOf, Among, listed, entities, DeclaresExplicit}
+use Rattle.type_graphs.specs.Names.{Name, OneOf, Among, listed, entities, IsKindOf, Has, Declares, DeclaresExplicit}
 use Rattle.type_graphs.specs.Attributes.{Place, IsInverted}
 use Rattle.type_graphs.specs.Parts.{label_of, NamesAttribute, UniqueHasReason}
 use Rattle.conformance.specs.Bases.{Domain, lower_bound, upper_bound}
@@ -56,9 +56,12 @@ statements_from e n (u ∷ us) =
 abbrev pub statements : Schema → List Statement
 statements s = flat_map (λ (e : Entity). statements_from e.name 1 (listed e.uniques)) (entities s)
 
--- a name in a rule of e means the explicit attribute a of p
+-- A name in a rule of e means the explicit attribute a of p. Behind `SELF\q` it means q's own, else each that q inherits:
+-- one, where the rule is checked.
 abbrev pub NamesPlace : Schema → Name → Attribute → Place → Type 0
-NamesPlace s e x (p, a) = NamesAttribute s e x p a × DeclaresExplicit s p a
+NamesPlace s e (own n) (p, a) = NamesAttribute s e (own n) p a × DeclaresExplicit s p a
+NamesPlace s e (redeclared q n) (p, a) =
+    (n ≡ a) × IsKindOf s e q × Has s q p a × (Declares s q a → p ≡ q) × DeclaresExplicit s p a
 
 -- This is the rule that is written so. It is checked where each of its names means one attribute, and that an explicit
 -- one; else it has all those that its names mean.
