@@ -2,17 +2,13 @@
 //! `stepmin check SCHEMA FILE` tells where it breaks its schema.
 #![tactic(auto)]
 
-mod check;
-mod command;
-mod ending;
 mod files;
-mod plain;
 #[cfg(test)]
 mod tests;
 
-use crate::command::{refuse, refuse_to_read, run_command};
 use crate::files::Folder;
 use command_line::usage::unread_words;
+use commands::command::{refuse, refuse_to_read, run_command};
 use devices::counted::Counted;
 use std::env::Env;
 use std::hash::RandomState;

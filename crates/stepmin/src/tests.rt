@@ -9,8 +9,8 @@ mod lines;
 mod sources;
 mod texts;
 
-use crate::command::run_command;
 use command_line::store::Store;
+use commands::command::run_command;
 use devices::counted::Counted;
 use std::alloc::{AllocError, Global};
 use std::hash::RandomState;

@@ -1,10 +1,10 @@
 //! What words and devices make of a run, and the lines of its faults.
 
 use super::{Ending, FILE, Paper, run};
-use crate::command::{refuse, refuse_to_read};
 use command_line::fault::{Fault, Role, print_line};
 use command_line::read::ReadFault;
 use command_line::usage::unread_words;
+use commands::command::{refuse, refuse_to_read};
 use devices::counted::Counted;
 use std::alloc::Global;
 use std::hash::RandomState;

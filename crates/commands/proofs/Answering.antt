@@ -10,7 +10,7 @@ use Rattle.step_structures.specs.Trees.{File}
 use Rattle.command_line.specs.declared.fault.Role.TheVariants as roles
 use Rattle.command_line.specs.declared.fault.Fault.{Fault}
 use Rattle.command_line.specs.Faults.{write_fault}
-use Rattle.stepmin.specs.Plain.{HasPlain, Plain}
+use Rattle.commands.specs.Plain.{HasPlain, Plain}
 
 -- they read as a structure
 pub gave_plain : (coming left : Option (List ℕ)) (bytes header_bytes : List ℕ) (file : File)

@@ -1,6 +1,6 @@
 use Rattle.std.proofs.Common.{◌≡◌, ◌++◌, List, ℕ, false, length}
 use Rattle.std.specs.Io.KnownBytes.{Appends}
-use Rattle.stepmin.proofs.ending.send.Given as goal
+use Rattle.commands.proofs.ending.send.Given as goal
 
 abbrev pub invariant-loop-rest : goal.invariant-loop-rest
 invariant-loop-rest g l = record {

@@ -1,6 +1,6 @@
 use Rattle.std.proofs.Common.{◌≡◌, ◌++◌, ◌∙◌, ap, sym, take, append_assoc, take-append-drop, rules}
 use Rattle.std.proofs.KnownBytes.{Appends-trans}
-use Rattle.stepmin.proofs.ending.send.Goals as goal
+use Rattle.commands.proofs.ending.send.Goals as goal
 
 pub loop-rest-preserved : goal.loop-rest-preserved
 loop-rest-preserved g c =

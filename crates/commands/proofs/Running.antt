@@ -23,9 +23,9 @@ use Rattle.command_line.specs.declared.usage.Request.TheVariants as requests
 use Rattle.command_line.specs.declared.usage.Refusal.{Refusal}
 use Rattle.command_line.specs.declared.usage.Refusal.TheVariants.{Shown, Usage, Memory}
 use Rattle.command_line.proofs.Asking.{asked_once, checked_once, not_both}
-use Rattle.stepmin.specs.Plain.{FailsAs, Plain, is_output_fault}
-use Rattle.stepmin.specs.Runs.{AppendsFront, Does, Ends, EndsCheck, IsDevices, Output, Prints, Refuses, Reports, Runs, RunsCheck, RunsPlain, check_line}
-use Rattle.stepmin.specs.Statuses.{IsStatus, check_status, fault_status, findings_status, report_status}
+use Rattle.commands.specs.Plain.{FailsAs, Plain, is_output_fault}
+use Rattle.commands.specs.Runs.{AppendsFront, Does, Ends, EndsCheck, IsDevices, Output, Prints, Refuses, Reports, Runs, RunsCheck, RunsPlain, check_line}
+use Rattle.commands.specs.Statuses.{IsStatus, check_status, fault_status, findings_status, report_status}
 
 -- ---- one output
 

@@ -1,7 +1,7 @@
 //! The normal text of a file.
 
 ghost use Rattle.std.specs.Prelude.{◌≡◌, false, IfSome};
-ghost use Rattle.stepmin.specs.Plain.{FailsAs, Plain, is_file_fault, is_output_fault};
+ghost use Rattle.commands.specs.Plain.{FailsAs, Plain, is_file_fault, is_output_fault};
 
 use command_line::fault::{Fault, LIMIT, Role};
 use command_line::read::read_whole;

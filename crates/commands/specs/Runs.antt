@@ -21,8 +21,8 @@ use Rattle.reports.specs.declared.report.Report.{Report}
 use Rattle.checking.specs.Checks.{Checks, FileFailsAs, SchemaFailsAs}
 use Rattle.checking.specs.declared.fault.CheckFault.{CheckFault}
 use Rattle.checking.specs.declared.fault.CheckFault.TheVariants as check_faults
-use Rattle.stepmin.specs.Plain.{FailsAs, Plain, is_output_fault}
-use Rattle.stepmin.specs.Statuses.{check_status, fault_status, report_status}
+use Rattle.commands.specs.Plain.{FailsAs, Plain, is_output_fault}
+use Rattle.commands.specs.Statuses.{check_status, fault_status, report_status}
 
 -- An output as a run finds it or leaves it: what it holds, where that is told, and whether it has failed.
 pub record Output : Type 0 where

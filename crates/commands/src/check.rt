@@ -2,8 +2,8 @@
 
 ghost use Rattle.std.specs.Prelude.{◌≡◌, ◌⊎◌, false, true};
 ghost use Rattle.reports.specs.SchemaLines.{schema_line};
-ghost use Rattle.stepmin.specs.Runs.{Prints, Reports, RunsCheck, check_line, output, told_by};
-ghost use Rattle.stepmin.specs.Statuses.{check_status, report_status, schema_status};
+ghost use Rattle.commands.specs.Runs.{Prints, Reports, RunsCheck, check_line, output, told_by};
+ghost use Rattle.commands.specs.Statuses.{check_status, report_status, schema_status};
 
 use crate::ending::{BROKEN, DEVICE, DONE, MEMORY, TEXT, report};
 use checking::check::check;

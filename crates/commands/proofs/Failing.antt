@@ -4,7 +4,7 @@ use Rattle.devices.specs.declared.device.WriteFault.{WriteFault}
 use Rattle.command_line.specs.declared.fault.Role.TheVariants as roles
 use Rattle.command_line.specs.declared.fault.Fault.{Fault}
 use Rattle.command_line.specs.Faults.{write_fault}
-use Rattle.stepmin.specs.Plain.{FailsAs}
+use Rattle.commands.specs.Plain.{FailsAs}
 
 -- all was read, and the output fails
 pub not_written : (told : Option Bool) (fault : WriteFault) (met : Fault) → met ≡ write_fault roles.Output fault

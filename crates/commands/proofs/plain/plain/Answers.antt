@@ -1,7 +1,7 @@
 use Rattle.step_exchange.specs.Exchanges.{structure, normal_text}
-use Rattle.stepmin.proofs.Answering.{gave_plain, cut_short}
-use Rattle.stepmin.proofs.Failing.{not_written}
-use Rattle.stepmin.proofs.plain.plain.Goals as goal
+use Rattle.commands.proofs.Answering.{gave_plain, cut_short}
+use Rattle.commands.proofs.Failing.{not_written}
+use Rattle.commands.proofs.plain.plain.Goals as goal
 
 pub returns-in-Ok-write_plain-clause-plain : goal.returns-in-Ok-write_plain-clause-plain
 returns-in-Ok-write_plain-clause-plain g c =

@@ -7,7 +7,7 @@ ghost use Rattle.command_line.specs.Lines.{line_of};
 ghost use Rattle.command_line.specs.Stores.{stored};
 ghost use Rattle.command_line.specs.declared.fault.Fault.TheVariants.{Device};
 ghost use Rattle.command_line.specs.declared.fault.Role.TheVariants.{File};
-ghost use Rattle.stepmin.specs.Runs.{
+ghost use Rattle.commands.specs.Runs.{
   Does,
   IsDevices,
   Prints,
@@ -17,7 +17,7 @@ ghost use Rattle.stepmin.specs.Runs.{
   RunsPlain,
   output,
 };
-ghost use Rattle.stepmin.specs.Statuses.{IsStatus};
+ghost use Rattle.commands.specs.Statuses.{IsStatus};
 
 use crate::check::run_check;
 use crate::ending::{DONE, USAGE, finish, print, report};
