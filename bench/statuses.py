@@ -43,11 +43,16 @@ NORMAL = FRAME % """#1=POINT((0.,1.));
  bracket')SOLID(LEN_M(1.)));
 """
 CUT = example("cut.stp")
+SMALL = FRAME % "#1=POINT((0.,1.));\n"
+BROKEN = FRAME % "#1=POINT();\n"
+with open(os.path.join(os.path.dirname(CRATES), "examples", "geo.exp"), encoding="ascii") as geo:
+    SCHEMA = geo.read()
 LARGE = FRAME % "".join(f"#{name}=POINT((0.,1.));\n" for name in range(1, 1_000_000))
 
 STATUSES = """Exit status:
   0  all is done
-  2  the text of a file can't be read
+  1  the file breaks its schema
+  2  the text of a file or a schema can't be read
   3  the words of the command line are wrong
   4  a device fails
   5  memory runs out
@@ -90,6 +95,16 @@ RUNS = [
     Run(["shrink"], 4, full_err=True),
     Run(["plain", "large.stp"], 5, megabytes=24, err="memory\n"),
     Run(["plain", "large.stp"], 5, megabytes=96, err="memory\n"),
+    Run(["check", "geo.exp", "small.stp"], 0, out="instances 1\nunknown 0\nfindings 0\n"),
+    Run(["check", "geo.exp", "broken.stp"], 1,
+        out="F5 ParameterCount #1 0\ninstances 1\nunknown 0\nfindings 1\n"),
+    Run(["check", "cut.exp", "small.stp"], 2, err="schema: S2 Expected at byte ...\n"),
+    Run(["check", "geo.exp", "cut.stp"], 2, err=f"file: E6 Expected at byte {len(CUT)}\n"),
+    Run(["check", "geo.exp"], 3, err="error: ...\n"),
+    Run(["check", "missing.exp", "small.stp"], 4, err="device: schema\n"),
+    Run(["check", "geo.exp", "missing.stp"], 4, err="device: file\n"),
+    Run(["check", "geo.exp", "broken.stp"], 4, full_out=True, err="device: output after 0 bytes\n"),
+    Run(["check", "geo.exp", "large.stp"], 5, megabytes=96, err="memory\n"),
 ]
 
 
@@ -124,8 +139,10 @@ def main(words):
         return 0 if words in (["-h"], ["--help"]) else 2
     with tempfile.TemporaryDirectory(prefix="statuses-") as folder:
         program = os.path.abspath(words[0]) if words else build_crate(os.path.join(folder, "copy"), "stepmin")
-        for name, text in (("spelt", SPELT), ("normal", NORMAL), ("cut", CUT), ("large", LARGE)):
-            with open(os.path.join(folder, f"{name}.stp"), "w", encoding="ascii") as file:
+        files = {"spelt.stp": SPELT, "normal.stp": NORMAL, "cut.stp": CUT, "large.stp": LARGE, "small.stp": SMALL,
+                 "broken.stp": BROKEN, "geo.exp": SCHEMA, "cut.exp": SCHEMA[:len(SCHEMA) // 2]}
+        for name, text in files.items():
+            with open(os.path.join(folder, name), "w", encoding="ascii") as file:
                 file.write(text)
         wrong = 0
         for run in RUNS:
