@@ -77,7 +77,9 @@ fn entities_above(
 
 /// The numbers of the entities that declare what an entity has under a name
 /// (ISO 10303-11, 9.2.3.3).
-fn holders(
+///
+/// `AllocError` comes where memory runs out.
+pub fn holders(
     alloc: Global,
     known: Known<'_, '_, '_>,
     entity: u32,
