@@ -1,0 +1,4 @@
+pub mod Bounded
+pub mod Placed
+pub mod Turns
+pub mod Inverting
