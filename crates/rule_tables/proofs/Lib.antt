@@ -2,3 +2,5 @@ pub mod Bounded
 pub mod Placed
 pub mod Turns
 pub mod Inverting
+pub mod Placing
+pub mod Ruling

@@ -141,8 +141,11 @@ fn taken_of_group(
     Ok(Vec::new(alloc))
 }
 
-/// The numbers of the entities that declare what an attribute in a rule of an entity names.
-fn named(
+/// The numbers of the entities that declare what an attribute in a rule of an entity names
+/// (ISO 10303-11, 9.2.2.1).
+///
+/// `AllocError` comes where memory runs out.
+pub fn named(
     alloc: Global,
     known: Known<'_, '_, '_>,
     entity: u32,
