@@ -174,8 +174,8 @@ fn add_all<'a>(
     Ok(())
 }
 
-/// The inverse attributes of a schema whose names are resolved, in the order of the text; those that
-/// are redeclared are left out (ISO 10303-11, 9.2.1.3 and 9.2.3.4).
+/// The inverse attributes of a schema whose names are resolved, in the order of the text; those
+/// that are redeclared are left out (ISO 10303-11, 9.2.1.3 and 9.2.3.4).
 ///
 /// For each it takes time by the line of the entity of which the inverted attribute is asked, and
 /// by the attributes of the one that declares it. An error says that memory ran out.

@@ -115,7 +115,7 @@ fn add_named(
 }
 
 /// The numbers of the explicit attributes that the names in a rule of the entity of this number
-/// mean.
+/// mean. A number may come again.
 fn places_of(
     alloc: Global,
     sources: Sources<'_, '_, '_>,
@@ -138,8 +138,8 @@ fn places_of(
     Ok(places)
 }
 
-/// Whether a rule is checked of which this is found: each of its names means one attribute, and that
-/// an explicit one.
+/// Whether a rule is checked of which this is found: each of its names means one attribute, and
+/// that an explicit one.
 fn is_checked(naming: Naming) -> bool
     ensures { result ≡ not (naming.is_other || naming.is_not_one) }
 {

@@ -38,6 +38,7 @@ loop-attribute-preserved c e k known =
 pub returns : goal.returns
 returns c e k known =
     let s = schema_at c.args.sources in
-    subst (λ ys. ArePlacesOf s (λ p. OneOf (λ x. NamesPlace s e x p) (map attribute_of ys)) c.loop-attribute.places.items)
+    let row = c.loop-attribute.places.items in
+    subst (λ ys. ArePlacesOf s (λ p. OneOf (λ x. NamesPlace s e x p) (map attribute_of ys)) row)
     (take_all c.loop-attribute.attribute-index c.args.attributes.now c.loop-attribute-test.false)
-    (whole-row s _ c.loop-attribute.places.items (c.loop-attribute.invariant e k known))
+    (whole-row s _ row (c.loop-attribute.invariant e k known))

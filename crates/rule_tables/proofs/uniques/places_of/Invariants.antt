@@ -11,5 +11,5 @@ abbrev pub invariant-loop-attribute : goal.invariant-loop-attribute
 invariant-loop-attribute l =
     (e : Name) → HasNumber (schema_at l.sources) e l.entity → IsEntity (schema_at l.sources) e
     → AddsPlaces (schema_at l.sources)
-    (λ p. OneOf (λ x. NamesPlace (schema_at l.sources) e x p) (map attribute_of (take l.attribute-index l.attributes))) []
-    l.places.items
+    (λ p. OneOf (λ x. NamesPlace (schema_at l.sources) e x p)
+    (map attribute_of (take l.attribute-index l.attributes))) [] l.places.items
