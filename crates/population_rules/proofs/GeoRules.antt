@@ -1,8 +1,8 @@
 -- The rules of a schema of points, placements and groups, and that they are those that it states.
 use Rattle.std.specs.Prelude.{◌≡◌, ◌||◌, pos, true, cond, List, [], ◌∷◌, Some, None, codes, bytes_eq, ◌⊎◌}
-use Rattle.std.proofs.Common.{refl, inl, inr, subst}
+use Rattle.std.proofs.Common.{refl, inl, inr, sym, subst}
 use Rattle.express_schemas.specs.Schemas.{own, value}
-use Rattle.type_graphs.specs.Names.{Name}
+use Rattle.type_graphs.specs.Names.{Name, Declares}
 use Rattle.type_graphs.specs.Attributes.{Place, AreLines}
 use Rattle.type_graphs.proofs.Facts.{one-declarer}
 use Rattle.type_graphs.proofs.Geo.{geo, notes, group, note, point, ITEM, LOOP, GROUP, NOTE, SHAPE, SOLID, MARKED, PLAIN_MARK, PLACEMENT}
@@ -58,7 +58,7 @@ is_geo = record {
 
 id_place : (p : Place) → NamesPlace geo GROUP (own (codes "ID")) p → ID ≡ p
 id_place (p, a) h =
-    let owner : GROUP ≡ p = one-declarer geo GROUP p (codes "ID") refl h.0.1.1 in
+    let owner : GROUP ≡ p = one-declarer geo GROUP p (codes "ID") refl (subst (Declares geo p) (sym h.0.0) h.0.1.1) in
     subst (λ q. ID ≡ (q, a)) owner (subst (λ b. ID ≡ (GROUP, b)) h.0.0 refl)
 
 the_id : (p : Place) → ID ≡ p → NamesPlace geo GROUP (own (codes "ID")) p

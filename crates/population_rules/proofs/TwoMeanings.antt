@@ -1,10 +1,10 @@
 -- A uniqueness rule that is set aside, since its name means two attributes: it has both.
 use Rattle.std.specs.Prelude.{◌≡◌, ◌≢◌, true, false, [], ◌∷◌, Some, None, codes, bytes_eq, ◌⊎◌}
-use Rattle.std.proofs.Common.{refl, ap, inl, inr, subst}
+use Rattle.std.proofs.Common.{refl, ap, inl, inr, sym, subst}
 use Rattle.express_schemas.specs.Schemas.{Schema, Entity, own, entity, integer}
 use Rattle.type_graphs.specs.declared.unchecked.Reason.{Reason}
 use Rattle.type_graphs.specs.declared.unchecked.Reason.TheVariants as reasons
-use Rattle.type_graphs.specs.Names.{Name, Among}
+use Rattle.type_graphs.specs.Names.{Name, Among, Declares}
 use Rattle.type_graphs.specs.Attributes.{Place}
 use Rattle.type_graphs.specs.Parts.{NamesAttribute, UniqueHasReason}
 use Rattle.type_graphs.proofs.Facts.{is-declarer}
@@ -70,7 +70,7 @@ one_of_two p a (inr (inl e)) f = inr (inl (subst (λ q. place B X ≡ place q a)
 one_of_two p a (inr (inr h)) f = elim h [ ]
 
 named_two : (p : Place) → NamesPlace two C (own X) p → Among p both.places
-named_two (p, a) h = one_of_two p a (is-declarer two p X h.0.1.1) h.0.0
+named_two (p, a) h = one_of_two p a (is-declarer two p X (subst (Declares two p) (sym h.0.0) h.0.1.1)) h.0.0
 
 only : {P : Type 0} → P ⊎ ⊥ → P
 only (inl p) = p

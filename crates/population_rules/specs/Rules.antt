@@ -5,7 +5,7 @@ use Rattle.express_schemas.specs.Schemas.{Schema, Entity, Attribute, own, redecl
 use Rattle.type_graphs.specs.declared.unchecked.Reason.{Reason}
 use Rattle.type_graphs.specs.Names.{Name, OneOf, Among, listed, entities, IsKindOf, Has, Declares, DeclaresExplicit}
 use Rattle.type_graphs.specs.Attributes.{Place, IsInverted}
-use Rattle.type_graphs.specs.Parts.{label_of, NamesAttribute, UniqueHasReason}
+use Rattle.type_graphs.specs.Parts.{label_of, UniqueHasReason}
 use Rattle.conformance.specs.Bases.{Domain, lower_bound, upper_bound}
 
 -- A uniqueness rule: no two instances of the entity have one combination of values of these attributes
@@ -56,12 +56,15 @@ statements_from e n (u ∷ us) =
 abbrev pub statements : Schema → List Statement
 statements s = flat_map (λ (e : Entity). statements_from e.name 1 (listed e.uniques)) (entities s)
 
--- A name in a rule of e means the explicit attribute a of p. Behind `SELF\q` it means q's own, else each that q inherits:
--- one, where the rule is checked.
+-- A name in a rule of e means the attribute a of p. Behind `SELF\q` it means q's own, else each that q inherits: one,
+-- where the rule is checked.
+abbrev pub MeansAttribute : Schema → Name → Attribute → Name → Name → Type 0
+MeansAttribute s e (own n) p a = (n ≡ a) × Has s e p a
+MeansAttribute s e (redeclared q n) p a = (n ≡ a) × IsKindOf s e q × Has s q p a × (Declares s q a → p ≡ q)
+
+-- .. which is explicit
 abbrev pub NamesPlace : Schema → Name → Attribute → Place → Type 0
-NamesPlace s e (own n) (p, a) = NamesAttribute s e (own n) p a × DeclaresExplicit s p a
-NamesPlace s e (redeclared q n) (p, a) =
-    (n ≡ a) × IsKindOf s e q × Has s q p a × (Declares s q a → p ≡ q) × DeclaresExplicit s p a
+NamesPlace s e x (p, a) = MeansAttribute s e x p a × DeclaresExplicit s p a
 
 -- This is the rule that is written so. It is checked where each of its names means one attribute, and that an explicit
 -- one; else it has all those that its names mean.

@@ -1,0 +1,7 @@
+pub mod Bounded
+pub mod Placed
+pub mod Turns
+pub mod Inverting
+pub mod Placing
+pub mod Ruling
+pub mod Meaning

@@ -1,0 +1,12 @@
+use Rattle.std.proofs.Common.{ap}
+use Rattle.express_trees.specs.Views.{capitals}
+use Rattle.express_schemas.specs.Views.{attribute_of, inverse_of}
+use Rattle.rule_tables.specs.Sources.{schema_at}
+use Rattle.rule_tables.proofs.Inverting.{known-inverse}
+use Rattle.rule_tables.proofs.inverses.add_inverse.Goals as goal
+
+pub inverse_attribute-requires-clause-known : goal.inverse_attribute-requires-clause-known
+inverse_attribute-requires-clause-known c =
+    known-inverse (schema_at c.args.sources) c.requires.sources.known.resolved c.args.entity
+    (inverse_of c.args.inverse.now) (capitals c.in-Unqualified.name) c.requires.declared
+    (ap attribute_of c.in-Unqualified.is)

@@ -1,0 +1,11 @@
+//! The rules of a schema that speak of a whole population, by number: uniqueness rules and inverse
+//! attributes (ISO 10303-11, 9.2.2.1 and 9.2.1.3).
+#![tactic(auto)]
+
+pub mod gathering;
+pub mod inverses;
+mod meant;
+mod places;
+pub mod sources;
+pub mod tables;
+pub mod uniques;

@@ -1,0 +1,76 @@
+//! The attributes that names in uniqueness rules mean (ISO 10303-11, 9.2.2.1).
+
+ghost use Rattle.std.specs.Prelude.{◌≡◌, ◌∷◌, [], IfOk};
+ghost use Rattle.express_trees.specs.Views.{capitals};
+ghost use Rattle.express_schemas.specs.Clauses.{name_of};
+ghost use Rattle.express_schemas.specs.Schemas.{redeclared};
+ghost use Rattle.express_schemas.specs.Views.{attribute_of};
+ghost use Rattle.type_graphs.specs.Names.{Name, IsEntity};
+ghost use Rattle.schema_names.specs.Numbers.{HasNumber};
+ghost use Rattle.taken_attributes.specs.Taking.{IsKnown, schema_in};
+ghost use Rattle.unique_attributes.specs.Named.{AreNumbersOf};
+ghost use Rattle.population_rules.specs.Rules.{MeansAttribute};
+
+use express_schemas::tree::Attribute;
+use own_attributes::above::is_or_leads;
+use std::alloc::{AllocError, Global};
+use step_literals::literal::Word;
+use taken_attributes::known::Known;
+use unique_attributes::naming::holders;
+
+/// A list of one number.
+fn single(alloc: Global, number: u32) -> Result<Vec<u32>, AllocError>
+    ensures { IfOk result (λ t. t.items ≡ number ∷ []) }
+{
+    let mut row = Vec::new(alloc);
+    row.push(number)?;
+    Ok(row)
+}
+
+/// The numbers of the entities that declare what `SELF\group.name` means: the group itself, else
+/// each of which it inherits the attribute. None where the entity is no kind of the group.
+fn meant_of_group(
+    alloc: Global,
+    known: Known<'_, '_, '_>,
+    entity: u32,
+    group: u32,
+    name: Word<'_>,
+) -> Result<Vec<u32>, AllocError>
+    requires known { IsKnown known }
+    ensures { (e q : Name) → HasNumber (schema_in known.entry) e entity
+        → HasNumber (schema_in known.entry) q group
+        → IfOk result (λ t. AreNumbersOf (schema_in known.entry)
+        (λ p. MeansAttribute (schema_in known.entry) e (redeclared q (capitals name.entry)) p
+        (capitals name.entry)) t.items) }
+{
+    if !is_or_leads(known.above, entity, group) {
+        return Ok(Vec::new(alloc));
+    }
+    let row = holders(alloc, known, group, name)?;
+    if row.contains(&group) {
+        return single(alloc, group);
+    }
+    Ok(row)
+}
+
+/// The numbers of the entities that declare what an attribute in a rule of an entity means.
+pub(crate) fn meant(
+    alloc: Global,
+    known: Known<'_, '_, '_>,
+    entity: u32,
+    attribute: Attribute<'_>,
+) -> Result<Vec<u32>, AllocError>
+    requires known { IsKnown known }
+    ensures { (e : Name) → HasNumber (schema_in known.entry) e entity
+        → IfOk result (λ t. AreNumbersOf (schema_in known.entry)
+        (λ p. MeansAttribute (schema_in known.entry) e (attribute_of attribute.entry) p
+        (capitals (name_of attribute.entry))) t.items) }
+{
+    match attribute {
+        Attribute::Unqualified(name) => holders(alloc, known, entity, name),
+        Attribute::Redeclared(group, name) => match known.tables.names.find(group) {
+            Some(group) => meant_of_group(alloc, known, entity, group, name),
+            None => Ok(Vec::new(alloc)),
+        },
+    }
+}

@@ -1,0 +1,16 @@
+//! What the tables are made by.
+
+use attribute_places::attributes::Place;
+use taken_attributes::known::Known;
+
+/// What is known of a schema whose names are resolved.
+#[derive(Clone, Copy)]
+pub struct Sources<'r, 't, 'a> {
+    pub known: Known<'r, 't, 'a>,
+    /// By declaration, the line of each entity.
+    pub lines: &'r [Vec<u32>],
+    /// The explicit attributes, in the order of the text.
+    pub places: &'r [Place<'a>],
+    /// By declaration, the numbers of those that an entity declares itself.
+    pub own: &'r [Vec<u32>],
+}
