@@ -7,7 +7,7 @@ use Rattle.step_values.specs.Values.{leaf, reference, sequence, none, more}
 use Rattle.express_schemas.specs.Schemas.{Unique, own, DataType, named}
 use Rattle.express_schemas.specs.Schemas as schemas
 use Rattle.type_graphs.specs.Names.{Name}
-use Rattle.type_graphs.proofs.Geo.{geo, LOOP, GROUP, NOTE, NODE, BUNDLE, POINT, PLACEMENT, DIRECTION}
+use Rattle.type_graphs.proofs.Geo.{geo, LOCATION, LOOP, GROUP, NOTE, NODE, BUNDLE, POINT, PLACEMENT, DIRECTION}
 use Rattle.conformance.specs.Entities.{Entities}
 use Rattle.conformance.specs.Populations.{Instance}
 use Rattle.population_rules.specs.Rules.{alone, in_set, in_bag, InverseAttribute, Rules, Statement, statements_from}
@@ -197,6 +197,42 @@ in_keys = refl
 
 in_keys_set_aside : weak_by geo_entities aside (POINT ∷ PLACEMENT ∷ GROUP ∷ []) groups ≡ 2 ∷ 3 ∷ 4 ∷ []
 in_keys_set_aside = refl
+
+-- what stands in a key alone, where the rule is checked and where it is set aside
+abbrev by_location : Bool → Rules
+by_location checked = record {
+  uniques = record one_id { entity = PLACEMENT; is_checked = checked; places = (PLACEMENT, LOCATION) ∷ [] } ∷ [];
+  inverses = [];
+}
+
+abbrev a_place_and_a_point : List Instance
+a_place_and_a_point = a_point 1 0 ∷ a_point 2 0 ∷ a_placement 3 1 ∷ []
+
+value_of_a_key : weak_by geo_entities (by_location true) (POINT ∷ PLACEMENT ∷ []) a_place_and_a_point ≡ 1 ∷ 3 ∷ []
+value_of_a_key = refl
+
+value_of_a_key_set_aside : weak_by geo_entities (by_location false) (POINT ∷ PLACEMENT ∷ []) a_place_and_a_point
+    ≡ 1 ∷ 3 ∷ []
+value_of_a_key_set_aside = refl
+
+-- a SET inside a LIST
+in_a_set_in_a_list : weak (POINT ∷ NOTE ∷ []) (a_point 1 0 ∷ a_point 2 0 ∷ a_point 3 0
+    ∷ a_note 4 (sequence (more (reference 3) (more (values.bag (references (1 ∷ 2 ∷ []))) none))) ∷ []) ≡ 1 ∷ 2 ∷ []
+in_a_set_in_a_list = refl
+
+-- notes are inverted of placements alone
+a_note_on_a_point : weak (POINT ∷ NOTE ∷ []) (a_point 1 0 ∷ a_note 2 (reference 1) ∷ []) ≡ []
+a_note_on_a_point = refl
+
+-- an instance of two types, neither below the other
+abbrev of_two_types : List Instance
+of_two_types = instance 1 (DIRECTION ∷ POINT ∷ []) [] ∷ []
+
+one_is_unchosen : weak (POINT ∷ []) of_two_types ≡ 1 ∷ []
+one_is_unchosen = refl
+
+both_are_chosen : weak (POINT ∷ DIRECTION ∷ []) of_two_types ≡ []
+both_are_chosen = refl
 
 -- a loop of corners, two of them equal
 abbrev a_corner_twice : List Instance

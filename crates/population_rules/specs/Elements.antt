@@ -32,7 +32,7 @@ IsAnotherOfClass E y v = (z : ℕ) × IsReferenceTo z v × (z ≢ y) × (E y z �
 
 module _ (s : Schema) (d : Domain) where
   -- P holds of the elements of a LIST or ARRAY OF UNIQUE that the value is, or that stands in it at any depth, by the
-  -- data type that the value is tried against
+  -- data type that the value is tried against; of a SET or BAG the value is a bag, whatever its data type says
   abbrev mutual
     pub HasUnique : (Values → Type 0) → Base → Value → Type 0
     HasUnique P b (leaf a) = ⊥

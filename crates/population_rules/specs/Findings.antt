@@ -31,8 +31,8 @@ abbrev pub parts : List Place → List Slot → Option Values
 parts [] slots = Some none
 parts (p ∷ ps) slots = with_part (given (slot_at slots p)) (parts ps slots)
 
--- The key of an instance of the entity: its values of the attributes that the rule names. There is none where one of
--- them isn't given.
+-- The key of an instance of the entity, of a subtype too (ISO 10303-11, 9.2.3.5): its values of the attributes that the
+-- rule names. There is none where one of them isn't given.
 abbrev pub key : UniqueRule → Instance → Option Values
 key u x = cond (among u.entity x.types) (parts u.places x.slots) None
 
@@ -41,7 +41,7 @@ abbrev pub same_keys : Option Values → Option Values → Bool
 same_keys (Some vs) (Some ws) = same_each_test vs ws
 same_keys k l = false
 
--- those of a list whose key one before them has, in the list or among these
+-- those of a list whose key one before them has, in the list or among these; `RepeatsComeLater` is that without the loop
 abbrev pub repeats : UniqueRule → List Instance → List Instance → List Instance
 repeats u before [] = []
 repeats u before (x ∷ xs) =

@@ -21,8 +21,8 @@ abbrev pub OccursAt : ℕ → Option Value → Type 0
 OccursAt y None = ⊥
 OccursAt y (Some v) = Occurs y v
 
--- y is an instance of the entity that states the rule, or stands in a value of one that the rule names; a rule that is
--- set aside counts too
+-- y is an instance of the entity that states the rule, of a subtype too, or stands in a value of one that the rule
+-- names; a rule that is set aside counts too
 abbrev pub IsInKey : List Instance → ℕ → UniqueRule → Type 0
 IsInKey is y u =
     IsTrue (among u.entity (types_at is y))

@@ -3,7 +3,7 @@ use Rattle.std.specs.Prelude.{◌≡◌, ⊤, ℕ, ◌+◌, ℤ, Bool, true, fal
 use Rattle.express_schemas.specs.Schemas as schemas
 use Rattle.express_schemas.specs.Schemas.{Schema, Entity, Attribute, own, redeclared, Inverse, Unique, Collection}
 use Rattle.type_graphs.specs.declared.unchecked.Reason.{Reason}
-use Rattle.type_graphs.specs.Names.{Name, OneOf, Among, listed, entities, IsKindOf, Has, Declares, DeclaresExplicit}
+use Rattle.type_graphs.specs.Names.{Name, OneOf, Among, listed, entities, Has, Declares, DeclaresExplicit}
 use Rattle.type_graphs.specs.Attributes.{Place, IsInverted}
 use Rattle.type_graphs.specs.Parts.{label_of, UniqueHasReason}
 use Rattle.conformance.specs.Bases.{Domain, lower_bound, upper_bound}
@@ -56,11 +56,11 @@ statements_from e n (u ∷ us) =
 abbrev pub statements : Schema → List Statement
 statements s = flat_map (λ (e : Entity). statements_from e.name 1 (listed e.uniques)) (entities s)
 
--- A name in a rule of e means the attribute a of p. Behind `SELF\q` it means q's own, else each that q inherits: one,
--- where the rule is checked.
+-- A name in a rule of e means the attribute a of p: behind `SELF\q` q's own, else each that q inherits. Where the rule is
+-- checked it is one, and e is a kind of q.
 abbrev pub MeansAttribute : Schema → Name → Attribute → Name → Name → Type 0
 MeansAttribute s e (own n) p a = (n ≡ a) × Has s e p a
-MeansAttribute s e (redeclared q n) p a = (n ≡ a) × IsKindOf s e q × Has s q p a × (Declares s q a → p ≡ q)
+MeansAttribute s e (redeclared q n) p a = (n ≡ a) × Has s q p a × (Declares s q a → p ≡ q)
 
 -- .. which is explicit
 abbrev pub NamesPlace : Schema → Name → Attribute → Place → Type 0

@@ -1,18 +1,16 @@
 -- The entities that declare what a name in a UNIQUE rule means, by number.
 use Rattle.std.specs.Prelude.{◌≡◌, ℕ, true, false, List, [], ◌∷◌, None, Some}
 use Rattle.std.proofs.Common.{refl, inl, inr, sym, subst, ◌∙◌}
-use Rattle.digraph.specs.Graphs.{Graph, has}
+use Rattle.digraph.specs.Graphs.{has}
 use Rattle.express_schemas.specs.Schemas.{Schema, Attribute, own, redeclared}
-use Rattle.type_graphs.specs.Names.{Name, Among, IsKindOf, IsEntity, Has, Declares}
+use Rattle.type_graphs.specs.Names.{Name, Among, IsEntity, Has, Declares}
 use Rattle.type_graphs.specs.Ranks.{derived_name}
 use Rattle.schema_names.specs.Numbers.{number_of, HasNumber}
 use Rattle.schema_names.proofs.Numbers.{one-name}
 use Rattle.own_attributes.specs.declared.attributes.Meant.TheVariants.{All}
-use Rattle.own_attributes.specs.Above.{AreAbove, is_or_leads}
 use Rattle.own_attributes.proofs.Having.{has-none}
 use Rattle.unique_attributes.specs.Named.{AreNumbersOf, AreHolders}
 use Rattle.unique_attributes.proofs.Members.{has-among, among-has}
-use Rattle.unique_attributes.proofs.Holding.{kind-forth, kind-back}
 use Rattle.population_rules.specs.Rules.{MeansAttribute}
 
 pub means-name : (s : Schema) (e : Name) (x : Attribute) (p a : Name) → MeansAttribute s e x p a → a ≡ derived_name x
@@ -21,7 +19,7 @@ means-name s e (redeclared q n) p a h = sym h.0
 
 pub means-entity : (s : Schema) (e : Name) (x : Attribute) (p a : Name) → MeansAttribute s e x p a → IsEntity s p
 means-entity s e (own n) p a (same, (kind, (y, at, m))) = (y, at)
-means-entity s e (redeclared q n) p a (same, kind, (under, (y, at, m)), only) = (y, at)
+means-entity s e (redeclared q n) p a (same, (under, (y, at, m)), only) = (y, at)
 
 some-number : (i j : ℕ) → Some i ≡ Some j → i ≡ j
 some-number i j e = cc
@@ -39,52 +37,38 @@ pub means-nothing : (s : Schema) (e q a : Name) → number_of s q ≡ None
     → AreNumbersOf s (λ p. MeansAttribute s e (redeclared q a) p a) []
 means-nothing s e q a none = record {
   forth = λ i m. absurd m;
-  back = λ p h. absurd (has-none s All a q none (p, h.2.0, h.2.1.0, h.2.1.1, h.2.1.2));
+  back = λ p h. absurd (has-none s All a q none (p, h.1.0, h.1.1.0, h.1.1.1, h.1.1.2));
 }
 
-module _ (s : Schema) (above : Graph) (up : AreAbove s above) (e q a : Name) (i g : ℕ) (here : HasNumber s e i)
-    (group : HasNumber s q g) where
+module _ (s : Schema) (e q a : Name) (g : ℕ) (group : HasNumber s q g) (row : List ℕ) (are : AreHolders s q a row) where
   abbrev Means : Name → Type 0
   Means p = MeansAttribute s e (redeclared q a) p a
 
-  pub means-no-kind : is_or_leads above (Some i) g ≡ false
-      → AreNumbersOf s (λ p. MeansAttribute s e (redeclared q a) p a) []
-  means-no-kind r = record {
-    forth = λ j m. absurd m;
-    back = λ p h. let so = kind-back s above up e q i g here group h.1 in absurd (cc);
+  -- the group declares it itself
+  owned : has row g ≡ true → Has s q q a
+  owned h =
+      let (p, there, held) = are.forth g (has-among row g h) in
+      subst (λ y. Has s q y a) (one-name s p q g there group) held
+
+  pub means-own-only : has row g ≡ true → AreNumbersOf s (λ p. MeansAttribute s e (redeclared q a) p a) (g ∷ [])
+  means-own-only h = record { forth = forth; back = back }
+    where
+      forth : (j : ℕ) → Among j (g ∷ []) → (p : Name) × HasNumber s p j × Means p
+      forth j (inl is) = (q, subst (HasNumber s q) is group, (refl, owned h, (λ d. refl)))
+      forth j (inr m) = absurd m
+
+      back : (p : Name) → Means p → (j : ℕ) × HasNumber s p j × Among j (g ∷ [])
+      back p (same, held, own-first) = (g, subst (λ y. HasNumber s y g) (sym (own-first (owned h).1)) group, inl refl)
+
+  -- it inherits it, from one entity or several
+  not-own : has row g ≡ false → Declares s q a → ⊥
+  not-own none d =
+      let (l, at, m) = are.back q (inl refl, d) in
+      let there = among-has row g (subst (λ j. Among j row) (some-number l g (sym at ∙ group)) m) in
+      let wrong : true ≡ false = sym there ∙ none in absurd (cc)
+
+  pub means-inherited : has row g ≡ false → AreNumbersOf s (λ p. MeansAttribute s e (redeclared q a) p a) row
+  means-inherited none = record {
+    forth = λ j m. let (p, there, held) = are.forth j m in (p, there, (refl, held, (λ d. absurd (not-own none d))));
+    back = λ p h. are.back p h.1;
   }
-
-  module _ (r : is_or_leads above (Some i) g ≡ true) (row : List ℕ) (are : AreHolders s q a row) where
-    kind : IsKindOf s e q
-    kind = kind-forth s above up e q i g here group r
-
-    -- the group declares it itself
-    owned : has row g ≡ true → Has s q q a
-    owned h =
-        let (p, there, held) = are.forth g (has-among row g h) in
-        subst (λ y. Has s q y a) (one-name s p q g there group) held
-
-    pub means-own-only : has row g ≡ true → AreNumbersOf s (λ p. MeansAttribute s e (redeclared q a) p a) (g ∷ [])
-    means-own-only h = record { forth = forth; back = back }
-      where
-        forth : (j : ℕ) → Among j (g ∷ []) → (p : Name) × HasNumber s p j × Means p
-        forth j (inl is) = (q, subst (HasNumber s q) is group, (refl, kind, owned h, (λ d. refl)))
-        forth j (inr m) = absurd m
-
-        back : (p : Name) → Means p → (j : ℕ) × HasNumber s p j × Among j (g ∷ [])
-        back p (same, k, held, own-first) =
-            (g, subst (λ y. HasNumber s y g) (sym (own-first (owned h).1)) group, inl refl)
-
-    -- it inherits it, from one entity or several
-    not-own : has row g ≡ false → Declares s q a → ⊥
-    not-own none d =
-        let (l, at, m) = are.back q (inl refl, d) in
-        let there = among-has row g (subst (λ j. Among j row) (some-number l g (sym at ∙ group)) m) in
-        let wrong : true ≡ false = sym there ∙ none in absurd (cc)
-
-    pub means-inherited : has row g ≡ false → AreNumbersOf s (λ p. MeansAttribute s e (redeclared q a) p a) row
-    means-inherited none = record {
-      forth = λ j m.
-          let (p, there, held) = are.forth j m in (p, there, (refl, kind, held, (λ d. absurd (not-own none d))));
-      back = λ p h. are.back p h.2;
-    }

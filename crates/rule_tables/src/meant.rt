@@ -12,7 +12,6 @@ ghost use Rattle.unique_attributes.specs.Named.{AreNumbersOf};
 ghost use Rattle.population_rules.specs.Rules.{MeansAttribute};
 
 use express_schemas::tree::Attribute;
-use own_attributes::above::is_or_leads;
 use std::alloc::{AllocError, Global};
 use step_literals::literal::Word;
 use taken_attributes::known::Known;
@@ -28,24 +27,19 @@ fn single(alloc: Global, number: u32) -> Result<Vec<u32>, AllocError>
 }
 
 /// The numbers of the entities that declare what `SELF\group.name` means: the group itself, else
-/// each of which it inherits the attribute. None where the entity is no kind of the group.
+/// each of which it inherits the attribute.
 fn meant_of_group(
     alloc: Global,
     known: Known<'_, '_, '_>,
-    entity: u32,
     group: u32,
     name: Word<'_>,
 ) -> Result<Vec<u32>, AllocError>
     requires known { IsKnown known }
-    ensures { (e q : Name) → HasNumber (schema_in known.entry) e entity
-        → HasNumber (schema_in known.entry) q group
+    ensures { (e q : Name) → HasNumber (schema_in known.entry) q group
         → IfOk result (λ t. AreNumbersOf (schema_in known.entry)
         (λ p. MeansAttribute (schema_in known.entry) e (redeclared q (capitals name.entry)) p
         (capitals name.entry)) t.items) }
 {
-    if !is_or_leads(known.above, entity, group) {
-        return Ok(Vec::new(alloc));
-    }
     let row = holders(alloc, known, group, name)?;
     if row.contains(&group) {
         return single(alloc, group);
@@ -69,7 +63,7 @@ pub(crate) fn meant(
     match attribute {
         Attribute::Unqualified(name) => holders(alloc, known, entity, name),
         Attribute::Redeclared(group, name) => match known.tables.names.find(group) {
-            Some(group) => meant_of_group(alloc, known, entity, group, name),
+            Some(group) => meant_of_group(alloc, known, group, name),
             None => Ok(Vec::new(alloc)),
         },
     }

@@ -27,7 +27,7 @@ returns-in-Some c e k =
     subst (λ x. IfOk c.meant_of_group.result
     (λ t. AreNumbersOf s (λ p. MeansAttribute s e (attribute_of x) p (capitals (name_of x))) t.items))
     (sym c.in-Redeclared.is)
-    (c.meant_of_group.ensures e (capitals c.in-Redeclared.group) k (sym c.find.ensures ∙ c.in-Some.is))
+    (c.meant_of_group.ensures e (capitals c.in-Redeclared.group) (sym c.find.ensures ∙ c.in-Some.is))
 
 pub returns-in-None : goal.returns-in-None
 returns-in-None c e k =
