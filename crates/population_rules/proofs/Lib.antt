@@ -10,5 +10,6 @@ pub mod Deciding
 pub mod GeoRules
 pub mod Samples
 pub mod Oneness
+pub mod Checked
 mod TwoMeanings
 mod Examples

@@ -6,7 +6,7 @@ use Rattle.step_values.specs.References.{EachReference, EachBagReference}
 use Rattle.step_equal.specs.Rows.{Row, IsName, IsPopulation, BagsArePinned}
 use Rattle.step_equal.specs.Images.{IsImage}
 use Rattle.step_equal.specs.Keeping.{Keeps, IsValueEquality}
-use Rattle.express_schemas.specs.Schemas.{Schema}
+use Rattle.express_schemas.specs.Schemas.{Schema, Attribute}
 use Rattle.express_schemas.specs.Profile.{Every}
 use Rattle.type_graphs.specs.Names.{Name, OneOf, Among}
 use Rattle.type_graphs.specs.Faults.{IsResolved}
@@ -17,7 +17,7 @@ use Rattle.conformance.specs.Entities.{Entities}
 use Rattle.conformance.specs.Populations.{Slot, Instance, types_at}
 use Rattle.conforming_values.specs.Apart.{Occurs}
 use Rattle.conforming_values.specs.Images.{KeepsInstanceApart}
-use Rattle.population_rules.specs.Rules.{UniqueRule, InverseAttribute, Rules, AreRules}
+use Rattle.population_rules.specs.Rules.{UniqueRule, InverseAttribute, Rules, Statement, NamesPlace, IsUniqueRule, AreRules}
 use Rattle.population_rules.specs.Referring.{times, references, holds, inverse_value, inverse_of}
 use Rattle.population_rules.specs.Findings.{key, repeats, unique_findings, may_hold, inverse_findings}
 use Rattle.population_rules.specs.Pins.{IsInverseSide, StandTogether, IsPinnedElsewhere, IsWeaklyPinned, IsGentlyPinned, IsPlainlyPinned}
@@ -29,6 +29,12 @@ RulesAreOne = (s : Schema) (d : Domain) (en : Entities) (p q : Rules) → IsReso
     → (unique_findings p is ≡ unique_findings q is) × (inverse_findings p is ≡ inverse_findings q is)
     × ((y : ℕ) (a : Place) → inverse_of p.inverses is y a ≡ inverse_of q.inverses is y a)
     × ((chosen : List Name) (y : ℕ) → IsPinnedElsewhere s d en p chosen is y → IsPinnedElsewhere s d en q chosen is y)
+
+-- Each name in a uniqueness rule that is checked means one attribute, an explicit one: not none, and not two.
+abbrev pub CheckedNamesMeanOne : Type 0
+CheckedNamesMeanOne = (s : Schema) (x : Statement) (u : UniqueRule) → IsUniqueRule s x u → IsTrue u.is_checked
+    → (a : Attribute) → Among a x.attributes → (((p : Place) → NamesPlace s x.entity a p → ⊥) → ⊥)
+    × ((p q : Place) → NamesPlace s x.entity a p → NamesPlace s x.entity a q → p ≡ q)
 
 abbrev pub names : List Instance → List ℕ
 names is = map (λ (x : Instance). x.name) is

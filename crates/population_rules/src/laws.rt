@@ -1,7 +1,7 @@
 //! Laws of the definitions alone.
 
 ghost use Rattle.population_rules.specs.Laws.{RulesAreOne, ReferencesAreCounted, ReferrersAreCounted};
-ghost use Rattle.population_rules.specs.Laws.{InverseSidesAreHeld, RepeatsComeLater};
+ghost use Rattle.population_rules.specs.Laws.{CheckedNamesMeanOne, InverseSidesAreHeld, RepeatsComeLater};
 ghost use Rattle.population_rules.specs.Laws.{NoFindingExactlyWhereKeysAreUnique};
 ghost use Rattle.population_rules.specs.Laws.{NoFindingExactlyWhereBoundsHold};
 ghost use Rattle.population_rules.specs.Laws.{WeakPinsAreGentle, GentlePinsArePlain, PinsHaveTests};
@@ -12,6 +12,11 @@ ghost use Rattle.population_rules.specs.Laws.{ElementsAreNotMerged, GentlePinsKe
 /// The rules of a schema leave no choice of what breaks them, and of what is pinned.
 pub fn rules_are_one()
     ensures { RulesAreOne }
+{}
+
+/// Each name in a uniqueness rule that is checked means one attribute, an explicit one.
+pub fn checked_names_mean_one()
+    ensures { CheckedNamesMeanOne }
 {}
 
 /// A value refers to an instance exactly where it does so at least once.
