@@ -55,7 +55,8 @@ pub struct UniqueRule<'a> {
     /// The number of the entity that states it.
     pub entity: u32,
     pub label: Option<Word<'a>>,
-    /// Its number in its clause, counted from 1.
+    /// Where it has no label, its number in its clause, counted from 1. Else no contract speaks of
+    /// it.
     pub number: u64,
     /// Whether each of its names means one attribute, and that an explicit one; a rule of which
     /// this isn't so is set aside.
