@@ -2,6 +2,7 @@
 
 ghost use Rattle.std.specs.Prelude.{◌≡◌, ◌≤◌, ◌^◌, IfSome, Some, false, length};
 ghost use Rattle.express_schemas.specs.SchemaViews.{schema_of};
+ghost use Rattle.express_types.specs.Judging.{AreRuleTables};
 ghost use Rattle.resolved_types.specs.Made.{IsMade};
 ghost use Rattle.checking.specs.Checks.{
   Checks,
@@ -29,13 +30,14 @@ use std::hash::RandomState;
 use step_exchange::exchange::read_exchange;
 
 /// What is said of a file of these bytes by the types of its schema.
-fn report(
+fn report<'s>(
     alloc: Global,
     keys: RandomState,
-    graph: TypeGraph<'_, '_>,
+    graph: TypeGraph<'_, 's>,
     bytes: &[u8],
-) -> Result<Report, Fault>
+) -> Result<Report<'s>, Fault>
     requires made { IsMade graph.types }
+    requires rules { AreRuleTables (schema_of graph.types.names.schema.now) graph.rules }
     requires within { length bytes.now ≤ 2 ^ 40 }
     ensures { FileAnswers (schema_of graph.entry.types.names.schema.now) bytes.now result }
 {
@@ -43,27 +45,29 @@ fn report(
         Ok(exchange) => exchange,
         Err(fault) => return Err(Fault::of_text(Role::File, fault)),
     };
-    let findings = match file_findings(alloc, keys, &graph.types, &exchange) {
-        Ok(findings) => findings,
+    let found = match file_findings(alloc, keys, &graph, &exchange) {
+        Ok(found) => found,
         Err(_) => return Err(Fault::Memory),
     };
     let instances = exchange.names.len() as u64;
     Ok(Report {
         unchecked: graph.into_unchecked(),
-        findings,
+        findings: found.findings,
+        rule_findings: found.rule_findings,
         instances,
         unknown: 0,
     })
 }
 
 /// What is said of the file of a source by the types of its schema.
-fn report_source<S: Source>(
+fn report_source<'s, S: Source>(
     alloc: Global,
     keys: RandomState,
-    graph: TypeGraph<'_, '_>,
+    graph: TypeGraph<'_, 's>,
     file: &mut S,
-) -> Result<Report, Fault>
+) -> Result<Report<'s>, Fault>
     requires made { IsMade graph.types }
+    requires rules { AreRuleTables (schema_of graph.types.names.schema.now) graph.rules }
     ensures answers { SourceAnswers (schema_of graph.entry.types.names.schema.now)
         (S.to_come file.old) result }
     ensures failed { S.has_failed file.old ≡ false
@@ -77,12 +81,12 @@ fn report_source<S: Source>(
 }
 
 /// What is said of a file of a source by a schema of these bytes.
-fn check_by<S: Source>(
+fn check_by<'s, S: Source>(
     alloc: Global,
     keys: RandomState,
-    schema: &[u8],
+    schema: &'s [u8],
     file: &mut S,
-) -> Result<Report, CheckFault>
+) -> Result<Report<'s>, CheckFault>
     requires within { length schema.now ≤ 2 ^ 40 }
     ensures checks { Checks (Some schema.now) (S.to_come file.old) result }
     ensures no_schema_fault { is_schema_device result ≡ false }
@@ -104,17 +108,19 @@ fn check_by<S: Source>(
     }
 }
 
-/// Checks a file against a schema: both are read to their ends, the schema first.
+/// Checks a file against a schema: both are read to their ends, the schema first, whose text is put
+/// into `text`, so that the report can have names from there.
 ///
 /// The fault is that of the schema's text or names, then that of the file's text, the first that
 /// shows; `Device` comes where a source fails, and `Memory` where memory runs out. Names are hashed
 /// by these keys.
-pub fn check<S: Source, F: Source>(
+pub fn check<'s, S: Source, F: Source>(
     alloc: Global,
     keys: RandomState,
     schema: &mut S,
+    text: &'s mut Vec<u8>,
     file: &mut F,
-) -> Result<Report, CheckFault>
+) -> Result<Report<'s>, CheckFault>
     // The report is what the two texts say.
     ensures checks { Checks (S.to_come schema.old) (F.to_come file.old) result }
     // The fault is a source's exactly where that one failed.
@@ -127,7 +133,10 @@ pub fn check<S: Source, F: Source>(
     ensures file_told { IfSome (F.fails file.old) (FileFailsAs result) }
 {
     match read_whole(alloc, schema, LIMIT) {
-        Ok(bytes) => check_by(alloc, keys, &bytes, file),
+        Ok(bytes) => {
+            *text = bytes;
+            check_by(alloc, keys, text, file)
+        }
         Err(fault) => Err(of_schema_source(fault)),
     }
 }

@@ -1,36 +1,74 @@
-//! The findings of a file by the types of its schema.
+//! The findings of a file by what its schema says.
 
 ghost use Rattle.std.specs.Prelude.{IfOk};
 ghost use Rattle.express_schemas.specs.SchemaViews.{schema_of};
-ghost use Rattle.step_exchange.specs.Exchanges.{structure};
+ghost use Rattle.express_types.specs.Judging.{AreRuleTables};
 ghost use Rattle.resolved_types.specs.Made.{IsMade};
-ghost use Rattle.checking.specs.Reporting.{AreFindings};
+ghost use Rattle.rule_tables.specs.Seen.{rules_seen, AreNumbered};
+ghost use Rattle.step_exchange.specs.Exchanges.{structure};
+ghost use Rattle.step_population.specs.Seen.{population_seen};
+ghost use Rattle.checking.specs.Reporting.{AreFindings, AreRuleFindings};
 
 use conformance::finding::Finding;
-use file_findings::findings::findings;
-use file_findings::rows::rows_of;
-use instance_forms::making::entities_are_said;
-use resolved_types::types::ResolvedTypes;
-use schema_tables::tables::SchemaTables;
+use express_types::graph::TypeGraph;
+use rule_findings::finding::RuleFinding;
+use rule_tables::tables::RuleTables;
 use std::alloc::{AllocError, Global};
 use std::hash::RandomState;
 use step_exchange::structure::Exchange;
+use step_extent::extents::Extents;
+use step_population::populate::{Verdict, populate};
+use step_population::population::Population;
 
-/// The findings of a file, in order. Names are hashed by these keys.
-pub fn file_findings(
+/// What is found of a file.
+#[derive(Drop)]
+pub struct Found<'s> {
+    /// Of its instances one by one, in order.
+    pub findings: Vec<Finding>,
+    /// Of all of them, where nothing else is found.
+    pub rule_findings: Vec<RuleFinding<'s>>,
+}
+
+/// The instances that break rules of a whole population: uniqueness rules, then the bounds of
+/// inverse attributes (ISO 10303-11, 9.2.2.1 and 9.2.1.3).
+fn rule_findings<'s>(
+    alloc: Global,
+    population: &Population<'_, '_, 's, '_>,
+    rules: &RuleTables<'s>,
+) -> Result<Vec<RuleFinding<'s>>, AllocError>
+    requires numbered { AreNumbered (schema_of population.now.types.now.names.schema.now)
+        rules.now }
+    ensures { IfOk result (λ t. AreRuleFindings
+        (rules_seen (schema_of population.now.types.now.names.schema.now) rules.now)
+        (population_seen population.now) t.items) }
+{
+    let extents = Extents::build(alloc, population, rules)?;
+    let mut findings = extents.check_unique(alloc)?;
+    let mut broken = extents.check_inverse(alloc)?;
+    findings.append(&mut broken)?;
+    Ok(findings)
+}
+
+/// The findings of a file. Names are hashed by these keys.
+pub fn file_findings<'s>(
     alloc: Global,
     keys: RandomState,
-    types: &ResolvedTypes<'_, '_>,
+    graph: &TypeGraph<'_, 's>,
     exchange: &Exchange<'_>,
-) -> Result<Vec<Finding>, AllocError>
-    requires made { IsMade types.now }
-    ensures { IfOk result (λ fs. AreFindings (schema_of types.now.names.schema.now)
-        (structure exchange.now) fs.items) }
+) -> Result<Found<'s>, AllocError>
+    requires made { IsMade graph.now.types }
+    requires rules { AreRuleTables (schema_of graph.now.types.names.schema.now) graph.now.rules }
+    ensures { IfOk result (λ x. AreFindings (schema_of graph.now.types.names.schema.now)
+        (structure exchange.now) x.findings.items x.rule_findings.items) }
 {
-    let tables = SchemaTables::of(alloc, types)?;
-    let known = tables.knowledge(types);
-    let bases = tables.bases(types);
-    entities_are_said(known);
-    let rows = rows_of(alloc, keys, known, exchange)?;
-    findings(alloc, known, bases, &rows, exchange)
+    match populate(alloc, keys, &graph.types, exchange)? {
+        Verdict::Typed(population) => Ok(Found {
+            findings: Vec::new(alloc),
+            rule_findings: rule_findings(alloc, &population, &graph.rules)?,
+        }),
+        Verdict::Faulty(findings) => Ok(Found {
+            findings,
+            rule_findings: Vec::new(alloc),
+        }),
+    }
 }

@@ -6,6 +6,7 @@ use Rattle.express_schemas.specs.declared.fault.SchemaFault.{SchemaFault}
 use Rattle.express_schemas.specs.declared.fault.SchemaFault.TheVariants as schemas
 use Rattle.devices.specs.declared.device.WriteFault.{WriteFault}
 use Rattle.conformance.specs.declared.finding.Finding.{Finding}
+use Rattle.rule_findings.specs.declared.finding.RuleFinding.{RuleFinding}
 use Rattle.reports.specs.declared.report.Report.{Report}
 use Rattle.checking.specs.Checks.{Checks, FileFailsAs, SchemaFailsAs, is_file_device, is_schema_device}
 use Rattle.checking.specs.declared.fault.CheckFault.{CheckFault}
@@ -202,9 +203,11 @@ check_fault_is_status (check_faults.Schema fault) status e = schema_fault_is_sta
 check_fault_is_status (check_faults.Other fault) status e = fault_is_status fault status e
 
 -- the status for findings is that of a run that was done
-found_status : (found : List Finding) (status : ℕ) → status ≡ findings_status found → (status ≡ 0) ⊎ (status ≡ 1)
-found_status [] status e = inl e
-found_status (finding ∷ more) status e = inr e
+found_status : (found : List Finding) (broken : List RuleFinding) (status : ℕ) → status ≡ findings_status found broken
+    → (status ≡ 0) ⊎ (status ≡ 1)
+found_status [] [] status e = inl e
+found_status [] (finding ∷ more) status e = inr e
+found_status (finding ∷ more) broken status e = inr e
 
 done_is_status : (status : ℕ) → (status ≡ 0) ⊎ (status ≡ 1) → IsStatus status
 done_is_status status (inl e) = inl e
@@ -228,7 +231,7 @@ report_says report out out' err err' status r = go r.sent r.output_fails r.ends
         (λ fault. Ends (Err (write_fault roles.Output fault)) err err' status)
         → CheckSays out out' err err' status
     go (Ok x) told ends =
-        let done = found_status report.findings.items status ends.0 in (
+        let done = found_status report.findings.items report.rule_findings.items status ends.0 in (
           done_is_status status done,
           done_unwritten out.held out'.held status done,
           (λ fresh fails. absurd (true≢false (sym fails ∙ told fresh))),
@@ -265,7 +268,7 @@ report_devices report out out' err err' status r is fresh = go r.sent (r.output_
     go : (sent : Result Unit WriteFault) → out'.has_failed ≡ is_err sent
         → MatchResult sent (λ _. (status ≡ report_status report) × (err' ≡ err))
         (λ fault. Ends (Err (write_fault roles.Output fault)) err err' status) → out'.has_failed ≡ true
-    go (Ok x) told ends = elim (found_status report.findings.items status ends.0) [
+    go (Ok x) told ends = elim (found_status report.findings.items report.rule_findings.items status ends.0) [
       | inl e ↦ absurd (omega (arith, e, is))
       | inr e ↦ absurd (omega (arith, e, is))
     ]

@@ -5,6 +5,7 @@ use Rattle.express_schemas.specs.declared.fault.SchemaFault.TheVariants as schem
 use Rattle.command_line.specs.declared.fault.Fault.{Fault}
 use Rattle.command_line.specs.declared.fault.Fault.TheVariants.{Text, Device, Memory}
 use Rattle.conformance.specs.declared.finding.Finding.{Finding}
+use Rattle.rule_findings.specs.declared.finding.RuleFinding.{RuleFinding}
 use Rattle.reports.specs.declared.report.Report.{Report}
 use Rattle.checking.specs.declared.fault.CheckFault.{CheckFault}
 use Rattle.checking.specs.declared.fault.CheckFault.TheVariants.{Schema, Other}
@@ -31,13 +32,14 @@ abbrev pub check_status : CheckFault → ℕ
 check_status (Schema fault) = schema_status fault
 check_status (Other fault) = fault_status fault
 
--- the status where it is: 1 where it breaks its schema
-abbrev pub findings_status : List Finding → ℕ
-findings_status [] = 0
-findings_status (finding ∷ more) = 1
+-- the status where it is: 1 where it breaks its schema, in an instance alone or in a rule of the whole population
+abbrev pub findings_status : List Finding → List RuleFinding → ℕ
+findings_status [] [] = 0
+findings_status [] (finding ∷ more) = 1
+findings_status (finding ∷ more) broken = 1
 
 abbrev pub report_status : Report → ℕ
-report_status report = findings_status report.findings.items
+report_status report = findings_status report.findings.items report.rule_findings.items
 
 -- a status that the program has
 abbrev pub IsStatus : ℕ → Type 0

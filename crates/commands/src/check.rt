@@ -29,10 +29,10 @@ fn status_of_schema(fault: &SchemaFault) -> u8
 }
 
 // The status for a report: whether the file breaks its schema.
-fn status_of_report(report: &Report) -> u8
+fn status_of_report(report: &Report<'_>) -> u8
     ensures { result ≡ report_status report.now }
 {
-    if report.findings.is_empty() {
+    if report.findings.is_empty() && report.rule_findings.is_empty() {
         DONE
     } else {
         BROKEN
@@ -65,7 +65,7 @@ fn report_fault<E: Sink>(fault: CheckFault, err: &mut E) -> u8
 
 // Prints a report on `out`, and answers whether there are findings; or tells that the output
 // failed.
-fn print_findings<O: Sink, E: Sink>(findings: &Report, out: &mut O, err: &mut E) -> u8
+fn print_findings<O: Sink, E: Sink>(findings: &Report<'_>, out: &mut O, err: &mut E) -> u8
     ensures { Reports findings.now
         (output O.held O.has_failed out.old) (output O.held O.has_failed out.new)
         (output E.held E.has_failed err.old) (output E.held E.has_failed err.new) result }
@@ -107,7 +107,8 @@ pub fn run_check<S: Source, F: Source, O: Sink, E: Sink>(
     ensures file_failed { F.has_failed file.old ≡ false → F.has_failed file.new ≡ true
         → result ≡ 4 }
 {
-    match check(alloc, keys, schema, file) {
+    let mut text = Vec::new(alloc);
+    match check(alloc, keys, schema, &mut text, file) {
         Ok(findings) => print_findings(&findings, out, err),
         Err(fault) => report_fault(fault, err),
     }

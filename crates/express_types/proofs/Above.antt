@@ -1,5 +1,4 @@
 -- What is above an entity is declared.
-use Rattle.std.specs.Prelude.{ℕ, ◌<◌, length}
 use Rattle.std.proofs.Common.{arith}
 use Rattle.digraph.specs.Graphs.{Graph, IsGraph}
 use Rattle.digraph.proofs.Searching.{reached-within}

@@ -1,4 +1,4 @@
--- What is found of the bodies of a schema, and in what steps.
+-- What is found of a schema, and in what steps.
 use Rattle.std.specs.Prelude.{◌≡◌, ◌<◌, ◌^◌, length, map}
 use Rattle.digraph.specs.Graphs.{Graph, graph_of}
 use Rattle.digraph.specs.Closures.{IsReversal}
@@ -14,9 +14,14 @@ use Rattle.enumeration_items.specs.Items.{AreItems}
 use Rattle.derivation_ranks.specs.Firsts.{AreFirsts}
 use Rattle.derivation_ranks.specs.Ranking.{AreRanksOf}
 use Rattle.unchecked_parts.specs.Adding.{unchecked_in}
+use Rattle.conformance.specs.Bases.{Domain, IsDomain}
+use Rattle.population_rules.specs.Rules.{AreRules}
+use Rattle.rule_tables.specs.declared.tables.RuleTables.{RuleTables}
+use Rattle.rule_tables.specs.Seen.{rules_seen, AreNumbered}
 use Rattle.express_types.specs.declared.judging.Types.{Types}
 use Rattle.express_types.specs.declared.judging.Meanings.{Meanings}
 use Rattle.express_types.specs.declared.judging.Judged.{Judged}
+use Rattle.express_types.specs.declared.judging.Found.{Found}
 
 -- These are the data types of a schema.
 pub record AreTypes (s : Schema) (t : Types) : Type 0 where
@@ -39,3 +44,13 @@ pub record IsJudged (s : Schema) (t : Judged) : Type 0 where
   pub ranks : AreRanksOf s t.ranks.items
   pub firsts : AreFirsts s t.firsts.items
   pub unchecked : AreUnchecked s (unchecked_in t.unchecked.items)
+
+-- These are its rules that speak of a whole population, and their numbers are those of its entities and attributes.
+pub record AreRuleTables (s : Schema) (t : RuleTables) : Type 0 where
+  pub rules : (d : Domain) → IsDomain s d → AreRules s d (rules_seen s t)
+  pub numbered : AreNumbered s t
+
+-- This is what is found of it.
+pub record AreFound (s : Schema) (t : Found) : Type 0 where
+  pub judged : IsJudged s t.judged
+  pub rules : AreRuleTables s t.rules

@@ -9,12 +9,13 @@ ghost use Rattle.attribute_places.specs.Places.{all_places};
 ghost use Rattle.unchecked_parts.specs.Adding.{unchecked_in};
 ghost use Rattle.derivation_ranks.specs.Ranking.{IsRankOf};
 ghost use Rattle.resolved_types.specs.Graphs.{AreSupers, IsKind, ArePlacesOf, place_of};
-ghost use Rattle.express_types.specs.Judging.{IsJudged};
+ghost use Rattle.express_types.specs.Judging.{IsJudged, AreRuleTables};
 
 use crate::judging::Judged;
 use attribute_places::attributes::Place;
 use derivation_ranks::asked::rank_at;
 use resolved_types::types::ResolvedTypes;
+use rule_tables::tables::RuleTables;
 use step_literals::literal::Word;
 use unchecked_parts::list::Unchecked;
 
@@ -28,7 +29,11 @@ pub struct TypeGraph<'t, 'a> {
     pub types: ResolvedTypes<'t, 'a>,
     /// What is found of the bodies of rules and derived attributes.
     pub judged: Judged,
+    /// Its rules that speak of a whole population: uniqueness rules and inverse attributes
+    /// (ISO 10303-11, 9.2.2.1 and 9.2.1.3).
+    pub rules: RuleTables<'a>,
     pub ghost judged_is: { ∥ IsJudged (schema_of types.names.schema.now) judged ∥₁ },
+    pub ghost rules_are: { ∥ AreRuleTables (schema_of types.names.schema.now) rules ∥₁ },
 }
 
 impl<'t, 'a> TypeGraph<'t, 'a> {

@@ -1,4 +1,5 @@
-//! What of a schema isn't checked, and the ranks of its derived attributes.
+//! What is found of a schema: the ranks of its derived attributes, what of it isn't checked, and its
+//! rules that speak of a whole population.
 
 ghost use Rattle.std.specs.Prelude.{◌≡◌, IfOk, length};
 ghost use Rattle.digraph.specs.Graphs.{graph_of};
@@ -9,8 +10,9 @@ ghost use Rattle.taken_attributes.specs.Taking.{IsKnown, schema_in};
 ghost use Rattle.enumeration_items.specs.Items.{AreItems};
 ghost use Rattle.attribute_origins.specs.Lines.{HaveLines};
 ghost use Rattle.alike_types.specs.Shaped.{AreShapes};
-ghost use Rattle.express_types.specs.Judging.{AreTypes, AreMeanings, IsJudged};
+ghost use Rattle.express_types.specs.Judging.{AreTypes, AreMeanings, IsJudged, AreFound};
 
+use crate::ruling::rules_by;
 use alike_types::table::shapes;
 use attribute_origins::lines::lines;
 use body_reasons::derivations::{derivation_ranks, judge_derivations};
@@ -20,6 +22,7 @@ use declared_attributes::attributes::Attributes;
 use derivation_ranks::asked::first_derivations;
 use digraph::closures::{closure, reversal};
 use enumeration_items::items::Items;
+use rule_tables::tables::RuleTables;
 use schema_names::graphs::{part_graph, supertype_graph};
 use schema_names::names::Names;
 use std::alloc::{AllocError, Global};
@@ -146,17 +149,45 @@ fn judge_by<'r, 't, 'a>(
     })
 }
 
-/// What is found of the bodies of a schema whose names are resolved, over the rows of all that its
-/// SUBTYPE OF leads to. Names are hashed by these keys.
+/// What is found of a schema.
+#[derive(Drop)]
+pub(crate) struct Found<'a> {
+    pub judged: Judged,
+    /// The rules that speak of a whole population.
+    pub rules: RuleTables<'a>,
+}
+
+/// What is found of a schema by what is known.
+fn found_by<'r, 't, 'a>(
+    alloc: Global,
+    known: Known<'r, 't, 'a>,
+    items: &'r Items<'a>,
+    lines: &'r [Vec<u32>],
+    shapes: &'r [Shape],
+) -> Result<Found<'a>, AllocError>
+    requires known { IsKnown known }
+    requires items { AreItems (schema_in known) items.now }
+    requires lines { HaveLines (schema_in known) (graph_of lines.now) }
+    requires each { length lines.now ≡ length known.tables.names.now.schema.now.declarations.items }
+    requires shapes { AreShapes (schema_in known) shapes.now }
+    ensures { IfOk result (AreFound (schema_in known.entry)) }
+{
+    let judged = judge_by(alloc, known, items, lines, shapes)?;
+    let rules = rules_by(alloc, known, lines)?;
+    Ok(Found { judged, rules })
+}
+
+/// What is found of the bodies and the rules of a schema whose names are resolved, over the rows of
+/// all that its SUBTYPE OF leads to. Names are hashed by these keys.
 pub(crate) fn judge<'r, 't, 'a>(
     alloc: Global,
     keys: RandomState,
     names: &'r Names<'t, 'a>,
     above: &'r [Vec<u32>],
-) -> Result<Judged, AllocError>
+) -> Result<Found<'a>, AllocError>
     requires resolved { IsResolved (schema_of names.now.schema.now) }
     requires above { AreAbove (schema_of names.now.schema.now) (graph_of above.now) }
-    ensures { IfOk result (IsJudged (schema_of names.now.schema.now)) }
+    ensures { IfOk result (AreFound (schema_of names.now.schema.now)) }
 {
     let types = make_types(alloc, names)?;
     let meanings = make_meanings(alloc, keys, names, &types, above)?;
@@ -170,7 +201,7 @@ pub(crate) fn judge<'r, 't, 'a>(
         below: &meanings.below,
         attributes: &meanings.attributes,
     };
-    judge_by(
+    found_by(
         alloc,
         known,
         &meanings.items,

@@ -1,13 +1,15 @@
-//! Resolving the names of a schema, with what is found of its bodies (ISO 10303-11, 8, 9 and 10).
+//! Resolving the names of a schema, with what is found of its bodies and rules (ISO 10303-11, 8, 9
+//! and 10).
 
 ghost use Rattle.std.specs.Prelude.{◌≡◌, IfOk, MatchResult};
 ghost use Rattle.express_schemas.specs.SchemaViews.{schema_of};
 ghost use Rattle.type_graphs.specs.Faults.{IsResolved};
 ghost use Rattle.resolved_types.specs.Made.{IsMade};
 ghost use Rattle.resolved_types.specs.Resolving.{IsNameFault};
+ghost use Rattle.express_types.specs.Judging.{AreRuleTables};
 
 use crate::graph::TypeGraph;
-use crate::judging::judge;
+use crate::judging::{Found, judge};
 use express_schemas::fault::SchemaFault;
 use express_schemas::tree::SchemaTree;
 use resolved_types::resolving::resolve_types;
@@ -22,10 +24,16 @@ fn type_graph<'t, 'a>(
     types: ResolvedTypes<'t, 'a>,
 ) -> Result<TypeGraph<'t, 'a>, AllocError>
     requires { IsMade types }
-    ensures { IfOk result (λ g. g.types ≡ types.entry) }
+    ensures same { IfOk result (λ g. g.types ≡ types.entry) }
+    ensures rules { IfOk result (λ g. AreRuleTables (schema_of types.entry.names.schema.now)
+        g.rules) }
 {
-    let judged = judge(alloc, keys, &types.names, &types.above)?;
-    Ok(TypeGraph { types, judged })
+    let Found { judged, rules } = judge(alloc, keys, &types.names, &types.above)?;
+    Ok(TypeGraph {
+        types,
+        judged,
+        rules,
+    })
 }
 
 /// The types of a schema, where its names are resolved (ISO 10303-11, 8, 9 and 10).
@@ -45,6 +53,8 @@ pub fn resolve<'t, 'a>(
     ensures same { IfOk result (λ g. g.types.names.schema.now ≡ schema.entry.now) }
     // Its tables are those of the schema.
     ensures made { IfOk result (λ g. IsMade g.types) }
+    // .. and so are its rules that speak of a whole population.
+    ensures rules { IfOk result (λ g. AreRuleTables (schema_of schema.entry.now) g.rules) }
 {
     let types = resolve_types(alloc, keys, schema)?;
     match type_graph(alloc, keys, types) {

@@ -127,6 +127,26 @@ const ROWS: &'static [Row] = &[
     ),
     (
         b"GEO",
+        b"#1=POINT((0.));\n#2=PLACEMENT(#1,$);\n#3=GROUP('a',(#2));\n#4=GROUP('a',(#2));\n",
+        b"F17 UniqueBroken #4 GROUP.UR1\ninstances 4\nunknown 0\nfindings 1\n",
+    ),
+    (
+        b"GEO",
+        b"#1=POINT((0.));\n#2=POINT((0.));\n#4=PLACEMENT(#2,$);\n#5=NOTE('a',#4);\n#6=NOTE('b',#4);\n",
+        b"F18 InverseBound #4 PLACEMENT.NOTES\ninstances 5\nunknown 0\nfindings 1\n",
+    ),
+    (
+        b"GEO",
+        b"#9=PLACEMENT(#1,$);\n#2=NOTE('a',#9);\n#7=GROUP('caf\\X\\E9',(#9));\n#3=NOTE('b',#9);\n#4=GROUP('caf\\X2\\00E9\\X0\\',(#9));\n#1=POINT((0.));\n#5=GROUP('caf\\S\\i',(#9));\n#6=NOTE('c',#9);\n",
+        b"F17 UniqueBroken #4 GROUP.UR1\nF17 UniqueBroken #5 GROUP.UR1\nF18 InverseBound #9 PLACEMENT.NOTES\ninstances 8\nunknown 0\nfindings 3\n",
+    ),
+    (
+        b"GEO",
+        b"#1=NODE(#1);\n#2=BUNDLE((#1,#1));\n#3=POINT((0.));\n#4=PLACEMENT(#3,$);\n#5=NOTE('a',#4);\n#6=NOTE('b',#4);\n",
+        b"F14 NotDistinct #2 1\ninstances 6\nunknown 0\nfindings 1\n",
+    ),
+    (
+        b"GEO",
         b"#1=PLAIN_MARK(*,.FINE.);\n#2=PLAIN_MARK($,.fine.);\n#3=PLAIN_MARK('x',.FINE.);\n",
         b"F8 MisplacedStar #3 1\ninstances 3\nunknown 0\nfindings 1\n",
     ),
@@ -202,7 +222,8 @@ fn is_reported(alloc: Global, keys: RandomState, row: Row) -> Result<bool, Alloc
     let text = file(alloc, row)?;
     let mut schema = SCHEMA;
     let mut source = text.as_slice();
-    let Ok(report) = check(alloc, keys, &mut schema, &mut source) else {
+    let mut schema_text = Vec::new(alloc);
+    let Ok(report) = check(alloc, keys, &mut schema, &mut schema_text, &mut source) else {
         return Ok(false);
     };
     let mut out = Counted::new(Paper {

@@ -1,16 +1,20 @@
 -- The lines of a report.
-use Rattle.std.specs.Prelude.{ℕ, List, [], ◌∷◌, ◌++◌, length, flat_map, codes, decimal}
+use Rattle.std.specs.Prelude.{ℕ, ◌+◌, List, [], ◌∷◌, ◌++◌, length, flat_map, codes, decimal}
 use Rattle.std.specs.String.{string_bytes}
 use Rattle.type_graphs.specs.declared.unchecked.PartKind.{PartKind}
 use Rattle.type_graphs.specs.declared.unchecked.PartKind.TheVariants as parts
 use Rattle.type_graphs.specs.declared.unchecked.Reason.{Reason}
 use Rattle.type_graphs.specs.declared.unchecked.Reason.TheVariants as reasons
 use Rattle.unchecked_parts.specs.declared.list.Unchecked.{Unchecked}
+use Rattle.unchecked_parts.specs.Adding.{said}
 use Rattle.conformance.specs.declared.finding.FindingKind.{FindingKind}
 use Rattle.conformance.specs.declared.finding.FindingKind.TheVariants as findings
 use Rattle.conformance.specs.declared.finding.Finding.{Finding}
 use Rattle.conformance.specs.declared.finding.Spot.{Spot}
 use Rattle.conformance.specs.declared.finding.Spot.TheVariants.{Place, Nothing}
+use Rattle.rule_findings.specs.declared.finding.RuleFindingKind.{RuleFindingKind}
+use Rattle.rule_findings.specs.declared.finding.RuleFindingKind.TheVariants as breaches
+use Rattle.rule_findings.specs.declared.finding.RuleFinding.{RuleFinding}
 use Rattle.reports.specs.declared.report.Report.{Report}
 
 abbrev pub part_text : PartKind → List ℕ
@@ -54,6 +58,10 @@ finding_text findings.NotDistinct = codes "F14 NotDistinct"
 finding_text findings.NoSelectItem = codes "F15 NoSelectItem"
 finding_text findings.SchemaName = codes "F19 SchemaName"
 
+abbrev pub rule_finding_text : RuleFindingKind → List ℕ
+rule_finding_text breaches.UniqueBroken = codes "F17 UniqueBroken"
+rule_finding_text breaches.InverseBound = codes "F18 InverseBound"
+
 abbrev pub unchecked_line : Unchecked → List ℕ
 unchecked_line u =
     codes "unchecked " ++ part_text u.kind ++ codes " " ++ string_bytes u.name ++ codes " " ++ reason_text u.reason
@@ -67,12 +75,18 @@ spot_text name Nothing = []
 abbrev pub finding_line : Finding → List ℕ
 finding_line f = finding_text f.kind ++ spot_text f.instance f.spot ++ 10 ∷ []
 
+-- the instance, and what the rule that it breaks is called
+abbrev pub rule_finding_line : RuleFinding → List ℕ
+rule_finding_line f =
+    rule_finding_text f.kind ++ codes " #" ++ decimal f.instance ++ codes " " ++ said f.rule ++ 10 ∷ []
+
 abbrev pub count_line : List ℕ → ℕ → List ℕ
 count_line word n = word ++ decimal n ++ 10 ∷ []
 
--- the lines of all unchecked parts, of all findings, and the counts
+-- the lines of all unchecked parts, of all findings, of all rules that are broken, and the counts
 abbrev pub report_text : Report → List ℕ
 report_text r =
     flat_map unchecked_line r.unchecked.items ++ flat_map finding_line r.findings.items
+    ++ flat_map rule_finding_line r.rule_findings.items
     ++ count_line (codes "instances ") r.instances ++ count_line (codes "unknown ") r.unknown
-    ++ count_line (codes "findings ") (length r.findings.items)
+    ++ count_line (codes "findings ") (length r.findings.items + length r.rule_findings.items)

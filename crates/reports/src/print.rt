@@ -1,30 +1,25 @@
 //! Printing a report.
 
-ghost use Rattle.std.specs.Prelude.{◌≡◌, false, flat_map, decimal, is_err};
+ghost use Rattle.std.specs.Prelude.{◌≡◌, false, flat_map, is_err};
 ghost use Rattle.devices.specs.Emits.{Emits};
 ghost use Rattle.devices.specs.Prints.{Prints};
 ghost use Rattle.reports.specs.Lines.{
   count_line,
   finding_line,
   report_text,
+  rule_finding_line,
   spot_text,
   unchecked_line,
 };
 
+use crate::names::{print_label, print_number};
 use crate::report::Report;
-use crate::words::{finding_name, part_name, reason_name};
+use crate::words::{finding_name, part_name, reason_name, rule_finding_name};
 use conformance::finding::{Finding, Spot};
 use devices::device::{Sink, WriteFault};
 use devices::printer::Printer;
+use rule_findings::finding::RuleFinding;
 use unchecked_parts::list::Unchecked;
-
-// A number.
-fn print_number<S: Sink>(printer: &mut Printer, out: &mut S, number: u64)
-    ensures { Prints S.held S.has_failed out.old out.new printer.old printer.new (decimal number) }
-{
-    let mut digits = itoa::Buffer::new();
-    printer.print(out, digits.format(number).as_bytes());
-}
 
 // The line of a part that isn't checked.
 fn print_unchecked<S: Sink>(printer: &mut Printer, out: &mut S, part: &Unchecked)
@@ -63,6 +58,19 @@ fn print_finding<S: Sink>(printer: &mut Printer, out: &mut S, finding: &Finding)
     printer.print_byte(out, b'\n');
 }
 
+// The line of a rule that an instance breaks.
+fn print_rule_finding<S: Sink>(printer: &mut Printer, out: &mut S, finding: &RuleFinding<'_>)
+    ensures { Prints S.held S.has_failed out.old out.new printer.old printer.new
+        (rule_finding_line finding.now) }
+{
+    printer.print(out, rule_finding_name(finding.kind).as_bytes());
+    printer.print(out, b" #");
+    print_number(printer, out, finding.instance);
+    printer.print(out, b" ");
+    print_label(printer, out, finding.rule);
+    printer.print_byte(out, b'\n');
+}
+
 // A word and a number.
 fn print_count<S: Sink>(printer: &mut Printer, out: &mut S, word: &[u8], number: u64)
     ensures { Prints S.held S.has_failed out.old out.new printer.old printer.new
@@ -93,22 +101,36 @@ fn print_findings<S: Sink>(printer: &mut Printer, out: &mut S, findings: &[Findi
     }
 }
 
+// The lines of the rules that instances break.
+fn print_rule_findings<S: Sink>(printer: &mut Printer, out: &mut S, findings: &[RuleFinding<'_>])
+    ensures { Prints S.held S.has_failed out.old out.new printer.old printer.new
+        (flat_map rule_finding_line findings.now) }
+{
+    for finding in findings {
+        print_rule_finding(printer, out, finding);
+    }
+}
+
 // All lines.
-fn print_lines<S: Sink>(printer: &mut Printer, out: &mut S, report: &Report)
+fn print_lines<S: Sink>(printer: &mut Printer, out: &mut S, report: &Report<'_>)
     ensures { Prints S.held S.has_failed out.old out.new printer.old printer.new
         (report_text report.now) }
 {
     let findings = report.findings.as_slice();
+    let rule_findings = report.rule_findings.as_slice();
+    let count = findings.len() + rule_findings.len();
     print_parts(printer, out, &report.unchecked);
     print_findings(printer, out, findings);
+    print_rule_findings(printer, out, rule_findings);
     print_count(printer, out, b"instances ", report.instances);
     print_count(printer, out, b"unknown ", report.unknown);
-    print_count(printer, out, b"findings ", findings.len() as u64);
+    print_count(printer, out, b"findings ", count as u64);
 }
 
 /// Prints a report: a line for each part of the schema that isn't checked, a line for each finding,
-/// and the counts. `WriteFault` comes where the sink fails; a front of the text went out then.
-pub fn print_report<S: Sink>(out: &mut S, report: &Report) -> Result<(), WriteFault>
+/// then one for each rule of the whole population that an instance breaks, and the counts.
+/// `WriteFault` comes where the sink fails; a front of the text went out then.
+pub fn print_report<S: Sink>(out: &mut S, report: &Report<'_>) -> Result<(), WriteFault>
     ensures emits { Emits (S.held out.old) (S.held out.new) (report_text report.now) result }
     ensures failed { S.has_failed out.old ≡ false → S.has_failed out.new ≡ is_err result }
 {

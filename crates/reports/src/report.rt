@@ -1,15 +1,19 @@
 //! What is said of a file.
 
 use conformance::finding::Finding;
+use rule_findings::finding::RuleFinding;
 use unchecked_parts::list::Unchecked;
 
 /// What is said of a file that is checked against a schema.
 #[derive(Drop)]
-pub struct Report {
+pub struct Report<'s> {
     /// The parts of the schema that aren't checked, in the order of its text.
     pub unchecked: Vec<Unchecked>,
     /// What is wrong with the file, in order.
     pub findings: Vec<Finding>,
+    /// The rules of the whole population that instances break, in order; they are told only where
+    /// `findings` is empty.
+    pub rule_findings: Vec<RuleFinding<'s>>,
     /// How many instances the file has.
     pub instances: u64,
     /// How many pairs of an instance and a rule there are of which it isn't known whether the

@@ -1,9 +1,10 @@
 //! The words of a report.
 
 ghost use Rattle.std.specs.Prelude.{◌≡◌};
-ghost use Rattle.reports.specs.Lines.{finding_text, part_text, reason_text};
+ghost use Rattle.reports.specs.Lines.{finding_text, part_text, reason_text, rule_finding_text};
 
 use conformance::finding::FindingKind;
+use rule_findings::finding::RuleFindingKind;
 use type_graphs::unchecked::{PartKind, Reason};
 
 /// The word for a part of a schema.
@@ -62,5 +63,15 @@ pub fn finding_name(kind: FindingKind) -> &'static str
         FindingKind::NotDistinct => "F14 NotDistinct",
         FindingKind::NoSelectItem => "F15 NoSelectItem",
         FindingKind::SchemaName => "F19 SchemaName",
+    }
+}
+
+/// The number and the name of what is wrong where an instance breaks a rule.
+pub fn rule_finding_name(kind: RuleFindingKind) -> &'static str
+    ensures { result.now ≡ rule_finding_text kind }
+{
+    match kind {
+        RuleFindingKind::UniqueBroken => "F17 UniqueBroken",
+        RuleFindingKind::InverseBound => "F18 InverseBound",
     }
 }

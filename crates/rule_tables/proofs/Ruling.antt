@@ -2,9 +2,7 @@
 use Rattle.std.specs.Prelude.{◌≡◌, ℕ, ◌+◌, ◌<◌, Bool, true, false, not, ◌||◌, List, [], ◌∷◌, ◌++◌, map, length, get_or, take, ◌↔◌, IsTrue}
 use Rattle.std.proofs.Common.{refl, ap, sym, subst, ◌∙◌, arith}
 use Rattle.std.proofs.lemmas.List.{take_more, map-append, length-take, length-map}
-use Rattle.express_trees.specs.Views.{capitals}
 use Rattle.express_schemas.specs.Schemas.{Schema, entity, Entity, Attribute, Unique}
-use Rattle.express_schemas.specs.Views.{if_some}
 use Rattle.type_graphs.specs.declared.unchecked.Reason.{Reason}
 use Rattle.type_graphs.specs.declared.unchecked.Reason.TheVariants as reasons
 use Rattle.type_graphs.specs.Names.{Name, OneOf}
@@ -16,6 +14,7 @@ use Rattle.unique_attributes.specs.declared.naming.Naming.{Naming}
 use Rattle.unique_attributes.specs.Naming.{IsNaming}
 use Rattle.population_rules.specs.Rules.{Statement, statements_from, NamesPlace}
 use Rattle.rule_tables.specs.declared.uniques.UniqueRule.{UniqueRule}
+use Rattle.rule_tables.specs.Seen.{label_seen}
 use Rattle.rule_tables.specs.Making.{Adds, statement_of, ArePlacesOf, IsUnique}
 use Rattle.rule_tables.proofs.Turns.{adds-joined}
 use Rattle.rule_tables.proofs.Inverting.{name-is, own-number, number-seen}
@@ -48,7 +47,7 @@ checked-is s e xs t h = (forth t.is_other refl t.is_not_one refl, back t.is_othe
 
 -- a row is that of a rule
 pub is-unique : (s : Schema) → IsResolved s → (e : Entity) (n : ℕ) (x : Unique) (t : Naming) (u : UniqueRule)
-    → IsAt s u.entity (entity e) → label_of u.number (if_some capitals u.label) ≡ label_of n x.label
+    → IsAt s u.entity (entity e) → label_seen u.label ≡ label_of n x.label
     → u.is_checked ≡ not (t.is_other || t.is_not_one) → IsNaming s e.name x.attributes t
     → ArePlacesOf s (λ (p : Place). OneOf (λ (a : Attribute). NamesPlace s e.name a p) x.attributes) u.places.items
     → IsUnique s (statement_of e.name n x) u

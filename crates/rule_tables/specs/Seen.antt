@@ -2,8 +2,8 @@
 use Rattle.std.specs.Prelude.{ℕ, ◌<◌, length, [], Option, None, Some, map, slice_get}
 use Rattle.express_trees.specs.Views.{capitals}
 use Rattle.express_schemas.specs.Schemas.{Schema}
-use Rattle.express_schemas.specs.Views.{if_some}
 use Rattle.express_schemas.specs.Profile.{Every}
+use Rattle.type_graphs.specs.Names.{Name}
 use Rattle.type_graphs.specs.Attributes.{Place}
 use Rattle.type_graphs.specs.Parts.{label_of}
 use Rattle.schema_names.specs.Numbers.{HasNumber}
@@ -13,6 +13,8 @@ use Rattle.population_rules.specs.Rules as rules
 use Rattle.rule_tables.specs.declared.gathering.Gathering.{Gathering}
 use Rattle.rule_tables.specs.declared.gathering.Gathering.TheVariants as gatherings
 use Rattle.rule_tables.specs.declared.inverses.InverseAttribute.{InverseAttribute}
+use Rattle.rule_tables.specs.declared.label.RuleLabel.{RuleLabel}
+use Rattle.rule_tables.specs.declared.label.RuleLabel.TheVariants as labels
 use Rattle.rule_tables.specs.declared.uniques.UniqueRule.{UniqueRule}
 use Rattle.rule_tables.specs.declared.tables.RuleTables.{RuleTables}
 
@@ -38,10 +40,15 @@ inverse_seen s i = record {
   inverted = place_at s i.inverted;
 }
 
+-- a label in capitals; `?` and the number where there is none
+abbrev pub label_seen : RuleLabel → Name
+label_seen (labels.Written w) = capitals w
+label_seen (labels.Numbered n) = label_of n None
+
 abbrev pub unique_seen : Schema → UniqueRule → rules.UniqueRule
 unique_seen s u = record {
   entity = name_at s u.entity;
-  label = label_of u.number (if_some capitals u.label);
+  label = label_seen u.label;
   is_checked = u.is_checked;
   places = map (place_at s) u.places.items;
 }

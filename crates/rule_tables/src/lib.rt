@@ -4,6 +4,7 @@
 
 pub mod gathering;
 pub mod inverses;
+pub mod label;
 mod meant;
 mod places;
 pub mod sources;

@@ -40,6 +40,7 @@ ghost use Rattle.rule_tables.specs.Making.{
   IsUnique,
 };
 
+use crate::label::{RuleLabel, rule_label};
 use crate::meant::meant;
 use crate::places::own_place;
 use crate::sources::Sources;
@@ -54,10 +55,7 @@ use unique_attributes::naming::{Naming, naming_of_all};
 pub struct UniqueRule<'a> {
     /// The number of the entity that states it.
     pub entity: u32,
-    pub label: Option<Word<'a>>,
-    /// Where it has no label, its number in its clause, counted from 1. Else no contract speaks of
-    /// it.
-    pub number: u64,
+    pub label: RuleLabel<'a>,
     /// Whether each of its names means one attribute, and that an explicit one; a rule of which
     /// this isn't so is set aside.
     pub is_checked: bool,
@@ -166,8 +164,7 @@ fn unique_rule<'a>(
     let places = places_of(alloc, sources, entity, &unique.attributes)?;
     Ok(UniqueRule {
         entity,
-        label: unique.label,
-        number,
+        label: rule_label(unique.label, number),
         is_checked: is_checked(naming),
         places,
     })

@@ -1,5 +1,5 @@
 -- Instances by name, and their values by the numbers of places.
-use Rattle.std.specs.Prelude.{◌≡◌, ⊤, ℕ, zero, suc, ◌==◌, ◌<◌, ◌≤◌, ◌+◌, ◌-◌, Bool, true, false, cond, is_some, List, [], ◌∷◌, ◌++◌, length, map, Option, None, Some, slice_get, eqb}
+use Rattle.std.specs.Prelude.{◌≡◌, ℕ, zero, suc, ◌==◌, ◌<◌, ◌≤◌, ◌+◌, ◌-◌, Bool, true, false, cond, is_some, List, [], ◌∷◌, length, map, Option, None, Some, slice_get}
 use Rattle.std.specs.List.{repeat, sum_by}
 use Rattle.std.specs.Option.{option_map}
 use Rattle.std.proofs.Common.{refl, sym, ap, subst, ◌∙◌, arith, eqb-true, length-append}
@@ -12,17 +12,14 @@ use Rattle.std.proofs.Props.{props}
 use Rattle.express_schemas.specs.Schemas.{Schema}
 use Rattle.express_schemas.specs.SchemaViews.{schema_of}
 use Rattle.express_schemas.specs.Profile.{Every}
-use Rattle.type_graphs.specs.Attributes.{Place, same_place}
-use Rattle.type_graphs.specs.Faults.{IsResolved}
+use Rattle.type_graphs.specs.Attributes.{Place}
 use Rattle.attribute_places.specs.Places.{all_places}
 use Rattle.attribute_places.proofs.Distinct.{places-are-one}
 use Rattle.attribute_places.proofs.Repeats.{AreOne, one-told}
 use Rattle.step_exchange.specs.declared.section.Section.{Section}
 use Rattle.step_exchange.specs.Sections.{CountsTo}
-use Rattle.step_values.specs.Building.{Kept}
 use Rattle.step_values.specs.ComputedAgreement.{size}
 use Rattle.step_values.specs.NodeCounts.{nodes_of, nodes_in}
-use Rattle.step_values.specs.Slots.{nth}
 use Rattle.step_values.specs.References.{EachReference, EachReferenceOf}
 use Rattle.step_values.specs.Targets.{ReferTo}
 use Rattle.step_values.specs.Values.{Value, leaf, reference, typed, sequence, bag, Values, none, more}
@@ -35,9 +32,8 @@ use Rattle.base_types.specs.Seen.{name_at}
 use Rattle.instance_forms.specs.declared.form.SlotForm.{SlotForm}
 use Rattle.instance_forms.specs.declared.form.Form.{Form}
 use Rattle.conformance.specs.Populations.{Slot, Instance, instance_at, slot_at, value_in, value_of, types_in, types_at}
-use Rattle.file_findings.proofs.Placing.{counts-prop}
 use Rattle.step_population.specs.Seen.{or_nowhere, place_at, slots_seen, instance_seen, instances_seen, section_numbers, population_seen, nodes_seen}
-use Rattle.step_population.specs.Whole.{form_among, slot_count, ArePlaced, AreNumbered, HaveSlots, IsWhole}
+use Rattle.step_population.specs.Whole.{form_among, slot_count, ArePlaced, AreNumbered, HaveSlots}
 use Rattle.step_population.specs.Ordering.{picked_at, position_among}
 use Rattle.step_population.specs.declared.population.Population.{Population}
 use Rattle.step_population.proofs.Turns.{got, form-of-row}
@@ -341,7 +337,7 @@ pub types-of-form : (s : Schema) (y k : ℕ) (o : Option Form) (vs : Values)
 types-of-form s y k None vs = refl
 types-of-form s y k (Some x) vs = refl
 
-every-at : {A : Type 0} (P : A → Type 0) (xs : List A) (i : ℕ) (x : A) → Every P xs → slice_get xs i ≡ Some x → P x
+pub every-at : {A : Type 0} (P : A → Type 0) (xs : List A) (i : ℕ) (x : A) → Every P xs → slice_get xs i ≡ Some x → P x
 every-at P [] i x h e = absurd (cc)
 every-at P (y ∷ xs) zero x h e = let same : y ≡ x = cc in subst P same h.0
 every-at P (y ∷ xs) (suc i) x h e = every-at P xs i x h.1 e

@@ -5,6 +5,7 @@ pub mod Populating
 pub mod Judged
 pub mod Verdicts
 pub mod Found
+pub mod Rowwise
 pub mod Ordered
 pub mod Orders
 pub mod Headed

@@ -1,5 +1,5 @@
 -- The rows of a population, by what they are made of.
-use Rattle.std.specs.Prelude.{◌≡◌, ℕ, zero, suc, ◌<◌, Bool, true, false, ◌||◌, cond, List, [], ◌∷◌, length, map, flat_map, Option, None, Some, slice_get, ◌⊎◌}
+use Rattle.std.specs.Prelude.{◌≡◌, ℕ, zero, suc, ◌<◌, true, false, ◌||◌, List, [], ◌∷◌, length, map, flat_map, Option, None, Some, slice_get, ◌⊎◌}
 use Rattle.std.specs.List.{AllZip, list_any}
 use Rattle.std.specs.Str.{bytes_eq}
 use Rattle.std.proofs.Common.{refl, inl, inr, sym, ap, subst, ◌∙◌, arith}
@@ -12,10 +12,10 @@ use Rattle.attribute_places.specs.Places.{all_places}
 use Rattle.attribute_places.proofs.Repeats.{AreOne}
 use Rattle.base_types.specs.Seen.{name_at}
 use Rattle.conformance.specs.Entities.{own_places_of}
-use Rattle.conformance.specs.Populations.{Slot, Instance, slot_at}
+use Rattle.conformance.specs.Populations.{slot_at}
 use Rattle.instance_forms.specs.declared.form.SlotForm.{SlotForm}
 use Rattle.instance_forms.specs.declared.form.Form.{Form}
-use Rattle.step_values.specs.Values.{Value, Values, none, more}
+use Rattle.step_values.specs.Values.{Values, none, more}
 use Rattle.step_values.specs.Views.{word_of}
 use Rattle.step_equal.specs.Rows.{Row}
 use Rattle.step_equal.specs.Settled.{AreInOrder, IsSettled}
@@ -24,7 +24,7 @@ use Rattle.step_equal.specs.declared.row.RowHead.{RowHead}
 use Rattle.step_population.specs.Seen.{or_nowhere, place_at, slots_seen, instance_seen, instances_seen, section_numbers, population_seen}
 use Rattle.step_population.specs.Whole.{form_among, ArePlaced}
 use Rattle.step_population.specs.PlainRows.{or_unset, values_at, IsRowOf, AreRowsOf}
-use Rattle.step_population.specs.Ordering.{position_among, StandsAt, StandAt, IsOrder, AreOrders, picked_at, picked, order_among, row_picked, rows_picked, types_in, IsHead, AreHeads}
+use Rattle.step_population.specs.Ordering.{position_among, StandAt, IsOrder, AreOrders, picked_at, picked, order_among, row_picked, rows_picked, types_in, IsHead, AreHeads}
 use Rattle.step_population.specs.declared.ordering.Order.{Order}
 use Rattle.step_population.specs.declared.population.Population.{Population}
 use Rattle.step_population.proofs.Found.{kept, value-at-number}

@@ -1,5 +1,6 @@
 pub mod Whole
 pub mod Seen
+pub mod Instances
 pub mod Making
 pub mod Verdicts
 pub mod PlainRows

@@ -4,6 +4,7 @@
 
 pub mod building;
 mod copying;
+pub mod instances;
 mod ordering;
 mod plain;
 pub mod populate;

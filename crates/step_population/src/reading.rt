@@ -4,7 +4,9 @@ ghost use Rattle.std.specs.Prelude.{◌≡◌, ◌<◌, ◌≤◌, None, length,
 ghost use Rattle.columns.specs.Nodes.{IsColumn};
 ghost use Rattle.step_values.specs.Cells.{value_nodes};
 ghost use Rattle.step_values.specs.Targets.{LeadTo, targets_of};
+ghost use Rattle.express_schemas.specs.Profile.{Every};
 ghost use Rattle.express_schemas.specs.SchemaViews.{schema_of};
+ghost use Rattle.schema_names.specs.Numbers.{HasNumber};
 ghost use Rattle.attribute_places.specs.Places.{all_places};
 ghost use Rattle.instance_forms.specs.declared.form.SlotForm.{SlotForm};
 ghost use Rattle.row_index.specs.Index.{place_of};
@@ -19,7 +21,7 @@ use step_values::cell::Cell;
 use step_values::slot::Slot;
 
 /// Where the attribute of a place stands among these, counted from 0.
-pub(crate) fn position_of(slots: &[SlotForm], place: u32) -> Option<usize>
+pub fn position_of(slots: &[SlotForm], place: u32) -> Option<usize>
     ensures { result ≡ place_of (map (λ (x : SlotForm). x.place) slots.now) place }
 {
     for i in 0..slots.len() {
@@ -62,8 +64,10 @@ impl<'r, 't, 's, 'a> Population<'r, 't, 's, 'a> {
     /// The numbers of the types of the instance of a name, in the order of the schema; none where
     /// there is no such instance. It takes no memory.
     pub fn types_of(&self, name: u64) -> &[u32]
-        ensures { map (name_at (schema_of self.now.types.now.names.schema.now)) result.now
+        ensures types { map (name_at (schema_of self.now.types.now.names.schema.now)) result.now
             ≡ types_at (population_seen self.now) name }
+        ensures numbered { Every (λ i. HasNumber (schema_of self.now.types.now.names.schema.now)
+            (name_at (schema_of self.now.types.now.names.schema.now) i) i) result.now }
     {
         let Some(row) = self.rows.index.find(name) else {
             return &[];

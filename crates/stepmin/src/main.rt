@@ -2,14 +2,10 @@
 //! `stepmin check SCHEMA FILE` tells where it breaks its schema.
 #![tactic(auto)]
 
-mod files;
-#[cfg(test)]
-mod tests;
-
-use crate::files::Folder;
 use command_line::usage::unread_words;
 use commands::command::{refuse, refuse_to_read, run_command};
 use devices::counted::Counted;
+use file_store::folder::Folder;
 use std::env::Env;
 use std::hash::RandomState;
 use std::io;

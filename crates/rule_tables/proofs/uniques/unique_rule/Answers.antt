@@ -1,4 +1,4 @@
-use Rattle.std.proofs.Common.{refl, subst, map, ◌∙◌}
+use Rattle.std.proofs.Common.{subst, map, ◌∙◌}
 use Rattle.express_schemas.specs.Views.{attribute_of, unique_of}
 use Rattle.type_graphs.specs.Names.{OneOf, IsEntity}
 use Rattle.schema_names.proofs.Numbers.{stands-at}
@@ -26,7 +26,7 @@ returns c e at =
     let known : IsEntity s e.name = (e, stands-at s e.name c.args.entity k ∙ at) in
     let naming = c.in_ok-naming.naming in
     let places = c.in_ok-places.places.items in
-    is-unique s r e c.args.number (unique_of u) naming _ at refl c.is_checked.ensures
+    is-unique s r e c.args.number (unique_of u) naming _ at c.rule_label.ensures c.is_checked.ensures
     (subst (λ xs. IsNaming s e.name (map attribute_of xs) naming) c.deref.ensures.value
     (c.in_ok-naming.ensures e.name k known))
     (subst (λ xs. ArePlacesOf s (λ p. OneOf (λ a. NamesPlace s e.name a p) (map attribute_of xs)) places)

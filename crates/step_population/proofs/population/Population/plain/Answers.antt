@@ -1,4 +1,4 @@
-use Rattle.std.proofs.Common.{◌≡◌, ◌∙◌, ℕ, List, length, map, sym, ap, subst}
+use Rattle.std.proofs.Common.{◌∙◌, ℕ, List, length, sym, ap, subst}
 use Rattle.std.proofs.Math.Logic.{∥∥₁_elim}
 use Rattle.express_schemas.specs.Profile.{Every}
 use Rattle.express_schemas.specs.SchemaViews.{schema_of}

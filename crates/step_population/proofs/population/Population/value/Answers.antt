@@ -1,4 +1,4 @@
-use Rattle.std.proofs.Common.{◌≡◌, ◌∙◌, ℕ, Option, None, Some, sym, ap, slice_get, arith}
+use Rattle.std.proofs.Common.{◌≡◌, ◌∙◌, Option, None, Some, sym, ap, slice_get, arith}
 use Rattle.std.specs.Prelude.{option_copied}
 use Rattle.express_schemas.specs.SchemaViews.{schema_of}
 use Rattle.step_values.specs.Slots.{nth}

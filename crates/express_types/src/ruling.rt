@@ -1,0 +1,36 @@
+//! The rules of a schema that speak of a whole population (ISO 10303-11, 9.2.2.1 and 9.2.1.3).
+
+ghost use Rattle.std.specs.Prelude.{◌≡◌, IfOk, length};
+ghost use Rattle.digraph.specs.Graphs.{graph_of};
+ghost use Rattle.attribute_origins.specs.Lines.{HaveLines};
+ghost use Rattle.taken_attributes.specs.Taking.{IsKnown, schema_in};
+ghost use Rattle.express_types.specs.Judging.{AreRuleTables};
+
+use attribute_places::attributes::explicit_attributes;
+use rule_tables::sources::Sources;
+use rule_tables::tables::{RuleTables, rule_tables};
+use std::alloc::{AllocError, Global};
+use taken_attributes::known::Known;
+
+/// The uniqueness rules and the inverse attributes of a schema, by what is known of it.
+pub(crate) fn rules_by<'r, 't, 'a>(
+    alloc: Global,
+    known: Known<'r, 't, 'a>,
+    lines: &'r [Vec<u32>],
+) -> Result<RuleTables<'a>, AllocError>
+    requires known { IsKnown known }
+    requires lines { HaveLines (schema_in known) (graph_of lines.now) }
+    requires each { length lines.now ≡ length known.tables.names.now.schema.now.declarations.items }
+    ensures { IfOk result (AreRuleTables (schema_in known.entry)) }
+{
+    let explicit = explicit_attributes(alloc, known.tables.names.schema)?;
+    rule_tables(
+        alloc,
+        Sources {
+            known,
+            lines,
+            places: &explicit.places,
+            own: &explicit.own,
+        },
+    )
+}

@@ -1,0 +1,50 @@
+//! Printing numbers, and what rules are called.
+
+ghost use Rattle.std.specs.Prelude.{decimal};
+ghost use Rattle.devices.specs.Prints.{Prints};
+ghost use Rattle.express_trees.specs.Views.{capitals};
+ghost use Rattle.unchecked_parts.specs.Adding.{said};
+
+use devices::device::Sink;
+use devices::printer::Printer;
+use step_literals::literal::Word;
+use unchecked_parts::list::Label;
+
+/// A number.
+pub fn print_number<S: Sink>(printer: &mut Printer, out: &mut S, number: u64)
+    ensures { Prints S.held S.has_failed out.old out.new printer.old printer.new (decimal number) }
+{
+    let mut digits = itoa::Buffer::new();
+    printer.print(out, digits.format(number).as_bytes());
+}
+
+// A name in capitals, byte by byte.
+fn print_capitals<S: Sink>(printer: &mut Printer, out: &mut S, name: Word<'_>)
+    ensures { Prints S.held S.has_failed out.old out.new printer.old printer.new
+        (capitals name.entry) }
+{
+    for byte in name.spelling() {
+        printer.print_byte(out, byte.to_ascii_uppercase());
+    }
+}
+
+/// What a rule is called, in capitals.
+pub fn print_label<S: Sink>(printer: &mut Printer, out: &mut S, label: Label<'_>)
+    ensures { Prints S.held S.has_failed out.old out.new printer.old printer.new
+        (said label.entry) }
+{
+    match label {
+        Label::Of(name) => print_capitals(printer, out, name),
+        Label::Dotted(holder, name) => {
+            print_capitals(printer, out, holder);
+            printer.print_byte(out, b'.');
+            print_capitals(printer, out, name);
+        }
+        Label::Numbered(holder, number) => {
+            print_capitals(printer, out, holder);
+            printer.print(out, b".?");
+            print_number(printer, out, number);
+        }
+        Label::Constants => printer.print(out, b"CONSTANT"),
+    }
+}

@@ -1,0 +1,17 @@
+use Rattle.std.proofs.Common.{rules}
+use Rattle.express_schemas.specs.SchemaViews.{schema_of}
+use Rattle.step_extent.proofs.Named.{number-within, word-is-there, word-says}
+use Rattle.step_extent.proofs.extents.Extents.holder.Goals as goal
+
+pub name-requires : goal.name-requires
+name-requires c = number-within c.args.self.now.population.now.types.now.names.schema.now _ c.args.entity c.requires
+
+pub unwrap-requires : goal.unwrap-requires
+unwrap-requires c =
+    word-is-there (schema_of c.args.self.now.population.now.types.now.names.schema.now) _ c.args.entity c.requires
+    c.name.result c.name.ensures
+
+pub returns : goal.returns
+returns c =
+    word-says (schema_of c.args.self.now.population.now.types.now.names.schema.now) _ c.args.entity c.requires
+    c.name.result c.name.ensures c.unwrap.result (search rules)

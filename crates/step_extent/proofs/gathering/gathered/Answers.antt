@@ -1,0 +1,35 @@
+use Rattle.std.proofs.Common.{◌≡◌, ◌∙◌, ◌∷◌, [], ◌++◌, map, flat_map, take, ap, sym}
+use Rattle.std.specs.List.{repeat}
+use Rattle.express_schemas.specs.SchemaViews.{schema_of}
+use Rattle.population_rules.specs.Referring.{holds, times_at, held}
+use Rattle.rule_tables.specs.Seen.{gathering_seen, inverse_seen}
+use Rattle.step_population.specs.Ordering.{picked_at}
+use Rattle.step_population.specs.Seen.{instance_seen, population_seen}
+use Rattle.step_population.specs.Whole.{form_among}
+use Rattle.step_population.proofs.Found.{kept}
+use Rattle.step_extent.specs.Gathering.{position_at, position_by}
+use Rattle.step_extent.proofs.Held.{position_in, position-is, numbers-of, held-in, flat-next}
+use Rattle.step_extent.proofs.gathering.gathered.Goals as goal
+
+pub loop-row-preserved : goal.loop-row-preserved
+loop-row-preserved c y =
+    let p = c.args.population.now in
+    let s = schema_of p.types.now.names.schema.now in
+    let i = c.args.inverse.now in
+    let forms = p.rows.forms.items in
+    let x = c.instance-instance.result in
+    let o = form_among forms x.form in
+    let at : c.position_at-position.result ≡ position_in i o =
+    c.position_at-position.ensures
+    ∙ ap (λ ps. position_at ps x.form)
+    (c.deref.ensures.value ∙ c.in_ok-positions.ensures ∙ ap (map (position_by i)) c.forms.ensures.forms)
+    ∙ position-is i forms x.form in
+    let one = held-in s i c.requires.numbered (kept p).one y x.name c.instance-instance.ensures.section x.values o
+    c.instance-instance.ensures.placed (numbers-of s forms x.form (kept p).numbered) in
+    c.in_ok-add_value_at.ensures y
+    ∙ ap (λ l. l ++ repeat (holds (gathering_seen i.gathering) (times_at y (picked_at x.values c.position_at-position.result)))
+    (x.name ∷ [])) (c.loop-row.invariant y)
+    ∙ ap (λ l. flat_map (held (inverse_seen s i) y) (take c.loop-row.row (population_seen p)) ++ l)
+    (ap (λ q. repeat (holds (gathering_seen i.gathering) (times_at y (picked_at x.values q))) (x.name ∷ [])) at ∙ sym one)
+    ∙ sym (flat-next (held (inverse_seen s i) y) (population_seen p) c.loop-row.row
+    (instance_seen s x.name c.instance-instance.ensures.section o x.values) c.instance-instance.ensures.seen)

@@ -1,0 +1,10 @@
+use Rattle.std.proofs.Common.{take}
+use Rattle.express_schemas.specs.SchemaViews.{schema_of}
+use Rattle.step_population.specs.Seen.{population_seen}
+use Rattle.step_extent.specs.Gathering.{AreHeld}
+use Rattle.step_extent.proofs.gathering.gathered.Given as goal
+
+abbrev pub invariant-loop-row : goal.invariant-loop-row
+invariant-loop-row l =
+    AreHeld (schema_of l.population.types.now.names.schema.now) l.inverse (take l.row (population_seen l.population))
+    l.references.items

@@ -1,0 +1,5 @@
+pub mod Targets
+pub mod Gathering
+pub mod Extents
+pub mod Findings
+pub mod Inverses

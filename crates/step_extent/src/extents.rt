@@ -1,0 +1,109 @@
+//! The values of inverse attributes in a population (ISO 10303-11, 9.2.1.3).
+
+ghost use Rattle.std.specs.Prelude.{◌≡◌, IfOk, slice_get};
+ghost use Rattle.express_trees.specs.Views.{capitals};
+ghost use Rattle.express_schemas.specs.Profile.{Every};
+ghost use Rattle.express_schemas.specs.SchemaViews.{schema_of};
+ghost use Rattle.schema_names.specs.Numbers.{HasNumber};
+ghost use Rattle.base_types.specs.Seen.{name_at};
+ghost use Rattle.rule_tables.specs.Seen.{IsNumberedInverse, AreNumbered};
+ghost use Rattle.step_population.specs.Seen.{population_seen};
+ghost use Rattle.step_extent.specs.Extents.{AllHeld, inverse_value_by};
+
+use crate::gathering::gathered;
+use referrers::referrers::Referrers;
+use rule_tables::inverses::InverseAttribute;
+use rule_tables::tables::RuleTables;
+use std::alloc::{AllocError, Global};
+use step_literals::literal::Word;
+use step_population::population::Population;
+
+/// A population by the rules of its schema that speak of all of it: who refers to whom, by each
+/// attribute that an inverse attribute inverts.
+#[derive(Drop)]
+pub struct Extents<'e, 'r, 't, 's, 'a> {
+    pub population: &'e Population<'r, 't, 's, 'a>,
+    pub rules: &'e RuleTables<'s>,
+    /// For each inverse attribute, those that refer.
+    pub(crate) referrers: Vec<Referrers>,
+    pub ghost numbered: { ∥ AreNumbered (schema_of population.now.types.now.names.schema.now)
+        rules.now ∥₁ },
+    pub ghost held: { ∥ AllHeld (schema_of population.now.types.now.names.schema.now)
+        (population_seen population.now) rules.now.inverses.items referrers.items ∥₁ },
+}
+
+/// Of each inverse attribute, those that refer.
+fn all_referrers(
+    alloc: Global,
+    population: &Population<'_, '_, '_, '_>,
+    inverses: &[InverseAttribute<'_>],
+) -> Result<Vec<Referrers>, AllocError>
+    requires numbered { Every (IsNumberedInverse
+        (schema_of population.now.types.now.names.schema.now)) inverses.now }
+    ensures { IfOk result (λ t. AllHeld (schema_of population.now.types.now.names.schema.now)
+        (population_seen population.now) inverses.now t.items) }
+{
+    let mut all = Vec::with_capacity(alloc, inverses.len())?;
+    for inverse in inverses {
+        let references = gathered(alloc, population, inverse)?;
+        all.push(Referrers::of(alloc, references)?)?;
+    }
+    Ok(all)
+}
+
+impl<'e, 'r, 't, 's, 'a> Extents<'e, 'r, 't, 's, 'a> {
+    /// A population by these rules, which are those of its schema.
+    ///
+    /// It goes over the instances once for each inverse attribute, and over the values that are
+    /// inverted; it takes time by their references and the logarithm of their number. `AllocError`
+    /// comes where memory runs out.
+    pub fn build(
+        alloc: Global,
+        population: &'e Population<'r, 't, 's, 'a>,
+        rules: &'e RuleTables<'s>,
+    ) -> Result<Extents<'e, 'r, 't, 's, 'a>, AllocError>
+        requires numbered { AreNumbered (schema_of population.now.types.now.names.schema.now)
+            rules.now }
+        ensures population { IfOk result (λ x. x.population.now ≡ population.entry.now) }
+        ensures rules { IfOk result (λ x. x.rules.now ≡ rules.entry.now) }
+    {
+        let referrers = all_referrers(alloc, population, &rules.inverses)?;
+        Ok(Extents {
+            population,
+            rules,
+            referrers,
+        })
+    }
+
+    /// The name of the entity of a number.
+    pub(crate) fn holder(&self, entity: u32) -> Word<'s>
+        requires { HasNumber (schema_of self.now.population.now.types.now.names.schema.now)
+            (name_at (schema_of self.now.population.now.types.now.names.schema.now) entity) entity }
+        ensures { capitals result
+            ≡ name_at (schema_of self.now.population.now.types.now.names.schema.now) entity }
+    {
+        self.population.types.names.name(entity).unwrap()
+    }
+
+    /// The value that the instance of a name has of the inverse attribute of this number: the names
+    /// of those that refer to it, in the order of the file (ISO 10303-11, 9.2.1.3). It is empty
+    /// where there is no such instance or attribute, or no type of the instance declares it. It
+    /// takes no memory.
+    pub fn inverse_of(&self, name: u64, attribute: usize) -> &[u64]
+        ensures { result.now
+            ≡ inverse_value_by (schema_of self.now.population.now.types.now.names.schema.now)
+            (slice_get self.now.rules.now.inverses.items attribute)
+            (population_seen self.now.population.now) name }
+    {
+        let Some(inverse) = self.rules.inverses.get(attribute) else {
+            return &[];
+        };
+        if !self.population.types_of(name).contains(&inverse.entity) {
+            return &[];
+        }
+        match self.referrers.get(attribute) {
+            Some(referrers) => referrers.find(name),
+            None => &[],
+        }
+    }
+}

@@ -1,0 +1,130 @@
+//! The references by which instances refer to others, gathered for an inverse attribute
+//! (ISO 10303-11, 9.2.1.3).
+
+ghost use Rattle.std.specs.Prelude.{◌≡◌, ℕ, ◌∷◌, [], ◌++◌, min, IfOk, OnOk};
+ghost use Rattle.std.specs.List.{repeat};
+ghost use Rattle.express_schemas.specs.SchemaViews.{schema_of};
+ghost use Rattle.population_rules.specs.Referring.{holds, times, times_at};
+ghost use Rattle.referrers.specs.Referring.{referrers_of};
+ghost use Rattle.rule_tables.specs.Seen.{gathering_seen, IsNumberedInverse};
+ghost use Rattle.step_population.specs.Ordering.{picked_at};
+ghost use Rattle.step_population.specs.Seen.{population_seen};
+ghost use Rattle.step_extent.specs.Gathering.{AreHeld};
+ghost use Rattle.step_extent.specs.Targets.{often, references_to};
+
+use crate::positions::{position_at, positions};
+use crate::targets::add_targets;
+use referrers::referrers::Reference;
+use rule_tables::gathering::Gathering;
+use rule_tables::inverses::InverseAttribute;
+use std::alloc::{AllocError, Global};
+use step_population::population::Population;
+use step_values::slot::{Slot, Slots};
+
+/// Leaves each name once.
+fn keep_each_once(names: &mut Vec<u64>)
+    ensures { (y : ℕ) → often y names.new.items ≡ min (often y names.old.items) 1 }
+{
+    names.sort_unstable();
+    names.dedup();
+}
+
+/// Leaves each name as often as one that refers to it so often is held.
+fn hold(names: &mut Vec<u64>, gathering: Gathering)
+    ensures { (y : ℕ) → often y names.new.items
+        ≡ holds (gathering_seen gathering) (often y names.old.items) }
+{
+    match gathering {
+        Gathering::Bag { .. } => {}
+        Gathering::Alone | Gathering::Set { .. } => keep_each_once(names),
+    }
+}
+
+/// Adds a reference by an instance to each of these.
+fn add_references(
+    references: &mut Vec<Reference>,
+    targets: &[u64],
+    referrer: u64,
+) -> Result<(), AllocError>
+    ensures { OnOk result (references.new.items
+        ≡ references.old.items ++ references_to targets.now referrer) }
+{
+    for target in targets {
+        references.push(Reference {
+            target: *target,
+            referrer,
+        })?;
+    }
+    Ok(())
+}
+
+/// Adds the references of a value of an instance, to each target as often as the instance is held.
+/// The room for names is used again.
+fn add_value(
+    references: &mut Vec<Reference>,
+    names: &mut Vec<u64>,
+    gathering: Gathering,
+    value: &Slot<'_, '_>,
+    referrer: u64,
+) -> Result<(), AllocError>
+    ensures { OnOk result ((y : ℕ) → referrers_of y references.new.items
+        ≡ referrers_of y references.old.items
+        ++ repeat (holds (gathering_seen gathering) (times y value.now)) (referrer ∷ [])) }
+{
+    names.clear();
+    add_targets(names, value)?;
+    hold(names, gathering);
+    add_references(references, names, referrer)
+}
+
+/// .. of the value that stands at a position, where there is one.
+fn add_value_at(
+    references: &mut Vec<Reference>,
+    names: &mut Vec<u64>,
+    gathering: Gathering,
+    values: &Slots<'_, '_>,
+    position: Option<usize>,
+    referrer: u64,
+) -> Result<(), AllocError>
+    ensures { OnOk result ((y : ℕ) → referrers_of y references.new.items
+        ≡ referrers_of y references.old.items
+        ++ repeat (holds (gathering_seen gathering) (times_at y (picked_at values.now position)))
+        (referrer ∷ [])) }
+{
+    let Some(position) = position else {
+        return Ok(());
+    };
+    match values.item(position) {
+        Some(value) => add_value(references, names, gathering, &value, referrer),
+        None => Ok(()),
+    }
+}
+
+/// The references that an inverse attribute inverts, of all instances in the order of the file.
+pub(crate) fn gathered(
+    alloc: Global,
+    population: &Population<'_, '_, '_, '_>,
+    inverse: &InverseAttribute<'_>,
+) -> Result<Vec<Reference>, AllocError>
+    requires numbered { IsNumberedInverse (schema_of population.now.types.now.names.schema.now)
+        inverse.now }
+    ensures { IfOk result (λ t. AreHeld (schema_of population.now.types.now.names.schema.now)
+        inverse.now (population_seen population.now) t.items) }
+{
+    let positions = positions(alloc, inverse, population.forms())?;
+    let mut references = Vec::new(alloc);
+    let mut names = Vec::new(alloc);
+    for row in 0..population.len() {
+        let instance = population.instance(row);
+        let position = position_at(&positions, instance.form);
+        add_value_at(
+            &mut references,
+            &mut names,
+            inverse.gathering,
+            &instance.values,
+            position,
+            instance.name,
+        )?;
+    }
+    Ok(references)
+}

@@ -1,0 +1,46 @@
+//! Where an attribute stands among the values of instances.
+
+ghost use Rattle.std.specs.Prelude.{◌≡◌, IfOk, map};
+ghost use Rattle.step_extent.specs.Gathering.{position_at, position_by};
+
+use instance_forms::form::Form;
+use rule_tables::inverses::InverseAttribute;
+use std::alloc::{AllocError, Global};
+use step_population::reading::position_of;
+
+/// Where instances of this form have the attribute that is inverted; nowhere where they are none of
+/// the entity that refers.
+fn position_by(inverse: &InverseAttribute<'_>, form: &Form) -> Option<usize>
+    ensures { result ≡ position_by inverse.now form.now }
+{
+    if form.types.contains(&inverse.referrer) {
+        position_of(&form.slots, inverse.inverted)
+    } else {
+        None
+    }
+}
+
+/// By form, where its instances have the attribute that is inverted.
+pub(crate) fn positions(
+    alloc: Global,
+    inverse: &InverseAttribute<'_>,
+    forms: &[Form],
+) -> Result<Vec<Option<usize>>, AllocError>
+    ensures { IfOk result (λ t. t.items ≡ map (position_by inverse.now) forms.now) }
+{
+    let mut positions = Vec::with_capacity(alloc, forms.len())?;
+    for form in forms {
+        positions.push(position_by(inverse, form))?;
+    }
+    Ok(positions)
+}
+
+/// .. in the form of a number; nowhere where there is none.
+pub(crate) fn position_at(positions: &[Option<usize>], form: Option<u32>) -> Option<usize>
+    ensures { result ≡ position_at positions.now form }
+{
+    match form {
+        Some(number) => positions.get(number as usize).copied().flatten(),
+        None => None,
+    }
+}

@@ -1,0 +1,102 @@
+//! Instances that break uniqueness rules (ISO 10303-11, 9.2.2.1).
+
+ghost use Rattle.std.specs.Prelude.{◌≡◌, map, IfOk, OnOk};
+ghost use Rattle.express_schemas.specs.SchemaViews.{schema_of};
+ghost use Rattle.population_rules.specs.Findings.{unique_findings, breaches_of_unique};
+ghost use Rattle.type_graphs.specs.Names.{Name};
+ghost use Rattle.type_graphs.specs.Parts.{dotted};
+ghost use Rattle.unchecked_parts.specs.Adding.{said};
+ghost use Rattle.rule_findings.specs.Findings.{AreFindingsOf};
+ghost use Rattle.rule_findings.specs.declared.finding.RuleFindingKind.TheVariants.{UniqueBroken};
+ghost use Rattle.rule_tables.specs.Seen.{rules_seen, unique_seen, IsNumberedUnique, AreNumbered};
+ghost use Rattle.step_population.specs.Seen.{population_seen};
+ghost use Rattle.step_extent.specs.Findings.{Adds};
+
+use crate::extents::Extents;
+use rule_findings::finding::{RuleFinding, RuleFindingKind};
+use rule_tables::label::RuleLabel;
+use rule_tables::uniques::UniqueRule;
+use std::alloc::{AllocError, Global};
+use unchecked_parts::list::Label;
+use unique_keys::repeats::repeats;
+
+/// Adds what is found where instances of these names break a uniqueness rule.
+fn add_findings<'s>(
+    findings: &mut Vec<RuleFinding<'s>>,
+    rule: Label<'s>,
+    names: &[u64],
+) -> Result<(), AllocError>
+    ensures { (holder label : Name) → said rule.entry ≡ dotted holder label
+        → OnOk result (Adds UniqueBroken
+        (map (λ y. record { instance = y; holder = holder; label = label }) names.now)
+        findings.old.items findings.new.items) }
+{
+    for name in names {
+        findings.push(RuleFinding {
+            kind: RuleFindingKind::UniqueBroken,
+            instance: *name,
+            rule,
+        })?;
+    }
+    Ok(())
+}
+
+impl<'e, 'r, 't, 's, 'a> Extents<'e, 'r, 't, 's, 'a> {
+    /// What a uniqueness rule is called.
+    fn label(&self, rule: &UniqueRule<'s>) -> Label<'s>
+        requires numbered { IsNumberedUnique
+            (schema_of self.now.population.now.types.now.names.schema.now) rule.now }
+        ensures { said result ≡ dotted (unique_seen
+            (schema_of self.now.population.now.types.now.names.schema.now) rule.now).entity
+            (unique_seen (schema_of self.now.population.now.types.now.names.schema.now)
+            rule.now).label }
+    {
+        let holder = self.holder(rule.entity);
+        match rule.label {
+            RuleLabel::Written(label) => Label::Dotted(holder, label),
+            RuleLabel::Numbered(number) => Label::Numbered(holder, number),
+        }
+    }
+
+    /// Adds what is found where instances break a uniqueness rule; one that is set aside isn't
+    /// looked at.
+    fn add_rule(
+        &self,
+        alloc: Global,
+        findings: &mut Vec<RuleFinding<'s>>,
+        rule: &UniqueRule<'s>,
+    ) -> Result<(), AllocError>
+        requires numbered { IsNumberedUnique
+            (schema_of self.now.population.now.types.now.names.schema.now) rule.now }
+        ensures { OnOk result (Adds UniqueBroken
+            (breaches_of_unique (population_seen self.now.population.now)
+            (unique_seen (schema_of self.now.population.now.types.now.names.schema.now) rule.now))
+            findings.old.items findings.new.items) }
+    {
+        if !rule.is_checked {
+            return Ok(());
+        }
+        let names = repeats(alloc, self.population, rule)?;
+        add_findings(findings, self.label(rule), &names)
+    }
+
+    /// The instances that have the key of an earlier one, by rule in the order of the text, then by
+    /// instance in the order of the file (ISO 10303-11, 9.2.2.1).
+    ///
+    /// For each rule it takes time by the values that the rule names and the logarithm of their
+    /// number. `AllocError` comes where memory runs out.
+    pub fn check_unique(&self, alloc: Global) -> Result<Vec<RuleFinding<'s>>, AllocError>
+        requires numbered { AreNumbered
+            (schema_of self.now.population.now.types.now.names.schema.now) self.now.rules.now }
+        ensures { IfOk result (λ t. AreFindingsOf UniqueBroken
+            (unique_findings (rules_seen
+            (schema_of self.now.population.now.types.now.names.schema.now) self.now.rules.now)
+            (population_seen self.now.population.now)) t.items) }
+    {
+        let mut findings = Vec::new(alloc);
+        for rule in &self.rules.uniques {
+            self.add_rule(alloc, &mut findings, rule)?;
+        }
+        Ok(findings)
+    }
+}

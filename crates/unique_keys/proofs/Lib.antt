@@ -1,0 +1,12 @@
+mod Neighbours
+mod Rows
+mod Marking
+mod Ordered
+mod Agreeing
+mod Keeping
+mod Telling
+mod Behind
+mod Collected
+mod Positioned
+mod Placed
+mod ByRow

@@ -1,0 +1,4 @@
+pub mod Marked
+pub mod Parts
+pub mod Positions
+pub mod Keys
