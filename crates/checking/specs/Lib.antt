@@ -1,3 +1,4 @@
 pub mod Faults
 pub mod Reporting
 pub mod Checks
+pub mod Sparing

@@ -1,6 +1,6 @@
 //! The findings of a file by what its schema says.
 
-ghost use Rattle.std.specs.Prelude.{IfOk};
+ghost use Rattle.std.specs.Prelude.{◌≡◌, true, IfOk};
 ghost use Rattle.express_schemas.specs.SchemaViews.{schema_of};
 ghost use Rattle.express_types.specs.Judging.{AreRuleTables};
 ghost use Rattle.resolved_types.specs.Made.{IsMade};
@@ -8,11 +8,17 @@ ghost use Rattle.rule_tables.specs.Seen.{rules_seen, AreNumbered};
 ghost use Rattle.step_exchange.specs.Exchanges.{structure};
 ghost use Rattle.step_population.specs.Seen.{population_seen};
 ghost use Rattle.checking.specs.Reporting.{AreFindings, AreRuleFindings};
+ghost use Rattle.checking.specs.Sparing.{AreInstanceFindings, IsWithout};
 
 use conformance::finding::Finding;
 use express_types::graph::TypeGraph;
+use file_findings::findings::findings;
+use file_findings::rows::rows_of;
+use instance_forms::making::entities_are_said;
+use resolved_types::types::ResolvedTypes;
 use rule_findings::finding::RuleFinding;
 use rule_tables::tables::RuleTables;
+use schema_tables::tables::SchemaTables;
 use std::alloc::{AllocError, Global};
 use std::hash::RandomState;
 use step_exchange::structure::Exchange;
@@ -49,8 +55,55 @@ fn rule_findings<'s>(
     Ok(findings)
 }
 
-/// The findings of a file. Names are hashed by these keys.
-pub fn file_findings<'s>(
+/// The findings of a file's instances one by one, in order. Names are hashed by these keys.
+fn instance_findings(
+    alloc: Global,
+    keys: RandomState,
+    types: &ResolvedTypes<'_, '_>,
+    exchange: &Exchange<'_>,
+) -> Result<Vec<Finding>, AllocError>
+    requires made { IsMade types.now }
+    ensures { IfOk result (λ fs. AreInstanceFindings (schema_of types.now.names.schema.now)
+        (structure exchange.now) fs.items) }
+{
+    let tables = SchemaTables::of(alloc, types)?;
+    let known = tables.knowledge(types);
+    let bases = tables.bases(types);
+    entities_are_said(known);
+    let rows = rows_of(alloc, keys, known, exchange)?;
+    findings(alloc, known, bases, &rows, exchange)
+}
+
+/// Whether no rule of a schema speaks of a whole population.
+fn is_without(rules: &RuleTables<'_>) -> bool
+    ensures { result ≡ true → IsWithout rules.now }
+{
+    rules.uniques.is_empty() && rules.inverses.is_empty()
+}
+
+/// What is found of a file by a schema without rules that speak of a whole population. There is no
+/// need of the population then.
+fn found_without_rules<'s>(
+    alloc: Global,
+    keys: RandomState,
+    graph: &TypeGraph<'_, 's>,
+    exchange: &Exchange<'_>,
+) -> Result<Found<'s>, AllocError>
+    requires made { IsMade graph.now.types }
+    requires rules { AreRuleTables (schema_of graph.now.types.names.schema.now) graph.now.rules }
+    requires without { IsWithout graph.now.rules }
+    ensures { IfOk result (λ x. AreFindings (schema_of graph.now.types.names.schema.now)
+        (structure exchange.now) x.findings.items x.rule_findings.items) }
+{
+    let findings = instance_findings(alloc, keys, &graph.types, exchange)?;
+    Ok(Found {
+        findings,
+        rule_findings: Vec::new(alloc),
+    })
+}
+
+/// What is found of a file, by its population where nothing is found of its instances one by one.
+fn found_by_population<'s>(
     alloc: Global,
     keys: RandomState,
     graph: &TypeGraph<'_, 's>,
@@ -71,4 +124,22 @@ pub fn file_findings<'s>(
             rule_findings: Vec::new(alloc),
         }),
     }
+}
+
+/// The findings of a file. Names are hashed by these keys.
+pub fn file_findings<'s>(
+    alloc: Global,
+    keys: RandomState,
+    graph: &TypeGraph<'_, 's>,
+    exchange: &Exchange<'_>,
+) -> Result<Found<'s>, AllocError>
+    requires made { IsMade graph.now.types }
+    requires rules { AreRuleTables (schema_of graph.now.types.names.schema.now) graph.now.rules }
+    ensures { IfOk result (λ x. AreFindings (schema_of graph.now.types.names.schema.now)
+        (structure exchange.now) x.findings.items x.rule_findings.items) }
+{
+    if is_without(&graph.rules) {
+        return found_without_rules(alloc, keys, graph, exchange);
+    }
+    found_by_population(alloc, keys, graph, exchange)
 }

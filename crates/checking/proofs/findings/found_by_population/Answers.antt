@@ -7,7 +7,7 @@ use Rattle.step_population.specs.Seen.{population_seen}
 use Rattle.step_population.specs.Verdicts.{IsVerdict}
 use Rattle.checking.specs.Reporting.{AreRuleFindings, AreBehind}
 use Rattle.checking.proofs.Behind.{none-behind}
-use Rattle.checking.proofs.findings.file_findings.Goals as goal
+use Rattle.checking.proofs.findings.found_by_population.Goals as goal
 
 pub returns-in_ok-rule_findings-in-Typed : goal.returns-in_ok-rule_findings-in-Typed
 returns-in_ok-rule_findings-in-Typed c =
