@@ -5,12 +5,14 @@
 
 Makes files of that size (60 if none is given) in a temporary folder, that conform to a schema made for
 them, runs both commands on each, the best of five runs, and prints the time of `check` as a multiple
-of that of `plain`, and its memory beside the size of the file.
+of that of `plain`, and its memory beside the size of the file. Then the same with a schema that has a
+uniqueness rule and an inverse attribute more.
 
 The files: `points` has points, directions and placements, some 45 bytes an instance (1.35 million in
 60 MB); `parts` is shaped like real ones, with strings, selects, enumerations and external mapping, a
 sixth of the size; `numbers` and `references` are one SET of 10^5 numbers, and one of 10^5 references.
-`points` is made once more twice as large.
+`points` is made once more twice as large. With rules there are also `referrers`, 10^6 placements at one
+point, and `keys` and `words`, 10^5 instances with the same key, and with 10^5 keys.
 """
 import argparse
 import os
@@ -35,8 +37,15 @@ ENTITY marked SUBTYPE OF (shape); look : finish; END_ENTITY;
 ENTITY face SUBTYPE OF (item); bounds : SET [1:?] OF loop; position : placement; same : BOOLEAN; END_ENTITY;
 ENTITY numbers; all : SET [0:?] OF REAL; END_ENTITY;
 ENTITY points; all : SET [0:?] OF point; END_ENTITY;
+ENTITY key; word : STRING; END_ENTITY;
 END_SCHEMA;
 """
+# The bodies of entities, and what they are in the schema with rules.
+RULES = {
+    "coords : LIST [1:3] OF REAL;": "coords : LIST [1:3] OF REAL; INVERSE places : BAG OF placement FOR location;",
+    "corners : LIST [3:?] OF UNIQUE point;": "corners : LIST [3:?] OF UNIQUE point; UNIQUE corners;",
+    "word : STRING;": "word : STRING; UNIQUE word;",
+}
 HEADER = """ISO-10303-21;
 HEADER;
 FILE_DESCRIPTION(('bench'),'2;1');
@@ -73,7 +82,24 @@ def references(size):
     yield "#100001=POINTS((" + ",".join(f"#{k}" for k in range(100_000, 0, -1)) + "));\n"
 
 
+def referrers(size):
+    yield "#1=POINT('',(0.,0.));\n"
+    for k in range(2, 1_000_002):
+        yield f"#{k}=PLACEMENT('',#1,$);\n"
+
+
+def keys(size):
+    for k in range(1, 100_001):
+        yield f"#{k}=KEY('the same');\n"
+
+
+def different_words(size):
+    for k in range(1, 100_001):
+        yield f"#{k}=KEY('word {k * 7919 % 100_003}');\n"
+
+
 FILES = {"points": (instances(point), 1), "parts": (instances(part), 6), "numbers": (numbers, 1), "references": (references, 1)}
+RULED_FILES = {"referrers": (referrers, 1), "keys": (keys, 1), "words": (different_words, 1)}
 
 
 def write(path, make, size):
@@ -89,9 +115,18 @@ def measure(name, make, size, program, schema, folder):
     write(path, make, size)
     length = os.path.getsize(path)
     plain, _ = run([program, "plain", path])
-    seconds, memory = run([program, "check", schema, path])
+    seconds, memory = run([program, "check", schema, path], 1 if make is keys else 0)
     print(f"{name}, {length / 1e6:.1f} MB: {seconds:.2f} s, {seconds / plain:.2f} times plain ({plain:.2f} s), "
           f"{memory / length:.1f} times the file in memory", flush=True)
+    return seconds
+
+
+def measure_all(files, size, program, schema, folder):
+    """The seconds of each file, and of `points` twice as large."""
+    seconds = {name: measure(name, make, size // part_of, program, schema, folder)
+               for name, (make, part_of) in files.items()}
+    twice = measure("points", FILES["points"][0], 2 * size, program, schema, folder)
+    print(f"twice the file: {twice / seconds['points']:.2f} times as long")
     return seconds
 
 
@@ -102,15 +137,18 @@ def main():
     words = parser.parse_args()
     size = words.megabytes * 1_000_000
     with tempfile.TemporaryDirectory() as folder:
-        schema = os.path.join(folder, "bench.exp")
-        with open(schema, "w", encoding="ascii") as file:
-            file.write(SCHEMA)
-        once = None
-        for name, (make, part_of) in FILES.items():
-            seconds = measure(name, make, size // part_of, words.program, schema, folder)
-            once = seconds if once is None else once
-        twice = measure("points", FILES["points"][0], 2 * size, words.program, schema, folder)
-        print(f"twice the file: {twice / once:.2f} times as long")
+        schema, ruled = os.path.join(folder, "bench.exp"), os.path.join(folder, "ruled.exp")
+        text = SCHEMA
+        for plain, with_rule in RULES.items():
+            text = text.replace(plain, with_rule)
+        for path, content in ((schema, SCHEMA), (ruled, text)):
+            with open(path, "w", encoding="ascii") as file:
+                file.write(content)
+        without = measure_all(FILES, size, words.program, schema, folder)
+        print("with rules")
+        seconds = measure_all({**FILES, **RULED_FILES}, size, words.program, ruled, folder)
+        for name in without:
+            print(f"{name}: {seconds[name] / without[name]:.2f} times as long with rules")
     return 0
 
 

@@ -98,8 +98,8 @@ def write(path, make, size):
         file.write(FOOTER)
 
 
-def run(words):
-    """The seconds that the words take, and the most bytes of memory, at the best of five runs."""
+def run(words, wanted=0):
+    """The seconds that the words take, and the most bytes of memory, at the best of five runs. They end with this status."""
     best, most = None, 0
     for _ in range(5):
         with open(os.devnull, "wb") as sink:
@@ -108,7 +108,7 @@ def run(words):
             _, status, usage = os.wait4(process.pid, 0)
             seconds = time.perf_counter() - start
         process.returncode = os.waitstatus_to_exitcode(status)
-        if process.returncode != 0:
+        if process.returncode != wanted:
             sys.exit(f"{words[0]} ended with {process.returncode}")
         best = seconds if best is None else min(best, seconds)
         most = max(most, usage.ru_maxrss * 1024)

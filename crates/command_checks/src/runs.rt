@@ -83,25 +83,33 @@ impl Write for Paper {
     }
 }
 
-// A store of one file, `F`.
+// A store of two files, the schema `S` and the file `F`.
 #[derive(Drop)]
 struct Shelf<'b> {
     alloc: Global,
-    bytes: &'b [u8],
+    schema: &'b [u8],
+    file: &'b [u8],
     breaks: bool,
 }
 
 impl<'p, 'b> Store<'p> for Shelf<'b> {
-    ghost contents = { λ shelf path.
-        if bytes_eq path (codes "F") then Some shelf.bytes.now else None };
+    ghost contents = { λ shelf path. if bytes_eq path (codes "S") then Some shelf.schema.now
+        else (if bytes_eq path (codes "F") then Some shelf.file.now else None) };
 
     type Reader = Counted<Book<'b>>;
 
     type Writer = Counted<Paper>;
 
     fn reader(&mut self, path: &'p str) -> Counted<Book<'b>> {
+        let left = if path == "S" {
+            Some(self.schema)
+        } else if path == "F" {
+            Some(self.file)
+        } else {
+            None
+        };
         Counted::new(Book {
-            left: if path == "F" { Some(self.bytes) } else { None },
+            left,
             breaks: self.breaks,
         })
     }
@@ -119,6 +127,13 @@ struct Ending {
     status: u8,
     out: Vec<u8>,
     err: Vec<u8>,
+}
+
+impl Ending {
+    // Whether it has this status, with these bytes on the outputs.
+    fn comes_to(&self, status: u8, out: &[u8], err: &[u8]) -> bool {
+        self.status == status && self.out.as_slice() == out && self.err.as_slice() == err
+    }
 }
 
 // The words, owned.
@@ -162,7 +177,8 @@ fn run(
     let words = owned(alloc, words)?;
     let mut store = Shelf {
         alloc,
-        bytes: file.as_bytes(),
+        schema: b"",
+        file: file.as_bytes(),
         breaks,
     };
     Ok(run_in(alloc, keys, &words, &mut store, out_room, err_room))

@@ -76,7 +76,8 @@ fn fills(lower: i64, upper: i64, count: usize) -> bool
     count as i128 == i128::from(upper) - i128::from(lower) + 1
 }
 
-fn has_least(lower: Option<i64>, count: usize) -> bool
+/// Whether so many are at least as many as a lower bound says, where there is one.
+pub fn has_least(lower: Option<i64>, count: usize) -> bool
     ensures { result ≡ is_least lower count }
 {
     match lower {
@@ -85,7 +86,8 @@ fn has_least(lower: Option<i64>, count: usize) -> bool
     }
 }
 
-fn has_most(upper: Option<i64>, count: usize) -> bool
+/// Whether so many are at most as many as an upper bound says, where there is one.
+pub fn has_most(upper: Option<i64>, count: usize) -> bool
     ensures { result ≡ is_most upper count }
 {
     match upper {

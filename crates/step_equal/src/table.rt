@@ -54,7 +54,10 @@ fn last_class(members: &[(u64, u32)], name: u64) -> Option<u32>
 }
 
 /// The nearest class from this one up that had begun by the round.
-fn class_above(classes: &[Origin], round: u32, first: u32) -> Option<u32>
+///
+/// It is None where the chain of parents leaves the list of classes or doesn't fall before that
+/// class is found.
+pub fn class_above(classes: &[Origin], round: u32, first: u32) -> Option<u32>
     ensures { result ≡ ancestor (map origin_of classes.now) round (suc first) first }
 {
     let mut class = first;

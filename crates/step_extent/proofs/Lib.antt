@@ -5,3 +5,4 @@ pub mod Named
 pub mod Valued
 pub mod Adding
 pub mod Broken
+pub mod Placing

@@ -3,3 +3,4 @@ pub mod Gathering
 pub mod Extents
 pub mod Findings
 pub mod Inverses
+pub mod Places

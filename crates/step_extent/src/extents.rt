@@ -89,7 +89,7 @@ impl<'e, 'r, 't, 's, 'a> Extents<'e, 'r, 't, 's, 'a> {
     /// of those that refer to it, in the order of the file (ISO 10303-11, 9.2.1.3). It is empty
     /// where there is no such instance or attribute, or no type of the instance declares it. It
     /// takes no memory.
-    pub fn inverse_of(&self, name: u64, attribute: usize) -> &[u64]
+    pub fn inverse_by_number(&self, name: u64, attribute: usize) -> &[u64]
         ensures { result.now
             ≡ inverse_value_by (schema_of self.now.population.now.types.now.names.schema.now)
             (slice_get self.now.rules.now.inverses.items attribute)

@@ -1,20 +1,7 @@
 //! Instances that break the bounds of inverse attributes (ISO 10303-11, 9.2.1.3).
 
-ghost use Rattle.std.specs.Prelude.{
-  ◌≡◌,
-  ◌<◌,
-  not,
-  pos,
-  int_lt,
-  length,
-  map,
-  Some,
-  IfOk,
-  OnOk,
-  slice_get,
-};
+ghost use Rattle.std.specs.Prelude.{◌≡◌, ◌<◌, length, map, Some, IfOk, OnOk, slice_get};
 ghost use Rattle.digraph.specs.Graphs.{has};
-ghost use Rattle.conformance.specs.Fitting.{is_least, is_most};
 ghost use Rattle.express_schemas.specs.Profile.{Every};
 ghost use Rattle.express_schemas.specs.SchemaViews.{schema_of};
 ghost use Rattle.population_rules.specs.Findings.{may_hold, inverse_findings};
@@ -30,43 +17,12 @@ ghost use Rattle.step_extent.specs.Inverses.{breach, keeps, breaches_at, numbers
 
 use crate::extents::Extents;
 use instance_forms::form::Form;
+use parameter_fits::bounds::{has_least, has_most};
 use rule_findings::finding::{RuleFinding, RuleFindingKind};
 use rule_tables::gathering::Gathering;
 use rule_tables::inverses::InverseAttribute;
 use std::alloc::{AllocError, Global};
 use unchecked_parts::list::Label;
-
-fn is_least(lower: i64, count: usize) -> bool
-    ensures { result ≡ not (int_lt (pos count) lower) }
-{
-    i128::from(lower) <= count as i128
-}
-
-fn is_most(upper: i64, count: usize) -> bool
-    ensures { result ≡ not (int_lt upper (pos count)) }
-{
-    count as i128 <= i128::from(upper)
-}
-
-/// Whether so many are at least as many as a lower bound says, where there is one.
-fn has_least(lower: Option<i64>, count: usize) -> bool
-    ensures { result ≡ is_least lower count }
-{
-    match lower {
-        None => true,
-        Some(lower) => is_least(lower, count),
-    }
-}
-
-/// Whether so many are at most as many as an upper bound says, where there is one.
-fn has_most(upper: Option<i64>, count: usize) -> bool
-    ensures { result ≡ is_most upper count }
-{
-    match upper {
-        None => true,
-        Some(upper) => is_most(upper, count),
-    }
-}
 
 /// Whether an inverse attribute may hold so many.
 fn may_hold(gathering: Gathering, count: usize) -> bool
@@ -103,8 +59,8 @@ fn numbers_of(
     Ok(numbers)
 }
 
-/// .. by form.
-fn numbers_by_form(
+/// By form, the numbers of the inverse attributes that its instances have.
+pub fn numbers_by_form(
     alloc: Global,
     inverses: &[InverseAttribute<'_>],
     forms: &[Form],
@@ -119,8 +75,8 @@ fn numbers_by_form(
     Ok(rows)
 }
 
-/// .. of the form of a number; none where there is none.
-fn row_at(rows: &[Vec<usize>], form: Option<u32>) -> &[usize]
+/// Those of the form of a number; none where there is none.
+pub fn row_at(rows: &[Vec<usize>], form: Option<u32>) -> &[usize]
     ensures { result.now ≡ row_by (map (λ v. v.items) rows.now) form }
 {
     let Some(number) = form else {
@@ -159,7 +115,7 @@ impl<'e, 'r, 't, 's, 'a> Extents<'e, 'r, 't, 's, 'a> {
             → result ≡ keeps (schema_of self.now.population.now.types.now.names.schema.now)
             (population_seen self.now.population.now) name i }
     {
-        let count = self.inverse_of(name, attribute).len();
+        let count = self.inverse_by_number(name, attribute).len();
         may_hold(self.rules.inverses[attribute].gathering, count)
     }
 

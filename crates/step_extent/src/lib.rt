@@ -5,7 +5,8 @@
 
 pub mod extents;
 mod gathering;
-mod inverses;
+pub mod inverses;
+pub mod places;
 mod positions;
 mod targets;
 mod uniques;

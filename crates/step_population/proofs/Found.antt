@@ -28,12 +28,13 @@ use Rattle.schema_names.specs.Numbers.{HasNumber}
 use Rattle.parameter_fits.proofs.Pointwise.{places_stand}
 use Rattle.file_findings.specs.Judging.{form_at as form_in_rows}
 use Rattle.row_index.specs.Index.{found, place_of}
+use Rattle.base_types.specs.Making.{is_entity_at}
 use Rattle.base_types.specs.Seen.{name_at}
 use Rattle.instance_forms.specs.declared.form.SlotForm.{SlotForm}
 use Rattle.instance_forms.specs.declared.form.Form.{Form}
 use Rattle.conformance.specs.Populations.{Slot, Instance, instance_at, slot_at, value_in, value_of, types_in, types_at}
 use Rattle.step_population.specs.Seen.{or_nowhere, place_at, slots_seen, instance_seen, instances_seen, section_numbers, population_seen, nodes_seen}
-use Rattle.step_population.specs.Whole.{form_among, slot_count, ArePlaced, AreNumbered, HaveSlots}
+use Rattle.step_population.specs.Whole.{form_among, slot_count, ArePlaced, HaveEntities, AreNumbered, HaveSlots}
 use Rattle.step_population.specs.Ordering.{picked_at, position_among}
 use Rattle.step_population.specs.declared.population.Population.{Population}
 use Rattle.step_population.proofs.Turns.{got, form-of-row}
@@ -129,6 +130,10 @@ all-numbers ss n h = let all = numbers-length 0 0 ss n h in omega (arith, all)
 numbered-prop : (s : Schema) (x : Form) → IsProp (AreNumbered s x)
 numbered-prop s x = every-prop (λ i. HasNumber s (name_at s i) i) (λ i. option-set _ _) x.types.items
 
+entities-prop : (s : Schema) (o : Option Form) → IsProp (HaveEntities s o)
+entities-prop s None = λ a b. refl
+entities-prop s (Some x) = every-prop (λ i. is_entity_at s i ≡ true) (λ i. Bool-set _ _) x.types.items
+
 -- what a population keeps to
 pub record IsKept (p : Population) : Type 0 where
   pub index : (y : ℕ) → found p.rows.index y ≡ place_of p.exchange.now.names y
@@ -136,6 +141,8 @@ pub record IsKept (p : Population) : Type 0 where
   pub forms : length p.rows.form_of.items ≡ length p.exchange.now.names
   pub values : length p.values.rows ≡ length p.exchange.now.names
   pub placed : Every (λ o. ArePlaced (schema_of p.types.now.names.schema.now) (form_among p.rows.forms.items o))
+      p.rows.form_of.items
+  pub entities : Every (λ o. HaveEntities (schema_of p.types.now.names.schema.now) (form_among p.rows.forms.items o))
       p.rows.form_of.items
   pub one : AreOne (all_places (schema_of p.types.now.names.schema.now))
   pub numbered : Every (AreNumbered (schema_of p.types.now.names.schema.now)) p.rows.forms.items
@@ -150,6 +157,8 @@ kept p = record {
   values = ∥∥₁_elim p.whole (ℕ_set _ _) (λ w. w.values);
   placed = ∥∥₁_elim p.whole (every-prop _ (λ o. placed-prop (schema_of p.types.now.names.schema.now)
       (form_among p.rows.forms.items o)) p.rows.form_of.items) (λ w. w.placed);
+  entities = ∥∥₁_elim p.whole (every-prop _ (λ o. entities-prop (schema_of p.types.now.names.schema.now)
+      (form_among p.rows.forms.items o)) p.rows.form_of.items) (λ w. w.entities);
   one = λ a b q e f. ∥∥₁_elim p.types.now.resolved (ℕ_set _ _)
       (λ r. places-are-one (schema_of p.types.now.names.schema.now) r.once a b q e f);
   numbered = ∥∥₁_elim p.whole (every-prop _ (numbered-prop (schema_of p.types.now.names.schema.now)) p.rows.forms.items)

@@ -31,10 +31,11 @@ use Rattle.parameter_fits.proofs.Pointwise.{places_stand}
 use Rattle.file_findings.specs.Rows.{rows_in, AreRowsOf, HaveForms, AreNumbered as AreRowsNumbered}
 use Rattle.file_findings.specs.declared.rows.Rows.{Rows}
 use Rattle.file_findings.proofs.Placing.{names-are, rows-are}
-use Rattle.step_population.specs.Whole.{form_among, slot_count, ArePlaced, AreNumbered, HaveSlots, IsWhole}
+use Rattle.step_population.specs.Whole.{form_among, slot_count, ArePlaced, HaveEntities, AreNumbered, HaveSlots, IsWhole}
 use Rattle.step_population.specs.Seen.{instances_seen, section_numbers}
 use Rattle.step_population.specs.Making.{AreRowsReady, values_by, row_by, rows_by}
 use Rattle.step_population.proofs.Clean.{HasClean, AreClean, absent-or-found, last-none, rows-clean, rows-ready}
+use Rattle.step_population.proofs.Entities.{form-entities}
 use Rattle.step_population.proofs.Populating.{population-is}
 
 placed-at : {A : Type 0} (xs : List A) (i : ℕ) (x : A) → slice_get xs i ≡ Some x → i < length xs
@@ -110,6 +111,19 @@ module _ (s : Schema) (d : Domain) (en : Entities) where
     all-placed (r ∷ rs) [] h = tt
     all-placed (r ∷ rs) (o ∷ os) h = (row-placed r o h.0, all-placed rs os h.1)
 
+    row-entities : IsResolved s → (r : Row) (o : Option ℕ)
+        → HasClean s d en targets (found t.index) leads t.forms.items r o → HaveEntities s (form_among t.forms.items o)
+    row-entities resolved r o (f, at, is, types, fits) =
+        subst (HaveEntities s) (sym at) (form-entities s resolved en r.form f is)
+
+    all-entities : IsResolved s → (rs : List Row) (os : List (Option ℕ))
+        → AreClean s d en targets (found t.index) leads t.forms.items rs os
+        → Every (λ o. HaveEntities s (form_among t.forms.items o)) os
+    all-entities resolved [] [] h = tt
+    all-entities resolved [] (o ∷ os) h = absurd h
+    all-entities resolved (r ∷ rs) [] h = tt
+    all-entities resolved (r ∷ rs) (o ∷ os) h = (row-entities resolved r o h.0, all-entities resolved rs os h.1)
+
     pub index-names : (y : ℕ) → found t.index y ≡ place_of x.names y
     index-names y = rows.index y ∙ ap (λ ns. place_of ns y) (names-are x)
 
@@ -143,8 +157,8 @@ module _ (s : Schema) (d : Domain) (en : Entities) where
 
       module _ (now : Kept) (made : now.rows ≡ rows_by s d t.forms.items (rows_in x) t.form_of.items)
           (led : LeadTo x.names now.targets) (refers : ReferTo x.names now.rows) where
-        pub all-whole : IsWhole s x.names t now
-        all-whole = record {
+        pub all-whole : IsResolved s → IsWhole s x.names t now
+        all-whole resolved = record {
           index = index-names;
           forms = as-many-forms;
           values = ap length made
@@ -152,6 +166,7 @@ module _ (s : Schema) (d : Domain) (en : Entities) where
               (have-length s en t (rows_in x) t.form_of.items rows.forms)
               ∙ sym (names-length (rows_in x)) ∙ ap length (names-are x);
           placed = all-placed (rows_in x) t.form_of.items clean;
+          entities = all-entities resolved (rows_in x) t.form_of.items clean;
           numbered = forms-numbered s t.forms.items (subst (AreRowsNumbered s) (sym rows.types) rows.numbered);
           slots = subst (HaveSlots t.forms.items t.form_of.items) (sym made)
               (rows-few s d t.forms.items (rows_in x) t.form_of.items);

@@ -11,3 +11,4 @@ pub mod Orders
 pub mod Headed
 pub mod Copied
 pub mod RowsMade
+pub mod Entities

@@ -8,7 +8,7 @@ use Rattle.row_index.specs.Index.{found}
 use Rattle.file_findings.specs.Judging.{form_at as form_in_rows}
 use Rattle.instance_forms.specs.declared.form.Form.{Form}
 use Rattle.step_population.specs.Seen.{instance_seen, instances_seen, section_numbers, population_seen}
-use Rattle.step_population.specs.Whole.{form_among, ArePlaced, AreNumbered}
+use Rattle.step_population.specs.Whole.{form_among, ArePlaced, HaveEntities, AreNumbered}
 use Rattle.step_population.specs.declared.population.Population.{Population}
 use Rattle.step_population.proofs.Turns.{got, form-of-row}
 use Rattle.step_population.proofs.Found.{kept, every-at, population-length, schema_seen, instance-there}
@@ -36,6 +36,10 @@ module _ (p : Population) (i : ℕ) where
   pub placed-row : (f : Option ℕ) → slice_get p.rows.form_of.items i ≡ Some f
       → ArePlaced (schema_seen p) (form_among p.rows.forms.items f)
   placed-row f at = every-at _ p.rows.form_of.items i f (kept p).placed at
+
+  pub entities-row : (f : Option ℕ) → slice_get p.rows.form_of.items i ≡ Some f
+      → HaveEntities (schema_seen p) (form_among p.rows.forms.items f)
+  entities-row f at = every-at _ p.rows.form_of.items i f (kept p).entities at
 
   pub instance-row : (lt : i < length (population_seen p)) (n : ℕ) (f : Option ℕ) (vs : Values)
       → slice_get p.exchange.now.names i ≡ Some n → slice_get p.rows.form_of.items i ≡ Some f

@@ -88,6 +88,7 @@ module _ (n : Names) (k : Knowledge) (b : Bases) (x : Exchange) (t : Rows) (same
         pub whole-is : IsWhole (schema_by n) x.names t now
         whole-is =
             all-whole (schema_by n) d-is.0 en-is.0 x t are-rows (sym told-so ∙ none) now made-so leads refers
+            resolved-is
 
         pub population-so : instances_seen (schema_by n) t.forms.items x.names (section_numbers 0 0 x.sections.items)
             t.form_of.items now.rows ≡ population_of (schema_by n) d-is.0 en-is.0 (structure x)

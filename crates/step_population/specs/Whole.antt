@@ -1,10 +1,11 @@
 -- Tables that belong together.
-use Rattle.std.specs.Prelude.{◌≡◌, ⊤, ℕ, ◌<◌, ◌≤◌, List, ◌∷◌, Option, None, Some, length, slice_get}
+use Rattle.std.specs.Prelude.{◌≡◌, ⊤, ℕ, ◌<◌, ◌≤◌, true, List, ◌∷◌, Option, None, Some, length, slice_get}
 use Rattle.express_schemas.specs.Schemas.{Schema}
 use Rattle.express_schemas.specs.Profile.{Every}
 use Rattle.schema_names.specs.Numbers.{HasNumber}
 use Rattle.attribute_places.specs.Places.{all_places}
 use Rattle.row_index.specs.Index.{found, place_of}
+use Rattle.base_types.specs.Making.{is_entity_at}
 use Rattle.base_types.specs.Seen.{name_at}
 use Rattle.step_values.specs.Building.{Kept}
 use Rattle.step_values.specs.ComputedAgreement.{size}
@@ -28,6 +29,11 @@ ArePlaced s (Some x) = Every (λ (y : SlotForm). y.place < length (all_places s)
 abbrev pub AreNumbered : Schema → Form → Type 0
 AreNumbered s x = Every (λ i. HasNumber s (name_at s i) i) x.types.items
 
+-- the types of a form are entities
+abbrev pub HaveEntities : Schema → Option Form → Type 0
+HaveEntities s None = ⊤
+HaveEntities s (Some x) = Every (λ i. is_entity_at s i ≡ true) x.types.items
+
 -- how many attributes an instance of a form has
 abbrev pub slot_count : Option Form → ℕ
 slot_count None = 0
@@ -38,13 +44,14 @@ abbrev pub HaveSlots : List Form → List (Option ℕ) → List Values → Type 
 HaveSlots forms (o ∷ os) (vs ∷ rows) = (size vs ≤ slot_count (form_among forms o)) × HaveSlots forms os rows
 HaveSlots forms os rows = ⊤
 
--- A name is found at its row; each row has a form, of attributes of the schema, and values; each reference has the number
--- of a row.
+-- A name is found at its row; each row has a form, of entities and attributes of the schema, and values; each reference
+-- has the number of a row.
 pub record IsWhole (s : Schema) (names : List ℕ) (t : Rows) (v : Kept) : Type 0 where
   pub index : (y : ℕ) → found t.index y ≡ place_of names y
   pub forms : length t.form_of.items ≡ length names
   pub values : length v.rows ≡ length names
   pub placed : Every (λ o. ArePlaced s (form_among t.forms.items o)) t.form_of.items
+  pub entities : Every (λ o. HaveEntities s (form_among t.forms.items o)) t.form_of.items
   pub numbered : Every (AreNumbered s) t.forms.items
   pub slots : HaveSlots t.forms.items t.form_of.items v.rows
   pub leads : LeadTo names v.targets

@@ -1,9 +1,8 @@
 //! Parts that aren't checked, whatever expressions say.
 
-use express_schemas::tree::Declaration;
+use express_schemas::tree::{Declaration, SchemaTree};
 use express_text::read_schema;
 use std::alloc::{AllocError, Global};
-use std::test::Fail;
 use type_graphs::unchecked::{PartKind, Reason};
 use unchecked_parts::declared::{add_inverse_clause, add_skipped, add_supertype};
 use unchecked_parts::limits::add_underlying;
@@ -52,17 +51,15 @@ fn add_declaration(
     }
 }
 
-fn all_parts(alloc: Global, text: &[u8]) -> Option<Vec<Unchecked>> {
-    let Ok(schema) = read_schema(alloc, text) else {
-        return None;
-    };
-    let mut list = Vec::new(alloc);
-    for declaration in &schema.declarations {
-        if add_declaration(alloc, &mut list, declaration).is_err() {
-            return None;
-        }
+fn add_all(
+    alloc: Global,
+    list: &mut Vec<Unchecked>,
+    declarations: &[Declaration<'_>],
+) -> Result<(), AllocError> {
+    for declaration in declarations {
+        add_declaration(alloc, list, declaration)?;
     }
-    Some(list)
+    Ok(())
 }
 
 fn are_listed(parts: &[Unchecked], wanted: &[(PartKind, &'static str, Reason)]) -> bool {
@@ -78,11 +75,23 @@ fn are_listed(parts: &[Unchecked], wanted: &[(PartKind, &'static str, Reason)]) 
     true
 }
 
+// Whether these are the parts of a schema.
+fn lists(alloc: Global, schema: &SchemaTree<'_>) -> bool {
+    let mut list = Vec::new(alloc);
+    if add_all(alloc, &mut list, &schema.declarations).is_err() {
+        return false;
+    }
+    are_listed(&list, LISTED)
+}
+
+fn text_lists(alloc: Global) -> bool {
+    match read_schema(alloc, ODD) {
+        Ok(schema) => lists(alloc, &schema),
+        Err(_) => false,
+    }
+}
+
 #[test]
-fn parts_are_listed_in_the_order_of_the_text(rt: HostRuntime) -> Result<(), Fail> {
-    let Some(parts) = all_parts(rt.alloc(), ODD) else {
-        panic!(rt; "the schema is read");
-    };
-    assert!(rt; are_listed(&parts, LISTED));
-    Ok(())
+fn parts_are_listed_in_the_order_of_the_text(rt: HostRuntime) {
+    assert!(rt; text_lists(rt.alloc()));
 }

@@ -1,5 +1,6 @@
 //! The whole list of what of a schema isn't checked, and the ranks of derived attributes.
 
+use express_schemas::tree::SchemaTree;
 use express_text::read_schema;
 use express_types::graph::TypeGraph;
 use express_types::resolving::resolve;
@@ -154,9 +155,8 @@ const ROWS: &'static [Row] = &[
     ),
 ];
 
-// The schema with these clauses.
-fn text(alloc: Global, clauses: Clauses) -> Result<Vec<u8>, AllocError> {
-    let mut text = Vec::new(alloc);
+// Adds the text of the schema with these clauses.
+fn add_text(text: &mut Vec<u8>, clauses: Clauses) -> Result<(), AllocError> {
     text.extend_from_slice(TYPES)?;
     text.extend_from_slice(clauses.of_point)?;
     text.extend_from_slice(SHAPES)?;
@@ -164,7 +164,7 @@ fn text(alloc: Global, clauses: Clauses) -> Result<Vec<u8>, AllocError> {
     text.extend_from_slice(MARKS)?;
     text.extend_from_slice(clauses.at_end)?;
     text.extend_from_slice(END)?;
-    Ok(text)
+    Ok(())
 }
 
 fn is_listed(parts: &[Unchecked], wanted: &[Part]) -> bool {
@@ -180,24 +180,34 @@ fn is_listed(parts: &[Unchecked], wanted: &[Part]) -> bool {
     true
 }
 
-// Whether the list of a row is the one that is made.
-fn lists(alloc: Global, keys: RandomState, clauses: Clauses, wanted: &[Part]) -> bool {
-    let Ok(text) = text(alloc, clauses) else {
-        return false;
-    };
-    let Ok(schema) = read_schema(alloc, &text) else {
-        return false;
-    };
-    match resolve(alloc, keys, &schema) {
+// Whether this is the list of a schema.
+fn lists(alloc: Global, keys: RandomState, schema: &SchemaTree<'_>, wanted: &[Part]) -> bool {
+    match resolve(alloc, keys, schema) {
         Ok(graph) => is_listed(graph.unchecked(), wanted),
         Err(_) => false,
     }
 }
 
+fn text_lists(alloc: Global, keys: RandomState, text: &[u8], wanted: &[Part]) -> bool {
+    match read_schema(alloc, text) {
+        Ok(schema) => lists(alloc, keys, &schema, wanted),
+        Err(_) => false,
+    }
+}
+
+// Whether the list of a row is the one that is made.
+fn clauses_list(alloc: Global, keys: RandomState, clauses: Clauses, wanted: &[Part]) -> bool {
+    let mut text = Vec::new(alloc);
+    if add_text(&mut text, clauses).is_err() {
+        return false;
+    }
+    text_lists(alloc, keys, &text, wanted)
+}
+
 fn first_wrong(alloc: Global, keys: RandomState, rows: &[Row]) -> Option<usize> {
     for i in 0..rows.len() {
         let (clauses, wanted) = rows[i];
-        if !lists(alloc, keys, clauses, wanted) {
+        if !clauses_list(alloc, keys, clauses, wanted) {
             return Some(i);
         }
     }
@@ -247,24 +257,34 @@ fn has_rank(graph: &TypeGraph<'_, '_>, row: RankRow) -> bool {
     graph.rank(number, attribute) == wanted
 }
 
-fn wrong_rank(graph: &TypeGraph<'_, '_>, rows: &[RankRow]) -> Option<usize> {
-    for i in 0..rows.len() {
-        if !has_rank(graph, rows[i]) {
+// The first row that has another rank.
+fn wrong_rank(graph: &TypeGraph<'_, '_>) -> Option<usize> {
+    for i in 0..RANKS.len() {
+        if !has_rank(graph, RANKS[i]) {
             return Some(i);
         }
     }
     None
 }
 
+// The same; the number of rows where what is to be asked isn't made.
+fn wrong_tree(alloc: Global, keys: RandomState, schema: &SchemaTree<'_>) -> Option<usize> {
+    let Ok(graph) = resolve(alloc, keys, schema) else {
+        return Some(RANKS.len());
+    };
+    wrong_rank(&graph)
+}
+
+fn wrong_text(alloc: Global, keys: RandomState) -> Option<usize> {
+    let Ok(schema) = read_schema(alloc, CHAIN) else {
+        return Some(RANKS.len());
+    };
+    wrong_tree(alloc, keys, &schema)
+}
+
 #[test]
 fn ranks_fall_along_uses(rt: HostRuntime) -> Result<(), Fail> {
     let keys = RandomState::new(&rt)?;
-    let Ok(schema) = read_schema(rt.alloc(), CHAIN) else {
-        panic!(rt; "the schema is read");
-    };
-    let Ok(graph) = resolve(rt.alloc(), keys, &schema) else {
-        panic!(rt; "its names are resolved");
-    };
-    assert_eq!(rt; wrong_rank(&graph, RANKS), None);
+    assert_eq!(rt; wrong_text(rt.alloc(), keys), None);
     Ok(())
 }

@@ -6,7 +6,7 @@ use command_line::read::ReadFault;
 use command_line::usage::unread_words;
 use commands::command::{refuse, refuse_to_read};
 use devices::counted::Counted;
-use std::alloc::Global;
+use std::alloc::{AllocError, Global};
 use std::hash::RandomState;
 use std::io;
 use std::test::Fail;
@@ -47,135 +47,162 @@ const CHECK_HELP: &str = "Tells where a STEP file breaks its schema\n\n\
     Options:\n  \
     -h, --help  Print help\n";
 
-// So many bytes of the file go out, and the rest of the row is the room of the outputs, the status
-// and what stands on the error output.
+const ALL: usize = usize::MAX;
+
+// The length of the file.
+const SENT: usize = 151;
+
+const LOST: &str = "device: file\n";
+
+const PLAIN: &'static [&'static str] = &["stepmin", "plain", "F"];
+
+// The words, the file and whether it breaks, the room of the outputs, the status, how many bytes of
+// the file go out, and what stands on the error output.
+type Row = (
+    &'static [&'static str],
+    &'static str,
+    bool,
+    usize,
+    usize,
+    u8,
+    usize,
+    &'static str,
+);
+
+const ROWS: &'static [Row] = &[
+    (PLAIN, FILE, false, ALL, 0, 0, SENT, ""),
+    (
+        &["other", "plain", "--", "F"],
+        FILE,
+        false,
+        ALL,
+        ALL,
+        0,
+        SENT,
+        "",
+    ),
+    (
+        &["stepmin", "plain", "F", "--"],
+        FILE,
+        false,
+        ALL,
+        ALL,
+        0,
+        SENT,
+        "",
+    ),
+    (
+        &["stepmin", "plain", "G"],
+        FILE,
+        false,
+        ALL,
+        ALL,
+        4,
+        0,
+        LOST,
+    ),
+    (&["stepmin", "plain", ""], FILE, false, ALL, ALL, 4, 0, LOST),
+    (
+        &["stepmin", "plain", "-"],
+        FILE,
+        false,
+        ALL,
+        ALL,
+        4,
+        0,
+        LOST,
+    ),
+    (
+        &["stepmin", "plain", "help"],
+        FILE,
+        false,
+        ALL,
+        ALL,
+        4,
+        0,
+        LOST,
+    ),
+    (
+        &["stepmin", "plain", "--", "--help"],
+        FILE,
+        false,
+        ALL,
+        ALL,
+        4,
+        0,
+        LOST,
+    ),
+    (PLAIN, FILE, true, ALL, ALL, 4, 0, LOST),
+    (PLAIN, "", false, ALL, 4, 4, 0, "file"),
+    (PLAIN, FILE, false, SENT, 0, 0, SENT, ""),
+    (
+        PLAIN,
+        FILE,
+        false,
+        0,
+        ALL,
+        4,
+        0,
+        "device: output after 0 bytes\n",
+    ),
+    (
+        PLAIN,
+        FILE,
+        false,
+        1,
+        ALL,
+        4,
+        1,
+        "device: output after 1 bytes\n",
+    ),
+    (
+        PLAIN,
+        FILE,
+        false,
+        119,
+        ALL,
+        4,
+        119,
+        "device: output after 119 bytes\n",
+    ),
+    (
+        PLAIN,
+        FILE,
+        false,
+        150,
+        ALL,
+        4,
+        150,
+        "device: output after 150 bytes\n",
+    ),
+];
+
+// Whether a row comes to what it says.
+fn is_right(alloc: Global, keys: RandomState, row: &Row) -> Result<bool, AllocError> {
+    let (words, file, breaks, out_room, err_room, status, sent, line) = *row;
+    let run = run(alloc, keys, words, file, breaks, out_room, err_room)?;
+    Ok(
+        run.out.len() == sent
+            && FILE.as_bytes().starts_with(run.out.as_slice())
+            && run.status == status
+            && run.err.as_slice() == line.as_bytes(),
+    )
+}
+
+// The first row that comes to something else.
+fn wrong_row(alloc: Global, keys: RandomState) -> Result<Option<usize>, AllocError> {
+    for i in 0..ROWS.len() {
+        if !is_right(alloc, keys, &ROWS[i])? {
+            return Ok(Some(i));
+        }
+    }
+    Ok(None)
+}
+
 #[test]
 fn a_device_that_fails_is_told(rt: HostRuntime) -> Result<(), Fail> {
-    let alloc = rt.alloc();
     let keys = RandomState::new(&rt)?;
-    let all = usize::MAX;
-    let words = ["stepmin", "plain", "F"].as_slice();
-    let lost = "device: file\n";
-    let sent = FILE.len();
-    for (words, file, breaks, out_room, err_room, status, sent, line) in [
-        (words, FILE, false, all, 0, 0, sent, ""),
-        (
-            ["other", "plain", "--", "F"].as_slice(),
-            FILE,
-            false,
-            all,
-            all,
-            0,
-            sent,
-            "",
-        ),
-        (
-            &["stepmin", "plain", "F", "--"],
-            FILE,
-            false,
-            all,
-            all,
-            0,
-            sent,
-            "",
-        ),
-        (
-            &["stepmin", "plain", "G"],
-            FILE,
-            false,
-            all,
-            all,
-            4,
-            0,
-            lost,
-        ),
-        (&["stepmin", "plain", ""], FILE, false, all, all, 4, 0, lost),
-        (
-            &["stepmin", "plain", "-"],
-            FILE,
-            false,
-            all,
-            all,
-            4,
-            0,
-            lost,
-        ),
-        (
-            &["stepmin", "plain", "help"],
-            FILE,
-            false,
-            all,
-            all,
-            4,
-            0,
-            lost,
-        ),
-        (
-            &["stepmin", "plain", "--", "--help"],
-            FILE,
-            false,
-            all,
-            all,
-            4,
-            0,
-            lost,
-        ),
-        (words, FILE, true, all, all, 4, 0, lost),
-        (words, "", false, all, 4, 4, 0, "file"),
-        (words, FILE, false, sent, 0, 0, sent, ""),
-        (
-            words,
-            FILE,
-            false,
-            0,
-            all,
-            4,
-            0,
-            "device: output after 0 bytes\n",
-        ),
-        (
-            words,
-            FILE,
-            false,
-            1,
-            all,
-            4,
-            1,
-            "device: output after 1 bytes\n",
-        ),
-        (
-            words,
-            FILE,
-            false,
-            119,
-            all,
-            4,
-            119,
-            "device: output after 119 bytes\n",
-        ),
-        (
-            words,
-            FILE,
-            false,
-            150,
-            all,
-            4,
-            150,
-            "device: output after 150 bytes\n",
-        ),
-    ] {
-        let run = run(alloc, keys, words, file, breaks, out_room, err_room)?;
-        assert_eq!(rt;
-            (run.status, run.out.len()),
-            (status, sent),
-            "{words:?} {out_room}"
-        );
-        assert!(rt;
-            FILE.as_bytes().starts_with(run.out.as_slice()),
-            "{words:?} {out_room}"
-        );
-        assert_eq!(rt; run.err.as_slice(), line.as_bytes(), "{words:?} {out_room}");
-    }
+    assert_eq!(rt; wrong_row(rt.alloc(), keys)?, None);
     Ok(())
 }
 
@@ -188,110 +215,138 @@ fn said_by(status: u8, run: &Ending) -> (&[u8], usize) {
     }
 }
 
-// Wrong words are said on the error output by a text that begins so, and a text that is asked for
-// goes to the output, just this one. Where there is room for three bytes alone the status is a
-// device's.
-#[test]
-fn words_that_ask_for_no_file_are_answered(rt: HostRuntime) -> Result<(), Fail> {
-    let alloc = rt.alloc();
-    let keys = RandomState::new(&rt)?;
-    for (words, status, text) in [
-        (["stepmin"].as_slice(), 3, "error: "),
-        (&["stepmin", "check", "GEO"], 3, "error: "),
-        (&["stepmin", "check", "GEO", "F", "F"], 3, "error: "),
-        (&["stepmin", "shrink", "GEO", "F", "X", "X"], 3, "error: "),
-        (&["stepmin", "plain"], 3, "error: "),
-        (&["stepmin", "plain", "F", "F"], 3, "error: "),
-        (&["stepmin", "plain", "--strict", "F"], 3, "error: "),
-        (&["stepmin", "plain", "-F"], 3, "error: "),
-        (&["stepmin", "--", "plain", "F"], 3, "error: "),
-        (&["stepmin", "plain", "--version"], 3, "error: "),
-        (&["stepmin", "--help"], 0, HELP),
-        (&["stepmin", "-h"], 0, HELP),
-        (&["stepmin", "help"], 0, HELP),
-        (&["stepmin", "--version"], 0, "stepmin 0.1.0\n"),
-        (&["stepmin", "-V"], 0, "stepmin 0.1.0\n"),
-        (&["stepmin", "plain", "--help"], 0, PLAIN_HELP),
-        (&["stepmin", "check", "--help"], 0, CHECK_HELP),
-    ] {
-        let whole = run(alloc, keys, words, "", false, usize::MAX, usize::MAX)?;
-        let cut = run(alloc, keys, words, "", false, 3, 3)?;
-        let (said, unsaid) = said_by(status, &whole);
-        assert_eq!(rt;
-            (whole.status, cut.status, unsaid, said_by(status, &cut).1),
-            (status, 4, 0, 0),
-            "{words:?}"
-        );
-        assert!(rt; said.starts_with(text.as_bytes()), "{words:?}");
-        assert!(rt; status != 0 || said.len() == text.len(), "{words:?}");
-        assert_eq!(rt; cut.out.len() + cut.err.len(), 3, "{words:?}");
+// The words of a row, the status, and what is said: wrong words on the error output, by a text that
+// begins so, and a text that is asked for on the output, just this one.
+type Asked = (&'static [&'static str], u8, &'static str);
+
+const ASKED: &'static [Asked] = &[
+    (&["stepmin"], 3, "error: "),
+    (&["stepmin", "check", "GEO"], 3, "error: "),
+    (&["stepmin", "check", "GEO", "F", "F"], 3, "error: "),
+    (&["stepmin", "shrink", "GEO", "F", "X", "X"], 3, "error: "),
+    (&["stepmin", "plain"], 3, "error: "),
+    (&["stepmin", "plain", "F", "F"], 3, "error: "),
+    (&["stepmin", "plain", "--strict", "F"], 3, "error: "),
+    (&["stepmin", "plain", "-F"], 3, "error: "),
+    (&["stepmin", "--", "plain", "F"], 3, "error: "),
+    (&["stepmin", "plain", "--version"], 3, "error: "),
+    (&["stepmin", "--help"], 0, HELP),
+    (&["stepmin", "-h"], 0, HELP),
+    (&["stepmin", "help"], 0, HELP),
+    (&["stepmin", "--version"], 0, "stepmin 0.1.0\n"),
+    (&["stepmin", "-V"], 0, "stepmin 0.1.0\n"),
+    (&["stepmin", "plain", "--help"], 0, PLAIN_HELP),
+    (&["stepmin", "check", "--help"], 0, CHECK_HELP),
+];
+
+// Whether it is said, and nothing else.
+fn is_said(alloc: Global, keys: RandomState, row: &Asked) -> Result<bool, AllocError> {
+    let (words, status, text) = *row;
+    let run = run(alloc, keys, words, "", false, ALL, ALL)?;
+    let (said, unsaid) = said_by(status, &run);
+    Ok(
+        run.status == status
+            && unsaid == 0
+            && said.starts_with(text.as_bytes())
+            && (status != 0 || said.len() == text.len()),
+    )
+}
+
+// Whether the status is a device's where there is room for three bytes alone.
+fn is_cut(alloc: Global, keys: RandomState, row: &Asked) -> Result<bool, AllocError> {
+    let (words, status, _) = *row;
+    let run = run(alloc, keys, words, "", false, 3, 3)?;
+    let (said, unsaid) = said_by(status, &run);
+    Ok(run.status == 4 && unsaid == 0 && said.len() == 3)
+}
+
+// The first row that comes to something else.
+fn wrong_answer(alloc: Global, keys: RandomState) -> Result<Option<usize>, AllocError> {
+    for i in 0..ASKED.len() {
+        if !is_said(alloc, keys, &ASKED[i])? || !is_cut(alloc, keys, &ASKED[i])? {
+            return Ok(Some(i));
+        }
     }
-    Ok(())
+    Ok(None)
 }
 
 #[test]
-fn a_fault_has_its_line(rt: HostRuntime) -> Result<(), Fail> {
+fn words_that_ask_for_no_file_are_answered(rt: HostRuntime) -> Result<(), Fail> {
+    let keys = RandomState::new(&rt)?;
+    assert_eq!(rt; wrong_answer(rt.alloc(), keys)?, None);
+    Ok(())
+}
+
+// Whether the fault has this line.
+fn has_line(alloc: Global, fault: Fault, line: &str) -> bool {
+    let mut err = Counted::new(Paper::new(alloc, ALL));
+    let printed = print_line(&mut err, fault);
+    let paper = err.into_inner();
+    printed == Ok(()) && paper.bytes.as_slice() == line.as_bytes()
+}
+
+#[test]
+fn a_fault_has_its_line(rt: HostRuntime) {
     let alloc = rt.alloc();
+    let too_large = Fault::of_read(Role::Schema, ReadFault::TooLarge);
     let too_many = Fault::Text {
         role: Role::Output,
         kind: FaultKind::LeftOut(LeftOut::TooMany),
         place: u64::MAX,
     };
-    for (fault, line) in [
-        (
-            Fault::of_read(Role::Schema, ReadFault::TooLarge),
-            "schema: E8 LeftOut TooLarge at byte 1099511627776\n",
-        ),
-        (
+    let unread = Fault::of_read(Role::Schema, ReadFault::Device);
+    let unwritten = Fault::Device {
+        role: Role::Certificate,
+        written: 0,
+    };
+    assert!(rt;
+        has_line(
+            alloc,
+            too_large,
+            "schema: E8 LeftOut TooLarge at byte 1099511627776\n"
+        )
+    );
+    assert!(rt;
+        has_line(
+            alloc,
             too_many,
-            "output: E8 LeftOut TooMany at byte 18446744073709551615\n",
-        ),
-        (
-            Fault::of_read(Role::Schema, ReadFault::Device),
-            "device: schema\n",
-        ),
-        (
-            Fault::Device {
-                role: Role::Certificate,
-                written: 0,
-            },
-            "device: certificate after 0 bytes\n",
-        ),
-    ] {
-        let mut err = Counted::new(Paper::new(alloc, usize::MAX));
-        assert_eq!(rt; print_line(&mut err, fault), Ok(()));
-        assert_eq!(rt; err.into_inner().bytes.as_slice(), line.as_bytes());
-    }
-    Ok(())
+            "output: E8 LeftOut TooMany at byte 18446744073709551615\n"
+        )
+    );
+    assert!(rt; has_line(alloc, unread, "device: schema\n"));
+    assert!(rt; has_line(alloc, unwritten, "device: certificate after 0 bytes\n"));
+}
+
+// Whether words that the system can't give for an error of this kind are refused with this status
+// and this line.
+fn is_refused(alloc: Global, kind: io::ErrorKind, status: u8, line: &str) -> bool {
+    let mut out = Counted::new(Paper::new(alloc, ALL));
+    let mut err = Counted::new(Paper::new(alloc, ALL));
+    let refusal = unread_words(alloc, &io::Error::from(kind));
+    let ending = Ending {
+        status: refuse(refusal, &mut out, &mut err),
+        out: out.into_inner().bytes,
+        err: err.into_inner().bytes,
+    };
+    ending.comes_to(status, b"", line.as_bytes())
 }
 
 #[test]
-fn words_that_the_system_can_not_give_are_wrong(rt: HostRuntime) -> Result<(), Fail> {
-    let alloc = rt.alloc();
-    for (kind, status, line) in [
-        (
-            io::ErrorKind::InvalidData,
-            3,
-            "error: an argument is not text\n",
-        ),
-        (io::ErrorKind::OutOfMemory, 5, "memory\n"),
-    ] {
-        let mut out = Counted::new(Paper::new(alloc, usize::MAX));
-        let mut err = Counted::new(Paper::new(alloc, usize::MAX));
-        let refusal = unread_words(alloc, &io::Error::from(kind));
-        assert_eq!(rt; refuse(refusal, &mut out, &mut err), status);
-        assert_eq!(rt; out.into_inner().bytes.len(), 0);
-        assert_eq!(rt; err.into_inner().bytes.as_slice(), line.as_bytes());
-    }
-    Ok(())
+fn words_that_the_system_can_not_give_are_wrong(rt: HostRuntime) {
+    let line = "error: an argument is not text\n";
+    assert!(rt; is_refused(rt.alloc(), io::ErrorKind::InvalidData, 3, line));
+    assert!(rt; is_refused(rt.alloc(), io::ErrorKind::OutOfMemory, 5, "memory\n"));
+}
+
+// Whether it is told that no file can be read.
+fn is_told(alloc: Global) -> bool {
+    let mut err = Counted::new(Paper::new(alloc, ALL));
+    let status = refuse_to_read(&mut err);
+    let paper = err.into_inner();
+    status == 4 && paper.bytes.as_slice() == LOST.as_bytes()
 }
 
 #[test]
 fn without_keys_no_file_is_read(rt: HostRuntime) {
-    let mut err = Counted::new(Paper::new(rt.alloc(), usize::MAX));
-    assert_eq!(rt; refuse_to_read(&mut err), 4);
-    assert_eq!(rt;
-        err.into_inner().bytes.as_slice(),
-        b"device: file\n".as_slice()
-    );
+    assert!(rt; is_told(rt.alloc()));
 }

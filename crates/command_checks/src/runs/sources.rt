@@ -27,29 +27,31 @@ impl Read for Letters {
     }
 }
 
-fn read(alloc: Global, left: usize, fails: bool, limit: u64) -> (Result<usize, ReadFault>, bool) {
+// Whether so many letters, before an end or a failure, are read so under this limit.
+fn is_read(
+    alloc: Global,
+    left: usize,
+    fails: bool,
+    limit: u64,
+    want: Result<usize, ReadFault>,
+) -> bool {
     let mut source = Counted::new(Letters { left, fails });
     let answer = match read_whole(alloc, &mut source, limit) {
         Ok(bytes) => Ok(bytes.len()),
         Err(fault) => Err(fault),
     };
-    (answer, source.failed())
+    answer == want && source.failed() == (want == Err(ReadFault::Device))
 }
 
 #[test]
 fn a_source_is_read_to_its_end(rt: HostRuntime) {
-    for (left, fails, limit, want) in [
-        (0, false, 0, Ok(0)),
-        (1, false, 0, Err(ReadFault::TooLarge)),
-        (150000, false, 150000, Ok(150000)),
-        (150001, false, 150000, Err(ReadFault::TooLarge)),
-        (usize::MAX, false, 150000, Err(ReadFault::TooLarge)),
-        (2000, false, u64::MAX, Ok(2000)),
-        (2000, true, 150000, Err(ReadFault::Device)),
-        (2000, true, 1999, Err(ReadFault::TooLarge)),
-    ] {
-        let (answer, failed) = read(rt.alloc(), left, fails, limit);
-        assert_eq!(rt; answer, want, "{left} bytes, limit {limit}");
-        assert_eq!(rt; failed, want == Err(ReadFault::Device));
-    }
+    let alloc = rt.alloc();
+    assert!(rt; is_read(alloc, 0, false, 0, Ok(0)));
+    assert!(rt; is_read(alloc, 1, false, 0, Err(ReadFault::TooLarge)));
+    assert!(rt; is_read(alloc, 150000, false, 150000, Ok(150000)));
+    assert!(rt; is_read(alloc, 150001, false, 150000, Err(ReadFault::TooLarge)));
+    assert!(rt; is_read(alloc, usize::MAX, false, 150000, Err(ReadFault::TooLarge)));
+    assert!(rt; is_read(alloc, 2000, false, u64::MAX, Ok(2000)));
+    assert!(rt; is_read(alloc, 2000, true, 150000, Err(ReadFault::Device)));
+    assert!(rt; is_read(alloc, 2000, true, 1999, Err(ReadFault::TooLarge)));
 }

@@ -10,6 +10,7 @@ use file_store::folder::Folder;
 use std::alloc::{AllocError, Global};
 use std::fs;
 use std::hash::RandomState;
+use std::rt::Files;
 use std::test::Fail;
 
 // Lists in lists, as deep as they may be.
@@ -88,318 +89,409 @@ fn run_changed(
     )
 }
 
-// The file with `new` for `old` gives the file with this text for `old`, or is refused with this
-// line.
+// The file with `new` for `old` gives the file with this text for `old`, at status 0, or is refused
+// with this line.
+type Row = (&'static str, &'static str, u8, &'static str);
+
+const TEXTS: &'static [Row] = &[
+    // Layout, case and the spelling of names go, and that is all.
+    ("DATA;\n", "DATA;\n", 0, "DATA;\n"),
+    (
+        "DATA;\n",
+        "DATA;\n#01 = point ( ( 0., /* c */ 1. ) ) ;\n",
+        0,
+        "DATA;\n#1=POINT((0.,1.));\n",
+    ),
+    (
+        "DATA;\n",
+        "DATA;\n#1=POINT((0.,1.));\n",
+        0,
+        "DATA;\n#1=POINT((0.,1.));\n",
+    ),
+    (
+        "DATA;\n",
+        "DATA;\n#1=A('ab\nc');\n",
+        0,
+        "DATA;\n#1=A('ab\nc');\n",
+    ),
+    (
+        "DATA;\n",
+        "DATA;\n#1=A('C:\\temp');\n",
+        0,
+        "DATA;\n#1=A('C:\\temp');\n",
+    ),
+    (
+        "DATA;\n",
+        "DATA;\n#1=(SHAPE('')SOLID(LEN_M(1.E2),\"0F\",.T.,#1,$,*));\n",
+        0,
+        "DATA;\n#1=(SHAPE('')SOLID(LEN_M(1.E2),\"0F\",.T.,#1,$,*));\n",
+    ),
+    (
+        "DATA;\n",
+        "DATA;\n#1=(A()B()C()D()E()F()G()H()I()J()K()L());\n",
+        0,
+        "DATA;\n#1=(A()B()C()D()E()F()G()H()I()J()K()L());\n",
+    ),
+    ("DATA;\n", DEEP, 0, DEEP),
+    (
+        "'GEO'));\n",
+        "'GEO'));\nENDSEC();\n",
+        0,
+        "'GEO'));\nENDSEC();\n",
+    ),
+    (
+        "ISO-10303-21;\nHEADER",
+        "\u{feff} ISO-10303-21;\nHEADER",
+        0,
+        "ISO-10303-21;\nHEADER",
+    ),
+    (
+        "END-ISO-10303-21;\n",
+        "END-ISO-10303-21;\n /* the end */",
+        0,
+        "END-ISO-10303-21;\n",
+    ),
+    // Instances.
+    (
+        "DATA;\n",
+        "DATA;\n#1=SHAPE('abc\n",
+        2,
+        "file: E2 UnendedString at byte 134\n",
+    ),
+    (
+        "DATA;\n",
+        "DATA;\n#1=SHAPE('\\X2\\00E');\n",
+        2,
+        "file: E3 BadEscape at byte 135\n",
+    ),
+    (
+        "DATA;\n",
+        "DATA;\n#1=&SCOPE\n",
+        2,
+        "file: E8 LeftOut Scope at byte 128\n",
+    ),
+    (
+        "DATA;\n",
+        "DATA;\n#1=!A();\n",
+        2,
+        "file: E8 LeftOut UserDefined at byte 128\n",
+    ),
+    (
+        "DATA;\n",
+        "DATA;\n#1=POINT((0.));\n#1=POINT((0.));\n",
+        2,
+        "file: E7 DuplicateName at byte 141\n",
+    ),
+    (
+        "DATA;\n",
+        "DATA;\n#1=(A()A());\n",
+        2,
+        "file: E7 DuplicateName at byte 132\n",
+    ),
+    (
+        "DATA;\n",
+        "DATA;\n#1=(A()a());\n",
+        2,
+        "file: E7 DuplicateName at byte 132\n",
+    ),
+    (
+        "DATA;\n",
+        "DATA;\n#1=(A()B()C()D()E()F()G()H()I()J()K()k());\n",
+        2,
+        "file: E7 DuplicateName at byte 162\n",
+    ),
+    (
+        "DATA;\n",
+        "DATA;\n#1=(A()B()C()D()E()F()G()H()I()J()K()h());\n",
+        2,
+        "file: E7 DuplicateName at byte 162\n",
+    ),
+    (
+        "DATA;\n",
+        "DATA;\n#01=A();\n#1=A();\n",
+        2,
+        "file: E7 DuplicateName at byte 134\n",
+    ),
+    (
+        "DATA;\n",
+        "DATA;\n#1=();\n",
+        2,
+        "file: E6 Expected at byte 129\n",
+    ),
+    (
+        "DATA;\n",
+        "DATA;\n#1=A(?);\n",
+        2,
+        "file: E1 BadToken at byte 130\n",
+    ),
+    (
+        "DATA;\n",
+        "DATA;\n#1=A(/* c );\n",
+        2,
+        "file: E1 BadToken at byte 130\n",
+    ),
+    (
+        "DATA;\n",
+        "DATA;\n#1=A(1.E1000000);\n",
+        2,
+        "file: E4 NumberTooLong at byte 130\n",
+    ),
+    (
+        "DATA;\n",
+        "DATA;\n#18446744073709551616=POINT((0.));\n",
+        2,
+        "file: E5 NameTooLarge at byte 125\n",
+    ),
+    ("DATA;\n", TOO_DEEP, 2, "file: E9 TooDeep at byte 193\n"),
+    (
+        "DATA;\n",
+        TYPED_TOO_DEEP,
+        2,
+        "file: E9 TooDeep at byte 193\n",
+    ),
+    // The header.
+    (
+        "FILE_SCHEMA(('GEO'));\n",
+        "",
+        2,
+        "file: E10 HeaderFault at byte 89\n",
+    ),
+    (
+        "FILE_NAME",
+        "FILE_NAMES",
+        2,
+        "file: E10 HeaderFault at byte 52\n",
+    ),
+    ("('GEO')", "'GEO'", 2, "file: E10 HeaderFault at byte 89\n"),
+    ("('GEO')", "()", 2, "file: E10 HeaderFault at byte 89\n"),
+    (
+        "('GEO')",
+        "('GEO','GEA')",
+        2,
+        "file: E10 HeaderFault at byte 89\n",
+    ),
+    ("'GEO'", "'GEO',?", 2, "file: E1 BadToken at byte 108\n"),
+    // What stands behind the end, and nothing at all.
+    (
+        "END-ISO-10303-21;\n",
+        "END-ISO-10303-21;\nx",
+        2,
+        "file: E6 Expected at byte 151\n",
+    ),
+    (
+        "END-ISO-10303-21;\n",
+        "END-ISO-10303-21;\nSIGNATURE;",
+        2,
+        "file: E8 LeftOut Signature at byte 151\n",
+    ),
+    (
+        "END-ISO-10303-21;\n",
+        "END-ISO-10303-21;\n\0'",
+        2,
+        "file: E2 UnendedString at byte 152\n",
+    ),
+    (FILE, "", 2, "file: E6 Expected at byte 0\n"),
+];
+
+// The same of data sections and what stands between them.
+const SECTIONS: &'static [Row] = &[
+    (
+        "DATA;\nENDSEC;\n",
+        "DATA;\nENDSEC;\nDATA;\n",
+        2,
+        "file: E6 Expected at byte 139\n",
+    ),
+    (
+        "DATA;\n",
+        "DATA;\nENDSEC;\nDATA;\n",
+        0,
+        "DATA;\nENDSEC;\nDATA;\n",
+    ),
+    (
+        "DATA;",
+        "DATA ( 'a', /* c */ ('GEO') ) ;",
+        0,
+        "DATA('a',('GEO'));",
+    ),
+    ("DATA;", "DATA('a');", 2, "file: E6 Expected at byte 127\n"),
+    (
+        "DATA;",
+        "DATA('a','GEO');",
+        2,
+        "file: E6 Expected at byte 128\n",
+    ),
+    (
+        "DATA;",
+        "DATA('a',('GEO','GEA'));",
+        2,
+        "file: E6 Expected at byte 134\n",
+    ),
+    ("DATA;\n", TWO_SECTIONS, 0, TWO_SECTIONS),
+    ("DATA;", "data;", 0, "DATA;"),
+    (
+        "DATA;\n",
+        "DATA;\nENDSEC;\nREFERENCE;\n",
+        2,
+        "file: E8 LeftOut Reference at byte 133\n",
+    ),
+    (
+        "END-ISO",
+        "SIGNATURE;\nEND-ISO",
+        2,
+        "file: E8 LeftOut Signature at byte 133\n",
+    ),
+    (
+        "DATA;\n",
+        "DATA;\n#1=A();\nENDSEC;\nDATA;\n#1=A();\n",
+        2,
+        "file: E7 DuplicateName at byte 147\n",
+    ),
+    ("DATA;\nENDSEC;\n", "", 2, "file: E6 Expected at byte 119\n"),
+    (
+        "DATA;\nENDSEC;\n",
+        "DATA;\nENDSEC;\nANCHOR;\n",
+        2,
+        "file: E8 LeftOut Anchor at byte 133\n",
+    ),
+    (
+        "DATA;",
+        "ANCHOR;",
+        2,
+        "file: E8 LeftOut Anchor at byte 119\n",
+    ),
+    (
+        "DATA;",
+        "REFERENCE;",
+        2,
+        "file: E8 LeftOut Reference at byte 119\n",
+    ),
+    (
+        "DATA;",
+        "signature;",
+        2,
+        "file: E8 LeftOut Signature at byte 119\n",
+    ),
+    ("DATA;", "DATE;", 2, "file: E6 Expected at byte 119\n"),
+    (
+        "END-ISO-10303-21;\n",
+        "",
+        2,
+        "file: E6 Expected at byte 133\n",
+    ),
+];
+
+// Whether a row comes to what it says.
+fn is_right(alloc: Global, keys: RandomState, row: &Row) -> Result<bool, AllocError> {
+    let (old, new, status, text) = *row;
+    let run = run_changed(alloc, keys, old, new)?;
+    if status != 0 {
+        return Ok(run.comes_to(status, b"", text.as_bytes()));
+    }
+    let normal = FILE.replace(alloc, old, text)?;
+    Ok(run.comes_to(0, normal.as_bytes(), b""))
+}
+
+// The first row that comes to something else.
+fn wrong_row(
+    alloc: Global,
+    keys: RandomState,
+    rows: &'static [Row],
+) -> Result<Option<usize>, AllocError> {
+    for i in 0..rows.len() {
+        if !is_right(alloc, keys, &rows[i])? {
+            return Ok(Some(i));
+        }
+    }
+    Ok(None)
+}
+
 #[test]
 fn a_text_is_written_or_refused(rt: HostRuntime) -> Result<(), Fail> {
-    let alloc = rt.alloc();
     let keys = RandomState::new(&rt)?;
-    for (old, new, want) in [
-        // Layout, case and the spelling of names go, and that is all.
-        ("DATA;\n", "DATA;\n", Ok("DATA;\n")),
-        (
-            "DATA;\n",
-            "DATA;\n#01 = point ( ( 0., /* c */ 1. ) ) ;\n",
-            Ok("DATA;\n#1=POINT((0.,1.));\n"),
-        ),
-        (
-            "DATA;\n",
-            "DATA;\n#1=POINT((0.,1.));\n",
-            Ok("DATA;\n#1=POINT((0.,1.));\n"),
-        ),
-        (
-            "DATA;\n",
-            "DATA;\n#1=A('ab\nc');\n",
-            Ok("DATA;\n#1=A('ab\nc');\n"),
-        ),
-        (
-            "DATA;\n",
-            "DATA;\n#1=A('C:\\temp');\n",
-            Ok("DATA;\n#1=A('C:\\temp');\n"),
-        ),
-        (
-            "DATA;\n",
-            "DATA;\n#1=(SHAPE('')SOLID(LEN_M(1.E2),\"0F\",.T.,#1,$,*));\n",
-            Ok("DATA;\n#1=(SHAPE('')SOLID(LEN_M(1.E2),\"0F\",.T.,#1,$,*));\n"),
-        ),
-        (
-            "DATA;\n",
-            "DATA;\n#1=(A()B()C()D()E()F()G()H()I()J()K()L());\n",
-            Ok("DATA;\n#1=(A()B()C()D()E()F()G()H()I()J()K()L());\n"),
-        ),
-        ("DATA;\n", DEEP, Ok(DEEP)),
-        (
-            "'GEO'));\n",
-            "'GEO'));\nENDSEC();\n",
-            Ok("'GEO'));\nENDSEC();\n"),
-        ),
-        (
-            "ISO-10303-21;\nHEADER",
-            "\u{feff} ISO-10303-21;\nHEADER",
-            Ok("ISO-10303-21;\nHEADER"),
-        ),
-        (
-            "END-ISO-10303-21;\n",
-            "END-ISO-10303-21;\n /* the end */",
-            Ok("END-ISO-10303-21;\n"),
-        ),
-        // Instances.
-        (
-            "DATA;\n",
-            "DATA;\n#1=SHAPE('abc\n",
-            Err("file: E2 UnendedString at byte 134"),
-        ),
-        (
-            "DATA;\n",
-            "DATA;\n#1=SHAPE('\\X2\\00E');\n",
-            Err("file: E3 BadEscape at byte 135"),
-        ),
-        (
-            "DATA;\n",
-            "DATA;\n#1=&SCOPE\n",
-            Err("file: E8 LeftOut Scope at byte 128"),
-        ),
-        (
-            "DATA;\n",
-            "DATA;\n#1=!A();\n",
-            Err("file: E8 LeftOut UserDefined at byte 128"),
-        ),
-        (
-            "DATA;\n",
-            "DATA;\n#1=POINT((0.));\n#1=POINT((0.));\n",
-            Err("file: E7 DuplicateName at byte 141"),
-        ),
-        (
-            "DATA;\n",
-            "DATA;\n#1=(A()A());\n",
-            Err("file: E7 DuplicateName at byte 132"),
-        ),
-        (
-            "DATA;\n",
-            "DATA;\n#1=(A()a());\n",
-            Err("file: E7 DuplicateName at byte 132"),
-        ),
-        (
-            "DATA;\n",
-            "DATA;\n#1=(A()B()C()D()E()F()G()H()I()J()K()k());\n",
-            Err("file: E7 DuplicateName at byte 162"),
-        ),
-        (
-            "DATA;\n",
-            "DATA;\n#1=(A()B()C()D()E()F()G()H()I()J()K()h());\n",
-            Err("file: E7 DuplicateName at byte 162"),
-        ),
-        (
-            "DATA;\n",
-            "DATA;\n#01=A();\n#1=A();\n",
-            Err("file: E7 DuplicateName at byte 134"),
-        ),
-        (
-            "DATA;\n",
-            "DATA;\n#1=();\n",
-            Err("file: E6 Expected at byte 129"),
-        ),
-        (
-            "DATA;\n",
-            "DATA;\n#1=A(?);\n",
-            Err("file: E1 BadToken at byte 130"),
-        ),
-        (
-            "DATA;\n",
-            "DATA;\n#1=A(/* c );\n",
-            Err("file: E1 BadToken at byte 130"),
-        ),
-        (
-            "DATA;\n",
-            "DATA;\n#1=A(1.E1000000);\n",
-            Err("file: E4 NumberTooLong at byte 130"),
-        ),
-        (
-            "DATA;\n",
-            "DATA;\n#18446744073709551616=POINT((0.));\n",
-            Err("file: E5 NameTooLarge at byte 125"),
-        ),
-        ("DATA;\n", TOO_DEEP, Err("file: E9 TooDeep at byte 193")),
-        (
-            "DATA;\n",
-            TYPED_TOO_DEEP,
-            Err("file: E9 TooDeep at byte 193"),
-        ),
-        // The header.
-        (
-            "FILE_SCHEMA(('GEO'));\n",
-            "",
-            Err("file: E10 HeaderFault at byte 89"),
-        ),
-        (
-            "FILE_NAME",
-            "FILE_NAMES",
-            Err("file: E10 HeaderFault at byte 52"),
-        ),
-        ("('GEO')", "'GEO'", Err("file: E10 HeaderFault at byte 89")),
-        ("('GEO')", "()", Err("file: E10 HeaderFault at byte 89")),
-        (
-            "('GEO')",
-            "('GEO','GEA')",
-            Err("file: E10 HeaderFault at byte 89"),
-        ),
-        ("'GEO'", "'GEO',?", Err("file: E1 BadToken at byte 108")),
-        // What stands behind the end, and nothing at all.
-        (
-            "END-ISO-10303-21;\n",
-            "END-ISO-10303-21;\nx",
-            Err("file: E6 Expected at byte 151"),
-        ),
-        (
-            "END-ISO-10303-21;\n",
-            "END-ISO-10303-21;\nSIGNATURE;",
-            Err("file: E8 LeftOut Signature at byte 151"),
-        ),
-        (
-            "END-ISO-10303-21;\n",
-            "END-ISO-10303-21;\n\0'",
-            Err("file: E2 UnendedString at byte 152"),
-        ),
-        (FILE, "", Err("file: E6 Expected at byte 0")),
-    ] {
-        let run = run_changed(alloc, keys, old, new)?;
-        let (status, out, err) = match want {
-            Ok(text) => (0, FILE.replace(alloc, old, text)?, String::new(alloc)),
-            Err(line) => (2, String::new(alloc), format!(in alloc; "{line}\n")?),
-        };
-        assert_eq!(rt; (run.status, run.out.as_slice()), (status, out.as_bytes()));
-        assert_eq!(rt; run.err.as_slice(), err.as_bytes());
-    }
+    assert_eq!(rt; wrong_row(rt.alloc(), keys, TEXTS)?, None);
     Ok(())
 }
 
-// The same of data sections and what stands between them.
 #[test]
 fn data_sections_are_written_or_refused(rt: HostRuntime) -> Result<(), Fail> {
-    let alloc = rt.alloc();
     let keys = RandomState::new(&rt)?;
-    for (old, new, want) in [
-        (
-            "DATA;\nENDSEC;\n",
-            "DATA;\nENDSEC;\nDATA;\n",
-            Err("file: E6 Expected at byte 139"),
-        ),
-        (
-            "DATA;\n",
-            "DATA;\nENDSEC;\nDATA;\n",
-            Ok("DATA;\nENDSEC;\nDATA;\n"),
-        ),
-        (
-            "DATA;",
-            "DATA ( 'a', /* c */ ('GEO') ) ;",
-            Ok("DATA('a',('GEO'));"),
-        ),
-        ("DATA;", "DATA('a');", Err("file: E6 Expected at byte 127")),
-        (
-            "DATA;",
-            "DATA('a','GEO');",
-            Err("file: E6 Expected at byte 128"),
-        ),
-        (
-            "DATA;",
-            "DATA('a',('GEO','GEA'));",
-            Err("file: E6 Expected at byte 134"),
-        ),
-        ("DATA;\n", TWO_SECTIONS, Ok(TWO_SECTIONS)),
-        ("DATA;", "data;", Ok("DATA;")),
-        (
-            "DATA;\n",
-            "DATA;\nENDSEC;\nREFERENCE;\n",
-            Err("file: E8 LeftOut Reference at byte 133"),
-        ),
-        (
-            "END-ISO",
-            "SIGNATURE;\nEND-ISO",
-            Err("file: E8 LeftOut Signature at byte 133"),
-        ),
-        (
-            "DATA;\n",
-            "DATA;\n#1=A();\nENDSEC;\nDATA;\n#1=A();\n",
-            Err("file: E7 DuplicateName at byte 147"),
-        ),
-        ("DATA;\nENDSEC;\n", "", Err("file: E6 Expected at byte 119")),
-        (
-            "DATA;\nENDSEC;\n",
-            "DATA;\nENDSEC;\nANCHOR;\n",
-            Err("file: E8 LeftOut Anchor at byte 133"),
-        ),
-        (
-            "DATA;",
-            "ANCHOR;",
-            Err("file: E8 LeftOut Anchor at byte 119"),
-        ),
-        (
-            "DATA;",
-            "REFERENCE;",
-            Err("file: E8 LeftOut Reference at byte 119"),
-        ),
-        (
-            "DATA;",
-            "signature;",
-            Err("file: E8 LeftOut Signature at byte 119"),
-        ),
-        ("DATA;", "DATE;", Err("file: E6 Expected at byte 119")),
-        (
-            "END-ISO-10303-21;\n",
-            "",
-            Err("file: E6 Expected at byte 133"),
-        ),
-    ] {
-        let run = run_changed(alloc, keys, old, new)?;
-        let (status, out, err) = match want {
-            Ok(text) => (0, FILE.replace(alloc, old, text)?, String::new(alloc)),
-            Err(line) => (2, String::new(alloc), format!(in alloc; "{line}\n")?),
-        };
-        assert_eq!(rt; (run.status, run.out.as_slice()), (status, out.as_bytes()));
-        assert_eq!(rt; run.err.as_slice(), err.as_bytes());
-    }
+    assert_eq!(rt; wrong_row(rt.alloc(), keys, SECTIONS)?, None);
     Ok(())
 }
 
 // Where the normal text of the large file lies for a while.
 const LARGE: &str = "normal-text-of-a-large-file.stp";
 
-// A file of more than a MiB with two further records in its header, and its normal text.
-fn large_file(alloc: Global) -> Result<(String, String), AllocError> {
-    let mut spelt = String::from_str(alloc, "DATA;\n")?;
-    let mut normal = String::from_str(alloc, "DATA;\n")?;
+// Many points, each with this behind its name.
+fn points(alloc: Global, behind: &str) -> Result<String, AllocError> {
+    let mut text = String::from_str(alloc, "DATA;\n")?;
     for name in 1..40000u32 {
-        write!(spelt, "#{name} = point ( ( 0., 1. ) ) ;\n")?;
-        write!(normal, "#{name}=POINT((0.,1.));\n")?;
+        write!(text, "#{name}{behind}\n")?;
     }
+    Ok(text)
+}
+
+// A file of more than a MiB with two further records in its header, in which points are spelt so.
+fn large_file(alloc: Global, behind: &str) -> Result<String, AllocError> {
+    let points = points(alloc, behind)?;
     let head = FILE.replace(alloc, "'GEO'));\n", "'GEO'));\nA(1);\nB('x');\n")?;
-    let file = head.as_str().replace(alloc, "DATA;\n", spelt.as_str())?;
-    let text = head.as_str().replace(alloc, "DATA;\n", normal.as_str())?;
-    Ok((file, text))
+    head.as_str().replace(alloc, "DATA;\n", points.as_str())
+}
+
+// Whether `plain` over any store writes this text.
+fn writes<'p, S: Store<'p>>(
+    alloc: Global,
+    keys: RandomState,
+    words: &'p [String],
+    store: &mut S,
+    text: &str,
+) -> bool {
+    let run = run_in(alloc, keys, words, store, usize::MAX, usize::MAX);
+    run.comes_to(0, text.as_bytes(), b"")
+}
+
+// Whether the text is the normal text of the file.
+fn is_normal(alloc: Global, keys: RandomState, words: &[String], file: &str, text: &str) -> bool {
+    let mut desk = Desk {
+        alloc,
+        bytes: file.as_bytes(),
+    };
+    writes(alloc, keys, words, &mut desk, text)
+}
+
+// Whether the text can be laid into the file system.
+fn is_laid<R: Files>(rt: &R, text: &str) -> bool {
+    let mut folder = Folder::new(rt);
+    let mut writer = folder.writer(LARGE);
+    let put = writer.put(text.as_bytes());
+    folder.keep(LARGE, writer);
+    put == Ok(text.len())
+}
+
+// Whether the text that lies there is its own normal text.
+fn is_normal_there<'x, R: Files>(
+    rt: &'x R,
+    alloc: Global,
+    keys: RandomState,
+    words: &'x [String],
+    text: &str,
+) -> bool {
+    let mut folder = Folder::new(rt);
+    writes(alloc, keys, words, &mut folder, text)
 }
 
 #[test]
 fn a_large_file_is_written_and_read_again(rt: HostRuntime) -> Result<(), Fail> {
     let alloc = rt.alloc();
     let keys = RandomState::new(&rt)?;
-    let all = usize::MAX;
     let words = owned(alloc, &["stepmin", "plain", LARGE])?;
-    let (file, text) = large_file(alloc)?;
+    let file = large_file(alloc, " = point ( ( 0., 1. ) ) ;")?;
+    let text = large_file(alloc, "=POINT((0.,1.));")?;
     assert!(rt; file.len() > 1 << 20);
-    let mut desk = Desk {
-        alloc,
-        bytes: file.as_bytes(),
-    };
-    let first = run_in(alloc, keys, &words, &mut desk, all, all);
-    assert_eq!(rt; (first.status, first.err.len()), (0, 0));
-    assert_eq!(rt; first.out.as_slice(), text.as_bytes());
-    let mut folder = Folder::new(&rt);
-    let mut writer = folder.writer(LARGE);
-    assert_eq!(rt; writer.put(text.as_bytes()), Ok(text.len()));
-    folder.keep(LARGE, writer);
-    let again = run_in(alloc, keys, &words, &mut folder, all, all);
+    assert!(rt; is_normal(alloc, keys, &words, file.as_str(), text.as_str()));
+    assert!(rt; is_laid(&rt, text.as_str()));
+    let is_normal = is_normal_there(&rt, alloc, keys, &words, text.as_str());
     fs::remove_file(&rt, LARGE)?;
-    assert_eq!(rt; (again.status, again.err.len()), (0, 0));
-    assert_eq!(rt; again.out.as_slice(), text.as_bytes());
+    assert!(rt; is_normal);
     Ok(())
 }

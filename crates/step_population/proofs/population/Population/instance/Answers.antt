@@ -1,7 +1,7 @@
 use Rattle.std.proofs.Common.{rules, ◌≡◌, ◌<◌, ◌∙◌, Some, length, sym, subst, ap, slice_get, slice_index_or, arith}
 use Rattle.std.proofs.lemmas.Option.{slice_get-get_or}
 use Rattle.step_population.proofs.Found.{kept}
-use Rattle.step_population.proofs.Rowwise.{row-of, section-of, placed-row, instance-row}
+use Rattle.step_population.proofs.Rowwise.{row-of, section-of, placed-row, entities-row, instance-row}
 use Rattle.step_population.proofs.population.Population.instance.Goals as goal
 
 pub offset_bounds-as_slice-row : goal.offset_bounds-as_slice-row
@@ -44,4 +44,5 @@ returns c =
       seen = instance-row p row c.requires (slice_index_or c.as_slice.result.now row 0) c.index.result.now c.row.result name
           form c.row.ensures;
       placed = placed-row p row c.index.result.now form;
+      entities = entities-row p row c.index.result.now form;
     }

@@ -1,0 +1,3 @@
+pub mod Cases
+pub mod Entities
+pub mod Marking

@@ -1,9 +1,0 @@
-//! Tests of command lines, over files in memory and in the file system.
-#![tactic(auto)]
-
-#[cfg(test)]
-mod paths;
-#[cfg(test)]
-mod runs;
-
-fn main(_rt: HostRuntime) {}

@@ -1,0 +1,13 @@
+//! Tests of the crates that read and write exchange structures.
+#![tactic(auto)]
+
+#[cfg(test)]
+mod cells;
+#[cfg(test)]
+mod counted;
+#[cfg(test)]
+mod literals;
+#[cfg(test)]
+mod prefixes;
+#[cfg(test)]
+mod printer;

@@ -1,0 +1,5 @@
+//! Tests of what is said of files that are checked against a schema.
+#![tactic(auto)]
+
+#[cfg(test)]
+mod findings;

@@ -1,0 +1,5 @@
+//! Tests of the typed populations of files.
+#![tactic(auto)]
+
+#[cfg(test)]
+mod populations;

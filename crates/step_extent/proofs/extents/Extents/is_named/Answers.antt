@@ -1,0 +1,53 @@
+use Rattle.std.proofs.Common.{◌≡◌, ◌∙◌, Some, ap, sym, subst, slice_get, bytes_eq}
+use Rattle.std.specs.Prelude.{◌&&◌}
+use Rattle.std.proofs.lemmas.Option.{slice_get-get_or}
+use Rattle.express_trees.specs.Views.{capitals}
+use Rattle.express_schemas.specs.SchemaViews.{schema_of}
+use Rattle.type_graphs.specs.Attributes.{same_place}
+use Rattle.base_types.specs.Seen.{name_at}
+use Rattle.rule_tables.specs.Seen.{inverse_seen}
+use Rattle.rule_tables.specs.declared.inverses.InverseAttribute.{InverseAttribute}
+use Rattle.step_extent.specs.Places.{place_of_inverse}
+use Rattle.step_extent.proofs.Placing.{numbered-entity}
+use Rattle.step_extent.proofs.extents.Extents.is_named.Goals as goal
+
+pub holder-requires : goal.holder-requires
+holder-requires c =
+    let x = c.args.self.now in
+    let s = schema_of x.population.now.types.now.names.schema.now in
+    let i = c.index-inverse.result.now in
+    numbered-entity s x.rules.now x.numbered c.args.number i
+    (slice_get-get_or x.rules.now.inverses.items c.args.number i c.requires ∙ ap Some (sym c.index-inverse.ensures))
+
+pub returns-then-eq : goal.returns-then-eq
+returns-then-eq c i at =
+    let x = c.args.self.now in
+    let s = schema_of x.population.now.types.now.names.schema.now in
+    let j = c.index-inverse.result.now in
+    let here : Some j ≡ Some i =
+    ap Some c.index-inverse.ensures ∙ sym (slice_get-get_or x.rules.now.inverses.items c.args.number j c.requires) ∙ at in
+    let same : j ≡ i = cc here in
+    let second = bytes_eq (capitals j.name) (capitals c.args.attribute) in
+    let one : c.eq.result ≡ bytes_eq (capitals c.holder.result) (capitals c.args.entity) = c.eq.ensures in
+    let two : c.eq-then-eq.result ≡ second = c.eq-then-eq.ensures in
+    let first : bytes_eq (name_at s j.entity) (capitals c.args.entity) ≡ c.eq.result =
+    sym (one ∙ ap (λ n. bytes_eq n (capitals c.args.entity)) c.holder.ensures) in
+    subst (λ (k : InverseAttribute). c.eq-then-eq.result
+    ≡ same_place (place_of_inverse (inverse_seen s k)) (capitals c.args.entity, capitals c.args.attribute)) same
+    (two ∙ sym (ap (λ b. b && second) (first ∙ c.if-eq.true)))
+
+pub returns-else-eq : goal.returns-else-eq
+returns-else-eq c i at =
+    let x = c.args.self.now in
+    let s = schema_of x.population.now.types.now.names.schema.now in
+    let j = c.index-inverse.result.now in
+    let here : Some j ≡ Some i =
+    ap Some c.index-inverse.ensures ∙ sym (slice_get-get_or x.rules.now.inverses.items c.args.number j c.requires) ∙ at in
+    let same : j ≡ i = cc here in
+    let second = bytes_eq (capitals j.name) (capitals c.args.attribute) in
+    let one : c.eq.result ≡ bytes_eq (capitals c.holder.result) (capitals c.args.entity) = c.eq.ensures in
+    let first : bytes_eq (name_at s j.entity) (capitals c.args.entity) ≡ c.eq.result =
+    sym (one ∙ ap (λ n. bytes_eq n (capitals c.args.entity)) c.holder.ensures) in
+    subst (λ (k : InverseAttribute). c.eq.result
+    ≡ same_place (place_of_inverse (inverse_seen s k)) (capitals c.args.entity, capitals c.args.attribute)) same
+    (c.if-eq.false ∙ sym (ap (λ b. b && second) (first ∙ c.if-eq.false)))

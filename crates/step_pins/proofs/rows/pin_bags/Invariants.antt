@@ -1,0 +1,15 @@
+use Rattle.std.proofs.Common.{drop}
+use Rattle.express_schemas.specs.Schemas.{Schema}
+use Rattle.type_graphs.specs.Names.{OneOf}
+use Rattle.conformance.specs.Populations.{Slot}
+use Rattle.conforming_values.specs.Standing.{InBag}
+use Rattle.step_population.specs.Seen.{slots_seen}
+use Rattle.step_values.proofs.Walks.{after}
+use Rattle.value_pins.specs.Pinning.{PinsUpTo}
+use Rattle.step_pins.proofs.rows.pin_bags.Given as goal
+
+abbrev pub invariant-loop-i : goal.invariant-loop-i
+invariant-loop-i l =
+    (s : Schema) → PinsUpTo (λ y. OneOf (λ (x : Slot). InBag y x.value) (slots_seen s l.slots l.values))
+    (λ y. OneOf (λ (x : Slot). InBag y x.value) (slots_seen s (drop l.i l.slots) (after l.i l.values))) l.fn.pinned
+    l.pinned

@@ -1,0 +1,18 @@
+use Rattle.std.proofs.Common.{List}
+use Rattle.express_schemas.specs.SchemaViews.{schema_of}
+use Rattle.type_graphs.specs.Names.{Name}
+use Rattle.conformance.specs.Entities.{Entities, AreEntities}
+use Rattle.chosen_types.specs.Chosen.{AreChosen}
+use Rattle.rule_tables.specs.Seen.{rules_seen}
+use Rattle.step_population.specs.Seen.{population_seen}
+use Rattle.value_pins.proofs.Listing.{SoFar}
+use Rattle.step_pins.specs.Rows.{PinsByForm}
+use Rattle.step_pins.proofs.rows.pin_by_forms.Given as goal
+
+abbrev pub invariant-loop-row : goal.invariant-loop-row
+invariant-loop-row l =
+    (en : Entities) (names : List Name) → AreEntities (schema_of l.population.types.now.names.schema.now) en
+    → AreChosen (schema_of l.population.types.now.names.schema.now) names l.chosen
+    → SoFar (PinsByForm (schema_of l.population.types.now.names.schema.now) en names
+    (rules_seen (schema_of l.population.types.now.names.schema.now) l.rules).uniques) (population_seen l.population) l.row
+    l.fn.pinned l.pinned

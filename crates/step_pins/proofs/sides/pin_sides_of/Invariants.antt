@@ -1,0 +1,13 @@
+use Rattle.std.proofs.Common.{slice_get}
+use Rattle.express_schemas.specs.SchemaViews.{schema_of}
+use Rattle.step_extent.specs.Extents.{inverse_value_by}
+use Rattle.step_population.specs.Seen.{population_seen}
+use Rattle.value_pins.proofs.Listing.{SoFar}
+use Rattle.step_pins.specs.Sides.{IsOnSide}
+use Rattle.step_pins.proofs.sides.pin_sides_of.Given as goal
+
+abbrev pub invariant-loop-number : goal.invariant-loop-number
+invariant-loop-number l =
+    SoFar (λ y n. IsOnSide l.name (inverse_value_by (schema_of l.extents.population.now.types.now.names.schema.now)
+    (slice_get l.extents.rules.now.inverses.items n) (population_seen l.extents.population.now) l.name) y) l.numbers
+    l.number-index l.fn.pinned l.pinned

@@ -1,0 +1,32 @@
+use Rattle.std.proofs.Common.{ℕ}
+use Rattle.std.specs.Prelude.{◌⊎◌}
+use Rattle.express_schemas.specs.SchemaViews.{schema_of}
+use Rattle.type_graphs.specs.Names.{OneOf}
+use Rattle.population_rules.specs.Pins.{IsInverseSide, StandsInsideUnique, IsWeaklyPinned}
+use Rattle.rule_tables.specs.Seen.{rules_seen}
+use Rattle.step_population.specs.Seen.{population_seen}
+use Rattle.value_pins.proofs.Pinning.{pins-both, pins-alike}
+use Rattle.step_pins.specs.Rows.{PinsByForm}
+use Rattle.step_pins.proofs.Assembled.{together, from-none}
+use Rattle.step_pins.proofs.Distinct.{names-distinct}
+use Rattle.step_pins.proofs.weak.pins.Goals as goal
+
+pub returns : goal.returns
+returns c d en names domain are chosen =
+    let p = c.args.extents.now.population.now in
+    let s = schema_of p.types.now.names.schema.now in
+    let rules = rules_seen s c.args.extents.now.rules.now in
+    let is = population_seen p in
+    let ByForm : ℕ → Type 0 = λ y. OneOf (PinsByForm s en names rules.uniques y) is in
+    let Side : ℕ → Type 0 = λ y. OneOf (IsInverseSide is y) rules.inverses in
+    let Inside : ℕ → Type 0 = λ y. OneOf (StandsInsideUnique s d en y) is in
+    let old = c.new-names.result in
+    let formed = c.pin_by_forms.new.pinned in
+    let sided = c.pin_sides.new.pinned in
+    let new = c.pin_elements.new.pinned in
+    from-none (IsWeaklyPinned s d en rules names is) old new c.new-names.ensures.empty
+    (pins-alike (λ y. (ByForm y ⊎ Side y) ⊎ Inside y) (IsWeaklyPinned s d en rules names is) old new
+    (together s d en rules names is (names-distinct p))
+    (pins-both (λ y. ByForm y ⊎ Side y) Inside old sided new
+    (pins-both ByForm Side old formed sided (c.in_ok-pin_by_forms.ensures en names are chosen) c.in_ok-pin_sides.ensures)
+    (c.in_ok-pin_elements.ensures d en domain are)))

@@ -1,0 +1,53 @@
+-- What instances pin by their types, by uniqueness rules, and by SETs and BAGs.
+use Rattle.std.specs.Prelude.{◌≡◌, ℕ, IsTrue, List, Option, None, Some, ◌⊎◌, slice_get}
+use Rattle.express_schemas.specs.Schemas.{Schema}
+use Rattle.type_graphs.specs.Names.{Name, OneOf}
+use Rattle.type_graphs.specs.Attributes.{Place}
+use Rattle.conformance.specs.Entities.{Entities}
+use Rattle.conformance.specs.Fitting.{among}
+use Rattle.conformance.specs.Populations.{Slot, Instance, slot_at}
+use Rattle.conforming_values.specs.Standing.{InBag}
+use Rattle.population_rules.specs.Pins.{HasUnchosenLeaf, OccursAt}
+use Rattle.population_rules.specs.Rules.{UniqueRule}
+use Rattle.instance_forms.specs.declared.form.Form.{Form}
+use Rattle.step_population.specs.Seen.{slots_seen}
+use Rattle.step_values.specs.Slots.{nth}
+use Rattle.step_values.specs.Values.{Values}
+use Rattle.step_pins.specs.declared.forms.FormRules.{FormRules}
+
+module _ (s : Schema) (en : Entities) (chosen : List Name) (uniques : List UniqueRule) where
+  -- an instance of these types is pinned: one that no other is below isn't chosen, or one states a uniqueness rule
+  abbrev pub ArePinned : List Name → Type 0
+  ArePinned types =
+      HasUnchosenLeaf s en chosen types ⊎ OneOf (λ (u : UniqueRule). IsTrue (among u.entity types)) uniques
+
+  -- y stands in a value of an instance that a uniqueness rule names
+  abbrev pub StandsInKey : ℕ → Instance → UniqueRule → Type 0
+  StandsInKey y x u =
+      IsTrue (among u.entity x.types) × OneOf (λ (p : Place). OccursAt y (slot_at x.slots p)) u.places
+
+  -- the instance pins y: by its types itself, by its keys, or by its SETs and BAGs
+  abbrev pub PinsByForm : ℕ → Instance → Type 0
+  PinsByForm y x =
+      ((y ≡ x.name) × ArePinned x.types)
+      ⊎ (OneOf (StandsInKey y x) uniques ⊎ OneOf (λ (z : Slot). InBag y z.value) x.slots)
+
+-- the rules of its form pin the instance of a name
+abbrev pub PinnedAt : FormRules → ℕ → ℕ → Type 0
+PinnedAt r name y = (y ≡ name) × IsTrue r.is_pinned
+
+-- what an instance of this form pins by these rules
+abbrev pub PinnedBy : Schema → Form → FormRules → ℕ → Values → ℕ → Type 0
+PinnedBy s x r name vs y =
+    PinnedAt r name y
+    ⊎ (OneOf (λ p. OccursAt y (nth vs p)) r.keys.items
+    ⊎ OneOf (λ (z : Slot). InBag y z.value) (slots_seen s x.slots.items vs))
+
+abbrev pub PinnedWith : Schema → Option Form → Option FormRules → ℕ → Values → ℕ → Type 0
+PinnedWith s (Some x) (Some r) name vs y = PinnedBy s x r name vs y
+PinnedWith s x r name vs y = ⊥
+
+-- .. of the form of a number, where there is one
+abbrev pub PinnedAmong : Schema → List Form → List FormRules → Option ℕ → ℕ → Values → ℕ → Type 0
+PinnedAmong s forms rows None name vs y = ⊥
+PinnedAmong s forms rows (Some n) name vs y = PinnedWith s (slice_get forms n) (slice_get rows n) name vs y

@@ -1,0 +1,143 @@
+//! Pinning what forms, uniqueness rules, SETs and BAGs pin, instance by instance.
+
+ghost use Rattle.std.specs.Prelude.{List, OnOk};
+ghost use Rattle.express_schemas.specs.Schemas.{Schema};
+ghost use Rattle.express_schemas.specs.SchemaViews.{schema_of};
+ghost use Rattle.type_graphs.specs.Names.{Name, OneOf};
+ghost use Rattle.resolved_types.specs.Made.{IsMade};
+ghost use Rattle.chosen_types.specs.Chosen.{AreChosen};
+ghost use Rattle.conformance.specs.Entities.{Entities, AreEntities};
+ghost use Rattle.conforming_values.specs.Standing.{InBag};
+ghost use Rattle.population_rules.specs.Pins.{OccursAt};
+ghost use Rattle.rule_tables.specs.Seen.{AreNumbered, rules_seen};
+ghost use Rattle.step_population.specs.Seen.{population_seen, slots_seen};
+ghost use Rattle.step_values.specs.Slots.{nth};
+ghost use Rattle.value_pins.specs.Pinning.{Pins};
+ghost use Rattle.step_pins.specs.Rows.{PinsByForm, PinnedAt, PinnedBy, PinnedAmong};
+
+use crate::forms::{FormRules, Sources, rules_by_form};
+use chosen_types::choice::Chosen;
+use instance_forms::form::{Form, SlotForm};
+use rule_tables::tables::RuleTables;
+use std::alloc::{AllocError, Global};
+use std::collections::BTreeSet;
+use step_population::instances::InstanceRow;
+use step_population::population::Population;
+use step_values::slot::Slots;
+use value_pins::bags::pin_in_bags;
+use value_pins::set::pin;
+use value_pins::targets::pin_targets;
+
+/// Pins what the values at these positions refer to.
+fn pin_keys(
+    pinned: &mut BTreeSet<u64>,
+    keys: &[usize],
+    values: &Slots<'_, '_>,
+) -> Result<(), AllocError>
+    ensures { OnOk result (Pins (λ y. OneOf (λ p. OccursAt y (nth values.now p)) keys.now)
+        pinned.old pinned.new) }
+{
+    for position in keys {
+        if let Some(value) = values.item(*position) {
+            pin_targets(pinned, &value)?;
+        }
+    }
+    Ok(())
+}
+
+/// Pins what stands in SETs and BAGs among the values of these attributes.
+fn pin_bags(
+    pinned: &mut BTreeSet<u64>,
+    slots: &[SlotForm],
+    values: &Slots<'_, '_>,
+) -> Result<(), AllocError>
+    ensures { (s : Schema) → OnOk result (Pins (λ y. OneOf (λ x. InBag y x.value)
+        (slots_seen s slots.now values.now)) pinned.old pinned.new) }
+{
+    for i in 0..slots.len() {
+        let Some(value) = values.item(i) else {
+            return Ok(());
+        };
+        pin_in_bags(pinned, &value)?;
+    }
+    Ok(())
+}
+
+/// Pins an instance, where its form does.
+fn pin_itself(pinned: &mut BTreeSet<u64>, rules: &FormRules, name: u64) -> Result<(), AllocError>
+    ensures { OnOk result (Pins (PinnedAt rules.now name) pinned.old pinned.new) }
+{
+    if rules.is_pinned {
+        pin(pinned, name)?;
+    }
+    Ok(())
+}
+
+/// Pins what an instance of this form pins, by the rules of its form.
+fn pin_instance(
+    pinned: &mut BTreeSet<u64>,
+    form: &Form,
+    rules: &FormRules,
+    instance: &InstanceRow<'_, '_>,
+) -> Result<(), AllocError>
+    ensures { (s : Schema) → OnOk result (Pins (PinnedBy s form.now rules.now instance.now.name
+        instance.now.values) pinned.old pinned.new) }
+{
+    pin_itself(pinned, rules, instance.name)?;
+    pin_keys(pinned, &rules.keys, &instance.values)?;
+    pin_bags(pinned, &form.slots, &instance.values)
+}
+
+/// Pins what an instance pins by the rules of its form, where it has one.
+fn pin_row(
+    pinned: &mut BTreeSet<u64>,
+    forms: &[Form],
+    rows: &[FormRules],
+    instance: &InstanceRow<'_, '_>,
+) -> Result<(), AllocError>
+    ensures { (s : Schema) → OnOk result (Pins (PinnedAmong s forms.now rows.now instance.now.form
+        instance.now.name instance.now.values) pinned.old pinned.new) }
+{
+    let Some(number) = instance.form else {
+        return Ok(());
+    };
+    let Some(form) = forms.get(number as usize) else {
+        return Ok(());
+    };
+    let Some(rules) = rows.get(number as usize) else {
+        return Ok(());
+    };
+    pin_instance(pinned, form, rules, instance)
+}
+
+/// Pins what instances pin by their types, by uniqueness rules, and by SETs and BAGs.
+pub(crate) fn pin_by_forms(
+    alloc: Global,
+    pinned: &mut BTreeSet<u64>,
+    population: &Population<'_, '_, '_, '_>,
+    rules: &RuleTables<'_>,
+    chosen: &Chosen,
+) -> Result<(), AllocError>
+    requires made { IsMade population.now.types.now }
+    requires numbered { AreNumbered (schema_of population.now.types.now.names.schema.now)
+        rules.now }
+    ensures { (en : Entities) (names : List Name)
+        → AreEntities (schema_of population.now.types.now.names.schema.now) en
+        → AreChosen (schema_of population.now.types.now.names.schema.now) names chosen.now
+        → OnOk result (Pins (λ y. OneOf
+        (PinsByForm (schema_of population.now.types.now.names.schema.now) en names
+        (rules_seen (schema_of population.now.types.now.names.schema.now) rules.now).uniques y)
+        (population_seen population.now)) pinned.old pinned.new) }
+{
+    let sources = Sources {
+        above: &population.types.above,
+        chosen,
+        uniques: &rules.uniques,
+    };
+    let rows = rules_by_form(alloc, sources, population.forms())?;
+    for row in 0..population.len() {
+        let instance = population.instance(row);
+        pin_row(pinned, population.forms(), &rows, &instance)?;
+    }
+    Ok(())
+}

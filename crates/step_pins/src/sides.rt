@@ -1,0 +1,73 @@
+//! Pinning the instances on the sides of inverse attributes (ISO 10303-11, 9.2.1.3).
+
+ghost use Rattle.std.specs.Prelude.{OnOk};
+ghost use Rattle.express_schemas.specs.SchemaViews.{schema_of};
+ghost use Rattle.type_graphs.specs.Names.{OneOf};
+ghost use Rattle.population_rules.specs.Pins.{IsInverseSide};
+ghost use Rattle.rule_tables.specs.Seen.{AreNumbered, rules_seen};
+ghost use Rattle.step_population.specs.Seen.{population_seen};
+ghost use Rattle.value_pins.specs.Pinning.{Pins};
+ghost use Rattle.step_pins.specs.Sides.{IsOnSide, IsOnSideOf};
+
+use std::alloc::{AllocError, Global};
+use std::collections::BTreeSet;
+use step_extent::extents::Extents;
+use step_extent::inverses::{numbers_by_form, row_at};
+use value_pins::set::{pin, pin_all};
+
+/// Pins an instance and those that an inverse attribute of it holds, where it holds any.
+fn pin_side(pinned: &mut BTreeSet<u64>, name: u64, held: &[u64]) -> Result<(), AllocError>
+    ensures { OnOk result (Pins (IsOnSide name held.now) pinned.old pinned.new) }
+{
+    if held.is_empty() {
+        return Ok(());
+    }
+    pin(pinned, name)?;
+    pin_all(pinned, held)
+}
+
+/// The same for the inverse attributes of these numbers.
+fn pin_sides_of(
+    pinned: &mut BTreeSet<u64>,
+    extents: &Extents<'_, '_, '_, '_, '_>,
+    name: u64,
+    numbers: &[usize],
+) -> Result<(), AllocError>
+    ensures { OnOk result (Pins (IsOnSideOf
+        (schema_of extents.now.population.now.types.now.names.schema.now)
+        (population_seen extents.now.population.now) extents.now.rules.now.inverses.items name
+        numbers.now) pinned.old pinned.new) }
+{
+    for number in numbers {
+        pin_side(pinned, name, extents.inverse_by_number(name, *number))?;
+    }
+    Ok(())
+}
+
+/// Pins the instances that refer by an attribute that is inverted to an instance that has the
+/// inverse attribute, and those that are referred to so.
+pub(crate) fn pin_sides(
+    alloc: Global,
+    pinned: &mut BTreeSet<u64>,
+    extents: &Extents<'_, '_, '_, '_, '_>,
+) -> Result<(), AllocError>
+    requires numbered { AreNumbered
+        (schema_of extents.now.population.now.types.now.names.schema.now) extents.now.rules.now }
+    ensures { OnOk result (Pins (λ y. OneOf
+        (IsInverseSide (population_seen extents.now.population.now) y)
+        (rules_seen (schema_of extents.now.population.now.types.now.names.schema.now)
+        extents.now.rules.now).inverses) pinned.old pinned.new) }
+{
+    let population = extents.population;
+    let numbers = numbers_by_form(alloc, &extents.rules.inverses, population.forms())?;
+    for row in 0..population.len() {
+        let instance = population.instance(row);
+        pin_sides_of(
+            pinned,
+            extents,
+            instance.name,
+            row_at(&numbers, instance.form),
+        )?;
+    }
+    Ok(())
+}

@@ -1,0 +1,59 @@
+//! The pins of a population by the weak rules.
+
+ghost use Rattle.std.specs.Prelude.{ℕ, List, IsTrue, ◌↔◌, IfOk};
+ghost use Rattle.express_schemas.specs.SchemaViews.{schema_of};
+ghost use Rattle.type_graphs.specs.Names.{Name};
+ghost use Rattle.resolved_types.specs.Made.{IsMade};
+ghost use Rattle.conformance.specs.Bases.{Domain, IsDomain};
+ghost use Rattle.conformance.specs.Entities.{Entities, AreEntities};
+ghost use Rattle.population_rules.specs.Pins.{IsWeaklyPinned};
+ghost use Rattle.rule_tables.specs.Seen.{AreNumbered, rules_seen};
+ghost use Rattle.chosen_types.specs.Chosen.{AreChosen};
+ghost use Rattle.step_population.specs.Seen.{population_seen};
+ghost use Rattle.step_pins.specs.Pinned.{is_pinned};
+
+use crate::pins::Pins;
+use crate::rows::pin_by_forms;
+use crate::sides::pin_sides;
+use chosen_types::choice::Chosen;
+use std::alloc::{AllocError, Global};
+use std::collections::BTreeSet;
+use step_extent::extents::Extents;
+use unique_elements::elements::pin_elements;
+use value_pins::elements::Elements;
+
+/// The pins of a population, by the weak rules: an instance is pinned where
+/// - one of its types that no other of them is below isn't chosen;
+/// - it stands, at any depth, in a SET or BAG;
+/// - it stands in an element of a LIST or ARRAY OF UNIQUE, other than as that element itself;
+/// - it is an instance of an entity that states a uniqueness rule, or stands in a value of one that
+///   the rule names, be it checked or set aside;
+/// - an inverse attribute of an instance holds it, or one of its own holds an instance.
+///
+/// It goes over the instances and their values, and takes time by the logarithm of the number of
+/// pins. `AllocError` comes where memory runs out.
+pub fn pins(
+    alloc: Global,
+    extents: &Extents<'_, '_, '_, '_, '_>,
+    chosen: &Chosen,
+) -> Result<Pins, AllocError>
+    requires made { IsMade extents.now.population.now.types.now }
+    requires numbered { AreNumbered
+        (schema_of extents.now.population.now.types.now.names.schema.now) extents.now.rules.now }
+    ensures { (d : Domain) (en : Entities) (names : List Name)
+        → IsDomain (schema_of extents.now.population.now.types.now.names.schema.now) d
+        → AreEntities (schema_of extents.now.population.now.types.now.names.schema.now) en
+        → AreChosen (schema_of extents.now.population.now.types.now.names.schema.now) names
+        chosen.now
+        → IfOk result (λ t. (y : ℕ) → IsTrue (is_pinned t y) ↔ IsWeaklyPinned
+        (schema_of extents.now.population.now.types.now.names.schema.now) d en
+        (rules_seen (schema_of extents.now.population.now.types.now.names.schema.now)
+        extents.now.rules.now) names (population_seen extents.now.population.now) y) }
+{
+    let population = extents.population;
+    let mut names = BTreeSet::new(alloc);
+    pin_by_forms(alloc, &mut names, population, extents.rules, chosen)?;
+    pin_sides(alloc, &mut names, extents)?;
+    pin_elements(alloc, &mut names, population, Elements::Inside)?;
+    Ok(Pins { names })
+}

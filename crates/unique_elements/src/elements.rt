@@ -1,0 +1,98 @@
+//! Pinning what stands in the elements of LISTs and ARRAYs OF UNIQUE.
+
+ghost use Rattle.std.specs.Prelude.{◌≡◌, OnOk, map};
+ghost use Rattle.express_schemas.specs.SchemaViews.{schema_of};
+ghost use Rattle.type_graphs.specs.Names.{OneOf};
+ghost use Rattle.resolved_types.specs.Made.{IsMade};
+ghost use Rattle.conformance.specs.Bases.{Domain, IsDomain};
+ghost use Rattle.conformance.specs.Entities.{Entities, AreEntities};
+ghost use Rattle.base_types.specs.Seen.{schema_at};
+ghost use Rattle.base_types.specs.Tables.{AreBases, IsNumbered};
+ghost use Rattle.population_rules.specs.Elements.{HasUniqueValue};
+ghost use Rattle.step_population.specs.Seen.{population_seen};
+ghost use Rattle.value_pins.specs.Pinning.{Pins};
+ghost use Rattle.value_pins.specs.Elements.{Asks};
+ghost use Rattle.unique_elements.specs.Slots.{slot_seen, HaveNumbers, HasUniqueAt};
+
+use crate::slots::{UniqueSlot, slots_at, slots_by_form};
+use crate::walk::pin_in_value;
+use base_types::lookup::Bases;
+use schema_tables::tables::SchemaTables;
+use std::alloc::{AllocError, Global};
+use std::collections::BTreeSet;
+use step_population::population::Population;
+use step_values::slot::Slots;
+use value_pins::elements::Elements;
+
+/// Pins those of which this is asked in the elements of each LIST and ARRAY OF UNIQUE in the value
+/// at a position, where there is one.
+fn pin_at(
+    alloc: Global,
+    pinned: &mut BTreeSet<u64>,
+    elements: Elements<'_>,
+    bases: Bases<'_, '_, '_>,
+    slot: UniqueSlot,
+    values: &Slots<'_, '_>,
+) -> Result<(), AllocError>
+    requires bases { AreBases bases }
+    requires numbered { IsNumbered (schema_at bases) slot.base }
+    ensures { (d : Domain) → IsDomain (schema_at bases.entry) d → OnOk result (Pins
+        (λ y. HasUniqueAt (schema_at bases.entry) d (Asks elements.entry y) values.now
+        (slot_seen (schema_at bases.entry) slot)) pinned.old pinned.new) }
+{
+    match values.item(slot.position) {
+        Some(value) => pin_in_value(alloc, pinned, elements, bases, slot.base, &value),
+        None => Ok(()),
+    }
+}
+
+/// .. of an instance with these values.
+fn pin_in_slots(
+    alloc: Global,
+    pinned: &mut BTreeSet<u64>,
+    elements: Elements<'_>,
+    bases: Bases<'_, '_, '_>,
+    slots: &[UniqueSlot],
+    values: &Slots<'_, '_>,
+) -> Result<(), AllocError>
+    requires bases { AreBases bases }
+    requires numbered { HaveNumbers (schema_at bases) slots.now }
+    ensures { (d : Domain) → IsDomain (schema_at bases.entry) d → OnOk result (Pins
+        (λ y. OneOf (HasUniqueAt (schema_at bases.entry) d (Asks elements.entry y) values.now)
+        (map (slot_seen (schema_at bases.entry)) slots.now)) pinned.old pinned.new) }
+{
+    for i in 0..slots.len() {
+        pin_at(alloc, pinned, elements, bases, slots[i], values)?;
+    }
+    Ok(())
+}
+
+/// Pins, of the elements of each LIST and ARRAY OF UNIQUE among the values of instances, those of
+/// which this is asked (ISO 10303-11, 8.2.1 and 8.2.2).
+///
+/// It goes once over the instances, and over the values of those attributes alone in which such a
+/// collection can stand. `AllocError` comes where memory runs out.
+pub fn pin_elements(
+    alloc: Global,
+    pinned: &mut BTreeSet<u64>,
+    population: &Population<'_, '_, '_, '_>,
+    elements: Elements<'_>,
+) -> Result<(), AllocError>
+    requires made { IsMade population.now.types.now }
+    ensures { (d : Domain) (en : Entities)
+        → IsDomain (schema_of population.now.types.now.names.schema.now) d
+        → AreEntities (schema_of population.now.types.now.names.schema.now) en
+        → OnOk result (Pins (λ y. OneOf
+        (HasUniqueValue (schema_of population.now.types.now.names.schema.now) d en
+        (Asks elements.entry y)) (population_seen population.now)) pinned.old pinned.new) }
+{
+    let tables = SchemaTables::of(alloc, population.types)?;
+    let bases = tables.bases(population.types);
+    let rows = slots_by_form(alloc, bases, &tables.uses, population.forms())?;
+    for row in 0..population.len() {
+        let instance = population.instance(row);
+        let slots = slots_at(&rows, instance.form);
+        pin_in_slots(alloc, pinned, elements, bases, slots, &instance.values)?;
+    }
+    Ok(())
+}

@@ -1,0 +1,118 @@
+//! The LISTs and ARRAYs OF UNIQUE that a value is or has in it (ISO 10303-11, 8.2.1 and 8.2.2).
+
+ghost use Rattle.std.specs.Prelude.{OnOk};
+ghost use Rattle.express_schemas.specs.Schemas.{Schema};
+ghost use Rattle.conformance.specs.Bases.{Domain, IsDomain};
+ghost use Rattle.base_types.specs.Seen.{base_seen, schema_at};
+ghost use Rattle.base_types.specs.Tables.{AreBases, IsNumbered};
+ghost use Rattle.population_rules.specs.Elements.{HasUnique, HasUniqueAmong};
+ghost use Rattle.value_pins.specs.Pinning.{Pins};
+ghost use Rattle.value_pins.specs.Elements.{Asks};
+ghost use Rattle.unique_elements.specs.Holding.{IsUnique, HasInElements};
+
+use crate::holding::{is_unique, may_hold};
+use base_types::base::Base;
+use base_types::lookup::Bases;
+use parameter_fits::inside::item;
+use std::alloc::{AllocError, Global};
+use std::collections::BTreeSet;
+use step_values::slot::{Node, Slot, Slots};
+use value_pins::elements::Elements;
+
+/// Pins those of which this is asked in the elements of a LIST or ARRAY that is one OF UNIQUE; of
+/// another one none.
+fn pin_if_unique(
+    alloc: Global,
+    pinned: &mut BTreeSet<u64>,
+    elements: Elements<'_>,
+    base: Base,
+    values: &Slots<'_, '_>,
+) -> Result<(), AllocError>
+    ensures { (s : Schema) → OnOk result (Pins
+        (λ y. IsUnique (Asks elements.entry y) (base_seen s base) values.now)
+        pinned.old pinned.new) }
+{
+    if !is_unique(base) {
+        return Ok(());
+    }
+    elements.pin(alloc, pinned, values)
+}
+
+/// Pins those of which this is asked in the elements of each LIST and ARRAY OF UNIQUE that a value
+/// is, or that stands in it at any depth, by what is asked of the value.
+#[cycle(walk)]
+pub(crate) fn pin_in_value(
+    alloc: Global,
+    pinned: &mut BTreeSet<u64>,
+    elements: Elements<'_>,
+    bases: Bases<'_, '_, '_>,
+    base: Base,
+    value: &Slot<'_, '_>,
+) -> Result<(), AllocError>
+    requires bases { AreBases bases }
+    requires numbered { IsNumbered (schema_at bases) base }
+    ensures { (d : Domain) → IsDomain (schema_at bases.entry) d → OnOk result (Pins
+        (λ y. HasUnique (schema_at bases.entry) d (Asks elements.entry y)
+        (base_seen (schema_at bases.entry) base) value.now) pinned.old pinned.new) }
+{
+    match value.node() {
+        Node::Typed(word, inner) => match item(bases, base, word) {
+            Some(within) => pin_in_value(alloc, pinned, elements, bases, within, &inner),
+            None => Ok(()),
+        },
+        Node::Sequence(values) => {
+            pin_if_unique(alloc, pinned, elements, base, &values)?;
+            pin_in_elements(alloc, pinned, elements, bases, base, &values)
+        }
+        Node::Bag(values) => pin_in_elements(alloc, pinned, elements, bases, base, &values),
+        _ => Ok(()),
+    }
+}
+
+/// .. that stands in an element of an aggregate.
+#[cycle(walk)]
+fn pin_in_elements(
+    alloc: Global,
+    pinned: &mut BTreeSet<u64>,
+    elements: Elements<'_>,
+    bases: Bases<'_, '_, '_>,
+    base: Base,
+    values: &Slots<'_, '_>,
+) -> Result<(), AllocError>
+    requires bases { AreBases bases }
+    requires numbered { IsNumbered (schema_at bases) base }
+    ensures { (d : Domain) → IsDomain (schema_at bases.entry) d → OnOk result (Pins
+        (λ y. HasInElements (schema_at bases.entry) d (Asks elements.entry y)
+        (base_seen (schema_at bases.entry) base) values.now) pinned.old pinned.new) }
+{
+    let Base::Aggregate(aggregate) = base else {
+        return Ok(());
+    };
+    let element = bases.of_number(aggregate.element);
+    pin_in_each(alloc, pinned, elements, bases, element, values)
+}
+
+/// .. that one of these values is or has in it.
+#[cycle(walk)]
+fn pin_in_each(
+    alloc: Global,
+    pinned: &mut BTreeSet<u64>,
+    elements: Elements<'_>,
+    bases: Bases<'_, '_, '_>,
+    base: Base,
+    values: &Slots<'_, '_>,
+) -> Result<(), AllocError>
+    requires bases { AreBases bases }
+    requires numbered { IsNumbered (schema_at bases) base }
+    ensures { (d : Domain) → IsDomain (schema_at bases.entry) d → OnOk result (Pins
+        (λ y. HasUniqueAmong (schema_at bases.entry) d (Asks elements.entry y)
+        (base_seen (schema_at bases.entry) base) values.now) pinned.old pinned.new) }
+{
+    if !may_hold(bases, base) {
+        return Ok(());
+    }
+    for i in 0..values.len() {
+        pin_in_value(alloc, pinned, elements, bases, base, &values.at(i))?;
+    }
+    Ok(())
+}

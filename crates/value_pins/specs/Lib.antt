@@ -1,0 +1,3 @@
+pub mod Pinning
+pub mod Classes
+pub mod Elements
