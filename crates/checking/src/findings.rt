@@ -36,9 +36,10 @@ pub struct Found<'s> {
 }
 
 /// The instances that break rules of a whole population: uniqueness rules, then the bounds of
-/// inverse attributes (ISO 10303-11, 9.2.2.1 and 9.2.1.3).
+/// inverse attributes (ISO 10303-11, 9.2.2.1 and 9.2.1.3). Keys are hashed by these numbers.
 fn rule_findings<'s>(
     alloc: Global,
+    keys: RandomState,
     population: &Population<'_, '_, 's, '_>,
     rules: &RuleTables<'s>,
 ) -> Result<Vec<RuleFinding<'s>>, AllocError>
@@ -49,7 +50,7 @@ fn rule_findings<'s>(
         (population_seen population.now) t.items) }
 {
     let extents = Extents::build(alloc, population, rules)?;
-    let mut findings = extents.check_unique(alloc)?;
+    let mut findings = extents.check_unique(alloc, keys)?;
     let mut broken = extents.check_inverse(alloc)?;
     findings.append(&mut broken)?;
     Ok(findings)
@@ -117,7 +118,7 @@ fn found_by_population<'s>(
     match populate(alloc, keys, &graph.types, exchange)? {
         Verdict::Typed(population) => Ok(Found {
             findings: Vec::new(alloc),
-            rule_findings: rule_findings(alloc, &population, &graph.rules)?,
+            rule_findings: rule_findings(alloc, keys, &population, &graph.rules)?,
         }),
         Verdict::Faulty(findings) => Ok(Found {
             findings,

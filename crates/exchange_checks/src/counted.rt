@@ -1,10 +1,11 @@
+//! Devices that fail, and a slice as a device.
+
 ghost use Rattle.std.specs.Prelude.{◌≡◌, IfOk};
 
 use devices::counted::Counted;
 use devices::device::{Failed, Sink, Source};
 use std::io;
 use std::io::{Read, Write};
-use std::test::*;
 
 // Each call answers an error but the second, which answers none taken or given.
 #[derive(Drop)]
@@ -41,33 +42,45 @@ impl Write for Broken {
     }
 }
 
-#[test]
-fn an_error_is_not_forgotten(rt: HostRuntime) {
+// Whether a read answers so, and a failure stands.
+fn fails_on(source: &mut Counted<Broken>, wanted: Result<usize, Failed>) -> bool {
+    source.take(&mut [0; 4]) == wanted && Source::failed(source)
+}
+
+// Whether an error isn't forgotten at the next read.
+fn is_remembered() -> bool {
     let mut source = Counted::new(Broken { calls: 0 });
-    assert!(rt; !Source::failed(&source));
-    for want in [Err(Failed), Ok(0)] {
-        assert_eq!(rt; source.take(&mut [0; 4]), want);
-        assert!(rt; Source::failed(&source));
-    }
-    assert_eq!(rt; source.into_inner().calls, 2);
+    let early = Source::failed(&source);
+    let first = fails_on(&mut source, Err(Failed));
+    let second = fails_on(&mut source, Ok(0));
+    !early && first && second && source.into_inner().calls == 2
 }
 
-#[test]
-fn no_byte_taken_is_a_failure(rt: HostRuntime) {
-    for (bytes, want, failed) in [("text".as_bytes(), Err(Failed), true), (b"", Ok(0), false)] {
-        let mut sink = Counted::new(Broken { calls: 1 });
-        assert_eq!(rt; sink.put(bytes), want);
-        assert_eq!(rt; Sink::failed(&sink), failed);
-    }
+// Whether bytes of which none are taken are answered so, and have failed or not.
+fn is_put(bytes: &[u8], wanted: Result<usize, Failed>, failed: bool) -> bool {
+    let mut sink = Counted::new(Broken { calls: 1 });
+    sink.put(bytes) == wanted && Sink::failed(&sink) == failed
 }
 
-#[test]
-fn a_slice_gives_its_bytes_in_turn(rt: HostRuntime) {
+// Whether a read gives so many bytes, and then has these in its buffer.
+fn gives(source: &mut &[u8], count: usize, bytes: &[u8]) -> bool {
+    let mut buffer = [0; 3];
+    Source::take(source, &mut buffer) == Ok(count) && buffer.as_slice() == bytes
+}
+
+// Whether a slice gives its bytes in turn.
+fn is_given() -> bool {
     let mut source = "text".as_bytes();
-    for (count, bytes) in [(3, "tex"), (1, "t\0\0"), (0, "\0\0\0")] {
-        let mut buffer = [0; 3];
-        assert_eq!(rt; Source::take(&mut source, &mut buffer), Ok(count));
-        assert_eq!(rt; buffer.as_slice(), bytes.as_bytes());
-    }
-    assert!(rt; !Source::failed(&source));
+    gives(&mut source, 3, b"tex")
+        && gives(&mut source, 1, b"t\0\0")
+        && gives(&mut source, 0, b"\0\0\0")
+        && !Source::failed(&source)
+}
+
+#[test]
+fn devices_give_and_take_or_fail(rt: HostRuntime) {
+    assert!(rt; is_remembered());
+    assert!(rt; is_put(b"text", Err(Failed), true));
+    assert!(rt; is_put(b"", Ok(0), false));
+    assert!(rt; is_given());
 }

@@ -11,3 +11,5 @@ mod literals;
 mod prefixes;
 #[cfg(test)]
 mod printer;
+#[cfg(test)]
+mod rows;

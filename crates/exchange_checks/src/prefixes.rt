@@ -1,6 +1,9 @@
+//! The prefixes of a file.
+
+use crate::rows::expect_none;
 use std::alloc::Global;
 use std::hash::RandomState;
-use std::test::*;
+use std::random::RandomSource;
 use step_exchange::exchange::read_exchange;
 use step_exchange::fault::TextFault;
 
@@ -18,17 +21,23 @@ const FILE: &str = "ISO-10303-21;\n\
     ENDSEC;\n\
     END-ISO-10303-21;\n";
 
-// The length of the first prefix that has another answer: each is refused at a place within it or
-// at its end, but for the last two, which are whole files.
-fn first_wrong(alloc: Global, keys: RandomState, file: &[u8]) -> Option<usize> {
+// Whether a text is a whole file, or is refused at a place within it or at its end.
+fn is_right(alloc: Global, keys: RandomState, text: &[u8], is_whole: bool) -> bool {
+    match read_exchange(alloc, keys, text) {
+        Ok(_) => is_whole,
+        Err(TextFault::Fault { place, .. }) => !is_whole && place <= text.len() as u64,
+        Err(TextFault::Memory) => false,
+    }
+}
+
+// The length of the first prefix that has another answer: each is refused but for the last two,
+// which are whole files.
+fn wrong_length(rt: &impl RandomSource, alloc: Global, file: &[u8]) -> Option<usize> {
+    let Ok(keys) = RandomState::new(rt) else {
+        return Some(file.len());
+    };
     for length in 0..file.len() + 1 {
-        let is_whole = length + 1 >= file.len();
-        let is_right = match read_exchange(alloc, keys, &file[..length]) {
-            Ok(_) => is_whole,
-            Err(TextFault::Fault { place, .. }) => !is_whole && place <= length as u64,
-            Err(TextFault::Memory) => false,
-        };
-        if !is_right {
+        if !is_right(alloc, keys, &file[..length], length + 1 >= file.len()) {
             return Some(length);
         }
     }
@@ -36,9 +45,7 @@ fn first_wrong(alloc: Global, keys: RandomState, file: &[u8]) -> Option<usize> {
 }
 
 #[test]
-fn each_prefix_of_a_file_is_refused_within_it(rt: HostRuntime) -> Result<(), Fail> {
-    let keys = RandomState::new(&rt)?;
-    assert_eq!(rt; FILE.len(), 232);
-    assert_eq!(rt; first_wrong(rt.alloc(), keys, FILE.as_bytes()), None);
-    Ok(())
+fn each_prefix_of_a_file_is_refused_within_it(rt: HostRuntime) {
+    assert!(rt; FILE.len() == 232);
+    expect_none(&rt, wrong_length(&rt, rt.alloc(), FILE.as_bytes()));
 }

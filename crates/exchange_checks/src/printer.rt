@@ -1,14 +1,16 @@
+//! Rows that are printed to a sink with so much room.
+
 ghost use Rattle.std.specs.Prelude.{◌≡◌, ◌++◌, ◌∷◌, [], ℕ, List, Option, Bool, false, is_err};
 ghost use Rattle.devices.specs.Prints.{Prints};
 ghost use Rattle.devices.specs.Emits.{Emits};
 
+use crate::rows::expect_none;
 use devices::counted::Counted;
 use devices::device::{Sink, WriteFault};
 use devices::printer::Printer;
 use std::alloc::Global;
 use std::io;
 use std::io::Write;
-use std::test::*;
 
 // Takes at most `step` bytes a call, and fails where there is no more room.
 #[derive(Drop)]
@@ -55,57 +57,90 @@ fn write_row<S: Sink>(out: &mut S, name: &[u8], value: &[u8]) -> Result<(), Writ
     printer.finish(out)
 }
 
-// What goes out, and the answer, where the sink takes `step` bytes a call and has this room.
+// How many bytes the sink takes a call, its room, what goes out, and the answer.
+type Row = (usize, usize, &'static [u8], Result<(), WriteFault>);
+
+const ROWS: &'static [Row] = &[
+    (1, 0, b"", Err(WriteFault { written: 0 })),
+    (1, 1, b"#", Err(WriteFault { written: 1 })),
+    (1, 4, b"#12=", Err(WriteFault { written: 4 })),
+    (1, 7, b"#12=A;\n", Ok(())),
+    (1, 8, b"#12=A;\n", Ok(())),
+    (3, 0, b"", Err(WriteFault { written: 0 })),
+    (3, 1, b"#", Err(WriteFault { written: 1 })),
+    (3, 4, b"#12=", Err(WriteFault { written: 4 })),
+    (3, 7, b"#12=A;\n", Ok(())),
+    (3, 8, b"#12=A;\n", Ok(())),
+    (100, 0, b"", Err(WriteFault { written: 0 })),
+    (100, 1, b"#", Err(WriteFault { written: 1 })),
+    (100, 4, b"#12=", Err(WriteFault { written: 4 })),
+    (100, 7, b"#12=A;\n", Ok(())),
+    (100, 8, b"#12=A;\n", Ok(())),
+];
+
+// A row of this value that is sent to a sink which takes `step` bytes a call and has this room;
+// none where another answer comes.
 fn sent(
     alloc: Global,
     value: &[u8],
     step: usize,
     room: usize,
-) -> (Vec<u8>, Result<(), WriteFault>) {
+    wanted: Result<(), WriteFault>,
+) -> Option<Vec<u8>> {
     let mut sink = Counted::new(Limited {
         bytes: Vec::new(alloc),
         step,
         room,
     });
-    let answer = write_row(&mut sink, b"12", value);
-    (sink.into_inner().bytes, answer)
+    if write_row(&mut sink, b"12", value) == wanted {
+        Some(sink.into_inner().bytes)
+    } else {
+        None
+    }
 }
 
-#[test]
-fn a_front_goes_out_and_is_counted(rt: HostRuntime) {
-    for step in [1, 3, 100] {
-        for (room, text) in [
-            (0, "".as_bytes()),
-            (1, b"#"),
-            (4, b"#12="),
-            (7, b"#12=A;\n"),
-            (8, b"#12=A;\n"),
-        ] {
-            let (bytes, answer) = sent(rt.alloc(), b"A;", step, room);
-            assert_eq!(rt; bytes.as_slice(), text, "step {step}, room {room}");
-            let want = if room < 7 {
-                Err(WriteFault {
-                    written: room as u64,
-                })
-            } else {
-                Ok(())
-            };
-            assert_eq!(rt; answer, want, "step {step}, room {room}");
+fn is_sent(alloc: Global, row: Row) -> bool {
+    let (step, room, text, wanted) = row;
+    match sent(alloc, b"A;", step, room, wanted) {
+        Some(bytes) => bytes.as_slice() == text,
+        None => false,
+    }
+}
+
+fn wrong_row(alloc: Global, rows: &[Row]) -> Option<usize> {
+    for i in 0..rows.len() {
+        if !is_sent(alloc, rows[i]) {
+            return Some(i);
         }
     }
+    None
+}
+
+// Whether bytes are so many, and this is the last of them.
+fn end_in(bytes: &[u8], count: usize, last: u8) -> bool {
+    bytes.len() == count && bytes.first() == Some(&b'#') && bytes.last() == Some(&last)
+}
+
+// Whether of a row with a large value so many bytes go out, where there is this room.
+fn is_large_sent(
+    alloc: Global,
+    room: usize,
+    wanted: Result<(), WriteFault>,
+    count: usize,
+    last: u8,
+) -> bool {
+    let value = [b'x'; 100000];
+    match sent(alloc, &value, 70000, room, wanted) {
+        Some(bytes) => end_in(&bytes, count, last),
+        None => false,
+    }
 }
 
 #[test]
-fn a_large_piece_goes_out(rt: HostRuntime) {
-    let value = [b'x'; 100000];
-    for (room, want, count, last) in [
-        (110000, Ok(()), 100005, b'\n'),
-        (99000, Err(WriteFault { written: 99000 }), 99000, b'x'),
-    ] {
-        let (bytes, answer) = sent(rt.alloc(), &value, 70000, room);
-        assert_eq!(rt; answer, want, "room {room}");
-        assert_eq!(rt; bytes.len(), count, "room {room}");
-        assert_eq!(rt; bytes.first(), Some(&b'#'), "room {room}");
-        assert_eq!(rt; bytes.last(), Some(&last), "room {room}");
-    }
+fn rows_go_out_and_are_counted(rt: HostRuntime) {
+    let alloc = rt.alloc();
+    let fault = WriteFault { written: 99000 };
+    expect_none(&rt, wrong_row(alloc, ROWS));
+    assert!(rt; is_large_sent(alloc, 110000, Ok(()), 100005, b'\n'));
+    assert!(rt; is_large_sent(alloc, 99000, Err(fault), 99000, b'x'));
 }

@@ -1,24 +1,18 @@
 //! Which maps are images, on small populations.
 
-use crate::populations::{Sketch, Sketches, Words, population};
+use crate::populations::{Row, Rows, Sketch, Words, Written, population};
 use std::alloc::Global;
 use std::collections::{BTreeMap, BTreeSet};
 use std::hash::RandomState;
-use std::test::Fail;
 use step_equal::image::is_image;
 use step_equal::plain::Plain;
 use step_values::labels::Map;
 
+type Pairs = &'static [(u64, u64)];
+
 /// What is tested, two populations, the pairs of a map, the pinned names, and whether the map is an image of the
 /// first population on the second.
-type Case = (
-    &'static str,
-    Sketches,
-    Sketches,
-    &'static [(u64, u64)],
-    &'static [u64],
-    bool,
-);
+type Case = (&'static str, Rows, Rows, Pairs, &'static [u64], bool);
 
 const POINT: Words = &[b"POINT"];
 
@@ -26,69 +20,95 @@ const PLACEMENT: Words = &[b"Placement"];
 
 const BUNDLE: Words = &[b"BUNDLE"];
 
-const ONE: (u64, u32, Words, Sketch) = (1, 0, POINT, Sketch::Sequence(&[b"1."]));
+const ONE: Row<'static> = (1, 0, POINT, &[Sketch::Number(b"1."), Sketch::Sequence(1)]);
 
 /// The same point, spelt differently.
-const SAME: (u64, u32, Words, Sketch) = (2, 0, POINT, Sketch::Sequence(&[b"1.0E0"]));
+const SAME: Row<'static> = (
+    2,
+    0,
+    POINT,
+    &[Sketch::Number(b"1.0E0"), Sketch::Sequence(1)],
+);
 
-const OTHER: (u64, u32, Words, Sketch) = (2, 0, POINT, Sketch::Sequence(&[b"2."]));
+const OTHER: Row<'static> = (2, 0, POINT, &[Sketch::Number(b"2."), Sketch::Sequence(1)]);
 
 /// Two equal points, and a placement at each.
-const FOUR: Sketches = &[
+const FOUR: Rows = &[
     ONE,
     SAME,
-    (3, 0, PLACEMENT, Sketch::Reference(1)),
-    (4, 0, PLACEMENT, Sketch::Reference(2)),
+    (3, 0, PLACEMENT, &[Sketch::Reference(1)]),
+    (4, 0, PLACEMENT, &[Sketch::Reference(2)]),
 ];
 
 /// The same, merged.
-const TWO: Sketches = &[ONE, (3, 0, PLACEMENT, Sketch::Reference(1))];
+const TWO: Rows = &[ONE, (3, 0, PLACEMENT, &[Sketch::Reference(1)])];
 
-const POINTS: Sketches = &[ONE];
+const POINTS: Rows = &[ONE];
+
+const FIRST: Sketch = Sketch::Reference(1);
+
+const SECOND: Sketch = Sketch::Reference(2);
+
+const PAIR: Sketch = Sketch::Bag(2);
 
 /// A bag of two points that differ, in two orders, and one that has one of them twice.
-const BAG: Sketches = &[ONE, OTHER, (3, 0, BUNDLE, Sketch::Bundle(&[1, 2]))];
+const BAG: Rows = &[ONE, OTHER, (3, 0, BUNDLE, &[FIRST, SECOND, PAIR])];
 
-const TURNED_BAG: Sketches = &[ONE, OTHER, (3, 0, BUNDLE, Sketch::Bundle(&[2, 1]))];
+const TURNED_BAG: Rows = &[ONE, OTHER, (3, 0, BUNDLE, &[SECOND, FIRST, PAIR])];
 
-const OTHER_BAG: Sketches = &[ONE, OTHER, (3, 0, BUNDLE, Sketch::Bundle(&[2, 2]))];
+const OTHER_BAG: Rows = &[ONE, OTHER, (3, 0, BUNDLE, &[SECOND, SECOND, PAIR])];
 
 /// A bag of two bags, in two orders, and another one.
-const BAGS: Sketches = &[
+const BAGS: Rows = &[
     ONE,
     OTHER,
-    (3, 0, BUNDLE, Sketch::Bundles(&[&[1, 2], &[1, 1]])),
+    (
+        3,
+        0,
+        BUNDLE,
+        &[FIRST, SECOND, PAIR, FIRST, FIRST, PAIR, PAIR],
+    ),
 ];
 
-const TURNED_BAGS: Sketches = &[
+const TURNED_BAGS: Rows = &[
     ONE,
     OTHER,
-    (3, 0, BUNDLE, Sketch::Bundles(&[&[1, 1], &[2, 1]])),
+    (
+        3,
+        0,
+        BUNDLE,
+        &[FIRST, FIRST, PAIR, SECOND, FIRST, PAIR, PAIR],
+    ),
 ];
 
-const OTHER_BAGS: Sketches = &[
+const OTHER_BAGS: Rows = &[
     ONE,
     OTHER,
-    (3, 0, BUNDLE, Sketch::Bundles(&[&[1, 1], &[2, 2]])),
+    (
+        3,
+        0,
+        BUNDLE,
+        &[FIRST, FIRST, PAIR, SECOND, SECOND, PAIR, PAIR],
+    ),
 ];
 
 /// A bag of two equal points, and the same, merged.
-const EQUALS: Sketches = &[ONE, SAME, (3, 0, BUNDLE, Sketch::Bundle(&[1, 2]))];
+const EQUALS: Rows = &[ONE, SAME, (3, 0, BUNDLE, &[FIRST, SECOND, PAIR])];
 
-const MERGED_EQUALS: Sketches = &[ONE, (3, 0, BUNDLE, Sketch::Bundle(&[1, 1]))];
+const MERGED_EQUALS: Rows = &[ONE, (3, 0, BUNDLE, &[FIRST, FIRST, PAIR])];
 
 /// Two types, out of order and twice; in order; in other letters; other types; and the same in another section.
-const TYPES: Sketches = &[(1, 0, &[b"B", b"A", b"B"], Sketch::Unset)];
+const TYPES: Rows = &[(1, 0, &[b"B", b"A", b"B"], &[Sketch::Unset])];
 
-const SORTED_TYPES: Sketches = &[(1, 0, &[b"A", b"B"], Sketch::Unset)];
+const SORTED_TYPES: Rows = &[(1, 0, &[b"A", b"B"], &[Sketch::Unset])];
 
-const SMALL_TYPES: Sketches = &[(1, 0, &[b"a", b"b", b"a"], Sketch::Unset)];
+const SMALL_TYPES: Rows = &[(1, 0, &[b"a", b"b", b"a"], &[Sketch::Unset])];
 
-const ONE_TYPE: Sketches = &[(1, 0, &[b"B", b"B"], Sketch::Unset)];
+const ONE_TYPE: Rows = &[(1, 0, &[b"B", b"B"], &[Sketch::Unset])];
 
-const OTHER_SECTION: Sketches = &[(1, 1, &[b"A", b"B"], Sketch::Unset)];
+const OTHER_SECTION: Rows = &[(1, 1, &[b"A", b"B"], &[Sketch::Unset])];
 
-const JOINED_TYPES: Sketches = &[(1, 0, &[b"AB"], Sketch::Unset)];
+const JOINED_TYPES: Rows = &[(1, 0, &[b"AB"], &[Sketch::Unset])];
 
 const MERGE: &[(u64, u64)] = &[(1, 1), (2, 1), (3, 3), (4, 3)];
 
@@ -134,63 +154,97 @@ const CASES: &'static [Case] = &[
     ),
 ];
 
-fn map_of(alloc: Global, pairs: &[(u64, u64)]) -> Result<Map, Fail> {
-    let mut map = BTreeMap::new(alloc);
+/// What is asked of a map from one population to another, and the answer.
+#[derive(Clone, Copy)]
+pub(crate) struct Asked<'s> {
+    pub(crate) from: Written,
+    pub(crate) to: Written,
+    pub(crate) pairs: &'s [(u64, u64)],
+    pub(crate) pinned: &'s [u64],
+    pub(crate) is_image: bool,
+}
+
+fn add_pairs(map: &mut Map, pairs: &[(u64, u64)]) -> bool {
     for pair in pairs {
-        map.insert(pair.0, pair.1)?;
+        if map.insert(pair.0, pair.1).is_err() {
+            return false;
+        }
     }
-    Ok(map)
+    true
 }
 
-fn set_of(alloc: Global, names: &[u64]) -> Result<BTreeSet<u64>, Fail> {
-    let mut set = BTreeSet::new(alloc);
+fn add_names(set: &mut BTreeSet<u64>, names: &[u64]) -> bool {
     for name in names {
-        set.insert(*name)?;
+        if set.insert(*name).is_err() {
+            return false;
+        }
     }
-    Ok(set)
+    true
 }
 
-/// Whether these pairs are an image of one population on the other.
-pub(crate) fn is_map_image<'p, 'q>(
+/// Whether the answer is given of these populations and this map.
+fn is_told_of(
     alloc: Global,
     keys: RandomState,
-    populations: (&Plain<'p>, &Plain<'q>),
-    pairs: &[(u64, u64)],
-    pinned: &[u64],
-) -> Result<bool, Fail> {
-    let map = map_of(alloc, pairs)?;
-    let pinned = set_of(alloc, pinned)?;
-    Ok(is_image(alloc, keys, populations.0, populations.1, &map, &pinned)?)
+    from: &Plain<'static>,
+    to: &Plain<'static>,
+    map: &Map,
+    asked: &Asked<'_>,
+) -> bool {
+    let mut pinned = BTreeSet::new(alloc);
+    add_names(&mut pinned, asked.pinned)
+        && is_image(alloc, keys, from, to, map, &pinned) == Ok(asked.is_image)
 }
 
-type Pairs = &'static [(u64, u64)];
-
-fn answer(
+fn is_told_between(
     alloc: Global,
     keys: RandomState,
-    from: Sketches,
-    to: Sketches,
-    map: Pairs,
-    pins: &[u64],
-) -> Result<bool, Fail> {
-    let from = population(alloc, keys, from)?;
-    let to = population(alloc, keys, to)?;
-    is_map_image(alloc, keys, (&from, &to), map, pins)
+    from: &Plain<'static>,
+    to: &Plain<'static>,
+    asked: &Asked<'_>,
+) -> bool {
+    let mut map = BTreeMap::new(alloc);
+    add_pairs(&mut map, asked.pairs) && is_told_of(alloc, keys, from, to, &map, asked)
+}
+
+fn is_told_from(
+    alloc: Global,
+    keys: RandomState,
+    from: &Plain<'static>,
+    asked: &Asked<'_>,
+) -> bool {
+    match population(alloc, keys, asked.to) {
+        Ok(to) => is_told_between(alloc, keys, from, &to, asked),
+        Err(_) => false,
+    }
+}
+
+/// Whether the answer is given.
+pub(crate) fn is_told(alloc: Global, keys: RandomState, asked: &Asked<'_>) -> bool {
+    match population(alloc, keys, asked.from) {
+        Ok(from) => is_told_from(alloc, keys, &from, asked),
+        Err(_) => false,
+    }
+}
+
+fn is_right(alloc: Global, keys: RandomState, case: &Case) -> bool {
+    let (_, from, to, pairs, pinned, is_image) = *case;
+    let asked = Asked {
+        from: Written::Rows(from),
+        to: Written::Rows(to),
+        pairs,
+        pinned,
+        is_image,
+    };
+    is_told(alloc, keys, &asked)
 }
 
 /// What is tested by the first case that isn't answered so.
-fn wrong_case(alloc: Global, keys: RandomState) -> Result<Option<&'static str>, Fail> {
-    for (what, from, to, map, pins, want) in CASES {
-        if answer(alloc, keys, *from, *to, *map, *pins)? != *want {
-            return Ok(Some(*what));
+pub(crate) fn wrong_case(alloc: Global, keys: RandomState) -> Option<&'static str> {
+    for case in CASES {
+        if !is_right(alloc, keys, case) {
+            return Some(case.0);
         }
     }
-    Ok(None)
-}
-
-#[test]
-fn images_are_told(rt: HostRuntime) -> Result<(), Fail> {
-    let keys = RandomState::new(&rt)?;
-    assert_eq!(rt; wrong_case(rt.alloc(), keys)?, None);
-    Ok(())
+    None
 }

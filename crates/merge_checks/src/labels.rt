@@ -1,14 +1,12 @@
 //! Labels in place of references: which values agree by them, and that their normal forms tell the same.
 
-use crate::populations::{Sketch, Sketches, row, rows, value};
-use std::alloc::Global;
+use crate::populations::{ALONE, Sketch, Sketches, Written, population};
+use std::alloc::{AllocError, Global};
 use std::hash::RandomState;
-use std::test::Fail;
-use step_equal::fault::PlainFault;
 use step_equal::plain::Plain;
 use step_values::agree::{same_each, same_value};
 use step_values::labels::{Label, Labels};
-use step_values::normal::{normal_form, normal_forms, sorted_forms};
+use step_values::normal::{Normal, normal_form, normal_forms, sorted_forms};
 use step_values::slot::{Slot, Slots};
 
 /// One label for each reference outside bags; in bags each stands for itself.
@@ -33,158 +31,243 @@ const CLASS: Label = Label::Class(3);
 
 const OTHER: Label = Label::Class(4);
 
-const BAG: Sketch = Sketch::Bundle(&[1, 2]);
+const ONE: Sketches = &[Sketch::Reference(1)];
 
-const TURNED_BAG: Sketch = Sketch::Bundle(&[2, 1]);
+const TWO: Sketches = &[Sketch::Reference(2)];
 
-const OTHER_BAG: Sketch = Sketch::Bundle(&[1, 3]);
+const BAG: Sketches = &[Sketch::Reference(1), Sketch::Reference(2), Sketch::Bag(2)];
 
-/// What is tested, the labels of two sides with a value of each, and whether the values agree.
-type Case = (&'static str, (Label, Sketch), (Label, Sketch), bool);
+const TURNED_BAG: Sketches = &[Sketch::Reference(2), Sketch::Reference(1), Sketch::Bag(2)];
 
-const ONE: Sketch = Sketch::Reference(1);
+const OTHER_BAG: Sketches = &[Sketch::Reference(1), Sketch::Reference(3), Sketch::Bag(2)];
 
-const TWO: Sketch = Sketch::Reference(2);
+/// What is tested, the labels of two sides with a value of each, whether the values are members of a bag, and whether
+/// they agree.
+type Case = (
+    &'static str,
+    (Label, Sketches),
+    (Label, Sketches),
+    bool,
+    bool,
+);
 
 const CASES: &'static [Case] = &[
-    ("one class", (CLASS, ONE), (CLASS, TWO), true),
-    ("two classes", (CLASS, ONE), (OTHER, ONE), false),
-    ("a class and a name", (CLASS, ONE), (NAME, ONE), false),
-    ("a name and a class", (NAME, ONE), (CLASS, ONE), false),
-    ("one name", (NAME, ONE), (NAME, TWO), true),
-    ("names in a bag", (CLASS, BAG), (CLASS, TURNED_BAG), true),
-    ("of other classes", (CLASS, BAG), (OTHER, TURNED_BAG), true),
-    ("of a class and a name", (CLASS, BAG), (NAME, BAG), true),
+    ("one class", (CLASS, ONE), (CLASS, TWO), false, true),
+    ("two classes", (CLASS, ONE), (OTHER, ONE), false, false),
+    (
+        "a class and a name",
+        (CLASS, ONE),
+        (NAME, ONE),
+        false,
+        false,
+    ),
+    (
+        "a name and a class",
+        (NAME, ONE),
+        (CLASS, ONE),
+        false,
+        false,
+    ),
+    ("one name as a label", (NAME, ONE), (NAME, TWO), false, true),
+    (
+        "names in a bag",
+        (CLASS, BAG),
+        (CLASS, TURNED_BAG),
+        false,
+        true,
+    ),
+    (
+        "of other classes",
+        (CLASS, BAG),
+        (OTHER, TURNED_BAG),
+        false,
+        true,
+    ),
+    (
+        "of a class and a name",
+        (CLASS, BAG),
+        (NAME, BAG),
+        false,
+        true,
+    ),
     (
         "other names in a bag",
         (CLASS, BAG),
         (CLASS, OTHER_BAG),
         false,
+        false,
+    ),
+    (
+        "one member, by its name",
+        (CLASS, ONE),
+        (NAME, ONE),
+        true,
+        true,
+    ),
+    (
+        "two members of one class",
+        (CLASS, ONE),
+        (CLASS, TWO),
+        true,
+        false,
     ),
 ];
 
-/// `#1=NODE(#1);` `#2=NODE(#2);` `#3=NODE(#3);`
-const NODES: Sketches = &[
-    (1, 0, &[b"NODE"], Sketch::Reference(1)),
-    (2, 0, &[b"NODE"], Sketch::Reference(2)),
-    (3, 0, &[b"NODE"], Sketch::Reference(3)),
-];
-
-/// The nodes, and a fourth row with the value.
-fn holder(alloc: Global, keys: RandomState, sketch: Sketch) -> Result<Plain<'static>, Fail> {
-    let mut rows = rows(alloc, NODES)?;
-    let value = value(alloc, sketch)?;
-    rows.push(row(alloc, 4, 0, &[b"HOLDER"], value)?)?;
-    Ok(Plain::from_rows(alloc, keys, rows)?)
-}
-
-/// The values of the fourth row.
-fn held<'p>(plain: &'p Plain<'static>) -> Result<Slots<'p, 'static>, PlainFault> {
-    match plain.find(4) {
-        None => Err(PlainFault::UnknownReference),
-        Some(place) => Ok(plain.row(place).values),
-    }
-}
-
-/// The first of them.
-fn first<'p>(values: &Slots<'p, 'static>) -> Result<Slot<'p, 'static>, PlainFault> {
-    match values.item(0) {
-        None => Err(PlainFault::UnknownReference),
-        Some(value) => Ok(value),
-    }
-}
-
-/// A population whose fourth row has the value, and the label of what it refers to.
-#[derive(Clone, Copy)]
+/// The label of what is referred to, and values.
+#[derive(Drop)]
 struct Side<'p> {
     label: One,
-    plain: &'p Plain<'static>,
+    values: Slots<'p, 'static>,
 }
 
-/// Whether the values agree.
-fn agree(alloc: Global, left: Side<'_>, right: Side<'_>) -> Result<bool, Fail> {
-    let v = first(&held(left.plain)?)?;
-    let w = first(&held(right.plain)?)?;
-    Ok(same_value(alloc, &left.label, &right.label, &v, &w)?)
-}
-
-/// Whether the lists that have the values alone agree.
-fn lists_agree(alloc: Global, left: Side<'_>, right: Side<'_>) -> Result<bool, Fail> {
-    let vs = held(left.plain)?;
-    let ws = held(right.plain)?;
-    Ok(same_each(alloc, &left.label, &right.label, &vs, &ws)?)
-}
-
-/// Whether the values' normal forms are equal.
-fn one_form(alloc: Global, left: Side<'_>, right: Side<'_>) -> Result<bool, Fail> {
-    let form = normal_form(alloc, &left.label, &first(&held(left.plain)?)?)?;
-    let other = normal_form(alloc, &right.label, &first(&held(right.plain)?)?)?;
-    Ok(form == other)
-}
-
-/// Whether the lists' normal forms are equal.
-fn lists_one_form(alloc: Global, left: Side<'_>, right: Side<'_>) -> Result<bool, Fail> {
-    let forms = normal_forms(alloc, &left.label, &held(left.plain)?)?;
-    let others = normal_forms(alloc, &right.label, &held(right.plain)?)?;
-    Ok(forms == others)
-}
-
-/// Whether the sorted normal forms are equal, as those of a bag's members.
-fn one_bag(alloc: Global, left: Side<'_>, right: Side<'_>) -> Result<bool, Fail> {
-    let forms = sorted_forms(alloc, &left.label, &held(left.plain)?)?;
-    let others = sorted_forms(alloc, &right.label, &held(right.plain)?)?;
-    Ok(forms == others)
-}
-
-/// Whether all of them answer this.
-fn all_answer(alloc: Global, left: Side<'_>, right: Side<'_>, want: bool) -> Result<bool, Fail> {
-    let values = agree(alloc, left, right)? == want && lists_agree(alloc, left, right)? == want;
-    let forms = one_form(alloc, left, right)? == want
-        && lists_one_form(alloc, left, right)? == want;
-    Ok(values && forms)
-}
-
-/// What is told of two values by their labels, alone and in a list, or as members of a bag.
-fn is_told(
-    alloc: Global,
-    keys: RandomState,
-    left: (Label, Sketch),
-    right: (Label, Sketch),
-    in_bag: bool,
-    want: bool,
-) -> Result<bool, Fail> {
-    let p = holder(alloc, keys, left.1)?;
-    let q = holder(alloc, keys, right.1)?;
-    let v = Side {
-        label: One(left.0),
-        plain: &p,
-    };
-    let w = Side {
-        label: One(right.0),
-        plain: &q,
-    };
-    if in_bag {
-        return Ok(one_bag(alloc, v, w)? == want);
+/// The side of a population whose fourth row has the values.
+fn side_of<'p>(label: Label, plain: &'p Plain<'static>) -> Option<Side<'p>> {
+    match plain.find(4) {
+        Some(place) => Some(Side {
+            label: One(label),
+            values: plain.row(place).values,
+        }),
+        None => None,
     }
-    all_answer(alloc, v, w, want)
+}
+
+/// Whether a value's normal form is told to be this one, or not to be.
+fn is_told_form(
+    alloc: Global,
+    form: &Normal<'static>,
+    label: &One,
+    value: &Slot<'_, 'static>,
+    agree: bool,
+) -> bool {
+    match normal_form(alloc, label, value) {
+        Ok(other) => (*form == other) == agree,
+        Err(_) => false,
+    }
+}
+
+/// Whether the normal forms of the first values tell it.
+fn is_told_by_form(
+    alloc: Global,
+    side: &Side<'_>,
+    value: &Slot<'_, 'static>,
+    other: &Side<'_>,
+    second: &Slot<'_, 'static>,
+    agree: bool,
+) -> bool {
+    match normal_form(alloc, &side.label, value) {
+        Ok(form) => is_told_form(alloc, &form, &other.label, second, agree),
+        Err(_) => false,
+    }
+}
+
+/// The normal forms of the values, sorted where they are members of a bag.
+fn forms(alloc: Global, side: &Side<'_>, in_bag: bool) -> Result<Vec<Normal<'static>>, AllocError> {
+    if in_bag {
+        sorted_forms(alloc, &side.label, &side.values)
+    } else {
+        normal_forms(alloc, &side.label, &side.values)
+    }
+}
+
+/// Whether the normal forms of the other values are told to be these.
+fn are_told_forms(
+    alloc: Global,
+    known: &Vec<Normal<'static>>,
+    other: &Side<'_>,
+    in_bag: bool,
+    agree: bool,
+) -> bool {
+    match forms(alloc, other, in_bag) {
+        Ok(others) => (*known == others) == agree,
+        Err(_) => false,
+    }
+}
+
+/// Whether the normal forms of two lists, or of the members of two bags, tell it.
+fn is_told_by_forms(
+    alloc: Global,
+    side: &Side<'_>,
+    other: &Side<'_>,
+    in_bag: bool,
+    agree: bool,
+) -> bool {
+    match forms(alloc, side, in_bag) {
+        Ok(known) => are_told_forms(alloc, &known, other, in_bag, agree),
+        Err(_) => false,
+    }
+}
+
+/// Whether the first values of both sides, and the lists of all of them, tell it.
+fn is_told_in_order(alloc: Global, side: &Side<'_>, other: &Side<'_>, agree: bool) -> bool {
+    if side.values.len() == 0 || other.values.len() == 0 {
+        return false;
+    }
+    let value = side.values.at(0);
+    let second = other.values.at(0);
+    same_value(alloc, &side.label, &other.label, &value, &second) == Ok(agree)
+        && is_told_by_form(alloc, side, &value, other, &second, agree)
+        && same_each(
+            alloc,
+            &side.label,
+            &other.label,
+            &side.values,
+            &other.values,
+        ) == Ok(agree)
+        && is_told_by_forms(alloc, side, other, false, agree)
+}
+
+fn is_told(alloc: Global, side: &Side<'_>, other: &Side<'_>, in_bag: bool, agree: bool) -> bool {
+    if in_bag {
+        is_told_by_forms(alloc, side, other, true, agree)
+    } else {
+        is_told_in_order(alloc, side, other, agree)
+    }
+}
+
+/// Whether a case is answered right of one side and the population of the other.
+fn is_right_beside(alloc: Global, left: &Side<'_>, right: &Plain<'static>, case: &Case) -> bool {
+    let (_, _, (label, _), in_bag, agree) = *case;
+    match side_of(label, right) {
+        Some(right) => is_told(alloc, left, &right, in_bag, agree),
+        None => false,
+    }
+}
+
+fn is_right_between(
+    alloc: Global,
+    left: &Plain<'static>,
+    right: &Plain<'static>,
+    case: &Case,
+) -> bool {
+    let (_, (label, _), ..) = *case;
+    match side_of(label, left) {
+        Some(left) => is_right_beside(alloc, &left, right, case),
+        None => false,
+    }
+}
+
+fn is_right_from(alloc: Global, keys: RandomState, left: &Plain<'static>, case: &Case) -> bool {
+    let (_, _, (_, value), ..) = *case;
+    match population(alloc, keys, Written::Holder(value, ALONE)) {
+        Ok(right) => is_right_between(alloc, left, &right, case),
+        Err(_) => false,
+    }
+}
+
+fn is_right(alloc: Global, keys: RandomState, case: &Case) -> bool {
+    let (_, (_, value), ..) = *case;
+    match population(alloc, keys, Written::Holder(value, ALONE)) {
+        Ok(left) => is_right_from(alloc, keys, &left, case),
+        Err(_) => false,
+    }
 }
 
 /// What is tested by the first case that isn't answered so.
-fn wrong_case(alloc: Global, keys: RandomState) -> Result<Option<&'static str>, Fail> {
-    for (what, left, right, want) in CASES {
-        if !is_told(alloc, keys, *left, *right, false, *want)? {
-            return Ok(Some(*what));
+pub(crate) fn wrong_case(alloc: Global, keys: RandomState) -> Option<&'static str> {
+    for case in CASES {
+        if !is_right(alloc, keys, case) {
+            return Some(case.0);
         }
     }
-    Ok(None)
-}
-
-#[test]
-fn labels_are_told(rt: HostRuntime) -> Result<(), Fail> {
-    let alloc = rt.alloc();
-    let keys = RandomState::new(&rt)?;
-    assert_eq!(rt; wrong_case(alloc, keys)?, None);
-    assert!(rt; is_told(alloc, keys, (CLASS, ONE), (NAME, ONE), true, true)?);
-    assert!(rt; is_told(alloc, keys, (CLASS, ONE), (CLASS, TWO), true, false)?);
-    Ok(())
+    None
 }

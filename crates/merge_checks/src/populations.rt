@@ -2,14 +2,13 @@
 
 use std::alloc::Global;
 use std::hash::RandomState;
-use std::test::Fail;
 use step_equal::fault::PlainFault;
 use step_equal::plain::Plain;
 use step_equal::row::PlainRow;
 use step_literals::literal::{Bits, Decimal, Text, Word};
 use step_values::value::PlainValue;
 
-/// A value as it is written.
+/// A step of writing values down: one more value, or what becomes of the last ones.
 #[derive(Clone, Copy)]
 pub(crate) enum Sketch {
     Unset,
@@ -19,137 +18,306 @@ pub(crate) enum Sketch {
     Bits(&'static [u8]),
     Element(&'static [u8]),
     Reference(u64),
-    /// A number with the name of its type.
-    Typed(&'static [u8], &'static [u8]),
-    /// Numbers in order.
-    Sequence(&'static [&'static [u8]]),
-    /// Numbers in any order.
-    Bag(&'static [&'static [u8]]),
-    /// A bag of references.
-    Bundle(&'static [u64]),
-    /// A bag of such bags.
-    Bundles(&'static [&'static [u64]]),
+    /// The last value gets the name of its type.
+    Typed(&'static [u8]),
+    /// The last so many values become one, in order.
+    Sequence(usize),
+    /// The last so many values become one, in any order.
+    Bag(usize),
 }
+
+/// Values, step by step.
+pub(crate) type Sketches = &'static [Sketch];
 
 /// The type words of a row.
 pub(crate) type Words = &'static [&'static [u8]];
 
-/// Each row's name, section, types and value.
-pub(crate) type Sketches = &'static [(u64, u32, Words, Sketch)];
+/// A row's name, section, types and values.
+pub(crate) type Row<'s> = (u64, u32, Words, &'s [Sketch]);
 
-fn numbers(alloc: Global, texts: &[&'static [u8]]) -> Result<Vec<PlainValue<'static>>, Fail> {
-    let mut values = Vec::new(alloc);
-    for text in texts {
-        values.push(PlainValue::Number(Decimal::read(*text)?))?;
-    }
-    Ok(values)
+pub(crate) type Rows = &'static [Row<'static>];
+
+/// The steps before and behind those of a value.
+pub(crate) type Around = (Sketches, Sketches);
+
+pub(crate) const ALONE: Around = (&[], &[]);
+
+/// How a population is written down.
+#[derive(Clone, Copy)]
+pub(crate) enum Written {
+    Rows(Rows),
+    /// Three nodes, and a fourth row with this value.
+    Holder(Sketches, Around),
+    /// So many nodes, each with a reference to the next, and the last with one to the first.
+    Ring(u64),
 }
 
-fn references(alloc: Global, names: &[u64]) -> Result<Vec<PlainValue<'static>>, Fail> {
-    let mut values = Vec::new(alloc);
-    for name in names {
-        values.push(PlainValue::Reference(*name))?;
+const NODE: Words = &[b"NODE"];
+
+const HOLDER: Words = &[b"HOLDER"];
+
+/// `#1=NODE(#1);` `#2=NODE(#2);` `#3=NODE(#3);`
+const NODES: Rows = &[
+    (1, 0, NODE, &[Sketch::Reference(1)]),
+    (2, 0, NODE, &[Sketch::Reference(2)]),
+    (3, 0, NODE, &[Sketch::Reference(3)]),
+];
+
+fn number(text: &'static [u8]) -> Option<PlainValue<'static>> {
+    match Decimal::read(text) {
+        Ok(number) => Some(PlainValue::Number(number)),
+        Err(_) => None,
     }
-    Ok(values)
 }
 
-fn bundles(alloc: Global, bags: &[&'static [u64]]) -> Result<Vec<PlainValue<'static>>, Fail> {
-    let mut values = Vec::new(alloc);
-    for bag in bags {
-        values.push(PlainValue::Bag(references(alloc, *bag)?))?;
+fn string(text: &'static [u8]) -> Option<PlainValue<'static>> {
+    match Text::read(text) {
+        Ok(text) => Some(PlainValue::Text(text)),
+        Err(_) => None,
     }
-    Ok(values)
 }
 
-pub(crate) fn typed(
+fn binary(text: &'static [u8]) -> Option<PlainValue<'static>> {
+    match Bits::read(text) {
+        Ok(bits) => Some(PlainValue::Bits(bits)),
+        Err(_) => None,
+    }
+}
+
+fn element(text: &'static [u8]) -> Option<PlainValue<'static>> {
+    match Word::read(text) {
+        Ok(word) => Some(PlainValue::Element(word)),
+        Err(_) => None,
+    }
+}
+
+/// The value with nothing inside.
+fn leaf(sketch: Sketch) -> Option<PlainValue<'static>> {
+    match sketch {
+        Sketch::Unset => Some(PlainValue::Unset),
+        Sketch::Derived => Some(PlainValue::Derived),
+        Sketch::Number(text) => number(text),
+        Sketch::Text(text) => string(text),
+        Sketch::Bits(text) => binary(text),
+        Sketch::Element(text) => element(text),
+        Sketch::Reference(name) => Some(PlainValue::Reference(name)),
+        _ => None,
+    }
+}
+
+/// A value with the name of its type.
+fn typed(
     alloc: Global,
     name: &'static [u8],
     value: PlainValue<'static>,
-) -> Result<PlainValue<'static>, Fail> {
-    let value = Box::new(alloc, value)?;
-    Ok(PlainValue::Typed(Word::read(name)?, value))
-}
-
-pub(crate) fn value(alloc: Global, sketch: Sketch) -> Result<PlainValue<'static>, Fail> {
-    match sketch {
-        Sketch::Unset => Ok(PlainValue::Unset),
-        Sketch::Derived => Ok(PlainValue::Derived),
-        Sketch::Number(text) => Ok(PlainValue::Number(Decimal::read(text)?)),
-        Sketch::Text(text) => Ok(PlainValue::Text(Text::read(text)?)),
-        Sketch::Bits(text) => Ok(PlainValue::Bits(Bits::read(text)?)),
-        Sketch::Element(text) => Ok(PlainValue::Element(Word::read(text)?)),
-        Sketch::Reference(name) => Ok(PlainValue::Reference(name)),
-        Sketch::Typed(name, text) => {
-            typed(alloc, name, PlainValue::Number(Decimal::read(text)?))
-        }
-        Sketch::Sequence(texts) => Ok(PlainValue::Sequence(numbers(alloc, texts)?)),
-        Sketch::Bag(texts) => Ok(PlainValue::Bag(numbers(alloc, texts)?)),
-        Sketch::Bundle(names) => Ok(PlainValue::Bag(references(alloc, names)?)),
-        Sketch::Bundles(bags) => Ok(PlainValue::Bag(bundles(alloc, bags)?)),
+) -> Option<PlainValue<'static>> {
+    let Ok(word) = Word::read(name) else {
+        return None;
+    };
+    match Box::new(alloc, value) {
+        Ok(value) => Some(PlainValue::Typed(word, value)),
+        Err(_) => None,
     }
 }
 
-/// A row with one value.
-pub(crate) fn row(
+/// The last value as a typed one.
+fn close_typed(
     alloc: Global,
-    name: u64,
-    section: u32,
-    words: &[&'static [u8]],
-    value: PlainValue<'static>,
-) -> Result<PlainRow<'static>, Fail> {
-    let mut types = Vec::new(alloc);
-    for word in words {
-        types.push(Word::read(*word)?)?;
+    values: &mut Vec<PlainValue<'static>>,
+    name: &'static [u8],
+) -> Option<PlainValue<'static>> {
+    match values.pop() {
+        Some(value) => typed(alloc, name, value),
+        None => None,
     }
-    let mut values = Vec::new(alloc);
-    values.push(value)?;
-    Ok(PlainRow {
+}
+
+/// The last so many values, taken off the others.
+fn last(values: &mut Vec<PlainValue<'static>>, count: usize) -> Option<Vec<PlainValue<'static>>> {
+    if values.len() < count {
+        return None;
+    }
+    let mark = values.len() - count;
+    values.split_off(mark).ok()
+}
+
+fn sequence(values: &mut Vec<PlainValue<'static>>, count: usize) -> Option<PlainValue<'static>> {
+    match last(values, count) {
+        Some(inside) => Some(PlainValue::Sequence(inside)),
+        None => None,
+    }
+}
+
+fn bag(values: &mut Vec<PlainValue<'static>>, count: usize) -> Option<PlainValue<'static>> {
+    match last(values, count) {
+        Some(inside) => Some(PlainValue::Bag(inside)),
+        None => None,
+    }
+}
+
+/// The value of a step, for which the last ones may be taken off the others.
+fn made(
+    alloc: Global,
+    values: &mut Vec<PlainValue<'static>>,
+    sketch: Sketch,
+) -> Option<PlainValue<'static>> {
+    match sketch {
+        Sketch::Typed(name) => close_typed(alloc, values, name),
+        Sketch::Sequence(count) => sequence(values, count),
+        Sketch::Bag(count) => bag(values, count),
+        _ => leaf(sketch),
+    }
+}
+
+fn add_value(alloc: Global, values: &mut Vec<PlainValue<'static>>, sketch: Sketch) -> bool {
+    match made(alloc, values, sketch) {
+        Some(value) => values.push(value).is_ok(),
+        None => false,
+    }
+}
+
+fn add_values(alloc: Global, values: &mut Vec<PlainValue<'static>>, sketches: &[Sketch]) -> bool {
+    for sketch in sketches {
+        if !add_value(alloc, values, *sketch) {
+            return false;
+        }
+    }
+    true
+}
+
+fn add_types(types: &mut Vec<Word<'static>>, words: Words) -> bool {
+    for text in words {
+        let Ok(word) = Word::read(*text) else {
+            return false;
+        };
+        if types.push(word).is_err() {
+            return false;
+        }
+    }
+    true
+}
+
+/// Adds the values of a row, and what stands around them.
+fn add_within(
+    alloc: Global,
+    values: &mut Vec<PlainValue<'static>>,
+    sketches: &[Sketch],
+    around: Around,
+) -> bool {
+    add_values(alloc, values, around.0)
+        && add_values(alloc, values, sketches)
+        && add_values(alloc, values, around.1)
+}
+
+fn add_row(
+    alloc: Global,
+    rows: &mut Vec<PlainRow<'static>>,
+    written: Row<'_>,
+    around: Around,
+) -> bool {
+    let (name, section, words, sketches) = written;
+    let mut row: PlainRow<'static> = PlainRow {
         name,
         section,
-        types,
-        values,
-    })
-}
-
-pub(crate) fn rows(alloc: Global, sketches: Sketches) -> Result<Vec<PlainRow<'static>>, Fail> {
-    let mut rows = Vec::new(alloc);
-    for (name, section, types, sketch) in sketches {
-        let value = value(alloc, *sketch)?;
-        rows.push(row(alloc, *name, *section, *types, value)?)?;
+        types: Vec::new(alloc),
+        values: Vec::new(alloc),
+    };
+    let is_whole = add_types(&mut row.types, words)
+        && add_within(alloc, &mut row.values, sketches, around);
+    if !is_whole {
+        return false;
     }
-    Ok(rows)
+    rows.push(row).is_ok()
 }
 
+fn add_rows(alloc: Global, rows: &mut Vec<PlainRow<'static>>, written: Rows) -> bool {
+    for row in written {
+        if !add_row(alloc, rows, *row, ALONE) {
+            return false;
+        }
+    }
+    true
+}
+
+/// The nodes, and a fourth row with the value.
+fn add_holder(
+    alloc: Global,
+    rows: &mut Vec<PlainRow<'static>>,
+    sketches: Sketches,
+    around: Around,
+) -> bool {
+    add_rows(alloc, rows, NODES) && add_row(alloc, rows, (4, 0, HOLDER, sketches), around)
+}
+
+/// The name behind this one in a ring of so many.
+pub(crate) fn next(name: u64, length: u64) -> u64 {
+    if name < length { name + 1 } else { 1 }
+}
+
+/// `#1=NODE(#2);` `#2=NODE(#3);` and so on, the last one back to `#1`.
+fn add_ring(alloc: Global, rows: &mut Vec<PlainRow<'static>>, length: u64) -> bool {
+    for name in 1..=length {
+        let sketches = [Sketch::Reference(next(name, length))];
+        if !add_row(alloc, rows, (name, 0, NODE, sketches.as_slice()), ALONE) {
+            return false;
+        }
+    }
+    true
+}
+
+fn add_written(alloc: Global, rows: &mut Vec<PlainRow<'static>>, written: Written) -> bool {
+    match written {
+        Written::Rows(sketches) => add_rows(alloc, rows, sketches),
+        Written::Holder(sketches, around) => add_holder(alloc, rows, sketches, around),
+        Written::Ring(length) => add_ring(alloc, rows, length),
+    }
+}
+
+/// The population, or why the rows are none; the fault is `Memory` too where the rows can't be written.
 pub(crate) fn population(
     alloc: Global,
     keys: RandomState,
-    sketches: Sketches,
-) -> Result<Plain<'static>, Fail> {
-    let rows = rows(alloc, sketches)?;
-    Ok(Plain::from_rows(alloc, keys, rows)?)
+    written: Written,
+) -> Result<Plain<'static>, PlainFault> {
+    let mut rows: Vec<PlainRow<'static>> = Vec::new(alloc);
+    if !add_written(alloc, &mut rows, written) {
+        return Err(PlainFault::Memory);
+    }
+    Plain::from_rows(alloc, keys, rows)
 }
 
-const FAULTS: [(Sketches, PlainFault); 2] = [
+/// What is tested, rows that are no population, and why.
+type Case = (&'static str, Rows, PlainFault);
+
+const FAULTS: &'static [Case] = &[
     (
+        "a name twice",
         &[
-            (1, 0, &[b"POINT"], Sketch::Number(b"1.")),
-            (1, 0, &[b"PLACEMENT"], Sketch::Reference(9)),
+            (1, 0, &[b"POINT"], &[Sketch::Number(b"1.")]),
+            (1, 0, &[b"PLACEMENT"], &[Sketch::Reference(9)]),
         ],
         PlainFault::DuplicateRow,
     ),
     (
-        &[(1, 0, &[b"PLACEMENT"], Sketch::Reference(9))],
+        "a reference to nothing",
+        &[(1, 0, &[b"PLACEMENT"], &[Sketch::Reference(9)])],
         PlainFault::UnknownReference,
     ),
 ];
 
-#[test]
-fn rows_are_checked(rt: HostRuntime) -> Result<(), Fail> {
-    let keys = RandomState::new(&rt)?;
-    let alloc = rt.alloc();
-    for (sketches, fault) in FAULTS {
-        let rows = rows(alloc, sketches)?;
-        assert_eq!(rt; Plain::from_rows(alloc, keys, rows).err(), Some(fault));
+fn has_fault(alloc: Global, keys: RandomState, rows: Rows, fault: PlainFault) -> bool {
+    match population(alloc, keys, Written::Rows(rows)) {
+        Ok(_) => false,
+        Err(other) => other == fault,
     }
-    Ok(())
+}
+
+/// What is tested by the first case that has no such fault.
+pub(crate) fn wrong_case(alloc: Global, keys: RandomState) -> Option<&'static str> {
+    for (what, rows, fault) in FAULTS {
+        if !has_fault(alloc, keys, *rows, *fault) {
+            return Some(*what);
+        }
+    }
+    None
 }

@@ -1,77 +1,62 @@
 //! Rings of many rows, each referring to the next, and the shorter rings that they are led to.
 
-use crate::images::is_map_image;
-use crate::populations::row;
+use crate::images::{Asked, is_told};
+use crate::populations::{Written, next};
 use std::alloc::Global;
 use std::hash::RandomState;
-use std::test::Fail;
-use step_equal::plain::Plain;
-use step_values::value::PlainValue;
 
 const ROWS: u64 = 2000;
 
-/// The length of another ring, the pinned rows, and whether leading rows to it one after another is an image: its
-/// length has to divide the number of rows.
-const RINGS: [(u64, &'static [u64], bool); 7] = [
-    (1, &[], true),
-    (1, &[2001], true),
-    (1000, &[], true),
-    (3, &[], false),
-    (2000, &[1, 2, 2000], true),
-    (1000, &[7], false),
-    (1, &[2000], false),
+/// What is tested, the length of another ring, the pinned rows, and whether leading rows to it one after another is
+/// an image: its length has to divide the number of rows.
+type Case = (&'static str, u64, &'static [u64], bool);
+
+const CASES: &'static [Case] = &[
+    ("a ring of one", 1, &[], true),
+    ("a pinned name that none has", 1, &[2001], true),
+    ("half the length", 1000, &[], true),
+    ("a length that doesn't divide it", 3, &[], false),
+    ("the same length", 2000, &[1, 2, 2000], true),
+    ("two led to where one is pinned", 1000, &[7], false),
+    ("all led to where one is pinned", 1, &[2000], false),
 ];
 
-fn next(name: u64, length: u64) -> u64 {
-    if name < length { name + 1 } else { 1 }
-}
-
-/// `#1=NODE(#2);` `#2=NODE(#3);` and so on, the last one back to `#1`.
-fn ring(alloc: Global, keys: RandomState, length: u64) -> Result<Plain<'static>, Fail> {
-    let mut rows = Vec::new(alloc);
-    for name in 1..=length {
-        let value = PlainValue::Reference(next(name, length));
-        rows.push(row(alloc, name, 0, &[b"NODE"], value)?)?;
-    }
-    Ok(Plain::from_rows(alloc, keys, rows)?)
-}
-
-/// Each name of the long ring with one of a ring of this length.
-fn turns(alloc: Global, length: u64) -> Result<Vec<(u64, u64)>, Fail> {
-    let mut pairs = Vec::new(alloc);
+/// Adds each name of the long ring with one of a ring of this length.
+fn add_turns(pairs: &mut Vec<(u64, u64)>, length: u64) -> bool {
     let mut other = length;
     for name in 1..=ROWS {
         other = next(other, length);
-        pairs.push((name, other))?;
-    }
-    Ok(pairs)
-}
-
-fn is_ring_image(
-    alloc: Global,
-    keys: RandomState,
-    length: u64,
-    pinned: &[u64],
-) -> Result<bool, Fail> {
-    let pairs = turns(alloc, length)?;
-    let from = ring(alloc, keys, ROWS)?;
-    let to = ring(alloc, keys, length)?;
-    is_map_image(alloc, keys, (&from, &to), &pairs, pinned)
-}
-
-/// The length of the first ring that isn't told.
-fn wrong_ring(alloc: Global, keys: RandomState) -> Result<Option<u64>, Fail> {
-    for (length, pinned, want) in RINGS {
-        if is_ring_image(alloc, keys, length, pinned)? != want {
-            return Ok(Some(length));
+        if pairs.push((name, other)).is_err() {
+            return false;
         }
     }
-    Ok(None)
+    true
 }
 
-#[test]
-fn rings_are_images_of_longer_ones(rt: HostRuntime) -> Result<(), Fail> {
-    let keys = RandomState::new(&rt)?;
-    assert_eq!(rt; wrong_ring(rt.alloc(), keys)?, None);
-    Ok(())
+/// Whether it is told of these pairs.
+fn is_told_by(alloc: Global, keys: RandomState, case: &Case, pairs: &[(u64, u64)]) -> bool {
+    let (_, length, pinned, is_image) = *case;
+    let asked = Asked {
+        from: Written::Ring(ROWS),
+        to: Written::Ring(length),
+        pairs,
+        pinned,
+        is_image,
+    };
+    is_told(alloc, keys, &asked)
+}
+
+fn is_right(alloc: Global, keys: RandomState, case: &Case) -> bool {
+    let mut pairs = Vec::new(alloc);
+    add_turns(&mut pairs, case.1) && is_told_by(alloc, keys, case, &pairs)
+}
+
+/// What is tested by the first case that isn't answered so.
+pub(crate) fn wrong_case(alloc: Global, keys: RandomState) -> Option<&'static str> {
+    for case in CASES {
+        if !is_right(alloc, keys, case) {
+            return Some(case.0);
+        }
+    }
+    None
 }

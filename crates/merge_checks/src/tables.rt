@@ -1,48 +1,66 @@
 //! Classes by rounds, read from a table.
 
-use std::alloc::{AllocError, Global};
-use std::test::Fail;
+use std::alloc::Global;
 use step_equal::table::{Origin, Table};
 
-fn split(parent: u32, round: u32) -> Origin {
-    Origin::Split { parent, round }
-}
-
-/// Four classes that split one after another, and one whose parent is itself. No class has the number of the last
-/// member's.
-fn table(alloc: Global) -> Result<Table, AllocError> {
-    let classes = vec![in alloc;
-        Origin::Start,
-        split(0, 1),
-        split(1, 2),
-        split(2, 3),
-        split(4, 3),
-    ]?;
-    let members = vec![in alloc; (7, 3), (8, 4), (9, 5)]?;
-    Ok(Table {
-        rounds: 3,
-        classes,
-        members,
-    })
-}
-
-/// A name, a round, and the class.
-const CLASSES: [(u64, u32, Option<u32>); 8] = [
-    (7, 0, Some(0)),
-    (7, 1, Some(1)),
-    (7, 2, Some(2)),
-    (7, 3, Some(3)),
-    (8, 3, Some(4)),
-    (8, 2, None),
-    (9, 3, None),
-    (1, 3, None),
+/// Four classes that split one after another, and one whose parent is itself.
+const CLASSES: &'static [Origin] = &[
+    Origin::Start,
+    Origin::Split {
+        parent: 0,
+        round: 1,
+    },
+    Origin::Split {
+        parent: 1,
+        round: 2,
+    },
+    Origin::Split {
+        parent: 2,
+        round: 3,
+    },
+    Origin::Split {
+        parent: 4,
+        round: 3,
+    },
 ];
 
-#[test]
-fn climbs_to_the_class_of_a_round(rt: HostRuntime) -> Result<(), Fail> {
-    let table = table(rt.alloc())?;
-    for (name, round, class) in CLASSES {
-        assert_eq!(rt; table.class_at(name, round), class, "{name} at {round}");
+/// Names with their classes at the last round. No class has the number of the last one's.
+const MEMBERS: &'static [(u64, u32)] = &[(7, 3), (8, 4), (9, 5)];
+
+/// What is tested, a name, a round, and the class.
+const CASES: &'static [(&'static str, u64, u32, Option<u32>)] = &[
+    ("the first round", 7, 0, Some(0)),
+    ("the second one", 7, 1, Some(1)),
+    ("the third one", 7, 2, Some(2)),
+    ("the last one", 7, 3, Some(3)),
+    ("its own parent, when it is there", 8, 3, Some(4)),
+    ("its own parent, before", 8, 2, None),
+    ("no class of the number", 9, 3, None),
+    ("no member", 1, 3, None),
+];
+
+/// What is tested by the first case that isn't answered so.
+fn wrong_case(table: &Table) -> Option<&'static str> {
+    for (what, name, round, class) in CASES {
+        if table.class_at(*name, *round) != *class {
+            return Some(*what);
+        }
     }
-    Ok(())
+    None
+}
+
+/// The same, of the table.
+pub(crate) fn wrong_class(alloc: Global) -> Option<&'static str> {
+    let mut table = Table {
+        rounds: 3,
+        classes: Vec::new(alloc),
+        members: Vec::new(alloc),
+    };
+    let is_whole = table.classes.extend_from_slice(CLASSES).is_ok()
+        && table.members.extend_from_slice(MEMBERS).is_ok();
+    if is_whole {
+        wrong_case(&table)
+    } else {
+        Some("the table")
+    }
 }

@@ -1,260 +1,270 @@
 //! Values of each kind, alone and within others: which agree, told by maps between populations that hold them.
 
-use crate::images::is_map_image;
-use crate::populations::{Sketch, Sketches, row, rows, typed, value};
+use crate::images::{Asked, is_told};
+use crate::populations::{ALONE, Around, Sketch, Sketches, Written};
 use std::alloc::Global;
 use std::hash::RandomState;
-use std::test::Fail;
-use step_equal::plain::Plain;
-use step_values::value::PlainValue;
 
-/// Where in its row a value stands.
-#[derive(Clone, Copy)]
-enum Place {
-    Alone,
-    InType,
-    InSequence,
-    /// In a bag, in one population before an unset value, in the other behind it.
-    InBag,
-}
+const IN_TYPE: Around = (&[], &[Sketch::Typed(b"HELD")]);
 
-const PLACES: [Place; 4] = [Place::Alone, Place::InType, Place::InSequence, Place::InBag];
+const IN_SEQUENCE: Around = (&[], &[Sketch::Sequence(1)]);
+
+/// In a bag, behind an unset value.
+const LAST_IN_BAG: Around = (&[Sketch::Unset], &[Sketch::Bag(2)]);
+
+/// In a bag, before an unset value.
+const FIRST_IN_BAG: Around = (&[], &[Sketch::Unset, Sketch::Bag(2)]);
+
+/// Where a value stands in two populations.
+const PLACES: &'static [(Around, Around)] = &[
+    (ALONE, ALONE),
+    (IN_TYPE, IN_TYPE),
+    (IN_SEQUENCE, IN_SEQUENCE),
+    (LAST_IN_BAG, FIRST_IN_BAG),
+];
 
 /// A value of each kind.
-const KINDS: &'static [Sketch] = &[
-    Sketch::Unset,
-    Sketch::Derived,
-    Sketch::Number(b"1."),
-    Sketch::Text(b"'1.'"),
-    Sketch::Bits(b"\"1C\""),
-    Sketch::Element(b"T"),
-    Sketch::Reference(1),
-    Sketch::Typed(b"T", b"1."),
-    Sketch::Sequence(&[b"1."]),
-    Sketch::Bag(&[b"1."]),
+const KINDS: &'static [(&'static str, Sketches)] = &[
+    ("an unset value alone", &[Sketch::Unset]),
+    ("a derived value alone", &[Sketch::Derived]),
+    ("a number alone", &[Sketch::Number(b"1.")]),
+    ("a string alone", &[Sketch::Text(b"'1.'")]),
+    ("a binary alone", &[Sketch::Bits(b"\"1C\"")]),
+    ("an element alone", &[Sketch::Element(b"T")]),
+    ("a reference alone", &[Sketch::Reference(1)]),
+    (
+        "a typed value alone",
+        &[Sketch::Number(b"1."), Sketch::Typed(b"T")],
+    ),
+    (
+        "a list alone",
+        &[Sketch::Number(b"1."), Sketch::Sequence(1)],
+    ),
+    ("a bag alone", &[Sketch::Number(b"1."), Sketch::Bag(1)]),
 ];
 
 /// What is tested, two values of one kind, and whether they agree.
-const PAIRS: &'static [(&'static str, Sketch, Sketch, bool)] = &[
+const PAIRS: &'static [(&'static str, Sketches, Sketches, bool)] = &[
     (
         "one number",
-        Sketch::Number(b"1."),
-        Sketch::Number(b"10.E-1"),
+        &[Sketch::Number(b"1.")],
+        &[Sketch::Number(b"10.E-1")],
         true,
     ),
     (
         "two numbers",
-        Sketch::Number(b"1."),
-        Sketch::Number(b"-1."),
+        &[Sketch::Number(b"1.")],
+        &[Sketch::Number(b"-1.")],
         false,
     ),
     (
         "one string",
-        Sketch::Text(b"'\\S\\i'"),
-        Sketch::Text(b"'\xC3\xA9'"),
+        &[Sketch::Text(b"'\\S\\i'")],
+        &[Sketch::Text(b"'\xC3\xA9'")],
         true,
     ),
     (
         "two strings",
-        Sketch::Text(b"'\\S\\i'"),
-        Sketch::Text(b"'\\PB\\\\S\\i'"),
+        &[Sketch::Text(b"'\\S\\i'")],
+        &[Sketch::Text(b"'\\PB\\\\S\\i'")],
         false,
     ),
     (
         "one binary",
-        Sketch::Bits(b"\"23\""),
-        Sketch::Bits(b"\"27\""),
+        &[Sketch::Bits(b"\"23\"")],
+        &[Sketch::Bits(b"\"27\"")],
         true,
     ),
     (
         "two binaries",
-        Sketch::Bits(b"\"23\""),
-        Sketch::Bits(b"\"3F\""),
+        &[Sketch::Bits(b"\"23\"")],
+        &[Sketch::Bits(b"\"3F\"")],
         false,
     ),
     (
         "one element",
-        Sketch::Element(b"STEEL"),
-        Sketch::Element(b"Steel"),
+        &[Sketch::Element(b"STEEL")],
+        &[Sketch::Element(b"Steel")],
         true,
     ),
     (
         "two elements",
-        Sketch::Element(b"STEEL"),
-        Sketch::Element(b"STEE"),
+        &[Sketch::Element(b"STEEL")],
+        &[Sketch::Element(b"STEE")],
         false,
     ),
-    ("one name", Sketch::Reference(2), Sketch::Reference(2), true),
+    (
+        "one name",
+        &[Sketch::Reference(2)],
+        &[Sketch::Reference(2)],
+        true,
+    ),
     (
         "two names",
-        Sketch::Reference(1),
-        Sketch::Reference(2),
+        &[Sketch::Reference(1)],
+        &[Sketch::Reference(2)],
         false,
     ),
     (
         "one type",
-        Sketch::Typed(b"LENGTH", b"1."),
-        Sketch::Typed(b"length", b"1.0"),
+        &[Sketch::Number(b"1."), Sketch::Typed(b"LENGTH")],
+        &[Sketch::Number(b"1.0"), Sketch::Typed(b"length")],
         true,
     ),
     (
         "two types",
-        Sketch::Typed(b"LENGTH", b"1."),
-        Sketch::Typed(b"WIDTH", b"1."),
+        &[Sketch::Number(b"1."), Sketch::Typed(b"LENGTH")],
+        &[Sketch::Number(b"1."), Sketch::Typed(b"WIDTH")],
         false,
     ),
     (
         "typed values",
-        Sketch::Typed(b"LENGTH", b"1."),
-        Sketch::Typed(b"LENGTH", b"2."),
+        &[Sketch::Number(b"1."), Sketch::Typed(b"LENGTH")],
+        &[Sketch::Number(b"2."), Sketch::Typed(b"LENGTH")],
         false,
     ),
     (
         "lists",
-        Sketch::Sequence(&[b"1.", b"2."]),
-        Sketch::Sequence(&[b"1.0", b"2.0"]),
+        &[
+            Sketch::Number(b"1."),
+            Sketch::Number(b"2."),
+            Sketch::Sequence(2),
+        ],
+        &[
+            Sketch::Number(b"1.0"),
+            Sketch::Number(b"2.0"),
+            Sketch::Sequence(2),
+        ],
         true,
     ),
     (
         "their order",
-        Sketch::Sequence(&[b"1.", b"2."]),
-        Sketch::Sequence(&[b"2.", b"1."]),
+        &[
+            Sketch::Number(b"1."),
+            Sketch::Number(b"2."),
+            Sketch::Sequence(2),
+        ],
+        &[
+            Sketch::Number(b"2."),
+            Sketch::Number(b"1."),
+            Sketch::Sequence(2),
+        ],
         false,
     ),
     (
         "their lengths",
-        Sketch::Sequence(&[b"1."]),
-        Sketch::Sequence(&[b"1.", b"1."]),
+        &[Sketch::Number(b"1."), Sketch::Sequence(1)],
+        &[
+            Sketch::Number(b"1."),
+            Sketch::Number(b"1."),
+            Sketch::Sequence(2),
+        ],
         false,
     ),
     (
         "bags",
-        Sketch::Bag(&[b"1.", b"2.", b"1."]),
-        Sketch::Bag(&[b"2.0", b"1.", b"1."]),
+        &[
+            Sketch::Number(b"1."),
+            Sketch::Number(b"2."),
+            Sketch::Number(b"1."),
+            Sketch::Bag(3),
+        ],
+        &[
+            Sketch::Number(b"2.0"),
+            Sketch::Number(b"1."),
+            Sketch::Number(b"1."),
+            Sketch::Bag(3),
+        ],
         true,
     ),
     (
         "how often",
-        Sketch::Bag(&[b"1.", b"2.", b"1."]),
-        Sketch::Bag(&[b"2.", b"1.", b"2."]),
+        &[
+            Sketch::Number(b"1."),
+            Sketch::Number(b"2."),
+            Sketch::Number(b"1."),
+            Sketch::Bag(3),
+        ],
+        &[
+            Sketch::Number(b"2."),
+            Sketch::Number(b"1."),
+            Sketch::Number(b"2."),
+            Sketch::Bag(3),
+        ],
         false,
     ),
     (
         "their sizes",
-        Sketch::Bag(&[b"1."]),
-        Sketch::Bag(&[b"1.", b"1."]),
+        &[Sketch::Number(b"1."), Sketch::Bag(1)],
+        &[Sketch::Number(b"1."), Sketch::Number(b"1."), Sketch::Bag(2)],
         false,
     ),
 ];
 
-/// `#1=NODE(#1);` `#2=NODE(#2);`
-const NODES: Sketches = &[
-    (1, 0, &[b"NODE"], Sketch::Reference(1)),
-    (2, 0, &[b"NODE"], Sketch::Reference(2)),
-];
+/// Each row led to itself.
+const ITSELF: &'static [(u64, u64)] = &[(1, 1), (2, 2), (3, 3), (4, 4)];
 
-fn held(
-    alloc: Global,
-    value: PlainValue<'static>,
-    place: Place,
-    first: bool,
-) -> Result<PlainValue<'static>, Fail> {
-    let mut around = Vec::new(alloc);
-    match place {
-        Place::Alone => Ok(value),
-        Place::InType => typed(alloc, b"HELD", value),
-        Place::InSequence => {
-            around.push(value)?;
-            Ok(PlainValue::Sequence(around))
-        }
-        Place::InBag => {
-            around.push(value)?;
-            around.push(PlainValue::Unset)?;
-            if first {
-                around.reverse();
-            }
-            Ok(PlainValue::Bag(around))
-        }
-    }
-}
-
-/// The nodes, and a third row with the value.
-fn holder(
+/// Whether this is the answer where the values stand so.
+fn is_told_at(
     alloc: Global,
     keys: RandomState,
-    sketch: Sketch,
-    place: Place,
-    first: bool,
-) -> Result<Plain<'static>, Fail> {
-    let mut rows = rows(alloc, NODES)?;
-    let value = value(alloc, sketch)?;
-    let value = held(alloc, value, place, first)?;
-    rows.push(row(alloc, 3, 0, &[b"HOLDER"], value)?)?;
-    Ok(Plain::from_rows(alloc, keys, rows)?)
-}
-
-fn agree(
-    alloc: Global,
-    keys: RandomState,
-    first: Sketch,
-    second: Sketch,
-    place: Place,
-) -> Result<bool, Fail> {
-    let from = holder(alloc, keys, first, place, true)?;
-    let to = holder(alloc, keys, second, place, false)?;
-    is_map_image(alloc, keys, (&from, &to), &[(1, 1), (2, 2), (3, 3)], &[])
+    first: (Sketches, Around),
+    second: (Sketches, Around),
+    agree: bool,
+) -> bool {
+    let asked = Asked {
+        from: Written::Holder(first.0, first.1),
+        to: Written::Holder(second.0, second.1),
+        pairs: ITSELF,
+        pinned: &[],
+        is_image: agree,
+    };
+    is_told(alloc, keys, &asked)
 }
 
 /// Whether this is the answer, wherever the values stand.
-fn is_told(
+fn is_told_everywhere(
     alloc: Global,
     keys: RandomState,
-    first: Sketch,
-    second: Sketch,
-    want: bool,
-) -> Result<bool, Fail> {
-    for place in PLACES {
-        if agree(alloc, keys, first, second, place)? != want {
-            return Ok(false);
+    first: Sketches,
+    second: Sketches,
+    agree: bool,
+) -> bool {
+    for (place, other) in PLACES {
+        if !is_told_at(alloc, keys, (first, *place), (second, *other), agree) {
+            return false;
         }
     }
-    Ok(true)
+    true
 }
 
 /// What is tested by the first pair that isn't told so.
-fn wrong_pair(alloc: Global, keys: RandomState) -> Result<Option<&'static str>, Fail> {
-    for (what, first, second, want) in PAIRS {
-        if !is_told(alloc, keys, *first, *second, *want)? {
-            return Ok(Some(*what));
+pub(crate) fn wrong_pair(alloc: Global, keys: RandomState) -> Option<&'static str> {
+    for (what, first, second, agree) in PAIRS {
+        if !is_told_everywhere(alloc, keys, *first, *second, *agree) {
+            return Some(*what);
         }
     }
-    Ok(None)
+    None
 }
 
 /// Whether a kind is told from each: it agrees with itself alone.
-fn is_apart(alloc: Global, keys: RandomState, kind: usize, first: Sketch) -> Result<bool, Fail> {
-    for (i, second) in KINDS.iter().enumerate() {
-        if !is_told(alloc, keys, first, *second, i == kind)? {
-            return Ok(false);
+fn is_apart(alloc: Global, keys: RandomState, kind: usize, value: Sketches) -> bool {
+    for i in 0..KINDS.len() {
+        if !is_told_everywhere(alloc, keys, value, KINDS[i].1, i == kind) {
+            return false;
         }
     }
-    Ok(true)
+    true
 }
 
 /// The first kind that isn't told from each.
-fn wrong_kind(alloc: Global, keys: RandomState) -> Result<Option<usize>, Fail> {
-    for (i, first) in KINDS.iter().enumerate() {
-        if !is_apart(alloc, keys, i, *first)? {
-            return Ok(Some(i));
+pub(crate) fn wrong_kind(alloc: Global, keys: RandomState) -> Option<&'static str> {
+    for i in 0..KINDS.len() {
+        let (what, value) = KINDS[i];
+        if !is_apart(alloc, keys, i, value) {
+            return Some(what);
         }
     }
-    Ok(None)
-}
-
-#[test]
-fn values_agree_by_value(rt: HostRuntime) -> Result<(), Fail> {
-    let keys = RandomState::new(&rt)?;
-    assert_eq!(rt; wrong_pair(rt.alloc(), keys)?, None);
-    assert_eq!(rt; wrong_kind(rt.alloc(), keys)?, None);
-    Ok(())
+    None
 }

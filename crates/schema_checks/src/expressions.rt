@@ -1,18 +1,17 @@
 //! Expressions of worked texts.
 
 use crate::outline::outline;
+use crate::rows::expect_none;
 use express_expressions::read::read_expression;
 use express_lexis::lexer::Lexer;
-use express_text::expression::Expr;
 use express_trees::lexeme::Lexeme;
 use std::alloc::{AllocError, Global};
-use std::test::Fail;
 
-// A text, how many brackets are open around it, and the outline of the expression that it is; nothing where it is
-// none.
-type Row = (&'static [u8], u32, &'static [u8]);
+// A text, how many brackets are open around it, and the outline of the expression that it is;
+// nothing where it is none.
+type Case = (&'static [u8], u32, &'static [u8]);
 
-const EXPRESSIONS: &'static [Row] = &[
+const CASES: &'static [Case] = &[
     (b"a", 0, b"a"),
     (b"- 1", 0, b"-1"),
     (b"?", 0, b"?"),
@@ -54,39 +53,52 @@ const EXPRESSIONS: &'static [Row] = &[
     (b"(a)", 64, b""),
 ];
 
-// The expression that a text is, in so many brackets.
-fn read<'a>(alloc: Global, text: &'a [u8], depth: u32) -> Result<Option<Expr<'a>>, AllocError> {
+// Adds what the tokens of a text are, up to its end or to a fault.
+fn add_lexemes<'a>(text: &'a [u8], lexemes: &mut Vec<Lexeme<'a>>) -> Result<(), AllocError> {
     let mut lexer = Lexer::new(text);
-    let mut lexemes = Vec::new(alloc);
     for _ in 0..200 {
         match lexer.next_token() {
             Ok(Some(token)) => lexemes.push(Lexeme::of(&token))?,
             _ => break,
         }
     }
-    read_expression(alloc, lexemes.as_slice(), depth)
+    Ok(())
 }
 
-fn is_read(alloc: Global, row: Row) -> Result<bool, AllocError> {
-    let (text, depth, wanted) = row;
-    let mut found = Vec::new(alloc);
-    if let Some(expression) = read(alloc, text, depth)? {
-        outline(&expression, &mut found)?;
+// Whether nothing is left of a text that there is.
+fn is_whole(left: Option<&[u8]>) -> bool {
+    match left {
+        Some(left) => left.is_empty(),
+        None => false,
     }
-    Ok(found.as_slice() == wanted)
 }
 
-fn first_wrong(alloc: Global, rows: &[Row]) -> Result<Option<usize>, AllocError> {
-    for i in 0..rows.len() {
-        if !is_read(alloc, rows[i])? {
-            return Ok(Some(i));
+// Whether this is the outline of what lexemes are, in so many brackets.
+fn are_outlined(alloc: Global, lexemes: &[Lexeme<'_>], depth: u32, wanted: &[u8]) -> bool {
+    match read_expression(alloc, lexemes, depth) {
+        Ok(Some(expression)) => is_whole(outline(Some(wanted), &expression)),
+        Ok(None) => wanted.is_empty(),
+        Err(_) => false,
+    }
+}
+
+fn is_right(alloc: Global, case: Case) -> bool {
+    let (text, depth, wanted) = case;
+    let mut lexemes = Vec::new(alloc);
+    add_lexemes(text, &mut lexemes).is_ok() && are_outlined(alloc, &lexemes, depth, wanted)
+}
+
+// The first case that is read as another expression.
+fn wrong_case(alloc: Global, cases: &[Case]) -> Option<usize> {
+    for i in 0..cases.len() {
+        if !is_right(alloc, cases[i]) {
+            return Some(i);
         }
     }
-    Ok(None)
+    None
 }
 
 #[test]
-fn expressions_are_trees(rt: HostRuntime) -> Result<(), Fail> {
-    assert_eq!(rt; first_wrong(rt.alloc(), EXPRESSIONS)?, None);
-    Ok(())
+fn expressions_are_trees(rt: HostRuntime) {
+    expect_none(&rt, wrong_case(rt.alloc(), CASES));
 }

@@ -4,12 +4,16 @@
 #[cfg(test)]
 mod expressions;
 #[cfg(test)]
+mod faults;
+#[cfg(test)]
 mod names;
 #[cfg(test)]
 mod outline;
 #[cfg(test)]
-mod schemas;
+mod questions;
+#[cfg(test)]
+mod rows;
 #[cfg(test)]
 mod tokens;
 #[cfg(test)]
-mod values;
+mod trees;

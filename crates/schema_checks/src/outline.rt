@@ -4,11 +4,13 @@ use express_text::expression::{
     Alternative, Expr, Function, Junction, Limit, Literal, Logical, Number, Qualifier, Relation,
     Root, Sign,
 };
-use std::alloc::AllocError;
 
-fn put(out: &mut Vec<u8>, text: &[u8]) -> Result<(), AllocError> {
-    out.extend_from_slice(text)?;
-    Ok(())
+// What is left of a text behind a front; none where it doesn't begin so, or is none.
+fn behind<'w>(text: Option<&'w [u8]>, front: &[u8]) -> Option<&'w [u8]> {
+    match text {
+        Some(text) => text.strip_prefix(front),
+        None => None,
+    }
 }
 
 fn number_text<'a>(number: &Number<'a>) -> &'a [u8] {
@@ -67,6 +69,13 @@ fn sign_text(sign: Sign) -> &'static [u8] {
     }
 }
 
+fn junction_text(junction: Junction) -> &'static [u8] {
+    match junction {
+        Junction::Or => b"OR(",
+        Junction::Xor => b"XOR(",
+    }
+}
+
 fn root_text<'a>(root: &Root<'a>) -> &'a [u8] {
     match root {
         Root::SelfInstance => b"SELF",
@@ -74,25 +83,15 @@ fn root_text<'a>(root: &Root<'a>) -> &'a [u8] {
     }
 }
 
-/// Puts the outline of an expression behind what is there.
+/// What is left of a text behind the outline of an expression; none where it doesn't begin so.
 #[cycle(outline)]
-pub fn outline(expression: &Expr<'_>, out: &mut Vec<u8>) -> Result<(), AllocError> {
+pub(crate) fn outline<'w>(text: Option<&'w [u8]>, expression: &Expr<'_>) -> Option<&'w [u8]> {
     match expression {
-        Expr::Literal(literal) => put(out, literal_text(literal)),
-        Expr::Signed(sign, number) => {
-            put(out, sign_text(*sign))?;
-            put(out, number_text(number))
-        }
-        Expr::Reference(root, qualifiers) => {
-            put(out, root_text(root))?;
-            selected(qualifiers, out)
-        }
-        Expr::Parenthesized(inner) => around(b"(", inner, b")", out),
-        Expr::Aggregate(items) => {
-            put(out, b"[")?;
-            each(items, out)?;
-            put(out, b"]")
-        }
+        Expr::Literal(literal) => behind(text, literal_text(literal)),
+        Expr::Signed(sign, number) => behind(behind(text, sign_text(*sign)), number_text(number)),
+        Expr::Reference(root, qualifiers) => selected(behind(text, root_text(root)), qualifiers),
+        Expr::Parenthesized(inner) => around(text, b"(", inner, b")"),
+        Expr::Aggregate(items) => behind(each(behind(text, b"["), items), b"]"),
         Expr::Interval {
             low,
             above,
@@ -100,110 +99,101 @@ pub fn outline(expression: &Expr<'_>, out: &mut Vec<u8>) -> Result<(), AllocErro
             below,
             high,
         } => {
-            around(b"{", low, limit_text(*above), out)?;
-            around(b"", item, limit_text(*below), out)?;
-            around(b"", high, b"}", out)
+            let text = around(text, b"{", low, limit_text(*above));
+            let text = around(text, b"", item, limit_text(*below));
+            around(text, b"", high, b"}")
         }
         Expr::Query {
             variable,
             source,
             condition,
         } => {
-            put(out, b"QUERY(")?;
-            put(out, variable.spelling())?;
-            around(b" ", source, b" ", out)?;
-            around(b"", condition, b")", out)
+            let text = behind(behind(text, b"QUERY("), variable.spelling());
+            let text = around(text, b" ", source, b" ");
+            around(text, b"", condition, b")")
         }
-        Expr::Call(function, argument) => around(function_text(*function), argument, b")", out),
-        Expr::Nvl(first, second) => {
-            around(b"NVL(", first, b" ", out)?;
-            around(b"", second, b")", out)
-        }
-        Expr::Not(inner) => around(b"NOT(", inner, b")", out),
+        Expr::Call(function, argument) => around(text, function_text(*function), argument, b")"),
+        Expr::Nvl(first, second) => around(around(text, b"NVL(", first, b" "), b"", second, b")"),
+        Expr::Not(inner) => around(text, b"NOT(", inner, b")"),
         Expr::Conjunction(first, others) => {
-            around(b"AND(", first, b" ", out)?;
-            each(others, out)?;
-            put(out, b")")
+            behind(each(around(text, b"AND(", first, b" "), others), b")")
         }
         Expr::Disjunction(first, others) => {
-            openings(others, out)?;
-            outline(first, out)?;
-            alternatives(others, out)
+            alternatives(outline(openings(text, others), first), others)
         }
         Expr::Comparison(left, relation, right) => {
-            around(relation_text(*relation), left, b" ", out)?;
-            around(b"", right, b")", out)
+            around(
+                around(text, relation_text(*relation), left, b" "),
+                b"",
+                right,
+                b")",
+            )
         }
     }
 }
 
 /// An expression between two texts.
 #[cycle(outline)]
-fn around(
+fn around<'w>(
+    text: Option<&'w [u8]>,
     before: &[u8],
     expression: &Expr<'_>,
-    behind: &[u8],
-    out: &mut Vec<u8>,
-) -> Result<(), AllocError> {
-    put(out, before)?;
-    outline(expression, out)?;
-    put(out, behind)
+    after: &[u8],
+) -> Option<&'w [u8]> {
+    behind(outline(behind(text, before), expression), after)
 }
 
 /// Some expressions, with spaces between.
 #[cycle(outline)]
-fn each(expressions: &[Expr<'_>], out: &mut Vec<u8>) -> Result<(), AllocError> {
+fn each<'w>(text: Option<&'w [u8]>, expressions: &[Expr<'_>]) -> Option<&'w [u8]> {
+    let mut text = text;
     for i in 0..expressions.len() {
         if i > 0 {
-            put(out, b" ")?;
+            text = behind(text, b" ");
         }
-        outline(&expressions[i], out)?;
+        text = outline(text, &expressions[i]);
     }
-    Ok(())
+    text
 }
 
 /// What a reference selects.
 #[cycle(outline)]
-fn selected(qualifiers: &[Qualifier<'_>], out: &mut Vec<u8>) -> Result<(), AllocError> {
+fn selected<'w>(text: Option<&'w [u8]>, qualifiers: &[Qualifier<'_>]) -> Option<&'w [u8]> {
+    let mut text = text;
     for qualifier in qualifiers {
-        select(qualifier, out)?;
+        text = select(text, qualifier);
     }
-    Ok(())
+    text
 }
 
 #[cycle(outline)]
-fn select(qualifier: &Qualifier<'_>, out: &mut Vec<u8>) -> Result<(), AllocError> {
+fn select<'w>(text: Option<&'w [u8]>, qualifier: &Qualifier<'_>) -> Option<&'w [u8]> {
     match qualifier {
-        Qualifier::Attribute(name) => {
-            put(out, b".")?;
-            put(out, name.spelling())
-        }
+        Qualifier::Attribute(name) => behind(behind(text, b"."), name.spelling()),
         Qualifier::Group(entity, name) => {
-            put(out, b"\\")?;
-            put(out, entity.spelling())?;
-            put(out, b".")?;
-            put(out, name.spelling())
+            let text = behind(behind(text, b"\\"), entity.spelling());
+            behind(behind(text, b"."), name.spelling())
         }
-        Qualifier::Index(index) => around(b"[", index, b"]", out),
+        Qualifier::Index(index) => around(text, b"[", index, b"]"),
     }
 }
 
 /// The operators of a disjunction, the last before the others.
-fn openings(alternatives: &[Alternative<'_>], out: &mut Vec<u8>) -> Result<(), AllocError> {
+fn openings<'w>(text: Option<&'w [u8]>, alternatives: &[Alternative<'_>]) -> Option<&'w [u8]> {
+    let mut text = text;
     for i in 0..alternatives.len() {
-        match alternatives[alternatives.len() - 1 - i].junction {
-            Junction::Or => put(out, b"OR(")?,
-            Junction::Xor => put(out, b"XOR(")?,
-        }
+        let opening = junction_text(alternatives[alternatives.len() - 1 - i].junction);
+        text = behind(text, opening);
     }
-    Ok(())
+    text
 }
 
 /// The terms behind the first of a disjunction.
 #[cycle(outline)]
-fn alternatives(alternatives: &[Alternative<'_>], out: &mut Vec<u8>) -> Result<(), AllocError> {
+fn alternatives<'w>(text: Option<&'w [u8]>, alternatives: &[Alternative<'_>]) -> Option<&'w [u8]> {
+    let mut text = text;
     for alternative in alternatives {
-        around(b" ", &alternative.term, b")", out)?;
+        text = around(text, b" ", &alternative.term, b")");
     }
-    Ok(())
+    text
 }

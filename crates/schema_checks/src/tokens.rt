@@ -1,47 +1,28 @@
 //! Tokens of worked texts.
 
+use crate::rows::expect_none;
 use express_lexis::lexer::Lexer;
-use express_lexis::token::{Sort, TextFault};
-use std::test::Fail;
+use express_lexis::token::Sort;
+use step_literals::literal::Item;
 
-// A text, its tokens up to its end or to a fault, and the place of that fault.
-type Row<'a> = (&'a [u8], &'a [(u8, &'a [u8])], Option<u64>);
-
-// One letter for each kind of token.
-fn letter(sort: Sort<'_>) -> u8 {
-    match sort {
-        Sort::Word(_) => b'w',
-        Sort::Integer(_) => b'i',
-        Sort::Real(_) => b'r',
-        Sort::String(_) => b's',
-        Sort::Encoded(_) => b'e',
-        Sort::Binary(_) => b'b',
-        Sort::Mark(_) => b'm',
-    }
+/// What is asked of a text, with the answer.
+#[derive(Clone, Copy)]
+enum Question {
+    /// Its tokens up to its end or to a fault, and the place of that fault.
+    Tokens(&'static [(u8, &'static [u8])], Option<u64>),
+    /// The places before its first token is looked for, and behind it.
+    Places(u64, u64),
+    /// The codes of the characters of an encoded string.
+    Codes(&'static [u32]),
 }
 
-fn has_tokens(text: &[u8], wanted: &[(u8, &[u8])], fault: Option<u64>) -> bool {
-    let mut lexer = Lexer::new(text);
-    for (kind, spelling) in wanted {
-        let Ok(Some(token)) = lexer.next_token() else {
-            return false;
-        };
-        if letter(token.sort) != *kind || token.text != *spelling {
-            return false;
-        }
-    }
-    match lexer.next_token() {
-        Ok(None) => fault.is_none(),
-        Ok(Some(_)) => false,
-        Err(end) => fault == Some(end.place),
-    }
-}
+// A text and a question.
+type Case = (&'static [u8], Question);
 
-#[test]
-fn reads_tokens(rt: HostRuntime) {
-    let rows: [Row<'_>; 23] = [
-        (
-            b"\xEF\xBB\xBFSCHEMA geometry; -- (* no remark\nENTITY point (* a (* b *) c *)\n",
+const CASES: &'static [Case] = &[
+    (
+        b"\xEF\xBB\xBFSCHEMA geometry; -- (* no remark\nENTITY point (* a (* b *) c *)\n",
+        Question::Tokens(
             &[
                 (b'w', b"SCHEMA"),
                 (b'w', b"geometry"),
@@ -51,8 +32,10 @@ fn reads_tokens(rt: HostRuntime) {
             ],
             None,
         ),
-        (
-            b"  SUBTYPE OF (item);\n  x_1 : LIST [0:?] OF REAL;\nEND_ENTITY;--",
+    ),
+    (
+        b"  SUBTYPE OF (item);\n  x_1 : LIST [0:?] OF REAL;\nEND_ENTITY;--",
+        Question::Tokens(
             &[
                 (b'w', b"SUBTYPE"),
                 (b'w', b"OF"),
@@ -76,18 +59,23 @@ fn reads_tokens(rt: HostRuntime) {
             ],
             None,
         ),
-        // Remarks.
-        (b"", &[], None),
-        (b"a--b", &[(b'w', b"a")], None),
-        (b"--a\nb", &[(b'w', b"b")], None),
-        (b"(**)(* -- *)a", &[(b'w', b"a")], None),
-        (b"(* a (* b *) c *)d", &[(b'w', b"d")], None),
-        (b" (* a (* b *) c", &[], Some(1)),
-        (b"a(*)", &[(b'w', b"a")], Some(1)),
-        (b"*)", &[(b'm', b"*"), (b'm', b")")], None),
-        // The longest mark.
-        (
-            b":=::= :<>::<> :<*< **||",
+    ),
+    // Remarks.
+    (b"", Question::Tokens(&[], None)),
+    (b"a--b", Question::Tokens(&[(b'w', b"a")], None)),
+    (b"--a\nb", Question::Tokens(&[(b'w', b"b")], None)),
+    (b"(**)(* -- *)a", Question::Tokens(&[(b'w', b"a")], None)),
+    (
+        b"(* a (* b *) c *)d",
+        Question::Tokens(&[(b'w', b"d")], None),
+    ),
+    (b" (* a (* b *) c", Question::Tokens(&[], Some(1))),
+    (b"a(*)", Question::Tokens(&[(b'w', b"a")], Some(1))),
+    (b"*)", Question::Tokens(&[(b'm', b"*"), (b'm', b")")], None)),
+    // The longest mark.
+    (
+        b":=::= :<>::<> :<*< **||",
+        Question::Tokens(
             &[
                 (b'm', b":=:"),
                 (b'm', b":="),
@@ -102,14 +90,18 @@ fn reads_tokens(rt: HostRuntime) {
             ],
             None,
         ),
-        (
-            b"\\- ..",
+    ),
+    (
+        b"\\- ..",
+        Question::Tokens(
             &[(b'm', b"\\"), (b'm', b"-"), (b'm', b"."), (b'm', b".")],
             None,
         ),
-        // Literals.
-        (
-            b"01 1. 1.5e-3 1.E 1E5 -2",
+    ),
+    // Literals.
+    (
+        b"01 1. 1.5e-3 1.E 1E5 -2",
+        Question::Tokens(
             &[
                 (b'i', b"01"),
                 (b'r', b"1."),
@@ -123,8 +115,10 @@ fn reads_tokens(rt: HostRuntime) {
             ],
             None,
         ),
-        (
-            b"'it''s\n'  ''\"000000e9\"\"\"%0110",
+    ),
+    (
+        b"'it''s\n'  ''\"000000e9\"\"\"%0110",
+        Question::Tokens(
             &[
                 (b's', b"'it''s\n'"),
                 (b's', b"''"),
@@ -134,39 +128,108 @@ fn reads_tokens(rt: HostRuntime) {
             ],
             None,
         ),
-        // No token stands.
-        (b"a_ _", &[(b'w', b"a_")], Some(3)),
-        (b" 'it''s", &[], Some(1)),
-        (b" \"00000e9\"", &[], Some(1)),
-        (b" \"000000e9", &[], Some(1)),
-        (b"%2", &[], Some(0)),
-        (b"1.e1000000", &[], Some(0)),
-        (b"#", &[], Some(0)),
-        (b" \x7F", &[], Some(1)),
-        (b"\xEF\xBB\xBF \x7F", &[], Some(4)),
-    ];
-    for (text, tokens, fault) in rows {
-        assert!(rt; has_tokens(text, tokens, fault));
+    ),
+    // No token stands.
+    (b"a_ _", Question::Tokens(&[(b'w', b"a_")], Some(3))),
+    (b" 'it''s", Question::Tokens(&[], Some(1))),
+    (b" \"00000e9\"", Question::Tokens(&[], Some(1))),
+    (b" \"000000e9", Question::Tokens(&[], Some(1))),
+    (b"%2", Question::Tokens(&[], Some(0))),
+    (b"1.e1000000", Question::Tokens(&[], Some(0))),
+    (b"#", Question::Tokens(&[], Some(0))),
+    (b" \x7F", Question::Tokens(&[], Some(1))),
+    (b"\xEF\xBB\xBF \x7F", Question::Tokens(&[], Some(4))),
+    // Places count from the start, with a byte order mark.
+    (b"\xEF\xBB\xBFSCHEMA geometry;", Question::Places(3, 9)),
+    (b" SCHEMA geometry;", Question::Places(0, 7)),
+    // Encoded strings say codes.
+    (b"\"\"", Question::Codes(&[])),
+    (b"\"000000e9\"", Question::Codes(&[0xE9])),
+    (b"\"000000610001F600\"", Question::Codes(&[0x61, 0x1F600])),
+    (b"\"FFFFFFFF00000000\"", Question::Codes(&[0xFFFF_FFFF, 0])),
+];
+
+// One letter for each kind of token.
+fn letter(sort: Sort<'_>) -> u8 {
+    match sort {
+        Sort::Word(_) => b'w',
+        Sort::Integer(_) => b'i',
+        Sort::Real(_) => b'r',
+        Sort::String(_) => b's',
+        Sort::Encoded(_) => b'e',
+        Sort::Binary(_) => b'b',
+        Sort::Mark(_) => b'm',
     }
 }
 
-#[test]
-fn places_count_from_the_start(rt: HostRuntime) {
-    let rows: [(&[u8], u64, u64); 2] = [
-        (b"\xEF\xBB\xBFSCHEMA geometry;", 3, 9),
-        (b" SCHEMA geometry;", 0, 7),
-    ];
-    for (text, start, behind) in rows {
-        let mut lexer = Lexer::new(text);
-        let before = lexer.place();
-        let reads = lexer.next_token().is_ok();
-        assert!(rt; reads && before == start && lexer.place() == behind);
+// Whether the next token is of this kind, and spelt so.
+fn is_next(lexer: &mut Lexer<'_>, kind: u8, spelling: &[u8]) -> bool {
+    match lexer.next_token() {
+        Ok(Some(token)) => letter(token.sort) == kind && token.text == spelling,
+        _ => false,
     }
 }
 
+fn has_tokens(text: &[u8], wanted: &[(u8, &'static [u8])], fault: Option<u64>) -> bool {
+    let mut lexer = Lexer::new(text);
+    for i in 0..wanted.len() {
+        let (kind, spelling) = wanted[i];
+        if !is_next(&mut lexer, kind, spelling) {
+            return false;
+        }
+    }
+    match lexer.next_token() {
+        Ok(None) => fault.is_none(),
+        Ok(Some(_)) => false,
+        Err(end) => fault == Some(end.place),
+    }
+}
+
+// Whether the first token is read between these places.
+fn has_places(text: &[u8], start: u64, behind: u64) -> bool {
+    let mut lexer = Lexer::new(text);
+    let before = lexer.place();
+    let reads = lexer.next_token().is_ok();
+    reads && before == start && lexer.place() == behind
+}
+
+// Whether the first token is an encoded string of these characters.
+fn has_codes(text: &[u8], codes: &[u32]) -> bool {
+    let Ok(Some(token)) = Lexer::new(text).next_token() else {
+        return false;
+    };
+    let Sort::Encoded(string) = token.sort else {
+        return false;
+    };
+    let mut items = string.characters();
+    for code in codes {
+        if items.next() != Some(Item::Code(*code)) {
+            return false;
+        }
+    }
+    items.next().is_none()
+}
+
+fn is_right(case: Case) -> bool {
+    let (text, question) = case;
+    match question {
+        Question::Tokens(tokens, fault) => has_tokens(text, tokens, fault),
+        Question::Places(start, behind) => has_places(text, start, behind),
+        Question::Codes(codes) => has_codes(text, codes),
+    }
+}
+
+// The first case that has another answer.
+fn wrong_case(cases: &[Case]) -> Option<usize> {
+    for i in 0..cases.len() {
+        if !is_right(cases[i]) {
+            return Some(i);
+        }
+    }
+    None
+}
+
 #[test]
-fn prints_a_fault(rt: HostRuntime) -> Result<(), Fail> {
-    let text = TextFault { place: 1 }.to_string(rt.alloc())?;
-    assert_eq!(rt; text.as_str(), "S1 BadToken at byte 1");
-    Ok(())
+fn texts_are_tokens(rt: HostRuntime) {
+    expect_none(&rt, wrong_case(CASES));
 }

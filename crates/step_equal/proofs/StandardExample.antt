@@ -1,6 +1,7 @@
 -- The table of two points that differ, and a placement of each, is the one that partition refinement makes.
 use Rattle.std.proofs.Common.{◌≡◌, ◌≢◌, ◌≤◌, ◌<◌, ℕ, zero, suc, true, false, List, [], ◌∷◌, Option, Some, None, refl, ◌∙◌, ap, subst, eqb-true, ◌+◌, inl, inr, arith}
 use Rattle.std.specs.Prelude.{slice_get, slice_index, slice_index_or}
+use Rattle.std.proofs.lemmas.Bool.{false≢true}
 use Rattle.std.proofs.lemmas.Option.{slice_get_within}
 use Rattle.step_values.specs.Values.{AgreeEach}
 use Rattle.step_equal.specs.Rows.{Row, names, kind_of, IsName}
@@ -64,28 +65,28 @@ Shared round x z p q = shares refined (round + 1) x z ≡ true → (shares refin
 
 same_kind_of_refined : EachTwo SameKind apart
 same_kind_of_refined = (
-  (λ s. refl, (λ s. refl, (λ s. absurd (cc), (λ s. absurd (cc), tt)))),
+  (λ s. refl, (λ s. refl, (λ s. absurd (false≢true s), (λ s. absurd (false≢true s), tt)))),
   (
-    (λ s. refl, (λ s. refl, (λ s. absurd (cc), (λ s. absurd (cc), tt)))),
+    (λ s. refl, (λ s. refl, (λ s. absurd (false≢true s), (λ s. absurd (false≢true s), tt)))),
     (
-      (λ s. absurd (cc), (λ s. absurd (cc), (λ s. refl, (λ s. refl, tt)))),
-      ((λ s. absurd (cc), (λ s. absurd (cc), (λ s. refl, (λ s. refl, tt)))), tt),
+      (λ s. absurd (false≢true s), (λ s. absurd (false≢true s), (λ s. refl, (λ s. refl, tt)))),
+      ((λ s. absurd (false≢true s), (λ s. absurd (false≢true s), (λ s. refl, (λ s. refl, tt)))), tt),
     ),
   ),
 )
 
 shared_of_refined : (round : ℕ) → round < 3 → EachTwo (Shared round) apart
 shared_of_refined zero l = (
-  (λ s. (refl, ((refl, (refl, tt)), tt)), (λ s. absurd (cc), (λ s. absurd (cc), (λ s. absurd (cc), tt)))),
+  (λ s. (refl, ((refl, (refl, tt)), tt)), (λ s. absurd (false≢true s), (λ s. absurd (false≢true s), (λ s. absurd (false≢true s), tt)))),
   (
-    (λ s. absurd (cc), (λ s. (refl, ((refl, (refl, tt)), tt)), (λ s. absurd (cc), (λ s. absurd (cc), tt)))),
+    (λ s. absurd (false≢true s), (λ s. (refl, ((refl, (refl, tt)), tt)), (λ s. absurd (false≢true s), (λ s. absurd (false≢true s), tt)))),
     (
-      (λ s. absurd (cc), (λ s. absurd (cc), (λ s. (refl, (refl, (refl, tt))), (λ s. (refl, (refl, (refl, tt))), tt)))),
+      (λ s. absurd (false≢true s), (λ s. absurd (false≢true s), (λ s. (refl, (refl, (refl, tt))), (λ s. (refl, (refl, (refl, tt))), tt)))),
       (
         (
-          λ s. absurd (cc),
+          λ s. absurd (false≢true s),
           (
-            λ s. absurd (cc),
+            λ s. absurd (false≢true s),
             (λ s. (refl, (refl, (refl, tt))), (λ s. (refl, (refl, (refl, tt))), tt)),
           ),
         ),
@@ -95,22 +96,22 @@ shared_of_refined zero l = (
   ),
 )
 shared_of_refined (suc zero) l = (
-  (λ s. (refl, ((refl, (refl, tt)), tt)), (λ s. absurd (cc), (λ s. absurd (cc), (λ s. absurd (cc), tt)))),
+  (λ s. (refl, ((refl, (refl, tt)), tt)), (λ s. absurd (false≢true s), (λ s. absurd (false≢true s), (λ s. absurd (false≢true s), tt)))),
   (
-    (λ s. absurd (cc), (λ s. (refl, ((refl, (refl, tt)), tt)), (λ s. absurd (cc), (λ s. absurd (cc), tt)))),
+    (λ s. absurd (false≢true s), (λ s. (refl, ((refl, (refl, tt)), tt)), (λ s. absurd (false≢true s), (λ s. absurd (false≢true s), tt)))),
     (
-      (λ s. absurd (cc), (λ s. absurd (cc), (λ s. (refl, (refl, (refl, tt))), (λ s. absurd (cc), tt)))),
-      ((λ s. absurd (cc), (λ s. absurd (cc), (λ s. absurd (cc), (λ s. (refl, (refl, (refl, tt))), tt)))), tt),
+      (λ s. absurd (false≢true s), (λ s. absurd (false≢true s), (λ s. (refl, (refl, (refl, tt))), (λ s. absurd (false≢true s), tt)))),
+      ((λ s. absurd (false≢true s), (λ s. absurd (false≢true s), (λ s. absurd (false≢true s), (λ s. (refl, (refl, (refl, tt))), tt)))), tt),
     ),
   ),
 )
 shared_of_refined (suc (suc zero)) l = (
-  (λ s. (refl, ((refl, (refl, tt)), tt)), (λ s. absurd (cc), (λ s. absurd (cc), (λ s. absurd (cc), tt)))),
+  (λ s. (refl, ((refl, (refl, tt)), tt)), (λ s. absurd (false≢true s), (λ s. absurd (false≢true s), (λ s. absurd (false≢true s), tt)))),
   (
-    (λ s. absurd (cc), (λ s. (refl, ((refl, (refl, tt)), tt)), (λ s. absurd (cc), (λ s. absurd (cc), tt)))),
+    (λ s. absurd (false≢true s), (λ s. (refl, ((refl, (refl, tt)), tt)), (λ s. absurd (false≢true s), (λ s. absurd (false≢true s), tt)))),
     (
-      (λ s. absurd (cc), (λ s. absurd (cc), (λ s. (refl, (refl, (refl, tt))), (λ s. absurd (cc), tt)))),
-      ((λ s. absurd (cc), (λ s. absurd (cc), (λ s. absurd (cc), (λ s. (refl, (refl, (refl, tt))), tt)))), tt),
+      (λ s. absurd (false≢true s), (λ s. absurd (false≢true s), (λ s. (refl, (refl, (refl, tt))), (λ s. absurd (false≢true s), tt)))),
+      ((λ s. absurd (false≢true s), (λ s. absurd (false≢true s), (λ s. absurd (false≢true s), (λ s. (refl, (refl, (refl, tt))), tt)))), tt),
     ),
   ),
 )

@@ -1,5 +1,5 @@
 -- Tables by examples: two points that differ, and a placement of each.
-use Rattle.std.proofs.Common.{◌≡◌, ◌≢◌, ◌<◌, ℕ, zero, suc, Bool, true, false, List, [], ◌∷◌, Option, Some, None, refl, subst, arith}
+use Rattle.std.proofs.Common.{◌≡◌, ◌≢◌, ◌<◌, ℕ, zero, suc, Bool, true, false, List, [], ◌∷◌, Option, Some, None, refl, sym, subst, arith}
 use Rattle.std.specs.Prelude.{◌+◌, ◌==◌, map, pos}
 use Rattle.std.proofs.lemmas.Bool.{false≢true}
 use Rattle.step_values.specs.Leaves.{number}
@@ -84,6 +84,13 @@ valid_by rows t members first next last = record {
       );
 }
 
+-- points and placements are of different kinds
+points_apart : kind_of (point 0 0) ≡ kind_of (placement 0 0) → ⊥
+points_apart k = let e = one_type k in cc
+
+placements_apart : kind_of (placement 0 0) ≡ kind_of (point 0 0) → ⊥
+placements_apart k = points_apart (sym k)
+
 points_differ : (l : ℕ → ℕ → Bool) (x z m n : ℕ) → (m == n) ≡ false → AgreeEach l (point x m).values (point z n).values
     → ⊥
 points_differ l x z m n e a =
@@ -92,17 +99,13 @@ points_differ l x z m n e a =
 
 pub first_of_refined : EachTwo (First refined) apart
 first_of_refined = (
-  (λ k. refl, (λ k. refl, (λ k. absurd (let e = one_type k in cc), (λ k. absurd (let e = one_type k in cc), tt)))),
+  (λ k. refl, (λ k. refl, (λ k. absurd (points_apart k), (λ k. absurd (points_apart k), tt)))),
   (
-    (λ k. refl, (λ k. refl, (λ k. absurd (let e = one_type k in cc), (λ k. absurd (let e = one_type k in cc), tt)))),
+    (λ k. refl, (λ k. refl, (λ k. absurd (points_apart k), (λ k. absurd (points_apart k), tt)))),
     (
-      (λ k. absurd (let e = one_type k in cc), (λ k. absurd (let e = one_type k in cc), (λ k. refl, (λ k. refl, tt)))),
+      (λ k. absurd (placements_apart k), (λ k. absurd (placements_apart k), (λ k. refl, (λ k. refl, tt)))),
       (
-        (
-          λ k. absurd (let e = one_type k in
-              cc),
-          (λ k. absurd (let e = one_type k in cc), (λ k. refl, (λ k. refl, tt))),
-        ),
+        (λ k. absurd (placements_apart k), (λ k. absurd (placements_apart k), (λ k. refl, (λ k. refl, tt)))),
         tt,
       ),
     ),
@@ -115,27 +118,27 @@ next_of_refined zero l = (
     λ s a. refl,
     (
       λ s a. absurd (points_differ (under free (shares refined 0)) 1 2 0 5 refl a),
-      (λ s a. absurd (cc), (λ s a. absurd (cc), tt)),
+      (λ s a. absurd (false≢true s), (λ s a. absurd (false≢true s), tt)),
     ),
   ),
   (
     (
       λ s a. absurd (points_differ (under free (shares refined 0)) 2 1 5 0 refl a),
-      (λ s a. refl, (λ s a. absurd (cc), (λ s a. absurd (cc), tt))),
+      (λ s a. refl, (λ s a. absurd (false≢true s), (λ s a. absurd (false≢true s), tt))),
     ),
     (
-      (λ s a. absurd (cc), (λ s a. absurd (cc), (λ s a. refl, (λ s a. refl, tt)))),
-      ((λ s a. absurd (cc), (λ s a. absurd (cc), (λ s a. refl, (λ s a. refl, tt)))), tt),
+      (λ s a. absurd (false≢true s), (λ s a. absurd (false≢true s), (λ s a. refl, (λ s a. refl, tt)))),
+      ((λ s a. absurd (false≢true s), (λ s a. absurd (false≢true s), (λ s a. refl, (λ s a. refl, tt)))), tt),
     ),
   ),
 )
 next_of_refined (suc zero) l = (
-  (λ s a. refl, (λ s a. absurd (cc), (λ s a. absurd (cc), (λ s a. absurd (cc), tt)))),
+  (λ s a. refl, (λ s a. absurd (false≢true s), (λ s a. absurd (false≢true s), (λ s a. absurd (false≢true s), tt)))),
   (
-    (λ s a. absurd (cc), (λ s a. refl, (λ s a. absurd (cc), (λ s a. absurd (cc), tt)))),
+    (λ s a. absurd (false≢true s), (λ s a. refl, (λ s a. absurd (false≢true s), (λ s a. absurd (false≢true s), tt)))),
     (
-      (λ s a. absurd (cc), (λ s a. absurd (cc), (λ s a. refl, (λ s a. absurd (false≢true a.0), tt)))),
-      ((λ s a. absurd (cc), (λ s a. absurd (cc), (λ s a. absurd (false≢true a.0), (λ s a. refl, tt)))), tt),
+      (λ s a. absurd (false≢true s), (λ s a. absurd (false≢true s), (λ s a. refl, (λ s a. absurd (false≢true a.0), tt)))),
+      ((λ s a. absurd (false≢true s), (λ s a. absurd (false≢true s), (λ s a. absurd (false≢true a.0), (λ s a. refl, tt)))), tt),
     ),
   ),
 )
@@ -144,12 +147,12 @@ next_of_refined (suc (suc round)) l = absurd (omega arith)
 -- at the last round each instance is alone
 pub last_of_refined : EachTwo (Last refined) apart
 last_of_refined = (
-  (λ n s. absurd (n refl), (λ n s. absurd (cc), (λ n s. absurd (cc), (λ n s. absurd (cc), tt)))),
+  (λ n s. absurd (n refl), (λ n s. absurd (false≢true s), (λ n s. absurd (false≢true s), (λ n s. absurd (false≢true s), tt)))),
   (
-    (λ n s. absurd (cc), (λ n s. absurd (n refl), (λ n s. absurd (cc), (λ n s. absurd (cc), tt)))),
+    (λ n s. absurd (false≢true s), (λ n s. absurd (n refl), (λ n s. absurd (false≢true s), (λ n s. absurd (false≢true s), tt)))),
     (
-      (λ n s. absurd (cc), (λ n s. absurd (cc), (λ n s. absurd (n refl), (λ n s. absurd (cc), tt)))),
-      ((λ n s. absurd (cc), (λ n s. absurd (cc), (λ n s. absurd (cc), (λ n s. absurd (n refl), tt)))), tt),
+      (λ n s. absurd (false≢true s), (λ n s. absurd (false≢true s), (λ n s. absurd (n refl), (λ n s. absurd (false≢true s), tt)))),
+      ((λ n s. absurd (false≢true s), (λ n s. absurd (false≢true s), (λ n s. absurd (false≢true s), (λ n s. absurd (n refl), tt)))), tt),
     ),
   ),
 )
@@ -208,29 +211,25 @@ coarse_is_refused stable =
 -- .. and are right where the points agree: #1 with #2, #3 with #4
 coarse_is_valid : IsValid twice free coarse
 coarse_is_valid = valid_by twice coarse refl (
-  (λ k. refl, (λ k. refl, (λ k. absurd (let e = one_type k in cc), (λ k. absurd (let e = one_type k in cc), tt)))),
+  (λ k. refl, (λ k. refl, (λ k. absurd (points_apart k), (λ k. absurd (points_apart k), tt)))),
   (
-    (λ k. refl, (λ k. refl, (λ k. absurd (let e = one_type k in cc), (λ k. absurd (let e = one_type k in cc), tt)))),
+    (λ k. refl, (λ k. refl, (λ k. absurd (points_apart k), (λ k. absurd (points_apart k), tt)))),
     (
-      (λ k. absurd (let e = one_type k in cc), (λ k. absurd (let e = one_type k in cc), (λ k. refl, (λ k. refl, tt)))),
+      (λ k. absurd (placements_apart k), (λ k. absurd (placements_apart k), (λ k. refl, (λ k. refl, tt)))),
       (
-        (
-          λ k. absurd (let e = one_type k in
-              cc),
-          (λ k. absurd (let e = one_type k in cc), (λ k. refl, (λ k. refl, tt))),
-        ),
+        (λ k. absurd (placements_apart k), (λ k. absurd (placements_apart k), (λ k. refl, (λ k. refl, tt)))),
         tt,
       ),
     ),
   ),
 ) (λ round l. absurd (omega arith)) (
-  (λ n s. absurd (n refl), (λ n s. (refl, ((refl, (refl, tt)), tt)), (λ n s. absurd (cc), (λ n s. absurd (cc), tt)))),
+  (λ n s. absurd (n refl), (λ n s. (refl, ((refl, (refl, tt)), tt)), (λ n s. absurd (false≢true s), (λ n s. absurd (false≢true s), tt)))),
   (
-    (λ n s. (refl, ((refl, (refl, tt)), tt)), (λ n s. absurd (n refl), (λ n s. absurd (cc), (λ n s. absurd (cc), tt)))),
+    (λ n s. (refl, ((refl, (refl, tt)), tt)), (λ n s. absurd (n refl), (λ n s. absurd (false≢true s), (λ n s. absurd (false≢true s), tt)))),
     (
-      (λ n s. absurd (cc), (λ n s. absurd (cc), (λ n s. absurd (n refl), (λ n s. (refl, (refl, (refl, tt))), tt)))),
+      (λ n s. absurd (false≢true s), (λ n s. absurd (false≢true s), (λ n s. absurd (n refl), (λ n s. (refl, (refl, (refl, tt))), tt)))),
       (
-        (λ n s. absurd (cc), (λ n s. absurd (cc), (λ n s. (refl, (refl, (refl, tt))), (λ n s. absurd (n refl), tt)))),
+        (λ n s. absurd (false≢true s), (λ n s. absurd (false≢true s), (λ n s. (refl, (refl, (refl, tt))), (λ n s. absurd (n refl), tt)))),
         tt,
       ),
     ),
@@ -243,12 +242,12 @@ late = record refined { rounds = 3; classes = start ∷ start ∷ split 0 2 ∷ 
 
 next_of_late : (round : ℕ) → round < 3 → EachTwo (Next late round) apart
 next_of_late zero l = (
-  (λ s a. refl, (λ s a. refl, (λ s a. absurd (cc), (λ s a. absurd (cc), tt)))),
+  (λ s a. refl, (λ s a. refl, (λ s a. absurd (false≢true s), (λ s a. absurd (false≢true s), tt)))),
   (
-    (λ s a. refl, (λ s a. refl, (λ s a. absurd (cc), (λ s a. absurd (cc), tt)))),
+    (λ s a. refl, (λ s a. refl, (λ s a. absurd (false≢true s), (λ s a. absurd (false≢true s), tt)))),
     (
-      (λ s a. absurd (cc), (λ s a. absurd (cc), (λ s a. refl, (λ s a. refl, tt)))),
-      ((λ s a. absurd (cc), (λ s a. absurd (cc), (λ s a. refl, (λ s a. refl, tt)))), tt),
+      (λ s a. absurd (false≢true s), (λ s a. absurd (false≢true s), (λ s a. refl, (λ s a. refl, tt)))),
+      ((λ s a. absurd (false≢true s), (λ s a. absurd (false≢true s), (λ s a. refl, (λ s a. refl, tt)))), tt),
     ),
   ),
 )
@@ -257,27 +256,27 @@ next_of_late (suc zero) l = (
     λ s a. refl,
     (
       λ s a. absurd (points_differ (under free (shares late 1)) 1 2 0 5 refl a),
-      (λ s a. absurd (cc), (λ s a. absurd (cc), tt)),
+      (λ s a. absurd (false≢true s), (λ s a. absurd (false≢true s), tt)),
     ),
   ),
   (
     (
       λ s a. absurd (points_differ (under free (shares late 1)) 2 1 5 0 refl a),
-      (λ s a. refl, (λ s a. absurd (cc), (λ s a. absurd (cc), tt))),
+      (λ s a. refl, (λ s a. absurd (false≢true s), (λ s a. absurd (false≢true s), tt))),
     ),
     (
-      (λ s a. absurd (cc), (λ s a. absurd (cc), (λ s a. refl, (λ s a. refl, tt)))),
-      ((λ s a. absurd (cc), (λ s a. absurd (cc), (λ s a. refl, (λ s a. refl, tt)))), tt),
+      (λ s a. absurd (false≢true s), (λ s a. absurd (false≢true s), (λ s a. refl, (λ s a. refl, tt)))),
+      ((λ s a. absurd (false≢true s), (λ s a. absurd (false≢true s), (λ s a. refl, (λ s a. refl, tt)))), tt),
     ),
   ),
 )
 next_of_late (suc (suc zero)) l = (
-  (λ s a. refl, (λ s a. absurd (cc), (λ s a. absurd (cc), (λ s a. absurd (cc), tt)))),
+  (λ s a. refl, (λ s a. absurd (false≢true s), (λ s a. absurd (false≢true s), (λ s a. absurd (false≢true s), tt)))),
   (
-    (λ s a. absurd (cc), (λ s a. refl, (λ s a. absurd (cc), (λ s a. absurd (cc), tt)))),
+    (λ s a. absurd (false≢true s), (λ s a. refl, (λ s a. absurd (false≢true s), (λ s a. absurd (false≢true s), tt)))),
     (
-      (λ s a. absurd (cc), (λ s a. absurd (cc), (λ s a. refl, (λ s a. absurd (false≢true a.0), tt)))),
-      ((λ s a. absurd (cc), (λ s a. absurd (cc), (λ s a. absurd (false≢true a.0), (λ s a. refl, tt)))), tt),
+      (λ s a. absurd (false≢true s), (λ s a. absurd (false≢true s), (λ s a. refl, (λ s a. absurd (false≢true a.0), tt)))),
+      ((λ s a. absurd (false≢true s), (λ s a. absurd (false≢true s), (λ s a. absurd (false≢true a.0), (λ s a. refl, tt)))), tt),
     ),
   ),
 )

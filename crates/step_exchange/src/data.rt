@@ -154,8 +154,38 @@ fn room_for(alloc: Global, keys: RandomState, expected: usize) -> Names
     names
 }
 
-/// The data sections and the names of their instances, read to the end of the text, with room for
-/// so many names from the start where memory allows that; what stands for each instance is kept.
+/// The data sections and the names of their instances, read to the end of the text; what stands
+/// for each instance is kept.
+fn each_section<'a>(
+    alloc: Global,
+    keys: RandomState,
+    reader: &mut Reader<'a>,
+    sections: &mut Vec<Section<'a>>,
+    names: &mut Names,
+) -> Result<(), TextFault>
+    requires none { sections.old.items ≡ [] }
+    requires unnamed { names.old ≡ [] }
+    ensures { MatchResult result
+        (λ _. KeepsData sections.new.items names.new reader.old reader.new)
+        (λ e. StopsIn e data_symbols [] (reading reader.old)) }
+{
+    loop {
+        let token = take(reader)?;
+        if let Sort::End = token.sort {
+            if sections.is_empty() {
+                return Err(refuse(token));
+            }
+            end(reader)?;
+            return Ok(());
+        }
+        let heading = begin_section(reader, token, sections.len())?;
+        rows(alloc, keys, reader, names)?;
+        let past = names.len() as u32;
+        sections.push(Section { heading, past })?;
+    }
+}
+
+/// The same, with room for so many names from the start where memory allows that.
 pub fn data<'a>(
     alloc: Global,
     keys: RandomState,
@@ -167,19 +197,7 @@ pub fn data<'a>(
         (λ e. StopsIn e data_symbols [] (reading reader.old)) }
 {
     let mut names = room_for(alloc, keys, expected);
-    let mut sections: Vec<Section<'a>> = Vec::new(alloc);
-    loop {
-        let token = take(reader)?;
-        if let Sort::End = token.sort {
-            if sections.is_empty() {
-                return Err(refuse(token));
-            }
-            end(reader)?;
-            return Ok((sections, names));
-        }
-        let heading = begin_section(reader, token, sections.len())?;
-        rows(alloc, keys, reader, &mut names)?;
-        let past = names.len() as u32;
-        sections.push(Section { heading, past })?;
-    }
+    let mut sections = Vec::new(alloc);
+    each_section(alloc, keys, reader, &mut sections, &mut names)?;
+    Ok((sections, names))
 }

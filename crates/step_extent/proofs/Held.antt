@@ -1,6 +1,6 @@
 -- What an instance adds to the references that an inverse attribute holds.
-use Rattle.std.specs.Prelude.{◌≡◌, ℕ, zero, suc, ◌+◌, ◌==◌, Bool, true, false, cond, List, [], ◌∷◌, ◌++◌, map, flat_map, filter, Option, None, Some, slice_get}
-use Rattle.std.specs.List.{repeat}
+use Rattle.std.specs.Prelude.{◌≡◌, ℕ, zero, suc, ◌+◌, ◌==◌, Bool, true, false, cond, List, [], ◌∷◌, ◌++◌, map, flat_map, filter, Option, None, Some, is_some, slice_get}
+use Rattle.std.specs.List.{repeat, list_any}
 use Rattle.std.proofs.Common.{refl, sym, ap, ◌∙◌, arith, add-one, append-nil, take}
 use Rattle.std.proofs.lemmas.Grind.{flat_map-append}
 use Rattle.std.proofs.lemmas.List.Concat.{flat_map-cons}
@@ -22,7 +22,7 @@ use Rattle.rule_tables.specs.declared.gathering.Gathering.{Gathering}
 use Rattle.rule_tables.specs.declared.gathering.Gathering.TheVariants as gatherings
 use Rattle.rule_tables.specs.declared.inverses.InverseAttribute.{InverseAttribute}
 use Rattle.step_population.specs.Ordering.{picked_at, position_among}
-use Rattle.step_population.specs.Seen.{place_at, slots_seen, instance_seen}
+use Rattle.step_population.specs.Seen.{place_at, slots_seen, instance_seen, instances_seen}
 use Rattle.step_population.specs.Whole.{form_among, ArePlaced, AreNumbered}
 use Rattle.step_population.proofs.Found.{value-at-number}
 use Rattle.step_extent.specs.Gathering.{position_by, position_at}
@@ -135,6 +135,40 @@ module _ (s : Schema) (i : InverseAttribute) (numbered : IsNumberedInverse s i) 
           ≡ TimesHeld (picked_at vs (cond b (position_among x.slots.items i.inverted) None))
       by true = refl
       by false = sym (none-held i n)
+
+-- Where no form has the attribute that is inverted, no instance is held.
+nowhere-at : (positions : List (Option ℕ)) → list_any is_some positions ≡ false → (o : Option ℕ)
+    → position_at positions o ≡ None
+nowhere-at positions e None = refl
+nowhere-at [] e (Some n) = refl
+nowhere-at (None ∷ positions) e (Some zero) = refl
+nowhere-at (Some k ∷ positions) e (Some n) = absurd (cc)
+nowhere-at (None ∷ positions) e (Some (suc n)) = nowhere-at positions e (Some n)
+
+module _ (s : Schema) (i : InverseAttribute) (numbered : IsNumberedInverse s i) (one : AreOne (all_places s))
+    (y : ℕ) (forms : List Form) (nowhere : list_any is_some (map (position_by i) forms) ≡ false)
+    (numbers : Every (AreNumbered s) forms) where
+  not-held : (n k : ℕ) (f : Option ℕ) (vs : Values) → ArePlaced s (form_among forms f)
+      → held (inverse_seen s i) y (instance_seen s n k (form_among forms f) vs) ≡ []
+  not-held n k f vs placed =
+      held-in s i numbered one y n k vs (form_among forms f) placed (numbers-of s forms f numbers)
+      ∙ ap (λ q. repeat (holds (gathering_seen i.gathering) (times_at y (picked_at vs q))) (n ∷ []))
+      (sym (position-is i forms f) ∙ nowhere-at (map (position_by i) forms) nowhere f)
+      ∙ none-held i n
+
+  pub none-gathered : (ns ks : List ℕ) (fs : List (Option ℕ)) (vss : List Values)
+      → Every (λ o. ArePlaced s (form_among forms o)) fs
+      → flat_map (held (inverse_seen s i) y) (instances_seen s forms ns ks fs vss) ≡ []
+  none-gathered (n ∷ ns) (k ∷ ks) (f ∷ fs) (vs ∷ vss) placed =
+      flat_map-cons (held (inverse_seen s i) y) (instance_seen s n k (form_among forms f) vs)
+      (instances_seen s forms ns ks fs vss)
+      ∙ ap (λ l. l ++ flat_map (held (inverse_seen s i) y) (instances_seen s forms ns ks fs vss))
+      (not-held n k f vs placed.0)
+      ∙ none-gathered ns ks fs vss placed.1
+  none-gathered [] ks fs vss placed = refl
+  none-gathered (n ∷ ns) [] fs vss placed = refl
+  none-gathered (n ∷ ns) (k ∷ ks) [] vss placed = refl
+  none-gathered (n ∷ ns) (k ∷ ks) (f ∷ fs) [] placed = refl
 
 -- one item more
 pub take-next : {A : Type 0} (xs : List A) (i : ℕ) (x : A) → slice_get xs i ≡ Some x

@@ -12,7 +12,7 @@ ghost use Rattle.step_population.specs.Seen.{population_seen};
 ghost use Rattle.step_extent.specs.Gathering.{AreHeld};
 ghost use Rattle.step_extent.specs.Targets.{often, references_to};
 
-use crate::positions::{position_at, positions};
+use crate::positions::{is_somewhere, position_at, positions};
 use crate::targets::add_targets;
 use referrers::referrers::Reference;
 use rule_tables::gathering::Gathering;
@@ -113,6 +113,9 @@ pub(crate) fn gathered(
 {
     let positions = positions(alloc, inverse, population.forms())?;
     let mut references = Vec::new(alloc);
+    if !is_somewhere(&positions) {
+        return Ok(references);
+    }
     let mut names = Vec::new(alloc);
     for row in 0..population.len() {
         let instance = population.instance(row);

@@ -1,6 +1,7 @@
 //! Where an attribute stands among the values of instances.
 
-ghost use Rattle.std.specs.Prelude.{◌≡◌, IfOk, map};
+ghost use Rattle.std.specs.Prelude.{◌≡◌, IfOk, is_some, map};
+ghost use Rattle.std.specs.List.{list_any};
 ghost use Rattle.step_extent.specs.Gathering.{position_at, position_by};
 
 use instance_forms::form::Form;
@@ -33,6 +34,13 @@ pub(crate) fn positions(
         positions.push(position_by(inverse, form))?;
     }
     Ok(positions)
+}
+
+/// Whether instances of some form have it.
+pub(crate) fn is_somewhere(positions: &[Option<usize>]) -> bool
+    ensures { result ≡ list_any is_some positions.now }
+{
+    positions.iter().any(|position| position.is_some())
 }
 
 /// .. in the form of a number; nowhere where there is none.

@@ -17,6 +17,7 @@ use rule_findings::finding::{RuleFinding, RuleFindingKind};
 use rule_tables::label::RuleLabel;
 use rule_tables::uniques::UniqueRule;
 use std::alloc::{AllocError, Global};
+use std::hash::RandomState;
 use unchecked_parts::list::Label;
 use unique_keys::repeats::repeats;
 
@@ -63,6 +64,7 @@ impl<'e, 'r, 't, 's, 'a> Extents<'e, 'r, 't, 's, 'a> {
     fn add_rule(
         &self,
         alloc: Global,
+        keys: RandomState,
         findings: &mut Vec<RuleFinding<'s>>,
         rule: &UniqueRule<'s>,
     ) -> Result<(), AllocError>
@@ -76,16 +78,20 @@ impl<'e, 'r, 't, 's, 'a> Extents<'e, 'r, 't, 's, 'a> {
         if !rule.is_checked {
             return Ok(());
         }
-        let names = repeats(alloc, self.population, rule)?;
+        let names = repeats(alloc, keys, self.population, rule)?;
         add_findings(findings, self.label(rule), &names)
     }
 
     /// The instances that have the key of an earlier one, by rule in the order of the text, then by
     /// instance in the order of the file (ISO 10303-11, 9.2.2.1).
     ///
-    /// For each rule it takes time by the values that the rule names and the logarithm of their
-    /// number. `AllocError` comes where memory runs out.
-    pub fn check_unique(&self, alloc: Global) -> Result<Vec<RuleFinding<'s>>, AllocError>
+    /// Keys are hashed by these numbers. For each rule it takes time by the number of instances and
+    /// the size of the values that the rule names. `AllocError` comes where memory runs out.
+    pub fn check_unique(
+        &self,
+        alloc: Global,
+        keys: RandomState,
+    ) -> Result<Vec<RuleFinding<'s>>, AllocError>
         requires numbered { AreNumbered
             (schema_of self.now.population.now.types.now.names.schema.now) self.now.rules.now }
         ensures { IfOk result (λ t. AreFindingsOf UniqueBroken
@@ -95,7 +101,7 @@ impl<'e, 'r, 't, 's, 'a> Extents<'e, 'r, 't, 's, 'a> {
     {
         let mut findings = Vec::new(alloc);
         for rule in &self.rules.uniques {
-            self.add_rule(alloc, &mut findings, rule)?;
+            self.add_rule(alloc, keys, &mut findings, rule)?;
         }
         Ok(findings)
     }

@@ -2,6 +2,7 @@
 
 ghost use Rattle.std.specs.Prelude.{IfOk};
 ghost use Rattle.resolved_types.specs.Made.{IsMade};
+ghost use Rattle.schema_tables.specs.Tables.{AreTables};
 ghost use Rattle.step_population.specs.Verdicts.{IsVerdict};
 
 use crate::building::values_of;
@@ -25,20 +26,18 @@ pub enum Verdict<'r, 't, 's, 'a> {
     Faulty(Vec<Finding>),
 }
 
-/// The population of an exchange structure by the types of its schema, where nothing is wrong with
-/// it (ISO 10303-21, 11); else all that is wrong, in order. Names are hashed by these keys.
-///
-/// `AllocError` comes where memory runs out.
-pub fn populate<'r, 't, 's, 'a>(
+/// `populate`, by the tables of the schema.
+fn populate_by<'r, 't, 's, 'a>(
     alloc: Global,
     keys: RandomState,
     types: &'r ResolvedTypes<'t, 's>,
+    tables: &SchemaTables,
     exchange: &'r Exchange<'a>,
 ) -> Result<Verdict<'r, 't, 's, 'a>, AllocError>
     requires made { IsMade types.now }
+    requires tables { AreTables types.now tables.now }
     ensures { IfOk result (IsVerdict types.now exchange.now) }
 {
-    let tables = SchemaTables::of(alloc, &*types)?;
     let known = tables.knowledge(&*types);
     let bases = tables.bases(&*types);
     entities_are_said(known);
@@ -55,4 +54,21 @@ pub fn populate<'r, 't, 's, 'a>(
         rows,
         values,
     }))
+}
+
+/// The population of an exchange structure by the types of its schema, where nothing is wrong with
+/// it (ISO 10303-21, 11); else all that is wrong, in order. Names are hashed by these keys.
+///
+/// `AllocError` comes where memory runs out.
+pub fn populate<'r, 't, 's, 'a>(
+    alloc: Global,
+    keys: RandomState,
+    types: &'r ResolvedTypes<'t, 's>,
+    exchange: &'r Exchange<'a>,
+) -> Result<Verdict<'r, 't, 's, 'a>, AllocError>
+    requires made { IsMade types.now }
+    ensures { IfOk result (IsVerdict types.now exchange.now) }
+{
+    let tables = SchemaTables::of(alloc, &*types)?;
+    populate_by(alloc, keys, types, &tables, exchange)
 }

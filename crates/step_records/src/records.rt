@@ -114,18 +114,19 @@ fn partial_record<'a>(
     Ok(keyword)
 }
 
-/// The partial records of an external one behind its parenthesis, and the closing one.
-fn partial_records<'a>(
-    alloc: Global,
-    keys: RandomState,
+/// The partial records of an external one behind its parenthesis, and the closing one. Their
+/// keywords are kept.
+fn each_partial_record<'a>(
     reader: &mut Reader<'a>,
+    words: &mut Vec<Word<'a>>,
+    further: &mut Keywords<'a>,
 ) -> Result<(), TextFault>
+    requires none { words.old.items ≡ [] }
+    requires empty { further.old.keys ≡ [] }
     ensures { MatchResult result
         (λ _. TakesPartials reader.old reader.new)
         (λ e. StopsIn e (PartialRecords [] ∷ []) [] (reading reader.old)) }
 {
-    let mut words: Vec<Word<'a>> = Vec::new(alloc);
-    let mut further: Keywords<'a> = IndexSet::with_hasher(alloc, keys);
     loop {
         let token = take(reader)?;
         if is_mark(token, Mark::Close) {
@@ -134,10 +135,25 @@ fn partial_records<'a>(
             }
             return Ok(());
         }
-        let keyword = partial_record(reader, token, &words, &further)?;
-        keep_keyword(&mut further, &words, keyword)?;
+        let keyword = partial_record(reader, token, words, further)?;
+        keep_keyword(further, words, keyword)?;
         words.push(keyword)?;
     }
+}
+
+/// The partial records of an external one behind its parenthesis, and the closing one.
+fn partial_records(
+    alloc: Global,
+    keys: RandomState,
+    reader: &mut Reader<'_>,
+) -> Result<(), TextFault>
+    ensures { MatchResult result
+        (λ _. TakesPartials reader.old reader.new)
+        (λ e. StopsIn e (PartialRecords [] ∷ []) [] (reading reader.old)) }
+{
+    let mut words = Vec::new(alloc);
+    let mut further = IndexSet::with_hasher(alloc, keys);
+    each_partial_record(reader, &mut words, &mut further)
 }
 
 /// What stands for an instance behind its `=`. It may stand behind layout.

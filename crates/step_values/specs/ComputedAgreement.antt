@@ -1,5 +1,5 @@
--- What the code computes; no promise stands here. Agreement of values, each reference with itself
--- alone, as a test.
+-- What the code computes. Agreement of values, each reference with itself alone, as a test. The only promise that rests on
+-- it is that of uniqueness rules, whose keys `same_each_test` compares; the laws of these rules say that it is agreement.
 use Rattle.std.specs.Prelude.{ℕ, suc, ◌==◌, ◌&&◌, Bool, true, false, cond, List, [], ◌∷◌}
 use Rattle.std.specs.Ordering.{int_eq}
 use Rattle.std.specs.Bool.{beq}

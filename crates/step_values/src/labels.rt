@@ -7,7 +7,7 @@ ghost use Rattle.step_values.specs.Maps.{led_by};
 use std::collections::BTreeMap;
 
 /// What stands for a reference. A name and a class are never equal.
-#[derive(Clone, Copy, Debug, PartialEq, Eq, PartialOrd, Ord)]
+#[derive(Clone, Copy, Debug, PartialEq, Eq, PartialOrd, Ord, Hash)]
 pub enum Label {
     /// The instance of this name.
     Name(u64),

@@ -13,7 +13,7 @@ use std::alloc::{AllocError, Global};
 use step_literals::literal::{Bits, Decimal, Text, Word};
 
 /// A value in normal form. Where variants differ, the order is that in which they stand here.
-#[derive(PartialEq, Eq, PartialOrd, Ord, Drop)]
+#[derive(PartialEq, Eq, PartialOrd, Ord, Hash, Drop)]
 pub enum Normal<'a> {
     Unset,
     Derived,

@@ -3,10 +3,12 @@
 #![tactic(auto)]
 
 #[cfg(test)]
-mod parts;
+mod attributes;
 #[cfg(test)]
-mod shapes;
+mod lists;
 #[cfg(test)]
-mod unchecked;
+mod questions;
+#[cfg(test)]
+mod rows;
 #[cfg(test)]
 mod values;

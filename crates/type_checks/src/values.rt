@@ -1,33 +1,30 @@
-//! What the values of data types may be, and where attributes are declared.
+//! What the values of data types may be, and which data types are alike.
 
 ghost use Rattle.std.specs.Prelude.{◌≡◌, ◌<◌, ◌^◌, length, map};
 ghost use Rattle.digraph.specs.Graphs.{graph_of};
 ghost use Rattle.express_schemas.specs.SchemaViews.{schema_of};
 ghost use Rattle.type_graphs.specs.Faults.{IsResolved};
-ghost use Rattle.schema_names.specs.Edges.{IsGraphOf, parts_in, supertypes_in};
+ghost use Rattle.schema_names.specs.Edges.{IsGraphOf, parts_in};
 ghost use Rattle.schema_names.specs.Numbers.{AreRowsOf};
 ghost use Rattle.data_types.specs.Numbered.{form_in, whole_types, all_data_types};
 ghost use Rattle.data_types.specs.Values.{AreTables};
-ghost use Rattle.attribute_origins.specs.Lines.{HaveLines};
+ghost use Rattle.type_shapes.specs.Alike.{IsTable};
 
-use attribute_origins::lines::lines;
-use attribute_origins::origins::{inverted, origin};
+use crate::questions::{Case, Question, Text, wrong_case};
+use crate::rows::expect_none;
+use alike_types::alike::are_alike_types;
+use alike_types::table::shapes;
 use data_types::forms::{DataTypes, data_types};
 use data_types::values::{Atom, Sort, Tables, add_values};
 use digraph::closures::closure;
-use express_schemas::tree::SchemaTree;
-use express_text::read_schema;
-use express_types::resolving::resolve;
-use schema_names::graphs::{part_graph, supertype_graph};
+use schema_names::graphs::part_graph;
 use schema_names::names::Names;
 use std::alloc::Global;
-use std::hash::RandomState;
-use std::test::Fail;
-use step_literals::literal::Word;
+use type_shapes::shapes::Shape;
 
 // Its declarations are numbered from 0, and its data types too: 0 is REAL, 1 amount, 2 the list
 // with its element 3, 4 and 5 those of the box.
-const TYPES: &'static [u8] = b"SCHEMA s;
+const BOXES: &'static [u8] = b"SCHEMA s;
     TYPE len = REAL; END_TYPE;
     TYPE finish = ENUMERATION OF (rough, fine); END_TYPE;
     TYPE amount = SELECT (len, finish, box); END_TYPE;
@@ -36,29 +33,65 @@ const TYPES: &'static [u8] = b"SCHEMA s;
     ENTITY box; size : other; rows : row; END_ENTITY;
     END_SCHEMA;";
 
-// The number of a data type, and what its values may be.
-type ValueRow = (u32, &'static [Atom]);
+// Its data types are numbered in the order of the text, elements behind their aggregates.
+const LISTS: &'static [u8] = b"SCHEMA s;
+    TYPE a = LIST OF b; END_TYPE;
+    TYPE b = SELECT (a, c); END_TYPE;
+    TYPE c = LIST OF d; END_TYPE;
+    ENTITY d; END_ENTITY;
+    TYPE e = LIST OF e; END_TYPE;
+    TYPE f = LIST OF LIST OF f; END_TYPE;
+    TYPE g = SET OF INTEGER; END_TYPE;
+    TYPE h = BAG OF NUMBER; END_TYPE;
+    TYPE i = ARRAY [1:2] OF REAL; END_TYPE;
+    END_SCHEMA;";
 
-const VALUES: &'static [ValueRow] = &[
-    (0, &[Atom::Value(Sort::Number, false)]),
+const CASES: &'static [Case] = &[
+    // A SELECT is replaced by its items, whatever names stand between.
     (
-        1,
-        &[
-            Atom::Value(Sort::Number, true),
-            Atom::Value(Sort::Item, true),
-            Atom::Instance(5),
-        ],
+        Text::Whole(BOXES),
+        Question::Values(0, &[Atom::Value(Sort::Number, false)]),
     ),
-    (2, &[Atom::Aggregate(3, false)]),
     (
-        4,
-        &[
-            Atom::Value(Sort::Number, true),
-            Atom::Value(Sort::Item, true),
-            Atom::Instance(5),
-        ],
+        Text::Whole(BOXES),
+        Question::Values(
+            1,
+            &[
+                Atom::Value(Sort::Number, true),
+                Atom::Value(Sort::Item, true),
+                Atom::Instance(5),
+            ],
+        ),
     ),
-    (5, &[Atom::Aggregate(3, false)]),
+    (
+        Text::Whole(BOXES),
+        Question::Values(2, &[Atom::Aggregate(3, false)]),
+    ),
+    (
+        Text::Whole(BOXES),
+        Question::Values(
+            4,
+            &[
+                Atom::Value(Sort::Number, true),
+                Atom::Value(Sort::Item, true),
+                Atom::Instance(5),
+            ],
+        ),
+    ),
+    (
+        Text::Whole(BOXES),
+        Question::Values(5, &[Atom::Aggregate(3, false)]),
+    ),
+    // Lists of a SELECT and of an entity.
+    (Text::Whole(LISTS), Question::Alike(0, 2, true)),
+    (Text::Whole(LISTS), Question::Alike(1, 3, true)),
+    // Lists of lists without end.
+    (Text::Whole(LISTS), Question::Alike(4, 6, true)),
+    (Text::Whole(LISTS), Question::Alike(0, 4, false)),
+    // A SET and a BAG of numbers, and an ARRAY.
+    (Text::Whole(LISTS), Question::Alike(9, 11, true)),
+    (Text::Whole(LISTS), Question::Alike(9, 13, false)),
+    (Text::Whole(LISTS), Question::Alike(10, 14, true)),
 ];
 
 // Whether these are the wanted ones, in whatever order.
@@ -67,39 +100,27 @@ fn are_atoms(atoms: &[Atom], wanted: &[Atom]) -> bool {
 }
 
 // Whether a data type is one of the schema, and has these values.
-fn has_values(alloc: Global, tables: Tables<'_, '_, '_>, number: u32, wanted: &[Atom]) -> bool
+fn has_values(alloc: Global, tables: Tables<'_, '_, '_>, question: Question) -> bool
     requires { AreTables tables }
 {
+    let Question::Values(number, wanted) = question else {
+        return false;
+    };
     if (number as usize) >= tables.data_types.forms.len() {
         return false;
     }
     let mut atoms = Vec::new(alloc);
-    if add_values(tables, number, &mut atoms).is_err() {
-        return false;
-    }
-    are_atoms(&atoms, wanted)
+    add_values(tables, number, &mut atoms).is_ok() && are_atoms(&atoms, wanted)
 }
 
-// The first row whose data type has other values.
-fn wrong_row(alloc: Global, tables: Tables<'_, '_, '_>) -> Option<usize>
-    requires { AreTables tables }
-{
-    for i in 0..VALUES.len() {
-        let (number, wanted) = VALUES[i];
-        if !has_values(alloc, tables, number, wanted) {
-            return Some(i);
-        }
-    }
-    None
-}
-
-// The same, over these tables; the number of rows where what is to be asked isn't made.
-fn wrong_table(
+// The same, over all that defined types are made of.
+fn has_values_by(
     alloc: Global,
     names: &Names<'_, '_>,
     data_types: &DataTypes,
     edges: &[Vec<u32>],
-) -> Option<usize>
+    question: Question,
+) -> bool
     requires forms { data_types.now.forms.items ≡ map (form_in (schema_of names.now.schema.now))
         (all_data_types (schema_of names.now.schema.now)) }
     requires rows { AreRowsOf whole_types (all_data_types (schema_of names.now.schema.now))
@@ -108,131 +129,85 @@ fn wrong_table(
     requires few { length data_types.now.forms.items < 2 ^ 32 }
 {
     let Ok(parts) = closure(alloc, edges) else {
-        return Some(VALUES.len());
+        return false;
     };
     let tables = Tables {
         names,
         data_types,
         parts: &parts,
     };
-    wrong_row(alloc, tables)
+    has_values(alloc, tables, question)
 }
 
-fn wrong_name(alloc: Global, names: &Names<'_, '_>) -> Option<usize> {
-    let (Ok(data_types), Ok(edges)) = (data_types(alloc, names), part_graph(alloc, names)) else {
-        return Some(VALUES.len());
-    };
-    wrong_table(alloc, names, &data_types, &edges)
-}
-
-fn wrong_tree(alloc: Global, keys: RandomState, schema: &SchemaTree<'_>) -> Option<usize> {
-    let Ok(names) = Names::of(alloc, keys, schema) else {
-        return Some(VALUES.len());
-    };
-    wrong_name(alloc, &names)
-}
-
-fn wrong_values(alloc: Global, keys: RandomState) -> Option<usize> {
-    let Ok(schema) = read_schema(alloc, TYPES) else {
-        return Some(VALUES.len());
-    };
-    wrong_tree(alloc, keys, &schema)
-}
-
-#[test]
-fn selects_are_replaced_by_their_items(rt: HostRuntime) -> Result<(), Fail> {
-    let keys = RandomState::new(&rt)?;
-    assert_eq!(rt; wrong_values(rt.alloc(), keys), None);
-    Ok(())
-}
-
-// b and c are below a, and d below both; each declares a w.
-const DIAMOND: &'static [u8] = b"SCHEMA s;
-    ENTITY d SUBTYPE OF (b, c); END_ENTITY;
-    ENTITY c SUBTYPE OF (a); w : REAL; END_ENTITY;
-    ENTITY b SUBTYPE OF (a); DERIVE w : REAL := 1.0; END_ENTITY;
-    ENTITY a; w : REAL; z : REAL; END_ENTITY;
-    END_SCHEMA;";
-
-// An entity and an attribute by name; the numbers of those that declare what it means, and what an
-// inverse attribute inverts.
-type OriginRow = (&'static [u8], &'static [u8], Option<u32>, Option<u32>);
-
-const ORIGINS: &'static [OriginRow] = &[
-    (b"d", b"w", Some(2), Some(3)),
-    (b"c", b"w", Some(1), Some(1)),
-    (b"d", b"z", Some(3), Some(3)),
-    (b"d", b"y", None, None),
-];
-
-// Whether the entity is there, and the answers are those of the row.
-fn has_origin(names: &Names<'_, '_>, lines: &[Vec<u32>], row: OriginRow) -> bool
-    requires { HaveLines (schema_of names.now.schema.now) (graph_of lines.now) }
+// Whether two data types are of the schema, and the shapes tell this of them.
+fn are_told(shapes: &[Shape], question: Question) -> bool
+    requires { IsTable shapes.now }
 {
-    let (entity, attribute, declared, explicit) = row;
-    let (Ok(entity), Ok(attribute)) = (Word::read(entity), Word::read(attribute)) else {
+    let Question::Alike(first, second, wanted) = question else {
         return false;
     };
-    let Some(number) = names.find(entity) else {
-        return false;
-    };
-    if (number as usize) >= lines.len() {
+    if (first as usize) >= shapes.len() || (second as usize) >= shapes.len() {
         return false;
     }
-    origin(names, lines, number, attribute) == declared
-        && inverted(names, lines, number, attribute) == explicit
+    are_alike_types(shapes, first, second) == wanted
 }
 
-// The first row that is answered in another way.
-fn wrong_answer(names: &Names<'_, '_>, lines: &[Vec<u32>]) -> Option<usize>
-    requires { HaveLines (schema_of names.now.schema.now) (graph_of lines.now) }
-{
-    for i in 0..ORIGINS.len() {
-        if !has_origin(names, lines, ORIGINS[i]) {
-            return Some(i);
-        }
-    }
-    None
-}
-
-// The same, over this graph; the number of rows where what is to be asked isn't made.
-fn wrong_line(alloc: Global, names: &Names<'_, '_>, supertypes: &[Vec<u32>]) -> Option<usize>
+// The same, where the shapes are made.
+fn are_told_by(
+    alloc: Global,
+    names: &Names<'_, '_>,
+    data_types: &DataTypes,
+    edges: &[Vec<u32>],
+    question: Question,
+) -> bool
     requires resolved { IsResolved (schema_of names.now.schema.now) }
-    requires graph { IsGraphOf (schema_of names.now.schema.now) supertypes_in
-        (graph_of supertypes.now) }
+    requires forms { data_types.now.forms.items ≡ map (form_in (schema_of names.now.schema.now))
+        (all_data_types (schema_of names.now.schema.now)) }
+    requires rows { AreRowsOf whole_types (all_data_types (schema_of names.now.schema.now))
+        (schema_of names.now.schema.now).declarations (graph_of data_types.now.rows.items) }
+    requires graph { IsGraphOf (schema_of names.now.schema.now) parts_in (graph_of edges.now) }
+    requires few { length data_types.now.forms.items < 2 ^ 32 }
 {
-    let Ok(lines) = lines(alloc, names, supertypes) else {
-        return Some(ORIGINS.len());
+    let Ok(shapes) = shapes(alloc, names, data_types, edges) else {
+        return false;
     };
-    wrong_answer(names, &lines)
+    are_told(&shapes, question)
 }
 
-fn wrong_supertype(alloc: Global, names: &Names<'_, '_>) -> Option<usize>
+fn has_types_by(
+    alloc: Global,
+    names: &Names<'_, '_>,
+    data_types: &DataTypes,
+    question: Question,
+) -> bool
+    requires resolved { IsResolved (schema_of names.now.schema.now) }
+    requires forms { data_types.now.forms.items ≡ map (form_in (schema_of names.now.schema.now))
+        (all_data_types (schema_of names.now.schema.now)) }
+    requires rows { AreRowsOf whole_types (all_data_types (schema_of names.now.schema.now))
+        (schema_of names.now.schema.now).declarations (graph_of data_types.now.rows.items) }
+    requires few { length data_types.now.forms.items < 2 ^ 32 }
+{
+    let Ok(edges) = part_graph(alloc, names) else {
+        return false;
+    };
+    match question {
+        Question::Values(..) => has_values_by(alloc, names, data_types, &edges, question),
+        Question::Alike(..) => are_told_by(alloc, names, data_types, &edges, question),
+        _ => false,
+    }
+}
+
+/// Whether data types of a schema have these values, or are alike.
+pub(crate) fn has_types(alloc: Global, names: &Names<'_, '_>, question: Question) -> bool
     requires { IsResolved (schema_of names.now.schema.now) }
 {
-    let Ok(supertypes) = supertype_graph(alloc, names) else {
-        return Some(ORIGINS.len());
+    let Ok(data_types) = data_types(alloc, names) else {
+        return false;
     };
-    wrong_line(alloc, names, &supertypes)
-}
-
-fn wrong_graph(alloc: Global, keys: RandomState, schema: &SchemaTree<'_>) -> Option<usize> {
-    let Ok(graph) = resolve(alloc, keys, schema) else {
-        return Some(ORIGINS.len());
-    };
-    wrong_supertype(alloc, &graph.types.names)
-}
-
-fn wrong_origin(alloc: Global, keys: RandomState) -> Option<usize> {
-    let Ok(schema) = read_schema(alloc, DIAMOND) else {
-        return Some(ORIGINS.len());
-    };
-    wrong_graph(alloc, keys, &schema)
+    has_types_by(alloc, names, &data_types, question)
 }
 
 #[test]
-fn origins_are_the_first_in_lines(rt: HostRuntime) -> Result<(), Fail> {
-    let keys = RandomState::new(&rt)?;
-    assert_eq!(rt; wrong_origin(rt.alloc(), keys), None);
-    Ok(())
+fn data_types_have_values_and_shapes(rt: HostRuntime) {
+    expect_none(&rt, wrong_case(&rt, rt.alloc(), CASES));
 }

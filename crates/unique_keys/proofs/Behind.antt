@@ -31,7 +31,7 @@ module _ {A : Type 0} where
   in_front x None = None
   in_front x (Some ys) = Some (x ∷ ys)
 
-  append_one : (xs : List A) (x : A) (ys : List A) → (xs ++ x ∷ []) ++ ys ≡ xs ++ x ∷ ys
+  pub append_one : (xs : List A) (x : A) (ys : List A) → (xs ++ x ∷ []) ++ ys ≡ xs ++ x ∷ ys
   append_one [] x ys = refl
   append_one (z ∷ xs) x ys = ap (λ zs. z ∷ zs) (append_one xs x ys)
 

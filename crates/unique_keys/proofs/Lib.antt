@@ -1,9 +1,5 @@
-mod Neighbours
-mod Rows
-mod Marking
-mod Ordered
 mod Agreeing
-mod Keeping
+mod Meeting
 mod Telling
 mod Behind
 mod Collected

@@ -1,16 +1,15 @@
--- What the code computes; no promise stands here. The keys of instances, and which of them come again.
-use Rattle.std.specs.Prelude.{◌≡◌, ⊤, ℕ, ◌<◌, Bool, false, cond, List, [], ◌∷◌, ◌++◌, length, map, Option, Some, None, slice_index_or, Vec}
-use Rattle.std.specs.List.{AllZip}
+-- What the code computes; no promise stands here. The keys of instances, each as the normal forms of its parts, and those
+-- that were met.
+use Rattle.std.specs.Prelude.{◌≡◌, ⊤, Bool, List, ◌∷◌, Option, Some, None, Vec}
+use Rattle.std.specs.List.{list_any}
 use Rattle.std.specs.Cmp.Lexicographic.{pointwise}
+use Rattle.indexmap.specs.IndexSet.{IndexSet, contains}
 use Rattle.step_values.specs.ComputedForms.{AreNormal, normal_eq}
 use Rattle.step_values.specs.Values.{Values}
 use Rattle.step_values.specs.declared.normal.Normal.{Normal}
-use Rattle.conformance.specs.Populations.{Instance}
 use Rattle.parameter_fits.specs.Named.{each_by_name}
-use Rattle.population_rules.specs.Rules.{UniqueRule}
-use Rattle.population_rules.specs.Findings.{key}
-use Rattle.unique_keys.specs.declared.marks.Key.{Key}
-use Rattle.unique_keys.specs.Marked.{is_marked, keyed}
+use Rattle.population_rules.specs.Findings.{same_keys}
+use Rattle.unique_keys.specs.declared.met.Key.{Key}
 
 abbrev pub forms_in : {Z : Type 0} → Option (Vec Normal Z) → Option (List Normal)
 forms_in None = None
@@ -29,28 +28,14 @@ same_forms ms ns = pointwise normal_eq ms ns
 abbrev pub same_parts : Key → Key → Bool
 same_parts k l = same_forms k.parts.items l.parts.items
 
-abbrev pub row_of : Key → ℕ
-row_of k = k.row
+-- a key is in the set exactly where one of these is the same
+abbrev pub AreMet : {S : Type 0} → List (Option Values) → IndexSet Key S → Type 0
+AreMet before met =
+    (vs : Values) (k : Key) → AreNormal (each_by_name vs) k.parts.items
+    → contains same_parts met k ≡ list_any (same_keys (Some vs)) before
 
-abbrev pub key_seen : Key → List Normal × ℕ
-key_seen k = (k.parts.items, k.row)
-
--- the list goes on with the key of a row, if there is one
-abbrev pub AddsKey : ℕ → Option Values → List Key → List Key → Type 0
-AddsKey row vs old new =
-    (o : Option (List Normal)) × IsKey vs o × (map key_seen new ≡ map key_seen old ++ keyed row (o ∷ []))
-
--- these are the keys of the instances that have one, each with its row
-abbrev pub AreKeysOf : UniqueRule → List Instance → List Key → Type 0
-AreKeysOf u is keys =
-    (ks : List (Option (List Normal))) × AllZip (λ x o. IsKey (key u x) o) is ks × (map key_seen keys ≡ keyed 0 ks)
-
--- by row, whether its key has the parts of the one before it
-abbrev pub AreMarks : List Bool → List Key → Type 0
-AreMarks marks keys = (r : ℕ) → r < length marks → slice_index_or marks r false ≡ is_marked same_parts row_of keys r
-
--- the names of those that are marked
-abbrev pub names_marked : List Instance → List Bool → List ℕ
-names_marked [] bs = []
-names_marked (x ∷ xs) [] = []
-names_marked (x ∷ xs) (b ∷ bs) = cond b (x.name ∷ names_marked xs bs) (names_marked xs bs)
+-- one key more, if there is one, and whether it was met before
+abbrev pub Meets : {S : Type 0} → Option Values → Bool → IndexSet Key S → IndexSet Key S → Type 0
+Meets k again old new =
+    (before : List (Option Values)) → AreMet before old
+    → (again ≡ list_any (same_keys k) before) × AreMet (k ∷ before) new

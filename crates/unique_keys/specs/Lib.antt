@@ -1,4 +1,3 @@
-pub mod Marked
 pub mod Parts
 pub mod Positions
 pub mod Keys

@@ -1,15 +1,31 @@
+use Rattle.std.specs.Prelude.{false, is_some}
 use Rattle.std.proofs.Common.{◌≡◌, ◌∙◌, ◌∷◌, [], ◌++◌, map, flat_map, take, ap, sym}
-use Rattle.std.specs.List.{repeat}
+use Rattle.std.specs.List.{repeat, list_any}
 use Rattle.express_schemas.specs.SchemaViews.{schema_of}
 use Rattle.population_rules.specs.Referring.{holds, times_at, held}
+use Rattle.referrers.specs.Referring.{referrers_of}
 use Rattle.rule_tables.specs.Seen.{gathering_seen, inverse_seen}
 use Rattle.step_population.specs.Ordering.{picked_at}
 use Rattle.step_population.specs.Seen.{instance_seen, population_seen}
 use Rattle.step_population.specs.Whole.{form_among}
 use Rattle.step_population.proofs.Found.{kept}
 use Rattle.step_extent.specs.Gathering.{position_at, position_by}
-use Rattle.step_extent.proofs.Held.{position_in, position-is, numbers-of, held-in, flat-next}
+use Rattle.step_extent.proofs.Held.{position_in, position-is, numbers-of, held-in, none-gathered, flat-next}
 use Rattle.step_extent.proofs.gathering.gathered.Goals as goal
+
+pub returns-then-not-is_somewhere : goal.returns-then-not-is_somewhere
+returns-then-not-is_somewhere c y =
+    let p = c.args.population.now in
+    let s = schema_of p.types.now.names.schema.now in
+    let i = c.args.inverse.now in
+    let forms = p.rows.forms.items in
+    let nowhere : list_any is_some (map (position_by i) forms) ≡ false =
+    ap (list_any is_some) (sym (c.deref.ensures.value ∙ c.in_ok-positions.ensures
+    ∙ ap (map (position_by i)) c.forms.ensures.forms))
+    ∙ sym c.is_somewhere.ensures ∙ c.if-not-is_somewhere.true in
+    ap (referrers_of y) c.new-references.ensures.items
+    ∙ sym (none-gathered s i c.requires.numbered (kept p).one y forms nowhere (kept p).numbered p.exchange.now.names _
+    p.rows.form_of.items p.values.rows (kept p).placed)
 
 pub loop-row-preserved : goal.loop-row-preserved
 loop-row-preserved c y =
@@ -22,7 +38,7 @@ loop-row-preserved c y =
     let at : c.position_at-position.result ≡ position_in i o =
     c.position_at-position.ensures
     ∙ ap (λ ps. position_at ps x.form)
-    (c.deref.ensures.value ∙ c.in_ok-positions.ensures ∙ ap (map (position_by i)) c.forms.ensures.forms)
+    (c.deref-in-loop-row.ensures.value ∙ c.in_ok-positions.ensures ∙ ap (map (position_by i)) c.forms.ensures.forms)
     ∙ position-is i forms x.form in
     let one = held-in s i c.requires.numbered (kept p).one y x.name c.instance-instance.ensures.section x.values o
     c.instance-instance.ensures.placed (numbers-of s forms x.form (kept p).numbered) in

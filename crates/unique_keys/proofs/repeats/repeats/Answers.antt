@@ -1,34 +1,57 @@
-use Rattle.std.proofs.Common.{◌≡◌, ◌<◌, ◌∙◌, [], All, length, map, sym, subst, ap}
-use Rattle.std.proofs.lemmas.Result.{IfOk-weaker}
-use Rattle.conformance.specs.Populations.{Instance}
-use Rattle.population_rules.specs.Findings.{repeats}
+use Rattle.std.proofs.Common.{ℕ, List, ◌≡◌, ◌+◌, ◌∷◌, [], ◌++◌, ◌∙◌, map, option_copied, sym, subst, ap, arith}
+use Rattle.population_rules.specs.Findings.{key}
 use Rattle.rule_tables.specs.Seen.{unique_seen}
 use Rattle.step_population.specs.Seen.{population_seen}
 use Rattle.step_population.proofs.Found.{schema_seen}
-use Rattle.unique_keys.specs.declared.marks.Key.{Key}
-use Rattle.unique_keys.specs.Keys.{AreMarks, names_marked}
-use Rattle.unique_keys.proofs.Keeping.{rows_below}
-use Rattle.unique_keys.proofs.Telling.{names_repeated}
+use Rattle.unique_keys.specs.Parts.{parts_by}
+use Rattle.unique_keys.specs.Positions.{numbers_in, positions_by, positions_among}
+use Rattle.unique_keys.specs.Keys.{Meets}
+use Rattle.unique_keys.proofs.ByRow.{instance, stands, name_is, key_by_form}
+use Rattle.unique_keys.proofs.Telling.{TellsUpTo, tells_first, tells_more, tells_as_before, tells_all}
 use Rattle.unique_keys.proofs.repeats.repeats.Goals as goal
+use Rattle.unique_keys.proofs.repeats.repeats.Goals.{then-branch+in_ok-push, else-branch}
 
-pub marks_of-requires : goal.marks_of-requires
-marks_of-requires c =
-    let is = population_seen c.args.population.now in
-    let u = unique_seen (schema_seen c.args.population.now) c.args.rule.now in
-    subst (λ n. All (λ (k : Key). k.row < n) c.deref.result.now) (sym c.len.ensures)
-    (subst (λ ks. All (λ (k : Key). k.row < length is) ks) (sym c.deref.ensures.value)
-    (rows_below u is c.in_ok-keys.keys.items c.sort_unstable.new.self.items c.in_ok-keys.ensures
-    c.sort_unstable.ensures.permutation))
+pub loop-row-init : goal.loop-row-init
+loop-row-init c =
+    tells_first (unique_seen (schema_seen c.args.population.now) c.args.rule.now) (population_seen c.args.population.now)
+    c.new-names.result.items c.with_hasher-met.result c.new-names.ensures.items c.with_hasher-met.ensures.empty
+
+pub loop-row-preserved : goal.loop-row-preserved
+loop-row-preserved c =
+    let p = c.args.population.now in
+    let rule = c.args.rule.now in
+    let u = unique_seen (schema_seen p) rule in
+    let row = c.loop-row.row in
+    let x = c.instance-instance.result in
+    let is = c.instance-instance.ensures in
+    let old = c.loop-row.met in
+    let new = c.meets_again.new.met in
+    let names = c.loop-row.names.items in
+    let again = c.in_ok-meets_again.field-0 in
+    let by_form : map numbers_in c.in_ok-positions.positions.items ≡ map (positions_by rule) p.rows.forms.items =
+    c.in_ok-positions.ensures ∙ ap (map (positions_by rule)) c.forms.ensures.forms in
+    let found : option_copied c.positions_at-places.result ≡ positions_among c.in_ok-positions.positions.items x.form =
+    c.positions_at-places.ensures ∙ ap (λ all. positions_among all x.form) c.deref.ensures.value in
+    let same : key u (instance p row x is) ≡ parts_by x.values (numbers_in (option_copied c.positions_at-places.result)) =
+    key_by_form p row x is rule c.requires.numbered c.in_ok-positions.positions.items by_form
+    ∙ ap (λ o. parts_by x.values (numbers_in o)) (sym found) in
+    let meets : Meets (key u (instance p row x is)) again old new =
+    subst (λ k. Meets k again old new) (sym same) c.in_ok-meets_again.ensures in
+    let told : List ℕ → Type 0 = λ ns. TellsUpTo u (population_seen p) (row + 1) ns new in
+    elim c.if-branch.branch [
+      | then-branch+in_ok-push w ↦
+          subst told (sym (ap (λ v. v.items) w.names-is ∙ w.in_ok-push.ensures.items
+          ∙ ap (λ n. names ++ n ∷ []) (sym (name_is p row x is))))
+          (tells_more u (population_seen p) row (instance p row x is) (stands p row x is) names old new again meets
+          c.loop-row.invariant w.if-branch.true)
+      | else-branch w ↦
+          subst told (sym (ap (λ v. v.items) w.names-is))
+          (tells_as_before u (population_seen p) row (instance p row x is) (stands p row x is) names old new again meets
+          c.loop-row.invariant w.if-branch.false)
+    ]
 
 pub returns : goal.returns
 returns c =
-    let is = population_seen c.args.population.now in
-    let u = unique_seen (schema_seen c.args.population.now) c.args.rule.now in
-    let ys = c.sort_unstable.new.self.items in
-    let marks = c.in_ok-marks.marks.items in
-    IfOk-weaker c.names_marked.result (λ v. v.items ≡ names_marked is c.deref-2.result.now)
-    (λ v. v.items ≡ map (λ (x : Instance). x.name) (repeats u [] is))
-    (λ v h. h ∙ ap (names_marked is) c.deref-2.ensures.value
-    ∙ names_repeated u is c.in_ok-keys.keys.items ys marks c.in_ok-keys.ensures c.sort_unstable.ensures.permutation
-    c.sort_unstable.ensures.sorted (c.in_ok-marks.ensures.count ∙ c.len.ensures)
-    (subst (AreMarks marks) c.deref.ensures.value c.in_ok-marks.ensures.marks)) c.names_marked.ensures
+    tells_all (unique_seen (schema_seen c.args.population.now) c.args.rule.now) (population_seen c.args.population.now)
+    c.loop-row.row c.loop-row.names.items c.loop-row.met (omega (arith, c.loop-row-test.false, c.len-row-end.ensures))
+    c.loop-row.invariant

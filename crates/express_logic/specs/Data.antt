@@ -1,0 +1,37 @@
+-- What an expression may be worth (ISO 10303-11, 8 and 12): literals by their values, instances by their names.
+use Rattle.std.specs.Prelude.{ℕ, ℤ, Bool, true, false, List, Option}
+use Rattle.step_literals.specs.declared.literal.items.Item.{Item}
+use Rattle.express_trees.specs.declared.tree.Logical.{Logical}
+use Rattle.express_trees.specs.declared.tree.Logical.TheVariants.{Unknown}
+
+-- a LIST; a SET or a BAG; an ARRAY of these declared indices, none where an index isn't known
+pub data Shape : Type 0 where
+  list : Shape
+  bag : Shape
+  array : Option ℤ → Option ℤ → Shape
+
+-- a number in units of 10 ^ -1,000,400; an element of an enumeration in upper case; a value with the name of its type
+mutual
+  pub data Datum : Type 0 where
+    indeterminate : Datum
+    number : ℤ → Datum
+    text : List Item → Datum
+    bits : List Bool → Datum
+    element : List ℕ → Datum
+    logical : Logical → Datum
+    instance : ℕ → Datum
+    typed : List ℕ → Datum → Datum
+    aggregate : Shape → Data → Datum
+
+  pub data Data : Type 0 where
+    none : Data
+    more : Datum → Data → Data
+
+abbrev pub is_known : Datum → Bool
+is_known indeterminate = false
+is_known _ = true
+
+-- what it says as an operand of NOT, AND, OR and XOR, and as a condition: UNKNOWN where it is no logical
+abbrev pub truth : Datum → Logical
+truth (logical p) = p
+truth _ = Unknown

@@ -1,0 +1,9 @@
+pub mod Logic
+pub mod Literals
+pub mod Data
+pub mod Comparing
+pub mod Holdings
+pub mod Views
+pub mod Laws
+pub mod Left
+pub mod Steps

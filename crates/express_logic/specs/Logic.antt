@@ -1,0 +1,41 @@
+-- Three-valued logic (ISO 10303-11, 8.1.4 and 12.4).
+use Rattle.std.specs.Prelude.{ℕ, Bool, if◌then◌else◌}
+use Rattle.express_trees.specs.declared.tree.Logical.{Logical}
+use Rattle.express_trees.specs.declared.tree.Logical.TheVariants.{False, Unknown, True}
+
+-- NOT (12.4.1)
+abbrev pub negated : Logical → Logical
+negated False = True
+negated Unknown = Unknown
+negated True = False
+
+-- AND (12.4.2): FALSE where a side is, TRUE where both are
+abbrev pub both : Logical → Logical → Logical
+both False _ = False
+both _ False = False
+both True True = True
+both _ _ = Unknown
+
+-- OR (12.4.3): TRUE where a side is, FALSE where both are
+abbrev pub either : Logical → Logical → Logical
+either True _ = True
+either _ True = True
+either False False = False
+either _ _ = Unknown
+
+-- XOR (12.4.4): UNKNOWN where a side is
+abbrev pub exclusive : Logical → Logical → Logical
+exclusive Unknown _ = Unknown
+exclusive _ Unknown = Unknown
+exclusive True p = negated p
+exclusive False p = p
+
+-- what is known to hold, or not to hold
+abbrev pub known : Bool → Logical
+known holds = if holds then True else False
+
+-- FALSE < UNKNOWN < TRUE (12.2.1.3)
+abbrev pub rank : Logical → ℕ
+rank False = 0
+rank Unknown = 1
+rank True = 2

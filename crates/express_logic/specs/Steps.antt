@@ -1,0 +1,17 @@
+-- In what steps the code looks for an element; no promise stands here.
+use Rattle.std.specs.Prelude.{Option, Some, None}
+use Rattle.express_trees.specs.declared.tree.Logical.{Logical}
+use Rattle.express_trees.specs.declared.tree.Logical.TheVariants.{False}
+use Rattle.express_logic.specs.Logic.{either}
+use Rattle.express_logic.specs.Data.{Datum, Data, none, more}
+use Rattle.express_logic.specs.Comparing.{Scalar, scalar, equal_scalars}
+
+-- the comparison with an element that there may be
+abbrev pub equal_in : Scalar → Option Datum → Logical
+equal_in s None = False
+equal_in s (Some e) = equal_scalars s (scalar e)
+
+-- the OR of those with each
+abbrev pub among_scalars : Scalar → Data → Logical
+among_scalars s none = False
+among_scalars s (more e es) = either (equal_scalars s (scalar e)) (among_scalars s es)

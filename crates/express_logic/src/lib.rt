@@ -1,0 +1,14 @@
+//! Values of expressions of EXPRESS (ISO 10303-11, 12): three-valued logic, comparison and
+//! membership.
+//!
+//! Nothing here takes memory: literals are slices of the texts that they stand in.
+#![tactic(auto)]
+
+pub mod binaries;
+pub mod compare;
+pub mod datum;
+pub mod laws;
+pub mod logical;
+pub mod numbers;
+pub mod scalar;
+pub mod strings;

@@ -1,0 +1,10 @@
+pub mod Values
+pub mod Operations
+pub mod Expressions
+pub mod Attributes
+pub mod Meanings
+pub mod DomainRules
+pub mod Findings
+pub mod Alike
+pub mod Images
+pub mod Laws

@@ -1,0 +1,74 @@
+//! Laws of the definitions alone.
+
+ghost use Rattle.express_meanings.specs.Laws.{AttributesAreOne, DomainRulesAreOne};
+ghost use Rattle.express_meanings.specs.Laws.{ConformingAreClosed, FilesHavePlacesOnce};
+ghost use Rattle.express_meanings.specs.Laws.{InverseValuesAreLed, KeysStayUnique, InverseBoundsStay};
+ghost use Rattle.express_meanings.specs.Laws.{PinsTellApart};
+ghost use Rattle.express_meanings.specs.Laws.{ImagesKeepMeanings, ImagesKeepRules, NoBreachInImages};
+ghost use Rattle.express_meanings.specs.Laws.{ImagesBreakNoRule};
+
+/// What a schema says of attributes leaves no choice, whatever the population.
+pub fn attributes_are_one()
+    ensures { AttributesAreOne }
+{}
+
+/// A schema has one list of domain rules that are checked.
+pub fn domain_rules_are_one()
+    ensures { DomainRulesAreOne }
+{}
+
+/// Each reference of a population that conforms names an instance.
+pub fn conforming_are_closed()
+    ensures { ConformingAreClosed }
+{}
+
+/// An instance of a file has one value for each attribute, where its keywords are entities and none
+/// stands twice.
+pub fn files_have_places_once()
+    ensures { FilesHavePlacesOnce }
+{}
+
+/// The values of inverse attributes are led along by a map that tells apart the instances on their
+/// sides.
+pub fn inverse_values_are_led()
+    ensures { InverseValuesAreLed }
+{}
+
+/// An image by a map that tells apart what stands in keys breaks no uniqueness rule where no
+/// instance breaks one.
+pub fn keys_stay_unique()
+    ensures { KeysStayUnique }
+{}
+
+/// An image that has the values of inverse attributes breaks none of their bounds where no instance
+/// breaks one.
+pub fn inverse_bounds_stay()
+    ensures { InverseBoundsStay }
+{}
+
+/// A map that leads nothing else to where it leads a pinned instance tells apart what stands in keys
+/// and on the sides of inverse attributes.
+pub fn pins_tell_apart()
+    ensures { PinsTellApart }
+{}
+
+/// In an image of a population an expression has the value that it had, references led along.
+pub fn images_keep_meanings()
+    ensures { ImagesKeepMeanings }
+{}
+
+/// A rule says of an instance what it says of the one that it is led to.
+pub fn images_keep_rules()
+    ensures { ImagesKeepRules }
+{}
+
+/// An image of a population breaks no rule where the population breaks none.
+pub fn no_breach_in_images()
+    ensures { NoBreachInImages }
+{}
+
+/// An image that respects pins breaks no rule, of uniqueness, of inverse attributes or of a domain,
+/// where no instance breaks one.
+pub fn images_break_no_rule()
+    ensures { ImagesBreakNoRule }
+{}
