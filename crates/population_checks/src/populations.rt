@@ -2,10 +2,11 @@
 
 ghost use Rattle.resolved_types.specs.Made.{IsMade};
 
+use express_schemas::tree::SchemaTree;
 use express_text::read_schema;
 use resolved_types::resolving::resolve_types;
 use resolved_types::types::ResolvedTypes;
-use std::alloc::{AllocError, Global};
+use std::alloc::Global;
 use std::hash::RandomState;
 use std::test::Fail;
 use step_equal::plain::Plain;
@@ -14,7 +15,7 @@ use step_exchange::structure::Exchange;
 use step_literals::literal::Word;
 use step_population::populate::{Verdict, populate};
 use step_population::population::Population;
-use step_values::slot::{Kind, Slot, Slots};
+use step_values::slot::{Kind, Slots};
 
 const SCHEMA: &'static [u8] = b"SCHEMA geo;
 TYPE len_m = REAL; END_TYPE;
@@ -58,56 +59,83 @@ enum Question {
     Row(usize, &'static [&'static [u8]], &'static [Kind]),
 }
 
-type Case = (&'static [u8], Question);
+/// What is tested, the instances of a file, and a question.
+type Case = (&'static str, &'static [u8], Question);
 
 const CASES: &'static [Case] = &[
-    (b"", Question::Cells(0, 0)),
-    (POINTS, Question::Cells(4, 10)),
-    (MARKS, Question::Cells(4, 9)),
+    ("no instances", b"", Question::Cells(0, 0)),
+    ("the cells of points", POINTS, Question::Cells(4, 10)),
+    ("the cells of marks", MARKS, Question::Cells(4, 9)),
     (
+        "a list of two",
         POINTS,
         Question::Value(1, b"POINT", b"COORDS", Some((Kind::List, 2))),
     ),
     (
+        "a reference",
         POINTS,
         Question::Value(3, b"PLACEMENT", b"LOCATION", Some((Kind::Reference, 0))),
     ),
     (
+        "an unset value, by names without case",
         POINTS,
         Question::Value(4, b"placement", b"Axis", Some((Kind::Unset, 0))),
     ),
-    (POINTS, Question::Value(1, b"PLACEMENT", b"LOCATION", None)),
-    (POINTS, Question::Value(9, b"POINT", b"COORDS", None)),
     (
+        "an attribute of another entity",
+        POINTS,
+        Question::Value(1, b"PLACEMENT", b"LOCATION", None),
+    ),
+    (
+        "no such instance",
+        POINTS,
+        Question::Value(9, b"POINT", b"COORDS", None),
+    ),
+    (
+        "a string of one of three types",
         MARKS,
         Question::Value(7, b"SHAPE", b"LABEL", Some((Kind::Text, 0))),
     ),
     (
+        "a typed value of the second",
         MARKS,
         Question::Value(7, b"SOLID", b"VOLUME", Some((Kind::Typed, 1))),
     ),
     (
+        "an element of the third",
         MARKS,
         Question::Value(7, b"MARKED", b"LOOK", Some((Kind::Element, 0))),
     ),
     (
+        "a derived value",
         MARKS,
         Question::Value(5, b"SHAPE", b"LABEL", Some((Kind::Derived, 0))),
     ),
-    (MARKS, Question::Value(5, b"SOLID", b"VOLUME", None)),
     (
+        "an attribute of a type that it hasn't",
+        MARKS,
+        Question::Value(5, b"SOLID", b"VOLUME", None),
+    ),
+    (
+        "a set of one",
         MARKS,
         Question::Value(6, b"BUNDLE", b"MEMBERS", Some((Kind::Bag, 1))),
     ),
-    (POINTS, Question::Types(3, 1)),
-    (POINTS, Question::Types(5, 0)),
-    (MARKS, Question::Types(5, 3)),
-    (POINTS, Question::Row(0, &[b"POINT"], &[Kind::List])),
+    ("one type", POINTS, Question::Types(3, 1)),
+    ("the types of no instance", POINTS, Question::Types(5, 0)),
+    ("a type and those above it", MARKS, Question::Types(5, 3)),
     (
+        "the row of a point",
+        POINTS,
+        Question::Row(0, &[b"POINT"], &[Kind::List]),
+    ),
+    (
+        "the row of a placement",
         POINTS,
         Question::Row(3, &[b"PLACEMENT"], &[Kind::Reference, Kind::Unset]),
     ),
     (
+        "the row of three types, in order",
         MARKS,
         Question::Row(
             0,
@@ -116,6 +144,7 @@ const CASES: &'static [Case] = &[
         ),
     ),
     (
+        "the row of a type with those above it",
         MARKS,
         Question::Row(
             1,
@@ -123,16 +152,12 @@ const CASES: &'static [Case] = &[
             &[Kind::Element, Kind::Derived],
         ),
     ),
-    (MARKS, Question::Row(2, &[b"BUNDLE"], &[Kind::Bag])),
+    (
+        "the row of a bundle",
+        MARKS,
+        Question::Row(2, &[b"BUNDLE"], &[Kind::Bag]),
+    ),
 ];
-
-fn file(alloc: Global, instances: &[u8]) -> Result<Vec<u8>, AllocError> {
-    let mut text = Vec::new(alloc);
-    text.extend_from_slice(START)?;
-    text.extend_from_slice(instances)?;
-    text.extend_from_slice(END)?;
-    Ok(text)
-}
 
 fn is_word(word: Word<'_>, text: &[u8]) -> bool {
     match Word::read(text) {
@@ -153,11 +178,28 @@ fn place_of(types: &ResolvedTypes<'_, '_>, entity: &[u8], attribute: &[u8]) -> O
     None
 }
 
-fn is_value(value: Option<Slot<'_, '_>>, wanted: Option<(Kind, usize)>) -> bool {
-    match (value, wanted) {
-        (Some(value), Some((kind, len))) => value.kind() == kind && value.len() == len,
-        (None, None) => true,
-        _ => false,
+fn has_value(
+    population: &Population<'_, '_, '_, '_>,
+    name: u64,
+    place: u32,
+    wanted: Option<(Kind, usize)>,
+) -> bool {
+    match population.value(name, place) {
+        Some(value) => wanted == Some((value.kind(), value.len())),
+        None => wanted.is_none(),
+    }
+}
+
+fn has_value_of(
+    population: &Population<'_, '_, '_, '_>,
+    name: u64,
+    entity: &[u8],
+    attribute: &[u8],
+    wanted: Option<(Kind, usize)>,
+) -> bool {
+    match place_of(population.types, entity, attribute) {
+        Some(place) => has_value(population, name, place, wanted),
+        None => false,
     }
 }
 
@@ -178,18 +220,11 @@ fn are_kinds(values: &Slots<'_, '_>, wanted: &[Kind]) -> bool {
         return false;
     }
     for i in 0..wanted.len() {
-        if !is_value_of(values.item(i), wanted[i]) {
+        if values.at(i).kind() != wanted[i] {
             return false;
         }
     }
     true
-}
-
-fn is_value_of(value: Option<Slot<'_, '_>>, wanted: Kind) -> bool {
-    match value {
-        Some(value) => value.kind() == wanted,
-        None => false,
-    }
 }
 
 fn is_row(plain: &Plain<'_>, place: usize, types: &[&'static [u8]], kinds: &[Kind]) -> bool {
@@ -200,30 +235,30 @@ fn is_row(plain: &Plain<'_>, place: usize, types: &[&'static [u8]], kinds: &[Kin
     are_words(row.types, types) && are_kinds(&row.values, kinds)
 }
 
-fn has_cells(plain: &Plain<'_>, instances: usize, cells: usize) -> bool {
-    plain.len() == instances && plain.cells().len() == cells
+fn has_cells(
+    population: &Population<'_, '_, '_, '_>,
+    plain: &Plain<'_>,
+    instances: usize,
+    cells: usize,
+) -> bool {
+    population.len() == instances
+        && population.cells().len() == cells
+        && plain.len() == instances
+        && plain.cells().len() == cells
 }
 
 // Whether the answer is the one that is wanted, of a population and of its rows.
 fn is_answered(
-    types: &ResolvedTypes<'_, '_>,
     population: &Population<'_, '_, '_, '_>,
     plain: &Plain<'_>,
     question: Question,
 ) -> bool {
     match question {
         Question::Value(name, entity, attribute, wanted) => {
-            match place_of(types, entity, attribute) {
-                Some(place) => is_value(population.value(name, place), wanted),
-                None => false,
-            }
+            has_value_of(population, name, entity, attribute, wanted)
         }
         Question::Types(name, count) => population.types_of(name).len() == count,
-        Question::Cells(instances, cells) => {
-            population.len() == instances
-                && population.cells().len() == cells
-                && has_cells(plain, instances, cells)
-        }
+        Question::Cells(instances, cells) => has_cells(population, plain, instances, cells),
         Question::Row(place, types, kinds) => is_row(plain, place, types, kinds),
     }
 }
@@ -231,50 +266,96 @@ fn is_answered(
 fn is_right_of(
     alloc: Global,
     keys: RandomState,
+    population: &Population<'_, '_, '_, '_>,
+    question: Question,
+) -> bool {
+    match population.plain(alloc, keys) {
+        Ok(plain) => is_answered(population, &plain, question),
+        Err(_) => false,
+    }
+}
+
+fn is_right_typed(
+    alloc: Global,
+    keys: RandomState,
     types: &ResolvedTypes<'_, '_>,
     exchange: &Exchange<'_>,
     question: Question,
-) -> Result<bool, AllocError>
+) -> bool
     requires { IsMade types.now }
 {
-    let Verdict::Typed(population) = populate(alloc, keys, types, exchange)? else {
-        return Ok(false);
+    let Ok(verdict) = populate(alloc, keys, types, exchange) else {
+        return false;
     };
-    let plain = population.plain(alloc, keys)?;
-    Ok(is_answered(types, &population, &plain, question))
+    let Verdict::Typed(population) = verdict else {
+        return false;
+    };
+    is_right_of(alloc, keys, &population, question)
 }
 
-fn is_right(alloc: Global, keys: RandomState, case: Case) -> Result<bool, AllocError> {
-    let (instances, question) = case;
-    let text = file(alloc, instances)?;
-    let Ok(tree) = read_schema(alloc, SCHEMA) else {
-        return Ok(false);
-    };
-    let Ok(types) = resolve_types(alloc, keys, &tree) else {
-        return Ok(false);
-    };
-    let Ok(exchange) = read_exchange(alloc, keys, &text) else {
-        return Ok(false);
-    };
-    is_right_of(alloc, keys, &types, &exchange, question)
+fn is_right_text(
+    alloc: Global,
+    keys: RandomState,
+    types: &ResolvedTypes<'_, '_>,
+    text: &[u8],
+    question: Question,
+) -> bool
+    requires { IsMade types.now }
+{
+    match read_exchange(alloc, keys, text) {
+        Ok(exchange) => is_right_typed(alloc, keys, types, &exchange, question),
+        Err(_) => false,
+    }
 }
 
+fn add_file(text: &mut Vec<u8>, instances: &[u8]) -> bool {
+    text.extend_from_slice(START).is_ok()
+        && text.extend_from_slice(instances).is_ok()
+        && text.extend_from_slice(END).is_ok()
+}
+
+fn is_right(alloc: Global, keys: RandomState, types: &ResolvedTypes<'_, '_>, case: &Case) -> bool
+    requires { IsMade types.now }
+{
+    let (_, instances, question) = *case;
+    let mut text = Vec::new(alloc);
+    add_file(&mut text, instances) && is_right_text(alloc, keys, types, &text, question)
+}
+
+// What is tested by the first case that isn't answered so.
 fn wrong_case(
     alloc: Global,
     keys: RandomState,
-    cases: &[Case],
-) -> Result<Option<usize>, AllocError> {
-    for i in 0..cases.len() {
-        if !is_right(alloc, keys, cases[i])? {
-            return Ok(Some(i));
+    types: &ResolvedTypes<'_, '_>,
+) -> Option<&'static str>
+    requires { IsMade types.now }
+{
+    for case in CASES {
+        if !is_right(alloc, keys, types, case) {
+            return Some(case.0);
         }
     }
-    Ok(None)
+    None
+}
+
+// The same, of the schema; there is an answer too where nothing can be asked.
+fn wrong_of_tree(alloc: Global, keys: RandomState, tree: &SchemaTree<'_>) -> Option<&'static str> {
+    match resolve_types(alloc, keys, tree) {
+        Ok(types) => wrong_case(alloc, keys, &types),
+        Err(_) => Some("the schema"),
+    }
+}
+
+fn wrong_answer(alloc: Global, keys: RandomState) -> Option<&'static str> {
+    match read_schema(alloc, SCHEMA) {
+        Ok(tree) => wrong_of_tree(alloc, keys, &tree),
+        Err(_) => Some("the text of the schema"),
+    }
 }
 
 #[test]
 fn populations_are_asked(rt: HostRuntime) -> Result<(), Fail> {
     let keys = RandomState::new(&rt)?;
-    assert_eq!(rt; wrong_case(rt.alloc(), keys, CASES)?, None);
+    assert_eq!(rt; wrong_answer(rt.alloc(), keys), None);
     Ok(())
 }

@@ -30,15 +30,15 @@ fn pin_at(
     alloc: Global,
     pinned: &mut BTreeSet<u64>,
     elements: Elements<'_>,
-    bases: Bases<'_, '_, '_>,
+    bases: &Bases<'_, '_, '_>,
     slot: UniqueSlot,
     values: &Slots<'_, '_>,
 ) -> Result<(), AllocError>
-    requires bases { AreBases bases }
-    requires numbered { IsNumbered (schema_at bases) slot.base }
-    ensures { (d : Domain) → IsDomain (schema_at bases.entry) d → OnOk result (Pins
-        (λ y. HasUniqueAt (schema_at bases.entry) d (Asks elements.entry y) values.now
-        (slot_seen (schema_at bases.entry) slot)) pinned.old pinned.new) }
+    requires bases { AreBases bases.now }
+    requires numbered { IsNumbered (schema_at bases.now) slot.base }
+    ensures { (d : Domain) → IsDomain (schema_at bases.now) d → OnOk result (Pins
+        (λ y. HasUniqueAt (schema_at bases.now) d (Asks elements.entry y) values.now
+        (slot_seen (schema_at bases.now) slot)) pinned.old pinned.new) }
 {
     match values.item(slot.position) {
         Some(value) => pin_in_value(alloc, pinned, elements, bases, slot.base, &value),
@@ -51,15 +51,15 @@ fn pin_in_slots(
     alloc: Global,
     pinned: &mut BTreeSet<u64>,
     elements: Elements<'_>,
-    bases: Bases<'_, '_, '_>,
+    bases: &Bases<'_, '_, '_>,
     slots: &[UniqueSlot],
     values: &Slots<'_, '_>,
 ) -> Result<(), AllocError>
-    requires bases { AreBases bases }
-    requires numbered { HaveNumbers (schema_at bases) slots.now }
-    ensures { (d : Domain) → IsDomain (schema_at bases.entry) d → OnOk result (Pins
-        (λ y. OneOf (HasUniqueAt (schema_at bases.entry) d (Asks elements.entry y) values.now)
-        (map (slot_seen (schema_at bases.entry)) slots.now)) pinned.old pinned.new) }
+    requires bases { AreBases bases.now }
+    requires numbered { HaveNumbers (schema_at bases.now) slots.now }
+    ensures { (d : Domain) → IsDomain (schema_at bases.now) d → OnOk result (Pins
+        (λ y. OneOf (HasUniqueAt (schema_at bases.now) d (Asks elements.entry y) values.now)
+        (map (slot_seen (schema_at bases.now)) slots.now)) pinned.old pinned.new) }
 {
     for i in 0..slots.len() {
         pin_at(alloc, pinned, elements, bases, slots[i], values)?;
@@ -88,11 +88,11 @@ pub fn pin_elements(
 {
     let tables = SchemaTables::of(alloc, population.types)?;
     let bases = tables.bases(population.types);
-    let rows = slots_by_form(alloc, bases, &tables.uses, population.forms())?;
+    let rows = slots_by_form(alloc, &bases, &tables.uses, population.forms())?;
     for row in 0..population.len() {
         let instance = population.instance(row);
         let slots = slots_at(&rows, instance.form);
-        pin_in_slots(alloc, pinned, elements, bases, slots, &instance.values)?;
+        pin_in_slots(alloc, pinned, elements, &bases, slots, &instance.values)?;
     }
     Ok(())
 }

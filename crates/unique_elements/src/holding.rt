@@ -30,11 +30,11 @@ fn has_parts(base: Base) -> bool
 
 /// Whether a value of which this is asked can be, or have in it, a LIST or ARRAY OF UNIQUE. Where
 /// it is false none can; a SET, whose values are none, is taken for one of UNIQUE.
-pub(crate) fn may_hold(bases: Bases<'_, '_, '_>, base: Base) -> bool
-    requires bases { AreBases bases }
-    requires numbered { IsNumbered (schema_at bases) base }
-    ensures { (d : Domain) → IsDomain (schema_at bases.entry) d
-        → result ≡ may_hold d (base_seen (schema_at bases.entry) base) }
+pub(crate) fn may_hold(bases: &Bases<'_, '_, '_>, base: Base) -> bool
+    requires bases { AreBases bases.now }
+    requires numbered { IsNumbered (schema_at bases.now) base }
+    ensures { (d : Domain) → IsDomain (schema_at bases.now) d
+        → result ≡ may_hold d (base_seen (schema_at bases.now) base) }
 {
     match base {
         Base::Select(_) => true,

@@ -49,14 +49,14 @@ fn uses_at(uses: &Uses, number: u32) -> &[AttributeUse]
 /// in it.
 fn add_slot(
     slots: &mut Vec<UniqueSlot>,
-    bases: Bases<'_, '_, '_>,
+    bases: &Bases<'_, '_, '_>,
     position: usize,
     data_type: u32,
 ) -> Result<(), AllocError>
-    requires bases { AreBases bases }
-    requires known { IsKnown (schema_at bases) (type_at (schema_at bases) data_type) }
-    ensures { OnOk result (AddsSlots (schema_at bases.entry) slots.old.items slots.new.items
-        (λ d. slots_of d position (type_at (schema_at bases.entry) data_type ∷ []))) }
+    requires bases { AreBases bases.now }
+    requires known { IsKnown (schema_at bases.now) (type_at (schema_at bases.now) data_type) }
+    ensures { OnOk result (AddsSlots (schema_at bases.now) slots.old.items slots.new.items
+        (λ d. slots_of d position (type_at (schema_at bases.now) data_type ∷ []))) }
 {
     let base = bases.of_number(data_type);
     if may_hold(bases, base) {
@@ -68,15 +68,15 @@ fn add_slot(
 /// .. what a declaration asks of it, where it is one of the attribute of a place.
 fn add_use(
     slots: &mut Vec<UniqueSlot>,
-    bases: Bases<'_, '_, '_>,
+    bases: &Bases<'_, '_, '_>,
     position: usize,
     place: u32,
     each: AttributeUse,
 ) -> Result<(), AllocError>
-    requires bases { AreBases bases }
-    requires known { IsKnown (schema_at bases) (type_at (schema_at bases) each.data_type) }
-    ensures { OnOk result (AddsSlots (schema_at bases.entry) slots.old.items slots.new.items
-        (λ d. slots_of d position (asked (schema_at bases.entry) (of_place place (each ∷ []))))) }
+    requires bases { AreBases bases.now }
+    requires known { IsKnown (schema_at bases.now) (type_at (schema_at bases.now) each.data_type) }
+    ensures { OnOk result (AddsSlots (schema_at bases.now) slots.old.items slots.new.items
+        (λ d. slots_of d position (asked (schema_at bases.now) (of_place place (each ∷ []))))) }
 {
     if each.place == place {
         add_slot(slots, bases, position, each.data_type)
@@ -88,16 +88,16 @@ fn add_use(
 /// .. what declarations by an entity ask of it.
 fn add_uses(
     slots: &mut Vec<UniqueSlot>,
-    bases: Bases<'_, '_, '_>,
+    bases: &Bases<'_, '_, '_>,
     position: usize,
     place: u32,
     uses: &[AttributeUse],
 ) -> Result<(), AllocError>
-    requires bases { AreBases bases }
-    requires known { Every (λ (u : Use). IsKnown (schema_at bases)
-        (type_at (schema_at bases) u.data_type)) uses.now }
-    ensures { OnOk result (AddsSlots (schema_at bases.entry) slots.old.items slots.new.items
-        (λ d. slots_of d position (asked (schema_at bases.entry) (of_place place uses.now)))) }
+    requires bases { AreBases bases.now }
+    requires known { Every (λ (u : Use). IsKnown (schema_at bases.now)
+        (type_at (schema_at bases.now) u.data_type)) uses.now }
+    ensures { OnOk result (AddsSlots (schema_at bases.now) slots.old.items slots.new.items
+        (λ d. slots_of d position (asked (schema_at bases.now) (of_place place uses.now)))) }
 {
     for i in 0..uses.len() {
         add_use(slots, bases, position, place, uses[i])?;
@@ -108,16 +108,16 @@ fn add_uses(
 /// .. what declarations by these types ask of it.
 fn add_place(
     slots: &mut Vec<UniqueSlot>,
-    bases: Bases<'_, '_, '_>,
+    bases: &Bases<'_, '_, '_>,
     uses: &Uses,
     types: &[u32],
     position: usize,
     place: u32,
 ) -> Result<(), AllocError>
-    requires bases { AreBases bases }
-    requires known { AreKnown (schema_at bases) uses.now }
-    ensures { OnOk result (AddsSlots (schema_at bases.entry) slots.old.items slots.new.items
-        (λ d. slots_of d position (asked (schema_at bases.entry)
+    requires bases { AreBases bases.now }
+    requires known { AreKnown (schema_at bases.now) uses.now }
+    ensures { OnOk result (AddsSlots (schema_at bases.now) slots.old.items slots.new.items
+        (λ d. slots_of d position (asked (schema_at bases.now)
         (uses_by uses.now types.now place)))) }
 {
     for i in 0..types.len() {
@@ -129,13 +129,13 @@ fn add_place(
 /// The values of instances of a form in which a LIST or ARRAY OF UNIQUE can stand.
 fn slots_of_form(
     alloc: Global,
-    bases: Bases<'_, '_, '_>,
+    bases: &Bases<'_, '_, '_>,
     uses: &Uses,
     form: &Form,
 ) -> Result<Vec<UniqueSlot>, AllocError>
-    requires bases { AreBases bases }
-    requires known { AreKnown (schema_at bases) uses.now }
-    ensures { IfOk result (λ v. IsUniqueRow (schema_at bases.entry) uses.now form.now v.items) }
+    requires bases { AreBases bases.now }
+    requires known { AreKnown (schema_at bases.now) uses.now }
+    ensures { IfOk result (λ v. IsUniqueRow (schema_at bases.now) uses.now form.now v.items) }
 {
     let mut slots = Vec::new(alloc);
     for i in 0..form.slots.len() {
@@ -147,13 +147,13 @@ fn slots_of_form(
 /// .. by form.
 pub(crate) fn slots_by_form(
     alloc: Global,
-    bases: Bases<'_, '_, '_>,
+    bases: &Bases<'_, '_, '_>,
     uses: &Uses,
     forms: &[Form],
 ) -> Result<Vec<Vec<UniqueSlot>>, AllocError>
-    requires bases { AreBases bases }
-    requires known { AreKnown (schema_at bases) uses.now }
-    ensures { IfOk result (λ rows. AllZip (IsRowOf (schema_at bases.entry) uses.now) forms.now
+    requires bases { AreBases bases.now }
+    requires known { AreKnown (schema_at bases.now) uses.now }
+    ensures { IfOk result (λ rows. AllZip (IsRowOf (schema_at bases.now) uses.now) forms.now
         rows.items) }
 {
     let mut rows = Vec::with_capacity(alloc, forms.len())?;

@@ -45,18 +45,18 @@ pub(crate) fn pin_in_value(
     alloc: Global,
     pinned: &mut BTreeSet<u64>,
     elements: Elements<'_>,
-    bases: Bases<'_, '_, '_>,
+    bases: &Bases<'_, '_, '_>,
     base: Base,
     value: &Slot<'_, '_>,
 ) -> Result<(), AllocError>
-    requires bases { AreBases bases }
-    requires numbered { IsNumbered (schema_at bases) base }
-    ensures { (d : Domain) → IsDomain (schema_at bases.entry) d → OnOk result (Pins
-        (λ y. HasUnique (schema_at bases.entry) d (Asks elements.entry y)
-        (base_seen (schema_at bases.entry) base) value.now) pinned.old pinned.new) }
+    requires bases { AreBases bases.now }
+    requires numbered { IsNumbered (schema_at bases.now) base }
+    ensures { (d : Domain) → IsDomain (schema_at bases.now) d → OnOk result (Pins
+        (λ y. HasUnique (schema_at bases.now) d (Asks elements.entry y)
+        (base_seen (schema_at bases.now) base) value.now) pinned.old pinned.new) }
 {
     match value.node() {
-        Node::Typed(word, inner) => match item(bases, base, word) {
+        Node::Typed(word, inner) => match item(*bases, base, word) {
             Some(within) => pin_in_value(alloc, pinned, elements, bases, within, &inner),
             None => Ok(()),
         },
@@ -75,15 +75,15 @@ fn pin_in_elements(
     alloc: Global,
     pinned: &mut BTreeSet<u64>,
     elements: Elements<'_>,
-    bases: Bases<'_, '_, '_>,
+    bases: &Bases<'_, '_, '_>,
     base: Base,
     values: &Slots<'_, '_>,
 ) -> Result<(), AllocError>
-    requires bases { AreBases bases }
-    requires numbered { IsNumbered (schema_at bases) base }
-    ensures { (d : Domain) → IsDomain (schema_at bases.entry) d → OnOk result (Pins
-        (λ y. HasInElements (schema_at bases.entry) d (Asks elements.entry y)
-        (base_seen (schema_at bases.entry) base) values.now) pinned.old pinned.new) }
+    requires bases { AreBases bases.now }
+    requires numbered { IsNumbered (schema_at bases.now) base }
+    ensures { (d : Domain) → IsDomain (schema_at bases.now) d → OnOk result (Pins
+        (λ y. HasInElements (schema_at bases.now) d (Asks elements.entry y)
+        (base_seen (schema_at bases.now) base) values.now) pinned.old pinned.new) }
 {
     let Base::Aggregate(aggregate) = base else {
         return Ok(());
@@ -98,15 +98,15 @@ fn pin_in_each(
     alloc: Global,
     pinned: &mut BTreeSet<u64>,
     elements: Elements<'_>,
-    bases: Bases<'_, '_, '_>,
+    bases: &Bases<'_, '_, '_>,
     base: Base,
     values: &Slots<'_, '_>,
 ) -> Result<(), AllocError>
-    requires bases { AreBases bases }
-    requires numbered { IsNumbered (schema_at bases) base }
-    ensures { (d : Domain) → IsDomain (schema_at bases.entry) d → OnOk result (Pins
-        (λ y. HasUniqueAmong (schema_at bases.entry) d (Asks elements.entry y)
-        (base_seen (schema_at bases.entry) base) values.now) pinned.old pinned.new) }
+    requires bases { AreBases bases.now }
+    requires numbered { IsNumbered (schema_at bases.now) base }
+    ensures { (d : Domain) → IsDomain (schema_at bases.now) d → OnOk result (Pins
+        (λ y. HasUniqueAmong (schema_at bases.now) d (Asks elements.entry y)
+        (base_seen (schema_at bases.now) base) values.now) pinned.old pinned.new) }
 {
     if !may_hold(bases, base) {
         return Ok(());

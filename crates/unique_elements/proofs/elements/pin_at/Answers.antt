@@ -6,7 +6,7 @@ use Rattle.unique_elements.proofs.elements.pin_at.Goals as goal
 
 pub returns-in-Some : goal.returns-in-Some
 returns-in-Some c d is =
-    let s = schema_at c.args.bases in
+    let s = schema_at c.args.bases.now in
     on_ok_weaker c.pin_in_value.result
     (at-value s d (Asks c.args.elements) c.args.values.now c.args.slot.position (base_seen s c.args.slot.base)
     c.in-Some.value _ _ c.in-Some.ensures)

@@ -9,7 +9,7 @@ use Rattle.unique_elements.proofs.elements.pin_in_slots.Goals as goal
 
 pub loop-i-preserved : goal.loop-i-preserved
 loop-i-preserved c d is =
-    let s = schema_at c.args.bases in
+    let s = schema_at c.args.bases.now in
     let xs = c.args.slots.now in
     let i = c.loop-i.i in
     next (λ y. HasUniqueAt s d (Asks c.args.elements y) c.args.values.now) (map (slot_seen s) xs) i _ _ _ _
@@ -18,7 +18,7 @@ loop-i-preserved c d is =
 
 pub returns : goal.returns
 returns c d is =
-    let s = schema_at c.args.bases in
+    let s = schema_at c.args.bases.now in
     let xs = c.args.slots.now in
     let past = c.loop-i-test.false in
     let long = length-map xs (slot_seen s) in

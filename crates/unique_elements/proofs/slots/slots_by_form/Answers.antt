@@ -9,7 +9,7 @@ pub loop-i-preserved : goal.loop-i-preserved
 loop-i-preserved c =
     let xs = c.args.forms.now in
     let x = c.index-forms-i.result in
-    zip-more (IsRowOf (schema_at c.args.bases) c.args.uses.now) xs c.loop-i.i x c.loop-i.rows.items
+    zip-more (IsRowOf (schema_at c.args.bases.now) c.args.uses.now) xs c.loop-i.i x c.loop-i.rows.items
     c.push.new.self.items c.in_ok-row.row
     (slice_get_read xs (length xs) c.loop-i.i x refl c.loop-i-test.true c.index-forms-i.is)
     c.loop-i.invariant c.in_ok-row.ensures c.in_ok-push.ensures.items
