@@ -12,7 +12,7 @@ mod texts;
 use command_line::store::Store;
 use commands::command::run_command;
 use devices::counted::Counted;
-use std::alloc::{AllocError, Global};
+use std::alloc::Global;
 use std::hash::RandomState;
 use std::io;
 use std::io::{Read, Write};
@@ -73,7 +73,9 @@ impl Write for Paper {
         if count == 0 {
             return Err(io::Error::from(io::ErrorKind::BrokenPipe));
         }
-        self.bytes.extend_from_slice(&buf[..count])?;
+        if self.bytes.extend_from_slice(&buf[..count]).is_err() {
+            return Err(io::Error::from(io::ErrorKind::OutOfMemory));
+        }
         self.room -= count;
         Ok(count)
     }
@@ -136,13 +138,17 @@ impl Ending {
     }
 }
 
-// The words, owned.
-fn owned(alloc: Global, words: &[&str]) -> Result<Vec<String>, AllocError> {
-    let mut owned = Vec::new(alloc);
+// Adds the words, owned.
+fn add_words(alloc: Global, owned: &mut Vec<String>, words: &[&str]) -> bool {
     for word in words {
-        owned.push(String::from_str(alloc, word)?)?;
+        let Ok(word) = String::from_str(alloc, word) else {
+            return false;
+        };
+        if owned.push(word).is_err() {
+            return false;
+        }
     }
-    Ok(owned)
+    true
 }
 
 // A command line over a store, where the outputs have this room.
@@ -164,7 +170,7 @@ fn run_in<'p, S: Store<'p>>(
     }
 }
 
-// A command line over the file, where the outputs have this room.
+// A command line over the file, where the outputs have this room; none where memory runs out.
 fn run(
     alloc: Global,
     keys: RandomState,
@@ -173,13 +179,16 @@ fn run(
     breaks: bool,
     out_room: usize,
     err_room: usize,
-) -> Result<Ending, AllocError> {
-    let words = owned(alloc, words)?;
+) -> Option<Ending> {
+    let mut owned = Vec::new(alloc);
+    if !add_words(alloc, &mut owned, words) {
+        return None;
+    }
     let mut store = Shelf {
         alloc,
         schema: b"",
         file: file.as_bytes(),
         breaks,
     };
-    Ok(run_in(alloc, keys, &words, &mut store, out_room, err_room))
+    Some(run_in(alloc, keys, &owned, &mut store, out_room, err_room))
 }

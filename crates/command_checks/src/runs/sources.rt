@@ -43,15 +43,32 @@ fn is_read(
     answer == want && source.failed() == (want == Err(ReadFault::Device))
 }
 
+// How many letters there are, whether a failure is behind them, the limit, and how many are read.
+type Row = (usize, bool, u64, Result<usize, ReadFault>);
+
+const ROWS: &'static [Row] = &[
+    (0, false, 0, Ok(0)),
+    (1, false, 0, Err(ReadFault::TooLarge)),
+    (150000, false, 150000, Ok(150000)),
+    (150001, false, 150000, Err(ReadFault::TooLarge)),
+    (usize::MAX, false, 150000, Err(ReadFault::TooLarge)),
+    (2000, false, u64::MAX, Ok(2000)),
+    (2000, true, 150000, Err(ReadFault::Device)),
+    (2000, true, 1999, Err(ReadFault::TooLarge)),
+];
+
+// The first row that isn't read so.
+fn wrong_row(alloc: Global) -> Option<usize> {
+    for i in 0..ROWS.len() {
+        let (left, fails, limit, want) = ROWS[i];
+        if !is_read(alloc, left, fails, limit, want) {
+            return Some(i);
+        }
+    }
+    None
+}
+
 #[test]
 fn a_source_is_read_to_its_end(rt: HostRuntime) {
-    let alloc = rt.alloc();
-    assert!(rt; is_read(alloc, 0, false, 0, Ok(0)));
-    assert!(rt; is_read(alloc, 1, false, 0, Err(ReadFault::TooLarge)));
-    assert!(rt; is_read(alloc, 150000, false, 150000, Ok(150000)));
-    assert!(rt; is_read(alloc, 150001, false, 150000, Err(ReadFault::TooLarge)));
-    assert!(rt; is_read(alloc, usize::MAX, false, 150000, Err(ReadFault::TooLarge)));
-    assert!(rt; is_read(alloc, 2000, false, u64::MAX, Ok(2000)));
-    assert!(rt; is_read(alloc, 2000, true, 150000, Err(ReadFault::Device)));
-    assert!(rt; is_read(alloc, 2000, true, 1999, Err(ReadFault::TooLarge)));
+    assert_eq!(rt; wrong_row(rt.alloc()), None);
 }

@@ -2,12 +2,12 @@
 
 ghost use Rattle.std.specs.Prelude.{Some, false};
 
-use super::{Ending, FILE, Paper, owned, run, run_in};
+use super::{Ending, FILE, Paper, add_words, run, run_in};
 use command_line::store::Store;
 use devices::counted::Counted;
 use devices::device::Sink;
 use file_store::folder::Folder;
-use std::alloc::{AllocError, Global};
+use std::alloc::Global;
 use std::fs;
 use std::hash::RandomState;
 use std::rt::Files;
@@ -67,26 +67,6 @@ impl<'p, 'b> Store<'p> for Desk<'b> {
     }
 
     fn keep(&mut self, _path: &'p str, _writer: Counted<Paper>) {}
-}
-
-// `plain` over the file with `new` for `old`.
-fn run_changed(
-    alloc: Global,
-    keys: RandomState,
-    old: &str,
-    new: &str,
-) -> Result<Ending, AllocError> {
-    let file = FILE.replace(alloc, old, new)?;
-    let words = ["stepmin", "plain", "F"];
-    run(
-        alloc,
-        keys,
-        &words,
-        file.as_str(),
-        false,
-        usize::MAX,
-        usize::MAX,
-    )
 }
 
 // The file with `new` for `old` gives the file with this text for `old`, at status 0, or is refused
@@ -380,62 +360,82 @@ const SECTIONS: &'static [Row] = &[
     ),
 ];
 
-// Whether a row comes to what it says.
-fn is_right(alloc: Global, keys: RandomState, row: &Row) -> Result<bool, AllocError> {
-    let (old, new, status, text) = *row;
-    let run = run_changed(alloc, keys, old, new)?;
+// Whether a run over the file of a row is what the row says.
+fn is_right_run(alloc: Global, run: &Ending, row: &Row) -> bool {
+    let (old, _, status, text) = *row;
     if status != 0 {
-        return Ok(run.comes_to(status, b"", text.as_bytes()));
+        return run.comes_to(status, b"", text.as_bytes());
     }
-    let normal = FILE.replace(alloc, old, text)?;
-    Ok(run.comes_to(0, normal.as_bytes(), b""))
+    match FILE.replace(alloc, old, text) {
+        Ok(normal) => run.comes_to(0, normal.as_bytes(), b""),
+        Err(_) => false,
+    }
+}
+
+fn is_right_of(alloc: Global, keys: RandomState, file: &str, row: &Row) -> bool {
+    let words = ["stepmin", "plain", "F"];
+    match run(alloc, keys, &words, file, false, usize::MAX, usize::MAX) {
+        Some(run) => is_right_run(alloc, &run, row),
+        None => false,
+    }
+}
+
+fn is_right(alloc: Global, keys: RandomState, row: &Row) -> bool {
+    let (old, new, ..) = *row;
+    match FILE.replace(alloc, old, new) {
+        Ok(file) => is_right_of(alloc, keys, file.as_str(), row),
+        Err(_) => false,
+    }
 }
 
 // The first row that comes to something else.
-fn wrong_row(
-    alloc: Global,
-    keys: RandomState,
-    rows: &'static [Row],
-) -> Result<Option<usize>, AllocError> {
+fn wrong_row(alloc: Global, keys: RandomState, rows: &'static [Row]) -> Option<usize> {
     for i in 0..rows.len() {
-        if !is_right(alloc, keys, &rows[i])? {
-            return Ok(Some(i));
+        if !is_right(alloc, keys, &rows[i]) {
+            return Some(i);
         }
     }
-    Ok(None)
+    None
 }
 
 #[test]
 fn a_text_is_written_or_refused(rt: HostRuntime) -> Result<(), Fail> {
     let keys = RandomState::new(&rt)?;
-    assert_eq!(rt; wrong_row(rt.alloc(), keys, TEXTS)?, None);
-    Ok(())
-}
-
-#[test]
-fn data_sections_are_written_or_refused(rt: HostRuntime) -> Result<(), Fail> {
-    let keys = RandomState::new(&rt)?;
-    assert_eq!(rt; wrong_row(rt.alloc(), keys, SECTIONS)?, None);
+    assert_eq!(rt; wrong_row(rt.alloc(), keys, TEXTS), None);
+    assert_eq!(rt; wrong_row(rt.alloc(), keys, SECTIONS), None);
     Ok(())
 }
 
 // Where the normal text of the large file lies for a while.
 const LARGE: &str = "normal-text-of-a-large-file.stp";
 
-// Many points, each with this behind its name.
-fn points(alloc: Global, behind: &str) -> Result<String, AllocError> {
-    let mut text = String::from_str(alloc, "DATA;\n")?;
+// Adds many points, each with this behind its name.
+fn add_points(text: &mut String, behind: &str) -> bool {
     for name in 1..40000u32 {
-        write!(text, "#{name}{behind}\n")?;
+        if write!(text, "#{name}{behind}\n").is_err() {
+            return false;
+        }
     }
-    Ok(text)
+    true
+}
+
+// The file with two further records in its header and these points.
+fn with_points(alloc: Global, points: &str) -> Option<String> {
+    match FILE.replace(alloc, "'GEO'));\n", "'GEO'));\nA(1);\nB('x');\n") {
+        Ok(head) => head.as_str().replace(alloc, "DATA;\n", points).ok(),
+        Err(_) => None,
+    }
 }
 
 // A file of more than a MiB with two further records in its header, in which points are spelt so.
-fn large_file(alloc: Global, behind: &str) -> Result<String, AllocError> {
-    let points = points(alloc, behind)?;
-    let head = FILE.replace(alloc, "'GEO'));\n", "'GEO'));\nA(1);\nB('x');\n")?;
-    head.as_str().replace(alloc, "DATA;\n", points.as_str())
+fn large_file(alloc: Global, behind: &str) -> Option<String> {
+    let Ok(mut points) = String::from_str(alloc, "DATA;\n") else {
+        return None;
+    };
+    if !add_points(&mut points, behind) {
+        return None;
+    }
+    with_points(alloc, points.as_str())
 }
 
 // Whether `plain` over any store writes this text.
@@ -480,18 +480,58 @@ fn is_normal_there<'x, R: Files>(
     writes(alloc, keys, words, &mut folder, text)
 }
 
+// What fails first of the large file and its normal text.
+fn wrong_of<R: Files>(
+    rt: &R,
+    alloc: Global,
+    keys: RandomState,
+    file: &str,
+    text: &str,
+) -> Option<&'static str> {
+    let mut words = Vec::new(alloc);
+    if !add_words(alloc, &mut words, &["stepmin", "plain", LARGE]) {
+        return Some("the words");
+    }
+    if !is_normal(alloc, keys, &words, file, text) {
+        return Some("the normal text of the file");
+    }
+    if !is_laid(rt, text) {
+        return Some("the text as a file");
+    }
+    if !is_normal_there(rt, alloc, keys, &words, text) {
+        return Some("its own normal text");
+    }
+    None
+}
+
+fn wrong_of_file<R: Files>(
+    rt: &R,
+    alloc: Global,
+    keys: RandomState,
+    file: &str,
+) -> Option<&'static str> {
+    if file.len() <= 1 << 20 {
+        return Some("the length of the file");
+    }
+    match large_file(alloc, "=POINT((0.,1.));") {
+        Some(text) => wrong_of(rt, alloc, keys, file, text.as_str()),
+        None => Some("the text"),
+    }
+}
+
+fn wrong_large<R: Files>(rt: &R, alloc: Global, keys: RandomState) -> Option<&'static str> {
+    match large_file(alloc, " = point ( ( 0., 1. ) ) ;") {
+        Some(file) => wrong_of_file(rt, alloc, keys, file.as_str()),
+        None => Some("the file"),
+    }
+}
+
 #[test]
 fn a_large_file_is_written_and_read_again(rt: HostRuntime) -> Result<(), Fail> {
-    let alloc = rt.alloc();
     let keys = RandomState::new(&rt)?;
-    let words = owned(alloc, &["stepmin", "plain", LARGE])?;
-    let file = large_file(alloc, " = point ( ( 0., 1. ) ) ;")?;
-    let text = large_file(alloc, "=POINT((0.,1.));")?;
-    assert!(rt; file.len() > 1 << 20);
-    assert!(rt; is_normal(alloc, keys, &words, file.as_str(), text.as_str()));
-    assert!(rt; is_laid(&rt, text.as_str()));
-    let is_normal = is_normal_there(&rt, alloc, keys, &words, text.as_str());
-    fs::remove_file(&rt, LARGE)?;
-    assert!(rt; is_normal);
+    let wrong = wrong_large(&rt, rt.alloc(), keys);
+    let is_removed = fs::remove_file(&rt, LARGE).is_ok();
+    assert_eq!(rt; wrong, None);
+    assert!(rt; is_removed);
     Ok(())
 }
