@@ -17,6 +17,8 @@ from building import build
 from check import FILES, RULED_FILES, RULES, SCHEMA, write
 
 SIZE = 60_000_000
+DEPENDENCIES = ["step_pins", "chosen_types", "step_extent", "step_population", "step_exchange", "express_types",
+                "resolved_types", "express_text", "express_schemas", "anyhow"]
 RUNS = 5
 
 
@@ -39,7 +41,7 @@ def main():
         schema = schema.replace(plain, with_rule)
     files = {**FILES, **RULED_FILES, "points, twice": (FILES["points"][0], 0.5)}
     with tempfile.TemporaryDirectory() as folder:
-        program = build(folder, "pins", ["step_pins", "chosen_types", "express_types", "express_text", "anyhow"])
+        program = build(folder, "pins", DEPENDENCIES)
         os.chdir(folder)
         with open("schema.exp", "w", encoding="ascii") as file:
             file.write(schema)

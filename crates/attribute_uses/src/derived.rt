@@ -20,12 +20,12 @@ use std::alloc::{AllocError, Global};
 /// The numbers of the places that these redeclare.
 fn derived_places(
     alloc: Global,
-    sources: Sources<'_, '_, '_>,
+    sources: &Sources<'_, '_, '_>,
     deriveds: &[Derived<'_>],
 ) -> Result<Vec<u32>, AllocError>
-    requires sources { AreSources sources }
-    ensures { IfOk result (λ places. ArePlacesOf (schema_in sources.entry)
-        (DerivesOne (schema_in sources.entry) (map derived_of deriveds.now)) places.items) }
+    requires sources { AreSources sources.now }
+    ensures { IfOk result (λ places. ArePlacesOf (schema_in sources.now)
+        (DerivesOne (schema_in sources.now) (map derived_of deriveds.now)) places.items) }
 {
     let mut places = Vec::new(alloc);
     for derived in deriveds {
@@ -38,11 +38,11 @@ fn derived_places(
 /// none.
 fn derived_by(
     alloc: Global,
-    sources: Sources<'_, '_, '_>,
+    sources: &Sources<'_, '_, '_>,
     declaration: &Declaration<'_>,
 ) -> Result<Vec<u32>, AllocError>
-    requires sources { AreSources sources }
-    ensures { IfOk result (λ places. AreDerivedIn (schema_in sources.entry)
+    requires sources { AreSources sources.now }
+    ensures { IfOk result (λ places. AreDerivedIn (schema_in sources.now)
         (declaration_of declaration.now) places.items) }
 {
     match declaration {
@@ -56,11 +56,11 @@ fn derived_by(
 /// By declaration, the numbers of the places that it redeclares as derived.
 pub(crate) fn all_derived(
     alloc: Global,
-    sources: Sources<'_, '_, '_>,
+    sources: &Sources<'_, '_, '_>,
 ) -> Result<Vec<Vec<u32>>, AllocError>
-    requires sources { AreSources sources }
-    ensures { IfOk result (λ rows. AllZip (AreDerivedIn (schema_in sources.entry))
-        (schema_in sources.entry).declarations (graph_of rows.items)) }
+    requires sources { AreSources sources.now }
+    ensures { IfOk result (λ rows. AllZip (AreDerivedIn (schema_in sources.now))
+        (schema_in sources.now).declarations (graph_of rows.items)) }
 {
     let mut rows = Vec::new(alloc);
     for declaration in &sources.names.schema.declarations {

@@ -87,18 +87,18 @@ fn number_at(row: &[u32], place: usize) -> Option<u32>
 /// type, where the numbers of own ones stand in a row from `first` on. A place may come again.
 fn spoken_places(
     alloc: Global,
-    sources: Sources<'_, '_, '_>,
+    sources: &Sources<'_, '_, '_>,
     own: &[u32],
     first: usize,
     attributes: &[Attribute<'_>],
     data_type: u32,
 ) -> Result<Vec<u32>, AllocError>
-    requires sources { AreSources sources }
+    requires sources { AreSources sources.now }
     ensures { IfOk result (λ places. (n : Name) (k : DataTypeTree)
-        → IsTypeAt (schema_in sources.entry) k data_type
-        → AreOwnAt (schema_in sources.entry) n own.now first
+        → IsTypeAt (schema_in sources.now) k data_type
+        → AreOwnAt (schema_in sources.now) n own.now first
         (own_names (map attribute_of attributes.now))
-        → ArePlacesOf (schema_in sources.entry) (SpeakTogether (schema_in sources.entry) n k
+        → ArePlacesOf (schema_in sources.now) (SpeakTogether (schema_in sources.now) n k
         (map attribute_of attributes.now)) places.items) }
 {
     let mut places = Vec::new(alloc);
@@ -151,7 +151,7 @@ fn add_uses(
 /// Adds the uses of one declaration, whose data type has this number. No mark is left.
 fn add_explicit(
     alloc: Global,
-    sources: Sources<'_, '_, '_>,
+    sources: &Sources<'_, '_, '_>,
     marks: &mut [bool],
     own: &[u32],
     first: usize,
@@ -159,15 +159,15 @@ fn add_explicit(
     data_type: u32,
     uses: &mut Vec<AttributeUse>,
 ) -> Result<(), AllocError>
-    requires sources { AreSources sources }
+    requires sources { AreSources sources.now }
     requires clean { AreMarks marks.old [] }
-    requires many { length marks.old ≡ length (all_places (schema_in sources)) }
-    requires typed { IsTypeAt (schema_in sources) (explicit_of explicit.now).data_type data_type }
-    requires owned { (n : Name) × AreOwnAt (schema_in sources) n own.now first
+    requires many { length marks.old ≡ length (all_places (schema_in sources.now)) }
+    requires typed { IsTypeAt (schema_in sources.now) (explicit_of explicit.now).data_type data_type }
+    requires owned { (n : Name) × AreOwnAt (schema_in sources.now) n own.now first
         (own_names (explicit_of explicit.now).attributes) }
-    ensures uses { OnOk result ((n : Name) → AreOwnAt (schema_in sources.entry) n own.now first
+    ensures uses { OnOk result ((n : Name) → AreOwnAt (schema_in sources.now) n own.now first
         (own_names (explicit_of explicit.now).attributes)
-        → AddsUses (schema_in sources.entry) n (explicit_of explicit.now) uses.old.items
+        → AddsUses (schema_in sources.now) n (explicit_of explicit.now) uses.old.items
         uses.new.items) }
     ensures clean { OnOk result (AreMarks marks.new []) }
     ensures length { length marks.new ≡ length marks.old }
@@ -181,21 +181,21 @@ fn add_explicit(
 /// mark is left.
 fn explicit_uses(
     alloc: Global,
-    sources: Sources<'_, '_, '_>,
+    sources: &Sources<'_, '_, '_>,
     marks: &mut [bool],
     row: &[u32],
     own: &[u32],
     explicits: &[Explicit<'_>],
 ) -> Result<Vec<AttributeUse>, AllocError>
-    requires sources { AreSources sources }
+    requires sources { AreSources sources.now }
     requires clean { AreMarks marks.old [] }
-    requires many { length marks.old ≡ length (all_places (schema_in sources)) }
-    requires typed { AreTypesAt (schema_in sources) row.now (map explicit_of explicits.now) }
-    requires owned { (n : Name) × AreOwnAt (schema_in sources) n own.now 0
+    requires many { length marks.old ≡ length (all_places (schema_in sources.now)) }
+    requires typed { AreTypesAt (schema_in sources.now) row.now (map explicit_of explicits.now) }
+    requires owned { (n : Name) × AreOwnAt (schema_in sources.now) n own.now 0
         (names_of (map explicit_of explicits.now)) }
-    ensures uses { IfOk result (λ us. (n : Name) → AreOwnAt (schema_in sources.entry) n own.now 0
+    ensures uses { IfOk result (λ us. (n : Name) → AreOwnAt (schema_in sources.now) n own.now 0
         (names_of (map explicit_of explicits.now))
-        → AreUsesOf (schema_in sources.entry) n (map explicit_of explicits.now) us.items) }
+        → AreUsesOf (schema_in sources.now) n (map explicit_of explicits.now) us.items) }
     ensures clean { OnOk result (AreMarks marks.new []) }
     ensures length { length marks.new ≡ length marks.old }
 {
@@ -214,16 +214,16 @@ fn explicit_uses(
 /// The uses of the i-th declaration; what is no entity has none. No mark is left.
 fn uses_by(
     alloc: Global,
-    sources: Sources<'_, '_, '_>,
+    sources: &Sources<'_, '_, '_>,
     marks: &mut [bool],
     i: usize,
     declaration: &Declaration<'_>,
 ) -> Result<Vec<AttributeUse>, AllocError>
-    requires sources { AreSources sources }
+    requires sources { AreSources sources.now }
     requires clean { AreMarks marks.old [] }
-    requires many { length marks.old ≡ length (all_places (schema_in sources)) }
-    requires at { IsAt (schema_in sources) i (declaration_of declaration.now) }
-    ensures uses { IfOk result (λ us. AreUsesIn (schema_in sources.entry)
+    requires many { length marks.old ≡ length (all_places (schema_in sources.now)) }
+    requires at { IsAt (schema_in sources.now) i (declaration_of declaration.now) }
+    ensures uses { IfOk result (λ us. AreUsesIn (schema_in sources.now)
         (declaration_of declaration.now) us.items) }
     ensures clean { OnOk result (AreMarks marks.new []) }
     ensures length { length marks.new ≡ length marks.old }
@@ -242,14 +242,14 @@ fn uses_by(
 /// By declaration, the uses of places, with marks to work with.
 fn gathered_uses(
     alloc: Global,
-    sources: Sources<'_, '_, '_>,
+    sources: &Sources<'_, '_, '_>,
     marks: &mut [bool],
 ) -> Result<Vec<Vec<AttributeUse>>, AllocError>
-    requires sources { AreSources sources }
+    requires sources { AreSources sources.now }
     requires clean { AreMarks marks.old [] }
-    requires many { length marks.old ≡ length (all_places (schema_in sources)) }
-    ensures { IfOk result (λ rows. AllZip (AreUsesIn (schema_in sources.entry))
-        (schema_in sources.entry).declarations (map (λ v. v.items) rows.items)) }
+    requires many { length marks.old ≡ length (all_places (schema_in sources.now)) }
+    ensures { IfOk result (λ rows. AllZip (AreUsesIn (schema_in sources.now))
+        (schema_in sources.now).declarations (map (λ v. v.items) rows.items)) }
 {
     let mut rows = Vec::new(alloc);
     let declarations = sources.names.schema.declarations.as_slice();
@@ -263,11 +263,11 @@ fn gathered_uses(
 /// By declaration, the uses of places.
 pub(crate) fn all_uses(
     alloc: Global,
-    sources: Sources<'_, '_, '_>,
+    sources: &Sources<'_, '_, '_>,
 ) -> Result<Vec<Vec<AttributeUse>>, AllocError>
-    requires sources { AreSources sources }
-    ensures { IfOk result (λ rows. AllZip (AreUsesIn (schema_in sources.entry))
-        (schema_in sources.entry).declarations (map (λ v. v.items) rows.items)) }
+    requires sources { AreSources sources.now }
+    ensures { IfOk result (λ rows. AllZip (AreUsesIn (schema_in sources.now))
+        (schema_in sources.now).declarations (map (λ v. v.items) rows.items)) }
 {
     let mut marks = vec![in alloc; false; sources.places.len()]?;
     gathered_uses(alloc, sources, &mut marks)

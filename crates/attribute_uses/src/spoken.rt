@@ -49,10 +49,10 @@ fn has_name(places: &[Place<'_>], number: u32, name: Word<'_>) -> bool
 
 /// The number of the place of an entity's own explicit attribute; none where it declares none of
 /// this name.
-fn own_place(sources: Sources<'_, '_, '_>, entity: u32, name: Word<'_>) -> Option<u32>
+fn own_place(sources: &Sources<'_, '_, '_>, entity: u32, name: Word<'_>) -> Option<u32>
     ensures { result ≡ find
-        (λ q. has_name (capitals name.entry) (slice_get (places_of sources.entry.places.now) q))
-        (next (graph_of sources.entry.own.now) entity) }
+        (λ q. has_name (capitals name.entry) (slice_get (places_of sources.now.places.now) q))
+        (next (graph_of sources.now.own.now) entity) }
 {
     row_of(sources.own, entity as usize)
         .iter()
@@ -62,10 +62,10 @@ fn own_place(sources: Sources<'_, '_, '_>, entity: u32, name: Word<'_>) -> Optio
 
 /// The number of the place that a derived attribute redeclares; none where it redeclares nothing,
 /// or no explicit attribute.
-pub(crate) fn derived_place(sources: Sources<'_, '_, '_>, attribute: Attribute<'_>) -> Option<u32>
-    requires sources { AreSources sources }
-    ensures { ArePlacesOf (schema_in sources.entry)
-        (Redeclares (schema_in sources.entry) (attribute_of attribute.entry)) (at_most_one result) }
+pub(crate) fn derived_place(sources: &Sources<'_, '_, '_>, attribute: Attribute<'_>) -> Option<u32>
+    requires sources { AreSources sources.now }
+    ensures { ArePlacesOf (schema_in sources.now)
+        (Redeclares (schema_in sources.now) (attribute_of attribute.entry)) (at_most_one result) }
 {
     let Attribute::Redeclared(_, name) = attribute else {
         return None;
@@ -77,26 +77,27 @@ pub(crate) fn derived_place(sources: Sources<'_, '_, '_>, attribute: Attribute<'
 /// The number of the place of which a redeclaration with this data type speaks: that of an explicit
 /// attribute whose first data type has its shape (ISO 10303-11, 9.2.3.4).
 fn redeclared_place(
-    sources: Sources<'_, '_, '_>,
+    sources: &Sources<'_, '_, '_>,
     attribute: Attribute<'_>,
     name: Word<'_>,
     data_type: u32,
 ) -> Option<u32>
-    requires sources { AreSources sources }
+    requires sources { AreSources sources.now }
     requires named { (q : Name) × (attribute_of attribute ≡ redeclared q (capitals name)) }
-    ensures { (n : Name) (k : DataTypeTree) → IsTypeAt (schema_in sources.entry) k data_type
-        → ArePlacesOf (schema_in sources.entry)
-        (SpeaksOf (schema_in sources.entry) n k (attribute_of attribute.entry))
+    ensures { (n : Name) (k : DataTypeTree) → IsTypeAt (schema_in sources.now) k data_type
+        → ArePlacesOf (schema_in sources.now)
+        (SpeaksOf (schema_in sources.now) n k (attribute_of attribute.entry))
         (at_most_one result) }
 {
     let entity = redeclared_entity(sources.names, sources.lines, attribute)?;
-    let Sources {
-        names,
-        data_types,
-        shapes,
-        ..
-    } = sources;
-    if has_first_shape(names, data_types, shapes, entity, name, data_type) {
+    if has_first_shape(
+        sources.names,
+        sources.data_types,
+        sources.shapes,
+        entity,
+        name,
+        data_type,
+    ) {
         own_place(sources, entity, name)
     } else {
         None
@@ -106,16 +107,16 @@ fn redeclared_place(
 /// The number of the place of which an attribute speaks in a declaration with this data type, where
 /// an own one has this number.
 pub(crate) fn explicit_place(
-    sources: Sources<'_, '_, '_>,
+    sources: &Sources<'_, '_, '_>,
     attribute: Attribute<'_>,
     own: Option<u32>,
     data_type: u32,
 ) -> Option<u32>
-    requires sources { AreSources sources }
-    ensures { (n : Name) (k : DataTypeTree) → IsTypeAt (schema_in sources.entry) k data_type
-        → IsOwnAt (schema_in sources.entry) n (attribute_of attribute.entry) own
-        → ArePlacesOf (schema_in sources.entry)
-        (SpeaksOf (schema_in sources.entry) n k (attribute_of attribute.entry))
+    requires sources { AreSources sources.now }
+    ensures { (n : Name) (k : DataTypeTree) → IsTypeAt (schema_in sources.now) k data_type
+        → IsOwnAt (schema_in sources.now) n (attribute_of attribute.entry) own
+        → ArePlacesOf (schema_in sources.now)
+        (SpeaksOf (schema_in sources.now) n k (attribute_of attribute.entry))
         (at_most_one result) }
 {
     match attribute {

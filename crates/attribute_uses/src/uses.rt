@@ -59,21 +59,21 @@ pub struct Sources<'r, 't, 'a> {
 ///
 /// For each redeclared attribute it takes time by the line of the entity that it names and by the
 /// attributes of the one that declares it. An error says that memory ran out.
-pub fn attribute_uses(alloc: Global, sources: Sources<'_, '_, '_>) -> Result<Uses, AllocError>
-    requires resolved { IsResolved (schema_of sources.names.now.schema.now) }
-    requires rows { AreRowsOf whole_types (all_data_types (schema_of sources.names.now.schema.now))
-        (schema_of sources.names.now.schema.now).declarations
-        (graph_of sources.data_types.now.rows.items) }
-    requires lines { HaveLines (schema_of sources.names.now.schema.now)
-        (graph_of sources.lines.now) }
-    requires each { length sources.lines.now
-        ≡ length sources.names.now.schema.now.declarations.items }
-    requires shapes { AreShapes (schema_of sources.names.now.schema.now) sources.shapes.now }
-    requires places { places_of sources.places.now
-        ≡ all_places (schema_of sources.names.now.schema.now) }
-    requires own { AreRows (all_places (schema_of sources.names.now.schema.now))
-        (schema_of sources.names.now.schema.now).declarations (graph_of sources.own.now) }
-    ensures { IfOk result (AreUses (schema_of sources.entry.names.now.schema.now)) }
+pub fn attribute_uses(alloc: Global, sources: &Sources<'_, '_, '_>) -> Result<Uses, AllocError>
+    requires resolved { IsResolved (schema_of sources.now.names.now.schema.now) }
+    requires rows { AreRowsOf whole_types (all_data_types (schema_of sources.now.names.now.schema.now))
+        (schema_of sources.now.names.now.schema.now).declarations
+        (graph_of sources.now.data_types.now.rows.items) }
+    requires lines { HaveLines (schema_of sources.now.names.now.schema.now)
+        (graph_of sources.now.lines.now) }
+    requires each { length sources.now.lines.now
+        ≡ length sources.now.names.now.schema.now.declarations.items }
+    requires shapes { AreShapes (schema_of sources.now.names.now.schema.now) sources.now.shapes.now }
+    requires places { places_of sources.now.places.now
+        ≡ all_places (schema_of sources.now.names.now.schema.now) }
+    requires own { AreRows (all_places (schema_of sources.now.names.now.schema.now))
+        (schema_of sources.now.names.now.schema.now).declarations (graph_of sources.now.own.now) }
+    ensures { IfOk result (AreUses (schema_of sources.now.names.now.schema.now)) }
 {
     let explicit = all_uses(alloc, sources)?;
     let derived = all_derived(alloc, sources)?;

@@ -59,26 +59,26 @@ fn is_entity(names: &Names<'_, '_>, number: u32) -> bool
 
 impl<'r, 't, 'a> Bases<'r, 't, 'a> {
     /// What the data type of a number asks; INTEGER where there is none.
-    pub fn of_number(self, number: u32) -> Base
-        requires bases { AreBases self }
-        ensures says { IsKnown (schema_at self.entry) (type_at (schema_at self.entry) number)
-            → (d : Domain) → IsDomain (schema_at self.entry) d
-            → base_seen (schema_at self.entry) result
-            ≡ base d (type_at (schema_at self.entry) number) }
-        ensures numbered { IsNumbered (schema_at self.entry) result }
+    pub fn of_number(&self, number: u32) -> Base
+        requires bases { AreBases self.now }
+        ensures says { IsKnown (schema_at self.now) (type_at (schema_at self.now) number)
+            → (d : Domain) → IsDomain (schema_at self.now) d
+            → base_seen (schema_at self.now) result
+            ≡ base d (type_at (schema_at self.now) number) }
+        ensures numbered { IsNumbered (schema_at self.now) result }
     {
         entry(&self.table.by_number, number)
     }
 
     /// What the item of this name asks of the value of a typed parameter that stands for a SELECT:
     /// a defined type among its items, at any depth. None where there is none of this name.
-    pub fn item(self, number: u32, name: Word<'_>) -> Option<Base>
-        requires bases { AreBases self }
-        ensures numbered { IfSome result (IsNumbered (schema_at self.entry)) }
-        ensures says { (d : Domain) → IsDomain (schema_at self.entry) d
-            → (m : Name) → HasNumber (schema_at self.entry) m number
-            → option_map (base_seen (schema_at self.entry)) result
-            ≡ inner (schema_at self.entry) d (select m) (capitals name.entry) }
+    pub fn item(&self, number: u32, name: Word<'_>) -> Option<Base>
+        requires bases { AreBases self.now }
+        ensures numbered { IfSome result (IsNumbered (schema_at self.now)) }
+        ensures says { (d : Domain) → IsDomain (schema_at self.now) d
+            → (m : Name) → HasNumber (schema_at self.now) m number
+            → option_map (base_seen (schema_at self.now)) result
+            ≡ inner (schema_at self.now) d (select m) (capitals name.entry) }
     {
         match self.names.find(name) {
             Some(item) => {
@@ -93,11 +93,11 @@ impl<'r, 't, 'a> Bases<'r, 't, 'a> {
     }
 
     /// Whether an entity is an item of a SELECT, at any depth.
-    pub fn takes(self, number: u32, entity: u32) -> bool
-        requires bases { AreBases self }
-        ensures { (d : Domain) → IsDomain (schema_at self.entry) d
-            → (m : Name) (n : Name) → HasNumber (schema_at self.entry) m number
-            → HasNumber (schema_at self.entry) n entity
+    pub fn takes(&self, number: u32, entity: u32) -> bool
+        requires bases { AreBases self.now }
+        ensures { (d : Domain) → IsDomain (schema_at self.now) d
+            → (m : Name) (n : Name) → HasNumber (schema_at self.now) m number
+            → HasNumber (schema_at self.now) n entity
             → result ≡ d.is_item m n }
     {
         contains(row_at(&self.table.items, number), entity)

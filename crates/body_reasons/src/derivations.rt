@@ -38,16 +38,16 @@ fn deriveds_in<'d, 'a>(declaration: &'d Declaration<'a>) -> &'d [Derived<'a>]
 /// Adds what the derived attributes of one declaration say by themselves.
 fn judge_declaration<'r, 'a>(
     alloc: Global,
-    known: Known<'r, '_, 'a>,
+    known: &Known<'r, '_, 'a>,
     items: &'r Items<'a>,
     number: u32,
     declaration: &Declaration<'a>,
     judged: &mut Vec<Judgement>,
 ) -> Result<(), AllocError>
-    requires known { IsKnown known }
-    requires items { AreItems (schema_in known) items.now }
-    requires at { IsAt (schema_in known) number (declaration_of declaration.now) }
-    ensures { OnOk result (AddsJudged (schema_in known.entry) judged.old.items
+    requires known { IsKnown known.now }
+    requires items { AreItems (schema_in known.now) items.now }
+    requires at { IsAt (schema_in known.now) number (declaration_of declaration.now) }
+    ensures { OnOk result (AddsJudged (schema_in known.now) judged.old.items
         (derivations_in (declaration_of declaration.now)) judged.new.items) }
 {
     let own = Atom::Instance(number);
@@ -60,12 +60,12 @@ fn judge_declaration<'r, 'a>(
 /// By number, what the derived attributes of a schema say by themselves.
 pub fn judge_derivations<'r, 'a>(
     alloc: Global,
-    known: Known<'r, '_, 'a>,
+    known: &Known<'r, '_, 'a>,
     items: &'r Items<'a>,
 ) -> Result<Vec<Judgement>, AllocError>
-    requires known { IsKnown known }
-    requires items { AreItems (schema_in known) items.now }
-    ensures { IfOk result (λ t. AreJudged (schema_in known.entry) t.items) }
+    requires known { IsKnown known.now }
+    requires items { AreItems (schema_in known.now) items.now }
+    ensures { IfOk result (λ t. AreJudged (schema_in known.now) t.items) }
 {
     let mut judged = Vec::new(alloc);
     let declarations = &known.tables.names.schema.declarations;
@@ -124,12 +124,12 @@ fn faulty_ones(alloc: Global, judged: &[Judgement]) -> Result<Vec<bool>, AllocEr
 /// Where there are more than 2^32 - 1 there is no memory for them.
 pub fn derivation_ranks(
     alloc: Global,
-    known: Known<'_, '_, '_>,
+    known: &Known<'_, '_, '_>,
     judged: &[Judgement],
 ) -> Result<Vec<Option<u32>>, AllocError>
-    requires known { IsKnown known }
-    requires judged { AreJudged (schema_in known) judged.now }
-    ensures { IfOk result (λ t. AreRanksOf (schema_in known.entry) t.items) }
+    requires known { IsKnown known.now }
+    requires judged { AreJudged (schema_in known.now) judged.now }
+    ensures { IfOk result (λ t. AreRanksOf (schema_in known.now) t.items) }
 {
     if judged.len() > MOST_DERIVATIONS {
         return Err(AllocError);

@@ -45,14 +45,14 @@ fn first_found(survey: &Survey) -> Option<Reason>
 /// What a body says by itself, where SELF may be these.
 pub fn judge<'r, 'a>(
     alloc: Global,
-    known: Known<'r, '_, 'a>,
+    known: &Known<'r, '_, 'a>,
     items: &'r Items<'a>,
     own: &'r [Atom],
     body: &Body<'a>,
 ) -> Result<Judgement, AllocError>
-    requires known { IsKnown known }
-    requires items { AreItems (schema_in known) items.now }
-    ensures { IfOk result (IsJudged (schema_in known.entry) (Holds (schema_in known.entry) own.now)
+    requires known { IsKnown known.now }
+    requires items { AreItems (schema_in known.now) items.now }
+    ensures { IfOk result (IsJudged (schema_in known.now) (Holds (schema_in known.now) own.now)
         (body_of body.now)) }
 {
     match body {

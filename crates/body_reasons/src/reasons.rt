@@ -58,16 +58,16 @@ fn reason_with(ranks: &[Option<u32>], judgement: &Judgement) -> Option<Reason>
 /// else that one of the derived attributes that it may use is set aside. None where it is checked.
 pub fn reason_for<'r, 'a>(
     alloc: Global,
-    known: Known<'r, '_, 'a>,
+    known: &Known<'r, '_, 'a>,
     items: &'r Items<'a>,
     ranks: &[Option<u32>],
     own: &'r [Atom],
     body: &Body<'a>,
 ) -> Result<Option<Reason>, AllocError>
-    requires known { IsKnown known }
-    requires items { AreItems (schema_in known) items.now }
-    requires ranks { AreRanksOf (schema_in known) ranks.now }
-    ensures { IfOk result (IsReasonFor (schema_in known.entry) (Holds (schema_in known.entry) own.now)
+    requires known { IsKnown known.now }
+    requires items { AreItems (schema_in known.now) items.now }
+    requires ranks { AreRanksOf (schema_in known.now) ranks.now }
+    ensures { IfOk result (IsReasonFor (schema_in known.now) (Holds (schema_in known.now) own.now)
         (body_of body.now)) }
 {
     let judgement = judge(alloc, known, items, own, body)?;
@@ -76,16 +76,16 @@ pub fn reason_for<'r, 'a>(
 
 /// The reason that is given for the derived attribute of a number.
 pub fn reason_of_derived(
-    known: Known<'_, '_, '_>,
+    known: &Known<'_, '_, '_>,
     judged: &[Judgement],
     ranks: &[Option<u32>],
     number: u32,
 ) -> Option<Reason>
-    requires judged { AreJudged (schema_in known) judged.now }
-    requires ranks { AreRanksOf (schema_in known) ranks.now }
-    ensures { (d : Derivation) (x : DerivedTree) → HasDerivation (schema_in known.entry) number d
-        → IsDerivation (schema_in known.entry) d x
-        → IsReasonFor (schema_in known.entry) (Self d.0) x.body result }
+    requires judged { AreJudged (schema_in known.now) judged.now }
+    requires ranks { AreRanksOf (schema_in known.now) ranks.now }
+    ensures { (d : Derivation) (x : DerivedTree) → HasDerivation (schema_in known.now) number d
+        → IsDerivation (schema_in known.now) d x
+        → IsReasonFor (schema_in known.now) (Self d.0) x.body result }
 {
     match judged.get(number as usize) {
         Some(judgement) => reason_with(ranks, judgement),

@@ -70,9 +70,9 @@ fn instance_findings(
     let tables = SchemaTables::of(alloc, types)?;
     let known = tables.knowledge(types);
     let bases = tables.bases(types);
-    entities_are_said(known);
-    let rows = rows_of(alloc, keys, known, exchange)?;
-    findings(alloc, known, bases, &rows, exchange)
+    entities_are_said(&known);
+    let rows = rows_of(alloc, keys, &known, exchange)?;
+    findings(alloc, &known, &bases, &rows, exchange)
 }
 
 /// Whether no rule of a schema speaks of a whole population.

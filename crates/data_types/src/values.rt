@@ -92,17 +92,17 @@ fn add_some(atoms: &mut Vec<Atom>, atom: Option<Atom>) -> Result<(), AllocError>
 
 /// Adds what a data type without a name gives.
 fn add_leaf(
-    tables: Tables<'_, '_, '_>,
+    tables: &Tables<'_, '_, '_>,
     number: u32,
     is_of_select: bool,
     atoms: &mut Vec<Atom>,
 ) -> Result<(), AllocError>
-    requires tables { AreTables tables }
-    requires within { number < length tables.data_types.now.forms.items }
+    requires tables { AreTables tables.now }
+    requires within { number < length tables.now.data_types.now.forms.items }
     ensures { (k : DataTypeTree)
-        → slice_get (all_data_types (schema_at tables.entry)) number ≡ Some k
-        → OnOk result (AddsAll (schema_at tables.entry) atoms.old.items
-        (LeafGives (schema_at tables.entry) k is_of_select) atoms.new.items) }
+        → slice_get (all_data_types (schema_at tables.now)) number ≡ Some k
+        → OnOk result (AddsAll (schema_at tables.now) atoms.old.items
+        (LeafGives (schema_at tables.now) k is_of_select) atoms.new.items) }
 {
     let form = tables.data_types.forms[number as usize];
     add_some(atoms, leaf(form, number, is_of_select))
@@ -119,26 +119,25 @@ fn is_select(declaration: &Declaration<'_>) -> bool
 }
 
 /// Whether a SELECT is declared at this number.
-fn is_select_at(names: &Names<'_, '_>, part: u32) -> bool
-    ensures { result ≡ is_select_at (schema_of names.now.schema.now) part }
+fn is_select_at(tables: &Tables<'_, '_, '_>, part: u32) -> bool
+    ensures { result ≡ is_select_at (schema_at tables.now) part }
 {
-    match names.schema.declarations.get(part as usize) {
+    match tables.names.schema.declarations.get(part as usize) {
         Some(declaration) => is_select(declaration),
         None => false,
     }
 }
 
 /// Whether a defined type is a SELECT, or stands for one under whatever names.
-pub fn is_over_select(tables: Tables<'_, '_, '_>, part: u32) -> bool
-    requires { part < length tables.parts.now }
-    ensures { result ≡ is_over_select (schema_at tables.entry) (graph_of tables.entry.parts.now)
+pub fn is_over_select(tables: &Tables<'_, '_, '_>, part: u32) -> bool
+    requires { part < length tables.now.parts.now }
+    ensures { result ≡ is_over_select (schema_at tables.now) (graph_of tables.now.parts.now)
         part }
 {
-    let names = tables.names;
-    is_select_at(names, part)
+    is_select_at(tables, part)
         || tables.parts[part as usize]
             .iter()
-            .any(|each| is_select_at(names, *each))
+            .any(|each| is_select_at(tables, *each))
 }
 
 /// The number of the data type behind the `=` of a defined type, where there is one.
@@ -153,18 +152,18 @@ fn underlying_number(data_types: &DataTypes, part: u32) -> Option<u32>
 
 /// Adds what a defined type gives by itself.
 fn add_underlying(
-    tables: Tables<'_, '_, '_>,
+    tables: &Tables<'_, '_, '_>,
     part: u32,
     underlying: &Underlying<'_>,
     is_of_select: bool,
     atoms: &mut Vec<Atom>,
 ) -> Result<(), AllocError>
-    requires tables { AreTables tables }
-    requires within { (n : Name) × HasNumber (schema_at tables) n part
-        × StandsFor (schema_at tables) n (underlying_of underlying.now) }
-    ensures { (n : Name) → HasNumber (schema_at tables.entry) n part
-        → OnOk result (AddsAll (schema_at tables.entry) atoms.old.items
-        (Gives (schema_at tables.entry) n is_of_select) atoms.new.items) }
+    requires tables { AreTables tables.now }
+    requires within { (n : Name) × HasNumber (schema_at tables.now) n part
+        × StandsFor (schema_at tables.now) n (underlying_of underlying.now) }
+    ensures { (n : Name) → HasNumber (schema_at tables.now) n part
+        → OnOk result (AddsAll (schema_at tables.now) atoms.old.items
+        (Gives (schema_at tables.now) n is_of_select) atoms.new.items) }
 {
     match underlying {
         Underlying::Enumeration(_) => {
@@ -181,16 +180,16 @@ fn add_underlying(
 
 /// Adds what an entity or a defined type gives by itself.
 fn add_part(
-    tables: Tables<'_, '_, '_>,
+    tables: &Tables<'_, '_, '_>,
     part: u32,
     is_of_select: bool,
     atoms: &mut Vec<Atom>,
 ) -> Result<(), AllocError>
-    requires tables { AreTables tables }
-    requires named { (n : Name) × HasNumber (schema_at tables) n part }
-    ensures { (n : Name) → HasNumber (schema_at tables.entry) n part
-        → OnOk result (AddsAll (schema_at tables.entry) atoms.old.items
-        (Gives (schema_at tables.entry) n is_of_select) atoms.new.items) }
+    requires tables { AreTables tables.now }
+    requires named { (n : Name) × HasNumber (schema_at tables.now) n part }
+    ensures { (n : Name) → HasNumber (schema_at tables.now) n part
+        → OnOk result (AddsAll (schema_at tables.now) atoms.old.items
+        (Gives (schema_at tables.now) n is_of_select) atoms.new.items) }
 {
     match tables.names.declaration(part) {
         Declaration::Entity(_) => {
@@ -206,16 +205,16 @@ fn add_part(
 
 /// Adds what each of some entities and defined types gives by itself.
 fn add_parts(
-    tables: Tables<'_, '_, '_>,
+    tables: &Tables<'_, '_, '_>,
     row: &[u32],
     is_of_select: bool,
     atoms: &mut Vec<Atom>,
 ) -> Result<(), AllocError>
-    requires tables { AreTables tables }
+    requires tables { AreTables tables.now }
     requires named { (j : ℕ) → has row.now j ≡ true
-        → (n : Name) × HasNumber (schema_at tables) n j }
-    ensures { OnOk result (AddsAll (schema_at tables.entry) atoms.old.items
-        (OneGives (schema_at tables.entry) row.now is_of_select) atoms.new.items) }
+        → (n : Name) × HasNumber (schema_at tables.now) n j }
+    ensures { OnOk result (AddsAll (schema_at tables.now) atoms.old.items
+        (OneGives (schema_at tables.now) row.now is_of_select) atoms.new.items) }
 {
     for part in row {
         add_part(tables, *part, is_of_select, atoms)?;
@@ -225,15 +224,15 @@ fn add_parts(
 
 /// Adds what the values of an entity or a defined type may be.
 pub fn add_named(
-    tables: Tables<'_, '_, '_>,
+    tables: &Tables<'_, '_, '_>,
     part: u32,
     atoms: &mut Vec<Atom>,
 ) -> Result<(), AllocError>
-    requires tables { AreTables tables }
-    requires named { (n : Name) × HasNumber (schema_at tables) n part }
-    ensures { (n : Name) → HasNumber (schema_at tables.entry) n part
-        → OnOk result (AddsAll (schema_at tables.entry) atoms.old.items
-        (IsOf (schema_at tables.entry) (named n)) atoms.new.items) }
+    requires tables { AreTables tables.now }
+    requires named { (n : Name) × HasNumber (schema_at tables.now) n part }
+    ensures { (n : Name) → HasNumber (schema_at tables.now) n part
+        → OnOk result (AddsAll (schema_at tables.now) atoms.old.items
+        (IsOf (schema_at tables.now) (named n)) atoms.new.items) }
 {
     let is_of_select = is_over_select(tables, part);
     add_part(tables, part, is_of_select, atoms)?;
@@ -242,15 +241,15 @@ pub fn add_named(
 
 /// Adds what the values of what a name means may be; nothing where it means nothing.
 fn add_meant(
-    tables: Tables<'_, '_, '_>,
+    tables: &Tables<'_, '_, '_>,
     meant: Option<u32>,
     atoms: &mut Vec<Atom>,
 ) -> Result<(), AllocError>
-    requires tables { AreTables tables }
-    requires meant { (n : Name) × (number_of (schema_at tables) n ≡ meant) }
-    ensures { (n : Name) → number_of (schema_at tables.entry) n ≡ meant
-        → OnOk result (AddsAll (schema_at tables.entry) atoms.old.items
-        (IsOf (schema_at tables.entry) (named n)) atoms.new.items) }
+    requires tables { AreTables tables.now }
+    requires meant { (n : Name) × (number_of (schema_at tables.now) n ≡ meant) }
+    ensures { (n : Name) → number_of (schema_at tables.now) n ≡ meant
+        → OnOk result (AddsAll (schema_at tables.now) atoms.old.items
+        (IsOf (schema_at tables.now) (named n)) atoms.new.items) }
 {
     match meant {
         Some(part) => add_named(tables, part, atoms),
@@ -263,16 +262,16 @@ fn add_meant(
 ///
 /// It takes time for each type and entity that the data type's name leads to.
 pub fn add_values(
-    tables: Tables<'_, '_, '_>,
+    tables: &Tables<'_, '_, '_>,
     number: u32,
     atoms: &mut Vec<Atom>,
 ) -> Result<(), AllocError>
-    requires tables { AreTables tables }
-    requires within { number < length (all_data_types (schema_at tables)) }
+    requires tables { AreTables tables.now }
+    requires within { number < length (all_data_types (schema_at tables.now)) }
     ensures { (k : DataTypeTree)
-        → slice_get (all_data_types (schema_at tables.entry)) number ≡ Some k
-        → OnOk result (AddsAll (schema_at tables.entry) atoms.old.items
-        (IsOf (schema_at tables.entry) k) atoms.new.items) }
+        → slice_get (all_data_types (schema_at tables.now)) number ≡ Some k
+        → OnOk result (AddsAll (schema_at tables.now) atoms.old.items
+        (IsOf (schema_at tables.now) k) atoms.new.items) }
 {
     match tables.data_types.forms[number as usize] {
         Form::Named(meant) => add_meant(tables, meant, atoms),

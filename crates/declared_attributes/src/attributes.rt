@@ -82,7 +82,7 @@ impl<'a> Attributes<'a> {
             lines,
             shapes,
         };
-        let flat = gathered(alloc, sources)?;
+        let flat = gathered(alloc, &sources)?;
         group(alloc, keys, &flat)
     }
 

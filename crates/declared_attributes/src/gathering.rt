@@ -91,17 +91,17 @@ pub enum Class {
 /// Whether a declaration of this class and data type redeclares an attribute: an explicit one of
 /// the first shape, and each derived one (ISO 10303-11, 9.2.3.4).
 fn allows(
-    sources: Sources<'_, '_, '_>,
+    sources: &Sources<'_, '_, '_>,
     class: Class,
     entity: u32,
     attribute: Word<'_>,
     data_type: u32,
 ) -> bool
-    requires sources { AreSources sources }
-    requires known { IsKnownAt (schema_in sources) class data_type }
-    ensures { (p : Name) → IsEntity (schema_in sources.entry) p
-        → HasNumber (schema_in sources.entry) p entity
-        → IsTrue result ↔ Allows (schema_in sources.entry) class data_type p (capitals attribute.entry) }
+    requires sources { AreSources sources.now }
+    requires known { IsKnownAt (schema_in sources.now) class data_type }
+    ensures { (p : Name) → IsEntity (schema_in sources.now) p
+        → HasNumber (schema_in sources.now) p entity
+        → IsTrue result ↔ Allows (schema_in sources.now) class data_type p (capitals attribute.entry) }
 {
     match class {
         Class::Explicit => has_first_shape(
@@ -132,18 +132,18 @@ fn add<'a>(
 
 /// Adds what is said of an attribute that is redeclared.
 fn add_redeclared<'a>(
-    sources: Sources<'_, '_, '_>,
+    sources: &Sources<'_, '_, '_>,
     class: Class,
     attribute: Attribute<'a>,
     name: Word<'a>,
     declaration: AttributeDeclaration,
     flat: &mut Vec<Named<'a>>,
 ) -> Result<(), AllocError>
-    requires sources { AreSources sources }
-    requires known { IsKnownAt (schema_in sources) class declaration.data_type }
+    requires sources { AreSources sources.now }
+    requires known { IsKnownAt (schema_in sources.now) class declaration.data_type }
     requires named { (q : Name) × (attribute_of attribute ≡ redeclared q (capitals name)) }
     ensures { OnOk result (AddsAll flat.old.items
-        (Says (schema_in sources.entry) class declaration (attribute_of attribute.entry))
+        (Says (schema_in sources.now) class declaration (attribute_of attribute.entry))
         flat.new.items) }
 {
     let Some(entity) = redeclared_entity(sources.names, sources.lines, attribute) else {
@@ -165,16 +165,16 @@ fn add_redeclared<'a>(
 
 /// Adds what is said of an attribute, an own one or a redeclared one.
 fn add_attribute<'a>(
-    sources: Sources<'_, '_, '_>,
+    sources: &Sources<'_, '_, '_>,
     class: Class,
     attribute: Attribute<'a>,
     declaration: AttributeDeclaration,
     flat: &mut Vec<Named<'a>>,
 ) -> Result<(), AllocError>
-    requires sources { AreSources sources }
-    requires known { IsKnownAt (schema_in sources) class declaration.data_type }
+    requires sources { AreSources sources.now }
+    requires known { IsKnownAt (schema_in sources.now) class declaration.data_type }
     ensures { OnOk result (AddsAll flat.old.items
-        (Says (schema_in sources.entry) class declaration (attribute_of attribute.entry))
+        (Says (schema_in sources.now) class declaration (attribute_of attribute.entry))
         flat.new.items) }
 {
     match attribute {
@@ -187,17 +187,17 @@ fn add_attribute<'a>(
 
 /// Adds what is said of explicit attributes that are declared together.
 fn add_attributes<'a>(
-    sources: Sources<'_, '_, '_>,
+    sources: &Sources<'_, '_, '_>,
     attributes: &[Attribute<'a>],
     entity: u32,
     data_type: u32,
     derivation: Option<u32>,
     flat: &mut Vec<Named<'a>>,
 ) -> Result<(), AllocError>
-    requires sources { AreSources sources }
-    requires known { IsKnownAt (schema_in sources) classes.Explicit data_type }
+    requires sources { AreSources sources.now }
+    requires known { IsKnownAt (schema_in sources.now) classes.Explicit data_type }
     ensures { OnOk result (AddsAll flat.old.items
-        (SaysTogether (schema_in sources.entry) entity data_type derivation
+        (SaysTogether (schema_in sources.now) entity data_type derivation
         (map attribute_of attributes.now)) flat.new.items) }
 {
     let declaration = AttributeDeclaration {
@@ -240,18 +240,18 @@ fn item_at(row: &[u32], place: usize) -> Option<u32>
 
 /// Adds what the n-th declaration of explicit attributes says.
 fn add_explicit<'a>(
-    sources: Sources<'_, '_, '_>,
+    sources: &Sources<'_, '_, '_>,
     entity: u32,
     row: &[u32],
     n: usize,
     explicit: &Explicit<'a>,
     flat: &mut Vec<Named<'a>>,
 ) -> Result<(), AllocError>
-    requires sources { AreSources sources }
+    requires sources { AreSources sources.now }
     requires known { (t : ℕ) → slice_get row.now n ≡ Some t
-        → IsKnownAt (schema_in sources) classes.Explicit t }
+        → IsKnownAt (schema_in sources.now) classes.Explicit t }
     ensures { OnOk result (AddsAll flat.old.items
-        (SaysExplicit (schema_in sources.entry) entity row.now n (explicit_of explicit.now))
+        (SaysExplicit (schema_in sources.now) entity row.now n (explicit_of explicit.now))
         flat.new.items) }
 {
     match item_at(row, n) {
@@ -264,16 +264,16 @@ fn add_explicit<'a>(
 
 /// Adds what an entity's explicit attributes say.
 fn add_explicits<'a>(
-    sources: Sources<'_, '_, '_>,
+    sources: &Sources<'_, '_, '_>,
     entity: u32,
     row: &[u32],
     explicits: &[Explicit<'a>],
     flat: &mut Vec<Named<'a>>,
 ) -> Result<(), AllocError>
-    requires sources { AreSources sources }
-    requires known { AreKnownFrom (schema_in sources) (length explicits.now) row.now }
+    requires sources { AreSources sources.now }
+    requires known { AreKnownFrom (schema_in sources.now) (length explicits.now) row.now }
     ensures { OnOk result (AddsAll flat.old.items
-        (AreNth (SaysExplicit (schema_in sources.entry) entity row.now)
+        (AreNth (SaysExplicit (schema_in sources.now) entity row.now)
         (map explicit_of explicits.now)) flat.new.items) }
 {
     for n in 0..explicits.len() {
@@ -284,7 +284,7 @@ fn add_explicits<'a>(
 
 /// Adds what one declaration says of one attribute; nothing where its data type has no number.
 fn add_one<'a>(
-    sources: Sources<'_, '_, '_>,
+    sources: &Sources<'_, '_, '_>,
     class: Class,
     entity: u32,
     data_type: Option<u32>,
@@ -292,10 +292,10 @@ fn add_one<'a>(
     attribute: Attribute<'a>,
     flat: &mut Vec<Named<'a>>,
 ) -> Result<(), AllocError>
-    requires sources { AreSources sources }
-    requires known { (t : ℕ) → IsKnownAt (schema_in sources) class t }
+    requires sources { AreSources sources.now }
+    requires known { (t : ℕ) → IsKnownAt (schema_in sources.now) class t }
     ensures { OnOk result (AddsAll flat.old.items
-        (SaysOne (schema_in sources.entry) class entity data_type derivation
+        (SaysOne (schema_in sources.now) class entity data_type derivation
         (attribute_of attribute.entry)) flat.new.items) }
 {
     match data_type {
@@ -316,7 +316,7 @@ fn add_one<'a>(
 
 /// Adds what the n-th derived attribute says.
 fn add_derived<'a>(
-    sources: Sources<'_, '_, '_>,
+    sources: &Sources<'_, '_, '_>,
     entity: u32,
     row: &[u32],
     first: usize,
@@ -325,9 +325,9 @@ fn add_derived<'a>(
     derived: &Derived<'a>,
     flat: &mut Vec<Named<'a>>,
 ) -> Result<(), AllocError>
-    requires sources { AreSources sources }
+    requires sources { AreSources sources.now }
     ensures { OnOk result (AddsAll flat.old.items
-        (SaysDerived (schema_in sources.entry) entity row.now first count n (derived_of derived.now))
+        (SaysDerived (schema_in sources.now) entity row.now first count n (derived_of derived.now))
         flat.new.items) }
 {
     let place = sum(first, n)?;
@@ -345,7 +345,7 @@ fn add_derived<'a>(
 
 /// Adds what an entity's derived attributes say, whose numbers come behind so many.
 fn add_deriveds<'a>(
-    sources: Sources<'_, '_, '_>,
+    sources: &Sources<'_, '_, '_>,
     entity: u32,
     row: &[u32],
     first: usize,
@@ -353,9 +353,9 @@ fn add_deriveds<'a>(
     deriveds: &[Derived<'a>],
     flat: &mut Vec<Named<'a>>,
 ) -> Result<(), AllocError>
-    requires sources { AreSources sources }
+    requires sources { AreSources sources.now }
     ensures { OnOk result (AddsAll flat.old.items
-        (AreNth (SaysDerived (schema_in sources.entry) entity row.now first count)
+        (AreNth (SaysDerived (schema_in sources.now) entity row.now first count)
         (map derived_of deriveds.now)) flat.new.items) }
 {
     for n in 0..deriveds.len() {
@@ -366,7 +366,7 @@ fn add_deriveds<'a>(
 
 /// Adds what the n-th inverse attribute says.
 fn add_inverse<'a>(
-    sources: Sources<'_, '_, '_>,
+    sources: &Sources<'_, '_, '_>,
     entity: u32,
     row: &[u32],
     first: usize,
@@ -374,9 +374,9 @@ fn add_inverse<'a>(
     inverse: &Inverse<'a>,
     flat: &mut Vec<Named<'a>>,
 ) -> Result<(), AllocError>
-    requires sources { AreSources sources }
+    requires sources { AreSources sources.now }
     ensures { OnOk result (AddsAll flat.old.items
-        (SaysInverse (schema_in sources.entry) entity row.now first n (inverse_of inverse.now))
+        (SaysInverse (schema_in sources.now) entity row.now first n (inverse_of inverse.now))
         flat.new.items) }
 {
     let place = sum(first, n)?;
@@ -393,16 +393,16 @@ fn add_inverse<'a>(
 
 /// Adds what an entity's inverse attributes say.
 fn add_inverses<'a>(
-    sources: Sources<'_, '_, '_>,
+    sources: &Sources<'_, '_, '_>,
     entity: u32,
     row: &[u32],
     first: usize,
     inverses: &[Inverse<'a>],
     flat: &mut Vec<Named<'a>>,
 ) -> Result<(), AllocError>
-    requires sources { AreSources sources }
+    requires sources { AreSources sources.now }
     ensures { OnOk result (AddsAll flat.old.items
-        (AreNth (SaysInverse (schema_in sources.entry) entity row.now first)
+        (AreNth (SaysInverse (schema_in sources.now) entity row.now first)
         (map inverse_of inverses.now)) flat.new.items) }
 {
     for n in 0..inverses.len() {
@@ -413,7 +413,7 @@ fn add_inverses<'a>(
 
 /// Adds what the attributes of an entity say, the numbers of whose derived ones come behind so many.
 fn add_clauses<'a>(
-    sources: Sources<'_, '_, '_>,
+    sources: &Sources<'_, '_, '_>,
     number: u32,
     row: &[u32],
     count: usize,
@@ -422,10 +422,10 @@ fn add_clauses<'a>(
     inverses: &[Inverse<'a>],
     flat: &mut Vec<Named<'a>>,
 ) -> Result<(), AllocError>
-    requires sources { AreSources sources }
-    requires known { AreKnownFrom (schema_in sources) (length explicits.now) row.now }
+    requires sources { AreSources sources.now }
+    requires known { AreKnownFrom (schema_in sources.now) (length explicits.now) row.now }
     ensures { OnOk result (AddsAll flat.old.items
-        (SaysClauses (schema_in sources.entry) number row.now count
+        (SaysClauses (schema_in sources.now) number row.now count
         (map explicit_of explicits.now) (map derived_of deriveds.now) (map inverse_of inverses.now))
         flat.new.items) }
 {
@@ -438,17 +438,17 @@ fn add_clauses<'a>(
 
 /// Adds what an entity says.
 fn add_entity<'a>(
-    sources: Sources<'_, '_, '_>,
+    sources: &Sources<'_, '_, '_>,
     number: u32,
     row: &[u32],
     count: usize,
     entity: &Entity<'a>,
     flat: &mut Vec<Named<'a>>,
 ) -> Result<(), AllocError>
-    requires sources { AreSources sources }
-    requires known { AreKnownFrom (schema_in sources) (length entity.now.explicits.items) row.now }
+    requires sources { AreSources sources.now }
+    requires known { AreKnownFrom (schema_in sources.now) (length entity.now.explicits.items) row.now }
     ensures { OnOk result (AddsAll flat.old.items
-        (SaysEntity (schema_in sources.entry) number row.now count (entity_of entity.now))
+        (SaysEntity (schema_in sources.now) number row.now count (entity_of entity.now))
         flat.new.items) }
 {
     add_clauses(
@@ -475,16 +475,16 @@ fn row_of(rows: &[Vec<u32>], number: usize) -> &[u32]
 
 /// Adds what the i-th declaration says.
 fn add_declaration<'a>(
-    sources: Sources<'_, '_, '_>,
+    sources: &Sources<'_, '_, '_>,
     i: usize,
     count: usize,
     declaration: &Declaration<'a>,
     flat: &mut Vec<Named<'a>>,
 ) -> Result<(), AllocError>
-    requires sources { AreSources sources }
-    requires at { IsAt (schema_in sources) i (declaration_of declaration.now) }
+    requires sources { AreSources sources.now }
+    requires at { IsAt (schema_in sources.now) i (declaration_of declaration.now) }
     ensures { OnOk result (AddsAll flat.old.items
-        (SaysDeclaration (schema_in sources.entry) i (next (rows_in sources.entry) i) count
+        (SaysDeclaration (schema_in sources.now) i (next (rows_in sources.now) i) count
         (declaration_of declaration.now)) flat.new.items) }
 {
     match declaration {
@@ -510,14 +510,14 @@ fn derived_count(declaration: &Declaration<'_>) -> usize
 
 /// Adds what the declarations of a schema say.
 fn add_declarations<'a>(
-    sources: Sources<'_, '_, '_>,
+    sources: &Sources<'_, '_, '_>,
     declarations: &[Declaration<'a>],
     flat: &mut Vec<Named<'a>>,
 ) -> Result<(), AllocError>
-    requires sources { AreSources sources }
-    requires whole { declarations.now ≡ sources.names.now.schema.now.declarations.items }
+    requires sources { AreSources sources.now }
+    requires whole { declarations.now ≡ sources.now.names.now.schema.now.declarations.items }
     ensures { OnOk result (AddsAll flat.old.items
-        (AreNth (SaysAt (schema_in sources.entry) (rows_in sources.entry)
+        (AreNth (SaysAt (schema_in sources.now) (rows_in sources.now)
         (map declaration_of declarations.now)) (map declaration_of declarations.now))
         flat.new.items) }
 {
@@ -533,11 +533,11 @@ fn add_declarations<'a>(
 /// All that the entities of a schema say of attributes.
 pub fn gathered<'a>(
     alloc: Global,
-    sources: Sources<'_, '_, 'a>,
+    sources: &Sources<'_, '_, 'a>,
 ) -> Result<Vec<Named<'a>>, AllocError>
-    requires sources { AreSources sources }
+    requires sources { AreSources sources.now }
     ensures { IfOk result (λ flat. AddsAll []
-        (SaysSchema (schema_in sources.entry) (rows_in sources.entry)) flat.items) }
+        (SaysSchema (schema_in sources.now) (rows_in sources.now)) flat.items) }
 {
     let mut flat = Vec::new(alloc);
     add_declarations(sources, &sources.names.schema.declarations, &mut flat)?;

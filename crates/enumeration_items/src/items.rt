@@ -111,35 +111,34 @@ fn includes(names: &[Word<'_>], name: Word<'_>) -> bool
 }
 
 /// Whether an enumeration with an item of this name is declared at this number.
-fn has_item_at(names: &Names<'_, '_>, part: u32, name: Word<'_>) -> bool
-    ensures { result ≡ has_item_at (schema_of names.now.schema.now) (capitals name.entry) part }
+fn has_item_at(tables: &Tables<'_, '_, '_>, part: u32, name: Word<'_>) -> bool
+    ensures { result ≡ has_item_at (schema_at tables.now) (capitals name.entry) part }
 {
-    match names.schema.declarations.get(part as usize) {
+    match tables.names.schema.declarations.get(part as usize) {
         Some(declaration) => includes(items_of(declaration), name),
         None => false,
     }
 }
 
 /// Whether a defined type, or one that it is made of, is an enumeration with an item of this name.
-fn has_item_within(tables: Tables<'_, '_, '_>, part: u32, name: Word<'_>) -> bool
-    requires { part < length tables.parts.now }
-    ensures { result ≡ has_item_within (schema_at tables.entry) (graph_of tables.entry.parts.now)
+fn has_item_within(tables: &Tables<'_, '_, '_>, part: u32, name: Word<'_>) -> bool
+    requires { part < length tables.now.parts.now }
+    ensures { result ≡ has_item_within (schema_at tables.now) (graph_of tables.now.parts.now)
         (capitals name.entry) part }
 {
-    let names = tables.names;
-    has_item_at(names, part, name)
+    has_item_at(tables, part, name)
         || tables.parts[part as usize]
             .iter()
-            .any(|each| has_item_at(names, *each, name))
+            .any(|each| has_item_at(tables, *each, name))
 }
 
 /// Whether a defined type is an enumeration with an item of this name, under whatever names.
 ///
 /// It takes time for each item of the enumeration.
-pub fn is_item_of(tables: Tables<'_, '_, '_>, defined: Word<'_>, name: Word<'_>) -> bool
-    requires tables { AreTables tables }
+pub fn is_item_of(tables: &Tables<'_, '_, '_>, defined: Word<'_>, name: Word<'_>) -> bool
+    requires tables { AreTables tables.now }
     ensures { IsTrue result
-        ↔ IsItemOf (schema_at tables.entry) (capitals defined.entry) (capitals name.entry) }
+        ↔ IsItemOf (schema_at tables.now) (capitals defined.entry) (capitals name.entry) }
 {
     match tables.names.find(defined) {
         Some(part) => !is_over_select(tables, part) && has_item_within(tables, part, name),

@@ -118,29 +118,29 @@ pub struct Judged {
 /// What is found by what is known.
 fn judge_by<'r, 't, 'a>(
     alloc: Global,
-    known: Known<'r, 't, 'a>,
+    known: &Known<'r, 't, 'a>,
     items: &'r Items<'a>,
     lines: &'r [Vec<u32>],
     shapes: &'r [Shape],
 ) -> Result<Judged, AllocError>
-    requires known { IsKnown known }
-    requires items { AreItems (schema_in known) items.now }
-    requires lines { HaveLines (schema_in known) (graph_of lines.now) }
-    requires each { length lines.now ≡ length known.tables.names.now.schema.now.declarations.items }
-    requires shapes { AreShapes (schema_in known) shapes.now }
-    ensures { IfOk result (IsJudged (schema_in known.entry)) }
+    requires known { IsKnown known.now }
+    requires items { AreItems (schema_in known.now) items.now }
+    requires lines { HaveLines (schema_in known.now) (graph_of lines.now) }
+    requires each { length lines.now ≡ length known.now.tables.names.now.schema.now.declarations.items }
+    requires shapes { AreShapes (schema_in known.now) shapes.now }
+    ensures { IfOk result (IsJudged (schema_in known.now)) }
 {
     let judged = judge_derivations(alloc, known, items)?;
     let ranks = derivation_ranks(alloc, known, &judged)?;
     let findings = Findings {
-        known,
+        known: *known,
         items,
         lines,
         shapes,
         judged: &judged,
         ranks: &ranks,
     };
-    let unchecked = unchecked_parts(alloc, findings)?;
+    let unchecked = unchecked_parts(alloc, &findings)?;
     let firsts = first_derivations(alloc, known.tables.names)?;
     Ok(Judged {
         ranks,
@@ -160,17 +160,17 @@ pub(crate) struct Found<'a> {
 /// What is found of a schema by what is known.
 fn found_by<'r, 't, 'a>(
     alloc: Global,
-    known: Known<'r, 't, 'a>,
+    known: &Known<'r, 't, 'a>,
     items: &'r Items<'a>,
     lines: &'r [Vec<u32>],
     shapes: &'r [Shape],
 ) -> Result<Found<'a>, AllocError>
-    requires known { IsKnown known }
-    requires items { AreItems (schema_in known) items.now }
-    requires lines { HaveLines (schema_in known) (graph_of lines.now) }
-    requires each { length lines.now ≡ length known.tables.names.now.schema.now.declarations.items }
-    requires shapes { AreShapes (schema_in known) shapes.now }
-    ensures { IfOk result (AreFound (schema_in known.entry)) }
+    requires known { IsKnown known.now }
+    requires items { AreItems (schema_in known.now) items.now }
+    requires lines { HaveLines (schema_in known.now) (graph_of lines.now) }
+    requires each { length lines.now ≡ length known.now.tables.names.now.schema.now.declarations.items }
+    requires shapes { AreShapes (schema_in known.now) shapes.now }
+    ensures { IfOk result (AreFound (schema_in known.now)) }
 {
     let judged = judge_by(alloc, known, items, lines, shapes)?;
     let rules = rules_by(alloc, known, lines)?;
@@ -203,7 +203,7 @@ pub(crate) fn judge<'r, 't, 'a>(
     };
     found_by(
         alloc,
-        known,
+        &known,
         &meanings.items,
         &meanings.lines,
         &types.shapes,

@@ -15,19 +15,19 @@ use taken_attributes::known::Known;
 /// The uniqueness rules and the inverse attributes of a schema, by what is known of it.
 pub(crate) fn rules_by<'r, 't, 'a>(
     alloc: Global,
-    known: Known<'r, 't, 'a>,
+    known: &Known<'r, 't, 'a>,
     lines: &'r [Vec<u32>],
 ) -> Result<RuleTables<'a>, AllocError>
-    requires known { IsKnown known }
-    requires lines { HaveLines (schema_in known) (graph_of lines.now) }
-    requires each { length lines.now ≡ length known.tables.names.now.schema.now.declarations.items }
-    ensures { IfOk result (AreRuleTables (schema_in known.entry)) }
+    requires known { IsKnown known.now }
+    requires lines { HaveLines (schema_in known.now) (graph_of lines.now) }
+    requires each { length lines.now ≡ length known.now.tables.names.now.schema.now.declarations.items }
+    ensures { IfOk result (AreRuleTables (schema_in known.now)) }
 {
     let explicit = explicit_attributes(alloc, known.tables.names.schema)?;
     rule_tables(
         alloc,
-        Sources {
-            known,
+        &Sources {
+            known: *known,
             lines,
             places: &explicit.places,
             own: &explicit.own,

@@ -34,12 +34,12 @@ pub(crate) enum Meaning {
 
 /// Whether qualifiers begin with an item of a defined type.
 fn begin_with_item(
-    tables: Tables<'_, '_, '_>,
+    tables: &Tables<'_, '_, '_>,
     defined: Word<'_>,
     qualifiers: &[Qualifier<'_>],
 ) -> bool
-    requires tables { AreTables tables }
-    ensures { IsTrue result ↔ BeginWithItem (schema_at tables.entry) (capitals defined.entry)
+    requires tables { AreTables tables.now }
+    ensures { IsTrue result ↔ BeginWithItem (schema_at tables.now) (capitals defined.entry)
         (qualifiers_of qualifiers.now) }
 {
     let Some(first) = qualifiers.first() else {
@@ -53,16 +53,16 @@ fn begin_with_item(
 }
 
 /// What a name means that is neither a variable nor an attribute.
-fn item_meaning(scope: Scope<'_, '_, '_>, name: Word<'_>, qualifiers: &[Qualifier<'_>]) -> Meaning
-    requires scope { IsScope scope }
-    ensures { (IsVariable (variables_in scope.entry) (capitals name.entry) → ⊥)
-        → ((p : Name) → MayTake (schema_around scope.entry)
-        (of_set (WithSubtypes (schema_around scope.entry) (own_in scope.entry))
+fn item_meaning(scope: &Scope<'_, '_, '_>, name: Word<'_>, qualifiers: &[Qualifier<'_>]) -> Meaning
+    requires scope { IsScope scope.now }
+    ensures { (IsVariable (variables_in scope.now) (capitals name.entry) → ⊥)
+        → ((p : Name) → MayTake (schema_around scope.now)
+        (of_set (WithSubtypes (schema_around scope.now) (own_in scope.now))
         (capitals name.entry)) p → ⊥)
-        → IsMeaning (schema_around scope.entry) (own_in scope.entry) (variables_in scope.entry)
+        → IsMeaning (schema_around scope.now) (own_in scope.now) (variables_in scope.now)
         (capitals name.entry) (qualifiers_of qualifiers.now) result }
 {
-    if begin_with_item(scope.known.tables, name, qualifiers) {
+    if begin_with_item(&scope.known.tables, name, qualifiers) {
         Meaning::ItemOfType
     } else if scope.items.has(name) {
         Meaning::Item
@@ -75,18 +75,18 @@ fn item_meaning(scope: Scope<'_, '_, '_>, name: Word<'_>, qualifiers: &[Qualifie
 /// dot, else an item of any enumeration.
 pub(crate) fn meaning_of(
     alloc: Global,
-    scope: Scope<'_, '_, '_>,
+    scope: &Scope<'_, '_, '_>,
     name: Word<'_>,
     qualifiers: &[Qualifier<'_>],
 ) -> Result<Meaning, AllocError>
-    requires scope { IsScope scope }
-    ensures { IfOk result (IsMeaning (schema_around scope.entry) (own_in scope.entry)
-        (variables_in scope.entry) (capitals name.entry) (qualifiers_of qualifiers.now)) }
+    requires scope { IsScope scope.now }
+    ensures { IfOk result (IsMeaning (schema_around scope.now) (own_in scope.now)
+        (variables_in scope.now) (capitals name.entry) (qualifiers_of qualifiers.now)) }
 {
     if let Some(variable) = find_variable(scope.variables, name) {
         return Ok(Meaning::Variable(Vec::from_slice(alloc, &variable.may)?));
     }
-    let taken = take_of_any(alloc, scope.known, scope.own, name)?;
+    let taken = take_of_any(alloc, &scope.known, scope.own, name)?;
     if taken.is_some {
         Ok(Meaning::Attribute(taken))
     } else {

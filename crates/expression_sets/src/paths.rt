@@ -34,12 +34,12 @@ fn go_to_attribute(reference: &mut Reference, taken: Taken) -> Result<(), AllocE
 /// Goes on with what a qualifier selects (ISO 10303-11, 12.7).
 fn go_on(
     alloc: Global,
-    known: Known<'_, '_, '_>,
+    known: &Known<'_, '_, '_>,
     reference: &mut Reference,
     qualifier: &Qualifier<'_>,
 ) -> Result<(), AllocError>
-    requires known { IsKnown known }
-    ensures { OnOk result (GoesOn (schema_in known.entry) reference.old
+    requires known { IsKnown known.now }
+    ensures { OnOk result (GoesOn (schema_in known.now) reference.old
         (selections_of (selection_of qualifier.now ∷ [])) reference.new) }
 {
     match qualifier {
@@ -52,7 +52,7 @@ fn go_on(
             go_to_attribute(reference, taken)
         }
         Qualifier::Index(_) => {
-            reference.may = elements(alloc, known.tables, &reference.may)?;
+            reference.may = elements(alloc, &known.tables, &reference.may)?;
             Ok(())
         }
     }
@@ -61,12 +61,12 @@ fn go_on(
 /// Goes on with what qualifiers select, one behind the other.
 pub(crate) fn follow(
     alloc: Global,
-    known: Known<'_, '_, '_>,
+    known: &Known<'_, '_, '_>,
     begun: Reference,
     qualifiers: &[Qualifier<'_>],
 ) -> Result<Reference, AllocError>
-    requires known { IsKnown known }
-    ensures { IfOk result (GoesOn (schema_in known.entry) begun
+    requires known { IsKnown known.now }
+    ensures { IfOk result (GoesOn (schema_in known.now) begun
         (qualifiers_of qualifiers.now)) }
 {
     let mut reference = begun;
@@ -79,13 +79,13 @@ pub(crate) fn follow(
 /// What qualifiers select of a value that may be these.
 pub(crate) fn select(
     alloc: Global,
-    known: Known<'_, '_, '_>,
+    known: &Known<'_, '_, '_>,
     may: Vec<Atom>,
     qualifiers: &[Qualifier<'_>],
 ) -> Result<Reference, AllocError>
-    requires known { IsKnown known }
-    ensures { IfOk result (IsPath (schema_in known.entry) (path_behind (schema_in known.entry)
-        (Holds (schema_in known.entry) may.items) (qualifiers_of qualifiers.now))) }
+    requires known { IsKnown known.now }
+    ensures { IfOk result (IsPath (schema_in known.now) (path_behind (schema_in known.now)
+        (Holds (schema_in known.now) may.items) (qualifiers_of qualifiers.now))) }
 {
     let begun = Reference {
         is_unclear: false,
@@ -98,11 +98,11 @@ pub(crate) fn select(
 /// What qualifiers select of an item of an enumeration.
 pub(crate) fn select_of_item(
     alloc: Global,
-    known: Known<'_, '_, '_>,
+    known: &Known<'_, '_, '_>,
     qualifiers: &[Qualifier<'_>],
 ) -> Result<Reference, AllocError>
-    requires known { IsKnown known }
-    ensures { IfOk result (IsPath (schema_in known.entry) (path_behind (schema_in known.entry)
+    requires known { IsKnown known.now }
+    ensures { IfOk result (IsPath (schema_in known.now) (path_behind (schema_in known.now)
         (Only an_item) (qualifiers_of qualifiers.now))) }
 {
     let mut may = Vec::new(alloc);
@@ -113,16 +113,16 @@ pub(crate) fn select_of_item(
 /// What qualifiers select of the value of an attribute of SELF, with the attribute.
 pub(crate) fn select_of_taken(
     alloc: Global,
-    known: Known<'_, '_, '_>,
+    known: &Known<'_, '_, '_>,
     taken: Taken,
     qualifiers: &[Qualifier<'_>],
 ) -> Result<Reference, AllocError>
-    requires known { IsKnown known }
+    requires known { IsKnown known.now }
     ensures { (own : List Numbered) (n : Name)
-        → IsTaken (schema_in known.entry) (of_set (WithSubtypes (schema_in known.entry)
-        (Holds (schema_in known.entry) own)) n) taken
-        → IfOk result (IsPath (schema_in known.entry) (path_behind (schema_in known.entry)
-        (Holds (schema_in known.entry) own) (attribute n (qualifiers_of qualifiers.now)))) }
+        → IsTaken (schema_in known.now) (of_set (WithSubtypes (schema_in known.now)
+        (Holds (schema_in known.now) own)) n) taken
+        → IfOk result (IsPath (schema_in known.now) (path_behind (schema_in known.now)
+        (Holds (schema_in known.now) own) (attribute n (qualifiers_of qualifiers.now)))) }
 {
     let begun = Reference {
         is_unclear: taken.is_unclear,

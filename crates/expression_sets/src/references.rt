@@ -33,19 +33,19 @@ pub struct Reference {
 /// What a reference is that begins with a name.
 fn refer_by_name(
     alloc: Global,
-    scope: Scope<'_, '_, '_>,
+    scope: &Scope<'_, '_, '_>,
     name: Word<'_>,
     qualifiers: &[Qualifier<'_>],
 ) -> Result<Reference, AllocError>
-    requires scope { IsScope scope }
-    ensures { IfOk result (IsReferred (schema_around scope.entry) (own_in scope.entry)
-        (variables_in scope.entry) (named (capitals name.entry)) (qualifiers_of qualifiers.now)) }
+    requires scope { IsScope scope.now }
+    ensures { IfOk result (IsReferred (schema_around scope.now) (own_in scope.now)
+        (variables_in scope.now) (named (capitals name.entry)) (qualifiers_of qualifiers.now)) }
 {
     match meaning_of(alloc, scope, name, qualifiers)? {
-        Meaning::Variable(may) => select(alloc, scope.known, may, qualifiers),
-        Meaning::Attribute(taken) => select_of_taken(alloc, scope.known, taken, qualifiers),
-        Meaning::ItemOfType => select_of_item(alloc, scope.known, &qualifiers[1..]),
-        Meaning::Item => select_of_item(alloc, scope.known, qualifiers),
+        Meaning::Variable(may) => select(alloc, &scope.known, may, qualifiers),
+        Meaning::Attribute(taken) => select_of_taken(alloc, &scope.known, taken, qualifiers),
+        Meaning::ItemOfType => select_of_item(alloc, &scope.known, &qualifiers[1..]),
+        Meaning::Item => select_of_item(alloc, &scope.known, qualifiers),
         Meaning::Nothing => Ok(Reference {
             is_unclear: true,
             may: Vec::new(alloc),
@@ -58,18 +58,18 @@ fn refer_by_name(
 /// an item of the enumeration before the dot, else an item of any enumeration, with its qualifiers.
 pub fn refer(
     alloc: Global,
-    scope: Scope<'_, '_, '_>,
+    scope: &Scope<'_, '_, '_>,
     root: Root<'_>,
     qualifiers: &[Qualifier<'_>],
 ) -> Result<Reference, AllocError>
-    requires scope { IsScope scope }
-    ensures { IfOk result (IsReferred (schema_around scope.entry) (own_in scope.entry)
-        (variables_in scope.entry) (root_of root.entry) (qualifiers_of qualifiers.now)) }
+    requires scope { IsScope scope.now }
+    ensures { IfOk result (IsReferred (schema_around scope.now) (own_in scope.now)
+        (variables_in scope.now) (root_of root.entry) (qualifiers_of qualifiers.now)) }
 {
     match root {
         Root::SelfInstance => {
             let own = Vec::from_slice(alloc, scope.own)?;
-            select(alloc, scope.known, own, qualifiers)
+            select(alloc, &scope.known, own, qualifiers)
         }
         Root::Name(name) => refer_by_name(alloc, scope, name, qualifiers),
     }

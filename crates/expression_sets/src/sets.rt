@@ -22,13 +22,13 @@ use std::alloc::{AllocError, Global};
 
 /// Adds what the elements of an atom may be, where it is an aggregate.
 fn add_elements(
-    tables: Tables<'_, '_, '_>,
+    tables: &Tables<'_, '_, '_>,
     atom: Atom,
     atoms: &mut Vec<Atom>,
 ) -> Result<(), AllocError>
-    requires tables { AreTables tables }
-    ensures { OnOk result (AddsAll (schema_at tables.entry) atoms.old.items
-        (Elements (schema_at tables.entry) (IsMeant (schema_at tables.entry) atom))
+    requires tables { AreTables tables.now }
+    ensures { OnOk result (AddsAll (schema_at tables.now) atoms.old.items
+        (Elements (schema_at tables.now) (IsMeant (schema_at tables.now) atom))
         atoms.new.items) }
 {
     let Atom::Aggregate(number, _) = atom else {
@@ -44,12 +44,12 @@ fn add_elements(
 /// What the elements of aggregates may be, of values that may be these (ISO 10303-11, 12.6.1).
 pub fn elements(
     alloc: Global,
-    tables: Tables<'_, '_, '_>,
+    tables: &Tables<'_, '_, '_>,
     atoms: &[Atom],
 ) -> Result<Vec<Atom>, AllocError>
-    requires tables { AreTables tables }
-    ensures { IfOk result (λ t. IsSet (schema_at tables.entry)
-        (Elements (schema_at tables.entry) (Holds (schema_at tables.entry) atoms.now)) t.items) }
+    requires tables { AreTables tables.now }
+    ensures { IfOk result (λ t. IsSet (schema_at tables.now)
+        (Elements (schema_at tables.now) (Holds (schema_at tables.now) atoms.now)) t.items) }
 {
     let mut elements = Vec::new(alloc);
     for atom in atoms {
@@ -61,14 +61,14 @@ pub fn elements(
 /// Adds what a reference may be.
 fn add_reference(
     alloc: Global,
-    scope: Scope<'_, '_, '_>,
+    scope: &Scope<'_, '_, '_>,
     root: Root<'_>,
     qualifiers: &[Qualifier<'_>],
     atoms: &mut Vec<Atom>,
 ) -> Result<(), AllocError>
-    requires scope { IsScope scope }
-    ensures { OnOk result (AddsAll (schema_around scope.entry) atoms.old.items
-        (OfReference (schema_around scope.entry) (own_in scope.entry) (variables_in scope.entry)
+    requires scope { IsScope scope.now }
+    ensures { OnOk result (AddsAll (schema_around scope.now) atoms.old.items
+        (OfReference (schema_around scope.now) (own_in scope.now) (variables_in scope.now)
         (root_of root.entry) (qualifiers_of qualifiers.now)) atoms.new.items) }
 {
     let reference = refer(alloc, scope, root, qualifiers)?;
@@ -79,13 +79,13 @@ fn add_reference(
 /// Adds what an expression may be.
 fn add_possible(
     alloc: Global,
-    scope: Scope<'_, '_, '_>,
+    scope: &Scope<'_, '_, '_>,
     expression: &Expr<'_>,
     atoms: &mut Vec<Atom>,
 ) -> Result<(), AllocError>
-    requires scope { IsScope scope }
-    ensures { OnOk result (AddsAll (schema_around scope.entry) atoms.old.items
-        (May (schema_around scope.entry) (own_in scope.entry) (variables_in scope.entry)
+    requires scope { IsScope scope.now }
+    ensures { OnOk result (AddsAll (schema_around scope.now) atoms.old.items
+        (May (schema_around scope.now) (own_in scope.now) (variables_in scope.now)
         (tree_of expression.now)) atoms.new.items) }
 {
     match expression {
@@ -117,12 +117,12 @@ fn add_possible(
 /// What an expression may be.
 pub fn possible(
     alloc: Global,
-    scope: Scope<'_, '_, '_>,
+    scope: &Scope<'_, '_, '_>,
     expression: &Expr<'_>,
 ) -> Result<Vec<Atom>, AllocError>
-    requires scope { IsScope scope }
-    ensures { IfOk result (λ t. IsSet (schema_around scope.entry) (May (schema_around scope.entry)
-        (own_in scope.entry) (variables_in scope.entry) (tree_of expression.now)) t.items) }
+    requires scope { IsScope scope.now }
+    ensures { IfOk result (λ t. IsSet (schema_around scope.now) (May (schema_around scope.now)
+        (own_in scope.now) (variables_in scope.now) (tree_of expression.now)) t.items) }
 {
     let mut atoms = Vec::new(alloc);
     add_possible(alloc, scope, expression, &mut atoms)?;
@@ -132,12 +132,12 @@ pub fn possible(
 /// What one of some expressions may be.
 fn possible_items(
     alloc: Global,
-    scope: Scope<'_, '_, '_>,
+    scope: &Scope<'_, '_, '_>,
     items: &[Expr<'_>],
 ) -> Result<Vec<Atom>, AllocError>
-    requires scope { IsScope scope }
-    ensures { IfOk result (λ t. IsSet (schema_around scope.entry) (OfTrees
-        (schema_around scope.entry) (own_in scope.entry) (variables_in scope.entry)
+    requires scope { IsScope scope.now }
+    ensures { IfOk result (λ t. IsSet (schema_around scope.now) (OfTrees
+        (schema_around scope.now) (own_in scope.now) (variables_in scope.now)
         (trees_of items.now)) t.items) }
 {
     let mut atoms = Vec::new(alloc);
@@ -150,27 +150,27 @@ fn possible_items(
 /// What the elements of aggregates may be that an expression may be.
 fn elements_of(
     alloc: Global,
-    scope: Scope<'_, '_, '_>,
+    scope: &Scope<'_, '_, '_>,
     expression: &Expr<'_>,
 ) -> Result<Vec<Atom>, AllocError>
-    requires scope { IsScope scope }
-    ensures { IfOk result (λ t. IsSet (schema_around scope.entry)
-        (Elements (schema_around scope.entry) (May (schema_around scope.entry)
-        (own_in scope.entry) (variables_in scope.entry) (tree_of expression.now))) t.items) }
+    requires scope { IsScope scope.now }
+    ensures { IfOk result (λ t. IsSet (schema_around scope.now)
+        (Elements (schema_around scope.now) (May (schema_around scope.now)
+        (own_in scope.now) (variables_in scope.now) (tree_of expression.now))) t.items) }
 {
     let atoms = possible(alloc, scope, expression)?;
-    elements(alloc, scope.known.tables, &atoms)
+    elements(alloc, &scope.known.tables, &atoms)
 }
 
 /// What the elements of an expression on the right of IN may be (ISO 10303-11, 12.2.3).
 pub fn possible_elements(
     alloc: Global,
-    scope: Scope<'_, '_, '_>,
+    scope: &Scope<'_, '_, '_>,
     expression: &Expr<'_>,
 ) -> Result<Vec<Atom>, AllocError>
-    requires scope { IsScope scope }
-    ensures { IfOk result (λ t. IsSet (schema_around scope.entry) (ElementsOf
-        (schema_around scope.entry) (own_in scope.entry) (variables_in scope.entry)
+    requires scope { IsScope scope.now }
+    ensures { IfOk result (λ t. IsSet (schema_around scope.now) (ElementsOf
+        (schema_around scope.now) (own_in scope.now) (variables_in scope.now)
         (tree_of expression.now)) t.items) }
 {
     match expression {

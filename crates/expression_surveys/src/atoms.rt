@@ -28,9 +28,9 @@ fn is_numbered(names: &Names<'_, '_>, number: u32) -> bool
 }
 
 /// Whether an atom is an instance or an aggregate.
-fn is_deep_atom(tables: Tables<'_, '_, '_>, atom: Atom) -> bool
-    ensures { result ≡ is_deep_atom (schema_at tables.entry)
-        (length tables.entry.data_types.now.forms.items) atom }
+fn is_deep_atom(tables: &Tables<'_, '_, '_>, atom: Atom) -> bool
+    ensures { result ≡ is_deep_atom (schema_at tables.now)
+        (length tables.now.data_types.now.forms.items) atom }
 {
     match atom {
         Atom::Value(_, _) => false,
@@ -40,16 +40,16 @@ fn is_deep_atom(tables: Tables<'_, '_, '_>, atom: Atom) -> bool
 }
 
 /// Whether an instance or an aggregate is among these.
-pub(crate) fn is_deep(tables: Tables<'_, '_, '_>, atoms: &[Atom]) -> bool
-    requires tables { AreTables tables }
-    ensures { IsTrue result ↔ MayBeDeep (Holds (schema_at tables.entry) atoms.now) }
+pub(crate) fn is_deep(tables: &Tables<'_, '_, '_>, atoms: &[Atom]) -> bool
+    requires tables { AreTables tables.now }
+    ensures { IsTrue result ↔ MayBeDeep (Holds (schema_at tables.now) atoms.now) }
 {
     atoms.iter().any(|atom| is_deep_atom(tables, *atom))
 }
 
 /// Whether an atom is a value of no SELECT.
-fn is_bare_atom(tables: Tables<'_, '_, '_>, atom: Atom) -> bool
-    ensures { result ≡ is_bare_atom (length tables.entry.data_types.now.forms.items) atom }
+fn is_bare_atom(tables: &Tables<'_, '_, '_>, atom: Atom) -> bool
+    ensures { result ≡ is_bare_atom (length tables.now.data_types.now.forms.items) atom }
 {
     match atom {
         Atom::Value(_, is_of_select) => !is_of_select,
@@ -61,9 +61,9 @@ fn is_bare_atom(tables: Tables<'_, '_, '_>, atom: Atom) -> bool
 }
 
 /// Whether a value of no SELECT is among these.
-pub(crate) fn has_bare_value(tables: Tables<'_, '_, '_>, atoms: &[Atom]) -> bool
-    requires tables { AreTables tables }
-    ensures { IsTrue result ↔ HasBareValue (Holds (schema_at tables.entry) atoms.now) }
+pub(crate) fn has_bare_value(tables: &Tables<'_, '_, '_>, atoms: &[Atom]) -> bool
+    requires tables { AreTables tables.now }
+    ensures { IsTrue result ↔ HasBareValue (Holds (schema_at tables.now) atoms.now) }
 {
     atoms.iter().any(|atom| is_bare_atom(tables, *atom))
 }
@@ -79,8 +79,8 @@ fn is_unordered_atom(atom: Atom) -> bool
 }
 
 /// Whether a string, a binary or an item is among these.
-pub(crate) fn is_unordered(tables: Tables<'_, '_, '_>, atoms: &[Atom]) -> bool
-    ensures { IsTrue result ↔ MayBeUnordered (Holds (schema_at tables.entry) atoms.now) }
+pub(crate) fn is_unordered(tables: &Tables<'_, '_, '_>, atoms: &[Atom]) -> bool
+    ensures { IsTrue result ↔ MayBeUnordered (Holds (schema_at tables.now) atoms.now) }
 {
     atoms.iter().any(|atom| is_unordered_atom(*atom))
 }

@@ -42,53 +42,53 @@ use type_tests::said::said_type;
 /// Whether an expression may be an instance or an aggregate.
 fn may_be_deep(
     alloc: Global,
-    scope: Scope<'_, '_, '_>,
+    scope: &Scope<'_, '_, '_>,
     expression: &Expr<'_>,
 ) -> Result<bool, AllocError>
-    requires scope { IsScope scope }
-    ensures { IfOk result (λ b. IsTrue b ↔ MayBeDeep (may_in scope.entry (tree_of expression.now))) }
+    requires scope { IsScope scope.now }
+    ensures { IfOk result (λ b. IsTrue b ↔ MayBeDeep (may_in scope.now (tree_of expression.now))) }
 {
     let atoms = possible(alloc, scope, expression)?;
-    Ok(is_deep(scope.known.tables, &atoms))
+    Ok(is_deep(&scope.known.tables, &atoms))
 }
 
 /// Whether the elements of what stands on the right of IN may be instances or aggregates.
 fn may_have_deep(
     alloc: Global,
-    scope: Scope<'_, '_, '_>,
+    scope: &Scope<'_, '_, '_>,
     expression: &Expr<'_>,
 ) -> Result<bool, AllocError>
-    requires scope { IsScope scope }
-    ensures { IfOk result (λ b. IsTrue b ↔ MayBeDeep (elements_in scope.entry (tree_of expression.now))) }
+    requires scope { IsScope scope.now }
+    ensures { IfOk result (λ b. IsTrue b ↔ MayBeDeep (elements_in scope.now (tree_of expression.now))) }
 {
     let atoms = possible_elements(alloc, scope, expression)?;
-    Ok(is_deep(scope.known.tables, &atoms))
+    Ok(is_deep(&scope.known.tables, &atoms))
 }
 
 /// Whether an expression may be a string, a binary or an item.
 fn may_be_unordered(
     alloc: Global,
-    scope: Scope<'_, '_, '_>,
+    scope: &Scope<'_, '_, '_>,
     expression: &Expr<'_>,
 ) -> Result<bool, AllocError>
-    requires scope { IsScope scope }
-    ensures { IfOk result (λ b. IsTrue b ↔ MayBeUnordered (may_in scope.entry (tree_of expression.now))) }
+    requires scope { IsScope scope.now }
+    ensures { IfOk result (λ b. IsTrue b ↔ MayBeUnordered (may_in scope.now (tree_of expression.now))) }
 {
     let atoms = possible(alloc, scope, expression)?;
-    Ok(is_unordered(scope.known.tables, &atoms))
+    Ok(is_unordered(&scope.known.tables, &atoms))
 }
 
 /// Whether an expression may be a value of no SELECT.
 fn may_be_bare(
     alloc: Global,
-    scope: Scope<'_, '_, '_>,
+    scope: &Scope<'_, '_, '_>,
     expression: &Expr<'_>,
 ) -> Result<bool, AllocError>
-    requires scope { IsScope scope }
-    ensures { IfOk result (λ b. IsTrue b ↔ HasBareValue (may_in scope.entry (tree_of expression.now))) }
+    requires scope { IsScope scope.now }
+    ensures { IfOk result (λ b. IsTrue b ↔ HasBareValue (may_in scope.now (tree_of expression.now))) }
 {
     let atoms = possible(alloc, scope, expression)?;
-    Ok(has_bare_value(scope.known.tables, &atoms))
+    Ok(has_bare_value(&scope.known.tables, &atoms))
 }
 
 /// Whether an entity has this number.
@@ -105,11 +105,11 @@ fn is_entity(names: &Names<'_, '_>, part: u32) -> bool
 }
 
 /// Whether a defined type of this number is over a SELECT.
-fn is_over_select(tables: Tables<'_, '_, '_>, part: u32) -> bool
-    requires tables { AreTables tables }
-    requires numbered { (n : Name) × HasNumber (schema_at tables) n part }
-    ensures { (n : Name) → HasNumber (schema_at tables.entry) n part
-        → IsTrue result ↔ IsOverSelect (schema_at tables.entry) (named n) }
+fn is_over_select(tables: &Tables<'_, '_, '_>, part: u32) -> bool
+    requires tables { AreTables tables.now }
+    requires numbered { (n : Name) × HasNumber (schema_at tables.now) n part }
+    ensures { (n : Name) → HasNumber (schema_at tables.now) n part
+        → IsTrue result ↔ IsOverSelect (schema_at tables.now) (named n) }
 {
     data_types::values::is_over_select(tables, part)
 }
@@ -118,20 +118,20 @@ fn is_over_select(tables: Tables<'_, '_, '_>, part: u32) -> bool
 /// (ISO 10303-11, 15.25).
 fn tests_type(
     alloc: Global,
-    scope: Scope<'_, '_, '_>,
+    scope: &Scope<'_, '_, '_>,
     part: u32,
     expression: &Expr<'_>,
 ) -> Result<bool, AllocError>
-    requires scope { IsScope scope }
-    requires numbered { (n : Name) × HasNumber (schema_around scope) n part }
-    ensures { (n : Name) → HasNumber (schema_around scope.entry) n part
-        → IfOk result (λ b. IsTrue b ↔ TestsType (schema_around scope.entry) n
-        (may_in scope.entry (tree_of expression.now))) }
+    requires scope { IsScope scope.now }
+    requires numbered { (n : Name) × HasNumber (schema_around scope.now) n part }
+    ensures { (n : Name) → HasNumber (schema_around scope.now) n part
+        → IfOk result (λ b. IsTrue b ↔ TestsType (schema_around scope.now) n
+        (may_in scope.now (tree_of expression.now))) }
 {
     if is_entity(scope.known.tables.names, part) {
         return Ok(true);
     }
-    if is_over_select(scope.known.tables, part) {
+    if is_over_select(&scope.known.tables, part) {
         return Ok(false);
     }
     Ok(!may_be_bare(alloc, scope, expression)?)
@@ -140,13 +140,13 @@ fn tests_type(
 /// Whether `left IN TYPEOF(expression)` has an answer (ISO 10303-11, 15.25).
 fn is_type_test(
     alloc: Global,
-    scope: Scope<'_, '_, '_>,
+    scope: &Scope<'_, '_, '_>,
     left: &Expr<'_>,
     expression: &Expr<'_>,
 ) -> Result<bool, AllocError>
-    requires scope { IsScope scope }
-    ensures { IfOk result (λ b. IsTrue b ↔ IsTypeTest (schema_around scope.entry)
-        (own_in scope.entry) (variables_in scope.entry) (tree_of left.now)
+    requires scope { IsScope scope.now }
+    ensures { IfOk result (λ b. IsTrue b ↔ IsTypeTest (schema_around scope.now)
+        (own_in scope.now) (variables_in scope.now) (tree_of left.now)
         (tree_of expression.now)) }
 {
     match said_type(alloc, scope.known.tables.names, left)? {
@@ -169,13 +169,13 @@ fn tested<'r, 'a>(expression: &'r Expr<'a>) -> Option<&'r Expr<'a>>
 /// Whether TYPEOF stands on the right of IN without an answer (ISO 10303-11, 15.25).
 fn is_bad_type_test(
     alloc: Global,
-    scope: Scope<'_, '_, '_>,
+    scope: &Scope<'_, '_, '_>,
     left: &Expr<'_>,
     right: &Expr<'_>,
 ) -> Result<bool, AllocError>
-    requires scope { IsScope scope }
-    ensures { IfOk result (λ b. IsTrue b ↔ IsBadTypeTest (schema_around scope.entry)
-        (own_in scope.entry) (variables_in scope.entry) (tree_of left.now) (tree_of right.now)) }
+    requires scope { IsScope scope.now }
+    ensures { IfOk result (λ b. IsTrue b ↔ IsBadTypeTest (schema_around scope.now)
+        (own_in scope.now) (variables_in scope.now) (tree_of left.now) (tree_of right.now)) }
 {
     match tested(right) {
         Some(argument) => Ok(!is_type_test(alloc, scope, left, argument)?),
@@ -186,14 +186,14 @@ fn is_bad_type_test(
 /// Whether a comparison tests a type without an answer (ISO 10303-11, 15.25).
 pub(crate) fn is_bad_test(
     alloc: Global,
-    scope: Scope<'_, '_, '_>,
+    scope: &Scope<'_, '_, '_>,
     left: &Expr<'_>,
     relation: Relation,
     right: &Expr<'_>,
 ) -> Result<bool, AllocError>
-    requires scope { IsScope scope }
-    ensures { IfOk result (λ b. IsTrue b ↔ IsBadTypeof (schema_around scope.entry)
-        (own_in scope.entry) false (variables_in scope.entry)
+    requires scope { IsScope scope.now }
+    ensures { IfOk result (λ b. IsTrue b ↔ IsBadTypeof (schema_around scope.now)
+        (own_in scope.now) false (variables_in scope.now)
         (comparison (tree_of left.now) relation (tree_of right.now))) }
 {
     match relation {
@@ -205,14 +205,14 @@ pub(crate) fn is_bad_test(
 /// Whether two expressions may both be instances or aggregates.
 fn are_deep(
     alloc: Global,
-    scope: Scope<'_, '_, '_>,
+    scope: &Scope<'_, '_, '_>,
     left: &Expr<'_>,
     right: &Expr<'_>,
 ) -> Result<bool, AllocError>
-    requires scope { IsScope scope }
+    requires scope { IsScope scope.now }
     ensures { IfOk result (λ b. IsTrue b ↔ BothDeep
-        (may_in scope.entry (tree_of left.now))
-        (may_in scope.entry (tree_of right.now))) }
+        (may_in scope.now (tree_of left.now))
+        (may_in scope.now (tree_of right.now))) }
 {
     Ok(may_be_deep(alloc, scope, left)? && may_be_deep(alloc, scope, right)?)
 }
@@ -220,14 +220,14 @@ fn are_deep(
 /// Whether an expression and the elements of another may both be instances or aggregates.
 fn are_deep_in(
     alloc: Global,
-    scope: Scope<'_, '_, '_>,
+    scope: &Scope<'_, '_, '_>,
     left: &Expr<'_>,
     right: &Expr<'_>,
 ) -> Result<bool, AllocError>
-    requires scope { IsScope scope }
+    requires scope { IsScope scope.now }
     ensures { IfOk result (λ b. IsTrue b ↔ BothDeep
-        (may_in scope.entry (tree_of left.now))
-        (elements_in scope.entry (tree_of right.now))) }
+        (may_in scope.now (tree_of left.now))
+        (elements_in scope.now (tree_of right.now))) }
 {
     Ok(may_be_deep(alloc, scope, left)? && may_have_deep(alloc, scope, right)?)
 }
@@ -235,14 +235,14 @@ fn are_deep_in(
 /// Whether one of two expressions may be a string, a binary or an item.
 fn one_is_unordered(
     alloc: Global,
-    scope: Scope<'_, '_, '_>,
+    scope: &Scope<'_, '_, '_>,
     left: &Expr<'_>,
     right: &Expr<'_>,
 ) -> Result<bool, AllocError>
-    requires scope { IsScope scope }
+    requires scope { IsScope scope.now }
     ensures { IfOk result (λ b. IsTrue b ↔ EitherUnordered
-        (may_in scope.entry (tree_of left.now))
-        (may_in scope.entry (tree_of right.now))) }
+        (may_in scope.now (tree_of left.now))
+        (may_in scope.now (tree_of right.now))) }
 {
     Ok(may_be_unordered(alloc, scope, left)? || may_be_unordered(alloc, scope, right)?)
 }
@@ -250,14 +250,14 @@ fn one_is_unordered(
 /// Whether a comparison is of what isn't compared (ISO 10303-11, 12.2).
 pub(crate) fn is_bad_kind(
     alloc: Global,
-    scope: Scope<'_, '_, '_>,
+    scope: &Scope<'_, '_, '_>,
     left: &Expr<'_>,
     relation: Relation,
     right: &Expr<'_>,
 ) -> Result<bool, AllocError>
-    requires scope { IsScope scope }
-    ensures { IfOk result (λ b. IsTrue b ↔ IsBadKind (schema_around scope.entry)
-        (own_in scope.entry) false (variables_in scope.entry)
+    requires scope { IsScope scope.now }
+    ensures { IfOk result (λ b. IsTrue b ↔ IsBadKind (schema_around scope.now)
+        (own_in scope.now) false (variables_in scope.now)
         (comparison (tree_of left.now) relation (tree_of right.now))) }
 {
     match relation {
@@ -270,17 +270,17 @@ pub(crate) fn is_bad_kind(
 /// Whether an interval is of what isn't ordered (ISO 10303-11, 12.2.4).
 pub(crate) fn is_bad_interval(
     alloc: Global,
-    scope: Scope<'_, '_, '_>,
+    scope: &Scope<'_, '_, '_>,
     low: &Expr<'_>,
     item: &Expr<'_>,
     high: &Expr<'_>,
 ) -> Result<bool, AllocError>
-    requires scope { IsScope scope }
+    requires scope { IsScope scope.now }
     ensures { IfOk result (λ b. IsTrue b ↔ (MayBeUnordered
-        (may_in scope.entry (tree_of low.now))
+        (may_in scope.now (tree_of low.now))
         ⊎ EitherUnordered
-        (may_in scope.entry (tree_of item.now))
-        (may_in scope.entry (tree_of high.now)))) }
+        (may_in scope.now (tree_of item.now))
+        (may_in scope.now (tree_of high.now)))) }
 {
     Ok(may_be_unordered(alloc, scope, low)? || one_is_unordered(alloc, scope, item, high)?)
 }

@@ -20,11 +20,11 @@ pub(crate) struct Context<'r, 't, 'a> {
 
 impl<'r, 't, 'a> Context<'r, 't, 'a> {
     /// With these variables around.
-    pub(crate) fn with(self, variables: &'r [Variable<'a>]) -> Scope<'r, 't, 'a>
-        requires { IsContext self }
+    pub(crate) fn with(&self, variables: &'r [Variable<'a>]) -> Scope<'r, 't, 'a>
+        requires { IsContext self.now }
         ensures scope { IsScope result }
-        ensures schema { schema_around result ≡ schema_of_context self.entry }
-        ensures own { result.own.now ≡ self.entry.own.now }
+        ensures schema { schema_around result ≡ schema_of_context self.now }
+        ensures own { result.own.now ≡ self.now.own.now }
         ensures variables { result.variables.now ≡ variables.now }
     {
         Scope {

@@ -48,15 +48,15 @@ pub(crate) fn is_in(relation: Relation) -> bool
 /// Notes what a reference is.
 pub(crate) fn note_reference(
     alloc: Global,
-    scope: Scope<'_, '_, '_>,
+    scope: &Scope<'_, '_, '_>,
     survey: &mut Survey,
     root: Root<'_>,
     qualifiers: &[Qualifier<'_>],
 ) -> Result<(), AllocError>
-    requires scope { IsScope scope }
-    ensures { OnOk result (Finds (schema_around scope.entry) survey.old
-        (λ f. at_path (schema_around scope.entry) (own_in scope.entry) f
-        (variables_in scope.entry) (root_of root.entry) (qualifiers_of qualifiers.now))
+    requires scope { IsScope scope.now }
+    ensures { OnOk result (Finds (schema_around scope.now) survey.old
+        (λ f. at_path (schema_around scope.now) (own_in scope.now) f
+        (variables_in scope.now) (root_of root.entry) (qualifiers_of qualifiers.now))
         survey.new) }
 {
     let reference = refer(alloc, scope, root, qualifiers)?;
@@ -68,16 +68,16 @@ pub(crate) fn note_reference(
 /// Notes what is at fault in a comparison.
 pub(crate) fn note_comparison(
     alloc: Global,
-    scope: Scope<'_, '_, '_>,
+    scope: &Scope<'_, '_, '_>,
     survey: &mut Survey,
     left: &Expr<'_>,
     relation: Relation,
     right: &Expr<'_>,
 ) -> Result<(), AllocError>
-    requires scope { IsScope scope }
-    ensures { OnOk result (Finds (schema_around scope.entry) survey.old
-        (λ f. at_tree (schema_around scope.entry) (own_in scope.entry) f false
-        (variables_in scope.entry) (comparison (tree_of left.now) relation (tree_of right.now)))
+    requires scope { IsScope scope.now }
+    ensures { OnOk result (Finds (schema_around scope.now) survey.old
+        (λ f. at_tree (schema_around scope.now) (own_in scope.now) f false
+        (variables_in scope.now) (comparison (tree_of left.now) relation (tree_of right.now)))
         survey.new) }
 {
     let is_bad_test = is_bad_test(alloc, scope, left, relation, right)?;
@@ -90,16 +90,16 @@ pub(crate) fn note_comparison(
 /// Notes what is at fault in an interval.
 pub(crate) fn note_interval(
     alloc: Global,
-    scope: Scope<'_, '_, '_>,
+    scope: &Scope<'_, '_, '_>,
     survey: &mut Survey,
     low: &Expr<'_>,
     item: &Expr<'_>,
     high: &Expr<'_>,
 ) -> Result<(), AllocError>
-    requires scope { IsScope scope }
-    ensures { OnOk result ((above below : Limit) → Finds (schema_around scope.entry) survey.old
-        (λ f. at_tree (schema_around scope.entry) (own_in scope.entry) f false
-        (variables_in scope.entry)
+    requires scope { IsScope scope.now }
+    ensures { OnOk result ((above below : Limit) → Finds (schema_around scope.now) survey.old
+        (λ f. at_tree (schema_around scope.now) (own_in scope.now) f false
+        (variables_in scope.now)
         (interval (tree_of low.now) above (tree_of item.now) below (tree_of high.now)))
         survey.new) }
 {
@@ -111,21 +111,21 @@ pub(crate) fn note_interval(
 /// Notes what is at fault in a comparison inside these variables.
 pub(crate) fn note_comparison_inside<'a>(
     alloc: Global,
-    context: Context<'_, '_, 'a>,
+    context: &Context<'_, '_, 'a>,
     variables: &[Variable<'a>],
     survey: &mut Survey,
     left: &Expr<'a>,
     relation: Relation,
     right: &Expr<'a>,
 ) -> Result<(), AllocError>
-    requires context { IsContext context }
-    ensures { OnOk result (Walks (schema_of_context context.entry) variables.now survey.old
-        (λ vs f. at_tree (schema_of_context context.entry) (own_of_context context.entry) f false
+    requires context { IsContext context.now }
+    ensures { OnOk result (Walks (schema_of_context context.now) variables.now survey.old
+        (λ vs f. at_tree (schema_of_context context.now) (own_of_context context.now) f false
         vs (comparison (tree_of left.now) relation (tree_of right.now))) variables.now survey.new) }
 {
     note_comparison(
         alloc,
-        context.with(variables),
+        &context.with(variables),
         survey,
         left,
         relation,
@@ -136,19 +136,19 @@ pub(crate) fn note_comparison_inside<'a>(
 /// Notes what is at fault in an interval inside these variables.
 pub(crate) fn note_interval_inside<'a>(
     alloc: Global,
-    context: Context<'_, '_, 'a>,
+    context: &Context<'_, '_, 'a>,
     variables: &[Variable<'a>],
     survey: &mut Survey,
     low: &Expr<'a>,
     item: &Expr<'a>,
     high: &Expr<'a>,
 ) -> Result<(), AllocError>
-    requires context { IsContext context }
+    requires context { IsContext context.now }
     ensures { OnOk result ((above below : Limit)
-        → Walks (schema_of_context context.entry) variables.now survey.old
-        (λ vs f. at_tree (schema_of_context context.entry) (own_of_context context.entry) f false
+        → Walks (schema_of_context context.now) variables.now survey.old
+        (λ vs f. at_tree (schema_of_context context.now) (own_of_context context.now) f false
         vs (interval (tree_of low.now) above (tree_of item.now) below (tree_of high.now)))
         variables.now survey.new) }
 {
-    note_interval(alloc, context.with(variables), survey, low, item, high)
+    note_interval(alloc, &context.with(variables), survey, low, item, high)
 }

@@ -48,22 +48,26 @@ fn nothing(alloc: Global) -> Survey
 /// What is found in an expression, where SELF may be these.
 pub fn survey_expression<'r, 'a>(
     alloc: Global,
-    known: Known<'r, '_, 'a>,
+    known: &Known<'r, '_, 'a>,
     items: &'r Items<'a>,
     own: &'r [Atom],
     expression: &Expr<'a>,
 ) -> Result<Survey, AllocError>
-    requires known { IsKnown known }
-    requires items { AreItems (schema_in known) items.now }
-    ensures { IfOk result (IsSurvey (schema_in known.entry) (Holds (schema_in known.entry) own.now)
+    requires known { IsKnown known.now }
+    requires items { AreItems (schema_in known.now) items.now }
+    ensures { IfOk result (IsSurvey (schema_in known.now) (Holds (schema_in known.now) own.now)
         (tree_of expression.now)) }
 {
-    let context = Context { known, items, own };
+    let context = Context {
+        known: *known,
+        items,
+        own,
+    };
     let mut variables = Vec::new(alloc);
     let mut survey = nothing(alloc);
     survey_part(
         alloc,
-        context,
+        &context,
         &mut variables,
         &mut survey,
         false,

@@ -23,30 +23,30 @@ use step_literals::literal::Word;
 /// What the variable of a QUERY over this source may be (ISO 10303-11, 12.6.7).
 fn variable_over<'a>(
     alloc: Global,
-    context: Context<'_, '_, 'a>,
+    context: &Context<'_, '_, 'a>,
     variables: &[Variable<'a>],
     source: &Expr<'a>,
 ) -> Result<Vec<Atom>, AllocError>
-    requires context { IsContext context }
-    ensures { IfOk result (λ t. IsSet (schema_of_context context.entry)
-        (Elements (schema_of_context context.entry) (May (schema_of_context context.entry)
-        (own_of_context context.entry) (inside (schema_of_context context.entry) variables.now [])
+    requires context { IsContext context.now }
+    ensures { IfOk result (λ t. IsSet (schema_of_context context.now)
+        (Elements (schema_of_context context.now) (May (schema_of_context context.now)
+        (own_of_context context.now) (inside (schema_of_context context.now) variables.now [])
         (tree_of source.now))) t.items) }
 {
-    let may = possible(alloc, context.with(variables), source)?;
-    elements(alloc, context.known.tables, &may)
+    let may = possible(alloc, &context.with(variables), source)?;
+    elements(alloc, &context.known.tables, &may)
 }
 
 /// Puts the variable of a QUERY over this source behind those around it.
 pub(crate) fn push_variable<'a>(
     alloc: Global,
-    context: Context<'_, '_, 'a>,
+    context: &Context<'_, '_, 'a>,
     variables: &mut Vec<Variable<'a>>,
     name: Word<'a>,
     source: &Expr<'a>,
 ) -> Result<(), AllocError>
-    requires context { IsContext context }
-    ensures { OnOk result (Binds (schema_of_context context.entry) (own_of_context context.entry)
+    requires context { IsContext context.now }
+    ensures { OnOk result (Binds (schema_of_context context.now) (own_of_context context.now)
         variables.old.items (capitals name.entry) (tree_of source.now) variables.new.items) }
 {
     let may = variable_over(alloc, context, variables, source)?;

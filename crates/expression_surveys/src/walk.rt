@@ -29,14 +29,14 @@ use std::alloc::{AllocError, Global};
 #[cycle(walk)]
 fn survey_all<'a>(
     alloc: Global,
-    context: Context<'_, '_, 'a>,
+    context: &Context<'_, '_, 'a>,
     variables: &mut Vec<Variable<'a>>,
     survey: &mut Survey,
     expressions: &[Expr<'a>],
 ) -> Result<(), AllocError>
-    requires context { IsContext context }
-    ensures { OnOk result (Walks (schema_of_context context.entry) variables.old.items survey.old
-        (λ vs f. WithinAll (schema_of_context context.entry) (own_of_context context.entry) f
+    requires context { IsContext context.now }
+    ensures { OnOk result (Walks (schema_of_context context.now) variables.old.items survey.old
+        (λ vs f. WithinAll (schema_of_context context.now) (own_of_context context.now) f
         vs (trees_of expressions.now)) variables.new.items survey.new) }
 {
     for expression in expressions {
@@ -49,14 +49,14 @@ fn survey_all<'a>(
 #[cycle(walk)]
 fn survey_alternatives<'a>(
     alloc: Global,
-    context: Context<'_, '_, 'a>,
+    context: &Context<'_, '_, 'a>,
     variables: &mut Vec<Variable<'a>>,
     survey: &mut Survey,
     alternatives: &[Alternative<'a>],
 ) -> Result<(), AllocError>
-    requires context { IsContext context }
-    ensures { OnOk result (Walks (schema_of_context context.entry) variables.old.items survey.old
-        (λ vs f. WithinOthers (schema_of_context context.entry) (own_of_context context.entry) f
+    requires context { IsContext context.now }
+    ensures { OnOk result (Walks (schema_of_context context.now) variables.old.items survey.old
+        (λ vs f. WithinOthers (schema_of_context context.now) (own_of_context context.now) f
         vs (alternatives_of alternatives.now)) variables.new.items survey.new) }
 {
     for alternative in alternatives {
@@ -69,14 +69,14 @@ fn survey_alternatives<'a>(
 #[cycle(walk)]
 fn survey_indices<'a>(
     alloc: Global,
-    context: Context<'_, '_, 'a>,
+    context: &Context<'_, '_, 'a>,
     variables: &mut Vec<Variable<'a>>,
     survey: &mut Survey,
     qualifiers: &[Qualifier<'a>],
 ) -> Result<(), AllocError>
-    requires context { IsContext context }
-    ensures { OnOk result (Walks (schema_of_context context.entry) variables.old.items survey.old
-        (λ vs f. WithinIndices (schema_of_context context.entry) (own_of_context context.entry) f
+    requires context { IsContext context.now }
+    ensures { OnOk result (Walks (schema_of_context context.now) variables.old.items survey.old
+        (λ vs f. WithinIndices (schema_of_context context.now) (own_of_context context.now) f
         vs (qualifiers_of qualifiers.now)) variables.new.items survey.new) }
 {
     for qualifier in qualifiers {
@@ -89,14 +89,14 @@ fn survey_indices<'a>(
 #[cycle(walk)]
 fn survey_qualifier<'a>(
     alloc: Global,
-    context: Context<'_, '_, 'a>,
+    context: &Context<'_, '_, 'a>,
     variables: &mut Vec<Variable<'a>>,
     survey: &mut Survey,
     qualifier: &Qualifier<'a>,
 ) -> Result<(), AllocError>
-    requires context { IsContext context }
-    ensures { OnOk result (Walks (schema_of_context context.entry) variables.old.items survey.old
-        (λ vs f. WithinIndices (schema_of_context context.entry) (own_of_context context.entry) f
+    requires context { IsContext context.now }
+    ensures { OnOk result (Walks (schema_of_context context.now) variables.old.items survey.old
+        (λ vs f. WithinIndices (schema_of_context context.now) (own_of_context context.now) f
         vs (qualifiers_of (qualifier.now ∷ []))) variables.new.items survey.new) }
 {
     match qualifier {
@@ -109,21 +109,27 @@ fn survey_qualifier<'a>(
 #[cycle(walk)]
 pub(crate) fn survey_part<'a>(
     alloc: Global,
-    context: Context<'_, '_, 'a>,
+    context: &Context<'_, '_, 'a>,
     variables: &mut Vec<Variable<'a>>,
     survey: &mut Survey,
     is_right_of_in: bool,
     expression: &Expr<'a>,
 ) -> Result<(), AllocError>
-    requires context { IsContext context }
-    ensures { OnOk result (Walks (schema_of_context context.entry) variables.old.items survey.old
-        (λ vs f. Within (schema_of_context context.entry) (own_of_context context.entry) f
+    requires context { IsContext context.now }
+    ensures { OnOk result (Walks (schema_of_context context.now) variables.old.items survey.old
+        (λ vs f. Within (schema_of_context context.now) (own_of_context context.now) f
         is_right_of_in vs (tree_of expression.now)) variables.new.items survey.new) }
 {
     match expression {
         Expr::Literal(_) | Expr::Signed(_, _) => Ok(()),
         Expr::Reference(root, qualifiers) => {
-            note_reference(alloc, context.with(variables), survey, *root, qualifiers)?;
+            note_reference(
+                alloc,
+                &(&*context).with(variables),
+                survey,
+                *root,
+                qualifiers,
+            )?;
             survey_indices(alloc, context, variables, survey, qualifiers)
         }
         Expr::Parenthesized(inner) => {

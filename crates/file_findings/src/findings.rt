@@ -186,19 +186,19 @@ fn tell_rows(
 /// the file.
 pub fn findings(
     alloc: Global,
-    known: Knowledge<'_, '_, '_>,
-    bases: Bases<'_, '_, '_>,
+    known: &Knowledge<'_, '_, '_>,
+    bases: &Bases<'_, '_, '_>,
     rows: &Rows,
     exchange: &Exchange<'_>,
 ) -> Result<Vec<Finding>, AllocError>
-    requires known { AreKnown known }
-    requires bases { AreBases bases }
-    requires same { known.names.now.schema.now ≡ bases.names.now.schema.now }
-    requires rows { (en : Entities) → AreEntities (schema_in known) en
-        → AreRowsOf (schema_in known) en (rows_in exchange.now) rows.now }
+    requires known { AreKnown known.now }
+    requires bases { AreBases bases.now }
+    requires same { known.now.names.now.schema.now ≡ bases.now.names.now.schema.now }
+    requires rows { (en : Entities) → AreEntities (schema_in known.now) en
+        → AreRowsOf (schema_in known.now) en (rows_in exchange.now) rows.now }
     ensures { IfOk result (λ fs. (d : Domain) → (en : Entities)
-        → IsDomain (schema_in known.entry) d → AreEntities (schema_in known.entry) en
-        → fs.items ≡ findings (schema_in known.entry) d en (structure exchange.now)) }
+        → IsDomain (schema_in known.now) d → AreEntities (schema_in known.now) en
+        → fs.items ≡ findings (schema_in known.now) d en (structure exchange.now)) }
 {
     entities_are_said(known);
     let mut found = Vec::new(alloc);
@@ -206,7 +206,7 @@ pub fn findings(
     let targets = targets_in(rows);
     let judge = Judge {
         alloc,
-        bases,
+        bases: *bases,
         targets,
     };
     let (_, instances) = exchange.trees.trees().split(exchange.header_len);

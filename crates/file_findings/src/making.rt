@@ -104,14 +104,14 @@ impl Made {
     fn internal(
         &mut self,
         alloc: Global,
-        known: Knowledge<'_, '_, '_>,
+        known: &Knowledge<'_, '_, '_>,
         entity: u32,
     ) -> Result<u32, AllocError>
-        requires known { AreKnown known }
-        requires made { AreMade (schema_in known) self.old }
-        requires named { (r : Record) × NameEntities (schema_in known) (r ∷ []) (entity ∷ []) }
-        ensures { IfOk result (MakesOne (schema_in known.entry)
-            (IsInternal (schema_in known.entry) entity) self.old self.new) }
+        requires known { AreKnown known.now }
+        requires made { AreMade (schema_in known.now) self.old }
+        requires named { (r : Record) × NameEntities (schema_in known.now) (r ∷ []) (entity ∷ []) }
+        ensures { IfOk result (MakesOne (schema_in known.now)
+            (IsInternal (schema_in known.now) entity) self.old self.new) }
     {
         if let Some(number) = number_at(&self.internal, entity) {
             return Ok(number);
@@ -126,15 +126,15 @@ impl Made {
     fn external(
         &mut self,
         alloc: Global,
-        known: Knowledge<'_, '_, '_>,
+        known: &Knowledge<'_, '_, '_>,
         entities: &Vec<u32>,
     ) -> Result<u32, AllocError>
-        requires known { AreKnown known }
-        requires made { AreMade (schema_in known) self.old }
+        requires known { AreKnown known.now }
+        requires made { AreMade (schema_in known.now) self.old }
         requires named { (rs : List Record)
-            × NameEntities (schema_in known) rs entities.now.items }
-        ensures { IfOk result (MakesOne (schema_in known.entry)
-            (IsExternal (schema_in known.entry) entities.now.items) self.old self.new) }
+            × NameEntities (schema_in known.now) rs entities.now.items }
+        ensures { IfOk result (MakesOne (schema_in known.now)
+            (IsExternal (schema_in known.now) entities.now.items) self.old self.new) }
     {
         if let Some(number) = self.external.get(entities) {
             return Ok(*number);
@@ -150,13 +150,13 @@ impl Made {
     pub fn form(
         &mut self,
         alloc: Global,
-        known: Knowledge<'_, '_, '_>,
+        known: &Knowledge<'_, '_, '_>,
         entities: &mut Vec<u32>,
         parts: &Params<'_>,
     ) -> Result<Option<u32>, AllocError>
-        requires known { AreKnown known }
-        requires made { AreMade (schema_in known) self.old }
-        ensures { IfOk result (MakesForm (schema_in known.entry) (form_of parts.now)
+        requires known { AreKnown known.now }
+        requires made { AreMade (schema_in known.now) self.old }
+        ensures { IfOk result (MakesForm (schema_in known.now) (form_of parts.now)
             self.old self.new) }
     {
         if is_internal(parts) {

@@ -35,12 +35,12 @@ pub struct Rows {
 fn forms_of(
     made: &mut Made,
     alloc: Global,
-    known: Knowledge<'_, '_, '_>,
+    known: &Knowledge<'_, '_, '_>,
     instances: &Params<'_>,
 ) -> Result<Vec<Option<u32>>, AllocError>
-    requires known { AreKnown known }
-    requires made { AreMade (schema_in known) made.old }
-    ensures { IfOk result (λ v. MakeForms (schema_in known.entry) instances.now made.new v.items) }
+    requires known { AreKnown known.now }
+    requires made { AreMade (schema_in known.now) made.old }
+    ensures { IfOk result (λ v. MakeForms (schema_in known.now) instances.now made.new v.items) }
 {
     let mut form_of = Vec::with_capacity(alloc, instances.len())?;
     let mut entities = Vec::new(alloc);
@@ -54,12 +54,12 @@ fn forms_of(
 pub fn rows_of(
     alloc: Global,
     keys: RandomState,
-    known: Knowledge<'_, '_, '_>,
+    known: &Knowledge<'_, '_, '_>,
     exchange: &Exchange<'_>,
 ) -> Result<Rows, AllocError>
-    requires known { AreKnown known }
-    ensures { IfOk result (λ t. (en : Entities) → AreEntities (schema_in known.entry) en
-        → AreRowsOf (schema_in known.entry) en (rows_in exchange.now) t) }
+    requires known { AreKnown known.now }
+    ensures { IfOk result (λ t. (en : Entities) → AreEntities (schema_in known.now) en
+        → AreRowsOf (schema_in known.now) en (rows_in exchange.now) t) }
 {
     let names = exchange.names.as_slice();
     if names.len() > MOST_ROWS {

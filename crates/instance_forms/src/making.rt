@@ -21,13 +21,13 @@ use std::alloc::{AllocError, Global};
 /// parameters, with values of the attributes of these places.
 fn form(
     alloc: Global,
-    known: Knowledge<'_, '_, '_>,
+    known: &Knowledge<'_, '_, '_>,
     marks: &[bool],
     counts: Vec<usize>,
     places: &[u32],
 ) -> Result<Form, AllocError>
-    requires { length marks.now ≡ length known.names.now.schema.now.declarations.items }
-    ensures { IfOk result (IsForm known.entry marks.now counts.items places.now) }
+    requires { length marks.now ≡ length known.now.names.now.schema.now.declarations.items }
+    ensures { IfOk result (IsForm known.now marks.now counts.items places.now) }
 {
     let types = marked_numbers(alloc, marks)?;
     let above = marks_above(alloc, known, &types)?;
@@ -47,13 +47,13 @@ fn form(
 /// (ISO 10303-21, 11.2.5.1).
 pub fn internal_form(
     alloc: Global,
-    known: Knowledge<'_, '_, '_>,
+    known: &Knowledge<'_, '_, '_>,
     entity: u32,
 ) -> Result<Form, AllocError>
-    requires known { AreKnown known }
-    ensures { IfOk result (λ f. (en : Entities) → AreEntities (schema_in known.entry) en
-        → (r : Record) → NameEntities (schema_in known.entry) (r ∷ []) (entity ∷ [])
-        → IsFormOf (schema_in known.entry) en (internal r) f) }
+    requires known { AreKnown known.now }
+    ensures { IfOk result (λ f. (en : Entities) → AreEntities (schema_in known.now) en
+        → (r : Record) → NameEntities (schema_in known.now) (r ∷ []) (entity ∷ [])
+        → IsFormOf (schema_in known.now) en (internal r) f) }
 {
     let marks = marks_on_kinds(alloc, known, entity)?;
     let places = row_at(known.places, entity);
@@ -64,11 +64,11 @@ pub fn internal_form(
 /// How many attributes each of these entities declares itself.
 fn own_counts(
     alloc: Global,
-    known: Knowledge<'_, '_, '_>,
+    known: &Knowledge<'_, '_, '_>,
     entities: &[u32],
 ) -> Result<Vec<usize>, AllocError>
     ensures { IfOk result (λ counts. counts.items
-        ≡ map (λ i. length (next (graph_of known.entry.own.now) i)) entities.now) }
+        ≡ map (λ i. length (next (graph_of known.now.own.now) i)) entities.now) }
 {
     let mut counts = Vec::new(alloc);
     for entity in entities {
@@ -80,11 +80,11 @@ fn own_counts(
 /// The places of the attributes that each of these entities declares itself.
 fn own_places(
     alloc: Global,
-    known: Knowledge<'_, '_, '_>,
+    known: &Knowledge<'_, '_, '_>,
     entities: &[u32],
 ) -> Result<Vec<u32>, AllocError>
     ensures { IfOk result (λ places. places.items
-        ≡ concat (map (next (graph_of known.entry.own.now)) entities.now)) }
+        ≡ concat (map (next (graph_of known.now.own.now)) entities.now)) }
 {
     let mut places = Vec::new(alloc);
     for entity in entities {
@@ -97,13 +97,13 @@ fn own_places(
 /// (ISO 10303-21, 11.2.5.3).
 pub fn external_form(
     alloc: Global,
-    known: Knowledge<'_, '_, '_>,
+    known: &Knowledge<'_, '_, '_>,
     entities: &[u32],
 ) -> Result<Form, AllocError>
-    requires known { AreKnown known }
-    ensures { IfOk result (λ f. (en : Entities) → AreEntities (schema_in known.entry) en
-        → (rs : List Record) → NameEntities (schema_in known.entry) rs entities.now
-        → IsFormOf (schema_in known.entry) en (external rs) f) }
+    requires known { AreKnown known.now }
+    ensures { IfOk result (λ f. (en : Entities) → AreEntities (schema_in known.now) en
+        → (rs : List Record) → NameEntities (schema_in known.now) rs entities.now
+        → IsFormOf (schema_in known.now) en (external rs) f) }
 {
     let marks = marks_on(alloc, known, entities)?;
     let counts = own_counts(alloc, known, entities)?;
@@ -112,7 +112,7 @@ pub fn external_form(
 }
 
 /// There are functions that say what the entities of a schema say.
-pub fn entities_are_said(known: Knowledge<'_, '_, '_>)
-    requires known { AreKnown known }
-    ensures { (en : Entities) × AreEntities (schema_in known.entry) en }
+pub fn entities_are_said(known: &Knowledge<'_, '_, '_>)
+    requires known { AreKnown known.now }
+    ensures { (en : Entities) × AreEntities (schema_in known.now) en }
 {}

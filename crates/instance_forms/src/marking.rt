@@ -67,9 +67,9 @@ fn mark_all(marks: &mut [bool], numbers: &[u32])
 }
 
 /// As many marks as declarations, none of them set.
-fn unmarked(alloc: Global, known: Knowledge<'_, '_, '_>) -> Result<Vec<bool>, AllocError>
+fn unmarked(alloc: Global, known: &Knowledge<'_, '_, '_>) -> Result<Vec<bool>, AllocError>
     ensures { IfOk result (λ marks.
-        AreMarks (length (schema_in known.entry).declarations) (λ i. false) marks.items) }
+        AreMarks (length (schema_in known.now).declarations) (λ i. false) marks.items) }
 {
     vec![in alloc; false; known.names.schema.declarations.len()]
 }
@@ -77,11 +77,11 @@ fn unmarked(alloc: Global, known: Knowledge<'_, '_, '_>) -> Result<Vec<bool>, Al
 /// Marks on these numbers.
 pub(crate) fn marks_on(
     alloc: Global,
-    known: Knowledge<'_, '_, '_>,
+    known: &Knowledge<'_, '_, '_>,
     numbers: &[u32],
 ) -> Result<Vec<bool>, AllocError>
     ensures { IfOk result (λ marks.
-        AreMarks (length (schema_in known.entry).declarations) (has numbers.now) marks.items) }
+        AreMarks (length (schema_in known.now).declarations) (has numbers.now) marks.items) }
 {
     let mut marks = unmarked(alloc, known)?;
     mark_all(&mut marks, numbers);
@@ -91,11 +91,11 @@ pub(crate) fn marks_on(
 /// Marks on an entity and its supertypes.
 pub(crate) fn marks_on_kinds(
     alloc: Global,
-    known: Knowledge<'_, '_, '_>,
+    known: &Knowledge<'_, '_, '_>,
     entity: u32,
 ) -> Result<Vec<bool>, AllocError>
-    ensures { IfOk result (λ marks. AreMarks (length (schema_in known.entry).declarations)
-        (is_kind (graph_of known.entry.above.now) entity) marks.items) }
+    ensures { IfOk result (λ marks. AreMarks (length (schema_in known.now).declarations)
+        (is_kind (graph_of known.now.above.now) entity) marks.items) }
 {
     let mut marks = unmarked(alloc, known)?;
     mark(&mut marks, entity);
@@ -106,11 +106,11 @@ pub(crate) fn marks_on_kinds(
 /// Marks on the proper supertypes of these entities.
 pub(crate) fn marks_above(
     alloc: Global,
-    known: Knowledge<'_, '_, '_>,
+    known: &Knowledge<'_, '_, '_>,
     entities: &[u32],
 ) -> Result<Vec<bool>, AllocError>
-    ensures { IfOk result (λ marks. AreMarks (length (schema_in known.entry).declarations)
-        (is_above (graph_of known.entry.above.now) entities.now) marks.items) }
+    ensures { IfOk result (λ marks. AreMarks (length (schema_in known.now).declarations)
+        (is_above (graph_of known.now.above.now) entities.now) marks.items) }
 {
     let mut marks = unmarked(alloc, known)?;
     for entity in entities {

@@ -31,15 +31,15 @@ use step_values::normal::Normal;
 /// `AllocError` comes where memory runs out.
 pub fn are_distinct(
     alloc: Global,
-    bases: Bases<'_, '_, '_>,
+    bases: &Bases<'_, '_, '_>,
     base: Base,
     params: &Params<'_>,
 ) -> Result<bool, AllocError>
-    requires bases { AreBases bases }
-    requires numbered { IsNumbered (schema_at bases) base }
-    ensures { IfOk result (λ b. (d : Domain) → IsDomain (schema_at bases.entry) d
-        → b ≡ are_distinct (values_as (schema_at bases.entry) d
-        (base_seen (schema_at bases.entry) base) (all_of params.now))) }
+    requires bases { AreBases bases.now }
+    requires numbered { IsNumbered (schema_at bases.now) base }
+    ensures { IfOk result (λ b. (d : Domain) → IsDomain (schema_at bases.now) d
+        → b ≡ are_distinct (values_as (schema_at bases.now) d
+        (base_seen (schema_at bases.now) base) (all_of params.now))) }
 {
     if params.len() < 2 {
         return Ok(true);
@@ -52,15 +52,15 @@ pub fn are_distinct(
 /// The normal forms of the elements that are set.
 fn set_forms<'t>(
     alloc: Global,
-    bases: Bases<'_, '_, '_>,
+    bases: &Bases<'_, '_, '_>,
     base: Base,
     params: &Params<'t>,
 ) -> Result<Vec<Normal<'t>>, AllocError>
-    requires bases { AreBases bases }
-    requires numbered { IsNumbered (schema_at bases) base }
-    ensures { IfOk result (λ ns. (d : Domain) → IsDomain (schema_at bases.entry) d
-        → AreNormal (each_by_name (set_ones (values_as (schema_at bases.entry) d
-        (base_seen (schema_at bases.entry) base) (all_of params.now)))) ns.items) }
+    requires bases { AreBases bases.now }
+    requires numbered { IsNumbered (schema_at bases.now) base }
+    ensures { IfOk result (λ ns. (d : Domain) → IsDomain (schema_at bases.now) d
+        → AreNormal (each_by_name (set_ones (values_as (schema_at bases.now) d
+        (base_seen (schema_at bases.now) base) (all_of params.now)))) ns.items) }
 {
     let mut forms = Vec::with_capacity(alloc, params.len())?;
     for i in 0..params.len() {

@@ -30,17 +30,17 @@ use step_parameters::param::{Node, Param, Params};
 #[cycle(fits)]
 pub fn misfit(
     alloc: Global,
-    bases: Bases<'_, '_, '_>,
-    targets: Targets<'_>,
+    bases: &Bases<'_, '_, '_>,
+    targets: &Targets<'_>,
     base: Base,
     param: &Param<'_>,
 ) -> Result<Option<FindingKind>, AllocError>
-    requires bases { AreBases bases }
-    requires targets { AreTargets (schema_at bases) targets }
-    requires numbered { IsNumbered (schema_at bases) base }
-    ensures { IfOk result (λ f. (d : Domain) → IsDomain (schema_at bases.entry) d
-        → f ≡ misfit (schema_at bases.entry) d (target_of (schema_at bases.entry) targets.entry)
-        (base_seen (schema_at bases.entry) base) param.now) }
+    requires bases { AreBases bases.now }
+    requires targets { AreTargets (schema_at bases.now) targets.now }
+    requires numbered { IsNumbered (schema_at bases.now) base }
+    ensures { IfOk result (λ f. (d : Domain) → IsDomain (schema_at bases.now) d
+        → f ≡ misfit (schema_at bases.now) d (target_of (schema_at bases.now) targets.now)
+        (base_seen (schema_at bases.now) base) param.now) }
 {
     misfit_node(alloc, bases, targets, base, &param.node())
 }
@@ -49,17 +49,17 @@ pub fn misfit(
 #[cycle(fits)]
 fn misfit_node(
     alloc: Global,
-    bases: Bases<'_, '_, '_>,
-    targets: Targets<'_>,
+    bases: &Bases<'_, '_, '_>,
+    targets: &Targets<'_>,
     base: Base,
     node: &Node<'_>,
 ) -> Result<Option<FindingKind>, AllocError>
-    requires bases { AreBases bases }
-    requires targets { AreTargets (schema_at bases) targets }
-    requires numbered { IsNumbered (schema_at bases) base }
-    ensures { IfOk result (λ f. (d : Domain) → IsDomain (schema_at bases.entry) d
-        → f ≡ misfit (schema_at bases.entry) d (target_of (schema_at bases.entry) targets.entry)
-        (base_seen (schema_at bases.entry) base) (node_value node.now)) }
+    requires bases { AreBases bases.now }
+    requires targets { AreTargets (schema_at bases.now) targets.now }
+    requires numbered { IsNumbered (schema_at bases.now) base }
+    ensures { IfOk result (λ f. (d : Domain) → IsDomain (schema_at bases.now) d
+        → f ≡ misfit (schema_at bases.now) d (target_of (schema_at bases.now) targets.now)
+        (base_seen (schema_at bases.now) base) (node_value node.now)) }
 {
     match node {
         Node::Unset => Ok(Some(FindingKind::MissingValue)),
@@ -82,17 +82,17 @@ fn misfit_node(
 #[cycle(fits)]
 fn misfit_list(
     alloc: Global,
-    bases: Bases<'_, '_, '_>,
-    targets: Targets<'_>,
+    bases: &Bases<'_, '_, '_>,
+    targets: &Targets<'_>,
     base: Base,
     params: &Params<'_>,
 ) -> Result<Option<FindingKind>, AllocError>
-    requires bases { AreBases bases }
-    requires targets { AreTargets (schema_at bases) targets }
-    requires numbered { IsNumbered (schema_at bases) base }
-    ensures { IfOk result (λ f. (d : Domain) → IsDomain (schema_at bases.entry) d
-        → f ≡ misfit (schema_at bases.entry) d (target_of (schema_at bases.entry) targets.entry)
-        (base_seen (schema_at bases.entry) base) (group (all_of params.now))) }
+    requires bases { AreBases bases.now }
+    requires targets { AreTargets (schema_at bases.now) targets.now }
+    requires numbered { IsNumbered (schema_at bases.now) base }
+    ensures { IfOk result (λ f. (d : Domain) → IsDomain (schema_at bases.now) d
+        → f ≡ misfit (schema_at bases.now) d (target_of (schema_at bases.now) targets.now)
+        (base_seen (schema_at bases.now) base) (group (all_of params.now))) }
 {
     let Base::Aggregate(aggregate) = base else {
         return Ok(Some(other_kind(base)));
@@ -120,19 +120,19 @@ fn misfit_list(
 #[cycle(fits)]
 fn misfit_each(
     alloc: Global,
-    bases: Bases<'_, '_, '_>,
-    targets: Targets<'_>,
+    bases: &Bases<'_, '_, '_>,
+    targets: &Targets<'_>,
     is_optional: bool,
     base: Base,
     params: &Params<'_>,
 ) -> Result<Option<FindingKind>, AllocError>
-    requires bases { AreBases bases }
-    requires targets { AreTargets (schema_at bases) targets }
-    requires numbered { IsNumbered (schema_at bases) base }
-    ensures { IfOk result (λ f. (d : Domain) → IsDomain (schema_at bases.entry) d
-        → f ≡ misfit_each (schema_at bases.entry) d
-        (target_of (schema_at bases.entry) targets.entry)
-        is_optional (base_seen (schema_at bases.entry) base) (all_of params.now)) }
+    requires bases { AreBases bases.now }
+    requires targets { AreTargets (schema_at bases.now) targets.now }
+    requires numbered { IsNumbered (schema_at bases.now) base }
+    ensures { IfOk result (λ f. (d : Domain) → IsDomain (schema_at bases.now) d
+        → f ≡ misfit_each (schema_at bases.now) d
+        (target_of (schema_at bases.now) targets.now)
+        is_optional (base_seen (schema_at bases.now) base) (all_of params.now)) }
 {
     for i in 0..params.len() {
         let found = misfit_one(alloc, bases, targets, is_optional, base, &params.at(i))?;
@@ -147,19 +147,19 @@ fn misfit_each(
 #[cycle(fits)]
 fn misfit_one(
     alloc: Global,
-    bases: Bases<'_, '_, '_>,
-    targets: Targets<'_>,
+    bases: &Bases<'_, '_, '_>,
+    targets: &Targets<'_>,
     is_optional: bool,
     base: Base,
     param: &Param<'_>,
 ) -> Result<Option<FindingKind>, AllocError>
-    requires bases { AreBases bases }
-    requires targets { AreTargets (schema_at bases) targets }
-    requires numbered { IsNumbered (schema_at bases) base }
-    ensures { IfOk result (λ f. (d : Domain) → IsDomain (schema_at bases.entry) d
+    requires bases { AreBases bases.now }
+    requires targets { AreTargets (schema_at bases.now) targets.now }
+    requires numbered { IsNumbered (schema_at bases.now) base }
+    ensures { IfOk result (λ f. (d : Domain) → IsDomain (schema_at bases.now) d
         → f ≡ cond (is_optional && is_dollar param.now) None
-        (misfit (schema_at bases.entry) d (target_of (schema_at bases.entry) targets.entry)
-        (base_seen (schema_at bases.entry) base) param.now)) }
+        (misfit (schema_at bases.now) d (target_of (schema_at bases.now) targets.now)
+        (base_seen (schema_at bases.now) base) param.now)) }
 {
     if is_optional && is_dollar(param) {
         return Ok(None);

@@ -15,13 +15,13 @@ use base_types::lookup::Bases;
 use step_literals::literal::Word;
 
 /// What a typed parameter with this keyword has inside; none where no such one may stand.
-pub fn item(bases: Bases<'_, '_, '_>, base: Base, word: Word<'_>) -> Option<Base>
-    requires bases { AreBases bases }
-    requires numbered { IsNumbered (schema_at bases) base }
-    ensures numbered { IfSome result (IsNumbered (schema_at bases.entry)) }
-    ensures says { (d : Domain) → IsDomain (schema_at bases.entry) d
-        → option_map (base_seen (schema_at bases.entry)) result
-        ≡ inner (schema_at bases.entry) d (base_seen (schema_at bases.entry) base)
+pub fn item(bases: &Bases<'_, '_, '_>, base: Base, word: Word<'_>) -> Option<Base>
+    requires bases { AreBases bases.now }
+    requires numbered { IsNumbered (schema_at bases.now) base }
+    ensures numbered { IfSome result (IsNumbered (schema_at bases.now)) }
+    ensures says { (d : Domain) → IsDomain (schema_at bases.now) d
+        → option_map (base_seen (schema_at bases.now)) result
+        ≡ inner (schema_at bases.now) d (base_seen (schema_at bases.now) base)
         (upper word.entry.text.now) }
 {
     match base {
@@ -31,13 +31,13 @@ pub fn item(bases: Bases<'_, '_, '_>, base: Base, word: Word<'_>) -> Option<Base
 }
 
 /// What the elements of a list are; what it is itself where it is no aggregate.
-pub fn element(bases: Bases<'_, '_, '_>, base: Base) -> Base
-    requires bases { AreBases bases }
-    requires numbered { IsNumbered (schema_at bases) base }
-    ensures numbered { IsNumbered (schema_at bases.entry) result }
-    ensures says { (d : Domain) → IsDomain (schema_at bases.entry) d
-        → base_seen (schema_at bases.entry) result
-        ≡ element (schema_at bases.entry) d (base_seen (schema_at bases.entry) base) }
+pub fn element(bases: &Bases<'_, '_, '_>, base: Base) -> Base
+    requires bases { AreBases bases.now }
+    requires numbered { IsNumbered (schema_at bases.now) base }
+    ensures numbered { IsNumbered (schema_at bases.now) result }
+    ensures says { (d : Domain) → IsDomain (schema_at bases.now) d
+        → base_seen (schema_at bases.now) result
+        ≡ element (schema_at bases.now) d (base_seen (schema_at bases.now) base) }
 {
     match base {
         Base::Aggregate(aggregate) => bases.of_number(aggregate.element),

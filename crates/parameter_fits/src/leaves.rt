@@ -129,8 +129,8 @@ fn is_among(word: Word<'_>, words: &[Word<'_>]) -> bool
 }
 
 /// Whether the enumeration that is declared at a number has an item.
-fn has_item(bases: Bases<'_, '_, '_>, number: u32, word: Word<'_>) -> bool
-    ensures { result ≡ among (upper word.entry.text.now) (items_at (schema_at bases.entry) number) }
+fn has_item(bases: &Bases<'_, '_, '_>, number: u32, word: Word<'_>) -> bool
+    ensures { result ≡ among (upper word.entry.text.now) (items_at (schema_at bases.now) number) }
 {
     match bases.names.schema.declarations.get(number as usize) {
         Some(declaration) => is_among(word, items_in(declaration)),
@@ -139,8 +139,8 @@ fn has_item(bases: Bases<'_, '_, '_>, number: u32, word: Word<'_>) -> bool
 }
 
 /// The finding of an element of an enumeration.
-pub fn misfit_element(bases: Bases<'_, '_, '_>, base: Base, word: Word<'_>) -> Option<FindingKind>
-    ensures { result ≡ misfit_element (base_seen (schema_at bases.entry) base)
+pub fn misfit_element(bases: &Bases<'_, '_, '_>, base: Base, word: Word<'_>) -> Option<FindingKind>
+    ensures { result ≡ misfit_element (base_seen (schema_at bases.now) base)
         (upper word.entry.text.now) }
 {
     match base {

@@ -27,15 +27,15 @@ use step_values::normal::Normal;
 #[cycle(normals)]
 pub fn normal_value<'t>(
     alloc: Global,
-    bases: Bases<'_, '_, '_>,
+    bases: &Bases<'_, '_, '_>,
     base: Base,
     param: &Param<'t>,
 ) -> Result<Normal<'t>, AllocError>
-    requires bases { AreBases bases }
-    requires numbered { IsNumbered (schema_at bases) base }
-    ensures { IfOk result (λ n. (d : Domain) → IsDomain (schema_at bases.entry) d
-        → IsNormal (by_name (value_as (schema_at bases.entry) d
-        (base_seen (schema_at bases.entry) base) param.now)) n) }
+    requires bases { AreBases bases.now }
+    requires numbered { IsNumbered (schema_at bases.now) base }
+    ensures { IfOk result (λ n. (d : Domain) → IsDomain (schema_at bases.now) d
+        → IsNormal (by_name (value_as (schema_at bases.now) d
+        (base_seen (schema_at bases.now) base) param.now)) n) }
 {
     normal_node(alloc, bases, base, &param.node())
 }
@@ -44,15 +44,15 @@ pub fn normal_value<'t>(
 #[cycle(normals)]
 fn normal_node<'t>(
     alloc: Global,
-    bases: Bases<'_, '_, '_>,
+    bases: &Bases<'_, '_, '_>,
     base: Base,
     node: &Node<'t>,
 ) -> Result<Normal<'t>, AllocError>
-    requires bases { AreBases bases }
-    requires numbered { IsNumbered (schema_at bases) base }
-    ensures { IfOk result (λ n. (d : Domain) → IsDomain (schema_at bases.entry) d
-        → IsNormal (by_name (value_as (schema_at bases.entry) d
-        (base_seen (schema_at bases.entry) base) (node_value node.now))) n) }
+    requires bases { AreBases bases.now }
+    requires numbered { IsNumbered (schema_at bases.now) base }
+    ensures { IfOk result (λ n. (d : Domain) → IsDomain (schema_at bases.now) d
+        → IsNormal (by_name (value_as (schema_at bases.now) d
+        (base_seen (schema_at bases.now) base) (node_value node.now))) n) }
 {
     match node {
         Node::Unset | Node::Keyword(_) => Ok(Normal::Unset),
@@ -92,15 +92,15 @@ fn gathered<'t>(base: Base, forms: Vec<Normal<'t>>) -> Normal<'t>
 #[cycle(normals)]
 fn normal_values<'t>(
     alloc: Global,
-    bases: Bases<'_, '_, '_>,
+    bases: &Bases<'_, '_, '_>,
     base: Base,
     params: &Params<'t>,
 ) -> Result<Vec<Normal<'t>>, AllocError>
-    requires bases { AreBases bases }
-    requires numbered { IsNumbered (schema_at bases) base }
-    ensures { IfOk result (λ ns. (d : Domain) → IsDomain (schema_at bases.entry) d
-        → AreNormal (each_by_name (values_as (schema_at bases.entry) d
-        (base_seen (schema_at bases.entry) base) (all_of params.now))) ns.items) }
+    requires bases { AreBases bases.now }
+    requires numbered { IsNumbered (schema_at bases.now) base }
+    ensures { IfOk result (λ ns. (d : Domain) → IsDomain (schema_at bases.now) d
+        → AreNormal (each_by_name (values_as (schema_at bases.now) d
+        (base_seen (schema_at bases.now) base) (all_of params.now))) ns.items) }
 {
     let mut forms = Vec::with_capacity(alloc, params.len())?;
     for i in 0..params.len() {

@@ -53,9 +53,9 @@ pub enum Target<'r> {
 
 impl<'r> Targets<'r> {
     /// What the instances of a form are.
-    fn of_form(self, form: u32) -> Target<'r>
-        ensures led { (s : Schema) → target_seen s result ≡ of_form s self.entry (Some form) }
-        ensures numbered { (s : Schema) → AreTargets s self.entry → IsLed s result }
+    fn of_form(&self, form: u32) -> Target<'r>
+        ensures led { (s : Schema) → target_seen s result ≡ of_form s self.now (Some form) }
+        ensures numbered { (s : Schema) → AreTargets s self.now → IsLed s result }
     {
         match self.types.get(form as usize) {
             Some(types) => Target::OfTypes(types),
@@ -64,10 +64,10 @@ impl<'r> Targets<'r> {
     }
 
     /// What the instance of a row is.
-    fn of_row(self, row: u32) -> Target<'r>
+    fn of_row(&self, row: u32) -> Target<'r>
         ensures led { (s : Schema)
-            → target_seen s result ≡ of_row s self.entry (slice_get self.entry.forms.now row) }
-        ensures numbered { (s : Schema) → AreTargets s self.entry → IsLed s result }
+            → target_seen s result ≡ of_row s self.now (slice_get self.now.forms.now row) }
+        ensures numbered { (s : Schema) → AreTargets s self.now → IsLed s result }
     {
         match self.forms.get(row as usize).copied() {
             Some(Some(form)) => self.of_form(form),
@@ -76,9 +76,9 @@ impl<'r> Targets<'r> {
     }
 
     /// What the reference of a name leads to.
-    pub fn target(self, name: u64) -> Target<'r>
-        ensures led { (s : Schema) → target_seen s result ≡ target_of s self.entry name }
-        ensures numbered { (s : Schema) → AreTargets s self.entry → IsLed s result }
+    pub fn target(&self, name: u64) -> Target<'r>
+        ensures led { (s : Schema) → target_seen s result ≡ target_of s self.now name }
+        ensures numbered { (s : Schema) → AreTargets s self.now → IsLed s result }
     {
         match self.index.find(name) {
             Some(row) => self.of_row(row),
@@ -96,12 +96,12 @@ fn is_among(number: u32, numbers: &[u32]) -> bool
 }
 
 /// Whether a SELECT takes one of these entities.
-fn takes_one(bases: Bases<'_, '_, '_>, number: u32, types: &[u32]) -> bool
-    requires bases { AreBases bases }
-    requires numbered { AreNumbered (schema_at bases) types.now }
-    ensures { (d : Domain) → IsDomain (schema_at bases.entry) d → (m : Name)
-        → HasNumber (schema_at bases.entry) m number
-        → result ≡ list_any (d.is_item m) (map (name_at (schema_at bases.entry)) types.now) }
+fn takes_one(bases: &Bases<'_, '_, '_>, number: u32, types: &[u32]) -> bool
+    requires bases { AreBases bases.now }
+    requires numbered { AreNumbered (schema_at bases.now) types.now }
+    ensures { (d : Domain) → IsDomain (schema_at bases.now) d → (m : Name)
+        → HasNumber (schema_at bases.now) m number
+        → result ≡ list_any (d.is_item m) (map (name_at (schema_at bases.now)) types.now) }
 {
     for entity in types {
         if bases.takes(number, *entity) {
@@ -125,13 +125,13 @@ fn misfit_entity(entity: u32, target: Target<'_>) -> Option<FindingKind>
 }
 
 /// The finding of a reference that stands for a SELECT.
-fn misfit_select(bases: Bases<'_, '_, '_>, number: u32, target: Target<'_>) -> Option<FindingKind>
-    requires bases { AreBases bases }
-    requires led { IsLed (schema_at bases) target }
-    ensures { (d : Domain) → IsDomain (schema_at bases.entry) d → (m : Name)
-        → HasNumber (schema_at bases.entry) m number
+fn misfit_select(bases: &Bases<'_, '_, '_>, number: u32, target: Target<'_>) -> Option<FindingKind>
+    requires bases { AreBases bases.now }
+    requires led { IsLed (schema_at bases.now) target }
+    ensures { (d : Domain) → IsDomain (schema_at bases.now) d → (m : Name)
+        → HasNumber (schema_at bases.now) m number
         → result ≡ misfit_target (d.is_item m) NoSelectItem
-        (target_seen (schema_at bases.entry) target.entry) }
+        (target_seen (schema_at bases.now) target.entry) }
 {
     match target {
         Target::Absent => Some(FindingKind::DanglingReference),
@@ -144,17 +144,17 @@ fn misfit_select(bases: Bases<'_, '_, '_>, number: u32, target: Target<'_>) -> O
 
 /// The finding of a reference, by what it leads to.
 pub fn misfit_reference(
-    bases: Bases<'_, '_, '_>,
+    bases: &Bases<'_, '_, '_>,
     base: Base,
     target: Target<'_>,
 ) -> Option<FindingKind>
-    requires bases { AreBases bases }
-    requires numbered { IsNumbered (schema_at bases) base }
-    requires led { IsLed (schema_at bases) target }
-    ensures { (d : Domain) → IsDomain (schema_at bases.entry) d
-        → result ≡ misfit_reference (schema_at bases.entry) d
-        (base_seen (schema_at bases.entry) base)
-        (target_seen (schema_at bases.entry) target.entry) }
+    requires bases { AreBases bases.now }
+    requires numbered { IsNumbered (schema_at bases.now) base }
+    requires led { IsLed (schema_at bases.now) target }
+    ensures { (d : Domain) → IsDomain (schema_at bases.now) d
+        → result ≡ misfit_reference (schema_at bases.now) d
+        (base_seen (schema_at bases.now) base)
+        (target_seen (schema_at bases.now) target.entry) }
 {
     match base {
         Base::Entity(entity) => misfit_entity(entity, target),

@@ -28,19 +28,19 @@ use step_values::row_builder::RowBuilder;
 #[cycle(values)]
 pub fn push_value<'t: 'a, 'a>(
     builder: &mut RowBuilder<'_, 'a>,
-    bases: Bases<'_, '_, '_>,
+    bases: &Bases<'_, '_, '_>,
     base: Base,
     index: &RowIndex,
     param: &Param<'t>,
 ) -> Result<(), AllocError>
-    requires bases { AreBases bases }
-    requires numbered { IsNumbered (schema_at bases) base }
+    requires bases { AreBases bases.now }
+    requires numbered { IsNumbered (schema_at bases.now) base }
     requires indexed { AreFound builder.old.names (found index.now) }
     requires within { RefersWithin (found index.now) param.now }
     ensures { MatchResult result
-        (λ _. (d : Domain) → IsDomain (schema_at bases.entry) d
+        (λ _. (d : Domain) → IsDomain (schema_at bases.now) d
         → Pushes builder.old builder.new
-        (value_as (schema_at bases.entry) d (base_seen (schema_at bases.entry) base) param.now))
+        (value_as (schema_at bases.now) d (base_seen (schema_at bases.now) base) param.now))
         (λ _. builder.new.names ≡ builder.old.names) }
 {
     push_node(builder, bases, base, index, &param.node())
@@ -50,19 +50,19 @@ pub fn push_value<'t: 'a, 'a>(
 #[cycle(values)]
 fn push_node<'t: 'a, 'a>(
     builder: &mut RowBuilder<'_, 'a>,
-    bases: Bases<'_, '_, '_>,
+    bases: &Bases<'_, '_, '_>,
     base: Base,
     index: &RowIndex,
     node: &Node<'t>,
 ) -> Result<(), AllocError>
-    requires bases { AreBases bases }
-    requires numbered { IsNumbered (schema_at bases) base }
+    requires bases { AreBases bases.now }
+    requires numbered { IsNumbered (schema_at bases.now) base }
     requires indexed { AreFound builder.old.names (found index.now) }
     requires within { RefersWithin (found index.now) (node_value node.now) }
     ensures { MatchResult result
-        (λ _. (d : Domain) → IsDomain (schema_at bases.entry) d
+        (λ _. (d : Domain) → IsDomain (schema_at bases.now) d
         → Pushes builder.old builder.new
-        (value_as (schema_at bases.entry) d (base_seen (schema_at bases.entry) base)
+        (value_as (schema_at bases.now) d (base_seen (schema_at bases.now) base)
         (node_value node.now)))
         (λ _. builder.new.names ≡ builder.old.names) }
 {
@@ -107,19 +107,19 @@ pub fn push_reference(
 #[cycle(values)]
 fn push_list<'t: 'a, 'a>(
     builder: &mut RowBuilder<'_, 'a>,
-    bases: Bases<'_, '_, '_>,
+    bases: &Bases<'_, '_, '_>,
     base: Base,
     index: &RowIndex,
     params: &Params<'t>,
 ) -> Result<(), AllocError>
-    requires bases { AreBases bases }
-    requires numbered { IsNumbered (schema_at bases) base }
+    requires bases { AreBases bases.now }
+    requires numbered { IsNumbered (schema_at bases.now) base }
     requires indexed { AreFound builder.old.names (found index.now) }
     requires within { ReferWithin (found index.now) (all_of params.now) }
     ensures { MatchResult result
-        (λ _. (d : Domain) → IsDomain (schema_at bases.entry) d
+        (λ _. (d : Domain) → IsDomain (schema_at bases.now) d
         → Pushes builder.old builder.new
-        (value_as (schema_at bases.entry) d (base_seen (schema_at bases.entry) base)
+        (value_as (schema_at bases.now) d (base_seen (schema_at bases.now) base)
         (group (all_of params.now))))
         (λ _. builder.new.names ≡ builder.old.names) }
 {
@@ -136,19 +136,19 @@ fn push_list<'t: 'a, 'a>(
 #[cycle(values)]
 fn push_each<'t: 'a, 'a>(
     builder: &mut RowBuilder<'_, 'a>,
-    bases: Bases<'_, '_, '_>,
+    bases: &Bases<'_, '_, '_>,
     base: Base,
     index: &RowIndex,
     params: &Params<'t>,
 ) -> Result<(), AllocError>
-    requires bases { AreBases bases }
-    requires numbered { IsNumbered (schema_at bases) base }
+    requires bases { AreBases bases.now }
+    requires numbered { IsNumbered (schema_at bases.now) base }
     requires indexed { AreFound builder.old.names (found index.now) }
     requires within { ReferWithin (found index.now) (all_of params.now) }
     ensures { MatchResult result
-        (λ _. (d : Domain) → IsDomain (schema_at bases.entry) d
+        (λ _. (d : Domain) → IsDomain (schema_at bases.now) d
         → PushesEach builder.old builder.new
-        (values_as (schema_at bases.entry) d (base_seen (schema_at bases.entry) base)
+        (values_as (schema_at bases.now) d (base_seen (schema_at bases.now) base)
         (all_of params.now)))
         (λ _. builder.new.names ≡ builder.old.names) }
 {

@@ -59,11 +59,11 @@ fn holder<'a>(inverse: &Inverse<'a>) -> Word<'a>
 }
 
 /// The number of the explicit attribute that an inverse attribute inverts.
-fn inverted_place(sources: Sources<'_, '_, '_>, inverse: &Inverse<'_>) -> u32
-    requires sources { AreSources sources }
-    requires known { IsKnownInverse (schema_at sources) (inverse_of inverse.now) }
-    ensures { (p : Name) × IsInverted (schema_at sources.entry) (inverse_of inverse.now) p
-        × HasPlace (schema_at sources.entry) (p, capitals inverse.now.inverted) result }
+fn inverted_place(sources: &Sources<'_, '_, '_>, inverse: &Inverse<'_>) -> u32
+    requires sources { AreSources sources.now }
+    requires known { IsKnownInverse (schema_at sources.now) (inverse_of inverse.now) }
+    ensures { (p : Name) × IsInverted (schema_at sources.now) (inverse_of inverse.now) p
+        × HasPlace (schema_at sources.now) (p, capitals inverse.now.inverted) result }
 {
     let names = sources.known.tables.names;
     let holder = entity_number(names, holder(inverse));
@@ -73,16 +73,16 @@ fn inverted_place(sources: Sources<'_, '_, '_>, inverse: &Inverse<'_>) -> u32
 
 /// The row of an inverse attribute of this name.
 fn inverse_attribute<'a>(
-    sources: Sources<'_, '_, 'a>,
+    sources: &Sources<'_, '_, 'a>,
     entity: u32,
     name: Word<'a>,
     inverse: &Inverse<'a>,
 ) -> InverseAttribute<'a>
-    requires sources { AreSources sources }
-    requires known { IsKnownInverse (schema_at sources) (inverse_of inverse.now) }
+    requires sources { AreSources sources.now }
+    requires known { IsKnownInverse (schema_at sources.now) (inverse_of inverse.now) }
     requires name { (inverse_of inverse.now).attribute ≡ own (capitals name) }
-    ensures { (e : EntityTree) → IsAt (schema_at sources.entry) entity (entity_tree e)
-        → IsInverse (schema_at sources.entry) (e.name, inverse_of inverse.now) result }
+    ensures { (e : EntityTree) → IsAt (schema_at sources.now) entity (entity_tree e)
+        → IsInverse (schema_at sources.now) (e.name, inverse_of inverse.now) result }
 {
     InverseAttribute {
         entity,
@@ -97,14 +97,14 @@ fn inverse_attribute<'a>(
 /// (ISO 10303-11, 9.2.3.4).
 fn add_inverse<'a>(
     attributes: &mut Vec<InverseAttribute<'a>>,
-    sources: Sources<'_, '_, 'a>,
+    sources: &Sources<'_, '_, 'a>,
     entity: u32,
     inverse: &Inverse<'a>,
 ) -> Result<(), AllocError>
-    requires sources { AreSources sources }
-    requires declared { HasInverse (schema_at sources) entity (inverse_of inverse.now) }
-    ensures { OnOk result ((e : EntityTree) → IsAt (schema_at sources.entry) entity (entity_tree e)
-        → Adds (IsInverse (schema_at sources.entry))
+    requires sources { AreSources sources.now }
+    requires declared { HasInverse (schema_at sources.now) entity (inverse_of inverse.now) }
+    ensures { OnOk result ((e : EntityTree) → IsAt (schema_at sources.now) entity (entity_tree e)
+        → Adds (IsInverse (schema_at sources.now))
         (inverses_of e.name (inverse_of inverse.now ∷ [])) attributes.old.items
         attributes.new.items) }
 {
@@ -118,15 +118,15 @@ fn add_inverse<'a>(
 /// Adds those of the entity of this number.
 fn add_inverses<'a>(
     attributes: &mut Vec<InverseAttribute<'a>>,
-    sources: Sources<'_, '_, 'a>,
+    sources: &Sources<'_, '_, 'a>,
     entity: u32,
     inverses: &[Inverse<'a>],
 ) -> Result<(), AllocError>
-    requires sources { AreSources sources }
-    requires declared { (e : EntityTree) × IsAt (schema_at sources) entity (entity_tree e)
+    requires sources { AreSources sources.now }
+    requires declared { (e : EntityTree) × IsAt (schema_at sources.now) entity (entity_tree e)
         × (map inverse_of inverses.now ≡ listed e.inverses) }
-    ensures { OnOk result ((e : EntityTree) → IsAt (schema_at sources.entry) entity (entity_tree e)
-        → Adds (IsInverse (schema_at sources.entry)) (inverses_of e.name
+    ensures { OnOk result ((e : EntityTree) → IsAt (schema_at sources.now) entity (entity_tree e)
+        → Adds (IsInverse (schema_at sources.now)) (inverses_of e.name
         (map inverse_of inverses.now)) attributes.old.items attributes.new.items) }
 {
     for inverse in inverses {
@@ -138,13 +138,13 @@ fn add_inverses<'a>(
 /// Adds those of the declaration of this number; what is no entity has none.
 fn add_declaration<'a>(
     attributes: &mut Vec<InverseAttribute<'a>>,
-    sources: Sources<'_, '_, 'a>,
+    sources: &Sources<'_, '_, 'a>,
     number: u32,
     declaration: &Declaration<'a>,
 ) -> Result<(), AllocError>
-    requires sources { AreSources sources }
-    requires at { IsAt (schema_at sources) number (declaration_of declaration.now) }
-    ensures { OnOk result (Adds (IsInverse (schema_at sources.entry))
+    requires sources { AreSources sources.now }
+    requires at { IsAt (schema_at sources.now) number (declaration_of declaration.now) }
+    ensures { OnOk result (Adds (IsInverse (schema_at sources.now))
         (of_entity inverses_by (declaration_of declaration.now)) attributes.old.items
         attributes.new.items) }
 {
@@ -159,14 +159,14 @@ fn add_declaration<'a>(
 /// Adds those of all declarations, in the order of the text.
 fn add_all<'a>(
     attributes: &mut Vec<InverseAttribute<'a>>,
-    sources: Sources<'_, '_, 'a>,
+    sources: &Sources<'_, '_, 'a>,
     declarations: &[Declaration<'a>],
 ) -> Result<(), AllocError>
-    requires sources { AreSources sources }
+    requires sources { AreSources sources.now }
     requires few { length declarations.now < 2 ^ 32 }
-    requires all { map declaration_of declarations.now ≡ (schema_at sources).declarations }
-    ensures { OnOk result (Adds (IsInverse (schema_at sources.entry))
-        (declared_inverses (schema_at sources.entry)) attributes.old.items attributes.new.items) }
+    requires all { map declaration_of declarations.now ≡ (schema_at sources.now).declarations }
+    ensures { OnOk result (Adds (IsInverse (schema_at sources.now))
+        (declared_inverses (schema_at sources.now)) attributes.old.items attributes.new.items) }
 {
     for i in 0..declarations.len() {
         add_declaration(attributes, sources, i as u32, &declarations[i])?;
@@ -181,14 +181,14 @@ fn add_all<'a>(
 /// by the attributes of the one that declares it. An error says that memory ran out.
 pub fn inverse_attributes<'a>(
     alloc: Global,
-    sources: Sources<'_, '_, 'a>,
+    sources: &Sources<'_, '_, 'a>,
 ) -> Result<Vec<InverseAttribute<'a>>, AllocError>
-    requires sources { AreSources sources }
-    ensures seen { IfOk result (λ t. (d : Domain) → IsDomain (schema_at sources.entry) d
-        → InTurn (IsInverseAttribute (schema_at sources.entry) d)
-        (declared_inverses (schema_at sources.entry))
-        (map (inverse_seen (schema_at sources.entry)) t.items)) }
-    ensures numbered { IfOk result (λ t. Every (IsNumberedInverse (schema_at sources.entry))
+    requires sources { AreSources sources.now }
+    ensures seen { IfOk result (λ t. (d : Domain) → IsDomain (schema_at sources.now) d
+        → InTurn (IsInverseAttribute (schema_at sources.now) d)
+        (declared_inverses (schema_at sources.now))
+        (map (inverse_seen (schema_at sources.now)) t.items)) }
+    ensures numbered { IfOk result (λ t. Every (IsNumberedInverse (schema_at sources.now))
         t.items) }
 {
     let mut attributes = Vec::new(alloc);

@@ -30,14 +30,14 @@ fn single(alloc: Global, number: u32) -> Result<Vec<u32>, AllocError>
 /// each of which it inherits the attribute.
 fn meant_of_group(
     alloc: Global,
-    known: Known<'_, '_, '_>,
+    known: &Known<'_, '_, '_>,
     group: u32,
     name: Word<'_>,
 ) -> Result<Vec<u32>, AllocError>
-    requires known { IsKnown known }
-    ensures { (e q : Name) → HasNumber (schema_in known.entry) q group
-        → IfOk result (λ t. AreNumbersOf (schema_in known.entry)
-        (λ p. MeansAttribute (schema_in known.entry) e (redeclared q (capitals name.entry)) p
+    requires known { IsKnown known.now }
+    ensures { (e q : Name) → HasNumber (schema_in known.now) q group
+        → IfOk result (λ t. AreNumbersOf (schema_in known.now)
+        (λ p. MeansAttribute (schema_in known.now) e (redeclared q (capitals name.entry)) p
         (capitals name.entry)) t.items) }
 {
     let row = holders(alloc, known, group, name)?;
@@ -50,14 +50,14 @@ fn meant_of_group(
 /// The numbers of the entities that declare what an attribute in a rule of an entity means.
 pub(crate) fn meant(
     alloc: Global,
-    known: Known<'_, '_, '_>,
+    known: &Known<'_, '_, '_>,
     entity: u32,
     attribute: Attribute<'_>,
 ) -> Result<Vec<u32>, AllocError>
-    requires known { IsKnown known }
-    ensures { (e : Name) → HasNumber (schema_in known.entry) e entity
-        → IfOk result (λ t. AreNumbersOf (schema_in known.entry)
-        (λ p. MeansAttribute (schema_in known.entry) e (attribute_of attribute.entry) p
+    requires known { IsKnown known.now }
+    ensures { (e : Name) → HasNumber (schema_in known.now) e entity
+        → IfOk result (λ t. AreNumbersOf (schema_in known.now)
+        (λ p. MeansAttribute (schema_in known.now) e (attribute_of attribute.entry) p
         (capitals (name_of attribute.entry))) t.items) }
 {
     match attribute {

@@ -57,11 +57,11 @@ fn first_named(places: &[Place<'_>], row: &[u32], name: Word<'_>) -> Option<u32>
 
 /// The number of the explicit attribute of this name that the entity of a number declares itself;
 /// none where it declares none (ISO 10303-11, 9.2.1.1).
-pub(crate) fn own_place(sources: Sources<'_, '_, '_>, entity: u32, name: Word<'_>) -> Option<u32>
-    requires sources { AreSources sources }
-    ensures { (p : Name) → IsEntity (schema_at sources.entry) p
-        → HasNumber (schema_at sources.entry) p entity
-        → IsNumberOf (schema_at sources.entry) (p, capitals name.entry) result }
+pub(crate) fn own_place(sources: &Sources<'_, '_, '_>, entity: u32, name: Word<'_>) -> Option<u32>
+    requires sources { AreSources sources.now }
+    ensures { (p : Name) → IsEntity (schema_at sources.now) p
+        → HasNumber (schema_at sources.now) p entity
+        → IsNumberOf (schema_at sources.now) (p, capitals name.entry) result }
 {
     first_named(sources.places, row_of(sources.own, entity), name)
 }

@@ -25,12 +25,12 @@ pub struct RuleTables<'a> {
 /// out.
 pub fn rule_tables<'a>(
     alloc: Global,
-    sources: Sources<'_, '_, 'a>,
+    sources: &Sources<'_, '_, 'a>,
 ) -> Result<RuleTables<'a>, AllocError>
-    requires sources { AreSources sources }
-    ensures rules { IfOk result (λ t. (d : Domain) → IsDomain (schema_at sources.entry) d
-        → AreRules (schema_at sources.entry) d (rules_seen (schema_at sources.entry) t)) }
-    ensures numbered { IfOk result (AreNumbered (schema_at sources.entry)) }
+    requires sources { AreSources sources.now }
+    ensures rules { IfOk result (λ t. (d : Domain) → IsDomain (schema_at sources.now) d
+        → AreRules (schema_at sources.now) d (rules_seen (schema_at sources.now) t)) }
+    ensures numbered { IfOk result (AreNumbered (schema_at sources.now)) }
 {
     let uniques = unique_rules(alloc, sources)?;
     let inverses = inverse_attributes(alloc, sources)?;

@@ -76,14 +76,14 @@ fn add_number(numbers: &mut Vec<u32>, number: Option<u32>) -> Result<(), AllocEr
 /// Adds the numbers of the explicit attributes of this name that these entities declare themselves.
 fn add_declared(
     places: &mut Vec<u32>,
-    sources: Sources<'_, '_, '_>,
+    sources: &Sources<'_, '_, '_>,
     entities: &[u32],
     name: Word<'_>,
 ) -> Result<(), AllocError>
-    requires sources { AreSources sources }
-    requires entities { AreEntities (schema_at sources) entities.now }
-    ensures { OnOk result (AddsPlaces (schema_at sources.entry)
-        (IsDeclaredBy (schema_at sources.entry) (capitals name.entry) entities.now)
+    requires sources { AreSources sources.now }
+    requires entities { AreEntities (schema_at sources.now) entities.now }
+    ensures { OnOk result (AddsPlaces (schema_at sources.now)
+        (IsDeclaredBy (schema_at sources.now) (capitals name.entry) entities.now)
         places.old.items places.new.items) }
 {
     for entity in entities {
@@ -97,20 +97,20 @@ fn add_declared(
 fn add_named(
     alloc: Global,
     places: &mut Vec<u32>,
-    sources: Sources<'_, '_, '_>,
+    sources: &Sources<'_, '_, '_>,
     entity: u32,
     attribute: Attribute<'_>,
 ) -> Result<(), AllocError>
-    requires sources { AreSources sources }
-    requires entity { (e : Name) × HasNumber (schema_at sources) e entity
-        × IsEntity (schema_at sources) e }
-    ensures { (e : Name) → HasNumber (schema_at sources.entry) e entity
-        → IsEntity (schema_at sources.entry) e
-        → OnOk result (AddsPlaces (schema_at sources.entry)
-        (NamesPlace (schema_at sources.entry) e (attribute_of attribute.entry))
+    requires sources { AreSources sources.now }
+    requires entity { (e : Name) × HasNumber (schema_at sources.now) e entity
+        × IsEntity (schema_at sources.now) e }
+    ensures { (e : Name) → HasNumber (schema_at sources.now) e entity
+        → IsEntity (schema_at sources.now) e
+        → OnOk result (AddsPlaces (schema_at sources.now)
+        (NamesPlace (schema_at sources.now) e (attribute_of attribute.entry))
         places.old.items places.new.items) }
 {
-    let entities = meant(alloc, sources.known, entity, attribute)?;
+    let entities = meant(alloc, &sources.known, entity, attribute)?;
     add_declared(places, sources, &entities, attribute.name())
 }
 
@@ -118,17 +118,17 @@ fn add_named(
 /// mean. A number may come again.
 fn places_of(
     alloc: Global,
-    sources: Sources<'_, '_, '_>,
+    sources: &Sources<'_, '_, '_>,
     entity: u32,
     attributes: &[Attribute<'_>],
 ) -> Result<Vec<u32>, AllocError>
-    requires sources { AreSources sources }
-    requires entity { (e : Name) × HasNumber (schema_at sources) e entity
-        × IsEntity (schema_at sources) e }
-    ensures { (e : Name) → HasNumber (schema_at sources.entry) e entity
-        → IsEntity (schema_at sources.entry) e
-        → IfOk result (λ t. ArePlacesOf (schema_at sources.entry)
-        (λ p. OneOf (λ x. NamesPlace (schema_at sources.entry) e x p)
+    requires sources { AreSources sources.now }
+    requires entity { (e : Name) × HasNumber (schema_at sources.now) e entity
+        × IsEntity (schema_at sources.now) e }
+    ensures { (e : Name) → HasNumber (schema_at sources.now) e entity
+        → IsEntity (schema_at sources.now) e
+        → IfOk result (λ t. ArePlacesOf (schema_at sources.now)
+        (λ p. OneOf (λ x. NamesPlace (schema_at sources.now) e x p)
         (map attribute_of attributes.now)) t.items) }
 {
     let mut places = Vec::new(alloc);
@@ -149,18 +149,18 @@ fn is_checked(naming: Naming) -> bool
 /// The row of a rule, by its number in its clause.
 fn unique_rule<'a>(
     alloc: Global,
-    sources: Sources<'_, '_, 'a>,
+    sources: &Sources<'_, '_, 'a>,
     entity: u32,
     number: u64,
     unique: &Unique<'a>,
 ) -> Result<UniqueRule<'a>, AllocError>
-    requires sources { AreSources sources }
-    requires entity { (e : EntityTree) × IsAt (schema_at sources) entity (entity_tree e) }
-    ensures { (e : EntityTree) → IsAt (schema_at sources.entry) entity (entity_tree e)
-        → IfOk result (IsUnique (schema_at sources.entry)
+    requires sources { AreSources sources.now }
+    requires entity { (e : EntityTree) × IsAt (schema_at sources.now) entity (entity_tree e) }
+    ensures { (e : EntityTree) → IsAt (schema_at sources.now) entity (entity_tree e)
+        → IfOk result (IsUnique (schema_at sources.now)
         (statement_of e.name number (unique_of unique.now))) }
 {
-    let naming = naming_of_all(alloc, sources.known, entity, &unique.attributes)?;
+    let naming = naming_of_all(alloc, &sources.known, entity, &unique.attributes)?;
     let places = places_of(alloc, sources, entity, &unique.attributes)?;
     Ok(UniqueRule {
         entity,
@@ -174,14 +174,14 @@ fn unique_rule<'a>(
 fn add_uniques<'a>(
     alloc: Global,
     rules: &mut Vec<UniqueRule<'a>>,
-    sources: Sources<'_, '_, 'a>,
+    sources: &Sources<'_, '_, 'a>,
     entity: u32,
     uniques: &[Unique<'a>],
 ) -> Result<(), AllocError>
-    requires sources { AreSources sources }
-    requires entity { (e : EntityTree) × IsAt (schema_at sources) entity (entity_tree e) }
-    ensures { OnOk result ((e : EntityTree) → IsAt (schema_at sources.entry) entity (entity_tree e)
-        → Adds (IsUnique (schema_at sources.entry))
+    requires sources { AreSources sources.now }
+    requires entity { (e : EntityTree) × IsAt (schema_at sources.now) entity (entity_tree e) }
+    ensures { OnOk result ((e : EntityTree) → IsAt (schema_at sources.now) entity (entity_tree e)
+        → Adds (IsUnique (schema_at sources.now))
         (statements_from e.name 1 (map unique_of uniques.now)) rules.old.items rules.new.items) }
 {
     for i in 0..uniques.len() {
@@ -195,13 +195,13 @@ fn add_uniques<'a>(
 fn add_declaration<'a>(
     alloc: Global,
     rules: &mut Vec<UniqueRule<'a>>,
-    sources: Sources<'_, '_, 'a>,
+    sources: &Sources<'_, '_, 'a>,
     number: u32,
     declaration: &Declaration<'a>,
 ) -> Result<(), AllocError>
-    requires sources { AreSources sources }
-    requires at { IsAt (schema_at sources) number (declaration_of declaration.now) }
-    ensures { OnOk result (Adds (IsUnique (schema_at sources.entry))
+    requires sources { AreSources sources.now }
+    requires at { IsAt (schema_at sources.now) number (declaration_of declaration.now) }
+    ensures { OnOk result (Adds (IsUnique (schema_at sources.now))
         (of_entity uniques_by (declaration_of declaration.now)) rules.old.items
         rules.new.items) }
 {
@@ -217,14 +217,14 @@ fn add_declaration<'a>(
 fn add_all<'a>(
     alloc: Global,
     rules: &mut Vec<UniqueRule<'a>>,
-    sources: Sources<'_, '_, 'a>,
+    sources: &Sources<'_, '_, 'a>,
     declarations: &[Declaration<'a>],
 ) -> Result<(), AllocError>
-    requires sources { AreSources sources }
+    requires sources { AreSources sources.now }
     requires few { length declarations.now < 2 ^ 32 }
-    requires all { map declaration_of declarations.now ≡ (schema_at sources).declarations }
-    ensures { OnOk result (Adds (IsUnique (schema_at sources.entry))
-        (statements (schema_at sources.entry)) rules.old.items rules.new.items) }
+    requires all { map declaration_of declarations.now ≡ (schema_at sources.now).declarations }
+    ensures { OnOk result (Adds (IsUnique (schema_at sources.now))
+        (statements (schema_at sources.now)) rules.old.items rules.new.items) }
 {
     for i in 0..declarations.len() {
         add_declaration(alloc, rules, sources, i as u32, &declarations[i])?;
@@ -239,13 +239,13 @@ fn add_all<'a>(
 /// the attributes of the entities that declare them. An error says that memory ran out.
 pub fn unique_rules<'a>(
     alloc: Global,
-    sources: Sources<'_, '_, 'a>,
+    sources: &Sources<'_, '_, 'a>,
 ) -> Result<Vec<UniqueRule<'a>>, AllocError>
-    requires sources { AreSources sources }
-    ensures seen { IfOk result (λ t. InTurn (IsUniqueRule (schema_at sources.entry))
-        (statements (schema_at sources.entry))
-        (map (unique_seen (schema_at sources.entry)) t.items)) }
-    ensures numbered { IfOk result (λ t. Every (IsNumberedUnique (schema_at sources.entry))
+    requires sources { AreSources sources.now }
+    ensures seen { IfOk result (λ t. InTurn (IsUniqueRule (schema_at sources.now))
+        (statements (schema_at sources.now))
+        (map (unique_seen (schema_at sources.now)) t.items)) }
+    ensures numbered { IfOk result (λ t. Every (IsNumberedUnique (schema_at sources.now))
         t.items) }
 {
     let mut rules = Vec::new(alloc);

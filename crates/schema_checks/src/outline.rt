@@ -115,19 +115,13 @@ pub(crate) fn outline<'w>(text: Option<&'w [u8]>, expression: &Expr<'_>) -> Opti
         Expr::Call(function, argument) => around(text, function_text(*function), argument, b")"),
         Expr::Nvl(first, second) => around(around(text, b"NVL(", first, b" "), b"", second, b")"),
         Expr::Not(inner) => around(text, b"NOT(", inner, b")"),
-        Expr::Conjunction(first, others) => {
-            behind(each(around(text, b"AND(", first, b" "), others), b")")
-        }
+        Expr::Conjunction(first, others) => more(around(text, b"AND(", first, b" "), others),
         Expr::Disjunction(first, others) => {
             alternatives(outline(openings(text, others), first), others)
         }
         Expr::Comparison(left, relation, right) => {
-            around(
-                around(text, relation_text(*relation), left, b" "),
-                b"",
-                right,
-                b")",
-            )
+            let text = around(text, relation_text(*relation), left, b" ");
+            around(text, b"", right, b")")
         }
     }
 }
@@ -141,6 +135,12 @@ fn around<'w>(
     after: &[u8],
 ) -> Option<&'w [u8]> {
     behind(outline(behind(text, before), expression), after)
+}
+
+/// Some expressions, and the end of what they stand in.
+#[cycle(outline)]
+fn more<'w>(text: Option<&'w [u8]>, expressions: &[Expr<'_>]) -> Option<&'w [u8]> {
+    behind(each(text, expressions), b")")
 }
 
 /// Some expressions, with spaces between.

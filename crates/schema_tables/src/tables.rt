@@ -46,7 +46,7 @@ impl SchemaTables {
         let explicit = explicit_attributes(alloc, names.schema)?;
         let uses = attribute_uses(
             alloc,
-            Sources {
+            &Sources {
                 names,
                 data_types: &forms,
                 lines: &lines,

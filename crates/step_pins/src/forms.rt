@@ -111,8 +111,8 @@ fn keys_of(alloc: Global, uniques: &[UniqueRule<'_>], form: &Form) -> Result<Vec
 }
 
 /// The rules of a form.
-fn rules_of(alloc: Global, sources: Sources<'_, '_>, form: &Form) -> Result<FormRules, AllocError>
-    ensures { IfOk result (IsFormRules sources.entry form.now) }
+fn rules_of(alloc: Global, sources: &Sources<'_, '_>, form: &Form) -> Result<FormRules, AllocError>
+    ensures { IfOk result (IsFormRules sources.now form.now) }
 {
     let is_unchosen = has_unchosen_leaf(sources.above, sources.chosen, &form.types);
     let is_pinned = is_unchosen || states_rule(sources.uniques, &form.types);
@@ -123,10 +123,10 @@ fn rules_of(alloc: Global, sources: Sources<'_, '_>, form: &Form) -> Result<Form
 /// The rules of each form.
 pub(crate) fn rules_by_form(
     alloc: Global,
-    sources: Sources<'_, '_>,
+    sources: &Sources<'_, '_>,
     forms: &[Form],
 ) -> Result<Vec<FormRules>, AllocError>
-    ensures { IfOk result (λ t. AllZip (IsFormRules sources.entry) forms.now t.items) }
+    ensures { IfOk result (λ t. AllZip (IsFormRules sources.now) forms.now t.items) }
 {
     let mut rows = Vec::with_capacity(alloc, forms.len())?;
     for form in forms {

@@ -134,7 +134,7 @@ pub(crate) fn pin_by_forms(
         chosen,
         uniques: &rules.uniques,
     };
-    let rows = rules_by_form(alloc, sources, population.forms())?;
+    let rows = rules_by_form(alloc, &sources, population.forms())?;
     for row in 0..population.len() {
         let instance = population.instance(row);
         pin_row(pinned, population.forms(), &rows, &instance)?;

@@ -45,6 +45,9 @@ use step_parameters::param::{Node, Param, Params, cut};
 use step_values::row_builder::RowBuilder;
 use step_values::rows::ValueRows;
 
+/// So many values, those inside others among them, an instance is taken to have.
+const CELLS: usize = 4;
+
 /// What values are made by: what data types ask, and the row of each name.
 #[derive(Clone, Copy)]
 pub struct Maker<'r, 't, 'a> {
@@ -70,7 +73,7 @@ fn push_slot<'p: 'v, 'v>(
     }
     let number = slot.data_types[0];
     let base = maker.bases.of_number(number);
-    push_value(builder, maker.bases, base, maker.index, param)
+    push_value(builder, &maker.bases, base, maker.index, param)
 }
 
 /// Pushes the values of attributes in turn, by the parameters of a record.
@@ -211,14 +214,24 @@ fn push_rows<'p: 'v, 'v>(
 }
 
 /// What the values of instances with these rows are made by.
-fn maker_of<'b, 't, 'a>(bases: Bases<'b, 't, 'a>, rows: &'b Rows) -> Maker<'b, 't, 'a>
-    ensures bases { result.bases ≡ bases.entry }
+fn maker_of<'b, 't, 'a>(bases: &Bases<'b, 't, 'a>, rows: &'b Rows) -> Maker<'b, 't, 'a>
+    ensures bases { result.bases ≡ bases.now }
     ensures index { result.index.now ≡ rows.now.index }
 {
     Maker {
-        bases,
+        bases: *bases,
         index: &rows.index,
     }
+}
+
+/// A builder of the rows of instances with these names, with room for as many; where memory has no
+/// such room, it grows as rows come.
+fn builder_of<'n, 'v>(alloc: Global, names: &'n [u64]) -> RowBuilder<'n, 'v>
+    ensures { result ≡ record { names = names.now; rows = []; pending = [] } }
+{
+    let mut builder = RowBuilder::new(alloc, names);
+    let _ = builder.reserve(names.len().saturating_mul(CELLS), names.len());
+    builder
 }
 
 /// For each instance of an exchange structure the values of its attributes, in the order of its
@@ -227,17 +240,17 @@ fn maker_of<'b, 't, 'a>(bases: Bases<'b, 't, 'a>, rows: &'b Rows) -> Maker<'b, '
 /// `AllocError` comes where memory runs out.
 pub fn values_of<'b, 'r>(
     alloc: Global,
-    bases: Bases<'b, '_, '_>,
+    bases: &Bases<'b, '_, '_>,
     rows: &'b Rows,
     exchange: &'r Exchange<'_>,
 ) -> Result<ValueRows<'r>, AllocError>
-    requires bases { AreBases bases }
+    requires bases { AreBases bases.now }
     requires index { AreFound exchange.now.names (found rows.now.index) }
     requires matched { length rows.now.form_of.items ≡ length exchange.now.names }
-    requires ready { AreRowsReady (schema_at bases) (found rows.now.index) rows.now.forms.items
+    requires ready { AreRowsReady (schema_at bases.now) (found rows.now.index) rows.now.forms.items
         (rows_in exchange.now) rows.now.form_of.items }
-    ensures rows { IfOk result (λ v. (d : Domain) → IsDomain (schema_at bases.entry) d
-        → v.rows ≡ rows_by (schema_at bases.entry) d rows.now.forms.items
+    ensures rows { IfOk result (λ v. (d : Domain) → IsDomain (schema_at bases.now) d
+        → v.rows ≡ rows_by (schema_at bases.now) d rows.now.forms.items
         (rows_in exchange.now) rows.now.form_of.items) }
     ensures leads { IfOk result (λ v. LeadTo exchange.now.names v.targets) }
     ensures refers { IfOk result (λ v. ReferTo exchange.now.names v.rows) }
@@ -245,7 +258,7 @@ pub fn values_of<'b, 'r>(
     let maker = maker_of(bases, rows);
     let names = exchange.names.as_slice();
     let (_, instances) = exchange.trees.trees().split(exchange.header_len);
-    let mut builder = RowBuilder::new(alloc, names);
+    let mut builder = builder_of(alloc, names);
     push_rows(&mut builder, &maker, rows, names, &instances)?;
     Ok(builder.finish())
 }

@@ -40,14 +40,14 @@ fn populate_by<'r, 't, 's, 'a>(
 {
     let known = tables.knowledge(&*types);
     let bases = tables.bases(&*types);
-    entities_are_said(known);
-    let rows = rows_of(alloc, keys, known, &*exchange)?;
-    let found = findings(alloc, known, bases, &rows, &*exchange)?;
+    entities_are_said(&known);
+    let rows = rows_of(alloc, keys, &known, &*exchange)?;
+    let found = findings(alloc, &known, &bases, &rows, &*exchange)?;
     let wrong = found.len();
     if wrong > 0 {
         return Ok(Verdict::Faulty(found));
     }
-    let values = values_of(alloc, bases, &rows, exchange)?;
+    let values = values_of(alloc, &bases, &rows, exchange)?;
     Ok(Verdict::Typed(Population {
         types,
         exchange,

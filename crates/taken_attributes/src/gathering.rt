@@ -20,14 +20,14 @@ use std::alloc::{AllocError, Global};
 /// What the values of some attributes may be.
 fn values_of(
     alloc: Global,
-    tables: Tables<'_, '_, '_>,
+    tables: &Tables<'_, '_, '_>,
     declarations: &[AttributeDeclaration],
 ) -> Result<Vec<Atom>, AllocError>
-    requires tables { AreTables tables }
+    requires tables { AreTables tables.now }
     requires typed { (x : AttributeDeclaration) → Among x declarations.now
-        → (k : DataType) × GivesType (schema_at tables) k x }
-    ensures { IfOk result (λ v. (a : Member) → Holds (schema_at tables.entry) v.items a
-        ↔ IsOfOne (schema_at tables.entry) declarations.now a) }
+        → (k : DataType) × GivesType (schema_at tables.now) k x }
+    ensures { IfOk result (λ v. (a : Member) → Holds (schema_at tables.now) v.items a
+        ↔ IsOfOne (schema_at tables.now) declarations.now a) }
 {
     let mut atoms = Vec::new(alloc);
     for declaration in declarations {
@@ -54,14 +54,14 @@ fn derivations_of(
 /// What is taken where these attributes are.
 pub(crate) fn gather(
     alloc: Global,
-    tables: Tables<'_, '_, '_>,
+    tables: &Tables<'_, '_, '_>,
     declarations: &[AttributeDeclaration],
     is_unclear: bool,
 ) -> Result<Taken, AllocError>
-    requires tables { AreTables tables }
+    requires tables { AreTables tables.now }
     requires typed { (x : AttributeDeclaration) → Among x declarations.now
-        → (k : DataType) × GivesType (schema_at tables) k x }
-    ensures { IfOk result (λ t. Gathers (schema_at tables.entry) declarations.now t
+        → (k : DataType) × GivesType (schema_at tables.now) k x }
+    ensures { IfOk result (λ t. Gathers (schema_at tables.now) declarations.now t
         × (t.is_unclear ≡ is_unclear)) }
 {
     let may = values_of(alloc, tables, declarations)?;

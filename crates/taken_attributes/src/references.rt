@@ -19,18 +19,18 @@ use step_literals::literal::Word;
 /// The attribute of a name that one of some entities has.
 fn take_of_numbers(
     alloc: Global,
-    known: Known<'_, '_, '_>,
+    known: &Known<'_, '_, '_>,
     entities: &[u32],
     name: Word<'_>,
 ) -> Result<Taken, AllocError>
-    requires known { IsKnown known }
-    ensures { IfOk result (IsTaken (schema_in known.entry)
-        (of_set (OfNumbers (schema_in known.entry) entities.now) (capitals name.entry))) }
+    requires known { IsKnown known.now }
+    ensures { IfOk result (IsTaken (schema_in known.now)
+        (of_set (OfNumbers (schema_in known.now) entities.now) (capitals name.entry))) }
 {
     let declarations = known.attributes.find(name);
     let taken = of_entities(alloc, known.above, entities, declarations)?;
     let is_unclear = is_unclear(known.above, entities, &taken);
-    gather(alloc, known.tables, &taken, is_unclear)
+    gather(alloc, &known.tables, &taken, is_unclear)
 }
 
 /// The attribute of a name behind a dot, after a value that may be these, or of a bare name where
@@ -38,13 +38,13 @@ fn take_of_numbers(
 /// 12.7.3).
 pub fn take_of_any(
     alloc: Global,
-    known: Known<'_, '_, '_>,
+    known: &Known<'_, '_, '_>,
     atoms: &[Atom],
     name: Word<'_>,
 ) -> Result<Taken, AllocError>
-    requires known { IsKnown known }
-    ensures { IfOk result (IsTaken (schema_in known.entry) (of_set
-        (WithSubtypes (schema_in known.entry) (Holds (schema_in known.entry) atoms.now))
+    requires known { IsKnown known.now }
+    ensures { IfOk result (IsTaken (schema_in known.now) (of_set
+        (WithSubtypes (schema_in known.now) (Holds (schema_in known.now) atoms.now))
         (capitals name.entry))) }
 {
     let entities = entity_numbers(alloc, atoms)?;
@@ -56,17 +56,17 @@ pub fn take_of_any(
 /// (ISO 10303-11, 12.7.4).
 pub fn take_of_entity(
     alloc: Global,
-    known: Known<'_, '_, '_>,
+    known: &Known<'_, '_, '_>,
     entity: Word<'_>,
     name: Word<'_>,
 ) -> Result<Taken, AllocError>
-    requires known { IsKnown known }
-    ensures { IfOk result (IsTaken (schema_in known.entry)
+    requires known { IsKnown known.now }
+    ensures { IfOk result (IsTaken (schema_in known.now)
         (of_entity (capitals entity.entry) (capitals name.entry))) }
 {
     let declarations = known.attributes.find(name);
     let owner = owner_of(known.above, declarations, known.tables.names.find(entity));
     let taken = of_owner(alloc, owner, declarations)?;
     let is_unclear = is_none(&taken);
-    gather(alloc, known.tables, &taken, is_unclear)
+    gather(alloc, &known.tables, &taken, is_unclear)
 }

@@ -100,8 +100,8 @@ fn are_atoms(atoms: &[Atom], wanted: &[Atom]) -> bool {
 }
 
 // Whether a data type is one of the schema, and has these values.
-fn has_values(alloc: Global, tables: Tables<'_, '_, '_>, question: Question) -> bool
-    requires { AreTables tables }
+fn has_values(alloc: Global, tables: &Tables<'_, '_, '_>, question: Question) -> bool
+    requires { AreTables tables.now }
 {
     let Question::Values(number, wanted) = question else {
         return false;
@@ -136,7 +136,7 @@ fn has_values_by(
         data_types,
         parts: &parts,
     };
-    has_values(alloc, tables, question)
+    has_values(alloc, &tables, question)
 }
 
 // Whether two data types are of the schema, and the shapes tell this of them.

@@ -26,13 +26,13 @@ use unchecked_parts::list::{Label, Unchecked};
 fn add_type<'a>(
     alloc: Global,
     list: &mut Vec<Unchecked>,
-    findings: Findings<'_, '_, 'a>,
+    findings: &Findings<'_, '_, 'a>,
     number: u32,
     declared: &TypeDeclaration<'a>,
 ) -> Result<(), AllocError>
-    requires found { AreFound findings }
-    requires at { IsAt (schema_found findings) number (type_tree (type_of declared.now)) }
-    ensures { OnOk result (Adds (parts_of_type (schema_found findings.entry)
+    requires found { AreFound findings.now }
+    requires at { IsAt (schema_found findings.now) number (type_tree (type_of declared.now)) }
+    ensures { OnOk result (Adds (parts_of_type (schema_found findings.now)
         (type_of declared.now)) (unchecked_in list.old.items) (unchecked_in list.new.items)) }
 {
     let name = declared.name;
@@ -46,13 +46,13 @@ fn add_type<'a>(
 fn add_constraints<'a>(
     alloc: Global,
     list: &mut Vec<Unchecked>,
-    findings: Findings<'_, '_, 'a>,
+    findings: &Findings<'_, '_, 'a>,
     number: u32,
     entity: &Entity<'a>,
 ) -> Result<(), AllocError>
-    requires found { AreFound findings }
-    requires at { IsAt (schema_found findings) number (entity_tree (entity_of entity.now)) }
-    ensures { OnOk result (Adds (parts_of_constraints (schema_found findings.entry)
+    requires found { AreFound findings.now }
+    requires at { IsAt (schema_found findings.now) number (entity_tree (entity_of entity.now)) }
+    ensures { OnOk result (Adds (parts_of_constraints (schema_found findings.now)
         (entity_of entity.now)) (unchecked_in list.old.items) (unchecked_in list.new.items)) }
 {
     let name = entity.name;
@@ -66,15 +66,15 @@ fn add_constraints<'a>(
 fn add_entity<'a>(
     alloc: Global,
     list: &mut Vec<Unchecked>,
-    findings: Findings<'_, '_, 'a>,
+    findings: &Findings<'_, '_, 'a>,
     number: u32,
     first: u32,
     entity: &Entity<'a>,
 ) -> Result<(), AllocError>
-    requires found { AreFound findings }
-    requires at { IsAt (schema_found findings) number (entity_tree (entity_of entity.now)) }
-    requires first { first ≡ derivations_before (schema_found findings) number }
-    ensures { OnOk result (Adds (parts_of_entity (schema_found findings.entry)
+    requires found { AreFound findings.now }
+    requires at { IsAt (schema_found findings.now) number (entity_tree (entity_of entity.now)) }
+    requires first { first ≡ derivations_before (schema_found findings.now) number }
+    ensures { OnOk result (Adds (parts_of_entity (schema_found findings.now)
         (entity_of entity.now)) (unchecked_in list.old.items) (unchecked_in list.new.items)) }
 {
     add_supertype(alloc, list, entity.name, &entity.supertype)?;
@@ -88,15 +88,15 @@ fn add_entity<'a>(
 pub(crate) fn add_declaration<'a>(
     alloc: Global,
     list: &mut Vec<Unchecked>,
-    findings: Findings<'_, '_, 'a>,
+    findings: &Findings<'_, '_, 'a>,
     number: u32,
     first: u32,
     declaration: &Declaration<'a>,
 ) -> Result<(), AllocError>
-    requires found { AreFound findings }
-    requires at { IsAt (schema_found findings) number (declaration_of declaration.now) }
-    requires first { first ≡ derivations_before (schema_found findings) number }
-    ensures { OnOk result (Adds (parts_of_declaration (schema_found findings.entry)
+    requires found { AreFound findings.now }
+    requires at { IsAt (schema_found findings.now) number (declaration_of declaration.now) }
+    requires first { first ≡ derivations_before (schema_found findings.now) number }
+    ensures { OnOk result (Adds (parts_of_declaration (schema_found findings.now)
         (declaration_of declaration.now))
         (unchecked_in list.old.items) (unchecked_in list.new.items)) }
 {

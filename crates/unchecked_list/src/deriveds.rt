@@ -50,21 +50,21 @@ pub(crate) fn first_behind(first: u32, declaration: &Declaration<'_>) -> Result<
 fn add_derived(
     alloc: Global,
     list: &mut Vec<Unchecked>,
-    findings: Findings<'_, '_, '_>,
+    findings: &Findings<'_, '_, '_>,
     holder: Word<'_>,
     number: u32,
     derived: &Derived<'_>,
 ) -> Result<(), AllocError>
-    requires found { AreFound findings }
+    requires found { AreFound findings.now }
     ensures { (n : ℕ)
-        → HasDerivation (schema_found findings.entry) number (capitals holder.entry, n)
-        → IsDerivation (schema_found findings.entry) (capitals holder.entry, n)
+        → HasDerivation (schema_found findings.now) number (capitals holder.entry, n)
+        → IsDerivation (schema_found findings.now) (capitals holder.entry, n)
         (derived_of derived.now)
-        → OnOk result (Adds (parts_of_derived (schema_found findings.entry)
+        → OnOk result (Adds (parts_of_derived (schema_found findings.now)
         (capitals holder.entry) (derived_of derived.now))
         (unchecked_in list.old.items) (unchecked_in list.new.items)) }
 {
-    let reason = reason_of_derived(findings.known, findings.judged, findings.ranks, number);
+    let reason = reason_of_derived(&findings.known, findings.judged, findings.ranks, number);
     let label = attribute_label(holder, &derived.attribute);
     add_for(alloc, list, PartKind::Derive, label, reason)?;
     add_data_type(alloc, list, label, &derived.data_type)
@@ -74,15 +74,15 @@ fn add_derived(
 fn add_deriveds(
     alloc: Global,
     list: &mut Vec<Unchecked>,
-    findings: Findings<'_, '_, '_>,
+    findings: &Findings<'_, '_, '_>,
     holder: Word<'_>,
     first: u32,
     deriveds: &[Derived<'_>],
 ) -> Result<(), AllocError>
-    requires found { AreFound findings }
-    requires numbered { AreDerivationsFrom (schema_found findings) (capitals holder) first
+    requires found { AreFound findings.now }
+    requires numbered { AreDerivationsFrom (schema_found findings.now) (capitals holder) first
         (map derived_of deriveds.now) }
-    ensures { OnOk result (Adds (for_each (parts_of_derived (schema_found findings.entry)
+    ensures { OnOk result (Adds (for_each (parts_of_derived (schema_found findings.now)
         (capitals holder.entry)) (map derived_of deriveds.now))
         (unchecked_in list.old.items) (unchecked_in list.new.items)) }
 {
@@ -98,15 +98,15 @@ fn add_deriveds(
 pub(crate) fn add_derived_attributes(
     alloc: Global,
     list: &mut Vec<Unchecked>,
-    findings: Findings<'_, '_, '_>,
+    findings: &Findings<'_, '_, '_>,
     number: u32,
     first: u32,
     entity: &Entity<'_>,
 ) -> Result<(), AllocError>
-    requires found { AreFound findings }
-    requires at { IsAt (schema_found findings) number (entity_tree (entity_of entity.now)) }
-    requires first { first ≡ derivations_before (schema_found findings) number }
-    ensures { OnOk result (Adds (for_each (parts_of_derived (schema_found findings.entry)
+    requires found { AreFound findings.now }
+    requires at { IsAt (schema_found findings.now) number (entity_tree (entity_of entity.now)) }
+    requires first { first ≡ derivations_before (schema_found findings.now) number }
+    ensures { OnOk result (Adds (for_each (parts_of_derived (schema_found findings.now)
         (entity_of entity.now).name) (listed (entity_of entity.now).derived))
         (unchecked_in list.old.items) (unchecked_in list.new.items)) }
 {

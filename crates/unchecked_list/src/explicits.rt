@@ -33,13 +33,17 @@ use unchecked_parts::limits::add_data_type;
 use unchecked_parts::list::{Label, Unchecked, add_part, attribute_label};
 
 /// Whether an attribute redeclares one with another shape, by the number of its data type.
-fn has_other_shape(findings: Findings<'_, '_, '_>, attribute: Attribute<'_>, data_type: u32) -> bool
-    requires found { AreFound findings }
-    ensures { (k : DataTypeTree) → IsDataTypeAt (schema_found findings.entry) data_type k
+fn has_other_shape(
+    findings: &Findings<'_, '_, '_>,
+    attribute: Attribute<'_>,
+    data_type: u32,
+) -> bool
+    requires found { AreFound findings.now }
+    ensures { (k : DataTypeTree) → IsDataTypeAt (schema_found findings.now) data_type k
         → IsTrue result
-        ↔ HasOtherShape (schema_found findings.entry) (attribute_of attribute.entry) k }
+        ↔ HasOtherShape (schema_found findings.now) (attribute_of attribute.entry) k }
 {
-    let tables = findings.known.tables;
+    let tables = &findings.known.tables;
     match redeclared_entity(tables.names, findings.lines, attribute) {
         Some(entity) => !has_first_shape(
             tables.names,
@@ -57,14 +61,14 @@ fn has_other_shape(findings: Findings<'_, '_, '_>, attribute: Attribute<'_>, dat
 fn add_redeclared(
     alloc: Global,
     list: &mut Vec<Unchecked>,
-    findings: Findings<'_, '_, '_>,
+    findings: &Findings<'_, '_, '_>,
     holder: Word<'_>,
     attribute: Attribute<'_>,
     data_type: u32,
 ) -> Result<(), AllocError>
-    requires found { AreFound findings }
-    ensures { (k : DataTypeTree) → IsDataTypeAt (schema_found findings.entry) data_type k
-        → OnOk result (Adds (parts_of_redeclared (schema_found findings.entry)
+    requires found { AreFound findings.now }
+    ensures { (k : DataTypeTree) → IsDataTypeAt (schema_found findings.now) data_type k
+        → OnOk result (Adds (parts_of_redeclared (schema_found findings.now)
         (capitals holder.entry) k (attribute_of attribute.entry))
         (unchecked_in list.old.items) (unchecked_in list.new.items)) }
 {
@@ -84,15 +88,15 @@ fn add_redeclared(
 fn add_explicit(
     alloc: Global,
     list: &mut Vec<Unchecked>,
-    findings: Findings<'_, '_, '_>,
+    findings: &Findings<'_, '_, '_>,
     holder: Word<'_>,
     explicit: &Explicit<'_>,
     data_type: u32,
 ) -> Result<(), AllocError>
-    requires found { AreFound findings }
-    requires data_type { IsDataTypeAt (schema_found findings) data_type
+    requires found { AreFound findings.now }
+    requires data_type { IsDataTypeAt (schema_found findings.now) data_type
         (explicit_of explicit.now).data_type }
-    ensures { OnOk result (Adds (parts_of_explicit (schema_found findings.entry)
+    ensures { OnOk result (Adds (parts_of_explicit (schema_found findings.now)
         (capitals holder.entry) (explicit_of explicit.now))
         (unchecked_in list.old.items) (unchecked_in list.new.items)) }
 {
@@ -108,15 +112,15 @@ fn add_explicit(
 fn add_explicits(
     alloc: Global,
     list: &mut Vec<Unchecked>,
-    findings: Findings<'_, '_, '_>,
+    findings: &Findings<'_, '_, '_>,
     holder: Word<'_>,
     explicits: &[Explicit<'_>],
     row: &[u32],
 ) -> Result<(), AllocError>
-    requires found { AreFound findings }
-    requires row { AreDataTypesAt (schema_found findings) row.now
+    requires found { AreFound findings.now }
+    requires row { AreDataTypesAt (schema_found findings.now) row.now
         (map explicit_of explicits.now) }
-    ensures { OnOk result (Adds (for_each (parts_of_explicit (schema_found findings.entry)
+    ensures { OnOk result (Adds (for_each (parts_of_explicit (schema_found findings.now)
         (capitals holder.entry)) (map explicit_of explicits.now))
         (unchecked_in list.old.items) (unchecked_in list.new.items)) }
 {
@@ -131,13 +135,13 @@ fn add_explicits(
 pub(crate) fn add_explicit_attributes(
     alloc: Global,
     list: &mut Vec<Unchecked>,
-    findings: Findings<'_, '_, '_>,
+    findings: &Findings<'_, '_, '_>,
     number: u32,
     entity: &Entity<'_>,
 ) -> Result<(), AllocError>
-    requires found { AreFound findings }
-    requires at { IsAt (schema_found findings) number (entity_tree (entity_of entity.now)) }
-    ensures { OnOk result (Adds (for_each (parts_of_explicit (schema_found findings.entry)
+    requires found { AreFound findings.now }
+    requires at { IsAt (schema_found findings.now) number (entity_tree (entity_of entity.now)) }
+    ensures { OnOk result (Adds (for_each (parts_of_explicit (schema_found findings.now)
         (entity_of entity.now).name) (entity_of entity.now).explicits)
         (unchecked_in list.old.items) (unchecked_in list.new.items)) }
 {

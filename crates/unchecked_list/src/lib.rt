@@ -6,6 +6,6 @@ mod deriveds;
 mod explicits;
 pub mod findings;
 pub mod list;
-mod listing;
-mod rules;
+pub mod listing;
+pub mod rules;
 mod uniques;

@@ -17,13 +17,13 @@ use unchecked_parts::list::Unchecked;
 fn add_all<'a>(
     alloc: Global,
     list: &mut Vec<Unchecked>,
-    findings: Findings<'_, '_, 'a>,
+    findings: &Findings<'_, '_, 'a>,
     declarations: &[Declaration<'a>],
 ) -> Result<(), AllocError>
-    requires found { AreFound findings }
+    requires found { AreFound findings.now }
     requires few { length declarations.now < 2 ^ 32 }
-    requires all { map declaration_of declarations.now ≡ (schema_found findings).declarations }
-    ensures { OnOk result (Adds (candidates (schema_found findings.entry))
+    requires all { map declaration_of declarations.now ≡ (schema_found findings.now).declarations }
+    ensures { OnOk result (Adds (candidates (schema_found findings.now))
         (unchecked_in list.old.items) (unchecked_in list.new.items)) }
 {
     let mut first = 0;
@@ -39,10 +39,10 @@ fn add_all<'a>(
 /// of the text.
 pub fn unchecked_parts(
     alloc: Global,
-    findings: Findings<'_, '_, '_>,
+    findings: &Findings<'_, '_, '_>,
 ) -> Result<Vec<Unchecked>, AllocError>
-    requires found { AreFound findings }
-    ensures { IfOk result (λ t. AreUnchecked (schema_found findings.entry)
+    requires found { AreFound findings.now }
+    ensures { IfOk result (λ t. AreUnchecked (schema_found findings.now)
         (unchecked_in t.items)) }
 {
     let mut list = Vec::new(alloc);

@@ -14,7 +14,7 @@ use unchecked_parts::list::{Label, Unchecked, add_part};
 
 /// An entity or a defined type whose parts are listed.
 #[derive(Clone, Copy)]
-pub(crate) struct Holder<'a> {
+pub struct Holder<'a> {
     /// Its number among the declarations.
     pub number: u32,
     pub name: Word<'a>,

@@ -29,29 +29,33 @@ use unchecked_parts::list::Unchecked;
 
 /// What SELF may be in a rule.
 #[derive(Clone, Copy)]
-pub(crate) struct Own<'r> {
+pub struct Own<'r> {
     pub atoms: &'r [Atom],
     /// Whether it may be of a SELECT.
     pub is_over_select: bool,
 }
 
-/// The reason that is given for a rule, if there is one.
-fn reason_of_rule<'r, 'a>(
+/// The reason that is given for a rule, if there is one: the first that holds, for what SELF may be.
+///
+/// An error says that memory ran out.
+pub fn reason_of_rule<'a>(
     alloc: Global,
-    findings: Findings<'r, '_, 'a>,
-    own: Own<'r>,
+    findings: &Findings<'_, '_, 'a>,
+    own: Own<'_>,
     body: &Body<'a>,
 ) -> Result<Option<Reason>, AllocError>
-    requires found { AreFound findings }
+    requires found { AreFound findings.now }
     ensures { IfOk result (IsFirstReason
-        (has_reason (schema_found findings.entry) own.entry (body_of body.now))) }
+        (has_reason (schema_found findings.now) own.entry (body_of body.now))) }
 {
     if own.is_over_select {
         return Ok(Some(Reason::Profile));
     }
+    // What SELF may be lives shorter than what is found.
+    let findings = *findings;
     reason_for(
         alloc,
-        findings.known,
+        &findings.known,
         findings.items,
         findings.ranks,
         own.atoms,
@@ -60,18 +64,18 @@ fn reason_of_rule<'r, 'a>(
 }
 
 /// Adds a rule where there is a reason, by its number in its clause where it has no label.
-fn add_rule<'r, 'a>(
+fn add_rule<'a>(
     alloc: Global,
     list: &mut Vec<Unchecked>,
-    findings: Findings<'r, '_, 'a>,
-    own: Own<'r>,
+    findings: &Findings<'_, '_, 'a>,
+    own: Own<'_>,
     holder: Word<'_>,
     number: u64,
     rule: &Rule<'a>,
 ) -> Result<(), AllocError>
-    requires found { AreFound findings }
+    requires found { AreFound findings.now }
     ensures { OnOk result (Adds (parts_of_rules (capitals holder.entry)
-        (has_reason (schema_found findings.entry) own.entry) number (rule_of rule.now ∷ []))
+        (has_reason (schema_found findings.now) own.entry) number (rule_of rule.now ∷ []))
         (unchecked_in list.old.items) (unchecked_in list.new.items)) }
 {
     let reason = reason_of_rule(alloc, findings, own, &rule.body)?;
@@ -80,17 +84,17 @@ fn add_rule<'r, 'a>(
 }
 
 /// Adds those of some rules for which there is a reason.
-fn add_rules<'r, 'a>(
+fn add_rules<'a>(
     alloc: Global,
     list: &mut Vec<Unchecked>,
-    findings: Findings<'r, '_, 'a>,
-    own: Own<'r>,
+    findings: &Findings<'_, '_, 'a>,
+    own: Own<'_>,
     holder: Word<'_>,
     rules: &[Rule<'a>],
 ) -> Result<(), AllocError>
-    requires found { AreFound findings }
+    requires found { AreFound findings.now }
     ensures { OnOk result (Adds (parts_of_rules (capitals holder.entry)
-        (has_reason (schema_found findings.entry) own.entry) 1 (map rule_of rules.now))
+        (has_reason (schema_found findings.now) own.entry) 1 (map rule_of rules.now))
         (unchecked_in list.old.items) (unchecked_in list.new.items)) }
 {
     for i in 0..rules.len() {
@@ -103,14 +107,14 @@ fn add_rules<'r, 'a>(
 pub(crate) fn add_entity_rules<'a>(
     alloc: Global,
     list: &mut Vec<Unchecked>,
-    findings: Findings<'_, '_, 'a>,
+    findings: &Findings<'_, '_, 'a>,
     holder: Holder<'_>,
     rules: &[Rule<'a>],
 ) -> Result<(), AllocError>
-    requires found { AreFound findings }
-    requires number { HasNumber (schema_found findings) (capitals holder.name) holder.number }
+    requires found { AreFound findings.now }
+    requires number { HasNumber (schema_found findings.now) (capitals holder.name) holder.number }
     ensures { OnOk result (Adds (parts_of_rules (capitals holder.entry.name)
-        (HasReason (schema_found findings.entry) (Self (capitals holder.entry.name))) 1
+        (HasReason (schema_found findings.now) (Self (capitals holder.entry.name))) 1
         (map rule_of rules.now)) (unchecked_in list.old.items) (unchecked_in list.new.items)) }
 {
     let atom = Atom::Instance(holder.number);
@@ -121,44 +125,46 @@ pub(crate) fn add_entity_rules<'a>(
     add_rules(alloc, list, findings, own, holder.name, rules)
 }
 
-/// What the values of a defined type may be.
-fn values_of_type(
+/// What the values of a defined type may be, and so SELF in its rules (ISO 10303-11, 9.1).
+///
+/// An error says that memory ran out.
+pub fn values_of_type(
     alloc: Global,
-    findings: Findings<'_, '_, '_>,
+    findings: &Findings<'_, '_, '_>,
     holder: Holder<'_>,
 ) -> Result<Vec<Atom>, AllocError>
-    requires found { AreFound findings }
-    requires number { HasNumber (schema_found findings) (capitals holder.name) holder.number }
-    ensures { IfOk result (λ t. IsSet (schema_found findings.entry)
-        (IsOf (schema_found findings.entry) (named (capitals holder.entry.name))) t.items) }
+    requires found { AreFound findings.now }
+    requires number { HasNumber (schema_found findings.now) (capitals holder.name) holder.number }
+    ensures { IfOk result (λ t. IsSet (schema_found findings.now)
+        (IsOf (schema_found findings.now) (named (capitals holder.entry.name))) t.items) }
 {
     let mut atoms = Vec::new(alloc);
-    add_named(findings.known.tables, holder.number, &mut atoms)?;
+    add_named(&findings.known.tables, holder.number, &mut atoms)?;
     Ok(atoms)
 }
 
 /// Whether a defined type is a SELECT, or stands for one under whatever names.
-fn is_type_over_select(findings: Findings<'_, '_, '_>, holder: Holder<'_>) -> bool
-    requires found { AreFound findings }
-    requires number { HasNumber (schema_found findings) (capitals holder.name) holder.number }
-    ensures { IsTrue result ↔ IsOverSelect (schema_found findings.entry)
+pub fn is_type_over_select(findings: &Findings<'_, '_, '_>, holder: Holder<'_>) -> bool
+    requires found { AreFound findings.now }
+    requires number { HasNumber (schema_found findings.now) (capitals holder.name) holder.number }
+    ensures { IsTrue result ↔ IsOverSelect (schema_found findings.now)
         (named (capitals holder.entry.name)) }
 {
-    is_over_select(findings.known.tables, holder.number)
+    is_over_select(&findings.known.tables, holder.number)
 }
 
 /// Adds those of the rules of a defined type, whose SELF is a value of it (ISO 10303-11, 9.1).
 pub(crate) fn add_type_rules<'a>(
     alloc: Global,
     list: &mut Vec<Unchecked>,
-    findings: Findings<'_, '_, 'a>,
+    findings: &Findings<'_, '_, 'a>,
     holder: Holder<'_>,
     rules: &[Rule<'a>],
 ) -> Result<(), AllocError>
-    requires found { AreFound findings }
-    requires number { HasNumber (schema_found findings) (capitals holder.name) holder.number }
+    requires found { AreFound findings.now }
+    requires number { HasNumber (schema_found findings.now) (capitals holder.name) holder.number }
     ensures { OnOk result (Adds (parts_of_rules (capitals holder.entry.name)
-        (TypeRuleHasReason (schema_found findings.entry) (named (capitals holder.entry.name))) 1
+        (TypeRuleHasReason (schema_found findings.now) (named (capitals holder.entry.name))) 1
         (map rule_of rules.now)) (unchecked_in list.old.items) (unchecked_in list.new.items)) }
 {
     let atoms = values_of_type(alloc, findings, holder)?;

@@ -35,19 +35,19 @@ fn reason_by(naming: Naming) -> Option<Reason>
 fn add_unique(
     alloc: Global,
     list: &mut Vec<Unchecked>,
-    findings: Findings<'_, '_, '_>,
+    findings: &Findings<'_, '_, '_>,
     holder: Holder<'_>,
     number: u64,
     unique: &Unique<'_>,
 ) -> Result<(), AllocError>
-    requires found { AreFound findings }
-    requires number { HasNumber (schema_found findings) (capitals holder.name) holder.number }
-    requires entity { IsEntity (schema_found findings) (capitals holder.name) }
-    ensures { OnOk result (Adds (parts_of_uniques (schema_found findings.entry)
+    requires found { AreFound findings.now }
+    requires number { HasNumber (schema_found findings.now) (capitals holder.name) holder.number }
+    requires entity { IsEntity (schema_found findings.now) (capitals holder.name) }
+    ensures { OnOk result (Adds (parts_of_uniques (schema_found findings.now)
         (capitals holder.entry.name) number (unique_of unique.now ∷ []))
         (unchecked_in list.old.items) (unchecked_in list.new.items)) }
 {
-    let naming = naming_of_all(alloc, findings.known, holder.number, &unique.attributes)?;
+    let naming = naming_of_all(alloc, &findings.known, holder.number, &unique.attributes)?;
     let label = rule_label(holder.name, unique.label, number);
     add_for(alloc, list, PartKind::Unique, label, reason_by(naming))
 }
@@ -56,14 +56,14 @@ fn add_unique(
 pub(crate) fn add_uniques(
     alloc: Global,
     list: &mut Vec<Unchecked>,
-    findings: Findings<'_, '_, '_>,
+    findings: &Findings<'_, '_, '_>,
     holder: Holder<'_>,
     uniques: &[Unique<'_>],
 ) -> Result<(), AllocError>
-    requires found { AreFound findings }
-    requires number { HasNumber (schema_found findings) (capitals holder.name) holder.number }
-    requires entity { IsEntity (schema_found findings) (capitals holder.name) }
-    ensures { OnOk result (Adds (parts_of_uniques (schema_found findings.entry)
+    requires found { AreFound findings.now }
+    requires number { HasNumber (schema_found findings.now) (capitals holder.name) holder.number }
+    requires entity { IsEntity (schema_found findings.now) (capitals holder.name) }
+    ensures { OnOk result (Adds (parts_of_uniques (schema_found findings.now)
         (capitals holder.entry.name) 1 (map unique_of uniques.now))
         (unchecked_in list.old.items) (unchecked_in list.new.items)) }
 {

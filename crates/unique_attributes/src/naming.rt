@@ -81,13 +81,13 @@ fn entities_above(
 /// `AllocError` comes where memory runs out.
 pub fn holders(
     alloc: Global,
-    known: Known<'_, '_, '_>,
+    known: &Known<'_, '_, '_>,
     entity: u32,
     name: Word<'_>,
 ) -> Result<Vec<u32>, AllocError>
-    requires known { IsKnown known }
-    ensures { (e : Name) → HasNumber (schema_in known.entry) e entity
-        → IfOk result (λ t. AreHolders (schema_in known.entry) e (capitals name.entry)
+    requires known { IsKnown known.now }
+    ensures { (e : Name) → HasNumber (schema_in known.now) e entity
+        → IfOk result (λ t. AreHolders (schema_in known.now) e (capitals name.entry)
         t.items) }
 {
     entities_above(alloc, known.above, entity, known.attributes.find(name))
@@ -117,17 +117,17 @@ fn is_one(row: &[u32]) -> bool
 /// (ISO 10303-11, 12.7.4).
 fn taken_of_group(
     alloc: Global,
-    known: Known<'_, '_, '_>,
+    known: &Known<'_, '_, '_>,
     entity: u32,
     group: u32,
     name: Word<'_>,
 ) -> Result<Vec<u32>, AllocError>
-    requires known { IsKnown known }
-    ensures { (e q : Name) → HasNumber (schema_in known.entry) e entity
-        → HasNumber (schema_in known.entry) q group
-        → IsEntity (schema_in known.entry) e
-        → IfOk result (λ t. AreNumbersOf (schema_in known.entry)
-        (λ p. NamesAttribute (schema_in known.entry) e (redeclared q (capitals name.entry)) p
+    requires known { IsKnown known.now }
+    ensures { (e q : Name) → HasNumber (schema_in known.now) e entity
+        → HasNumber (schema_in known.now) q group
+        → IsEntity (schema_in known.now) e
+        → IfOk result (λ t. AreNumbersOf (schema_in known.now)
+        (λ p. NamesAttribute (schema_in known.now) e (redeclared q (capitals name.entry)) p
         (capitals name.entry)) t.items) }
 {
     if !is_or_leads(known.above, entity, group) {
@@ -146,15 +146,15 @@ fn taken_of_group(
 /// The numbers of the entities that declare what an attribute in a rule of an entity names.
 fn named(
     alloc: Global,
-    known: Known<'_, '_, '_>,
+    known: &Known<'_, '_, '_>,
     entity: u32,
     attribute: Attribute<'_>,
 ) -> Result<Vec<u32>, AllocError>
-    requires known { IsKnown known }
-    ensures { (e : Name) → HasNumber (schema_in known.entry) e entity
-        → IsEntity (schema_in known.entry) e
-        → IfOk result (λ t. AreNumbersOf (schema_in known.entry)
-        (λ p. NamesAttribute (schema_in known.entry) e (attribute_of attribute.entry) p
+    requires known { IsKnown known.now }
+    ensures { (e : Name) → HasNumber (schema_in known.now) e entity
+        → IsEntity (schema_in known.now) e
+        → IfOk result (λ t. AreNumbersOf (schema_in known.now)
+        (λ p. NamesAttribute (schema_in known.now) e (attribute_of attribute.entry) p
         (capitals (name_of attribute.entry))) t.items) }
 {
     match attribute {
@@ -177,14 +177,14 @@ fn any_other(names: &Names<'_, '_>, row: &[u32], name: Word<'_>) -> bool
 /// What is found of an attribute in a rule of an entity.
 fn naming_of(
     alloc: Global,
-    known: Known<'_, '_, '_>,
+    known: &Known<'_, '_, '_>,
     entity: u32,
     attribute: Attribute<'_>,
 ) -> Result<Naming, AllocError>
-    requires known { IsKnown known }
-    ensures { (e : Name) → HasNumber (schema_in known.entry) e entity
-        → IsEntity (schema_in known.entry) e
-        → IfOk result (IsNaming (schema_in known.entry) e
+    requires known { IsKnown known.now }
+    ensures { (e : Name) → HasNumber (schema_in known.now) e entity
+        → IsEntity (schema_in known.now) e
+        → IfOk result (IsNaming (schema_in known.now) e
         (attribute_of attribute.entry ∷ [])) }
 {
     let row = named(alloc, known, entity, attribute)?;
@@ -209,14 +209,14 @@ fn both(first: Naming, second: Naming) -> Naming
 /// `AllocError` comes where memory runs out.
 pub fn naming_of_all(
     alloc: Global,
-    known: Known<'_, '_, '_>,
+    known: &Known<'_, '_, '_>,
     entity: u32,
     attributes: &[Attribute<'_>],
 ) -> Result<Naming, AllocError>
-    requires known { IsKnown known }
-    ensures { (e : Name) → HasNumber (schema_in known.entry) e entity
-        → IsEntity (schema_in known.entry) e
-        → IfOk result (IsNaming (schema_in known.entry) e (map attribute_of attributes.now)) }
+    requires known { IsKnown known.now }
+    ensures { (e : Name) → HasNumber (schema_in known.now) e entity
+        → IsEntity (schema_in known.now) e
+        → IfOk result (IsNaming (schema_in known.now) e (map attribute_of attributes.now)) }
 {
     let mut found = Naming {
         is_other: false,

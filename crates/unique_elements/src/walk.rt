@@ -56,7 +56,7 @@ pub(crate) fn pin_in_value(
         (base_seen (schema_at bases.now) base) value.now) pinned.old pinned.new) }
 {
     match value.node() {
-        Node::Typed(word, inner) => match item(*bases, base, word) {
+        Node::Typed(word, inner) => match item(bases, base, word) {
             Some(within) => pin_in_value(alloc, pinned, elements, bases, within, &inner),
             None => Ok(()),
         },

@@ -8,11 +8,11 @@ use Rattle.attribute_uses.proofs.derived.all_derived.Goals as goal
 
 pub loop-declaration-init : goal.loop-declaration-init
 loop-declaration-init c =
-    subst (AllZip (AreDerivedIn (schema_in c.args.sources)) []) (sym (ap graph_of c.new-rows.ensures.items)) tt
+    subst (AllZip (AreDerivedIn (schema_in c.args.sources.now)) []) (sym (ap graph_of c.new-rows.ensures.items)) tt
 
 pub loop-declaration-preserved : goal.loop-declaration-preserved
 loop-declaration-preserved c =
-    zip-next (AreDerivedIn (schema_in c.args.sources)) declaration_of (λ v. v.items)
+    zip-next (AreDerivedIn (schema_in c.args.sources.now)) declaration_of (λ v. v.items)
     c.deref-declaration-items.result.now
     c.loop-declaration.declaration-index c.declaration-item.result c.loop-declaration.rows.items c.push.new.self.items
     c.in_ok-row.row c.loop-declaration-test.true c.declaration-item.is c.loop-declaration.invariant c.in_ok-row.ensures
@@ -20,7 +20,7 @@ loop-declaration-preserved c =
 
 pub returns : goal.returns
 returns c =
-    let s = schema_in c.args.sources in
+    let s = schema_in c.args.sources.now in
     let xs = c.deref-declaration-items.result.now in
     subst (λ ds. AllZip (AreDerivedIn s) ds (graph_of c.loop-declaration.rows.items))
     (all-taken declaration_of xs c.loop-declaration.declaration-index c.loop-declaration-test.false

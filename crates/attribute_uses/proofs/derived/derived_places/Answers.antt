@@ -9,13 +9,13 @@ use Rattle.attribute_uses.proofs.derived.derived_places.Goals as goal
 
 pub loop-derived-init : goal.loop-derived-init
 loop-derived-init c =
-    let s = schema_in c.args.sources in
+    let s = schema_in c.args.sources.now in
     subst (ArePlacesOf s (DerivesOne s [])) (sym c.new-places.ensures.items)
     (places-none s (λ (d : Derived). Redeclares s d.attribute))
 
 pub loop-derived-preserved : goal.loop-derived-preserved
 loop-derived-preserved c =
-    let s = schema_in c.args.sources in
+    let s = schema_in c.args.sources.now in
     let xs = c.args.deriveds.now in
     let n = c.loop-derived.derived-index in
     let d = derived_of c.derived-item.result in
@@ -28,7 +28,7 @@ loop-derived-preserved c =
 
 pub returns : goal.returns
 returns c =
-    let s = schema_in c.args.sources in
+    let s = schema_in c.args.sources.now in
     subst (λ es. ArePlacesOf s (DerivesOne s es) c.loop-derived.places.items)
     (all-taken derived_of c.args.deriveds.now c.loop-derived.derived-index c.loop-derived-test.false)
     c.loop-derived.invariant

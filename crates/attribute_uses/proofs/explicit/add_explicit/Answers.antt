@@ -10,7 +10,7 @@ use Rattle.attribute_uses.proofs.explicit.add_explicit.Goals as goal
 
 pub distinct-requires-clause-within : goal.distinct-requires-clause-within
 distinct-requires-clause-within c q h =
-    let s = schema_in c.args.sources in
+    let s = schema_in c.args.sources.now in
     let x = explicit_of c.args.explicit.now in
     let (n, owned) = c.requires.owned in
     let are = c.in_ok-spoken.ensures n x.data_type c.requires.typed
@@ -22,7 +22,7 @@ distinct-requires-clause-within c q h =
 
 pub returns-clause-uses : goal.returns-clause-uses
 returns-clause-uses c =
-    let s = schema_in c.args.sources in
+    let s = schema_in c.args.sources.now in
     let x = explicit_of c.args.explicit.now in
     let t = c.args.data_type in
     let spoken = c.in_ok-spoken.spoken.items in

@@ -14,8 +14,8 @@ loop-n-init c = (
   c.requires.clean,
   refl,
   refl,
-  (λ n owned. subst (AreUsesOf (schema_in c.args.sources) n []) (sym c.new-uses.ensures.items)
-      (no-uses (schema_in c.args.sources) n)),
+  (λ n owned. subst (AreUsesOf (schema_in c.args.sources.now) n []) (sym c.new-uses.ensures.items)
+      (no-uses (schema_in c.args.sources.now) n)),
 )
 
 pub bounds-row-n : goal.bounds-row-n
@@ -29,7 +29,7 @@ bounds-row-n c =
 
 pub add_explicit-requires : goal.add_explicit-requires
 add_explicit-requires c =
-    let s = schema_in c.args.sources in
+    let s = schema_in c.args.sources.now in
     let xs = c.args.explicits.now in
     let n = c.loop-n.n in
     let x = c.index-explicits-n.result in
@@ -51,7 +51,7 @@ add_explicit-requires c =
 
 pub loop-n-preserved : goal.loop-n-preserved
 loop-n-preserved c =
-    let s = schema_in c.args.sources in
+    let s = schema_in c.args.sources.now in
     let xs = c.args.explicits.now in
     let ys = map explicit_of xs in
     let m = c.loop-n.n in
@@ -76,7 +76,7 @@ loop-n-preserved c =
 pub returns : goal.returns
 returns c = record {
   uses = λ n owned.
-      subst (λ zs. AreUsesOf (schema_in c.args.sources) n zs c.loop-n.uses.items)
+      subst (λ zs. AreUsesOf (schema_in c.args.sources.now) n zs c.loop-n.uses.items)
       (all-taken explicit_of c.args.explicits.now c.loop-n.n c.loop-n-test.false) (c.loop-n.invariant.3 n owned);
   clean = c.loop-n.invariant.0;
   length = c.loop-n.invariant.1;

@@ -10,7 +10,7 @@ pub loop-n-init : goal.loop-n-init
 loop-n-init c = (
   c.requires.clean,
   c.requires.many,
-  subst (AllZip (AreUsesIn (schema_in c.args.sources)) []) (sym (ap (map (λ v. v.items)) c.new-rows.ensures.items)) tt,
+  subst (AllZip (AreUsesIn (schema_in c.args.sources.now)) []) (sym (ap (map (λ v. v.items)) c.new-rows.ensures.items)) tt,
 )
 
 pub uses_by-requires : goal.uses_by-requires
@@ -27,7 +27,7 @@ pub loop-n-preserved : goal.loop-n-preserved
 loop-n-preserved c = (
   c.in_ok-row.ensures.clean,
   c.in_ok-row.ensures.length ∙ c.loop-n.invariant.1,
-  zip-next (AreUsesIn (schema_in c.args.sources)) declaration_of (λ v. v.items) c.as_slice-declarations.result.now
+  zip-next (AreUsesIn (schema_in c.args.sources.now)) declaration_of (λ v. v.items) c.as_slice-declarations.result.now
       c.loop-n.n c.index-declarations-n.result c.loop-n.rows.items c.push.new.self.items c.in_ok-row.row
       c.loop-n-test.true c.index-declarations-n.is c.loop-n.invariant.2 c.in_ok-row.ensures.uses
       c.in_ok-push.ensures.items,
@@ -35,7 +35,7 @@ loop-n-preserved c = (
 
 pub returns : goal.returns
 returns c =
-    let s = schema_in c.args.sources in
+    let s = schema_in c.args.sources.now in
     let xs = c.as_slice-declarations.result.now in
     subst (λ ds. AllZip (AreUsesIn s) ds (map (λ v. v.items) c.loop-n.rows.items))
     (all-taken declaration_of xs c.loop-n.n c.loop-n-test.false

@@ -9,7 +9,7 @@ use Rattle.attribute_uses.proofs.explicit.spoken_places.Goals as goal
 
 pub loop-attribute-init : goal.loop-attribute-init
 loop-attribute-init c =
-    let s = schema_in c.args.sources in (
+    let s = schema_in c.args.sources.now in (
       omega arith,
       (λ n k typed owned. subst (ArePlacesOf s (SpeakTogether s n k [])) (sym c.new-places.ensures.items)
           (places-none s (SpeaksOf s n k))),
@@ -17,7 +17,7 @@ loop-attribute-init c =
 
 pub loop-attribute-preserved : goal.loop-attribute-preserved
 loop-attribute-preserved c =
-    let s = schema_in c.args.sources in
+    let s = schema_in c.args.sources.now in
     let xs = c.args.attributes.now in
     let ys = map attribute_of xs in
     let m = c.loop-attribute.attribute-index in
@@ -39,7 +39,7 @@ loop-attribute-preserved c =
 
 pub returns : goal.returns
 returns c n k typed owned =
-    let s = schema_in c.args.sources in
+    let s = schema_in c.args.sources.now in
     subst (λ zs. ArePlacesOf s (SpeakTogether s n k zs) c.loop-attribute.places.items)
     (all-taken attribute_of c.args.attributes.now c.loop-attribute.attribute-index c.loop-attribute-test.false)
     (c.loop-attribute.invariant.1 n k typed owned)

@@ -10,7 +10,7 @@ redeclared_place-requires-clause-named c = (capitals c.in-Redeclared.field-0, ap
 
 pub returns-in-Unqualified : goal.returns-in-Unqualified
 returns-in-Unqualified c n k typed here =
-    let s = schema_in c.args.sources in
+    let s = schema_in c.args.sources.now in
     let is = ap attribute_of c.in-Unqualified.is in
     subst (λ y. ArePlacesOf s (SpeaksOf s n k y) (at_most_one c.args.own)) (sym is)
     (own-speaks s c.requires.sources.resolved n k (capitals c.in-Unqualified.field-0) c.args.own

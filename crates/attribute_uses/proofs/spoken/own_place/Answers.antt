@@ -9,7 +9,7 @@ use Rattle.attribute_uses.proofs.spoken.own_place.Goals as goal
 
 pub returns : goal.returns
 returns c =
-    let all = places_of c.args.sources.places.now in
+    let all = places_of c.args.sources.now.places.now in
     let test = λ (q : ℕ). has_name (capitals c.args.name) (slice_get all q) in
     let run = find_from_yields_List test _ _ _ c.find.ensures.ran (YieldsList-from_slice c.row_of.result.now cc)
     (λ x b q k. search (rules, tests)) in

@@ -10,7 +10,7 @@ use Rattle.attribute_uses.proofs.spoken.redeclared_place.Goals as goal
 
 pub returns-in_err-entity : goal.returns-in_err-entity
 returns-in_err-entity c n k typed =
-    let s = schema_in c.args.sources in
+    let s = schema_in c.args.sources.now in
     let y = attribute_of c.args.attribute in
     let (q, named) = c.requires.named in
     subst (λ o. ArePlacesOf s (SpeaksOf s n k y) (at_most_one o)) (sym c.from_residual.ensures)
@@ -18,19 +18,19 @@ returns-in_err-entity c n k typed =
 
 pub returns-then-has_first_shape : goal.returns-then-has_first_shape
 returns-then-has_first_shape c n k typed =
-    let s = schema_in c.args.sources in
+    let s = schema_in c.args.sources.now in
     let y = attribute_of c.args.attribute in
     let (q, named) = c.requires.named in
     let h = c.in_ok-entity.ensures in
     let (p, b, ent, number, here, only) = h in
     let shape = (c.if-has_first_shape.ensures p k ent number typed.0 typed.1).0 is-true in
-    spoken-found s c.requires.sources.resolved (graph_of c.args.sources.own.now) c.requires.sources.own
-    (places_of c.args.sources.places.now) c.requires.sources.places y q (capitals c.args.name) named
+    spoken-found s c.requires.sources.resolved (graph_of c.args.sources.now.own.now) c.requires.sources.own
+    (places_of c.args.sources.now.places.now) c.requires.sources.places y q (capitals c.args.name) named
     c.in_ok-entity.entity h c.own_place.result c.own_place.ensures n k shape
 
 pub returns-else-has_first_shape : goal.returns-else-has_first_shape
 returns-else-has_first_shape c n k typed =
-    let s = schema_in c.args.sources in
+    let s = schema_in c.args.sources.now in
     let y = attribute_of c.args.attribute in
     let (q, named) = c.requires.named in
     let h = c.in_ok-entity.ensures in

@@ -9,13 +9,13 @@ use Rattle.body_reasons.proofs.derivations.derivation_ranks.Goals as goal
 
 pub rank_derivations-requires-clause-uses : goal.rank_derivations-requires-clause-uses
 rank_derivations-requires-clause-uses c =
-    let s = schema_in c.args.known in
+    let s = schema_in c.args.known.now in
     subst (AreUses s) (sym (ap graph_of c.deref.ensures.value ∙ c.in_ok-uses.ensures))
     (are-uses s c.requires.known.resolved c.args.judged.now c.requires.judged)
 
 pub rank_derivations-requires-clause-graph : goal.rank_derivations-requires-clause-graph
 rank_derivations-requires-clause-graph c =
-    let s = schema_in c.args.known in
+    let s = schema_in c.args.known.now in
     subst IsGraph (sym (ap graph_of c.deref.ensures.value ∙ c.in_ok-uses.ensures))
     (is-graph s c.requires.known.resolved c.args.judged.now c.requires.judged)
 
@@ -31,6 +31,6 @@ rank_derivations-requires-clause-few c =
 
 pub rank_derivations-requires-clause-faulty : goal.rank_derivations-requires-clause-faulty
 rank_derivations-requires-clause-faulty c =
-    let s = schema_in c.args.known in
+    let s = schema_in c.args.known.now in
     subst (AreFaulty s) (sym (c.deref-2.ensures.value ∙ c.in_ok-faulty.ensures))
     (are-faulty s c.requires.known.resolved c.args.judged.now c.requires.judged)

@@ -13,11 +13,11 @@ use Rattle.body_reasons.proofs.InTurn.{one-judged, adds-none}
 use Rattle.body_reasons.proofs.derivations.judge_declaration.Goals as goal
 
 pub loop-derived-init : goal.loop-derived-init
-loop-derived-init c = adds-none (schema_in c.args.known) c.args.judged.now.items
+loop-derived-init c = adds-none (schema_in c.args.known.now) c.args.judged.now.items
 
 pub loop-derived-preserved : goal.loop-derived-preserved
 loop-derived-preserved c =
-    let s = schema_in c.args.known in
+    let s = schema_in c.args.known.now in
     let d = declaration_of c.args.declaration.now in
     let xs = c.deriveds_in-derived-items.result.now in
     let i = c.loop-derived.derived-index in
@@ -35,7 +35,7 @@ loop-derived-preserved c =
 
 pub returns : goal.returns
 returns c =
-    let s = schema_in c.args.known in
+    let s = schema_in c.args.known.now in
     let d = declaration_of c.args.declaration.now in
     let xs = c.deriveds_in-derived-items.result.now in
     let over = c.loop-derived-test.false in

@@ -10,14 +10,14 @@ use Rattle.body_reasons.proofs.derivations.judge_derivations.Goals as goal
 
 pub judge_declaration-requires-clause-at : goal.judge_declaration-requires-clause-at
 judge_declaration-requires-clause-at c =
-    let xs = c.args.known.tables.names.now.schema.now.declarations.items in
+    let xs = c.args.known.now.tables.names.now.schema.now.declarations.items in
     seen-there declaration_of xs c.loop-number.number c.index.result.now
     (omega (arith, c.loop-number-test.true, c.len-number-end.ensures)) c.index.ensures
 
 pub loop-number-preserved : goal.loop-number-preserved
 loop-number-preserved c =
-    let s = schema_in c.args.known in
-    let xs = c.args.known.tables.names.now.schema.now.declarations.items in
+    let s = schema_in c.args.known.now in
+    let xs = c.args.known.now.tables.names.now.schema.now.declarations.items in
     let i = c.loop-number.number in
     let d = declaration_of c.index.result.now in
     let v = value-of s (map declaration_of xs) i d
@@ -28,8 +28,8 @@ loop-number-preserved c =
 
 pub returns : goal.returns
 returns c =
-    let s = schema_in c.args.known in
-    let xs = c.args.known.tables.names.now.schema.now.declarations.items in
+    let s = schema_in c.args.known.now in
+    let xs = c.args.known.now.tables.names.now.schema.now.declarations.items in
     let long = length-map xs declaration_of in
     adds-all s c.loop-number.judged.items
     (subst (λ ds. AddsJudged s [] (flat_map derivations_in ds) c.loop-number.judged.items)

@@ -8,7 +8,7 @@ use Rattle.body_reasons.proofs.reasons.reason_for.Goals as goal
 
 pub returns : goal.returns
 returns c =
-    let s = schema_in c.args.known in
+    let s = schema_in c.args.known.now in
     subst (IsReasonFor s (Holds s c.args.own.now) (body_of c.args.body.now)) (sym c.reason_with.ensures)
     (reason-is s (Holds s c.args.own.now) c.args.ranks.now c.requires.ranks (body_of c.args.body.now)
     c.in_ok-judgement.judgement c.in_ok-judgement.ensures)

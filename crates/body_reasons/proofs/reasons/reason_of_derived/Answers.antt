@@ -9,7 +9,7 @@ use Rattle.body_reasons.proofs.reasons.reason_of_derived.Goals as goal
 
 pub returns-in-Some : goal.returns-in-Some
 returns-in-Some c d x h der =
-    let s = schema_in c.args.known in
+    let s = schema_in c.args.known.now in
     let found = c.in-Some.ensures.lookup in
     let j = c.in-Some.judgement.now in
     let lt : c.args.number < length c.args.judged.now = found.3.0 in
@@ -21,7 +21,7 @@ returns-in-Some c d x h der =
 
 pub returns-in-None : goal.returns-in-None
 returns-in-None c d x h der =
-    let s = schema_in c.args.known in
+    let s = schema_in c.args.known.now in
     let over = c.in-None.ensures.lookup in
     let far : length c.args.judged.now ≤ c.args.number = over.3 in
     let lt = below-end (all_derivations s) c.args.number d h in

@@ -10,7 +10,7 @@ use Rattle.data_types.proofs.values.add_leaf.Goals as goal
 
 pub returns : goal.returns
 returns c k at =
-    let s = schema_at c.args.tables in
+    let s = schema_at c.args.tables.now in
     let n = c.args.number in
     let w = c.args.is_of_select in
     let old = c.args.atoms.now.items in

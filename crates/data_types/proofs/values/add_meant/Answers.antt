@@ -14,5 +14,5 @@ returns-in-Some c n e = c.add_named.ensures n (e ∙ c.in-Some.is)
 
 pub returns-in-None : goal.returns-in-None
 returns-in-None c n e =
-    adds-nothing (schema_at c.args.tables) c.args.atoms.now.items (IsOf (schema_at c.args.tables) (named n))
-    (lost-is-none (schema_at c.args.tables) n (e ∙ c.in-None.is))
+    adds-nothing (schema_at c.args.tables.now) c.args.atoms.now.items (IsOf (schema_at c.args.tables.now) (named n))
+    (lost-is-none (schema_at c.args.tables.now) n (e ∙ c.in-None.is))

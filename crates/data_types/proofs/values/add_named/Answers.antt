@@ -14,19 +14,19 @@ use Rattle.data_types.proofs.values.add_named.Goals as goal
 pub is_over_select-is_of_select-requires : goal.is_over_select-is_of_select-requires
 is_over_select-is_of_select-requires c =
     let (n, k) = c.requires.named in
-    parts-within (schema_at c.args.tables) (λ v. v.items) c.args.tables.parts.now c.requires.tables.parts n c.args.part
+    parts-within (schema_at c.args.tables.now) (λ v. v.items) c.args.tables.now.parts.now c.requires.tables.parts n c.args.part
     k
 
 pub bounds-tables-part : goal.bounds-tables-part
 bounds-tables-part c =
     let (n, k) = c.requires.named in
-    parts-within (schema_at c.args.tables) (λ v. v.items) c.args.tables.parts.now c.requires.tables.parts n c.args.part
+    parts-within (schema_at c.args.tables.now) (λ v. v.items) c.args.tables.now.parts.now c.requires.tables.parts n c.args.part
     k
 
 pub add_parts-requires-clause-named : goal.add_parts-requires-clause-named
 add_parts-requires-clause-named c j h =
-    let s = schema_at c.args.tables in
-    let parts = c.args.tables.parts.now in
+    let s = schema_at c.args.tables.now in
+    let parts = c.args.tables.now.parts.now in
     let (n, k) = c.requires.named in
     let within = parts-within s (λ v. v.items) parts c.requires.tables.parts n c.args.part k in
     let row =
@@ -36,8 +36,8 @@ add_parts-requires-clause-named c j h =
 
 pub returns : goal.returns
 returns c n k =
-    let s = schema_at c.args.tables in
-    let parts = c.args.tables.parts.now in
+    let s = schema_at c.args.tables.now in
+    let parts = c.args.tables.now.parts.now in
     let part = c.args.part in
     let w = c.is_over_select-is_of_select.result in
     let old = c.args.atoms.now.items in

@@ -16,30 +16,30 @@ use Rattle.data_types.proofs.values.add_part.Goals as goal
 
 pub declaration-requires : goal.declaration-requires
 declaration-requires c =
-    let s = schema_at c.args.tables in
+    let s = schema_at c.args.tables.now in
     let (n, k) = c.requires.named in
     let lt = number-within s n c.args.part k in
-    let long = length-map c.args.tables.names.now.schema.now.declarations.items declaration_of in
+    let long = length-map c.args.tables.now.names.now.schema.now.declarations.items declaration_of in
     omega (arith, lt, long)
 
 pub add_underlying-requires-clause-within : goal.add_underlying-requires-clause-within
 add_underlying-requires-clause-within c =
-    let s = schema_at c.args.tables in
+    let s = schema_at c.args.tables.now in
     let (n, k) = c.requires.named in
     let at =
     subst (λ d. IsAt s c.args.part (declaration_of d)) c.in-Type.is
-    (mapped-at declaration_of c.args.tables.names.now.schema.now.declarations.items c.args.part c.declaration.result.now
+    (mapped-at declaration_of c.args.tables.now.names.now.schema.now.declarations.items c.args.part c.declaration.result.now
     c.declaration.ensures) in
     (n, k, type-here s n c.args.part (type_of c.in-Type.declared) k at)
 
 pub returns-in_ok-push-in-Entity : goal.returns-in_ok-push-in-Entity
 returns-in_ok-push-in-Entity c n k =
-    let s = schema_at c.args.tables in
+    let s = schema_at c.args.tables.now in
     let w = c.args.is_of_select in
     let old = c.args.atoms.now.items in
     let at =
     subst (λ d. IsAt s c.args.part (declaration_of d)) c.in-Entity.is
-    (mapped-at declaration_of c.args.tables.names.now.schema.now.declarations.items c.args.part c.declaration.result.now
+    (mapped-at declaration_of c.args.tables.now.names.now.schema.now.declarations.items c.args.part c.declaration.result.now
     c.declaration.ensures) in
     subst (AddsAll s old (Gives s n w)) (sym c.in_ok-push-in-Entity.ensures.items)
     (adds-atom s old (atoms.Instance c.args.part) (Gives s n w)
@@ -47,10 +47,10 @@ returns-in_ok-push-in-Entity c n k =
 
 pub returns-in-Skipped : goal.returns-in-Skipped
 returns-in-Skipped c n k =
-    let s = schema_at c.args.tables in
+    let s = schema_at c.args.tables.now in
     let at =
     subst (λ d. IsAt s c.args.part (declaration_of d)) c.in-Skipped.is
-    (mapped-at declaration_of c.args.tables.names.now.schema.now.declarations.items c.args.part c.declaration.result.now
+    (mapped-at declaration_of c.args.tables.now.names.now.schema.now.declarations.items c.args.part c.declaration.result.now
     c.declaration.ensures) in
     let (d, here, called) = what-stands s n c.args.part k in
     let same = is-one d (skipped (skipped_of c.in-Skipped.field-0)) (sym here ∙ at) in

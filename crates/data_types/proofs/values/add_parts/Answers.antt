@@ -16,7 +16,7 @@ add_part-requires-clause-named c =
 
 pub loop-part-preserved : goal.loop-part-preserved
 loop-part-preserved c =
-    let s = schema_at c.args.tables in
+    let s = schema_at c.args.tables.now in
     let w = c.args.is_of_select in
     let row = c.args.row.now in
     let at = c.loop-part.part-index in
@@ -33,6 +33,6 @@ loop-part-preserved c =
 
 pub returns : goal.returns
 returns c =
-    let s = schema_at c.args.tables in
+    let s = schema_at c.args.tables.now in
     subst (λ xs. AddsAll s c.args.atoms.now.items (OneGives s xs c.args.is_of_select) c.loop-part.atoms.items)
     (take_all c.loop-part.part-index c.args.row.now c.loop-part-test.false) c.loop-part.invariant

@@ -17,7 +17,7 @@ use Rattle.data_types.proofs.values.add_underlying.Goals as goal
 
 pub returns-in_ok-push-in-Enumeration : goal.returns-in_ok-push-in-Enumeration
 returns-in_ok-push-in-Enumeration c n k =
-    let s = schema_at c.args.tables in
+    let s = schema_at c.args.tables.now in
     let w = c.args.is_of_select in
     let old = c.args.atoms.now.items in
     let (m, there, stands) = c.requires.within in
@@ -30,7 +30,7 @@ returns-in_ok-push-in-Enumeration c n k =
 
 pub returns-in-Select : goal.returns-in-Select
 returns-in-Select c n k =
-    let s = schema_at c.args.tables in
+    let s = schema_at c.args.tables.now in
     let w = c.args.is_of_select in
     let (m, there, stands) = c.requires.within in
     let here =
@@ -40,12 +40,12 @@ returns-in-Select c n k =
 
 pub add_leaf-requires-clause-within : goal.add_leaf-requires-clause-within
 add_leaf-requires-clause-within c =
-    let s = schema_at c.args.tables in
+    let s = schema_at c.args.tables.now in
     let (n, there, stands) = c.requires.within in
     let k = data_type_of c.in-DataType.field-0 in
     let is = subst (λ u. StandsFor s n (underlying_of u)) c.in-DataType.is stands in
     let (m, first, at) =
-    underlying-at s (graph_of c.args.tables.data_types.now.rows.items) c.requires.tables.rows n c.args.part k there is
+    underlying-at s (graph_of c.args.tables.now.data_types.now.rows.items) c.requires.tables.rows n c.args.part k there is
     in
     let lt = slice_get_within (all_data_types s) m k at in
     let same : m ≡ c.in-Some.number = let q = sym first ∙ sym c.underlying_number.ensures ∙ c.in-Some.is in cc in
@@ -54,7 +54,7 @@ add_leaf-requires-clause-within c =
 
 pub returns-in-Some : goal.returns-in-Some
 returns-in-Some c n has =
-    let s = schema_at c.args.tables in
+    let s = schema_at c.args.tables.now in
     let w = c.args.is_of_select in
     let (o, there, stands) = c.requires.within in
     let here =
@@ -62,7 +62,7 @@ returns-in-Some c n has =
     let k = data_type_of c.in-DataType.field-0 in
     let is = subst (λ u. StandsFor s n (underlying_of u)) c.in-DataType.is here in
     let (m, first, at) =
-    underlying-at s (graph_of c.args.tables.data_types.now.rows.items) c.requires.tables.rows n c.args.part k has is in
+    underlying-at s (graph_of c.args.tables.now.data_types.now.rows.items) c.requires.tables.rows n c.args.part k has is in
     let same : m ≡ c.in-Some.number = let q = sym first ∙ sym c.underlying_number.ensures ∙ c.in-Some.is in cc in
     on_ok_weaker c.add_leaf.result (adds-alike s c.args.atoms.now.items c.add_leaf.new.atoms.items (LeafGives s k w)
     (Gives s n w) (gives-leaf s n k w is)) (c.add_leaf.ensures k (subst (λ i. slice_get (all_data_types s) i ≡ Some k)
@@ -70,12 +70,12 @@ returns-in-Some c n has =
 
 pub returns-in-None : goal.returns-in-None
 returns-in-None c n has =
-    let s = schema_at c.args.tables in
+    let s = schema_at c.args.tables.now in
     let (o, there, stands) = c.requires.within in
     let k = data_type_of c.in-DataType.field-0 in
     let is = subst (λ u. StandsFor s o (underlying_of u)) c.in-DataType.is stands in
     let (m, first, at) =
-    underlying-at s (graph_of c.args.tables.data_types.now.rows.items) c.requires.tables.rows o c.args.part k there is
+    underlying-at s (graph_of c.args.tables.now.data_types.now.rows.items) c.requires.tables.rows o c.args.part k there is
     in
     let q = sym first ∙ sym c.underlying_number.ensures ∙ c.in-None.is in
     absurd (cc)

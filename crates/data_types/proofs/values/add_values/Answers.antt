@@ -10,7 +10,7 @@ use Rattle.data_types.proofs.values.add_values.Goals as goal
 
 pub add_meant-requires-clause-meant : goal.add_meant-requires-clause-meant
 add_meant-requires-clause-meant c =
-    let s = schema_at c.args.tables in
+    let s = schema_at c.args.tables.now in
     let (k, at) = what-is (all_data_types s) c.args.number c.requires.within in
     let is =
     form-at (form_in s) (all_data_types s) c.args.number k c.index.result.now at
@@ -19,7 +19,7 @@ add_meant-requires-clause-meant c =
 
 pub returns-in-Named : goal.returns-in-Named
 returns-in-Named c k at =
-    let s = schema_at c.args.tables in
+    let s = schema_at c.args.tables.now in
     let is =
     form-at (form_in s) (all_data_types s) c.args.number k c.index.result.now at
     (c.index.ensures ∙ ap (λ fs. get_or fs c.args.number c.index.result.now) c.requires.tables.forms) in
@@ -29,7 +29,7 @@ returns-in-Named c k at =
 
 pub returns-in_default : goal.returns-in_default
 returns-in_default c k at =
-    let s = schema_at c.args.tables in
+    let s = schema_at c.args.tables.now in
     let is =
     form-at (form_in s) (all_data_types s) c.args.number k c.index.result.now at
     (c.index.ensures ∙ ap (λ fs. get_or fs c.args.number c.index.result.now) c.requires.tables.forms) in

@@ -10,8 +10,8 @@ use Rattle.data_types.proofs.values.is_over_select.Goals as goal
 
 pub returns-else-is_select_at : goal.returns-else-is_select_at
 returns-else-is_select_at c =
-    let s = schema_at c.args.tables in
-    let parts = c.args.tables.parts.now in
+    let s = schema_at c.args.tables.now in
+    let parts = c.args.tables.now.parts.now in
     let xs = c.deref.result.now in
     let run =
     any_from_yields_List (is_select_at s) _ _ _ c.any.ensures.ran (YieldsList-from_slice xs cc)

@@ -12,5 +12,5 @@ pub returns-in-Unqualified : goal.returns-in-Unqualified
 returns-in-Unqualified c =
     on_ok_weaker c.add.result
     (λ h. subst (λ y. AddsAll c.args.flat.now.items
-    (Says (schema_in c.args.sources) c.args.class c.args.declaration (attribute_of y)) c.add.new.flat.items)
+    (Says (schema_in c.args.sources.now) c.args.class c.args.declaration (attribute_of y)) c.add.new.flat.items)
     (sym c.in-Unqualified.is) h) c.add.ensures

@@ -8,7 +8,7 @@ use Rattle.declared_attributes.proofs.gathering.add_attributes.Goals as goal
 
 pub loop-n-init : goal.loop-n-init
 loop-n-init c =
-    none-yet (λ (m : ℕ). Says (schema_in c.args.sources) classes.Explicit (record { entity = c.args.entity; data_type = c.args.data_type; derivation = c.args.derivation })) (map attribute_of c.args.attributes.now)
+    none-yet (λ (m : ℕ). Says (schema_in c.args.sources.now) classes.Explicit (record { entity = c.args.entity; data_type = c.args.data_type; derivation = c.args.derivation })) (map attribute_of c.args.attributes.now)
     c.args.flat.now.items
 
 pub loop-n-preserved : goal.loop-n-preserved
@@ -16,7 +16,7 @@ loop-n-preserved c =
     let xs = c.args.attributes.now in
     let n = c.loop-n.n in
     let x = c.index-attributes-n.result in
-    one-more (λ (m : ℕ). Says (schema_in c.args.sources) classes.Explicit (record { entity = c.args.entity; data_type = c.args.data_type; derivation = c.args.derivation })) (map attribute_of xs) n (attribute_of x)
+    one-more (λ (m : ℕ). Says (schema_in c.args.sources.now) classes.Explicit (record { entity = c.args.entity; data_type = c.args.data_type; derivation = c.args.derivation })) (map attribute_of xs) n (attribute_of x)
     c.args.flat.now.items c.loop-n.flat.items c.add_attribute.new.flat.items
     (seen attribute_of xs n x c.loop-n-test.true c.index-attributes-n.is) c.loop-n.invariant c.in_ok-add_attribute.ensures
 
@@ -27,5 +27,5 @@ returns c =
     let before = c.loop-n.auto.n-end in
     let after = c.loop-n-test.false in
     let end : n ≡ length xs = omega (arith, before, after) in
-    at-length (λ (m : ℕ). Says (schema_in c.args.sources) classes.Explicit (record { entity = c.args.entity; data_type = c.args.data_type; derivation = c.args.derivation })) (map attribute_of xs) n
+    at-length (λ (m : ℕ). Says (schema_in c.args.sources.now) classes.Explicit (record { entity = c.args.entity; data_type = c.args.data_type; derivation = c.args.derivation })) (map attribute_of xs) n
     c.args.flat.now.items c.loop-n.flat.items (end ∙ sym (length-map xs attribute_of)) c.loop-n.invariant

@@ -8,7 +8,7 @@ use Rattle.declared_attributes.proofs.gathering.add_clauses.Goals as goal
 
 pub returns : goal.returns
 returns c =
-    let s = schema_in c.args.sources in
+    let s = schema_in c.args.sources.now in
     let i = c.args.number in
     let row = c.args.row.now in
     let xs = map explicit_of c.args.explicits.now in

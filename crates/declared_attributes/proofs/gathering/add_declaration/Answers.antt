@@ -11,19 +11,19 @@ use Rattle.declared_attributes.proofs.gathering.add_declaration.Goals as goal
 
 pub add_entity-requires-clause-known : goal.add_entity-requires-clause-known
 add_entity-requires-clause-known c =
-    let s = schema_in c.args.sources in
+    let s = schema_in c.args.sources.now in
     let e = entity_of c.in-Entity.entity in
     let at = subst (λ d. IsAt s c.args.i (declaration_of d)) c.in-Entity.is c.requires.at in
     let many = length-map c.in-Entity.entity.explicits.items explicit_of in
     subst (λ m. AreKnownFrom s m c.row_of-row.result.now) many
     (subst (AreKnownFrom s (length e.explicits))
     (sym (c.row_of-row.ensures ∙ ap (λ v. next (graph_of v) c.args.i) c.deref.ensures.value))
-    (known-from s c.data_types_are_known.ensures c.requires.sources.resolved (rows_in c.args.sources) c.requires.sources.rows c.args.i e at))
+    (known-from s c.data_types_are_known.ensures c.requires.sources.resolved (rows_in c.args.sources.now) c.requires.sources.rows c.args.i e at))
 
 pub returns-in_ok-number-in-Entity : goal.returns-in_ok-number-in-Entity
 returns-in_ok-number-in-Entity c =
-    let s = schema_in c.args.sources in
-    let rows = rows_in c.args.sources in
+    let s = schema_in c.args.sources.now in
+    let rows = rows_in c.args.sources.now in
     let old = c.args.flat.now.items in
     let new = c.add_entity.new.flat.items in
     let e = entity_of c.in-Entity.entity in
@@ -37,9 +37,9 @@ returns-in_ok-number-in-Entity c =
 
 pub returns-in_default : goal.returns-in_default
 returns-in_default c =
-    let s = schema_in c.args.sources in
+    let s = schema_in c.args.sources.now in
     adds-nothing c.args.flat.now.items
-    (SaysDeclaration s c.args.i (next (rows_in c.args.sources) c.args.i) c.args.count
+    (SaysDeclaration s c.args.i (next (rows_in c.args.sources.now) c.args.i) c.args.count
     (declaration_of c.args.declaration.now))
-    (only-entities s c.args.i (next (rows_in c.args.sources) c.args.i) c.args.count c.args.declaration.now
+    (only-entities s c.args.i (next (rows_in c.args.sources.now) c.args.i) c.args.count c.args.declaration.now
     c.in_default.not-Entity)

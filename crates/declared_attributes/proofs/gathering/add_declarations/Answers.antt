@@ -17,12 +17,12 @@ add_declaration-requires-clause-at c =
 pub loop-n-init : goal.loop-n-init
 loop-n-init c =
     let ds = map declaration_of c.args.declarations.now in
-    (refl, none-yet (SaysAt (schema_in c.args.sources) (rows_in c.args.sources) ds) ds c.args.flat.now.items)
+    (refl, none-yet (SaysAt (schema_in c.args.sources.now) (rows_in c.args.sources.now) ds) ds c.args.flat.now.items)
 
 pub loop-n-preserved : goal.loop-n-preserved
 loop-n-preserved c =
-    let s = schema_in c.args.sources in
-    let rows = rows_in c.args.sources in
+    let s = schema_in c.args.sources.now in
+    let rows = rows_in c.args.sources.now in
     let xs = c.args.declarations.now in
     let ds = map declaration_of xs in
     let n = c.loop-n.n in
@@ -45,5 +45,5 @@ returns c =
     let before = c.loop-n.auto.n-end in
     let after = c.loop-n-test.false in
     let end : n ≡ length xs = omega (arith, before, after) in
-    at-length (SaysAt (schema_in c.args.sources) (rows_in c.args.sources) ds) ds n
+    at-length (SaysAt (schema_in c.args.sources.now) (rows_in c.args.sources.now) ds) ds n
     c.args.flat.now.items c.loop-n.flat.items (end ∙ sym (length-map xs declaration_of)) c.loop-n.invariant.1

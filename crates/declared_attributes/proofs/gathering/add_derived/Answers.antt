@@ -7,7 +7,7 @@ use Rattle.declared_attributes.proofs.gathering.add_derived.Goals as goal
 
 pub returns : goal.returns
 returns c =
-    let s = schema_in c.args.sources in
+    let s = schema_in c.args.sources.now in
     let i = c.args.entity in
     let y = attribute_of c.args.derived.now.attribute in
     let row = c.args.row.now in

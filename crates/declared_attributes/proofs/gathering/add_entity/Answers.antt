@@ -7,12 +7,12 @@ use Rattle.declared_attributes.proofs.gathering.add_entity.Goals as goal
 
 pub add_clauses-requires-clause-known : goal.add_clauses-requires-clause-known
 add_clauses-requires-clause-known c =
-    subst (λ m. AreKnownFrom (schema_in c.args.sources) m c.args.row.now) (sym (ap length c.deref.ensures.value))
+    subst (λ m. AreKnownFrom (schema_in c.args.sources.now) m c.args.row.now) (sym (ap length c.deref.ensures.value))
     c.requires.known
 
 pub returns : goal.returns
 returns c =
-    let s = schema_in c.args.sources in
+    let s = schema_in c.args.sources.now in
     let e = c.args.entity.now in
     on_ok_weaker c.add_clauses.result (λ h.
     subst (λ says. AddsAll c.args.flat.now.items says c.add_clauses.new.flat.items)

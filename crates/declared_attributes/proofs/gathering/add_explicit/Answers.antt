@@ -11,7 +11,7 @@ add_attributes-requires-clause-known c =
 
 pub returns-in-Some : goal.returns-in-Some
 returns-in-Some c =
-    let s = schema_in c.args.sources in
+    let s = schema_in c.args.sources.now in
     let x = explicit_of c.args.explicit.now in
     let said : ℕ → Saying = λ k. SaysTogether s c.args.entity k None x.attributes in
     on_ok_weaker c.add_attributes.result (λ h. adds-alike c.args.flat.now.items c.add_attributes.new.flat.items
@@ -24,7 +24,7 @@ returns-in-Some c =
 
 pub returns-in-None : goal.returns-in-None
 returns-in-None c =
-    let s = schema_in c.args.sources in
+    let s = schema_in c.args.sources.now in
     let x = explicit_of c.args.explicit.now in
     adds-nothing c.args.flat.now.items (SaysExplicit s c.args.entity c.args.row.now c.args.n x)
     (without-number (λ k. SaysTogether s c.args.entity k None x.attributes)

@@ -10,7 +10,7 @@ add_explicit-requires-clause-known c t at = c.requires.known c.loop-n.n t c.loop
 
 pub loop-n-init : goal.loop-n-init
 loop-n-init c =
-    none-yet (SaysExplicit (schema_in c.args.sources) c.args.entity c.args.row.now) (map explicit_of c.args.explicits.now)
+    none-yet (SaysExplicit (schema_in c.args.sources.now) c.args.entity c.args.row.now) (map explicit_of c.args.explicits.now)
     c.args.flat.now.items
 
 pub loop-n-preserved : goal.loop-n-preserved
@@ -18,7 +18,7 @@ loop-n-preserved c =
     let xs = c.args.explicits.now in
     let n = c.loop-n.n in
     let x = c.index-explicits-n.result in
-    one-more (SaysExplicit (schema_in c.args.sources) c.args.entity c.args.row.now) (map explicit_of xs) n (explicit_of x)
+    one-more (SaysExplicit (schema_in c.args.sources.now) c.args.entity c.args.row.now) (map explicit_of xs) n (explicit_of x)
     c.args.flat.now.items c.loop-n.flat.items c.add_explicit.new.flat.items
     (seen explicit_of xs n x c.loop-n-test.true c.index-explicits-n.is) c.loop-n.invariant c.in_ok-add_explicit.ensures
 
@@ -29,5 +29,5 @@ returns c =
     let before = c.loop-n.auto.n-end in
     let after = c.loop-n-test.false in
     let end : n ≡ length xs = omega (arith, before, after) in
-    at-length (SaysExplicit (schema_in c.args.sources) c.args.entity c.args.row.now) (map explicit_of xs) n
+    at-length (SaysExplicit (schema_in c.args.sources.now) c.args.entity c.args.row.now) (map explicit_of xs) n
     c.args.flat.now.items c.loop-n.flat.items (end ∙ sym (length-map xs explicit_of)) c.loop-n.invariant

@@ -10,7 +10,7 @@ add_one-requires-clause-known c t = tt
 
 pub returns : goal.returns
 returns c =
-    let s = schema_in c.args.sources in
+    let s = schema_in c.args.sources.now in
     let y = attribute_of c.args.inverse.now.attribute in
     let at = c.item_at.ensures ∙ ap (slice_get c.args.row.now) c.in_ok-place.ensures in
     on_ok_weaker c.add_one.result (λ h.

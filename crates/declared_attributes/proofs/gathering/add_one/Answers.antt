@@ -10,7 +10,7 @@ add_attribute-requires-clause-known c = c.requires.known c.in-Some.data_type
 
 pub returns-in-Some : goal.returns-in-Some
 returns-in-Some c =
-    let s = schema_in c.args.sources in
+    let s = schema_in c.args.sources.now in
     let y = attribute_of c.args.attribute in
     let said : ℕ → Saying =
     λ k. Says s c.args.class (record { entity = c.args.entity; data_type = k; derivation = c.args.derivation }) y in
@@ -20,7 +20,7 @@ returns-in-Some c =
 
 pub returns-in-None : goal.returns-in-None
 returns-in-None c =
-    let s = schema_in c.args.sources in
+    let s = schema_in c.args.sources.now in
     let y = attribute_of c.args.attribute in
     adds-nothing c.args.flat.now.items (SaysOne s c.args.class c.args.entity c.args.data_type c.args.derivation y)
     (without-number (λ k. Says s c.args.class

@@ -9,7 +9,7 @@ use Rattle.declared_attributes.proofs.gathering.add_redeclared.Goals as goal
 
 pub returns-in_default : goal.returns-in_default
 returns-in_default c =
-    let s = schema_in c.args.sources in
+    let s = schema_in c.args.sources.now in
     let d = c.args.declaration in
     let old = c.args.flat.now.items in
     let n = capitals c.args.name in
@@ -20,7 +20,7 @@ returns-in_default c =
 
 pub returns-in_ok-add : goal.returns-in_ok-add
 returns-in_ok-add c =
-    let s = schema_in c.args.sources in
+    let s = schema_in c.args.sources.now in
     let d = c.args.declaration in
     let i = c.in-Some.entity in
     let old = c.args.flat.now.items in
@@ -36,7 +36,7 @@ returns-in_ok-add c =
 
 pub returns-else-allows : goal.returns-else-allows
 returns-else-allows c =
-    let s = schema_in c.args.sources in
+    let s = schema_in c.args.sources.now in
     let d = c.args.declaration in
     let i = c.in-Some.entity in
     let old = c.args.flat.now.items in

@@ -11,8 +11,8 @@ use Rattle.enumeration_items.proofs.items.has_item_within.Goals as goal
 
 pub returns-else-has_item_at : goal.returns-else-has_item_at
 returns-else-has_item_at c =
-    let test = has_item_at (schema_at c.args.tables) (capitals c.args.name) in
-    let parts = c.args.tables.parts.now in
+    let test = has_item_at (schema_at c.args.tables.now) (capitals c.args.name) in
+    let parts = c.args.tables.now.parts.now in
     let xs = c.deref.result.now in
     let run =
     any_from_yields_List test _ _ _ c.any.ensures.ran (YieldsList-from_slice xs cc) (λ x b q k. search (rules, tests)) in

@@ -11,18 +11,18 @@ use Rattle.enumeration_items.proofs.items.is_item_of.Goals as goal
 
 pub is_over_select-requires : goal.is_over_select-requires
 is_over_select-requires c =
-    parts-within (schema_at c.args.tables) (λ v. v.items) c.args.tables.parts.now c.requires.tables.parts
+    parts-within (schema_at c.args.tables.now) (λ v. v.items) c.args.tables.now.parts.now c.requires.tables.parts
     (capitals c.args.defined) c.in-Some.part (sym c.find.ensures ∙ c.in-Some.is)
 
 pub has_item_within-requires : goal.has_item_within-requires
 has_item_within-requires c =
-    parts-within (schema_at c.args.tables) (λ v. v.items) c.args.tables.parts.now c.requires.tables.parts
+    parts-within (schema_at c.args.tables.now) (λ v. v.items) c.args.tables.now.parts.now c.requires.tables.parts
     (capitals c.args.defined) c.in-Some.part (sym c.find.ensures ∙ c.in-Some.is)
 
 pub returns-then-not-is_over_select : goal.returns-then-not-is_over_select
 returns-then-not-is_over_select c =
-    let s = schema_at c.args.tables in
-    let rows = graph_of c.args.tables.parts.now in
+    let s = schema_at c.args.tables.now in
+    let rows = graph_of c.args.tables.now.parts.now in
     let n = capitals c.args.name in
     let t = capitals c.args.defined in
     let told = item-told s rows c.requires.tables.parts t n c.in-Some.part (sym c.find.ensures ∙ c.in-Some.is) in
@@ -32,8 +32,8 @@ returns-then-not-is_over_select c =
 
 pub returns-else-not-is_over_select : goal.returns-else-not-is_over_select
 returns-else-not-is_over_select c =
-    let s = schema_at c.args.tables in
-    let rows = graph_of c.args.tables.parts.now in
+    let s = schema_at c.args.tables.now in
+    let rows = graph_of c.args.tables.now.parts.now in
     let n = capitals c.args.name in
     let t = capitals c.args.defined in
     let told = item-told s rows c.requires.tables.parts t n c.in-Some.part (sym c.find.ensures ∙ c.in-Some.is) in
@@ -44,7 +44,7 @@ returns-else-not-is_over_select c =
 pub returns-in-None : goal.returns-in-None
 returns-in-None c = (λ e. absurd (cc), none)
   where
-    none : IsItemOf (schema_at c.args.tables) (capitals c.args.defined) (capitals c.args.name) → false ≡ true
+    none : IsItemOf (schema_at c.args.tables.now) (capitals c.args.defined) (capitals c.args.name) → false ≡ true
     none h =
-        let (i, k) = has-number (schema_at c.args.tables) (capitals c.args.defined) (capitals c.args.name) h in
+        let (i, k) = has-number (schema_at c.args.tables.now) (capitals c.args.defined) (capitals c.args.name) h in
         let q = sym k ∙ sym c.find.ensures ∙ c.in-None.is in absurd (cc)

@@ -6,7 +6,7 @@ use Rattle.express_types.proofs.ruling.rules_by.Goals as goal
 
 pub rule_tables-requires : goal.rule_tables-requires
 rule_tables-requires c =
-    let s = schema_in c.args.known in
+    let s = schema_in c.args.known.now in
     record {
       sources = record {
         known = c.requires.known;

@@ -10,7 +10,7 @@ use Rattle.expression_sets.proofs.paths.go_on.Goals as goal
 
 pub returns-in_ok-taken-in-Attribute : goal.returns-in_ok-taken-in-Attribute
 returns-in_ok-taken-in-Attribute c =
-    let s = schema_in c.args.known in
+    let s = schema_in c.args.known.now in
     let a = c.in-Attribute.name in
     let old = c.args.reference.now in
     let new = c.go_to_attribute.new.reference in
@@ -24,7 +24,7 @@ returns-in_ok-taken-in-Attribute c =
 
 pub returns-in_ok-taken-in-Group : goal.returns-in_ok-taken-in-Group
 returns-in_ok-taken-in-Group c =
-    let s = schema_in c.args.known in
+    let s = schema_in c.args.known.now in
     let e = c.in-Group.entity in
     let a = c.in-Group.name in
     let old = c.args.reference.now in
@@ -36,7 +36,7 @@ returns-in_ok-taken-in-Group c =
 
 pub returns-in_ok-reference-in-Index : goal.returns-in_ok-reference-in-Index
 returns-in_ok-reference-in-Index c =
-    let s = schema_in c.args.known in
+    let s = schema_in c.args.known.now in
     let i = c.in-Index.field-0 in
     let old = c.args.reference.now in
     let may = c.in_ok-reference-in-Index.field-0 in

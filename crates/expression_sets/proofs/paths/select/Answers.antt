@@ -12,7 +12,7 @@ use Rattle.expression_sets.proofs.paths.select.Goals as goal
 
 pub returns : goal.returns
 returns c =
-    let s = schema_in c.args.known in
+    let s = schema_in c.args.known.now in
     let qs = qualifiers_of c.args.qualifiers.now in
     let p = path_behind s (Holds s c.args.may.items) qs in
     let begun : Reference = record { is_unclear = false; may = c.args.may; uses = c.new.result } in

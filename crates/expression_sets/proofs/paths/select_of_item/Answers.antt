@@ -12,7 +12,7 @@ use Rattle.expression_sets.proofs.paths.select_of_item.Goals as goal
 
 pub returns : goal.returns
 returns c =
-    let s = schema_in c.args.known in
+    let s = schema_in c.args.known.now in
     let qs = qualifiers_of c.args.qualifiers.now in
     let xs = c.add_sort.new.atoms.items in
     let is = set-of s (Only an_item) xs (subst (λ ys. AddsAll s ys (Only an_item) xs) c.new-may.ensures.items

@@ -12,7 +12,7 @@ use Rattle.expression_sets.proofs.paths.select_of_taken.Goals as goal
 
 pub returns : goal.returns
 returns c own n taken =
-    let s = schema_in c.args.known in
+    let s = schema_in c.args.known.now in
     let qs = qualifiers_of c.args.qualifiers.now in
     let k = c.args.taken in
     let begun : Reference = record { is_unclear = k.is_unclear; may = k.may; uses = k.uses } in

@@ -12,11 +12,11 @@ use Rattle.expression_sets.proofs.references.refer.Goals as goal
 
 pub returns-in_ok-own-in-SelfInstance : goal.returns-in_ok-own-in-SelfInstance
 returns-in_ok-own-in-SelfInstance c =
-    let s = schema_around c.args.scope in
-    let self = own_in c.args.scope in
-    let vs = variables_in c.args.scope in
+    let s = schema_around c.args.scope.now in
+    let self = own_in c.args.scope.now in
+    let vs = variables_in c.args.scope.now in
     let qs = qualifiers_of c.args.qualifiers.now in
-    let xs = c.args.scope.own.now in
+    let xs = c.args.scope.now.own.now in
     let h = subst (λ (ys : List Atom). IfOk c.select.result (λ t. IsPath s (path_behind s (Holds s ys) qs) t))
     c.in_ok-own-in-SelfInstance.ensures.items c.select.ensures in
     subst (λ r. IfOk c.select.result (λ t. IsReferred s self vs (root_of r) qs t)) (sym c.in-SelfInstance.is)

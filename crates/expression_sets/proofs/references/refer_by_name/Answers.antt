@@ -14,9 +14,9 @@ use Rattle.expression_sets.proofs.references.refer_by_name.Goals as goal
 
 pub returns-in-Variable : goal.returns-in-Variable
 returns-in-Variable c =
-    let s = schema_around c.args.scope in
-    let self = own_in c.args.scope in
-    let vs = variables_in c.args.scope in
+    let s = schema_around c.args.scope.now in
+    let self = own_in c.args.scope.now in
+    let vs = variables_in c.args.scope.now in
     let n = capitals c.args.name in
     let qs = qualifiers_of c.args.qualifiers.now in
     let m = subst (IsMeaning s self vs n qs) c.in-Variable.is c.in_ok-may.ensures in
@@ -27,21 +27,21 @@ returns-in-Variable c =
 
 pub returns-in-Attribute : goal.returns-in-Attribute
 returns-in-Attribute c =
-    let s = schema_around c.args.scope in
-    let self = own_in c.args.scope in
-    let vs = variables_in c.args.scope in
+    let s = schema_around c.args.scope.now in
+    let self = own_in c.args.scope.now in
+    let vs = variables_in c.args.scope.now in
     let n = capitals c.args.name in
     let qs = qualifiers_of c.args.qualifiers.now in
     let m = subst (IsMeaning s self vs n qs) c.in-Attribute.is c.in_ok-may.ensures in
     IfOk-weaker c.select_of_taken.result (λ t. IsPath s (path_behind s self (attribute n qs)) t) (λ t. IsReferred s self vs (named n) qs t)
     (λ t h. referred s self vs (named n) qs attribute_of_self t m.0 h)
-    (c.select_of_taken.ensures c.args.scope.own.now n m.1)
+    (c.select_of_taken.ensures c.args.scope.now.own.now n m.1)
 
 pub returns-in-ItemOfType : goal.returns-in-ItemOfType
 returns-in-ItemOfType c =
-    let s = schema_around c.args.scope in
-    let self = own_in c.args.scope in
-    let vs = variables_in c.args.scope in
+    let s = schema_around c.args.scope.now in
+    let self = own_in c.args.scope.now in
+    let vs = variables_in c.args.scope.now in
     let n = capitals c.args.name in
     let qs = qualifiers_of c.args.qualifiers.now in
     let m = subst (IsMeaning s self vs n qs) c.in-ItemOfType.is c.in_ok-may.ensures in
@@ -54,9 +54,9 @@ returns-in-ItemOfType c =
 
 pub returns-in-Item : goal.returns-in-Item
 returns-in-Item c =
-    let s = schema_around c.args.scope in
-    let self = own_in c.args.scope in
-    let vs = variables_in c.args.scope in
+    let s = schema_around c.args.scope.now in
+    let self = own_in c.args.scope.now in
+    let vs = variables_in c.args.scope.now in
     let n = capitals c.args.name in
     let qs = qualifiers_of c.args.qualifiers.now in
     let m = subst (IsMeaning s self vs n qs) c.in-Item.is c.in_ok-may.ensures in
@@ -65,9 +65,9 @@ returns-in-Item c =
 
 pub returns-in-Nothing : goal.returns-in-Nothing
 returns-in-Nothing c =
-    let s = schema_around c.args.scope in
-    let self = own_in c.args.scope in
-    let vs = variables_in c.args.scope in
+    let s = schema_around c.args.scope.now in
+    let self = own_in c.args.scope.now in
+    let vs = variables_in c.args.scope.now in
     let n = capitals c.args.name in
     let qs = qualifiers_of c.args.qualifiers.now in
     let m = subst (IsMeaning s self vs n qs) c.in-Nothing.is c.in_ok-may.ensures in

@@ -11,9 +11,9 @@ use Rattle.expression_sets.proofs.sets.+add_possible.Goals as goal
 
 pub returns-in-Literal : goal.returns-in-Literal
 returns-in-Literal t c =
-    let s = schema_around c.args.scope in
-    let self = own_in c.args.scope in
-    let vs = variables_in c.args.scope in
+    let s = schema_around c.args.scope.now in
+    let self = own_in c.args.scope.now in
+    let vs = variables_in c.args.scope.now in
     let old = c.args.atoms.now.items in
     let new = c.add_literal.new.atoms.items in
     adds-tree s self vs c.add_literal.result c.args.expression.now (exprs.Literal c.in-Literal.literal) c.in-Literal.is (trees.literal (literal_of c.in-Literal.literal))
@@ -21,9 +21,9 @@ returns-in-Literal t c =
 
 pub returns-in-Signed : goal.returns-in-Signed
 returns-in-Signed t c =
-    let s = schema_around c.args.scope in
-    let self = own_in c.args.scope in
-    let vs = variables_in c.args.scope in
+    let s = schema_around c.args.scope.now in
+    let self = own_in c.args.scope.now in
+    let vs = variables_in c.args.scope.now in
     let old = c.args.atoms.now.items in
     let new = c.add_sort.new.atoms.items in
     adds-tree s self vs c.add_sort.result c.args.expression.now (exprs.Signed c.in-Signed.field-0 c.in-Signed.field-1) c.in-Signed.is (trees.signed c.in-Signed.field-0 (number_of c.in-Signed.field-1))
@@ -31,9 +31,9 @@ returns-in-Signed t c =
 
 pub returns-in-Reference : goal.returns-in-Reference
 returns-in-Reference t c =
-    let s = schema_around c.args.scope in
-    let self = own_in c.args.scope in
-    let vs = variables_in c.args.scope in
+    let s = schema_around c.args.scope.now in
+    let self = own_in c.args.scope.now in
+    let vs = variables_in c.args.scope.now in
     let old = c.args.atoms.now.items in
     let new = c.add_reference.new.atoms.items in
     adds-tree s self vs c.add_reference.result c.args.expression.now (exprs.Reference c.in-Reference.root c.in-Reference.qualifiers) c.in-Reference.is (trees.reference (root_of c.in-Reference.root) (qualifiers_of c.in-Reference.qualifiers.items))
@@ -42,9 +42,9 @@ returns-in-Reference t c =
 
 pub returns-in-Parenthesized : goal.returns-in-Parenthesized
 returns-in-Parenthesized t c =
-    let s = schema_around c.args.scope in
-    let self = own_in c.args.scope in
-    let vs = variables_in c.args.scope in
+    let s = schema_around c.args.scope.now in
+    let self = own_in c.args.scope.now in
+    let vs = variables_in c.args.scope.now in
     let old = c.args.atoms.now.items in
     let new = c.add_possible.new.atoms.items in
     adds-tree s self vs c.add_possible.result c.args.expression.now (exprs.Parenthesized c.in-Parenthesized.inner) c.in-Parenthesized.is (trees.parenthesized (tree_of c.in-Parenthesized.inner.value))
@@ -53,9 +53,9 @@ returns-in-Parenthesized t c =
 
 pub returns-in_ok-add_possible-in-Query : goal.returns-in_ok-add_possible-in-Query
 returns-in_ok-add_possible-in-Query t c =
-    let s = schema_around c.args.scope in
-    let self = own_in c.args.scope in
-    let vs = variables_in c.args.scope in
+    let s = schema_around c.args.scope.now in
+    let self = own_in c.args.scope.now in
+    let vs = variables_in c.args.scope.now in
     let old = c.args.atoms.now.items in
     let new = c.add_aggregates.new.atoms.items in
     adds-tree s self vs c.add_aggregates.result c.args.expression.now (exprs.Query c.in-Query.variable c.in-Query.source c.in-Query.condition) c.in-Query.is (trees.query (capitals c.in-Query.variable) (tree_of c.in-Query.source.value) (tree_of c.in-Query.condition.value))
@@ -67,9 +67,9 @@ returns-in_ok-add_possible-in-Query t c =
 
 pub returns-in-Call : goal.returns-in-Call
 returns-in-Call t c =
-    let s = schema_around c.args.scope in
-    let self = own_in c.args.scope in
-    let vs = variables_in c.args.scope in
+    let s = schema_around c.args.scope.now in
+    let self = own_in c.args.scope.now in
+    let vs = variables_in c.args.scope.now in
     let old = c.args.atoms.now.items in
     let new = c.add_call.new.atoms.items in
     adds-tree s self vs c.add_call.result c.args.expression.now (exprs.Call c.in-Call.function c.in-Call.field-1) c.in-Call.is (trees.call c.in-Call.function (tree_of c.in-Call.field-1.value))
@@ -77,9 +77,9 @@ returns-in-Call t c =
 
 pub returns-in_ok-add_possible-in-Nvl : goal.returns-in_ok-add_possible-in-Nvl
 returns-in_ok-add_possible-in-Nvl t c =
-    let s = schema_around c.args.scope in
-    let self = own_in c.args.scope in
-    let vs = variables_in c.args.scope in
+    let s = schema_around c.args.scope.now in
+    let self = own_in c.args.scope.now in
+    let vs = variables_in c.args.scope.now in
     let old = c.args.atoms.now.items in
     let new = c.add_possible-in-Nvl-2.new.atoms.items in
     adds-tree s self vs c.add_possible-in-Nvl-2.result c.args.expression.now (exprs.Nvl c.in-Nvl.value c.in-Nvl.substitute) c.in-Nvl.is (trees.nvl (tree_of c.in-Nvl.value.value) (tree_of c.in-Nvl.substitute.value))
@@ -92,9 +92,9 @@ returns-in_ok-add_possible-in-Nvl t c =
 
 pub returns-in-Interval : goal.returns-in-Interval
 returns-in-Interval t c =
-    let s = schema_around c.args.scope in
-    let self = own_in c.args.scope in
-    let vs = variables_in c.args.scope in
+    let s = schema_around c.args.scope.now in
+    let self = own_in c.args.scope.now in
+    let vs = variables_in c.args.scope.now in
     let old = c.args.atoms.now.items in
     let new = c.add_sort-in-Interval.new.atoms.items in
     adds-tree s self vs c.add_sort-in-Interval.result c.args.expression.now (exprs.Interval c.in-Interval.low c.in-Interval.above c.in-Interval.item c.in-Interval.below c.in-Interval.high) c.in-Interval.is (trees.interval (tree_of c.in-Interval.low.value) c.in-Interval.above (tree_of c.in-Interval.item.value) c.in-Interval.below (tree_of c.in-Interval.high.value))
@@ -102,9 +102,9 @@ returns-in-Interval t c =
 
 pub returns-in-Not : goal.returns-in-Not
 returns-in-Not t c =
-    let s = schema_around c.args.scope in
-    let self = own_in c.args.scope in
-    let vs = variables_in c.args.scope in
+    let s = schema_around c.args.scope.now in
+    let self = own_in c.args.scope.now in
+    let vs = variables_in c.args.scope.now in
     let old = c.args.atoms.now.items in
     let new = c.add_sort-in-Not.new.atoms.items in
     adds-tree s self vs c.add_sort-in-Not.result c.args.expression.now (exprs.Not c.in-Not.field-0) c.in-Not.is (trees.negation (tree_of c.in-Not.field-0.value))
@@ -112,9 +112,9 @@ returns-in-Not t c =
 
 pub returns-in-Conjunction : goal.returns-in-Conjunction
 returns-in-Conjunction t c =
-    let s = schema_around c.args.scope in
-    let self = own_in c.args.scope in
-    let vs = variables_in c.args.scope in
+    let s = schema_around c.args.scope.now in
+    let self = own_in c.args.scope.now in
+    let vs = variables_in c.args.scope.now in
     let old = c.args.atoms.now.items in
     let new = c.add_sort-in-Conjunction.new.atoms.items in
     adds-tree s self vs c.add_sort-in-Conjunction.result c.args.expression.now (exprs.Conjunction c.in-Conjunction.field-0 c.in-Conjunction.field-1) c.in-Conjunction.is (trees.conjunction (tree_of c.in-Conjunction.field-0.value) (trees_of c.in-Conjunction.field-1.items))
@@ -122,9 +122,9 @@ returns-in-Conjunction t c =
 
 pub returns-in-Disjunction : goal.returns-in-Disjunction
 returns-in-Disjunction t c =
-    let s = schema_around c.args.scope in
-    let self = own_in c.args.scope in
-    let vs = variables_in c.args.scope in
+    let s = schema_around c.args.scope.now in
+    let self = own_in c.args.scope.now in
+    let vs = variables_in c.args.scope.now in
     let old = c.args.atoms.now.items in
     let new = c.add_sort-in-Disjunction.new.atoms.items in
     adds-tree s self vs c.add_sort-in-Disjunction.result c.args.expression.now (exprs.Disjunction c.in-Disjunction.field-0 c.in-Disjunction.field-1) c.in-Disjunction.is (trees.disjunction (tree_of c.in-Disjunction.field-0.value) (alternatives_of c.in-Disjunction.field-1.items))
@@ -132,9 +132,9 @@ returns-in-Disjunction t c =
 
 pub returns-in-Comparison : goal.returns-in-Comparison
 returns-in-Comparison t c =
-    let s = schema_around c.args.scope in
-    let self = own_in c.args.scope in
-    let vs = variables_in c.args.scope in
+    let s = schema_around c.args.scope.now in
+    let self = own_in c.args.scope.now in
+    let vs = variables_in c.args.scope.now in
     let old = c.args.atoms.now.items in
     let new = c.add_sort-in-Comparison.new.atoms.items in
     adds-tree s self vs c.add_sort-in-Comparison.result c.args.expression.now (exprs.Comparison c.in-Comparison.field-0 c.in-Comparison.field-1 c.in-Comparison.field-2) c.in-Comparison.is (trees.comparison (tree_of c.in-Comparison.field-0.value) c.in-Comparison.field-1 (tree_of c.in-Comparison.field-2.value))

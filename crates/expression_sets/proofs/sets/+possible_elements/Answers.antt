@@ -10,9 +10,9 @@ use Rattle.expression_sets.proofs.sets.+possible_elements.Goals as goal
 
 pub returns-in-Aggregate : goal.returns-in-Aggregate
 returns-in-Aggregate t c =
-    let s = schema_around c.args.scope in
-    let self = own_in c.args.scope in
-    let vs = variables_in c.args.scope in
+    let s = schema_around c.args.scope.now in
+    let self = own_in c.args.scope.now in
+    let vs = variables_in c.args.scope.now in
     let r = c.possible_items.result in
     subst (λ u. IfOk r (λ t. IsSet s (ElementsOf s self vs u) t.items))
     (sym (ap tree_of c.in-Aggregate.is ∙ aggregate-seen c.in-Aggregate.items))
@@ -21,8 +21,8 @@ returns-in-Aggregate t c =
 
 pub returns-in_default : goal.returns-in_default
 returns-in_default t c =
-    let s = schema_around c.args.scope in
-    let self = own_in c.args.scope in
-    let vs = variables_in c.args.scope in
+    let s = schema_around c.args.scope.now in
+    let self = own_in c.args.scope.now in
+    let vs = variables_in c.args.scope.now in
     subst (λ M. IfOk c.elements_of.result (λ t. IsSet s M t.items)) (sym (elements-otherwise s self vs
     c.args.expression.now c.in_default.not-Parenthesized c.in_default.not-Aggregate)) c.elements_of.ensures

@@ -13,7 +13,7 @@ use Rattle.expression_sets.proofs.sets.add_elements.Goals as goal
 
 pub returns-then-number-len : goal.returns-then-number-len
 returns-then-number-len c =
-    let s = schema_at c.args.tables in
+    let s = schema_at c.args.tables.now in
     let n = c.in-Aggregate.number in
     let w = c.in-Aggregate.field-1 in
     let old = c.args.atoms.now.items in
@@ -27,7 +27,7 @@ returns-then-number-len c =
 
 pub returns-else-number-len : goal.returns-else-number-len
 returns-else-number-len c =
-    let s = schema_at c.args.tables in
+    let s = schema_at c.args.tables.now in
     let n = c.in-Aggregate.number in
     let w = c.in-Aggregate.field-1 in
     let long = ap length c.requires.tables.forms in

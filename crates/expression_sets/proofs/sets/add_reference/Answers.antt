@@ -8,8 +8,8 @@ use Rattle.expression_sets.proofs.sets.add_reference.Goals as goal
 
 pub returns : goal.returns
 returns c =
-    let s = schema_around c.args.scope in
-    let M = OfReference s (own_in c.args.scope) (variables_in c.args.scope) (root_of c.args.root)
+    let s = schema_around c.args.scope.now in
+    let M = OfReference s (own_in c.args.scope.now) (variables_in c.args.scope.now) (root_of c.args.root)
     (qualifiers_of c.args.qualifiers.now) in
     let old = c.args.atoms.now.items in
     let more = c.in_ok-reference.reference.may.items in

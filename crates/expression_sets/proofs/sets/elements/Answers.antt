@@ -9,7 +9,7 @@ use Rattle.expression_sets.proofs.sets.elements.Goals as goal
 
 pub loop-atom-preserved : goal.loop-atom-preserved
 loop-atom-preserved c =
-    let s = schema_at c.args.tables in
+    let s = schema_at c.args.tables.now in
     let xs = c.args.atoms.now in
     let at = c.loop-atom.atom-index in
     let lt : at < length xs = omega (arith, c.loop-atom-test.true) in
@@ -18,7 +18,7 @@ loop-atom-preserved c =
 
 pub returns : goal.returns
 returns c =
-    let s = schema_at c.args.tables in
+    let s = schema_at c.args.tables.now in
     set-of s (Elements s (Holds s c.args.atoms.now)) c.loop-atom.elements.items
     (subst (λ xs. AddsAll s [] (Elements s (Holds s xs)) c.loop-atom.elements.items)
     (take_all c.loop-atom.atom-index c.args.atoms.now c.loop-atom-test.false) c.loop-atom.invariant)

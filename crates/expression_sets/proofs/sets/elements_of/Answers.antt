@@ -10,8 +10,8 @@ use Rattle.expression_sets.proofs.sets.elements_of.Goals as goal
 
 pub returns : goal.returns
 returns c =
-    let s = schema_around c.args.scope in
-    let M = May s (own_in c.args.scope) (variables_in c.args.scope) (tree_of c.args.expression.now) in
+    let s = schema_around c.args.scope.now in
+    let M = May s (own_in c.args.scope.now) (variables_in c.args.scope.now) (tree_of c.args.expression.now) in
     let xs = c.deref.result.now in
     IfOk-weaker c.elements.result (λ ys. IsSet s (Elements s (Holds s xs)) ys.items)
     (λ ys. IsSet s (Elements s M) ys.items)

@@ -8,7 +8,7 @@ use Rattle.expression_sets.proofs.sets.possible.Goals as goal
 
 pub returns : goal.returns
 returns c =
-    let s = schema_around c.args.scope in
-    let M = May s (own_in c.args.scope) (variables_in c.args.scope) (tree_of c.args.expression.now) in
+    let s = schema_around c.args.scope.now in
+    let M = May s (own_in c.args.scope.now) (variables_in c.args.scope.now) (tree_of c.args.expression.now) in
     let new = c.add_possible.new.atoms.items in
     set-of s M new (subst (λ xs. AddsAll s xs M new) c.new-atoms.ensures.items c.in_ok-add_possible.ensures)

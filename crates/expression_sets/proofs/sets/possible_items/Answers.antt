@@ -13,14 +13,14 @@ loop-item-preserved c =
     let xs = c.args.items.now in
     let at = c.loop-item.item-index in
     let lt : at < length xs = omega (arith, c.loop-item-test.true) in
-    next-tree (schema_around c.args.scope) (own_in c.args.scope) (variables_in c.args.scope) xs at c.item-item.result lt
+    next-tree (schema_around c.args.scope.now) (own_in c.args.scope.now) (variables_in c.args.scope.now) xs at c.item-item.result lt
     c.item-item.is [] c.loop-item.atoms.items c.add_possible.new.atoms.items c.loop-item.invariant
     c.in_ok-add_possible.ensures
 
 pub returns : goal.returns
 returns c =
-    let s = schema_around c.args.scope in
-    let M = λ (xs : List Expr). OfTrees s (own_in c.args.scope) (variables_in c.args.scope) (trees_of xs) in
+    let s = schema_around c.args.scope.now in
+    let M = λ (xs : List Expr). OfTrees s (own_in c.args.scope.now) (variables_in c.args.scope.now) (trees_of xs) in
     set-of s (M c.args.items.now) c.loop-item.atoms.items
     (subst (λ xs. AddsAll s [] (M xs) c.loop-item.atoms.items)
     (take_all c.loop-item.item-index c.args.items.now c.loop-item-test.false) c.loop-item.invariant)

@@ -11,10 +11,10 @@ use Rattle.expression_surveys.proofs.atoms.is_deep.Goals as goal
 
 pub returns : goal.returns
 returns c =
-    let s = schema_at c.args.tables in
+    let s = schema_at c.args.tables.now in
     let xs = c.args.atoms.now in
     let long = ap length c.requires.tables.forms ∙ length-map (all_data_types s) (form_in s) in
     let run =
-    any_from_yields_List (is_deep_atom s (length c.args.tables.data_types.now.forms.items)) _ _ _ c.any.ensures.ran (YieldsList-from_slice xs cc)
+    any_from_yields_List (is_deep_atom s (length c.args.tables.now.data_types.now.forms.items)) _ _ _ c.any.ensures.ran (YieldsList-from_slice xs cc)
     (λ x b q k. search (rules, tests)) in
-    subst (λ b. IsTrue b ↔ MayBeDeep (Holds s xs)) (sym run) (deep-decides s (length c.args.tables.data_types.now.forms.items) long xs)
+    subst (λ b. IsTrue b ↔ MayBeDeep (Holds s xs)) (sym run) (deep-decides s (length c.args.tables.now.data_types.now.forms.items) long xs)

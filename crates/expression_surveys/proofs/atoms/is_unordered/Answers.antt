@@ -11,7 +11,7 @@ use Rattle.expression_surveys.proofs.atoms.is_unordered.Goals as goal
 
 pub returns : goal.returns
 returns c =
-    let s = schema_at c.args.tables in
+    let s = schema_at c.args.tables.now in
     let xs = c.args.atoms.now in
     let run =
     any_from_yields_List (is_unordered_atom) _ _ _ c.any.ensures.ran (YieldsList-from_slice xs cc)

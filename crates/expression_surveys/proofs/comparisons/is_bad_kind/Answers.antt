@@ -7,7 +7,7 @@ use Rattle.expression_surveys.proofs.comparisons.is_bad_kind.Goals as goal
 
 pub returns-in-Equal : goal.returns-in-Equal
 returns-in-Equal c =
-    let t = c.args.scope in
+    let t = c.args.scope.now in
     let is =
     equal-kind (schema_around t) (own_in t) (variables_in t) (tree_of c.args.left.now) (tree_of c.args.right.now)
     c.args.relation c.in-Equal.is in
@@ -15,7 +15,7 @@ returns-in-Equal c =
 
 pub returns-in-In : goal.returns-in-In
 returns-in-In c =
-    let t = c.args.scope in
+    let t = c.args.scope.now in
     let is =
     in-kind (schema_around t) (own_in t) (variables_in t) (tree_of c.args.left.now) (tree_of c.args.right.now)
     c.args.relation c.in-In.is in
@@ -23,7 +23,7 @@ returns-in-In c =
 
 pub returns-in_default : goal.returns-in_default
 returns-in_default c =
-    let t = c.args.scope in
+    let t = c.args.scope.now in
     let is =
     other-kind (schema_around t) (own_in t) (variables_in t) (tree_of c.args.left.now) (tree_of c.args.right.now)
     c.args.relation c.in_default.not-Equal c.in_default.not-NotEqual c.in_default.not-In in

@@ -9,10 +9,10 @@ use Rattle.expression_surveys.proofs.comparisons.is_over_select.Goals as goal
 pub is_over_select-requires : goal.is_over_select-requires
 is_over_select-requires c =
     let (n, k) = c.requires.numbered in
-    parts-within (schema_at c.args.tables) (λ v. v.items) c.args.tables.parts.now c.requires.tables.parts n c.args.part k
+    parts-within (schema_at c.args.tables.now) (λ v. v.items) c.args.tables.now.parts.now c.requires.tables.parts n c.args.part k
 
 pub returns : goal.returns
 returns c n k =
-    let s = schema_at c.args.tables in
+    let s = schema_at c.args.tables.now in
     subst (λ b. IsTrue b ↔ IsOverSelect s (named n)) (sym c.is_over_select.ensures)
-    (over-told s (graph_of c.args.tables.parts.now) c.requires.tables.parts n c.args.part k)
+    (over-told s (graph_of c.args.tables.now.parts.now) c.requires.tables.parts n c.args.part k)

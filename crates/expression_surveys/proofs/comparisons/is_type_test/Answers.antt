@@ -9,14 +9,14 @@ use Rattle.expression_surveys.proofs.comparisons.is_type_test.Goals as goal
 
 pub returns-in-None : goal.returns-in-None
 returns-in-None c =
-    let t = c.args.scope in
+    let t = c.args.scope.now in
     let none = subst (IsSaid (schema_around t) (tree_of c.args.left.now)) c.in-None.is c.in_ok-part.ensures in
     nothing-holds (unsaid (schema_around t) (own_in t) (variables_in t) (tree_of c.args.left.now)
     (tree_of c.args.expression.now) none)
 
 pub returns-in-Some : goal.returns-in-Some
 returns-in-Some c =
-    let t = c.args.scope in
+    let t = c.args.scope.now in
     let (n, says, k, one) =
     subst (IsSaid (schema_around t) (tree_of c.args.left.now)) c.in-Some.is c.in_ok-part.ensures in
     let is =

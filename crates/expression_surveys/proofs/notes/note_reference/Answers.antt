@@ -6,7 +6,7 @@ use Rattle.expression_surveys.proofs.notes.note_reference.Goals as goal
 
 pub returns : goal.returns
 returns c =
-    let t = c.args.scope in
+    let t = c.args.scope.now in
     let old = c.args.survey.now in
     let r = c.in_ok-reference.reference in
     finds-reference (schema_around t) (own_in t) old

@@ -8,7 +8,7 @@ use Rattle.expression_surveys.proofs.variables.push_variable.Goals as goal
 
 pub returns : goal.returns
 returns c =
-    let x = c.args.context in
+    let x = c.args.context.now in
     let s = schema_of_context x in
     record {
       variable = record { name = c.args.name; may = c.in_ok-may.may };

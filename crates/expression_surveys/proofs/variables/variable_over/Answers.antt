@@ -12,7 +12,7 @@ use Rattle.expression_surveys.proofs.variables.variable_over.Goals as goal
 
 pub returns : goal.returns
 returns c =
-    let x = c.args.context in
+    let x = c.args.context.now in
     let s = schema_of_context x in
     let vs = inside s c.args.variables.now [] in
     let source = tree_of c.args.source.now in

@@ -17,8 +17,8 @@ survey_all-loop-expression-init t c = walks-none _ _ _ _ (λ vs f h. h)
 
 pub survey_all-loop-expression-preserved : goal.survey_all-loop-expression-preserved
 survey_all-loop-expression-preserved t c =
-    let s = schema_of_context c.args.context in
-    let self = own_of_context c.args.context in
+    let s = schema_of_context c.args.context.now in
+    let self = own_of_context c.args.context.now in
     let xs = c.args.expressions.now in
     let at = c.loop-expression.expression-index in
     let item = c.expression-item.result in
@@ -31,8 +31,8 @@ survey_all-loop-expression-preserved t c =
 
 pub survey_all-returns : goal.survey_all-returns
 survey_all-returns t c =
-    let s = schema_of_context c.args.context in
-    let self = own_of_context c.args.context in
+    let s = schema_of_context c.args.context.now in
+    let self = own_of_context c.args.context.now in
     subst (λ ys. Walks s c.args.variables.now.items c.args.survey.now (λ vs f. WithinAll s self f vs (trees_of ys))
     c.loop-expression.variables.items c.loop-expression.survey)
     (take_all c.loop-expression.expression-index c.args.expressions.now c.loop-expression-test.false) c.loop-expression.invariant
@@ -42,8 +42,8 @@ survey_indices-loop-qualifier-init t c = walks-none _ _ _ _ (λ vs f h. h)
 
 pub survey_indices-loop-qualifier-preserved : goal.survey_indices-loop-qualifier-preserved
 survey_indices-loop-qualifier-preserved t c =
-    let s = schema_of_context c.args.context in
-    let self = own_of_context c.args.context in
+    let s = schema_of_context c.args.context.now in
+    let self = own_of_context c.args.context.now in
     let xs = c.args.qualifiers.now in
     let at = c.loop-qualifier.qualifier-index in
     let item = c.qualifier-item.result in
@@ -56,8 +56,8 @@ survey_indices-loop-qualifier-preserved t c =
 
 pub survey_indices-returns : goal.survey_indices-returns
 survey_indices-returns t c =
-    let s = schema_of_context c.args.context in
-    let self = own_of_context c.args.context in
+    let s = schema_of_context c.args.context.now in
+    let self = own_of_context c.args.context.now in
     subst (λ ys. Walks s c.args.variables.now.items c.args.survey.now (λ vs f. WithinIndices s self f vs (qualifiers_of ys))
     c.loop-qualifier.variables.items c.loop-qualifier.survey)
     (take_all c.loop-qualifier.qualifier-index c.args.qualifiers.now c.loop-qualifier-test.false) c.loop-qualifier.invariant
@@ -67,8 +67,8 @@ survey_alternatives-loop-alternative-init t c = walks-none _ _ _ _ (λ vs f h. h
 
 pub survey_alternatives-loop-alternative-preserved : goal.survey_alternatives-loop-alternative-preserved
 survey_alternatives-loop-alternative-preserved t c =
-    let s = schema_of_context c.args.context in
-    let self = own_of_context c.args.context in
+    let s = schema_of_context c.args.context.now in
+    let self = own_of_context c.args.context.now in
     let xs = c.args.alternatives.now in
     let at = c.loop-alternative.alternative-index in
     let item = c.alternative-item.result in
@@ -81,8 +81,8 @@ survey_alternatives-loop-alternative-preserved t c =
 
 pub survey_alternatives-returns : goal.survey_alternatives-returns
 survey_alternatives-returns t c =
-    let s = schema_of_context c.args.context in
-    let self = own_of_context c.args.context in
+    let s = schema_of_context c.args.context.now in
+    let self = own_of_context c.args.context.now in
     subst (λ ys. Walks s c.args.variables.now.items c.args.survey.now (λ vs f. WithinOthers s self f vs (alternatives_of ys))
     c.loop-alternative.variables.items c.loop-alternative.survey)
     (take_all c.loop-alternative.alternative-index c.args.alternatives.now c.loop-alternative-test.false) c.loop-alternative.invariant
@@ -94,7 +94,7 @@ survey_part-returns-in_ok-survey_part-in-Interval-2 t c =
     let two = c.survey_part-in-Interval-2.new in
     let three = c.survey_part-in-Interval-3.new in
     on_ok_weaker c.survey_part-in-Interval-3.result
-    (interval-walks (schema_of_context c.args.context) (own_of_context c.args.context) c.args.is_right_of_in
+    (interval-walks (schema_of_context c.args.context.now) (own_of_context c.args.context.now) c.args.is_right_of_in
     c.args.expression.now x.above x.below x.low x.item x.high x.is c.deref-in-Interval.result.now
     c.args.variables.now.items one.variables.items two.variables.items three.variables.items c.args.survey.now
     c.note_interval_inside.new.survey one.survey two.survey three.survey c.deref-in-Interval.ensures.value
@@ -110,7 +110,7 @@ survey_part-returns-in_ok-survey_part-in-Query-2 t c =
     let x = c.in-Query in
     let one = c.survey_part-in-Query.new in
     let two = c.survey_part-in-Query-2.new in
-    query-walks (schema_of_context c.args.context) (own_of_context c.args.context) c.args.is_right_of_in
+    query-walks (schema_of_context c.args.context.now) (own_of_context c.args.context.now) c.args.is_right_of_in
     c.args.expression.now x.variable x.source x.condition x.is c.args.variables.now.items one.variables.items
     c.push_variable.new.variables.items two.variables.items c.pop.new.self.items c.args.survey.now one.survey
     two.survey c.deref-in-Query.result.now c.deref-in-Query-2.result.now c.deref-in-Query-3.result.now
@@ -124,7 +124,7 @@ survey_part-returns-in_ok-survey_part-in-Comparison t c =
     let one = c.survey_part-in-Comparison.new in
     let two = c.survey_part-in-Comparison-2.new in
     on_ok_weaker c.survey_part-in-Comparison-2.result
-    (comparison-walks (schema_of_context c.args.context) (own_of_context c.args.context) c.args.is_right_of_in
+    (comparison-walks (schema_of_context c.args.context.now) (own_of_context c.args.context.now) c.args.is_right_of_in
     c.args.expression.now x.left x.relation x.right x.is c.deref-in-Comparison.result.now
     c.args.variables.now.items one.variables.items two.variables.items c.args.survey.now
     c.note_comparison_inside.new.survey one.survey two.survey c.deref-in-Comparison.ensures.value

@@ -20,7 +20,7 @@ tell_rows-requires c =
     let said = c.entities_are_said.ensures in
     let rows = c.args.rows.now in (
       c.requires.bases,
-      subst (λ l. AreNumbered (schema_at c.args.bases) (graph_of l)) (sym c.targets_in-targets.ensures.types)
+      subst (λ l. AreNumbered (schema_at c.args.bases.now) (graph_of l)) (sym c.targets_in-targets.ensures.types)
           (subst (λ t. AreNumbered (schema_of t) (graph_of rows.types.items)) c.requires.same
           (c.requires.rows said.0 said.1).numbered),
     )
@@ -30,13 +30,13 @@ returns c = λ d en of are.
     let x = c.args.exchange.now in
     let rows = c.args.rows.now in
     let same = c.requires.same in
-    let j : Judge = record { alloc = c.args.alloc; bases = c.args.bases; targets = c.targets_in-targets.result } in
+    let j : Judge = record { alloc = c.args.alloc; bases = c.args.bases.now; targets = c.targets_in-targets.result } in
     let all = c.as_slice.result.now in
     let told = c.in_ok-tell_schema.ensures
-    ∙ ap (λ l. l ++ schema_told (capitals c.args.bases.names.now.schema.now.name) (structure x))
+    ∙ ap (λ l. l ++ schema_told (capitals c.args.bases.now.names.now.schema.now.name) (structure x))
     c.new-found.ensures.items in
     subst (λ t. c.tell_rows.new.found.items ≡ findings (schema_of t) d en (structure x)) (sym same)
-    (all-told j d en rows x c.args.bases.names.now.schema.now.name (rows_with all c.split-instances.result.1)
+    (all-told j d en rows x c.args.bases.now.names.now.schema.now.name (rows_with all c.split-instances.result.1)
     c.tell_schema.new.found.items c.tell_rows.new.found.items refl
     (ap (λ ns. rows_with ns c.split-instances.result.1) c.as_slice.ensures
     ∙ ap (rows_with x.names) (c.split-instances.ensures.back ∙ ap (λ l. drop x.header_len l) c.trees.ensures)

@@ -7,7 +7,7 @@ use Rattle.file_findings.proofs.rows.forms_of.Goals as goal
 
 pub loop-i-preserved : goal.loop-i-preserved
 loop-i-preserved c =
-    let s = schema_in c.args.known in
+    let s = schema_in c.args.known.now in
     let xs = c.args.instances.now in
     let one = subst (λ l. MakesForm s (form_of l) c.loop-i.made c.form.new.self c.in_ok-form.field-0) c.parts.ensures
     c.in_ok-form.ensures in

@@ -8,7 +8,7 @@ use Rattle.file_findings.proofs.rows.rows_of.Goals as goal
 
 pub returns : goal.returns
 returns c =
-    let s = schema_in c.args.known in
+    let s = schema_in c.args.known.now in
     let x = c.args.exchange.now in
     let forms = c.in_ok-form_of.ensures in
     let t : Rows = record {

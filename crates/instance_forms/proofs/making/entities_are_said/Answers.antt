@@ -5,6 +5,6 @@ use Rattle.instance_forms.proofs.making.entities_are_said.Goals as goal
 
 pub returns : goal.returns
 returns c =
-    let k = c.args.known in
+    let k = c.args.known.now in
     entities-are (schema_in k) c.requires.known.resolved (graph_of k.above.now) c.requires.known.above
     c.requires.known.uses.exists

@@ -11,11 +11,11 @@ use Rattle.instance_forms.proofs.making.internal_form.Goals as goal
 pub form-requires : goal.form-requires
 form-requires c =
     ap length c.deref.ensures.value ∙ c.in_ok-marks.ensures.same
-    ∙ length-map c.args.known.names.now.schema.now.declarations.items declaration_of
+    ∙ length-map c.args.known.now.names.now.schema.now.declarations.items declaration_of
 
 pub returns : goal.returns
 returns c =
-    let k = c.args.known in
+    let k = c.args.known.now in
     let marks = subst (AreMarks (length (schema_in k).declarations) (is_kind (graph_of k.above.now) c.args.entity))
     (sym c.deref.ensures.value) c.in_ok-marks.ensures in
     IfOk-weaker c.form.result _ _

@@ -8,8 +8,8 @@ use Rattle.instance_forms.proofs.marking.marks_above.Goals as goal
 
 pub loop-entity-preserved : goal.loop-entity-preserved
 loop-entity-preserved c =
-    let n = length (schema_in c.args.known).declarations in
-    let above = graph_of c.args.known.above.now in
+    let n = length (schema_in c.args.known.now).declarations in
+    let above = graph_of c.args.known.now.above.now in
     let row = c.args.entities.now in
     let k = c.loop-entity.entity-index in
     let lt : k < length row = omega (arith, c.loop-entity-test.true) in
@@ -23,6 +23,6 @@ loop-entity-preserved c =
 
 pub returns : goal.returns
 returns c =
-    let n = length (schema_in c.args.known).declarations in
-    subst (λ row. AreMarks n (is_above (graph_of c.args.known.above.now) row) c.loop-entity.marks.items)
+    let n = length (schema_in c.args.known.now).declarations in
+    subst (λ row. AreMarks n (is_above (graph_of c.args.known.now.above.now) row) c.loop-entity.marks.items)
     (take_all c.loop-entity.entity-index c.args.entities.now c.loop-entity-test.false) c.loop-entity.invariant

@@ -7,7 +7,7 @@ use Rattle.instance_forms.proofs.marking.marks_on.Goals as goal
 
 pub returns : goal.returns
 returns c =
-    let n = length (schema_in c.args.known).declarations in
+    let n = length (schema_in c.args.known.now).declarations in
     let new = c.mark_all.new.marks in
     subst (AreMarks n (has c.args.numbers.now))
     (sym (written new c.in_ok-marks.marks.items c.in_ok-marks.marks.len

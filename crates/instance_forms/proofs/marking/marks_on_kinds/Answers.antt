@@ -7,8 +7,8 @@ use Rattle.instance_forms.proofs.marking.marks_on_kinds.Goals as goal
 
 pub returns : goal.returns
 returns c =
-    let n = length (schema_in c.args.known).declarations in
-    let above = graph_of c.args.known.above.now in
+    let n = length (schema_in c.args.known.now).declarations in
+    let above = graph_of c.args.known.now.above.now in
     let old = c.in_ok-marks.marks.items in
     let one = c.mark.new.marks in
     let new = c.mark_all.new.marks in

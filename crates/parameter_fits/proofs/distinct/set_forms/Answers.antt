@@ -11,7 +11,7 @@ use Rattle.parameter_fits.proofs.distinct.set_forms.Goals.{then-is_set+in_ok-nor
 
 pub loop-i-preserved : goal.loop-i-preserved
 loop-i-preserved c d h =
-    let s = schema_at c.args.bases in
+    let s = schema_at c.args.bases.now in
     let b = base_seen s c.args.base in
     let xs = c.args.params.now in
     elim c.if-is_set.branch [
@@ -30,7 +30,7 @@ loop-i-preserved c d h =
 
 pub returns : goal.returns
 returns c d h =
-    let s = schema_at c.args.bases in
+    let s = schema_at c.args.bases.now in
     let b = base_seen s c.args.base in
     let over : length c.args.params.now ≤ c.loop-i.i = omega (arith, c.loop-i-test.false, c.len-i-end.ensures) in
     let all : take c.loop-i.i c.args.params.now ≡ c.args.params.now = take_all c.loop-i.i c.args.params.now over in

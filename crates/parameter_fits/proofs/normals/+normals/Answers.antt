@@ -16,7 +16,7 @@ normal_values-normal_value-requires t c =
 
 pub normal_values-loop-i-preserved : goal.normal_values-loop-i-preserved
 normal_values-loop-i-preserved t c d h =
-    let s = schema_at c.args.bases in
+    let s = schema_at c.args.bases.now in
     let b = base_seen s c.args.base in
     subst (AreNormal (each_by_name (values_as s d b (all_of (take (c.loop-i.i + 1) c.args.params.now)))))
     (sym c.in_ok-push.ensures.items)
@@ -25,7 +25,7 @@ normal_values-loop-i-preserved t c d h =
 
 pub normal_values-returns : goal.normal_values-returns
 normal_values-returns t c d h =
-    let s = schema_at c.args.bases in
+    let s = schema_at c.args.bases.now in
     let b = base_seen s c.args.base in
     let over : length c.args.params.now ≤ c.loop-i.i = omega (arith, c.loop-i-test.false, c.len-i-end.ensures) in
     let all : take c.loop-i.i c.args.params.now ≡ c.args.params.now = take_all c.loop-i.i c.args.params.now over in

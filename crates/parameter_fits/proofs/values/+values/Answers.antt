@@ -50,7 +50,7 @@ push_each-loop-i-preserved t c =
     let some = c.requires.bases.1.exists in
     record {
       names = ap (λ (b : Building). b.names) (c.in_ok-push_value.ensures some.0 some.1) ∙ c.loop-i.invariant.names;
-      pushed = λ d h. pushed_next (schema_at c.args.bases) d (base_seen (schema_at c.args.bases) c.args.base)
+      pushed = λ d h. pushed_next (schema_at c.args.bases.now) d (base_seen (schema_at c.args.bases.now) c.args.base)
           c.args.builder.now c.loop-i.builder c.push_value.new.builder c.args.params.now c.loop-i.i c.at.result
           c.at.ensures (c.loop-i.invariant.pushed d h) (c.in_ok-push_value.ensures d h);
     }
@@ -69,7 +69,7 @@ push_list-close_sequence-requires t c =
 
 pub push_list-returns-then-has_no_order : goal.push_list-returns-then-has_no_order
 push_list-returns-then-has_no_order t c =
-    let s = schema_at c.args.bases in
+    let s = schema_at c.args.bases.now in
     let some = c.requires.bases.1.exists in
     list_closed s bag c.args.builder.now c.push_each.new.builder c.close_bag.new.self
     c.pending_len-mark.result c.pending_len-mark.ensures (base_seen s c.args.base) (base_seen s c.element.result)
@@ -79,7 +79,7 @@ push_list-returns-then-has_no_order t c =
 
 pub push_list-returns-else-has_no_order : goal.push_list-returns-else-has_no_order
 push_list-returns-else-has_no_order t c =
-    let s = schema_at c.args.bases in
+    let s = schema_at c.args.bases.now in
     let some = c.requires.bases.1.exists in
     list_closed s sequence c.args.builder.now c.push_each.new.builder c.close_sequence.new.self
     c.pending_len-mark.result c.pending_len-mark.ensures (base_seen s c.args.base) (base_seen s c.element.result)
@@ -94,7 +94,7 @@ push_node-close_typed-requires t c =
 
 pub push_node-returns-in_ok-push_value-in-Typed : goal.push_node-returns-in_ok-push_value-in-Typed
 push_node-returns-in_ok-push_value-in-Typed t c =
-    let s = schema_at c.args.bases in
+    let s = schema_at c.args.bases.now in
     let some = c.requires.bases.1.exists in
     subst (λ x. MatchResult c.close_typed.result (λ _. (d : Domain) → IsDomain s d
     → Pushes c.args.builder.now c.close_typed.new.self (value_as s d (base_seen s c.args.base) x))

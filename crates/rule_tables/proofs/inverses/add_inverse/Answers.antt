@@ -7,6 +7,6 @@ use Rattle.rule_tables.proofs.inverses.add_inverse.Goals as goal
 
 pub inverse_attribute-requires-clause-known : goal.inverse_attribute-requires-clause-known
 inverse_attribute-requires-clause-known c =
-    known-inverse (schema_at c.args.sources) c.requires.sources.known.resolved c.args.entity
+    known-inverse (schema_at c.args.sources.now) c.requires.sources.known.resolved c.args.entity
     (inverse_of c.args.inverse.now) (capitals c.in-Unqualified.name) c.requires.declared
     (ap attribute_of c.in-Unqualified.is)

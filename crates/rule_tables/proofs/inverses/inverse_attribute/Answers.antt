@@ -5,7 +5,7 @@ use Rattle.rule_tables.proofs.inverses.inverse_attribute.Goals as goal
 
 pub returns : goal.returns
 returns c e at =
-    let s = schema_at c.args.sources in
+    let s = schema_at c.args.sources.now in
     let (p, inverts, placed) = c.inverted_place.ensures in
     is-inverse s c.requires.sources.known.resolved e (inverse_of c.args.inverse.now) _ p at c.requires.name
     c.gathering_of.ensures c.entity_number.ensures inverts placed

@@ -11,8 +11,8 @@ use Rattle.rule_tables.proofs.inverses.inverse_attributes.Goals as goal
 
 pub add_all-requires-clause-few : goal.add_all-requires-clause-few
 add_all-requires-clause-few c =
-    let ds = c.args.sources.known.tables.names.now.schema.now.declarations.items in
-    let few = c.args.sources.known.tables.names.now.few in
+    let ds = c.args.sources.now.known.tables.names.now.schema.now.declarations.items in
+    let few = c.args.sources.now.known.tables.names.now.few in
     let long = length-map ds declaration_of in
     subst (λ xs. length xs < 4294967296) (sym c.deref.ensures.value) (omega (arith, few, long))
 
@@ -21,7 +21,7 @@ add_all-requires-clause-all c = ap (map declaration_of) c.deref.ensures.value
 
 pub returns-clause-seen : goal.returns-clause-seen
 returns-clause-seen c d is =
-    let s = schema_at c.args.sources in
+    let s = schema_at c.args.sources.now in
     let (rows, all, turn) = c.in_ok-add_all.ensures in
     subst (λ rs. InTurn (IsInverseAttribute s d) (declared_inverses s) (map (inverse_seen s) rs))
     (sym (all ∙ ap (λ xs. xs ++ rows) c.new-attributes.ensures.items))
@@ -30,7 +30,7 @@ returns-clause-seen c d is =
 
 pub returns-clause-numbered : goal.returns-clause-numbered
 returns-clause-numbered c =
-    let s = schema_at c.args.sources in
+    let s = schema_at c.args.sources.now in
     let (rows, all, turn) = c.in_ok-add_all.ensures in
     subst (Every (IsNumberedInverse s)) (sym (all ∙ ap (λ xs. xs ++ rows) c.new-attributes.ensures.items))
     (each-row (IsInverse s) (IsNumberedInverse s) (λ x r h. h.numbered) (declared_inverses s) rows turn)

@@ -14,20 +14,20 @@ use Rattle.rule_tables.proofs.inverses.inverted_place.Goals as goal
 
 pub entity_number-holder-requires : goal.entity_number-holder-requires
 entity_number-holder-requires c =
-    subst (IsEntity (schema_at c.args.sources)) (sym c.holder.ensures) c.requires.known.inverted.1.0
+    subst (IsEntity (schema_at c.args.sources.now)) (sym c.holder.ensures) c.requires.known.inverted.1.0
 
 pub inverted-requires-clause-within : goal.inverted-requires-clause-within
 inverted-requires-clause-within c =
-    let s = schema_at c.args.sources in
+    let s = schema_at c.args.sources.now in
     let bound =
     number-within s (capitals c.holder.result) c.entity_number-holder.result c.entity_number-holder.ensures in
     let each = c.requires.sources.each in
-    let long = length-map c.args.sources.known.tables.names.now.schema.now.declarations.items declaration_of in
+    let long = length-map c.args.sources.now.known.tables.names.now.schema.now.declarations.items declaration_of in
     omega (arith, bound, each, long)
 
 pub unwrap-entity-requires : goal.unwrap-entity-requires
 unwrap-entity-requires c =
-    let s = schema_at c.args.sources in
+    let s = schema_at c.args.sources.now in
     let x = inverse_of c.args.inverse.now in
     let j = c.entity_number-holder.result in
     let (p, inverts) = c.requires.known.inverted in
@@ -37,7 +37,7 @@ unwrap-entity-requires c =
 
 pub unwrap-requires : goal.unwrap-requires
 unwrap-requires c =
-    let s = schema_at c.args.sources in
+    let s = schema_at c.args.sources.now in
     let x = inverse_of c.args.inverse.now in
     let j = c.entity_number-holder.result in
     let (p, k, (_, line, _, first)) =
@@ -51,7 +51,7 @@ unwrap-requires c =
 
 pub returns : goal.returns
 returns c =
-    let s = schema_at c.args.sources in
+    let s = schema_at c.args.sources.now in
     let x = inverse_of c.args.inverse.now in
     let j = c.entity_number-holder.result in
     let (p, k, (ent, line, lines, first)) =

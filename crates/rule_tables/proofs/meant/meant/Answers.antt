@@ -12,7 +12,7 @@ use Rattle.rule_tables.proofs.meant.meant.Goals as goal
 
 pub returns-in-Unqualified : goal.returns-in-Unqualified
 returns-in-Unqualified c e k =
-    let s = schema_in c.args.known in
+    let s = schema_in c.args.known.now in
     let n = capitals c.in-Unqualified.name in
     subst (λ x. IfOk c.holders.result
     (λ t. AreNumbersOf s (λ p. MeansAttribute s e (attribute_of x) p (capitals (name_of x))) t.items))
@@ -23,7 +23,7 @@ returns-in-Unqualified c e k =
 
 pub returns-in-Some : goal.returns-in-Some
 returns-in-Some c e k =
-    let s = schema_in c.args.known in
+    let s = schema_in c.args.known.now in
     subst (λ x. IfOk c.meant_of_group.result
     (λ t. AreNumbersOf s (λ p. MeansAttribute s e (attribute_of x) p (capitals (name_of x))) t.items))
     (sym c.in-Redeclared.is)
@@ -31,7 +31,7 @@ returns-in-Some c e k =
 
 pub returns-in-None : goal.returns-in-None
 returns-in-None c e k =
-    let s = schema_in c.args.known in
+    let s = schema_in c.args.known.now in
     let q = capitals c.in-Redeclared.group in
     let a = capitals c.in-Redeclared.name in
     subst (λ x. AreNumbersOf s (λ p. MeansAttribute s e (attribute_of x) p (capitals (name_of x))) c.new.result.items)

@@ -12,7 +12,7 @@ use Rattle.rule_tables.proofs.meant.meant_of_group.Goals as goal
 
 pub returns-then-contains : goal.returns-then-contains
 returns-then-contains c e q group =
-    let s = schema_in c.args.known in
+    let s = schema_in c.args.known.now in
     let a = capitals c.args.name in
     let n = c.args.group in
     let there : has c.in_ok-row.row.items n ≡ true =
@@ -25,7 +25,7 @@ returns-then-contains c e q group =
 
 pub returns : goal.returns
 returns c e q group =
-    let s = schema_in c.args.known in
+    let s = schema_in c.args.known.now in
     let a = capitals c.args.name in
     let n = c.args.group in
     let none : has c.in_ok-row.row.items n ≡ false =

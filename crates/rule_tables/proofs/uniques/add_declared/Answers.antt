@@ -11,12 +11,12 @@ use Rattle.rule_tables.proofs.uniques.add_declared.Goals as goal
 
 pub loop-entity-init : goal.loop-entity-init
 loop-entity-init c =
-    adds-no-place (schema_at c.args.sources) (IsDeclaredBy (schema_at c.args.sources) (capitals c.args.name) [])
+    adds-no-place (schema_at c.args.sources.now) (IsDeclaredBy (schema_at c.args.sources.now) (capitals c.args.name) [])
     (λ p h. h.2.2) c.args.places.now.items
 
 pub loop-entity-preserved : goal.loop-entity-preserved
 loop-entity-preserved c =
-    let s = schema_at c.args.sources in
+    let s = schema_at c.args.sources.now in
     let r = c.requires.sources.known.resolved in
     let a = capitals c.args.name in
     let xs = c.args.entities.now in
@@ -33,7 +33,7 @@ loop-entity-preserved c =
 
 pub returns : goal.returns
 returns c =
-    let s = schema_at c.args.sources in
+    let s = schema_at c.args.sources.now in
     subst (λ xs. AddsPlaces s (IsDeclaredBy s (capitals c.args.name) xs) c.args.places.now.items
     c.loop-entity.places.items) (take_all c.loop-entity.entity-index c.args.entities.now c.loop-entity-test.false)
     c.loop-entity.invariant

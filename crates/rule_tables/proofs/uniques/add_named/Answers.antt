@@ -12,7 +12,7 @@ use Rattle.rule_tables.proofs.uniques.add_named.Goals as goal
 
 pub add_declared-requires-clause-entities : goal.add_declared-requires-clause-entities
 add_declared-requires-clause-entities c =
-    let s = schema_at c.args.sources in
+    let s = schema_at c.args.sources.now in
     let x = c.args.attribute in
     let (e, k, known) = c.requires.entity in
     subst (AreEntities s) (sym c.deref.ensures.value)
@@ -21,7 +21,7 @@ add_declared-requires-clause-entities c =
 
 pub returns : goal.returns
 returns c e k known =
-    let s = schema_at c.args.sources in
+    let s = schema_at c.args.sources.now in
     let x = c.args.attribute in
     let row = c.in_ok-entities.entities.items in
     let old = c.args.places.now.items in

@@ -9,11 +9,11 @@ use Rattle.rule_tables.proofs.Ruling.{adds-statement}
 use Rattle.rule_tables.proofs.uniques.add_uniques.Goals as goal
 
 pub loop-i-init : goal.loop-i-init
-loop-i-init c e at = adds-none (IsUnique (schema_at c.args.sources)) c.args.rules.now.items
+loop-i-init c e at = adds-none (IsUnique (schema_at c.args.sources.now)) c.args.rules.now.items
 
 pub loop-i-preserved : goal.loop-i-preserved
 loop-i-preserved c e at =
-    let R = IsUnique (schema_at c.args.sources) in
+    let R = IsUnique (schema_at c.args.sources.now) in
     let xs = c.args.uniques.now in
     let i = c.loop-i.i in
     let x = c.index-uniques-i.result in
@@ -25,6 +25,6 @@ loop-i-preserved c e at =
 
 pub returns : goal.returns
 returns c e at =
-    subst (λ xs. Adds (IsUnique (schema_at c.args.sources)) (statements_from e.name 1 (map unique_of xs))
+    subst (λ xs. Adds (IsUnique (schema_at c.args.sources.now)) (statements_from e.name 1 (map unique_of xs))
     c.args.rules.now.items c.loop-i.rules.items) (take_all c.loop-i.i c.args.uniques.now c.loop-i-test.false)
     (c.loop-i.invariant e at)

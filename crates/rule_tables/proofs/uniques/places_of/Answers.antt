@@ -13,13 +13,13 @@ use Rattle.rule_tables.proofs.uniques.places_of.Goals as goal
 
 pub loop-attribute-init : goal.loop-attribute-init
 loop-attribute-init c e k known =
-    let s = schema_at c.args.sources in
+    let s = schema_at c.args.sources.now in
     subst (AddsPlaces s (λ p. OneOf (λ x. NamesPlace s e x p) []) []) (sym c.new-places.ensures.items)
     (adds-no-place s (λ p. OneOf (λ x. NamesPlace s e x p) []) (λ p h. h) [])
 
 pub loop-attribute-preserved : goal.loop-attribute-preserved
 loop-attribute-preserved c e k known =
-    let s = schema_at c.args.sources in
+    let s = schema_at c.args.sources.now in
     let xs = c.args.attributes.now in
     let i = c.loop-attribute.attribute-index in
     let x = c.attribute-item.result in
@@ -37,7 +37,7 @@ loop-attribute-preserved c e k known =
 
 pub returns : goal.returns
 returns c e k known =
-    let s = schema_at c.args.sources in
+    let s = schema_at c.args.sources.now in
     let row = c.loop-attribute.places.items in
     subst (λ ys. ArePlacesOf s (λ p. OneOf (λ x. NamesPlace s e x p) (map attribute_of ys)) row)
     (take_all c.loop-attribute.attribute-index c.args.attributes.now c.loop-attribute-test.false)

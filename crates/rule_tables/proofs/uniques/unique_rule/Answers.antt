@@ -12,14 +12,14 @@ use Rattle.rule_tables.proofs.uniques.unique_rule.Goals as goal
 
 pub places_of-requires-clause-entity : goal.places_of-requires-clause-entity
 places_of-requires-clause-entity c =
-    let s = schema_at c.args.sources in
+    let s = schema_at c.args.sources.now in
     let (e, at) = c.requires.entity in
     let k = own-number s c.requires.sources.known.resolved c.args.entity e at in
     (e.name, k, (e, stands-at s e.name c.args.entity k ∙ at))
 
 pub returns : goal.returns
 returns c e at =
-    let s = schema_at c.args.sources in
+    let s = schema_at c.args.sources.now in
     let r = c.requires.sources.known.resolved in
     let u = c.args.unique.now in
     let k = own-number s r c.args.entity e at in

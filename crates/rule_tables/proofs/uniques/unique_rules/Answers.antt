@@ -11,8 +11,8 @@ use Rattle.rule_tables.proofs.uniques.unique_rules.Goals as goal
 
 pub add_all-requires-clause-few : goal.add_all-requires-clause-few
 add_all-requires-clause-few c =
-    let ds = c.args.sources.known.tables.names.now.schema.now.declarations.items in
-    let few = c.args.sources.known.tables.names.now.few in
+    let ds = c.args.sources.now.known.tables.names.now.schema.now.declarations.items in
+    let few = c.args.sources.now.known.tables.names.now.few in
     let long = length-map ds declaration_of in
     subst (λ xs. length xs < 4294967296) (sym c.deref.ensures.value) (omega (arith, few, long))
 
@@ -21,7 +21,7 @@ add_all-requires-clause-all c = ap (map declaration_of) c.deref.ensures.value
 
 pub returns-clause-seen : goal.returns-clause-seen
 returns-clause-seen c =
-    let s = schema_at c.args.sources in
+    let s = schema_at c.args.sources.now in
     let (rows, all, turn) = c.in_ok-add_all.ensures in
     subst (λ rs. InTurn (IsUniqueRule s) (statements s) (map (unique_seen s) rs))
     (sym (all ∙ ap (λ xs. xs ++ rows) c.new-rules.ensures.items))
@@ -30,7 +30,7 @@ returns-clause-seen c =
 
 pub returns-clause-numbered : goal.returns-clause-numbered
 returns-clause-numbered c =
-    let s = schema_at c.args.sources in
+    let s = schema_at c.args.sources.now in
     let (rows, all, turn) = c.in_ok-add_all.ensures in
     subst (Every (IsNumberedUnique s)) (sym (all ∙ ap (λ xs. xs ++ rows) c.new-rules.ensures.items))
     (each-row (IsUnique s) (IsNumberedUnique s) (λ x r h. h.numbered) (statements s) rows turn)

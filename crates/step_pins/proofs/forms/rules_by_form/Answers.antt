@@ -6,7 +6,7 @@ use Rattle.step_pins.proofs.forms.rules_by_form.Goals as goal
 
 pub loop-form-preserved : goal.loop-form-preserved
 loop-form-preserved c =
-    zip-more (IsFormRules c.args.sources) c.args.forms.now c.loop-form.form-index c.form-item.result c.loop-form.rows.items
+    zip-more (IsFormRules c.args.sources.now) c.args.forms.now c.loop-form.form-index c.form-item.result c.loop-form.rows.items
     _ c.in_ok-rules_of.field-0
     (slice_get-get_or c.args.forms.now c.loop-form.form-index c.form-item.result c.loop-form-test.true
     ∙ ap Some (sym c.form-item.is))

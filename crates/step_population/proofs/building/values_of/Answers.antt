@@ -19,8 +19,8 @@ push_rows-requires-clause-maker c =
     let x = c.args.exchange.now in
     let rows = c.args.rows.now in
     let ws = rows_with c.as_slice-names.result.now c.split-instances.result.1 in
-    subst (λ (b : Building). IsMaker c.maker_of-maker.result b.names) (sym c.new-builder.ensures)
-    (maker-by c.maker_of-maker.result c.args.bases rows.index c.maker_of-maker.ensures.bases
+    subst (λ (b : Building). IsMaker c.maker_of-maker.result b.names) (sym c.builder_of-builder.ensures)
+    (maker-by c.maker_of-maker.result c.args.bases.now rows.index c.maker_of-maker.ensures.bases
     c.maker_of-maker.ensures.index rows.forms.items ws ws rows.form_of.items refl c.as_slice-names.result.now
     c.requires.bases (subst (λ ns. AreFound ns (found rows.index)) (sym c.as_slice-names.ensures) c.requires.index))
 
@@ -33,7 +33,7 @@ push_rows-requires-clause-ready c =
     ap (λ ns. rows_with ns c.split-instances.result.1) c.as_slice-names.ensures
     ∙ ap (rows_with x.names) (c.split-instances.ensures.back ∙ ap (λ l. drop x.header_len l) c.trees.ensures)
     ∙ sym (rows-are x) in
-    ready-by c.maker_of-maker.result c.args.bases rows.index c.maker_of-maker.ensures.bases
+    ready-by c.maker_of-maker.result c.args.bases.now rows.index c.maker_of-maker.ensures.bases
     c.maker_of-maker.ensures.index rows.forms.items ws (rows_in x) rows.form_of.items same c.requires.ready
 
 pub finish-requires : goal.finish-requires
@@ -42,9 +42,9 @@ finish-requires c =
     let rows = c.args.rows.now in
     let ws = rows_with c.as_slice-names.result.now c.split-instances.result.1 in
     let some = c.requires.bases.1.exists in
-    (rows-made c.maker_of-maker.result c.args.bases rows.index c.maker_of-maker.ensures.bases
+    (rows-made c.maker_of-maker.result c.args.bases.now rows.index c.maker_of-maker.ensures.bases
     c.maker_of-maker.ensures.index rows.forms.items ws ws rows.form_of.items refl c.as_slice-names.result.now
-    c.new-builder.result c.push_rows.new.builder c.new-builder.ensures c.in_ok-push_rows.ensures some.0 some.1).1
+    c.builder_of-builder.result c.push_rows.new.builder c.builder_of-builder.ensures c.in_ok-push_rows.ensures some.0 some.1).1
 
 -- the names over which rows were made
 made-names : (m : Maker) (new : Building) (rows : Domain → List Values) (names : List ℕ)
@@ -59,8 +59,8 @@ returns-clause-leads c =
     let m = c.maker_of-maker.result in
     let is = subst (λ b. IsDomain (schema_at b) some.0) (sym c.maker_of-maker.ensures.bases) some.1 in
     subst (λ ns. LeadTo ns c.finish.result.targets)
-    (made-names m c.push_rows.new.builder _ c.as_slice-names.result.now (some.0, is) c.new-builder.result
-    c.in_ok-push_rows.ensures c.new-builder.ensures ∙ c.as_slice-names.ensures) c.finish.ensures.targets
+    (made-names m c.push_rows.new.builder _ c.as_slice-names.result.now (some.0, is) c.builder_of-builder.result
+    c.in_ok-push_rows.ensures c.builder_of-builder.ensures ∙ c.as_slice-names.ensures) c.finish.ensures.targets
 
 pub returns-clause-refers : goal.returns-clause-refers
 returns-clause-refers c =
@@ -68,8 +68,8 @@ returns-clause-refers c =
     let m = c.maker_of-maker.result in
     let is = subst (λ b. IsDomain (schema_at b) some.0) (sym c.maker_of-maker.ensures.bases) some.1 in
     subst (λ ns. ReferTo ns c.finish.result.rows)
-    (made-names m c.push_rows.new.builder _ c.as_slice-names.result.now (some.0, is) c.new-builder.result
-    c.in_ok-push_rows.ensures c.new-builder.ensures ∙ c.as_slice-names.ensures) c.finish.ensures.closed
+    (made-names m c.push_rows.new.builder _ c.as_slice-names.result.now (some.0, is) c.builder_of-builder.result
+    c.in_ok-push_rows.ensures c.builder_of-builder.ensures ∙ c.as_slice-names.ensures) c.finish.ensures.closed
 
 pub returns-clause-rows : goal.returns-clause-rows
 returns-clause-rows c = λ d is.
@@ -81,7 +81,7 @@ returns-clause-rows c = λ d is.
     ∙ ap (rows_with x.names) (c.split-instances.ensures.back ∙ ap (λ l. drop x.header_len l) c.trees.ensures)
     ∙ sym (rows-are x) in
     c.finish.ensures.rows
-    ∙ (rows-made c.maker_of-maker.result c.args.bases rows.index c.maker_of-maker.ensures.bases
+    ∙ (rows-made c.maker_of-maker.result c.args.bases.now rows.index c.maker_of-maker.ensures.bases
     c.maker_of-maker.ensures.index rows.forms.items ws (rows_in x) rows.form_of.items same
-    c.as_slice-names.result.now c.new-builder.result c.push_rows.new.builder c.new-builder.ensures
+    c.as_slice-names.result.now c.builder_of-builder.result c.push_rows.new.builder c.builder_of-builder.ensures
     c.in_ok-push_rows.ensures d is).0

@@ -11,7 +11,7 @@ use Rattle.taken_attributes.proofs.gathering.values_of.Goals as goal
 
 pub add_values-requires-clause-within : goal.add_values-requires-clause-within
 add_values-requires-clause-within c =
-    let s = schema_at c.args.tables in
+    let s = schema_at c.args.tables.now in
     let at = c.loop-declaration.declaration-index in
     let lt : at < length c.args.declarations.now = omega (arith, c.loop-declaration-test.true) in
     let x = get_or c.args.declarations.now at (record { entity = 0; data_type = 0; derivation = None }) in
@@ -20,7 +20,7 @@ add_values-requires-clause-within c =
 
 pub loop-declaration-preserved : goal.loop-declaration-preserved
 loop-declaration-preserved c =
-    let s = schema_at c.args.tables in
+    let s = schema_at c.args.tables.now in
     let xs = c.args.declarations.now in
     let at = c.loop-declaration.declaration-index in
     let lt : at < length xs = omega (arith, c.loop-declaration-test.true) in
@@ -31,7 +31,7 @@ loop-declaration-preserved c =
 
 pub returns : goal.returns
 returns c =
-    let s = schema_at c.args.tables in
+    let s = schema_at c.args.tables.now in
     subst (λ xs. (a : Atom) → Holds s c.loop-declaration.atoms.items a ↔ IsOfOne s xs a)
     (take_all c.loop-declaration.declaration-index c.args.declarations.now c.loop-declaration-test.false)
     c.loop-declaration.invariant

@@ -14,11 +14,11 @@ use Rattle.taken_attributes.proofs.references.take_of_any.Goals as goal
 
 pub returns : goal.returns
 returns c =
-    let s = schema_in c.args.known in
+    let s = schema_in c.args.known.now in
     let k = c.requires.known in
     let xs = c.args.atoms.now in
-    let above = graph_of c.args.known.above.now in
-    let below = graph_of c.args.known.below.now in
+    let above = graph_of c.args.known.now.above.now in
+    let below = graph_of c.args.known.now.below.now in
     let is = entity_numbers xs in
     let numbers = c.deref-2.ensures.value ∙ c.in_ok-all.ensures
     ∙ ap (with_subtypes below) (c.deref.ensures.value ∙ c.in_ok-entities.ensures) in

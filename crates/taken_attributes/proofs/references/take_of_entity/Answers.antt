@@ -15,7 +15,7 @@ use Rattle.taken_attributes.proofs.references.take_of_entity.Goals as goal
 
 pub gather-requires-clause-typed : goal.gather-requires-clause-typed
 gather-requires-clause-typed c x m =
-    let s = schema_in c.args.known in
+    let s = schema_in c.args.known.now in
     let xs = c.find-declarations.result.now in
     let are : AreDeclarations s (capitals c.args.name) xs =
     subst (AreDeclarations s (capitals c.args.name)) (sym c.find-declarations.ensures) (c.requires.known.attributes
@@ -26,11 +26,11 @@ gather-requires-clause-typed c x m =
 
 pub returns : goal.returns
 returns c =
-    let s = schema_in c.args.known in
+    let s = schema_in c.args.known.now in
     let a = capitals c.args.name in
     let e = capitals c.args.entity in
     let xs = c.find-declarations.result.now in
-    let above = graph_of c.args.known.above.now in
+    let above = graph_of c.args.known.now.above.now in
     let k = c.requires.known in
     let are : AreDeclarations s a xs =
     subst (AreDeclarations s a) (sym c.find-declarations.ensures) (k.attributes c.args.name) in

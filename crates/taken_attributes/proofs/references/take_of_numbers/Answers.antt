@@ -16,22 +16,22 @@ use Rattle.taken_attributes.proofs.references.take_of_numbers.Goals as goal
 
 pub gather-requires-clause-typed : goal.gather-requires-clause-typed
 gather-requires-clause-typed c x m =
-    let s = schema_in c.args.known in
+    let s = schema_in c.args.known.now in
     let xs = c.find-declarations.result.now in
     let are : AreDeclarations s (capitals c.args.name) xs =
     subst (AreDeclarations s (capitals c.args.name)) (sym c.find-declarations.ensures) (c.requires.known.attributes
     c.args.name) in
     let taken = c.deref-2.ensures.value ∙ c.in_ok-taken.ensures in
     let (n, passes) =
-    kept-among (is_of_any (graph_of c.args.known.above.now) c.args.entities.now) xs x (subst (Among x) taken m) in
+    kept-among (is_of_any (graph_of c.args.known.now.above.now) c.args.entities.now) xs x (subst (Among x) taken m) in
     let (p, k, ent, d, gives) = are.within x n in (k, gives)
 
 pub returns : goal.returns
 returns c =
-    let s = schema_in c.args.known in
+    let s = schema_in c.args.known.now in
     let a = capitals c.args.name in
     let xs = c.find-declarations.result.now in
-    let above = graph_of c.args.known.above.now in
+    let above = graph_of c.args.known.now.above.now in
     let is = c.args.entities.now in
     let k = c.requires.known in
     let are : AreDeclarations s a xs =

@@ -15,26 +15,26 @@ use Rattle.unchecked_list.proofs.declarations.add_constraints.Goals as goal
 pub add_uniques-requires-clause-number : goal.add_uniques-requires-clause-number
 add_uniques-requires-clause-number c =
     let e = entity_of c.args.entity.now in
-    number-here (schema_found c.args.findings) c.requires.found.known.resolved c.args.number (entity e) e.name
+    number-here (schema_found c.args.findings.now) c.requires.found.known.resolved c.args.number (entity e) e.name
     c.requires.at refl
 
 pub add_uniques-requires-clause-entity : goal.add_uniques-requires-clause-entity
 add_uniques-requires-clause-entity c =
     let e = entity_of c.args.entity.now in (
       e,
-      stands-here (schema_found c.args.findings) c.requires.found.known.resolved c.args.number (entity e) e.name
+      stands-here (schema_found c.args.findings.now) c.requires.found.known.resolved c.args.number (entity e) e.name
           c.requires.at refl,
     )
 
 pub add_entity_rules-requires-clause-number : goal.add_entity_rules-requires-clause-number
 add_entity_rules-requires-clause-number c =
     let e = entity_of c.args.entity.now in
-    number-here (schema_found c.args.findings) c.requires.found.known.resolved c.args.number (entity e) e.name
+    number-here (schema_found c.args.findings.now) c.requires.found.known.resolved c.args.number (entity e) e.name
     c.requires.at refl
 
 pub returns : goal.returns
 returns c =
-    let s = schema_found c.args.findings in
+    let s = schema_found c.args.findings.now in
     let e = entity_of c.args.entity.now in
     let old = unchecked_in c.args.list.now.items in
     let mid = unchecked_in c.add_uniques.new.list.items in

@@ -12,7 +12,7 @@ use Rattle.unchecked_list.proofs.declarations.add_entity.Goals as goal
 
 pub returns : goal.returns
 returns c =
-    let s = schema_found c.args.findings in
+    let s = schema_found c.args.findings.now in
     let e = entity_of c.args.entity.now in
     let supers = parts_of_supertype e.name e.supertype in
     let explicits = for_each (parts_of_explicit s e.name) e.explicits in

@@ -14,12 +14,12 @@ use Rattle.unchecked_list.proofs.declarations.add_type.Goals as goal
 pub add_type_rules-requires-clause-number : goal.add_type_rules-requires-clause-number
 add_type_rules-requires-clause-number c =
     let t = type_of c.args.declared.now in
-    number-here (schema_found c.args.findings) c.requires.found.known.resolved c.args.number (type t) t.name c.requires.at
+    number-here (schema_found c.args.findings.now) c.requires.found.known.resolved c.args.number (type t) t.name c.requires.at
     refl
 
 pub returns : goal.returns
 returns c =
-    let s = schema_found c.args.findings in
+    let s = schema_found c.args.findings.now in
     let t = type_of c.args.declared.now in
     let old = unchecked_in c.args.list.now.items in
     let mid = unchecked_in c.add_underlying.new.list.items in

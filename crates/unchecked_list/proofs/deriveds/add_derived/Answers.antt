@@ -23,7 +23,7 @@ returns c n numbered is =
     let x : Candidate = record {
       kind = parts.Derive;
       name = l;
-      has_reason = HasReason (schema_found c.args.findings) (Self h) d.body;
+      has_reason = HasReason (schema_found c.args.findings.now) (Self h) d.body;
     } in
     on_ok_weaker c.add_data_type.result
     (adds-joined (x ∷ []) (parts_of_data_type l d.data_type) old mid new

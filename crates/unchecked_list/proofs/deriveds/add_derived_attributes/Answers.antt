@@ -13,7 +13,7 @@ use Rattle.unchecked_list.proofs.deriveds.add_derived_attributes.Goals as goal
 
 pub add_deriveds-requires-clause-numbered : goal.add_deriveds-requires-clause-numbered
 add_deriveds-requires-clause-numbered c =
-    let s = schema_found c.args.findings in
+    let s = schema_found c.args.findings.now in
     let e = entity_of c.args.entity.now in
     subst (AreDerivationsFrom s e.name c.args.first)
     (sym (clause-listed derived_of c.args.entity.now.derived c.derived_attributes.result.now
@@ -23,7 +23,7 @@ add_deriveds-requires-clause-numbered c =
 
 pub returns : goal.returns
 returns c =
-    let s = schema_found c.args.findings in
+    let s = schema_found c.args.findings.now in
     subst (λ ds. OnOk c.add_deriveds.result (Adds
     (for_each (parts_of_derived s (capitals c.args.entity.now.name)) ds)
     (unchecked_in c.args.list.now.items) (unchecked_in c.add_deriveds.new.list.items)))

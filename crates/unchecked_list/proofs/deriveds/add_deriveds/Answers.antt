@@ -12,7 +12,7 @@ use Rattle.unchecked_list.proofs.deriveds.add_deriveds.Goals as goal
 
 pub loop-i-preserved : goal.loop-i-preserved
 loop-i-preserved c =
-    let s = schema_found c.args.findings in
+    let s = schema_found c.args.findings.now in
     let h = capitals c.args.holder in
     let xs = c.args.deriveds.now in
     let i = c.loop-i.i in
@@ -30,6 +30,6 @@ loop-i-preserved c =
 pub returns : goal.returns
 returns c =
     subst (λ xs. Adds
-    (for_each (parts_of_derived (schema_found c.args.findings) (capitals c.args.holder)) (map derived_of xs))
+    (for_each (parts_of_derived (schema_found c.args.findings.now) (capitals c.args.holder)) (map derived_of xs))
     (unchecked_in c.args.list.now.items) (unchecked_in c.loop-i.list.items))
     (take_all c.loop-i.i c.args.deriveds.now c.loop-i-test.false) c.loop-i.invariant

@@ -12,7 +12,7 @@ use Rattle.unchecked_list.proofs.explicits.add_explicit.Goals as goal
 
 pub loop-attribute-preserved : goal.loop-attribute-preserved
 loop-attribute-preserved c =
-    let s = schema_found c.args.findings in
+    let s = schema_found c.args.findings.now in
     let h = capitals c.args.holder in
     let k = data_type_of c.args.explicit.now.data_type in
     let xs = c.deref-attribute-items.result.now in
@@ -33,7 +33,7 @@ loop-attribute-preserved c =
 
 pub returns : goal.returns
 returns c =
-    let s = schema_found c.args.findings in
+    let s = schema_found c.args.findings.now in
     let h = capitals c.args.holder in
     let k = data_type_of c.args.explicit.now.data_type in
     subst (λ xs. Adds (for_each

@@ -15,8 +15,8 @@ use Rattle.unchecked_list.proofs.explicits.add_explicit_attributes.Goals as goal
 
 pub index-row-requires : goal.index-row-requires
 index-row-requires c =
-    let s = schema_found c.args.findings in
-    let rows = c.args.findings.known.tables.data_types.now.rows.items in
+    let s = schema_found c.args.findings.now in
+    let rows = c.args.findings.now.known.tables.data_types.now.rows.items in
     let lt =
     rows-within whole_types (all_data_types s) s.declarations (graph_of rows) c.args.number
     (entity (entity_of c.args.entity.now)) c.requires.found.known.tables.rows c.requires.at in
@@ -25,8 +25,8 @@ index-row-requires c =
 
 pub add_explicits-requires-clause-row : goal.add_explicits-requires-clause-row
 add_explicits-requires-clause-row c =
-    let s = schema_found c.args.findings in
-    let rows = c.args.findings.known.tables.data_types.now.rows.items in
+    let s = schema_found c.args.findings.now in
+    let rows = c.args.findings.now.known.tables.data_types.now.rows.items in
     let e = entity_of c.args.entity.now in
     let lt =
     rows-within whole_types (all_data_types s) s.declarations (graph_of rows) c.args.number (entity e)
@@ -45,6 +45,6 @@ add_explicits-requires-clause-row c =
 pub returns : goal.returns
 returns c =
     subst (λ xs. OnOk c.add_explicits.result (Adds
-    (for_each (parts_of_explicit (schema_found c.args.findings) (capitals c.args.entity.now.name)) (map explicit_of xs))
+    (for_each (parts_of_explicit (schema_found c.args.findings.now) (capitals c.args.entity.now.name)) (map explicit_of xs))
     (unchecked_in c.args.list.now.items) (unchecked_in c.add_explicits.new.list.items))) c.deref.ensures.value
     c.add_explicits.ensures

@@ -22,7 +22,7 @@ bounds-row-i c =
 
 pub add_explicit-requires-clause-data_type : goal.add_explicit-requires-clause-data_type
 add_explicit-requires-clause-data_type c =
-    let s = schema_found c.args.findings in
+    let s = schema_found c.args.findings.now in
     let xs = c.args.explicits.now in
     let row = c.args.row.now in
     let i = c.loop-i.i in
@@ -37,7 +37,7 @@ loop-i-preserved c =
     let i = c.loop-i.i in
     let x = c.index-explicits-i.result in
     let lt : i < length xs = omega (arith, c.loop-i-test.true) in
-    adds-next explicit_of (parts_of_explicit (schema_found c.args.findings) (capitals c.args.holder)) xs i x
+    adds-next explicit_of (parts_of_explicit (schema_found c.args.findings.now) (capitals c.args.holder)) xs i x
     (unchecked_in c.args.list.now.items) (unchecked_in c.loop-i.list.items)
     (unchecked_in c.add_explicit.new.list.items) lt c.index-explicits-i.is c.loop-i.invariant
     c.in_ok-add_explicit.ensures
@@ -45,6 +45,6 @@ loop-i-preserved c =
 pub returns : goal.returns
 returns c =
     subst (λ xs. Adds
-    (for_each (parts_of_explicit (schema_found c.args.findings) (capitals c.args.holder)) (map explicit_of xs))
+    (for_each (parts_of_explicit (schema_found c.args.findings.now) (capitals c.args.holder)) (map explicit_of xs))
     (unchecked_in c.args.list.now.items) (unchecked_in c.loop-i.list.items))
     (take_all c.loop-i.i c.args.explicits.now c.loop-i-test.false) c.loop-i.invariant

@@ -24,7 +24,7 @@ add_declaration-requires-clause-at c =
 
 pub loop-i-preserved : goal.loop-i-preserved
 loop-i-preserved c =
-    let s = schema_found c.args.findings in
+    let s = schema_found c.args.findings.now in
     let xs = c.args.declarations.now in
     let i = c.loop-i.i in
     let x = c.index-declarations-i.result in
@@ -39,7 +39,7 @@ loop-i-preserved c =
 
 pub returns : goal.returns
 returns c =
-    let s = schema_found c.args.findings in
+    let s = schema_found c.args.findings.now in
     subst (λ ds. Adds (for_each (parts_of_declaration s) ds) (unchecked_in c.args.list.now.items)
     (unchecked_in c.loop-i.list.items)) c.requires.all
     (subst (λ xs. Adds (for_each (parts_of_declaration s) (map declaration_of xs)) (unchecked_in c.args.list.now.items)

@@ -8,8 +8,8 @@ use Rattle.unchecked_list.proofs.list.unchecked_parts.Goals as goal
 
 pub add_all-requires-clause-few : goal.add_all-requires-clause-few
 add_all-requires-clause-few c =
-    let ds = c.args.findings.known.tables.names.now.schema.now.declarations.items in
-    let few = c.args.findings.known.tables.names.now.few in
+    let ds = c.args.findings.now.known.tables.names.now.schema.now.declarations.items in
+    let few = c.args.findings.now.known.tables.names.now.few in
     let long = length-map ds declaration_of in
     subst (λ xs. length xs < 4294967296) (sym c.deref.ensures.value) (omega (arith, few, long))
 
@@ -19,5 +19,5 @@ add_all-requires-clause-all c = ap (map declaration_of) c.deref.ensures.value
 pub returns : goal.returns
 returns c =
     let (us, listed, is) = c.in_ok-add_all.ensures in
-    subst (AreUnchecked (schema_found c.args.findings))
+    subst (AreUnchecked (schema_found c.args.findings.now))
     (sym (is ∙ ap (λ xs. unchecked_in xs ++ us) c.new-list.ensures.items)) listed

@@ -13,7 +13,7 @@ use Rattle.unchecked_list.proofs.rules.add_entity_rules.Goals as goal
 
 pub returns : goal.returns
 returns c =
-    let s = schema_found c.args.findings in
+    let s = schema_found c.args.findings.now in
     let h = capitals c.args.holder.name in
     on_ok_weaker c.add_rules.result
     (rules-alike h (RuleHasReason s (Holds s c.from_ref.result.now) false) (HasReason s (Self h))

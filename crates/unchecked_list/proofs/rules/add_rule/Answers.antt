@@ -19,7 +19,7 @@ returns c =
     let x : Candidate = record {
       kind = parts.Where;
       name = dotted (capitals c.args.holder) (label_of c.args.number (if_some capitals r.label));
-      has_reason = has_reason (schema_found c.args.findings) c.args.own (body_of r.body);
+      has_reason = has_reason (schema_found c.args.findings.now) c.args.own (body_of r.body);
     } in
     on_ok_weaker c.add_for.result
     (λ is. adds-given x c.in_ok-reason.reason old new c.in_ok-reason.ensures

@@ -15,13 +15,13 @@ loop-i-preserved c =
     let i = c.loop-i.i in
     let x = c.index-rules-i.result in
     let lt : i < length xs = omega (arith, c.loop-i-test.true) in
-    adds-counted rule_of (parts_of_rules (capitals c.args.holder) (has_reason (schema_found c.args.findings) c.args.own))
+    adds-counted rule_of (parts_of_rules (capitals c.args.holder) (has_reason (schema_found c.args.findings.now) c.args.own))
     (λ n. refl) (λ n r rs. refl) xs i x (unchecked_in c.args.list.now.items) (unchecked_in c.loop-i.list.items)
     (unchecked_in c.add_rule.new.list.items) lt c.index-rules-i.is c.loop-i.invariant c.in_ok-add_rule.ensures
 
 pub returns : goal.returns
 returns c =
     subst (λ xs. Adds
-    (parts_of_rules (capitals c.args.holder) (has_reason (schema_found c.args.findings) c.args.own) 1 (map rule_of xs))
+    (parts_of_rules (capitals c.args.holder) (has_reason (schema_found c.args.findings.now) c.args.own) 1 (map rule_of xs))
     (unchecked_in c.args.list.now.items) (unchecked_in c.loop-i.list.items))
     (take_all c.loop-i.i c.args.rules.now c.loop-i-test.false) c.loop-i.invariant

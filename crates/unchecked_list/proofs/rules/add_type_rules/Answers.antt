@@ -14,7 +14,7 @@ use Rattle.unchecked_list.proofs.rules.add_type_rules.Goals as goal
 
 pub returns : goal.returns
 returns c =
-    let s = schema_found c.args.findings in
+    let s = schema_found c.args.findings.now in
     let h = capitals c.args.holder.name in
     let M = Holds s c.deref.result.now in
     let w = c.is_type_over_select.result in

@@ -11,12 +11,12 @@ use Rattle.unchecked_list.proofs.rules.reason_of_rule.Goals as goal
 
 pub returns-then-own : goal.returns-then-own
 returns-then-own c =
-    let s = schema_found c.args.findings in
+    let s = schema_found c.args.findings.now in
     over-select s (Holds s c.args.own.atoms.now) c.args.own.is_over_select (body_of c.args.body.now) c.if-own.true
 
 pub returns : goal.returns
 returns c =
-    let s = schema_found c.args.findings in
+    let s = schema_found c.args.findings.now in
     let M = Holds s c.args.own.atoms.now in
     let w = c.args.own.is_over_select in
     let b = body_of c.args.body.now in

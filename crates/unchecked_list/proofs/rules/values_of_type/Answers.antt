@@ -7,7 +7,7 @@ use Rattle.unchecked_list.proofs.rules.values_of_type.Goals as goal
 
 pub returns : goal.returns
 returns c =
-    let s = schema_found c.args.findings in
+    let s = schema_found c.args.findings.now in
     let n = capitals c.args.holder.name in
     set-added s (IsOf s (named n)) c.new-atoms.result.items c.add_named.new.atoms.items c.new-atoms.ensures.items
     (c.in_ok-add_named.ensures n c.requires.number)

@@ -15,7 +15,7 @@ use Rattle.unchecked_list.proofs.uniques.add_unique.Goals as goal
 
 pub returns : goal.returns
 returns c =
-    let s = schema_found c.args.findings in
+    let s = schema_found c.args.findings.now in
     let h = capitals c.args.holder.name in
     let old = unchecked_in c.args.list.now.items in
     let new = unchecked_in c.add_for.new.list.items in

@@ -12,9 +12,9 @@ use Rattle.unique_attributes.proofs.naming.holders.Goals as goal
 
 pub returns : goal.returns
 returns c e k =
-    let s = schema_in c.args.known in
+    let s = schema_in c.args.known.now in
     let a = capitals c.args.name in
-    let g = graph_of c.args.known.above.now in
+    let g = graph_of c.args.known.now.above.now in
     let xs = c.find.result.now in
     IfOk-weaker c.entities_above.result
     (λ t. t.items ≡ filter (is_or_leads g (Some c.args.entity)) (map (λ x. x.entity) xs))

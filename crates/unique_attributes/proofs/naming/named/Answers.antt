@@ -13,7 +13,7 @@ use Rattle.unique_attributes.proofs.naming.named.Goals as goal
 
 pub returns-in-Unqualified : goal.returns-in-Unqualified
 returns-in-Unqualified c e k known =
-    let s = schema_in c.args.known in
+    let s = schema_in c.args.known.now in
     let n = capitals c.in-Unqualified.name in
     subst (λ x. IfOk c.holders.result
     (λ t. AreNumbersOf s (λ p. NamesAttribute s e (attribute_of x) p (capitals (name_of x))) t.items))
@@ -25,7 +25,7 @@ returns-in-Unqualified c e k known =
 
 pub returns-in-Some : goal.returns-in-Some
 returns-in-Some c e k known =
-    let s = schema_in c.args.known in
+    let s = schema_in c.args.known.now in
     subst (λ x. IfOk c.taken_of_group.result
     (λ t. AreNumbersOf s (λ p. NamesAttribute s e (attribute_of x) p (capitals (name_of x))) t.items))
     (sym c.in-Redeclared.is)
@@ -33,7 +33,7 @@ returns-in-Some c e k known =
 
 pub returns-in-None : goal.returns-in-None
 returns-in-None c e k known =
-    let s = schema_in c.args.known in
+    let s = schema_in c.args.known.now in
     let q = capitals c.in-Redeclared.group in
     let a = capitals c.in-Redeclared.name in
     subst (λ x. AreNumbersOf s (λ p. NamesAttribute s e (attribute_of x) p (capitals (name_of x))) c.new.result.items)

@@ -10,7 +10,7 @@ use Rattle.unique_attributes.proofs.naming.naming_of.Goals as goal
 
 pub returns : goal.returns
 returns c e k known =
-    let s = schema_in c.args.known in
+    let s = schema_in c.args.known.now in
     let x = c.args.attribute in
     let row = c.in_ok-row.row.items in
     naming-is s e (attribute_of x) (capitals (name_of x)) (written-name x) row (c.in_ok-row.ensures e k known) _

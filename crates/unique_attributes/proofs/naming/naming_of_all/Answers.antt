@@ -7,11 +7,11 @@ use Rattle.unique_attributes.proofs.Told.{naming-none, naming-both}
 use Rattle.unique_attributes.proofs.naming.naming_of_all.Goals as goal
 
 pub loop-attribute-init : goal.loop-attribute-init
-loop-attribute-init c e k m = naming-none (schema_in c.args.known) e _ refl refl
+loop-attribute-init c e k m = naming-none (schema_in c.args.known.now) e _ refl refl
 
 pub loop-attribute-preserved : goal.loop-attribute-preserved
 loop-attribute-preserved c e k m =
-    let s = schema_in c.args.known in
+    let s = schema_in c.args.known.now in
     let xs = c.args.attributes.now in
     let i = c.loop-attribute.attribute-index in
     let x = c.attribute-item.result in
@@ -26,6 +26,6 @@ loop-attribute-preserved c e k m =
 
 pub returns : goal.returns
 returns c e k m =
-    subst (λ xs. IsNaming (schema_in c.args.known) e (map attribute_of xs) c.loop-attribute.found)
+    subst (λ xs. IsNaming (schema_in c.args.known.now) e (map attribute_of xs) c.loop-attribute.found)
     (take_all c.loop-attribute.attribute-index c.args.attributes.now c.loop-attribute-test.false)
     (c.loop-attribute.invariant e k m)

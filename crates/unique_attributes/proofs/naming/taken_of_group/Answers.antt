@@ -13,18 +13,18 @@ use Rattle.unique_attributes.proofs.naming.taken_of_group.Goals as goal
 
 pub returns-then-not-is_or_leads : goal.returns-then-not-is_or_leads
 returns-then-not-is_or_leads c e q here group known =
-    let s = schema_in c.args.known in
+    let s = schema_in c.args.known.now in
     let a = capitals c.args.name in
-    let g = graph_of c.args.known.above.now in
+    let g = graph_of c.args.known.now.above.now in
     subst (AreNumbersOf s (λ p. NamesAttribute s e (redeclared q a) p a)) (sym c.new.ensures.items)
     (no-kind s g c.requires.known.above e q a c.args.entity c.args.group here group
     (sym c.is_or_leads.ensures ∙ c.if-not-is_or_leads.true))
 
 pub returns-then-contains : goal.returns-then-contains
 returns-then-contains c e q here group known =
-    let s = schema_in c.args.known in
+    let s = schema_in c.args.known.now in
     let a = capitals c.args.name in
-    let g = graph_of c.args.known.above.now in
+    let g = graph_of c.args.known.now.above.now in
     let up = c.requires.known.above in
     let i = c.args.entity in
     let n = c.args.group in
@@ -41,9 +41,9 @@ returns-then-contains c e q here group known =
 
 pub returns-then-is_one : goal.returns-then-is_one
 returns-then-is_one c e q here group known =
-    let s = schema_in c.args.known in
+    let s = schema_in c.args.known.now in
     let a = capitals c.args.name in
-    let g = graph_of c.args.known.above.now in
+    let g = graph_of c.args.known.now.above.now in
     let up = c.requires.known.above in
     let i = c.args.entity in
     let n = c.args.group in
@@ -56,9 +56,9 @@ returns-then-is_one c e q here group known =
 
 pub returns : goal.returns
 returns c e q here group known =
-    let s = schema_in c.args.known in
+    let s = schema_in c.args.known.now in
     let a = capitals c.args.name in
-    let g = graph_of c.args.known.above.now in
+    let g = graph_of c.args.known.now.above.now in
     let up = c.requires.known.above in
     let i = c.args.entity in
     let n = c.args.group in

@@ -14,12 +14,12 @@ returns-in-Some c =
     let key = c.args.entities.now in
     let found : get same_items t.external key ≡ Some c.in-Some.number.now =
     sym c.get.ensures.value ∙ ap option_copied c.in-Some.is in
-    found-one (schema_in c.args.known) (IsExternal (schema_in c.args.known) key.items) t c.in-Some.number.now
+    found-one (schema_in c.args.known.now) (IsExternal (schema_in c.args.known.now) key.items) t c.in-Some.number.now
     c.requires.made (c.requires.made.external key c.in-Some.number.now found)
 
 pub returns : goal.returns
 returns c =
-    let s = schema_in c.args.known in
+    let s = schema_in c.args.known.now in
     let x = c.in_ok-external_form.field-0 in
     let n = c.in_ok-number.number in
     let key = c.in_ok-from_slice.field-0 in

@@ -8,13 +8,13 @@ use Rattle.file_findings.proofs.making.Made.form.Goals as goal
 pub returns-then-is_internal : goal.returns-then-is_internal
 returns-then-is_internal c =
     let named = c.in-Some.ensures in
-    an-internal (schema_in c.args.known) c.args.parts.now c.in-Some.entity c.args.self.now c.internal.new.self
+    an-internal (schema_in c.args.known.now) c.args.parts.now c.in-Some.entity c.args.self.now c.internal.new.self
     c.in_ok-internal.field-0 c.in_ok-internal.ensures (sym c.is_internal.ensures ∙ c.if-is_internal.true)
     (ap (λ b. b && true) named.0) ((named.1, named.2), tt)
 
 pub returns : goal.returns
 returns c =
-    let s = schema_in c.args.known in
+    let s = schema_in c.args.known.now in
     let named : NumberAll s (map record_in c.args.parts.now) c.number_all.new.entities.items true =
     subst (NumberAll s (map record_in c.args.parts.now) c.number_all.new.entities.items) c.if-not-branch.false
     c.in_ok-number_all.ensures in

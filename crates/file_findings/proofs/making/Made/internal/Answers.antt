@@ -12,12 +12,12 @@ returns-in-Some c =
     let t = c.args.self.now in
     let found : number_in t.internal.items c.args.entity ≡ Some c.in-Some.number =
     ap (λ os. number_in os c.args.entity) (sym c.deref.ensures.value) ∙ sym c.number_at.ensures ∙ c.in-Some.is in
-    found-one (schema_in c.args.known) (IsInternal (schema_in c.args.known) c.args.entity) t c.in-Some.number
+    found-one (schema_in c.args.known.now) (IsInternal (schema_in c.args.known.now) c.args.entity) t c.in-Some.number
     c.requires.made (c.requires.made.internal c.args.entity c.in-Some.number found)
 
 pub returns : goal.returns
 returns c =
-    let s = schema_in c.args.known in
+    let s = schema_in c.args.known.now in
     let adds = c.in_ok-number.ensures in
     let numbers = c.put_number.new.numbers in
     let long : length numbers ≡ c.add.new.self.internal.len =

@@ -1,0 +1,12 @@
+pub mod Members
+pub mod Positions
+pub mod Giving
+pub mod Above
+pub mod Least
+pub mod Deciding
+pub mod Keeping
+pub mod Naming
+pub mod Membership
+pub mod Following
+pub mod Answering
+pub mod Reading

@@ -1,0 +1,48 @@
+-- What is declared at a number, as it is read.
+use Rattle.std.specs.Prelude.{◌≡◌, ℕ, zero, suc, ◌<◌, true, false, cond, List, [], ◌∷◌, None, Some, map, length, slice_get}
+use Rattle.std.proofs.Common.{ap, sym, ◌∙◌, arith}
+use Rattle.std.proofs.lemmas.List.{length-map}
+use Rattle.digraph.specs.Graphs.{Graph, next}
+use Rattle.express_schemas.specs.Schemas.{Schema, Declaration}
+use Rattle.express_schemas.specs.SchemaViews.{schema_of}
+use Rattle.express_schemas.specs.declared.tree.SchemaTree.{SchemaTree}
+use Rattle.express_schemas.specs.Views.{declaration_of}
+use Rattle.type_graphs.specs.Names.{Name}
+use Rattle.schema_names.specs.Numbers.{number_of, HasNumber}
+use Rattle.schema_names.proofs.Edges.{number-within}
+use Rattle.attribute_sources.specs.Deriving.{is_entity, is_some_entity, line_in}
+
+-- what is seen of an item
+pub mapped-at : {A B : Type 0} (f : A → B) (xs : List A) (i : ℕ) (x : A) → slice_get xs i ≡ Some x
+    → slice_get (map f xs) i ≡ Some (f x)
+mapped-at f [] i x h = absurd (cc)
+mapped-at f (y ∷ xs) zero x h = let same : y ≡ x = cc in ap (λ z. Some (f z)) same
+mapped-at f (y ∷ xs) (suc i) x h = mapped-at f xs i x h
+
+-- a number is that of a declaration
+pub tree-within : (t : SchemaTree) (n : Name) (i : ℕ) → HasNumber (schema_of t) n i → i < length t.declarations.items
+tree-within t n i h =
+    let lt = number-within (schema_of t) n i h in
+    let long = length-map t.declarations.items declaration_of in
+    omega (arith, lt, long)
+
+module _ (s : Schema) (lines : Graph) (q : Name) (i : ℕ) (k : number_of s q ≡ Some i) (d : Declaration)
+    (at : slice_get s.declarations i ≡ Some d) where
+  line-at : line_in s lines (number_of s q) ≡ cond (is_entity d) (next lines i) []
+  line-at =
+      ap (line_in s lines) k ∙ ap (λ o. cond (is_some_entity o) (next lines i) []) at
+
+  pub no-line : is_entity d ≡ false → [] ≡ line_in s lines (number_of s q)
+  no-line e = sym (line-at ∙ ap (λ b. cond b (next lines i) []) e)
+
+  pub line-is : (row : List ℕ) → is_entity d ≡ true → row ≡ next lines i → row ≡ line_in s lines (number_of s q)
+  line-is row e is = is ∙ sym (line-at ∙ ap (λ b. cond b (next lines i) []) e)
+
+pub none-line : (s : Schema) (lines : Graph) (q : Name) → number_of s q ≡ None → [] ≡ line_in s lines (number_of s q)
+none-line s lines q e = sym (ap (line_in s lines) e)
+
+-- there are as many declarations as are read
+pub as-many : (t : SchemaTree) (i : ℕ) → i < length (schema_of t).declarations → i < length t.declarations.items
+as-many t i lt =
+    let long = length-map t.declarations.items declaration_of in
+    omega (arith, lt, long)

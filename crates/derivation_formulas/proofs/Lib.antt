@@ -1,0 +1,4 @@
+mod Oneness
+mod Joined
+mod Made
+mod Placed

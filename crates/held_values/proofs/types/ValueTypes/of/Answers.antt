@@ -1,0 +1,9 @@
+use Rattle.base_types.specs.Seen.{schema_at}
+use Rattle.held_values.proofs.Tabled.{are-value-types}
+use Rattle.held_values.proofs.types.ValueTypes.of.Goals as goal
+
+pub returns : goal.returns
+returns c =
+    are-value-types (schema_at c.args.bases.now) c.args.bases.now.table.now c.requires.bases.1
+    (record { by_number = c.deref.result; by_name = c.in_ok-by_name.by_name }) c.deref.ensures.value
+    c.in_ok-by_name.ensures

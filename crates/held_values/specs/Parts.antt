@@ -1,0 +1,70 @@
+-- What typed values and aggregates of the program hold.
+use Rattle.std.specs.Prelude.{ℕ, List, [], ◌∷◌, Option, Some, None}
+use Rattle.std.specs.Global.{Vec}
+use Rattle.step_literals.specs.declared.literal.Word.{Word}
+use Rattle.step_values.specs.Views.{word_of}
+use Rattle.type_graphs.specs.Names.{Name}
+use Rattle.express_logic.specs.Data as data_of
+use Rattle.express_logic.specs.Data.{Datum, indeterminate, Data, none, more}
+use Rattle.express_logic.specs.Holdings.{Holding, element_at}
+use Rattle.express_meanings.specs.Meanings.{instances}
+use Rattle.express_meanings.specs.Operations.{kept_shape}
+use Rattle.held_values.specs.declared.element.Element.{Element}
+use Rattle.held_values.specs.declared.element.Element.TheVariants as elements
+use Rattle.held_values.specs.declared.part.Content.{Content}
+use Rattle.held_values.specs.declared.part.Content.TheVariants as contents
+use Rattle.held_values.specs.declared.part.Part.{Part}
+use Rattle.held_values.specs.Coded.{named_base, shape_seen, coded_datum, coded_each}
+
+abbrev pub or_indeterminate : Option Datum → Datum
+or_indeterminate None = indeterminate
+or_indeterminate (Some d) = d
+
+-- the elements at these indices, in order
+abbrev pub picked : List ℕ → Data → Data
+picked [] ds = none
+picked (i ∷ is) ds = more (or_indeterminate (element_at i ds)) (picked is ds)
+
+-- what an element of an aggregate is worth
+unfoldable pub element_datum : Element → Datum
+element_datum elements.Nothing = indeterminate
+element_datum (elements.Instance y) = data_of.instance y
+element_datum (elements.Value t b v) = coded_datum t.now b v
+
+abbrev pub content_name : Content → Name
+content_name (contents.Typed t w v) = word_of w
+content_name c = []
+
+abbrev pub content_inner : Content → Datum
+content_inner (contents.Typed t w v) = coded_datum t.now (named_base t.now (word_of w)) v
+content_inner c = indeterminate
+
+abbrev pub content_elements : Content → Data
+content_elements (contents.Typed t w v) = none
+content_elements (contents.Values t b vs) = coded_each t.now b vs
+content_elements (contents.Instances ys) = instances ys.now
+
+abbrev pub chosen : Option (Vec ℕ) → Data → Data
+chosen None ds = ds
+chosen (Some is) ds = picked is.items ds
+
+-- all elements, of which there may be some that a QUERY didn't keep
+unfoldable pub whole_elements : Part → Data
+whole_elements p = content_elements p.content
+
+unfoldable pub holding : Part → Holding
+holding p = record {
+  name = content_name p.content;
+  inner = content_inner p.content;
+  shape = shape_seen p.shape;
+  elements = chosen p.kept (whole_elements p);
+}
+
+-- the name that a word spells, where there is one
+abbrev pub capitals_of : Option Word → Name
+capitals_of None = []
+capitals_of (Some w) = word_of w
+
+-- what a QUERY keeps of an aggregate (ISO 10303-11, 12.6.7)
+abbrev pub kept_of : Holding → Data → Holding
+kept_of h ds = record { name = h.name; inner = h.inner; shape = kept_shape h.shape; elements = ds }

@@ -1,0 +1,299 @@
+//! Typed values and aggregates of a population, whole or as far as a QUERY keeps their elements.
+#![tactic(auto, unfolding(crate::specs::Parts::element_datum, crate::specs::Parts::holding, crate::specs::Parts::whole_elements))]
+
+ghost use Rattle.std.specs.Prelude.{◌≡◌, ◌<◌, [], length, slice_index};
+ghost use Rattle.std.specs.Option.{option_map};
+ghost use Rattle.step_values.specs.Values.{typed, sequence, bag};
+ghost use Rattle.step_values.specs.Views.{word_of};
+ghost use Rattle.express_logic.specs.Data;
+ghost use Rattle.express_logic.specs.Comparing.{scalar};
+ghost use Rattle.express_logic.specs.Holdings.{Holding, element_at, size_of};
+ghost use Rattle.express_logic.specs.Views.{datum_of, scalar_of};
+ghost use Rattle.express_meanings.specs.Meanings.{instances};
+ghost use Rattle.express_meanings.specs.Operations.{kept_shape};
+ghost use Rattle.held_values.specs.Coded.{coded_datum, coded_each, shape_seen};
+ghost use Rattle.held_values.specs.Parts.{
+  holding,
+  picked,
+  kept_of,
+  whole_elements,
+  content_inner,
+  content_elements,
+  capitals_of,
+  element_datum,
+  or_indeterminate,
+};
+
+use crate::element::Element;
+use crate::scalars::value_scalar;
+use crate::shape::{Shape, shape_of};
+use crate::types::ValueTypes;
+use base_types::base::Base;
+use express_logic::datum::{Datum, Held};
+use express_logic::scalar::Scalar;
+use step_literals::literal::Word;
+use step_values::slot::{Slot, Slots};
+
+/// What stands where the population keeps it.
+#[derive(Drop)]
+enum Content<'p, 'r> {
+    /// A value with the name of its type.
+    Typed {
+        types: &'p ValueTypes<'r>,
+        word: Word<'r>,
+        inner: Slot<'p, 'r>,
+    },
+    /// Values of this data type.
+    Values {
+        types: &'p ValueTypes<'r>,
+        base: Base,
+        values: Slots<'p, 'r>,
+    },
+    /// Instances, by their names.
+    Instances(&'p [u64]),
+}
+
+/// A typed value or an aggregate.
+#[derive(Drop)]
+pub struct Part<'p, 'r> {
+    content: Content<'p, 'r>,
+    shape: Shape,
+    /// The indices of the elements, where they aren't all.
+    kept: Option<Vec<usize>>,
+}
+
+/// The value of this index, as an element.
+fn value_at<'p, 'r>(
+    types: &'p ValueTypes<'r>,
+    base: Base,
+    values: &Slots<'p, 'r>,
+    index: usize,
+) -> Element<'p, 'r>
+    ensures { element_datum result
+        ≡ or_indeterminate (element_at index (coded_each types.entry.now base values.now)) }
+{
+    match values.item(index) {
+        Some(value) => Element::Value { types, base, value },
+        None => Element::Nothing,
+    }
+}
+
+/// How many instances there are.
+fn count_of(names: &[u64]) -> usize
+    ensures { result ≡ size_of (instances names.now) }
+{
+    names.len()
+}
+
+/// The name of this index, if there are so many.
+fn name_at(names: &[u64], index: usize) -> Option<u64>
+    ensures { option_map Data.instance result ≡ element_at index (instances names.now) }
+{
+    match names.get(index) {
+        Some(name) => Some(*name),
+        None => None,
+    }
+}
+
+impl<'p, 'r> Content<'p, 'r> {
+    /// How many elements there are.
+    fn len(&self) -> usize
+        ensures { result ≡ size_of (content_elements self.now) }
+    {
+        match self {
+            Content::Typed { .. } => 0,
+            Content::Values { values, .. } => values.len(),
+            Content::Instances(names) => count_of(*names),
+        }
+    }
+
+    /// The element of this index; nothing where there are fewer.
+    fn element(&self, index: usize) -> Element<'p, 'r>
+        ensures { element_datum result
+            ≡ or_indeterminate (element_at index (content_elements self.now)) }
+    {
+        match self {
+            Content::Typed { .. } => Element::Nothing,
+            Content::Values {
+                types,
+                base,
+                values,
+            } => value_at(*types, *base, values, index),
+            Content::Instances(names) => match name_at(*names, index) {
+                Some(name) => Element::Instance(name),
+                None => Element::Nothing,
+            },
+        }
+    }
+
+    /// What it is compared by, where it is a typed value.
+    fn bare(&self) -> Scalar<'r>
+        ensures { scalar_of result ≡ scalar (content_inner self.now) }
+    {
+        match self {
+            Content::Typed { types, word, inner } => {
+                value_scalar(*types, types.of_name(*word), inner)
+            }
+            Content::Values { .. } => Scalar::Nothing,
+            Content::Instances(_) => Scalar::Nothing,
+        }
+    }
+}
+
+impl<'p, 'r> Held<'r> for Part<'p, 'r> {
+    ghost held = { holding };
+
+    fn bare(&self) -> Scalar<'r> {
+        self.content.bare()
+    }
+
+    fn len(&self) -> usize {
+        match &self.kept {
+            Some(kept) => kept.len(),
+            None => self.content.len(),
+        }
+    }
+
+    fn element(&self, index: usize) -> Option<Datum<'r, Part<'p, 'r>>> {
+        if index < self.len() {
+            Some(self.element_value(index).datum())
+        } else {
+            None
+        }
+    }
+}
+
+/// The index that stands at this one.
+fn place_at(kept: &[usize], index: usize) -> usize
+    requires { index < length kept.now }
+    ensures { result ≡ slice_index kept.now index }
+{
+    kept[index]
+}
+
+impl<'p, 'r> Part<'p, 'r> {
+    /// A value with the name of its type.
+    pub(crate) fn typed(
+        types: &'p ValueTypes<'r>,
+        word: Word<'r>,
+        inner: Slot<'p, 'r>,
+    ) -> Part<'p, 'r>
+        ensures { (b : Base) → Data.typed (holding result).name (holding result).inner
+            ≡ coded_datum types.entry.now b (typed (word_of word.entry) inner.entry) }
+    {
+        Part {
+            content: Content::Typed { types, word, inner },
+            shape: Shape::List,
+            kept: None,
+        }
+    }
+
+    /// The values of an aggregate in order.
+    pub(crate) fn in_order(
+        types: &'p ValueTypes<'r>,
+        base: Base,
+        values: Slots<'p, 'r>,
+    ) -> Part<'p, 'r>
+        ensures { Data.aggregate (holding result).shape (holding result).elements
+            ≡ coded_datum types.entry.now base (sequence values.entry) }
+    {
+        Part {
+            content: Content::Values {
+                types,
+                base: types.of_elements(base),
+                values,
+            },
+            shape: shape_of(base),
+            kept: None,
+        }
+    }
+
+    /// The values of a SET or a BAG.
+    pub(crate) fn in_no_order(
+        types: &'p ValueTypes<'r>,
+        base: Base,
+        values: Slots<'p, 'r>,
+    ) -> Part<'p, 'r>
+        ensures { Data.aggregate (holding result).shape (holding result).elements
+            ≡ coded_datum types.entry.now base (bag values.entry) }
+    {
+        Part {
+            content: Content::Values {
+                types,
+                base: types.of_elements(base),
+                values,
+            },
+            shape: Shape::Bag,
+            kept: None,
+        }
+    }
+
+    /// Instances in no order, as those of an inverse attribute.
+    pub fn instances(names: &'p [u64]) -> Part<'p, 'r>
+        ensures shape { (holding result).shape ≡ Data.bag }
+        ensures elements { (holding result).elements ≡ instances names.entry.now }
+    {
+        Part {
+            content: Content::Instances(names),
+            shape: Shape::Bag,
+            kept: None,
+        }
+    }
+
+    /// The name of its type, where it is a typed value.
+    pub fn type_name(&self) -> Option<Word<'r>>
+        ensures { capitals_of result ≡ (holding self.now).name }
+    {
+        match &self.content {
+            Content::Typed { word, .. } => Some(*word),
+            Content::Values { .. } => None,
+            Content::Instances(_) => None,
+        }
+    }
+
+    /// Its shape, where it is an aggregate.
+    pub fn shape(&self) -> Shape
+        ensures { shape_seen result ≡ (holding self.now).shape }
+    {
+        self.shape
+    }
+
+    /// The element of this index, counted from 0; nothing where there are fewer.
+    pub fn element_value(&self, index: usize) -> Element<'p, 'r>
+        ensures { element_datum result
+            ≡ or_indeterminate (element_at index (holding self.now).elements) }
+    {
+        match &self.kept {
+            Some(kept) => match kept.get(index) {
+                Some(place) => self.content.element(*place),
+                None => Element::Nothing,
+            },
+            None => self.content.element(index),
+        }
+    }
+
+    /// The index, in all of the aggregate, of the element of this index.
+    pub fn whole_index(&self, index: usize) -> usize
+        requires { index < size_of (holding self.now).elements }
+        ensures { or_indeterminate (element_at result (whole_elements self.now))
+            ≡ or_indeterminate (element_at index (holding self.now).elements) }
+    {
+        match &self.kept {
+            Some(kept) => place_at(kept, index),
+            None => index,
+        }
+    }
+
+    /// Of all of the aggregate, the elements at these indices: what a QUERY keeps
+    /// (ISO 10303-11, 12.6.7).
+    pub fn keep(self, kept: Vec<usize>) -> Part<'p, 'r>
+        ensures { holding result
+            ≡ kept_of (holding self.entry) (picked kept.items (whole_elements self.entry)) }
+    {
+        Part {
+            content: self.content,
+            shape: self.shape.kept(),
+            kept: Some(kept),
+        }
+    }
+}

@@ -1,0 +1,117 @@
+//! What data types ask of values, without the schema that declares them.
+
+ghost use Rattle.std.specs.Prelude.{◌≡◌, ◌<◌, Some, IfOk, OnOk, if◌then◌else◌, length};
+ghost use Rattle.step_values.specs.Views.{word_of};
+ghost use Rattle.type_graphs.specs.Names.{Name};
+ghost use Rattle.schema_names.specs.Numbers.{number_of};
+ghost use Rattle.base_types.specs.Making.{entry};
+ghost use Rattle.base_types.specs.Seen.{schema_at};
+ghost use Rattle.base_types.specs.Tables.{AreBases};
+ghost use Rattle.held_values.specs.Named.{found, entry_in, names_entry};
+ghost use Rattle.held_values.specs.Coded.{number_base, named_base, element_base};
+ghost use Rattle.held_values.specs.Tables.{AreValueTypes};
+
+use base_types::base::Base;
+use base_types::lookup::Bases;
+use indexmap::IndexMap;
+use std::alloc::{AllocError, Global};
+use std::hash::RandomState;
+use step_literals::literal::Word;
+
+/// What names stand for. They are hashed by keys that the author of a text doesn't know, so that
+/// nobody can choose names that are slow to find.
+type NamedBases<'r> = IndexMap<Word<'r>, Base, RandomState>;
+
+/// What the data types of a schema ask of values, by number and by name.
+#[derive(Drop)]
+pub struct ValueTypes<'r> {
+    by_number: &'r [Base],
+    by_name: NamedBases<'r>,
+}
+
+/// What stands at a number; INTEGER where nothing does.
+fn entry(bases: &[Base], number: u32) -> Base
+    ensures { result ≡ entry bases.now number }
+{
+    match bases.get(number as usize) {
+        Some(base) => *base,
+        None => Base::Integer,
+    }
+}
+
+/// Gives the name of a declaration what it stands for, in place of a later one of that name.
+fn add_name<'r, 't, 'a: 'r>(
+    by_name: &mut NamedBases<'r>,
+    bases: &Bases<'r, 't, 'a>,
+    number: u32,
+) -> Result<(), AllocError>
+    requires { number < length bases.now.names.now.schema.now.declarations.items }
+    ensures { OnOk result ((n : Name) → found by_name.new n
+        ≡ (if names_entry (schema_at bases.now) number n
+        then Some (entry bases.now.table.now.by_declaration.items number)
+        else found by_name.old n)) }
+{
+    let Some(name) = bases.names.name(number) else {
+        return Ok(());
+    };
+    by_name.insert(name, entry(&bases.table.by_declaration, number))?;
+    Ok(())
+}
+
+/// What the names of a schema stand for.
+fn named_bases<'r, 't, 'a: 'r>(
+    alloc: Global,
+    keys: RandomState,
+    bases: &Bases<'r, 't, 'a>,
+) -> Result<NamedBases<'r>, AllocError>
+    ensures { IfOk result (λ m. (n : Name) → found m n
+        ≡ entry_in bases.now.table.now.by_declaration.items (number_of (schema_at bases.now) n)) }
+{
+    let mut by_name: NamedBases<'r> = IndexMap::with_hasher(alloc, keys);
+    for i in (0..bases.names.schema.declarations.len()).rev() {
+        add_name(&mut by_name, bases, i as u32)?;
+    }
+    Ok(by_name)
+}
+
+impl<'r> ValueTypes<'r> {
+    /// Those of a schema, by the tables of its data types. Names are hashed by these keys.
+    pub fn of<'t, 'a: 'r>(
+        alloc: Global,
+        keys: RandomState,
+        bases: &Bases<'r, 't, 'a>,
+    ) -> Result<ValueTypes<'r>, AllocError>
+        requires bases { AreBases bases.now }
+        ensures { IfOk result (AreValueTypes (schema_at bases.now)) }
+    {
+        let by_name = named_bases(alloc, keys, bases)?;
+        Ok(ValueTypes {
+            by_number: &bases.table.by_number,
+            by_name,
+        })
+    }
+
+    /// What the data type of a number asks; INTEGER where there is none.
+    pub fn of_number(&self, number: u32) -> Base
+        ensures { result ≡ number_base self.now number }
+    {
+        entry(self.by_number, number)
+    }
+
+    /// What a name stands for; INTEGER where no type or entity has it.
+    pub fn of_name(&self, name: Word<'_>) -> Base
+        ensures { result ≡ named_base self.now (word_of name.entry) }
+    {
+        self.by_name.get(&name).copied().unwrap_or(Base::Integer)
+    }
+
+    /// What is asked of the elements of an aggregate; of what is no aggregate, the same.
+    pub fn of_elements(&self, base: Base) -> Base
+        ensures { result ≡ element_base self.now base }
+    {
+        match base {
+            Base::Aggregate(aggregate) => self.of_number(aggregate.element),
+            _ => base,
+        }
+    }
+}
