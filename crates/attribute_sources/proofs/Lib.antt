@@ -10,3 +10,7 @@ pub mod Membership
 pub mod Following
 pub mod Answering
 pub mod Reading
+pub mod Agreeing
+pub mod Finding
+pub mod Renaming
+pub mod Saying

@@ -5,6 +5,7 @@
 mod declaring;
 pub mod defined;
 mod derivations;
+pub mod existing;
 mod grouping;
 mod lowest;
 pub mod source;

@@ -2,3 +2,4 @@ mod Oneness
 mod Joined
 mod Made
 mod Placed
+pub mod Said

@@ -2,5 +2,6 @@
 #![tactic(auto)]
 
 pub mod asked;
+pub mod existing;
 pub mod formula;
 pub mod table;

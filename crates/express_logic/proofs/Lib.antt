@@ -6,3 +6,4 @@ pub mod Walks
 pub mod Members
 pub mod Deciding
 pub mod Examples
+pub mod Taken

@@ -6,4 +6,5 @@ pub mod Holdings
 pub mod Views
 pub mod Laws
 pub mod Left
+pub mod Taking
 pub mod Steps

@@ -1,14 +1,17 @@
 //! Strings, compared by their characters (ISO 10303-11, 12.2.1.4).
 
-ghost use Rattle.std.specs.Prelude.{◌≡◌};
+ghost use Rattle.std.specs.Prelude.{◌≡◌, ℕ, [], ◌∷◌, ◌++◌, map};
 ghost use Rattle.std.specs.Iterator.{YieldsFirst, item_count};
+ghost use Rattle.step_literals.specs.Words.{upper};
+ghost use Rattle.step_literals.specs.declared.literal.items.Item.TheVariants.{Code};
 ghost use Rattle.express_logic.specs.Comparing.{same_text};
 ghost use Rattle.express_logic.specs.Views.{text_of};
 ghost use Rattle.express_logic.specs.Left.{characters_left};
+ghost use Rattle.express_logic.specs.Taking.{Takes};
 
 use express_lexis::literal;
 use express_lexis::literal::{Codes, EncodedString, SimpleString};
-use step_literals::literal::{Item, Items, Text};
+use step_literals::literal::{Item, Items, Text, Word};
 
 /// A string, of an exchange structure or of a schema.
 #[derive(Clone, Copy)]
@@ -52,6 +55,56 @@ impl<'a> AnyString<'a> {
             AnyString::Encoded(string) => Characters::Encoded(string.characters()),
         }
     }
+
+    /// Whether a string has the letters of two names in capitals, with a point between them.
+    pub fn is_dotted(&self, first: Word<'_>, second: Word<'_>) -> bool
+        ensures { result ≡ same_text (text_of self.now) (map (λ (c : ℕ). Code c)
+            (upper first.entry.text.now ++ 46 ∷ upper second.entry.text.now)) }
+    {
+        let mut characters = self.characters();
+        if !takes_dotted(&mut characters, first, second) {
+            return false;
+        }
+        characters.next().is_none()
+    }
+}
+
+/// Whether the next character has this code.
+fn takes_code(characters: &mut Characters<'_>, code: u8) -> bool
+    ensures { Takes (code ∷ []) (characters_left characters.old) (characters_left characters.new)
+        result }
+{
+    match characters.next() {
+        Some(item) => item == Item::Code(code as u32),
+        None => false,
+    }
+}
+
+/// Whether the next characters are the letters of a name in capitals.
+fn takes_name(characters: &mut Characters<'_>, name: Word<'_>) -> bool
+    ensures { Takes (upper name.entry.text.now) (characters_left characters.old)
+        (characters_left characters.new) result }
+{
+    for byte in name.spelling() {
+        if !takes_code(characters, byte.to_ascii_uppercase()) {
+            return false;
+        }
+    }
+    true
+}
+
+/// Whether the next characters are the letters of two names in capitals, with a point between them.
+fn takes_dotted(characters: &mut Characters<'_>, first: Word<'_>, second: Word<'_>) -> bool
+    ensures { Takes (upper first.entry.text.now ++ 46 ∷ upper second.entry.text.now)
+        (characters_left characters.old) (characters_left characters.new) result }
+{
+    if !takes_name(characters, first) {
+        return false;
+    }
+    if !takes_code(characters, b'.') {
+        return false;
+    }
+    takes_name(characters, second)
 }
 
 /// Whether two strings have the same characters.

@@ -32,6 +32,16 @@ own_in a (own n ∷ xs) (inl e) = inl (subst (λ k. own k ≡ own a) (sym e) ref
 own_in a (own n ∷ xs) (inr m) = inr (own_in a xs m)
 own_in a (redeclared q n ∷ xs) m = inr (own_in a xs m)
 
+-- what declares an explicit attribute
+pub declares_so : (s : Schema) (en : Entities) → AreEntities s en → (e a : Name) → DeclaresExplicit s e a
+    → (x : Explicit) × Among x (en.declarations e (e, a))
+declares_so s en are e a (x, at, n) =
+    let from = from-flat (λ (y : Explicit). own_names y.attributes) a x.explicits n in (
+      from.0,
+      those_in (DeclaresSo s x (e, a)) from.0 x.explicits (en.declarations e (e, a)) (are.declarations e x at (e, a))
+          from.1 (inl ((entity-name s e x at).1, own_in a from.0.attributes from.2)),
+    )
+
 module _ (s : Schema) (d : Domain) (en : Entities) (are : AreEntities s en) (is : List Instance) where
   abbrev IsThere : ℕ → Type 0
   IsThere y = Among y (names is)
@@ -64,14 +74,11 @@ module _ (s : Schema) (d : Domain) (en : Entities) (are : AreEntities s en) (is 
   -- an explicit attribute has a data type
   has_type : (types : List Name) (e a : Name) → Among e types → DeclaresExplicit s e a
       → (k : DataType) × Among k (data_types s en types (e, a))
-  has_type types e a m (x, at, n) =
-      let from = from-flat (λ (y : Explicit). own_names y.attributes) a x.explicits n in
-      let stands : Among from.0 (en.declarations e (e, a)) =
-      those_in (DeclaresSo s x (e, a)) from.0 x.explicits (en.declarations e (e, a)) (are.declarations e x at (e, a))
-      from.1 (inl ((entity-name s e x at).1, own_in a from.0.attributes from.2)) in (
-        from.0.data_type,
-        among-map (λ (y : Explicit). y.data_type) from.0 (declarations_by s en types (e, a))
-            (among-flat (λ (t : Name). en.declarations t (e, a)) e from.0 types m stands),
+  has_type types e a m h =
+      let so = declares_so s en are e a h in (
+        so.0.data_type,
+        among-map (λ (y : Explicit). y.data_type) so.0 (declarations_by s en types (e, a))
+            (among-flat (λ (t : Name). en.declarations t (e, a)) e so.0 types m so.1),
       )
 
   value_there : (derived optional : Bool) (ks : List DataType) (v : Value) → ((k : DataType) × Among k ks)

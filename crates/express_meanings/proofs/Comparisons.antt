@@ -10,7 +10,7 @@ use Rattle.express_trees.specs.declared.tree.Limit.TheVariants as limits
 use Rattle.express_logic.specs.Logic.{either, negated}
 use Rattle.express_logic.specs.Comparing.{a_number, a_text, some_bits, an_element, a_logical, scalar, equal_scalars, less_scalars, equal, less, among, among_elements, member}
 use Rattle.express_logic.specs.Data.{Shape, list, bag, array, Datum, indeterminate, number, text, bits, element, logical, instance, typed, aggregate, Data, none, more, truth, is_known}
-use Rattle.express_meanings.specs.Operations.{compared, limited}
+use Rattle.express_meanings.specs.Operations.{bare, says, compared, limited}
 use Rattle.express_meanings.specs.Alike.{IsReordering, unchanged, kept, swapped, joined, InOrder, Alike, AlikeEach}
 
 pub alike_scalar : (led : ℕ → ℕ → Type 0) (d e : Datum) → Alike led d e → scalar d ≡ scalar e
@@ -25,7 +25,7 @@ alike_scalar led (typed n d) (typed m e) h = alike_scalar led d e h.1
 alike_scalar led (aggregate s ds) (aggregate t es) h = refl
 alike_scalar led _ _ h = absurd h
 
-pub alike_truth : (led : ℕ → ℕ → Type 0) (d e : Datum) → Alike led d e → truth d ≡ truth e
+alike_truth : (led : ℕ → ℕ → Type 0) (d e : Datum) → Alike led d e → truth d ≡ truth e
 alike_truth led indeterminate indeterminate h = refl
 alike_truth led (number a) (number b) h = refl
 alike_truth led (text a) (text b) h = refl
@@ -36,6 +36,22 @@ alike_truth led (instance a) (instance b) h = refl
 alike_truth led (typed n d) (typed m e) h = refl
 alike_truth led (aggregate s ds) (aggregate t es) h = refl
 alike_truth led _ _ h = absurd h
+
+-- what is inside typed values that are alike is alike
+pub alike_bare : (led : ℕ → ℕ → Type 0) (d e : Datum) → Alike led d e → Alike led (bare d) (bare e)
+alike_bare led indeterminate indeterminate h = tt
+alike_bare led (number a) (number b) h = h
+alike_bare led (text a) (text b) h = h
+alike_bare led (bits a) (bits b) h = h
+alike_bare led (element a) (element b) h = h
+alike_bare led (logical a) (logical b) h = h
+alike_bare led (instance a) (instance b) h = h
+alike_bare led (typed n d) (typed m e) h = alike_bare led d e h.1
+alike_bare led (aggregate s ds) (aggregate t es) h = h
+alike_bare led _ _ h = absurd h
+
+pub alike_says : (led : ℕ → ℕ → Type 0) (d e : Datum) → Alike led d e → says d ≡ says e
+alike_says led d e h = alike_truth led (bare d) (bare e) (alike_bare led d e h)
 
 pub alike_known : (led : ℕ → ℕ → Type 0) (d e : Datum) → Alike led d e → is_known d ≡ is_known e
 alike_known led indeterminate indeterminate h = refl

@@ -5,10 +5,10 @@ use Rattle.std.specs.Ordering.{int_eq}
 use Rattle.express_trees.specs.declared.tree.Logical.{Logical}
 use Rattle.express_logic.specs.Literals.{whole_units}
 use Rattle.express_logic.specs.Holdings.{size_of}
-use Rattle.express_logic.specs.Data.{Shape, list, bag, array, Datum, indeterminate, number, text, bits, element, logical, instance, typed, aggregate, Data, none, more, truth}
-use Rattle.express_meanings.specs.Operations.{whole, size, last_index, first_index, high_index, low_index, or_else, is_index, element_from, only, element_of, indexed, is_true, filtered, kept_shape, queried}
+use Rattle.express_logic.specs.Data.{Shape, list, bag, array, Datum, indeterminate, number, text, bits, element, logical, instance, typed, aggregate, Data, none, more}
+use Rattle.express_meanings.specs.Operations.{says, whole, size, last_index, first_index, high_index, low_index, or_else, is_index, element_from, only, element_of, indexed, is_true, filtered, kept_shape, queried}
 use Rattle.express_meanings.specs.Alike.{IsReordering, unchanged, kept, swapped, joined, InOrder, Alike, AlikeEach, AlikeIn}
-use Rattle.express_meanings.proofs.Comparisons.{picked, alike_truth}
+use Rattle.express_meanings.proofs.Comparisons.{picked, alike_says}
 
 pub size_each : (led : ℕ → ℕ → Type 0) (ds es : Data) → AlikeEach led ds es → size_of ds ≡ size_of es
 size_each led none none h = refl
@@ -209,10 +209,10 @@ pub queried_alike : (led : ℕ → ℕ → Type 0) (f g : Datum → Datum)
 queried_alike led f g c (aggregate s ds) (aggregate t es) h = (
   ap kept_shape h.0,
   (
-    filtered (λ e. truth (g e)) h.1.0,
-    filtered_each led (λ d. truth (f d)) (λ e. truth (g e)) (λ d e k. alike_truth led (f d) (g e) (c d e k)) ds h.1.0
+    filtered (λ e. says (g e)) h.1.0,
+    filtered_each led (λ d. says (f d)) (λ e. says (g e)) (λ d e k. alike_says led (f d) (g e) (c d e k)) ds h.1.0
         h.1.1,
-    filtered_in_order (λ e. truth (g e)) s h.1.0 es h.1.2,
+    filtered_in_order (λ e. says (g e)) s h.1.0 es h.1.2,
   ),
 )
 queried_alike led f g c indeterminate indeterminate h = tt

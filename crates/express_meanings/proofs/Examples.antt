@@ -24,11 +24,11 @@ use Rattle.population_rules.proofs.Samples.{geo_entities, instance, slot, letter
 use Rattle.express_logic.specs.Logic.{known, negated, both}
 use Rattle.express_logic.specs.Literals.{whole_units}
 use Rattle.express_logic.specs.Data as data_of
-use Rattle.express_logic.specs.Data.{Datum, Data, list, bag, array, indeterminate, number, logical, aggregate, none, more, truth}
+use Rattle.express_logic.specs.Data.{Datum, Data, list, bag, array, indeterminate, number, logical, aggregate, none, more}
 use Rattle.express_logic.specs.Comparing.{equal}
 use Rattle.express_logic.proofs.Ordered.{counts_by}
 use Rattle.express_meanings.specs.Attributes.{derived, Formula, Attributes}
-use Rattle.express_meanings.specs.Operations.{size, high_index, low_index, indexed, queried, compared}
+use Rattle.express_meanings.specs.Operations.{says, size, high_index, low_index, indexed, queried, compared}
 use Rattle.express_meanings.specs.Meanings.{meaning}
 use Rattle.express_meanings.specs.DomainRules.{DomainRule, of_entity, of_type}
 use Rattle.express_meanings.specs.Findings.{least, values_of, outcome, rule_findings, unknown}
@@ -75,7 +75,7 @@ zero_units t e = ap (λ m. m *ℤ ten_to (exponent t +ℤ pos finest)) e ∙ ap 
 none_counted : whole_units (pos 0) ≡ pos 0
 none_counted = ap pos (zero-mul _)
 
-same_count : (n : ℕ) → int_eq (whole_units (pos n)) (whole_units (pos n)) ≡ true
+pub same_count : (n : ℕ) → int_eq (whole_units (pos n)) (whole_units (pos n)) ≡ true
 same_count n = (signed_Decides (whole_units (pos n)) (whole_units (pos n))).1 refl
 
 -- A direction of zeros: `SIZEOF(QUERY(r <* ratios | r <> 0.0)) > 0` is FALSE.
@@ -100,7 +100,7 @@ no_ratio =
 is_broken : outcome geo domain geo_entities attributes no_direction
     (instance 1 (DIRECTION ∷ []) []) (record { holder = of_entity DIRECTION; label = codes "WR1"; condition = some_ratio })
     ≡ False
-is_broken = ap (λ d. both (truth d) True) no_ratio
+is_broken = ap (λ d. both (says d) True) no_ratio
 
 -- `axis.dim = SIZEOF(location.coords)` with two ratios and two coordinates, and with three and two
 abbrev placed : List ℕ → List Instance

@@ -13,12 +13,13 @@ use Rattle.express_trees.specs.declared.tree.Function.TheVariants as functions
 use Rattle.express_trees.specs.Trees.{Tree, literal, signed, reference, parenthesized, aggregate, interval, query, call, nvl, negation, conjunction, disjunction, comparison, Trees, none, one, Alternatives, finish, another, Qualifiers, plain, attribute, group, index, Number, Literal, number, text, codes_of_text, bits, constant, indeterminate, own, named}
 use Rattle.type_graphs.specs.Names.{Name}
 use Rattle.express_logic.specs.Logic.{negated, both, either, known}
-use Rattle.express_logic.specs.Data.{Datum, truth}
+use Rattle.express_logic.specs.Data.{Datum}
 use Rattle.express_logic.specs.Data as data_of
-use Rattle.express_meanings.specs.Operations.{indexed}
-use Rattle.express_meanings.specs.Expressions.{Setting, of_literal, of_signed, of_call, of_junction, string_of, is_of_type, attribute_of, or_this, with_attribute, with_group, Variable, variable, first_of_two, named_value, with_value, item_value, bound, means, selected, item_behind, and_all, or_all, is_in, among_each}
+use Rattle.express_logic.specs.Comparing.{member}
+use Rattle.express_meanings.specs.Operations.{bare, says, indexed}
+use Rattle.express_meanings.specs.Expressions.{Setting, of_literal, of_signed, of_call, of_junction, string_of, is_of_type, instance_attribute, attribute_of, or_this, with_attribute, instance_group, with_group, Variable, variable, first_of_two, named_value, with_value, item_value, bound, means, selected, item_behind, and_all, or_all, is_in, among_each}
 use Rattle.express_meanings.specs.Alike.{Alike}
-use Rattle.express_meanings.proofs.Comparisons.{alike_truth, alike_known, picked_by, equal_alike, limited_alike, member_alike, compared_alike}
+use Rattle.express_meanings.proofs.Comparisons.{alike_bare, alike_says, alike_known, picked_by, equal_alike, limited_alike, member_alike, compared_alike}
 use Rattle.express_meanings.proofs.Elements.{size_alike, high_index_alike, low_index_alike, or_else_alike, indexed_alike, queried_alike}
 
 abbrev pub AlikeFound : (ℕ → ℕ → Type 0) → Option Datum → Option Datum → Type 0
@@ -54,9 +55,9 @@ signed_alike led signs.Minus n = refl
 
 call_alike : (led : ℕ → ℕ → Type 0) (f : Function) (d e : Datum) → Alike led d e → Alike led (of_call f d) (of_call f e)
 call_alike led functions.Exists d e h = ap known (alike_known led d e h)
-call_alike led functions.Sizeof d e h = size_alike led d e h
-call_alike led functions.Hiindex d e h = high_index_alike led d e h
-call_alike led functions.Loindex d e h = low_index_alike led d e h
+call_alike led functions.Sizeof d e h = size_alike led (bare d) (bare e) (alike_bare led d e h)
+call_alike led functions.Hiindex d e h = high_index_alike led (bare d) (bare e) (alike_bare led d e h)
+call_alike led functions.Loindex d e h = low_index_alike led (bare d) (bare e) (alike_bare led d e h)
 call_alike led functions.Typeof d e h = tt
 
 value_alike : (led : ℕ → ℕ → Type 0) (o p : Option Datum) → AlikeFound led o p → (d e : Datum) → Alike led d e
@@ -95,36 +96,44 @@ variable_alike led (v ∷ vs) (w ∷ ws) h n =
 variable_alike led _ _ h n = absurd h
 
 module _ (led : ℕ → ℕ → Type 0) (S T : Setting) (alike : SettingsAlike led S T) where
+  instance_alike : (d e : Datum) → Alike led d e → (n' : List ℕ) → AlikeFound led (instance_attribute S d n')
+      (instance_attribute T e n')
+  instance_alike data_of.indeterminate data_of.indeterminate h n' = tt
+  instance_alike (data_of.number a) (data_of.number b) h n' = tt
+  instance_alike (data_of.text a) (data_of.text b) h n' = tt
+  instance_alike (data_of.bits a) (data_of.bits b) h n' = tt
+  instance_alike (data_of.element a) (data_of.element b) h n' = tt
+  instance_alike (data_of.logical a) (data_of.logical b) h n' = tt
+  instance_alike (data_of.instance a) (data_of.instance b) h n' = alike.attribute a b h n'
+  instance_alike (data_of.typed n a) (data_of.typed m b) h n' = tt
+  instance_alike (data_of.aggregate s ds) (data_of.aggregate t es) h n' = tt
+  instance_alike _ _ h n' = absurd h
+
   attribute_alike : (d e : Datum) → Alike led d e → (n' : List ℕ) → AlikeFound led (attribute_of S d n')
       (attribute_of T e n')
-  attribute_alike data_of.indeterminate data_of.indeterminate h n' = tt
-  attribute_alike (data_of.number a) (data_of.number b) h n' = tt
-  attribute_alike (data_of.text a) (data_of.text b) h n' = tt
-  attribute_alike (data_of.bits a) (data_of.bits b) h n' = tt
-  attribute_alike (data_of.element a) (data_of.element b) h n' = tt
-  attribute_alike (data_of.logical a) (data_of.logical b) h n' = tt
-  attribute_alike (data_of.instance a) (data_of.instance b) h n' = alike.attribute a b h n'
-  attribute_alike (data_of.typed n a) (data_of.typed m b) h n' = tt
-  attribute_alike (data_of.aggregate s ds) (data_of.aggregate t es) h n' = tt
-  attribute_alike _ _ h n' = absurd h
+  attribute_alike d e h n' = instance_alike (bare d) (bare e) (alike_bare led d e h) n'
 
   dot_alike : (d e : Datum) → Alike led d e → (a : Name) → Alike led (with_attribute S d a) (with_attribute T e a)
   dot_alike d e h a =
       or_this_alike led (attribute_of S d a) (attribute_of T e a) (attribute_alike d e h a) data_of.indeterminate
       data_of.indeterminate tt
 
+  inner_group_alike : (d e : Datum) → Alike led d e → (e' n' : List ℕ) → Alike led (instance_group S d e' n')
+      (instance_group T e e' n')
+  inner_group_alike data_of.indeterminate data_of.indeterminate h e' n' = tt
+  inner_group_alike (data_of.number a) (data_of.number b) h e' n' = tt
+  inner_group_alike (data_of.text a) (data_of.text b) h e' n' = tt
+  inner_group_alike (data_of.bits a) (data_of.bits b) h e' n' = tt
+  inner_group_alike (data_of.element a) (data_of.element b) h e' n' = tt
+  inner_group_alike (data_of.logical a) (data_of.logical b) h e' n' = tt
+  inner_group_alike (data_of.instance a) (data_of.instance b) h e' n' = alike.attribute_of a b h e' n'
+  inner_group_alike (data_of.typed n a) (data_of.typed m b) h e' n' = tt
+  inner_group_alike (data_of.aggregate s ds) (data_of.aggregate t es) h e' n' = tt
+  inner_group_alike _ _ h e' n' = absurd h
+
   grouped_alike : (d e : Datum) → Alike led d e → (e' n' : List ℕ) → Alike led (with_group S d e' n')
       (with_group T e e' n')
-  grouped_alike data_of.indeterminate data_of.indeterminate h e' n' = tt
-  grouped_alike (data_of.number a) (data_of.number b) h e' n' = tt
-  grouped_alike (data_of.text a) (data_of.text b) h e' n' = tt
-  grouped_alike (data_of.bits a) (data_of.bits b) h e' n' = tt
-  grouped_alike (data_of.element a) (data_of.element b) h e' n' = tt
-  grouped_alike (data_of.logical a) (data_of.logical b) h e' n' = tt
-  grouped_alike (data_of.instance a) (data_of.instance b) h e' n' = alike.attribute_of a b h e' n'
-  grouped_alike (data_of.typed n a) (data_of.typed m b) h e' n' = tt
-  grouped_alike (data_of.aggregate s ds) (data_of.aggregate t es) h e' n' = tt
-  grouped_alike _ _ h e' n' = absurd h
+  grouped_alike d e h e' n' = inner_group_alike (bare d) (bare e) (alike_bare led d e h) e' n'
 
   type_alike : (d e : Datum) → Alike led d e → (n' : List Item) → is_of_type S (Some n') d ≡ is_of_type T (Some n') e
   type_alike data_of.indeterminate data_of.indeterminate h n' = refl
@@ -153,6 +162,9 @@ module _ (led : ℕ → ℕ → Type 0) (S T : Setting) (alike : SettingsAlike l
       first_alike led (variable vs n) (variable ws n) (variable_alike led vs ws v n) (attribute_of S me n)
       (attribute_of T you n) (attribute_alike me you m n)
 
+  inside_alike : (c d : Datum) → Alike led c d → (e f : Datum) → Alike led e f → member c (bare e) ≡ member d (bare f)
+  inside_alike c d h e f k = member_alike led c d h (bare e) (bare f) (alike_bare led e f k)
+
   mutual
     pub means_alike : (x : Tree) (vs ws : List Variable) → VariablesAlike led vs ws → (me you : Datum) → Alike led me
         you → Alike led (means S vs me x) (means T ws you x)
@@ -174,20 +186,21 @@ module _ (led : ℕ → ℕ → Type 0) (S T : Setting) (alike : SettingsAlike l
         (limited_alike led below (means S vs me x) (means S vs me high) (means T ws you x) (means T ws you high) a k i)
     means_alike (query n source condition) vs ws v me you m =
         queried_alike led (λ d. means S (bound n d vs) me condition) (λ d. means T (bound n d ws) you condition)
-        (λ d e k. means_alike condition (bound n d vs) (bound n e ws) (refl, (k, v)) me you m) (means S vs me source)
-        (means T ws you source) (means_alike source vs ws v me you m)
+        (λ d e k. means_alike condition (bound n d vs) (bound n e ws) (refl, (k, v)) me you m)
+        (bare (means S vs me source)) (bare (means T ws you source))
+        (alike_bare led (means S vs me source) (means T ws you source) (means_alike source vs ws v me you m))
     means_alike (call f x) vs ws v me you m =
         call_alike led f (means S vs me x) (means T ws you x) (means_alike x vs ws v me you m)
     means_alike (nvl x y) vs ws v me you m =
         or_else_alike led (means S vs me x) (means T ws you x) (means_alike x vs ws v me you m) (means S vs me y)
         (means T ws you y) (means_alike y vs ws v me you m)
     means_alike (negation x) vs ws v me you m =
-        ap negated (alike_truth led (means S vs me x) (means T ws you x) (means_alike x vs ws v me you m))
+        ap negated (alike_says led (means S vs me x) (means T ws you x) (means_alike x vs ws v me you m))
     means_alike (conjunction x xs) vs ws v me you m =
-        all_alike xs vs ws v me you m (truth (means S vs me x)) (truth (means T ws you x)) (alike_truth led
+        all_alike xs vs ws v me you m (says (means S vs me x)) (says (means T ws you x)) (alike_says led
         (means S vs me x) (means T ws you x) (means_alike x vs ws v me you m))
     means_alike (disjunction x xs) vs ws v me you m =
-        joined_alike xs vs ws v me you m (truth (means S vs me x)) (truth (means T ws you x)) (alike_truth led
+        joined_alike xs vs ws v me you m (says (means S vs me x)) (says (means T ws you x)) (alike_says led
         (means S vs me x) (means T ws you x) (means_alike x vs ws v me you m))
     means_alike (comparison x relations.In y) vs ws v me you m =
         within_alike y vs ws v me you m (string_of x) (means S vs me x) (means T ws you x) (means_alike x vs ws v me
@@ -220,8 +233,10 @@ module _ (led : ℕ → ℕ → Type 0) (S T : Setting) (alike : SettingsAlike l
     selected_alike (group n a qs) vs ws v me you m d e h =
         selected_alike qs vs ws v me you m (with_group S d n a) (with_group T e n a) (grouped_alike d e h n a)
     selected_alike (index x qs) vs ws v me you m d e h =
-        selected_alike qs vs ws v me you m (indexed d (means S vs me x)) (indexed e (means T ws you x))
-        (indexed_alike led d e h (means S vs me x) (means T ws you x) (means_alike x vs ws v me you m))
+        selected_alike qs vs ws v me you m (indexed (bare d) (bare (means S vs me x)))
+        (indexed (bare e) (bare (means T ws you x)))
+        (indexed_alike led (bare d) (bare e) (alike_bare led d e h) (bare (means S vs me x)) (bare (means T ws you x))
+        (alike_bare led (means S vs me x) (means T ws you x) (means_alike x vs ws v me you m)))
 
     pub then_alike : (qs : Qualifiers) (vs ws : List Variable) → VariablesAlike led vs ws → (me you : Datum) → Alike
         led me you → (n : List ℕ) → Alike led (item_behind S vs me n qs) (item_behind T ws you n qs)
@@ -238,15 +253,15 @@ module _ (led : ℕ → ℕ → Type 0) (S T : Setting) (alike : SettingsAlike l
         you → (p q : Logical) → p ≡ q → and_all S vs me p xs ≡ and_all T ws you q xs
     all_alike none vs ws v me you m p q h = h
     all_alike (one x xs) vs ws v me you m p q h =
-        all_alike xs vs ws v me you m (both p (truth (means S vs me x))) (both q (truth (means T ws you x)))
-        (λ i. both (h i) (alike_truth led (means S vs me x) (means T ws you x) (means_alike x vs ws v me you m) i))
+        all_alike xs vs ws v me you m (both p (says (means S vs me x))) (both q (says (means T ws you x)))
+        (λ i. both (h i) (alike_says led (means S vs me x) (means T ws you x) (means_alike x vs ws v me you m) i))
 
     pub joined_alike : (xs : Alternatives) (vs ws : List Variable) → VariablesAlike led vs ws → (me you : Datum)
         → Alike led me you → (p q : Logical) → p ≡ q → or_all S vs me p xs ≡ or_all T ws you q xs
     joined_alike finish vs ws v me you m p q h = h
     joined_alike (another j x xs) vs ws v me you m p q h =
-        joined_alike xs vs ws v me you m (of_junction j p (truth (means S vs me x))) (of_junction j q
-        (truth (means T ws you x))) (λ i. of_junction j (h i) (alike_truth led (means S vs me x) (means T ws you x)
+        joined_alike xs vs ws v me you m (of_junction j p (says (means S vs me x))) (of_junction j q
+        (says (means T ws you x))) (λ i. of_junction j (h i) (alike_says led (means S vs me x) (means T ws you x)
         (means_alike x vs ws v me you m) i))
 
     pub within_alike : (y : Tree) (vs ws : List Variable) → VariablesAlike led vs ws → (me you : Datum) → Alike led me
@@ -255,22 +270,22 @@ module _ (led : ℕ → ℕ → Type 0) (S T : Setting) (alike : SettingsAlike l
     within_alike (parenthesized y) vs ws v me you m s c d h e f k = within_alike y vs ws v me you m s c d h e f k
     within_alike (aggregate ys) vs ws v me you m s c d h e f k =
         λ i. if alike_known led c d h i then any_alike ys vs ws v me you m c d h i else Unknown
-    within_alike (call functions.Exists x) vs ws v me you m s c d h e f k = member_alike led c d h e f k
-    within_alike (call functions.Sizeof x) vs ws v me you m s c d h e f k = member_alike led c d h e f k
-    within_alike (call functions.Hiindex x) vs ws v me you m s c d h e f k = member_alike led c d h e f k
-    within_alike (call functions.Loindex x) vs ws v me you m s c d h e f k = member_alike led c d h e f k
+    within_alike (call functions.Exists x) vs ws v me you m s c d h e f k = inside_alike c d h e f k
+    within_alike (call functions.Sizeof x) vs ws v me you m s c d h e f k = inside_alike c d h e f k
+    within_alike (call functions.Hiindex x) vs ws v me you m s c d h e f k = inside_alike c d h e f k
+    within_alike (call functions.Loindex x) vs ws v me you m s c d h e f k = inside_alike c d h e f k
     within_alike (call functions.Typeof x) vs ws v me you m s c d h e f k =
         typeof_alike s (means S vs me x) (means T ws you x) (means_alike x vs ws v me you m)
-    within_alike (literal l) vs ws v me you m s c d h e f k = member_alike led c d h e f k
-    within_alike (signed j n) vs ws v me you m s c d h e f k = member_alike led c d h e f k
-    within_alike (reference r qs) vs ws v me you m s c d h e f k = member_alike led c d h e f k
-    within_alike (interval low above x below high) vs ws v me you m s c d h e f k = member_alike led c d h e f k
-    within_alike (query n source condition) vs ws v me you m s c d h e f k = member_alike led c d h e f k
-    within_alike (nvl x y) vs ws v me you m s c d h e f k = member_alike led c d h e f k
-    within_alike (negation x) vs ws v me you m s c d h e f k = member_alike led c d h e f k
-    within_alike (conjunction x xs) vs ws v me you m s c d h e f k = member_alike led c d h e f k
-    within_alike (disjunction x xs) vs ws v me you m s c d h e f k = member_alike led c d h e f k
-    within_alike (comparison x r y) vs ws v me you m s c d h e f k = member_alike led c d h e f k
+    within_alike (literal l) vs ws v me you m s c d h e f k = inside_alike c d h e f k
+    within_alike (signed j n) vs ws v me you m s c d h e f k = inside_alike c d h e f k
+    within_alike (reference r qs) vs ws v me you m s c d h e f k = inside_alike c d h e f k
+    within_alike (interval low above x below high) vs ws v me you m s c d h e f k = inside_alike c d h e f k
+    within_alike (query n source condition) vs ws v me you m s c d h e f k = inside_alike c d h e f k
+    within_alike (nvl x y) vs ws v me you m s c d h e f k = inside_alike c d h e f k
+    within_alike (negation x) vs ws v me you m s c d h e f k = inside_alike c d h e f k
+    within_alike (conjunction x xs) vs ws v me you m s c d h e f k = inside_alike c d h e f k
+    within_alike (disjunction x xs) vs ws v me you m s c d h e f k = inside_alike c d h e f k
+    within_alike (comparison x r y) vs ws v me you m s c d h e f k = inside_alike c d h e f k
 
     pub any_alike : (ys : Trees) (vs ws : List Variable) → VariablesAlike led vs ws → (me you : Datum) → Alike led me
         you → (c d : Datum) → Alike led c d → among_each S vs me c ys ≡ among_each T ws you d ys

@@ -14,6 +14,10 @@ pub mod Pinned
 pub mod Unbroken
 pub mod Closed
 pub mod Once
+pub mod Saying
+pub mod Lesser
+pub mod Indices
 mod Samples
 mod GeoFacts
 mod Examples
+mod TypedExamples

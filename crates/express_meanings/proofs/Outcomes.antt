@@ -13,14 +13,15 @@ use Rattle.conforming_values.specs.Images.{IsLed}
 use Rattle.population_rules.specs.Rules.{InverseAttribute}
 use Rattle.population_rules.specs.Findings.{Breach}
 use Rattle.express_logic.specs.Logic.{both, rank}
-use Rattle.express_logic.specs.Data.{Datum, truth}
+use Rattle.express_logic.specs.Data.{Datum}
+use Rattle.express_meanings.specs.Operations.{says}
 use Rattle.express_meanings.specs.Attributes.{Attributes, AreAttributes}
 use Rattle.express_meanings.specs.Meanings.{meaning}
 use Rattle.express_meanings.specs.DomainRules.{DomainRule, holder_name}
 use Rattle.express_meanings.specs.Findings.{least, is_false, selves, outcome, breaches_at}
 use Rattle.express_meanings.specs.Images.{Leads, IsKept}
 use Rattle.express_meanings.specs.Laws.{ImagesKeepRules, NoBreachInImages}
-use Rattle.express_meanings.proofs.Comparisons.{alike_truth}
+use Rattle.express_meanings.proofs.Comparisons.{alike_says}
 use Rattle.express_meanings.proofs.Led.{at_name}
 use Rattle.express_meanings.proofs.Settings.{kept_meaning}
 use Rattle.express_meanings.proofs.Selves.{SameValues, selves_same}
@@ -59,12 +60,12 @@ both_is True False = inr refl
 both_is True Unknown = inr refl
 both_is True True = inl refl
 
-rank_most : (p : Logical) → rank p ≤ 2
+pub rank_most : (p : Logical) → rank p ≤ 2
 rank_most False = omega arith
 rank_most Unknown = omega arith
 rank_most True = omega arith
 
-rank_tells : (p q : Logical) → rank p ≡ rank q → p ≡ q
+pub rank_tells : (p q : Logical) → rank p ≡ rank q → p ≡ q
 rank_tells False False h = refl
 rank_tells Unknown Unknown h = refl
 rank_tells True True h = refl
@@ -76,7 +77,7 @@ rank_tells True False h = absurd (omega (arith, h))
 rank_tells True Unknown h = absurd (omega (arith, h))
 
 -- the least is below all, and it is one of them, or TRUE
-least_below : (p : Logical) (ps : List Logical) → Among p ps → rank (least ps) ≤ rank p
+pub least_below : (p : Logical) (ps : List Logical) → Among p ps → rank (least ps) ≤ rank p
 least_below p [] m = elim m [ ]
 least_below p (q ∷ ps) (inl e) = subst (λ r. rank (both q (least ps)) ≤ rank r) e (both_left q (least ps))
 least_below p (q ∷ ps) (inr m) =
@@ -84,7 +85,7 @@ least_below p (q ∷ ps) (inr m) =
     let rest : rank (least ps) ≤ rank p = least_below p ps m in
     omega (arith, first, rest)
 
-least_in : (ps : List Logical) → Among (least ps) ps ⊎ (least ps ≡ True)
+pub least_in : (ps : List Logical) → Among (least ps) ps ⊎ (least ps ≡ True)
 least_in [] = inr refl
 least_in (q ∷ ps) = by (both_is q (least ps)) (least_in ps)
   where
@@ -108,7 +109,7 @@ least_same ps qs f g =
     let other : rank (least ps) ≤ rank (least qs) = no_more qs ps g in
     rank_tells (least ps) (least qs) (omega (arith, some, other))
 
-from_map : (f : Datum → Logical) (xs : List Datum) (p : Logical) → Among p (map f xs)
+pub from_map : (f : Datum → Logical) (xs : List Datum) (p : Logical) → Among p (map f xs)
     → (x : Datum) × Among x xs × (f x ≡ p)
 from_map f [] p m = elim m [ ]
 from_map f (x ∷ xs) p (inl e) = (x, inl refl, e)
@@ -131,10 +132,10 @@ module _ (s : Schema) (d : Domain) (en : Entities) (inverses : List InverseAttri
       (map after (selves s d en attributes z r.holder)) forth back
     where
       before : Datum → Logical
-      before self = truth (meaning s d en attributes is self r.condition)
+      before self = says (meaning s d en attributes is self r.condition)
 
       after : Datum → Logical
-      after self = truth (meaning s d en attributes js self r.condition)
+      after self = says (meaning s d en attributes js self r.condition)
 
       same : SameValues (Leads is h) (selves s d en attributes x r.holder) (selves s d en attributes z r.holder)
       same = selves_same s d en attributes is js h keeps.instances_led y x z at there led r.holder
@@ -145,7 +146,7 @@ module _ (s : Schema) (d : Domain) (en : Entities) (inverses : List InverseAttri
           let from = from_map before (selves s d en attributes x r.holder) p m in
           let to = same.forth from.0 from.1 in
           let one : after to.0 ≡ p =
-          sym (alike_truth (Leads is h) (meaning s d en attributes is from.0 r.condition)
+          sym (alike_says (Leads is h) (meaning s d en attributes is from.0 r.condition)
           (meaning s d en attributes js to.0 r.condition)
           (kept_meaning s d en inverses attributes are is js h keeps from.0 to.0 to.2 r.condition)) ∙ from.2 in
           subst (λ q. Among q (map after (selves s d en attributes z r.holder))) one
@@ -157,7 +158,7 @@ module _ (s : Schema) (d : Domain) (en : Entities) (inverses : List InverseAttri
           let from = from_map after (selves s d en attributes z r.holder) p m in
           let to = same.back from.0 from.1 in
           let one : before to.0 ≡ p =
-          alike_truth (Leads is h) (meaning s d en attributes is to.0 r.condition)
+          alike_says (Leads is h) (meaning s d en attributes is to.0 r.condition)
           (meaning s d en attributes js from.0 r.condition)
           (kept_meaning s d en inverses attributes are is js h keeps to.0 from.0 to.2 r.condition) ∙ from.2 in
           subst (λ q. Among q (map before (selves s d en attributes x r.holder))) one
@@ -176,18 +177,18 @@ rest_empty : (xs ys : List Breach) → xs ++ ys ≡ [] → ys ≡ []
 rest_empty [] ys e = e
 rest_empty (x ∷ xs) ys e = absurd (cc)
 
-each_empty : (f : Instance → List Breach) (xs : List Instance) → flat_map f xs ≡ [] → (x : Instance) → Among x xs
+pub each_empty : (f : Instance → List Breach) (xs : List Instance) → flat_map f xs ≡ [] → (x : Instance) → Among x xs
     → f x ≡ []
 each_empty f [] e x m = elim m [ ]
 each_empty f (z ∷ xs) e x (inl q) = subst (λ (i : Instance). f i ≡ []) q (front_empty (f z) (flat_map f xs) e)
 each_empty f (z ∷ xs) e x (inr m) = each_empty f xs (rest_empty (f z) (flat_map f xs) e) x m
 
-all_empty : (f : Instance → List Breach) (xs : List Instance) → ((x : Instance) → Among x xs → f x ≡ [])
+pub all_empty : (f : Instance → List Breach) (xs : List Instance) → ((x : Instance) → Among x xs → f x ≡ [])
     → flat_map f xs ≡ []
 all_empty f [] h = refl
 all_empty f (x ∷ xs) h = ap (λ ys. ys ++ flat_map f xs) (h x (inl refl)) ∙ all_empty f xs (λ z m. h z (inr m))
 
-abbrev breaches : ℕ → List DomainRule → List Breach
+abbrev pub breaches : ℕ → List DomainRule → List Breach
 breaches n rs = map (λ (r : DomainRule). record { instance = n; holder = holder_name r.holder; label = r.label }) rs
 
 told : (n m : ℕ) (rs : List DomainRule) → breaches n rs ≡ [] → breaches m rs ≡ []

@@ -16,10 +16,10 @@ use Rattle.express_trees.specs.Trees.{Tree, literal, signed, reference, parenthe
 use Rattle.type_graphs.specs.Names.{Name}
 use Rattle.express_logic.specs.Logic.{negated, both, either, exclusive, known}
 use Rattle.express_logic.specs.Literals.{simple_characters, encoded_characters, binary_bits}
-use Rattle.express_logic.specs.Data.{Datum, truth, is_known}
+use Rattle.express_logic.specs.Data.{Datum, is_known}
 use Rattle.express_logic.specs.Data as data_of
 use Rattle.express_logic.specs.Comparing.{equal, member}
-use Rattle.express_meanings.specs.Operations.{size, high_index, low_index, or_else, indexed, queried, compared, limited}
+use Rattle.express_meanings.specs.Operations.{bare, says, size, high_index, low_index, or_else, indexed, queried, compared, limited}
 
 -- what an expression can ask
 pub record Setting : Type 0 where
@@ -55,9 +55,9 @@ of_signed signs.Minus n = data_of.number (neg_ℤ (units (spelling n)))
 -- TYPEOF has a value only where it stands on the right of IN (15)
 abbrev pub of_call : Function → Datum → Datum
 of_call functions.Exists d = data_of.logical (known (is_known d))
-of_call functions.Sizeof d = size d
-of_call functions.Hiindex d = high_index d
-of_call functions.Loindex d = low_index d
+of_call functions.Sizeof d = size (bare d)
+of_call functions.Hiindex d = high_index (bare d)
+of_call functions.Loindex d = low_index (bare d)
 of_call functions.Typeof d = data_of.indeterminate
 
 abbrev pub of_junction : Junction → Logical → Logical → Logical
@@ -79,9 +79,13 @@ is_of_type S (Some n) (data_of.typed t d) = known (S.is_defined_by t n)
 is_of_type S (Some n) d = False
 
 -- the value of an attribute, where d is an instance that has it
+abbrev pub instance_attribute : Setting → Datum → Name → Option Datum
+instance_attribute S (data_of.instance x) a = S.attribute x a
+instance_attribute S d a = None
+
+-- .. or a typed value of one
 abbrev pub attribute_of : Setting → Datum → Name → Option Datum
-attribute_of S (data_of.instance x) a = S.attribute x a
-attribute_of S d a = None
+attribute_of S d a = instance_attribute S (bare d) a
 
 -- what there is, else this
 abbrev pub or_this : Option Datum → Datum → Datum
@@ -92,9 +96,12 @@ or_this (Some d) e = d
 abbrev pub with_attribute : Setting → Datum → Name → Datum
 with_attribute S d a = or_this (attribute_of S d a) data_of.indeterminate
 
+abbrev pub instance_group : Setting → Datum → Name → Name → Datum
+instance_group S (data_of.instance x) e a = S.attribute_of x e a
+instance_group S d e a = data_of.indeterminate
+
 abbrev pub with_group : Setting → Datum → Name → Name → Datum
-with_group S (data_of.instance x) e a = S.attribute_of x e a
-with_group S d e a = data_of.indeterminate
+with_group S d e a = instance_group S (bare d) e a
 
 -- a variable of a QUERY; the innermost stands first
 pub record Variable : Type 0 where
@@ -140,12 +147,12 @@ abbrev mutual
       data_of.logical (both (limited above (means S vs me low) (means S vs me x))
       (limited below (means S vs me x) (means S vs me high)))
   means S vs me (query n source condition) =
-      queried (λ d. means S (bound n d vs) me condition) (means S vs me source)
+      queried (λ d. means S (bound n d vs) me condition) (bare (means S vs me source))
   means S vs me (call f x) = of_call f (means S vs me x)
   means S vs me (nvl x y) = or_else (means S vs me x) (means S vs me y)
-  means S vs me (negation x) = data_of.logical (negated (truth (means S vs me x)))
-  means S vs me (conjunction x xs) = data_of.logical (and_all S vs me (truth (means S vs me x)) xs)
-  means S vs me (disjunction x xs) = data_of.logical (or_all S vs me (truth (means S vs me x)) xs)
+  means S vs me (negation x) = data_of.logical (negated (says (means S vs me x)))
+  means S vs me (conjunction x xs) = data_of.logical (and_all S vs me (says (means S vs me x)) xs)
+  means S vs me (disjunction x xs) = data_of.logical (or_all S vs me (says (means S vs me x)) xs)
   means S vs me (comparison x relations.In y) =
       data_of.logical (is_in S vs me (string_of x) (means S vs me x) (means S vs me y) y)
   means S vs me (comparison x r y) = data_of.logical (compared r (means S vs me x) (means S vs me y))
@@ -155,7 +162,7 @@ abbrev mutual
   selected S vs me plain d = d
   selected S vs me (attribute a qs) d = selected S vs me qs (with_attribute S d a)
   selected S vs me (group e a qs) d = selected S vs me qs (with_group S d e a)
-  selected S vs me (index x qs) d = selected S vs me qs (indexed d (means S vs me x))
+  selected S vs me (index x qs) d = selected S vs me qs (indexed (bare d) (bare (means S vs me x)))
 
   -- a name that is neither a variable nor an attribute: the type of `type.item`, else an item
   pub item_behind : Setting → List Variable → Datum → Name → Qualifiers → Datum
@@ -167,18 +174,18 @@ abbrev mutual
   -- AND, OR and XOR, from left to right (12.4)
   pub and_all : Setting → List Variable → Datum → Logical → Trees → Logical
   and_all S vs me p none = p
-  and_all S vs me p (one x xs) = and_all S vs me (both p (truth (means S vs me x))) xs
+  and_all S vs me p (one x xs) = and_all S vs me (both p (says (means S vs me x))) xs
 
   pub or_all : Setting → List Variable → Datum → Logical → Alternatives → Logical
   or_all S vs me p finish = p
-  or_all S vs me p (another j x xs) = or_all S vs me (of_junction j p (truth (means S vs me x))) xs
+  or_all S vs me p (another j x xs) = or_all S vs me (of_junction j p (says (means S vs me x))) xs
 
   -- `x IN y` (12.2.3), where x is this string, if it is one, and worth d, and y by itself worth e
   pub is_in : Setting → List Variable → Datum → Option (List Item) → Datum → Datum → Tree → Logical
   is_in S vs me s d e (parenthesized y) = is_in S vs me s d e y
   is_in S vs me s d e (aggregate ys) = if is_known d then among_each S vs me d ys else Unknown
   is_in S vs me s d e (call functions.Typeof x) = is_of_type S s (means S vs me x)
-  is_in S vs me s d e y = member d e
+  is_in S vs me s d e y = member d (bare e)
 
   -- the OR of the comparisons with each
   pub among_each : Setting → List Variable → Datum → Datum → Trees → Logical

@@ -14,7 +14,8 @@ use Rattle.conformance.specs.Entities.{Entities, data_types}
 use Rattle.conformance.specs.Populations.{Slot, Instance}
 use Rattle.population_rules.specs.Findings.{Breach}
 use Rattle.express_logic.specs.Logic.{both}
-use Rattle.express_logic.specs.Data.{Datum, instance, truth}
+use Rattle.express_logic.specs.Data.{Datum, instance}
+use Rattle.express_meanings.specs.Operations.{says}
 use Rattle.express_meanings.specs.Values.{datum, first_declared}
 use Rattle.express_meanings.specs.Attributes.{Attributes}
 use Rattle.express_meanings.specs.Meanings.{meaning}
@@ -80,7 +81,7 @@ module _ (s : Schema) (d : Domain) (en : Entities) (attributes : Attributes) whe
   module _ (is : List Instance) where
     -- what a rule says at an instance: of several values the least
     abbrev pub outcome : Instance → DomainRule → Logical
-    outcome x r = least (map (λ self. truth (meaning s d en attributes is self r.condition)) (selves x r.holder))
+    outcome x r = least (map (λ self. says (meaning s d en attributes is self r.condition)) (selves x r.holder))
 
     module _ (rules : List DomainRule) where
       abbrev pub breaches_at : Instance → List Breach

@@ -1,11 +1,14 @@
 -- The laws of meanings.
-use Rattle.std.specs.Prelude.{◌≡◌, ℕ, ◌==◌, Bool, IsTrue, List, [], map, Some, bytes_eq}
+use Rattle.std.specs.Prelude.{◌≡◌, ◌≢◌, ◌↔◌, ℕ, suc, ◌<◌, ◌==◌, nat_lt, pos, ◌^◌, Bool, false, IsTrue, List, [], map, Option, None, Some, bytes_eq, if◌then◌else◌}
 use Rattle.std.specs.List.{IsDistinct}
 use Rattle.step_structures.specs.Trees.{Row, File, rows_of}
+use Rattle.express_trees.specs.declared.tree.Logical.{Logical}
+use Rattle.express_trees.specs.declared.tree.Logical.TheVariants.{False, Unknown, True}
 use Rattle.express_trees.specs.Trees.{Tree}
 use Rattle.express_schemas.specs.Schemas.{Schema}
 use Rattle.express_schemas.specs.Profile.{Every}
 use Rattle.type_graphs.specs.Names.{Name, OneOf, Among}
+use Rattle.type_graphs.specs.Attributes.{Derivation}
 use Rattle.type_graphs.specs.Faults.{IsResolved}
 use Rattle.conformance.specs.Bases.{Domain}
 use Rattle.conformance.specs.Entities.{Entities, AreEntities, records, named_entity, unknown_entities}
@@ -15,11 +18,15 @@ use Rattle.population_rules.specs.Rules.{UniqueRule, InverseAttribute, Rules}
 use Rattle.population_rules.specs.Findings.{unique_findings, inverse_findings}
 use Rattle.population_rules.specs.Pins.{IsInKey, IsInverseSide, IsPinnedElsewhere}
 use Rattle.population_rules.specs.Laws.{names, IsClosed}
-use Rattle.express_logic.specs.Data.{Datum}
-use Rattle.express_meanings.specs.Attributes.{Attributes, AreAttributes}
-use Rattle.express_meanings.specs.Meanings.{meaning}
+use Rattle.express_logic.specs.Literals.{whole_units}
+use Rattle.express_logic.specs.Data.{list, Datum, indeterminate, number, instance, aggregate, Data}
+use Rattle.express_logic.specs.Holdings.{element_at}
+use Rattle.express_meanings.specs.Operations.{says, indexed}
+use Rattle.express_meanings.specs.Expressions.{or_this, means}
+use Rattle.express_meanings.specs.Attributes.{Formula, Attributes, AreAttributes}
+use Rattle.express_meanings.specs.Meanings.{setting, derived_value, meaning}
 use Rattle.express_meanings.specs.DomainRules.{DomainRule, AreDomainRules}
-use Rattle.express_meanings.specs.Findings.{outcome, rule_findings}
+use Rattle.express_meanings.specs.Findings.{selves, outcome, rule_findings}
 use Rattle.express_meanings.specs.Alike.{Alike}
 use Rattle.express_meanings.specs.Images.{IsName, HasPlacesOnce, Leads, IsLedTo, ReferrersAreLed, IsKept}
 
@@ -124,3 +131,51 @@ ImagesBreakNoRule = (s : Schema) (d : Domain) (en : Entities) (rules : Rules) (c
     → rule_findings s d en attributes is domain_rules ≡ []
     → (unique_findings rules js ≡ []) × (inverse_findings rules js ≡ [])
     × (rule_findings s d en attributes js domain_rules ≡ [])
+
+-- a rule says p of a value of SELF for which it is tried at an instance
+abbrev pub SaysOf : Schema → Domain → Entities → Attributes → List Instance → Instance → DomainRule → Datum → Logical
+    → Type 0
+SaysOf s d en attributes is x r self p =
+    Among self (selves s d en attributes x r.holder) × (says (meaning s d en attributes is self r.condition) ≡ p)
+
+-- At an instance a rule is FALSE exactly where it says FALSE of one of its values, UNKNOWN exactly where it says FALSE of
+-- none and doesn't say TRUE of one, and TRUE exactly where it says TRUE of all.
+abbrev pub OutcomesAreLeast : Type 0
+OutcomesAreLeast = (s : Schema) (d : Domain) (en : Entities) (attributes : Attributes) (is : List Instance)
+    (x : Instance) (r : DomainRule)
+    → ((outcome s d en attributes is x r ≡ False) ↔ ((self : Datum) × SaysOf s d en attributes is x r self False))
+    × ((outcome s d en attributes is x r ≡ Unknown)
+    ↔ (((self : Datum) → SaysOf s d en attributes is x r self False → ⊥)
+    × ((self : Datum) × (p : Logical) × SaysOf s d en attributes is x r self p × (p ≢ True))))
+    × ((outcome s d en attributes is x r ≡ True)
+    ↔ ((self : Datum) (p : Logical) → SaysOf s d en attributes is x r self p → p ≡ True))
+
+-- There is no finding exactly where no rule is FALSE at an instance.
+abbrev pub NoFindingExactlyWhereNoRuleIsFalse : Type 0
+NoFindingExactlyWhereNoRuleIsFalse = (s : Schema) (d : Domain) (en : Entities) (attributes : Attributes)
+    (is : List Instance) (rules : List DomainRule)
+    → (rule_findings s d en attributes is rules ≡ [])
+    ↔ ((x : Instance) → Among x is → (r : DomainRule) → Among r rules → outcome s d en attributes is x r ≢ False)
+
+-- a derived attribute that isn't set aside has a rank below n
+abbrev pub is_below : ℕ → Option Formula → Bool
+is_below n None = false
+is_below n (Some f) = nat_lt f.rank n
+
+-- the values of the derived attributes of ranks below n; others have none
+abbrev pub lesser_values : Schema → Domain → Entities → Attributes → List Instance → ℕ → ℕ → Derivation → Datum
+lesser_values s d en attributes is n y e =
+    if is_below n (attributes.formula e) then derived_value s d en attributes is y e else indeterminate
+
+-- A derived attribute that isn't set aside has at an instance the value of its expression, with that instance for SELF,
+-- where derived attributes of lesser ranks have theirs.
+abbrev pub DerivedAreTheirExpressions : Type 0
+DerivedAreTheirExpressions = (s : Schema) (d : Domain) (en : Entities) (attributes : Attributes) (is : List Instance)
+    (e : Derivation) (f : Formula) → attributes.formula e ≡ Some f → (y : ℕ)
+    → derived_value s d en attributes is y e
+    ≡ means (setting s d en attributes is (lesser_values s d en attributes is f.rank)) [] (instance y) f.expression
+
+-- The element of a LIST at an index is that at this place, counted from 1, if there are so many.
+abbrev pub ElementsOfListsAreInOrder : Type 0
+ElementsOfListsAreInOrder = (ds : Data) (i : ℕ) → suc i < 2 ^ 63
+    → indexed (aggregate list ds) (number (whole_units (pos (suc i)))) ≡ or_this (element_at i ds) indeterminate

@@ -9,9 +9,19 @@ use Rattle.express_trees.specs.declared.tree.Limit.{Limit}
 use Rattle.express_trees.specs.declared.tree.Limit.TheVariants as limits
 use Rattle.express_logic.specs.Logic.{negated}
 use Rattle.express_logic.specs.Literals.{whole_units}
-use Rattle.express_logic.specs.Data.{Shape, list, bag, array, Datum, indeterminate, number, aggregate, Data, none, more, truth}
+use Rattle.express_logic.specs.Data.{Shape, list, bag, array, Datum, indeterminate, number, typed, aggregate, Data, none, more, truth}
 use Rattle.express_logic.specs.Comparing.{equal, less, member}
 use Rattle.express_logic.specs.Holdings.{size_of}
+
+-- The value inside a typed one, at any depth. A defined type is a specialization of its underlying type, so a value of it
+-- may stand where one of that type may (9.2.7 and 12.11).
+abbrev pub bare : Datum → Datum
+bare (typed n d) = bare d
+bare d = d
+
+-- what a value says as an operand of NOT, AND, OR and XOR, as a condition and as a rule's value (12.4)
+abbrev pub says : Datum → Logical
+says d = truth (bare d)
 
 -- a whole number, where there is one
 abbrev pub whole : Option ℤ → Datum
@@ -90,7 +100,7 @@ kept_shape s = s
 
 -- QUERY (12.6.7)
 abbrev pub queried : (Datum → Datum) → Datum → Datum
-queried condition (aggregate s ds) = aggregate (kept_shape s) (filtered (λ d. truth (condition d)) ds)
+queried condition (aggregate s ds) = aggregate (kept_shape s) (filtered (λ d. says (condition d)) ds)
 queried condition d = indeterminate
 
 -- what a relation says of two values (12.2)

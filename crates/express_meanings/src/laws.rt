@@ -6,6 +6,8 @@ ghost use Rattle.express_meanings.specs.Laws.{InverseValuesAreLed, KeysStayUniqu
 ghost use Rattle.express_meanings.specs.Laws.{PinsTellApart};
 ghost use Rattle.express_meanings.specs.Laws.{ImagesKeepMeanings, ImagesKeepRules, NoBreachInImages};
 ghost use Rattle.express_meanings.specs.Laws.{ImagesBreakNoRule};
+ghost use Rattle.express_meanings.specs.Laws.{OutcomesAreLeast, NoFindingExactlyWhereNoRuleIsFalse};
+ghost use Rattle.express_meanings.specs.Laws.{DerivedAreTheirExpressions, ElementsOfListsAreInOrder};
 
 /// What a schema says of attributes leaves no choice, whatever the population.
 pub fn attributes_are_one()
@@ -71,4 +73,27 @@ pub fn no_breach_in_images()
 /// where no instance breaks one.
 pub fn images_break_no_rule()
     ensures { ImagesBreakNoRule }
+{}
+
+/// At an instance a rule is FALSE exactly where it says FALSE of one of its values, UNKNOWN exactly
+/// where it says FALSE of none and doesn't say TRUE of one, and TRUE exactly where it says TRUE of all
+/// (ISO 10303-11, 9.2.2.2).
+pub fn outcomes_are_least()
+    ensures { OutcomesAreLeast }
+{}
+
+/// There is no finding exactly where no rule is FALSE at an instance.
+pub fn no_finding_exactly_where_no_rule_is_false()
+    ensures { NoFindingExactlyWhereNoRuleIsFalse }
+{}
+
+/// A derived attribute that isn't set aside has at an instance the value of its expression, with that
+/// instance for SELF, where derived attributes of lesser ranks have theirs (ISO 10303-11, 9.2.1.2).
+pub fn derived_are_their_expressions()
+    ensures { DerivedAreTheirExpressions }
+{}
+
+/// The element of a LIST at an index is that at this place, counted from 1 (ISO 10303-11, 12.6.1).
+pub fn elements_of_lists_are_in_order()
+    ensures { ElementsOfListsAreInOrder }
 {}

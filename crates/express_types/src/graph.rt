@@ -9,9 +9,9 @@ ghost use Rattle.attribute_places.specs.Places.{all_places};
 ghost use Rattle.unchecked_parts.specs.Adding.{unchecked_in};
 ghost use Rattle.derivation_ranks.specs.Ranking.{IsRankOf};
 ghost use Rattle.resolved_types.specs.Graphs.{AreSupers, IsKind, ArePlacesOf, place_of};
-ghost use Rattle.express_types.specs.Judging.{IsJudged, AreRuleTables};
+ghost use Rattle.express_types.specs.Judging.{IsJudged, AreDomainTables, AreRuleTables};
 
-use crate::judging::Judged;
+use crate::judging::{DomainTables, Judged};
 use attribute_places::attributes::Place;
 use derivation_ranks::asked::rank_at;
 use resolved_types::types::ResolvedTypes;
@@ -29,10 +29,14 @@ pub struct TypeGraph<'t, 'a> {
     pub types: ResolvedTypes<'t, 'a>,
     /// What is found of the bodies of rules and derived attributes.
     pub judged: Judged,
+    /// What of it is evaluated: how derived attributes are computed, and the domain rules that are
+    /// checked (ISO 10303-11, 9.2.1.2, 9.1 and 9.2.2.2).
+    pub domain: DomainTables<'t, 'a>,
     /// Its rules that speak of a whole population: uniqueness rules and inverse attributes
     /// (ISO 10303-11, 9.2.2.1 and 9.2.1.3).
     pub rules: RuleTables<'a>,
     pub ghost judged_is: { ∥ IsJudged (schema_of types.names.schema.now) judged ∥₁ },
+    pub ghost domain_is: { ∥ AreDomainTables (schema_of types.names.schema.now) domain ∥₁ },
     pub ghost rules_are: { ∥ AreRuleTables (schema_of types.names.schema.now) rules ∥₁ },
 }
 

@@ -1,5 +1,5 @@
-//! What is found of a schema: the ranks of its derived attributes, what of it isn't checked, and its
-//! rules that speak of a whole population.
+//! What is found of a schema: the ranks of its derived attributes, what of it isn't checked, what of
+//! it is evaluated, and its rules that speak of a whole population.
 
 ghost use Rattle.std.specs.Prelude.{◌≡◌, IfOk, length};
 ghost use Rattle.digraph.specs.Graphs.{graph_of};
@@ -10,8 +10,15 @@ ghost use Rattle.taken_attributes.specs.Taking.{IsKnown, schema_in};
 ghost use Rattle.enumeration_items.specs.Items.{AreItems};
 ghost use Rattle.attribute_origins.specs.Lines.{HaveLines};
 ghost use Rattle.alike_types.specs.Shaped.{AreShapes};
-ghost use Rattle.express_types.specs.Judging.{AreTypes, AreMeanings, IsJudged, AreFound};
+ghost use Rattle.express_types.specs.Judging.{
+  AreTypes,
+  AreMeanings,
+  IsJudged,
+  AreDomainTables,
+  AreFound,
+};
 
+use crate::evaluating::domain_by;
 use crate::ruling::rules_by;
 use alike_types::table::shapes;
 use attribute_origins::lines::lines;
@@ -19,8 +26,10 @@ use body_reasons::derivations::{derivation_ranks, judge_derivations};
 use data_types::forms::{DataTypes, data_types};
 use data_types::values::Tables;
 use declared_attributes::attributes::Attributes;
+use derivation_formulas::formula::Formula;
 use derivation_ranks::asked::first_derivations;
 use digraph::closures::{closure, reversal};
+use domain_rules::rule::DomainRule;
 use enumeration_items::items::Items;
 use rule_tables::tables::RuleTables;
 use schema_names::graphs::{part_graph, supertype_graph};
@@ -115,20 +124,38 @@ pub struct Judged {
     pub unchecked: Vec<Unchecked>,
 }
 
-/// What is found by what is known.
+/// What is evaluated of a schema: how its derived attributes are computed, and its domain rules that
+/// are checked (ISO 10303-11, 9.2.1.2, 9.1 and 9.2.2.2).
+#[derive(Drop)]
+pub struct DomainTables<'t, 'a> {
+    /// By number, how derived attributes are computed; none for one that is set aside.
+    pub formulas: Vec<Option<Formula<'t, 'a>>>,
+    /// In the order of the text.
+    pub rules: Vec<DomainRule<'t, 'a>>,
+}
+
+/// What is found of a schema's bodies, and what of them is evaluated.
+#[derive(Drop)]
+struct Bodies<'t, 'a> {
+    judged: Judged,
+    domain: DomainTables<'t, 'a>,
+}
+
+/// What is found of a schema's bodies by what is known.
 fn judge_by<'r, 't, 'a>(
     alloc: Global,
     known: &Known<'r, 't, 'a>,
     items: &'r Items<'a>,
     lines: &'r [Vec<u32>],
     shapes: &'r [Shape],
-) -> Result<Judged, AllocError>
+) -> Result<Bodies<'t, 'a>, AllocError>
     requires known { IsKnown known.now }
     requires items { AreItems (schema_in known.now) items.now }
     requires lines { HaveLines (schema_in known.now) (graph_of lines.now) }
     requires each { length lines.now ≡ length known.now.tables.names.now.schema.now.declarations.items }
     requires shapes { AreShapes (schema_in known.now) shapes.now }
-    ensures { IfOk result (IsJudged (schema_in known.now)) }
+    ensures judged { IfOk result (λ b. IsJudged (schema_in known.now) b.judged) }
+    ensures domain { IfOk result (λ b. AreDomainTables (schema_in known.now) b.domain) }
 {
     let judged = judge_derivations(alloc, known, items)?;
     let ranks = derivation_ranks(alloc, known, &judged)?;
@@ -141,18 +168,22 @@ fn judge_by<'r, 't, 'a>(
         ranks: &ranks,
     };
     let unchecked = unchecked_parts(alloc, &findings)?;
+    let domain = domain_by(alloc, &findings)?;
     let firsts = first_derivations(alloc, known.tables.names)?;
-    Ok(Judged {
+    let judged = Judged {
         ranks,
         firsts,
         unchecked,
-    })
+    };
+    Ok(Bodies { judged, domain })
 }
 
 /// What is found of a schema.
 #[derive(Drop)]
-pub(crate) struct Found<'a> {
+pub(crate) struct Found<'t, 'a> {
     pub judged: Judged,
+    /// What of it is evaluated.
+    pub domain: DomainTables<'t, 'a>,
     /// The rules that speak of a whole population.
     pub rules: RuleTables<'a>,
 }
@@ -164,7 +195,7 @@ fn found_by<'r, 't, 'a>(
     items: &'r Items<'a>,
     lines: &'r [Vec<u32>],
     shapes: &'r [Shape],
-) -> Result<Found<'a>, AllocError>
+) -> Result<Found<'t, 'a>, AllocError>
     requires known { IsKnown known.now }
     requires items { AreItems (schema_in known.now) items.now }
     requires lines { HaveLines (schema_in known.now) (graph_of lines.now) }
@@ -172,9 +203,13 @@ fn found_by<'r, 't, 'a>(
     requires shapes { AreShapes (schema_in known.now) shapes.now }
     ensures { IfOk result (AreFound (schema_in known.now)) }
 {
-    let judged = judge_by(alloc, known, items, lines, shapes)?;
+    let Bodies { judged, domain } = judge_by(alloc, known, items, lines, shapes)?;
     let rules = rules_by(alloc, known, lines)?;
-    Ok(Found { judged, rules })
+    Ok(Found {
+        judged,
+        domain,
+        rules,
+    })
 }
 
 /// What is found of the bodies and the rules of a schema whose names are resolved, over the rows of
@@ -184,7 +219,7 @@ pub(crate) fn judge<'r, 't, 'a>(
     keys: RandomState,
     names: &'r Names<'t, 'a>,
     above: &'r [Vec<u32>],
-) -> Result<Found<'a>, AllocError>
+) -> Result<Found<'t, 'a>, AllocError>
     requires resolved { IsResolved (schema_of names.now.schema.now) }
     requires above { AreAbove (schema_of names.now.schema.now) (graph_of above.now) }
     ensures { IfOk result (AreFound (schema_of names.now.schema.now)) }

@@ -4,9 +4,10 @@
 ghost use Rattle.std.specs.Prelude.{◌≡◌, IfOk, MatchResult};
 ghost use Rattle.express_schemas.specs.SchemaViews.{schema_of};
 ghost use Rattle.type_graphs.specs.Faults.{IsResolved};
+ghost use Rattle.derivation_ranks.specs.Firsts.{AreFirsts};
 ghost use Rattle.resolved_types.specs.Made.{IsMade};
 ghost use Rattle.resolved_types.specs.Resolving.{IsNameFault};
-ghost use Rattle.express_types.specs.Judging.{AreRuleTables};
+ghost use Rattle.express_types.specs.Judging.{AreDomainTables, AreRuleTables};
 
 use crate::graph::TypeGraph;
 use crate::judging::{Found, judge};
@@ -27,11 +28,20 @@ fn type_graph<'t, 'a>(
     ensures same { IfOk result (λ g. g.types ≡ types.entry) }
     ensures rules { IfOk result (λ g. AreRuleTables (schema_of types.entry.names.schema.now)
         g.rules) }
+    ensures domain { IfOk result (λ g. AreDomainTables (schema_of types.entry.names.schema.now)
+        g.domain) }
+    ensures firsts { IfOk result (λ g. AreFirsts (schema_of types.entry.names.schema.now)
+        g.judged.firsts.items) }
 {
-    let Found { judged, rules } = judge(alloc, keys, &types.names, &types.above)?;
+    let Found {
+        judged,
+        domain,
+        rules,
+    } = judge(alloc, keys, &types.names, &types.above)?;
     Ok(TypeGraph {
         types,
         judged,
+        domain,
         rules,
     })
 }
@@ -55,6 +65,11 @@ pub fn resolve<'t, 'a>(
     ensures made { IfOk result (λ g. IsMade g.types) }
     // .. and so are its rules that speak of a whole population.
     ensures rules { IfOk result (λ g. AreRuleTables (schema_of schema.entry.now) g.rules) }
+    // What of it is evaluated are its formulas and its domain rules that are checked,
+    ensures domain { IfOk result (λ g. AreDomainTables (schema_of schema.entry.now) g.domain) }
+    // .. and its derived attributes begin at these numbers.
+    ensures firsts { IfOk result (λ g. AreFirsts (schema_of schema.entry.now)
+        g.judged.firsts.items) }
 {
     let types = resolve_types(alloc, keys, schema)?;
     match type_graph(alloc, keys, types) {

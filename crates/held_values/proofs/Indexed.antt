@@ -1,34 +1,18 @@
 -- Elements whose indices are worth a number.
-use Rattle.std.proofs.Common.{◌≡◌, ◌<◌, ◌≤◌, ℕ, zero, suc, refl, ap, sym, ◌∙◌, arith}
-use Rattle.std.specs.Prelude.{ℤ, pos, negsuc, ◌+ℤ◌, ◌<ℤ◌, ◌≤ℤ◌, ◌^◌, ◌==◌, ◌&&◌, unsigned_abs, ◌-ℤ◌, Bool, true, false, Some, None, FitsSigned, if◌then◌else◌}
+use Rattle.std.proofs.Common.{◌≡◌, ◌<◌, ◌≤◌, ℕ, suc, refl, ap, sym, ◌∙◌, arith}
+use Rattle.std.specs.Prelude.{ℤ, pos, negsuc, ◌+ℤ◌, ◌<ℤ◌, ◌≤ℤ◌, ◌^◌, ◌==◌, ◌&&◌, unsigned_abs, ◌-ℤ◌, Bool, true, false, Option, Some, None, FitsSigned, if◌then◌else◌}
 use Rattle.std.specs.Int.{w64}
 use Rattle.std.specs.Ordering.{int_eq}
-use Rattle.std.proofs.lemmas.Bool.Decides.{nat_tests, Decides-int_eq}
+use Rattle.std.proofs.lemmas.Bool.Decides.{nat_tests}
 use Rattle.std.proofs.lemmas.Int.{ints}
-use Rattle.step_literals.specs.Decimals.{finest}
-use Rattle.step_literals.specs.MagnitudeLemmas.{ten_pos}
-use Rattle.step_literals.proofs.UnitLemmas.{times_cancel}
 use Rattle.express_logic.specs.Literals.{whole_units}
 use Rattle.express_logic.specs.Data.{Shape, list, bag, array, Datum, indeterminate, number, text, bits, element, logical, instance, typed, aggregate, Data, none, more}
 use Rattle.express_logic.specs.Holdings.{size_of, element_at}
 use Rattle.express_meanings.specs.Operations.{is_index, first_index, element_from, element_of, indexed}
+use Rattle.express_meanings.specs.Expressions.{or_this}
+use Rattle.express_meanings.proofs.Indices.{one_whole, passed, found_at}
 use Rattle.held_values.specs.Indices.{has_indices, element_behind}
 use Rattle.held_values.specs.Parts.{or_indeterminate}
-
-left-of : (p q : Bool) → (p && q) ≡ true → p ≡ true
-left-of true q e = refl
-left-of false q e = absurd (cc)
-
-right-of : (p q : Bool) → (p && q) ≡ true → q ≡ true
-right-of true q e = e
-right-of false q e = absurd (cc)
-
-both-of : (p q : Bool) → p ≡ true → q ≡ true → (p && q) ≡ true
-both-of p q e f = rw (e, f) refl
-
--- a number of units is that of one whole number
-pub one-whole : (m n : ℤ) → whole_units m ≡ whole_units n → m ≡ n
-one-whole m n e = times_cancel m n (10 ^ finest) (ten_pos finest) e
 
 pub index-fits : (n : ℤ) → FitsSigned w64 n → is_index n ≡ true
 index-fits (pos n) h = let lt : n < 2 ^ 63 = omega (arith, h.sfits) in grind (arith, nat_tests)
@@ -43,24 +27,6 @@ fits-from (negsuc k) (negsuc n) h le small =
     let below : n ≤ k = omega (arith, ints, le) in
     let lt : k < 2 ^ 63 = omega (arith, h.sfits) in record { sfits = omega (arith, below, lt) }
 
--- an index that isn't worth it is passed over
-passed : (index z : ℤ) (d : Datum) (ds : Data) → (is_index index ≡ true → whole_units index ≡ z → ⊥)
-    → element_from index z (more d ds) ≡ element_from (index +ℤ pos 1) z ds
-passed index z d ds never = by (is_index index && int_eq (whole_units index) z) refl (element_from (index +ℤ pos 1) z ds)
-  where
-    by : (b : Bool) → (is_index index && int_eq (whole_units index) z) ≡ b → (e : Datum)
-        → (if b then d else e) ≡ e
-    by true h e =
-        absurd (never (left-of (is_index index) (int_eq (whole_units index) z) h)
-        ((Decides-int_eq (whole_units index) z).0 (right-of (is_index index) (int_eq (whole_units index) z) h)))
-    by false h e = refl
-
-here : (index z : ℤ) (d : Datum) (ds : Data) → is_index index ≡ true → whole_units index ≡ z
-    → element_from index z (more d ds) ≡ d
-here index z d ds i e =
-    ap (λ b. if b then d else element_from (index +ℤ pos 1) z ds)
-    (both-of (is_index index) (int_eq (whole_units index) z) i ((Decides-int_eq (whole_units index) z).1 e))
-
 -- no index from here on is worth it
 pub missing : (ds : Data) (low z : ℤ) → ((n : ℤ) → low ≤ℤ n → is_index n ≡ true → whole_units n ≡ z → ⊥)
     → element_from low z ds ≡ indeterminate
@@ -72,18 +38,16 @@ missing (more d ds) low z never =
 -- the index at a place
 pub found-at : (ds : Data) (low n : ℤ) (k : ℕ) → n ≡ low +ℤ pos k → is_index n ≡ true
     → element_from low (whole_units n) ds ≡ or_indeterminate (element_at k ds)
-found-at none low n k e i = refl
-found-at (more d ds) low n zero e i =
-    let same : low ≡ n = omega (arith, ints, e) in
-    here low (whole_units n) d ds (ap is_index same ∙ i) (ap whole_units same)
-found-at (more d ds) low n (suc k) e i =
-    passed low (whole_units n) d ds (λ _ units. (let same = one-whole low n units in absurd (omega (arith, ints, e, same))))
-    ∙ found-at ds (low +ℤ pos 1) n k (omega (arith, ints, e)) i
+found-at ds low n k e i = found_at ds low n k e i ∙ by (element_at k ds)
+  where
+    by : (o : Option Datum) → or_this o indeterminate ≡ or_indeterminate o
+    by None = refl
+    by (Some d) = refl
 
 pub under-first : (ds : Data) (low n : ℤ) → n <ℤ low → element_from low (whole_units n) ds ≡ indeterminate
 under-first ds low n lt =
     missing ds low (whole_units n)
-    (λ m le _ units. (let same = one-whole m n units in absurd (omega (arith, ints, lt, le, same))))
+    (λ m le _ units. (let same = one_whole m n units in absurd (omega (arith, ints, lt, le, same))))
 
 -- no whole number of 64 bits is worth it
 pub no-whole : (ds : Data) (low z : ℤ) → FitsSigned w64 low → ((n : ℤ) → FitsSigned w64 n → z ≡ whole_units n → ⊥)

@@ -1,16 +1,28 @@
-//! What EXISTS, NVL, SIZEOF, HIINDEX and LOINDEX say of values (ISO 10303-11, 15).
+//! What is inside typed values, and what EXISTS, NVL, SIZEOF, HIINDEX and LOINDEX say of values
+//! (ISO 10303-11, 15).
 
 ghost use Rattle.std.specs.Prelude.{◌≡◌, pos, IfOk};
 ghost use Rattle.express_logic.specs.Data.{is_known};
 ghost use Rattle.express_logic.specs.Holdings.{size_of};
 ghost use Rattle.express_logic.specs.Views.{datum_of};
-ghost use Rattle.express_meanings.specs.Operations.{whole, size, last_index, high_index, low_index, or_else};
+ghost use Rattle.express_meanings.specs.Operations.{bare, whole, size, last_index, high_index, low_index, or_else};
 ghost use Rattle.held_values.specs.Parts.{holding};
 
 use crate::part::Part;
 use crate::shape::Shape;
 use express_logic::datum::{Datum, Held};
 use std::alloc::AllocError;
+
+/// The value inside a typed one, at any depth; any other value as it is. A value of a defined type may
+/// stand where one of its underlying type may (ISO 10303-11, 9.2.7 and 12.11).
+pub fn bare<'p, 'r>(value: Datum<'r, Part<'p, 'r>>) -> Datum<'r, Part<'p, 'r>>
+    ensures { datum_of holding result ≡ bare (datum_of holding value.entry) }
+{
+    match value {
+        Datum::Typed(part) => part.inside(),
+        other => other,
+    }
+}
 
 /// Whether there is a value (ISO 10303-11, 15.9).
 pub fn is_known<'p, 'r>(datum: &Datum<'r, Part<'p, 'r>>) -> bool

@@ -10,7 +10,7 @@ ghost use Rattle.express_logic.specs.Comparing.{scalar};
 ghost use Rattle.express_logic.specs.Holdings.{Holding, element_at, size_of};
 ghost use Rattle.express_logic.specs.Views.{datum_of, scalar_of};
 ghost use Rattle.express_meanings.specs.Meanings.{instances};
-ghost use Rattle.express_meanings.specs.Operations.{kept_shape};
+ghost use Rattle.express_meanings.specs.Operations.{bare, kept_shape};
 ghost use Rattle.held_values.specs.Coded.{coded_datum, coded_each, shape_seen};
 ghost use Rattle.held_values.specs.Parts.{
   holding,
@@ -28,6 +28,7 @@ use crate::element::Element;
 use crate::scalars::value_scalar;
 use crate::shape::{Shape, shape_of};
 use crate::types::ValueTypes;
+use crate::values::bare_value;
 use base_types::base::Base;
 use express_logic::datum::{Datum, Held};
 use express_logic::scalar::Scalar;
@@ -136,6 +137,19 @@ impl<'p, 'r> Content<'p, 'r> {
             }
             Content::Values { .. } => Scalar::Nothing,
             Content::Instances(_) => Scalar::Nothing,
+        }
+    }
+
+    /// What is inside it at any depth, where it is a typed value.
+    fn inside(&self) -> Datum<'r, Part<'p, 'r>>
+        ensures { datum_of holding result ≡ bare (content_inner self.now) }
+    {
+        match self {
+            Content::Typed { types, word, inner } => {
+                bare_value(*types, types.of_name(*word), inner)
+            }
+            Content::Values { .. } => Datum::Indeterminate,
+            Content::Instances(_) => Datum::Indeterminate,
         }
     }
 }
@@ -249,6 +263,13 @@ impl<'p, 'r> Part<'p, 'r> {
             Content::Values { .. } => None,
             Content::Instances(_) => None,
         }
+    }
+
+    /// What is inside it at any depth, where it is a typed value; nothing where it is an aggregate.
+    pub(crate) fn inside(&self) -> Datum<'r, Part<'p, 'r>>
+        ensures { datum_of holding result ≡ bare (holding self.now).inner }
+    {
+        self.content.inside()
     }
 
     /// Its shape, where it is an aggregate.

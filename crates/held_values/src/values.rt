@@ -5,7 +5,7 @@ ghost use Rattle.step_values.specs.Slots.{node_value};
 ghost use Rattle.step_values.specs.Views.{word_of};
 ghost use Rattle.express_logic.specs.Views.{datum_of};
 ghost use Rattle.express_meanings.specs.Meanings.{instances};
-ghost use Rattle.express_meanings.specs.Operations.{only};
+ghost use Rattle.express_meanings.specs.Operations.{bare, only};
 ghost use Rattle.held_values.specs.Coded.{coded_datum, coded_element};
 ghost use Rattle.held_values.specs.Parts.{holding};
 
@@ -60,6 +60,34 @@ fn element_datum<'p, 'r>(base: Base, word: Word<'r>) -> Datum<'r, Part<'p, 'r>>
         Datum::Logical(logical_of(word))
     } else {
         Datum::Element(word)
+    }
+}
+
+/// What is inside a value of this data type, where it is a typed one, at any depth; else what it is
+/// worth.
+#[cycle(inside)]
+pub(crate) fn bare_value<'p, 'r>(
+    types: &'p ValueTypes<'r>,
+    base: Base,
+    value: &Slot<'p, 'r>,
+) -> Datum<'r, Part<'p, 'r>>
+    ensures { datum_of holding result ≡ bare (coded_datum types.entry.now base value.now) }
+{
+    bare_node(types, base, value.node())
+}
+
+#[cycle(inside)]
+fn bare_node<'p, 'r>(
+    types: &'p ValueTypes<'r>,
+    base: Base,
+    node: Node<'p, 'r>,
+) -> Datum<'r, Part<'p, 'r>>
+    ensures { datum_of holding result
+        ≡ bare (coded_datum types.entry.now base (node_value node.entry)) }
+{
+    match node {
+        Node::Typed(word, inner) => bare_value(types, types.of_name(word), &inner),
+        other => node_datum(types, base, other),
     }
 }
 

@@ -59,6 +59,7 @@ finding_text findings.NoSelectItem = codes "F15 NoSelectItem"
 finding_text findings.SchemaName = codes "F19 SchemaName"
 
 abbrev pub rule_finding_text : RuleFindingKind → List ℕ
+rule_finding_text breaches.WhereFalse = codes "F16 WhereFalse"
 rule_finding_text breaches.UniqueBroken = codes "F17 UniqueBroken"
 rule_finding_text breaches.InverseBound = codes "F18 InverseBound"
 

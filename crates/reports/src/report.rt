@@ -11,12 +11,11 @@ pub struct Report<'s> {
     pub unchecked: Vec<Unchecked>,
     /// What is wrong with the file, in order.
     pub findings: Vec<Finding>,
-    /// The rules of the whole population that instances break, in order; they are told only where
-    /// `findings` is empty.
+    /// The rules that instances break, in order; they are told only where `findings` is empty.
     pub rule_findings: Vec<RuleFinding<'s>>,
     /// How many instances the file has.
     pub instances: u64,
-    /// How many pairs of an instance and a rule there are of which it isn't known whether the
-    /// instance keeps the rule.
+    /// How many pairs of an instance and a domain rule there are of which it isn't known whether the
+    /// instance keeps the rule; 2^64 - 1 where there are more, 0 where `findings` isn't empty.
     pub unknown: u64,
 }

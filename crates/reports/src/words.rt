@@ -71,6 +71,7 @@ pub fn rule_finding_name(kind: RuleFindingKind) -> &'static str
     ensures { result.now ≡ rule_finding_text kind }
 {
     match kind {
+        RuleFindingKind::WhereFalse => "F16 WhereFalse",
         RuleFindingKind::UniqueBroken => "F17 UniqueBroken",
         RuleFindingKind::InverseBound => "F18 InverseBound",
     }

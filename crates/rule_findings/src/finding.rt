@@ -2,9 +2,11 @@
 
 use unchecked_parts::list::Label;
 
-/// What is wrong (ISO 10303-11, 9.2.1.3 and 9.2.2.1).
+/// What is wrong (ISO 10303-11, 9.1, 9.2.1.3 and 9.2.2).
 #[derive(Clone, Copy, Debug, PartialEq, Eq)]
 pub enum RuleFindingKind {
+    /// A domain rule is FALSE.
+    WhereFalse,
     /// An earlier instance has the same key in a uniqueness rule.
     UniqueBroken,
     /// An inverse attribute holds more instances than it may, or fewer.
@@ -17,7 +19,7 @@ pub struct RuleFinding<'s> {
     pub kind: RuleFindingKind,
     /// The name of the instance.
     pub instance: u64,
-    /// What the rule is called: the entity that states it and its label, or its number in its
-    /// clause where it has none.
+    /// What the rule is called: the entity or type that states it and its label, or its number in
+    /// its clause where it has none.
     pub rule: Label<'s>,
 }

@@ -4,19 +4,23 @@ ghost use Rattle.std.specs.Prelude.{◌≡◌, IfOk, slice_get};
 ghost use Rattle.express_trees.specs.Views.{capitals};
 ghost use Rattle.express_schemas.specs.Profile.{Every};
 ghost use Rattle.express_schemas.specs.SchemaViews.{schema_of};
+ghost use Rattle.type_graphs.specs.Parts.{dotted};
+ghost use Rattle.unchecked_parts.specs.Adding.{said};
 ghost use Rattle.schema_names.specs.Numbers.{HasNumber};
 ghost use Rattle.base_types.specs.Seen.{name_at};
-ghost use Rattle.rule_tables.specs.Seen.{IsNumberedInverse, AreNumbered};
+ghost use Rattle.rule_tables.specs.Seen.{label_seen, IsNumberedInverse, AreNumbered};
 ghost use Rattle.step_population.specs.Seen.{population_seen};
 ghost use Rattle.step_extent.specs.Extents.{AllHeld, inverse_value_by};
 
 use crate::gathering::gathered;
 use referrers::referrers::Referrers;
 use rule_tables::inverses::InverseAttribute;
+use rule_tables::label::RuleLabel;
 use rule_tables::tables::RuleTables;
 use std::alloc::{AllocError, Global};
 use step_literals::literal::Word;
 use step_population::population::Population;
+use unchecked_parts::list::Label;
 
 /// A population by the rules of its schema that speak of all of it: who refers to whom, by each
 /// attribute that an inverse attribute inverts.
@@ -75,7 +79,7 @@ impl<'e, 'r, 't, 's, 'a> Extents<'e, 'r, 't, 's, 'a> {
         })
     }
 
-    /// The name of the entity of a number.
+    /// The name of the entity or type of a number.
     pub(crate) fn holder(&self, entity: u32) -> Word<'s>
         requires { HasNumber (schema_of self.now.population.now.types.now.names.schema.now)
             (name_at (schema_of self.now.population.now.types.now.names.schema.now) entity) entity }
@@ -83,6 +87,21 @@ impl<'e, 'r, 't, 's, 'a> Extents<'e, 'r, 't, 's, 'a> {
             ≡ name_at (schema_of self.now.population.now.types.now.names.schema.now) entity }
     {
         self.population.types.names.name(entity).unwrap()
+    }
+
+    /// What the rule of this label is called that the entity or type of a number states.
+    pub fn label(&self, holder: u32, label: RuleLabel<'s>) -> Label<'s>
+        requires { HasNumber (schema_of self.now.population.now.types.now.names.schema.now)
+            (name_at (schema_of self.now.population.now.types.now.names.schema.now) holder) holder }
+        ensures { said result
+            ≡ dotted (name_at (schema_of self.now.population.now.types.now.names.schema.now) holder)
+            (label_seen label.entry) }
+    {
+        let holder = self.holder(holder);
+        match label {
+            RuleLabel::Written(label) => Label::Dotted(holder, label),
+            RuleLabel::Numbered(number) => Label::Numbered(holder, number),
+        }
     }
 
     /// The value that the instance of a name has of the inverse attribute of this number: the names

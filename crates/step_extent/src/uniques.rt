@@ -14,7 +14,6 @@ ghost use Rattle.step_extent.specs.Findings.{Adds};
 
 use crate::extents::Extents;
 use rule_findings::finding::{RuleFinding, RuleFindingKind};
-use rule_tables::label::RuleLabel;
 use rule_tables::uniques::UniqueRule;
 use std::alloc::{AllocError, Global};
 use std::hash::RandomState;
@@ -43,22 +42,6 @@ fn add_findings<'s>(
 }
 
 impl<'e, 'r, 't, 's, 'a> Extents<'e, 'r, 't, 's, 'a> {
-    /// What a uniqueness rule is called.
-    fn label(&self, rule: &UniqueRule<'s>) -> Label<'s>
-        requires numbered { IsNumberedUnique
-            (schema_of self.now.population.now.types.now.names.schema.now) rule.now }
-        ensures { said result ≡ dotted (unique_seen
-            (schema_of self.now.population.now.types.now.names.schema.now) rule.now).entity
-            (unique_seen (schema_of self.now.population.now.types.now.names.schema.now)
-            rule.now).label }
-    {
-        let holder = self.holder(rule.entity);
-        match rule.label {
-            RuleLabel::Written(label) => Label::Dotted(holder, label),
-            RuleLabel::Numbered(number) => Label::Numbered(holder, number),
-        }
-    }
-
     /// Adds what is found where instances break a uniqueness rule; one that is set aside isn't
     /// looked at.
     fn add_rule(
@@ -79,7 +62,7 @@ impl<'e, 'r, 't, 's, 'a> Extents<'e, 'r, 't, 's, 'a> {
             return Ok(());
         }
         let names = repeats(alloc, keys, self.population, rule)?;
-        add_findings(findings, self.label(rule), &names)
+        add_findings(findings, self.label(rule.entity, rule.label), &names)
     }
 
     /// The instances that have the key of an earlier one, by rule in the order of the text, then by

@@ -1,0 +1,77 @@
+-- What is found of an instance is what an expression means.
+use Rattle.std.specs.Prelude.{◌≡◌, ℕ, List, [], Option, Some, None}
+use Rattle.std.proofs.Common.{refl, sym, ap, subst, ◌∙◌, inl, inr}
+use Rattle.express_schemas.specs.Schemas.{Schema}
+use Rattle.type_graphs.specs.Names.{Name}
+use Rattle.type_graphs.specs.Attributes.{Derivation}
+use Rattle.conformance.specs.Bases.{Domain}
+use Rattle.conformance.specs.Entities.{Entities}
+use Rattle.conformance.specs.Populations.{Instance, instance_at, types_in, types_at}
+use Rattle.population_rules.specs.Rules.{InverseAttribute}
+use Rattle.population_rules.specs.Referring.{inverse_value}
+use Rattle.express_logic.specs.Data.{Datum}
+use Rattle.express_meanings.specs.Attributes.{Source, derived, unclear, Attributes, AreAttributes, IsNamed, IsInGroup}
+use Rattle.express_meanings.specs.Meanings.{referring, found, value_from, attribute_in, group_in}
+use Rattle.express_meanings.proofs.Led.{at_name}
+use Rattle.attribute_sources.specs.Seen.{or_unclear}
+use Rattle.express_settings.specs.Worth.{inverse_worth, IsWorth}
+
+module _ (s : Schema) (d : Domain) (en : Entities) (attributes : Attributes) (is : List Instance) (computed : ℕ → Derivation → Datum) where
+  pub derived_found : (y : ℕ) (e : Derivation)
+      → IsWorth s d en attributes is computed (instance_at is y) (derived e) (Some (computed y e))
+  derived_found y e = by (instance_at is y) refl
+    where
+      by : (o : Option Instance) → instance_at is y ≡ o
+          → IsWorth s d en attributes is computed o (derived e) (Some (computed y e))
+      by None at = λ u. absurd (cc)
+      by (Some x) at = ap (λ n. Some (computed n e)) (sym (at_name y is x at).1)
+
+  pub inverse_found : (y : ℕ) (q : Option InverseAttribute) (w : Datum) → w ≡ inverse_worth is y q
+      → IsWorth s d en attributes is computed (instance_at is y) (or_unclear q) (Some w)
+  inverse_found y q w e = by (instance_at is y) refl q e
+    where
+      by : (o : Option Instance) → instance_at is y ≡ o → (q : Option InverseAttribute) → w ≡ inverse_worth is y q
+          → IsWorth s d en attributes is computed o (or_unclear q) (Some w)
+      by None at None e = λ u. ap Some e
+      by None at (Some i) e = λ u. absurd (cc)
+      by (Some x) at None e = ap Some e
+      by (Some x) at (Some i) e =
+          ap Some (e ∙ ap (λ n. referring i.gathering (inverse_value is i n)) (sym (at_name y is x at).1))
+
+  module _ (inverses : List InverseAttribute) (are : AreAttributes s inverses attributes) (y : ℕ) (types : List Name) (known : types ≡ types_at is y) (a : Name) where
+    -- no type, no attribute
+    nothing_named : (x : Source) → attributes.source [] a ≡ Some x → ⊥
+    nothing_named x e = by (subst (IsNamed s inverses [] a) e (are.sources [] a))
+      where
+        by : IsNamed s inverses [] a (Some x) → ⊥
+        by (inl (p, alone, k)) = alone.0.0
+        by (inr (two, same)) = two.2.0
+
+    lonely : (e : Name) → attributes.source_of [] e a ≡ unclear
+    lonely e = by (are.groups [] e a)
+      where
+        by : IsInGroup s inverses [] e a (attributes.source_of [] e a) → attributes.source_of [] e a ≡ unclear
+        by (inl (p, m, k)) = absurd m.0
+        by (inr (none, same)) = same
+
+    pub is_found : (x : Source) (w : Option Datum) → Some x ≡ attributes.source types a
+        → IsWorth s d en attributes is computed (instance_at is y) x w
+        → w ≡ attribute_in s d en attributes is computed (instance_at is y) a
+    is_found x w h g = by (instance_at is y) known g
+      where
+        by : (o : Option Instance) → types ≡ types_in o → IsWorth s d en attributes is computed o x w
+            → w ≡ attribute_in s d en attributes is computed o a
+        by None k g = absurd (nothing_named x (sym (h ∙ ap (λ ts. attributes.source ts a) k)))
+        by (Some i) k g =
+            g ∙ ap (λ q. found q (value_from s d en attributes is computed i)) (h ∙ ap (λ ts. attributes.source ts a) k)
+
+    pub is_member : (e : Name) (x : Source) (w : Option Datum) → x ≡ attributes.source_of types e a
+        → IsWorth s d en attributes is computed (instance_at is y) x w
+        → w ≡ Some (group_in s d en attributes is computed (instance_at is y) e a)
+    is_member e x w h g = by (instance_at is y) known g
+      where
+        by : (o : Option Instance) → types ≡ types_in o → IsWorth s d en attributes is computed o x w
+            → w ≡ Some (group_in s d en attributes is computed o e a)
+        by None k g = g (h ∙ ap (λ ts. attributes.source_of ts e a) k ∙ lonely e)
+        by (Some i) k g =
+            g ∙ ap (λ q. Some (value_from s d en attributes is computed i q)) (h ∙ ap (λ ts. attributes.source_of ts e a) k)

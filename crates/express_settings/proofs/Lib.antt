@@ -1,0 +1,5 @@
+pub mod Explicits
+pub mod Places
+pub mod Asked
+pub mod Saying
+pub mod Enumerations

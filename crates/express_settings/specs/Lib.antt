@@ -1,0 +1,4 @@
+pub mod Settings
+pub mod Worth
+pub mod Sources
+pub mod Naming

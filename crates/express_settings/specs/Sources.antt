@@ -1,0 +1,26 @@
+-- What is found of an instance, by where the tables say.
+use Rattle.std.specs.Prelude.{ℕ}
+use Rattle.type_graphs.specs.Attributes.{Derivation}
+use Rattle.rule_tables.specs.Seen.{place_at}
+use Rattle.conformance.specs.Populations.{instance_at, value_of}
+use Rattle.express_logic.specs.Data.{Datum}
+use Rattle.express_meanings.specs.Values.{datum_at, first_declared}
+use Rattle.attribute_sources.specs.declared.source.Source.{Source}
+use Rattle.attribute_sources.specs.Seen.{source_seen}
+use Rattle.express_settings.specs.declared.attributes.Found.{Found}
+use Rattle.express_settings.specs.declared.setting.Setting.{Setting}
+use Rattle.express_settings.specs.Settings.{Meant, schema_in, population_in, inverses_in, worth_of}
+use Rattle.express_settings.specs.Worth.{IsWorth}
+
+module _ (S : Setting) (m : Meant S) where
+  -- the value of the explicit attribute of a number, by its declaration
+  abbrev pub explicit_worth : ℕ → ℕ → Datum
+  explicit_worth y q =
+      datum_at (schema_in S) m.domain (first_declared (schema_in S) m.domain m.entities (place_at (schema_in S) q))
+      (value_of (population_in S) y (place_at (schema_in S) q))
+
+  -- this is found there
+  abbrev pub IsFoundAt : (ℕ → Derivation → Datum) → ℕ → Source → Found → Type 0
+  IsFoundAt computed y x found =
+      IsWorth (schema_in S) m.domain m.entities m.attributes (population_in S) computed
+      (instance_at (population_in S) y) (source_seen (schema_in S) (inverses_in S) x) (worth_of S (computed y) found)

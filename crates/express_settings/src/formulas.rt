@@ -1,0 +1,34 @@
+//! How derived attributes are computed (ISO 10303-11, 9.2.1.2).
+
+ghost use Rattle.std.specs.Prelude.{◌≡◌, length, slice_get};
+ghost use Rattle.std.specs.Option.{option_map, option_flatten};
+ghost use Rattle.schema_names.specs.Numbers.{HasNumber};
+ghost use Rattle.base_types.specs.Seen.{name_at};
+ghost use Rattle.derivation_formulas.specs.Formulas.{formula_seen, formula_place};
+ghost use Rattle.express_settings.specs.Settings.{IsSetting, Meant, schema_in, derivation_in};
+
+use crate::setting::Setting;
+use attribute_sources::source::Derivation;
+use derivation_formulas::asked::formula_at;
+use derivation_formulas::formula::Formula;
+
+impl<'p, 'e, 'r, 't, 's: 'r, 'a> Setting<'p, 'e, 'r, 't, 's, 'a> {
+    /// How a derived attribute is computed; none where it is set aside.
+    pub fn formula(&self, derivation: Derivation) -> Option<Formula<'t, 's>>
+        requires setting { IsSetting self.now }
+        ensures meant { (m : Meant self.now)
+            → HasNumber (schema_in self.now) (name_at (schema_in self.now) derivation.entity)
+            derivation.entity → option_map formula_seen result
+            ≡ m.attributes.formula (derivation_in self.now derivation) }
+        ensures place { result ≡ option_flatten (slice_get self.now.formulas.now
+            (formula_place self.now.firsts.now (length self.now.formulas.now) derivation.entity
+            derivation.number)) }
+    {
+        formula_at(
+            self.formulas,
+            self.firsts,
+            derivation.entity,
+            derivation.number,
+        )
+    }
+}

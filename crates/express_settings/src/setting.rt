@@ -1,0 +1,16 @@
+//! A population, and what expressions ask of its schema.
+
+use derivation_formulas::formula::Formula;
+use setting_tables::tables::SettingTables;
+use step_extent::extents::Extents;
+
+/// A population with all that an expression can ask of it and of its schema.
+#[derive(Drop)]
+pub struct Setting<'p, 'e, 'r, 't, 's, 'a> {
+    pub extents: &'p Extents<'e, 'r, 't, 's, 'a>,
+    pub tables: &'p SettingTables<'r, 's>,
+    /// By number of a derived attribute, how it is computed; none for one that is set aside.
+    pub formulas: &'p [Option<Formula<'t, 's>>],
+    /// By declaration, how many derived attributes stand before it.
+    pub firsts: &'p [u32],
+}

@@ -1,0 +1,25 @@
+//! What is evaluated of a schema: formulas and domain rules (ISO 10303-11, 9.2.1.2, 9.1 and 9.2.2.2).
+
+ghost use Rattle.std.specs.Prelude.{IfOk};
+ghost use Rattle.unchecked_list.specs.Findings.{AreFound, schema_found};
+ghost use Rattle.express_types.specs.Judging.{AreDomainTables};
+
+use crate::judging::DomainTables;
+use derivation_formulas::table::formulas;
+use domain_rules::list::domain_rules;
+use std::alloc::{AllocError, Global};
+use unchecked_list::findings::Findings;
+
+/// How the derived attributes of a schema are computed, and its domain rules that are checked, by
+/// what is found of it.
+pub(crate) fn domain_by<'t, 'a>(
+    alloc: Global,
+    findings: &Findings<'_, 't, 'a>,
+) -> Result<DomainTables<'t, 'a>, AllocError>
+    requires found { AreFound findings.now }
+    ensures { IfOk result (AreDomainTables (schema_found findings.now)) }
+{
+    let formulas = formulas(alloc, findings.known.tables.names, findings.ranks)?;
+    let rules = domain_rules(alloc, findings)?;
+    Ok(DomainTables { formulas, rules })
+}

@@ -1,0 +1,6 @@
+pub mod Adding
+pub mod Fitting
+pub mod Meaning
+pub mod Placing
+pub mod Testing
+pub mod Walking

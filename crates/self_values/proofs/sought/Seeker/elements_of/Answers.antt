@@ -1,0 +1,7 @@
+use Rattle.std.proofs.Common.{◌∙◌, ap, sym}
+use Rattle.self_values.specs.Coded.{elements_by}
+use Rattle.self_values.proofs.sought.Seeker.elements_of.Goals as goal
+
+pub returns-in-Aggregate : goal.returns-in-Aggregate
+returns-in-Aggregate c test tells =
+    c.by_number.ensures test tells ∙ sym (ap (elements_by c.args.self.now test c.args.sought) c.in-Aggregate.is)

@@ -1,0 +1,19 @@
+use Rattle.std.proofs.Common.{ap, subst}
+use Rattle.std.proofs.lemmas.Result.{on_ok_weaker}
+use Rattle.self_values.specs.Coded.{coded_at}
+use Rattle.self_values.specs.Seeking.{Adds}
+use Rattle.self_values.proofs.Adding.{adds-nothing}
+use Rattle.self_values.proofs.values.add_at.Goals as goal
+
+pub returns-in-Some : goal.returns-in-Some
+returns-in-Some c test tells =
+    on_ok_weaker c.add_values.result
+    (subst (λ ds. Adds ds c.args.found.now.items c.add_values.new.found.items)
+    (ap (coded_at c.args.seeker.now test c.args.sought c.args.base) c.in-Some.ensures))
+    (c.add_values.ensures test tells)
+
+pub returns-in-None : goal.returns-in-None
+returns-in-None c test tells =
+    subst (λ ds. Adds ds c.args.found.now.items c.args.found.now.items)
+    (ap (coded_at c.args.seeker.now test c.args.sought c.args.base) c.in-None.ensures)
+    (adds-nothing c.args.found.now.items)

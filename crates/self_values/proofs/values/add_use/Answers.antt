@@ -1,0 +1,24 @@
+use Rattle.std.proofs.Common.{◌∙◌, ap, sym, subst}
+use Rattle.std.proofs.lemmas.Result.{on_ok_weaker}
+use Rattle.step_values.specs.Slots.{nth}
+use Rattle.self_values.specs.Coded.{coded_at}
+use Rattle.self_values.specs.Seeking.{Adds}
+use Rattle.self_values.proofs.Adding.{adds-nothing}
+use Rattle.self_values.proofs.Walking.{use-there, use-elsewhere}
+use Rattle.self_values.proofs.values.add_use.Goals as goal
+
+pub returns-then-each-place : goal.returns-then-each-place
+returns-then-each-place c test tells =
+    let o = nth c.args.values.now c.args.position in
+    on_ok_weaker c.add_at.result
+    (subst (λ ds. Adds ds c.args.found.now.items c.add_at.new.found.items)
+    (ap (λ q. coded_at c.args.seeker.now test q c.args.base o) (c.by_number-sought.ensures test tells)
+    ∙ sym (use-there c.args.seeker.now test c.args.base o c.args.each c.args.place c.if-each-place.true)))
+    (c.add_at.ensures test tells)
+
+pub returns-else-each-place : goal.returns-else-each-place
+returns-else-each-place c test tells =
+    let o = nth c.args.values.now c.args.position in
+    subst (λ ds. Adds ds c.args.found.now.items c.args.found.now.items)
+    (sym (use-elsewhere c.args.seeker.now test c.args.base o c.args.each c.args.place c.if-each-place.false))
+    (adds-nothing c.args.found.now.items)

@@ -1,0 +1,17 @@
+use Rattle.std.proofs.Common.{sym, subst}
+use Rattle.std.proofs.lemmas.List.{take_more}
+use Rattle.step_values.specs.Slots.{nth}
+use Rattle.self_values.specs.Seeking.{Adds}
+use Rattle.self_values.proofs.Adding.{adds-both, adds-nothing}
+use Rattle.self_values.proofs.Walking.{use-next}
+use Rattle.self_values.proofs.values.add_uses.Goals as goal
+
+pub loop-i-init : goal.loop-i-init
+loop-i-init c test tells = adds-nothing c.args.found.now.items
+
+pub loop-i-preserved : goal.loop-i-preserved
+loop-i-preserved c test tells =
+    subst (λ ds. Adds ds c.args.found.now.items c.add_use.new.found.items)
+    (sym (use-next c.args.seeker.now test c.args.base (nth c.args.values.now c.args.position) c.args.place _ _ _
+    (take_more c.args.uses.now c.loop-i.i _ c.loop-i-test.true)))
+    (adds-both _ _ _ _ _ (c.loop-i.invariant test tells) (c.in_ok-add_use.ensures test tells))

@@ -1,0 +1,6 @@
+//! The values of SELF for which domain rules are tried (ISO 10303-11, 9.1 and 9.2.2.2).
+#![tactic(auto)]
+
+mod sought;
+pub mod values;
+mod walk;

@@ -1,0 +1,142 @@
+//! The values of a defined type in a value, at any depth (ISO 10303-11, 9.1).
+#![tactic(auto, unfolding(held_values::specs::Parts::element_datum))]
+
+ghost use Rattle.std.specs.Prelude.{◌≡◌, Bool, OnOk};
+ghost use Rattle.step_values.specs.Slots.{node_value};
+ghost use Rattle.type_graphs.specs.Names.{Name};
+ghost use Rattle.self_values.specs.Coded.{
+  is_whole,
+  coded_itself,
+  coded_values,
+  coded_each,
+  coded_elements,
+  coded_inside,
+};
+ghost use Rattle.self_values.specs.Seeking.{IsSeeker, Tells, Adds};
+
+use crate::sought::{Seeker, Sought};
+use base_types::base::Base;
+use held_values::element::Element;
+use std::alloc::AllocError;
+use step_values::slot::{Kind, Node, Slot, Slots};
+
+/// Whether a value of this kind is one of its data type: it is neither left out nor derived, and a
+/// value inside a typed one is of the type that is named there.
+fn is_whole(kind: Kind) -> bool
+    ensures { result ≡ is_whole kind }
+{
+    match kind {
+        Kind::Unset | Kind::Derived | Kind::Typed => false,
+        Kind::Number | Kind::Text | Kind::Bits | Kind::Element => true,
+        Kind::Reference | Kind::List | Kind::Bag => true,
+    }
+}
+
+/// Adds the value itself, where it is sought.
+fn add_itself<'p, 'r>(
+    found: &mut Vec<Element<'p, 'r>>,
+    seeker: &Seeker<'p, '_, 'r, '_, '_>,
+    is_it: bool,
+    base: Base,
+    value: Slot<'p, 'r>,
+) -> Result<(), AllocError>
+    ensures { (test : Name → Bool) → OnOk result
+        (Adds (coded_itself seeker.now test is_it base value.entry) found.old.items
+        found.new.items) }
+{
+    if is_it && is_whole(value.kind()) {
+        let types = seeker.types;
+        found.push(Element::Value { types, base, value })?;
+    }
+    Ok(())
+}
+
+/// Adds the values that are sought in a value: itself, elements, and what stands inside typed
+/// values. It is worth what it is by its base.
+#[cycle(walk)]
+pub(crate) fn add_values<'p, 'r>(
+    found: &mut Vec<Element<'p, 'r>>,
+    seeker: &Seeker<'p, '_, 'r, '_, '_>,
+    sought: Sought,
+    base: Base,
+    value: Slot<'p, 'r>,
+) -> Result<(), AllocError>
+    requires seeker { IsSeeker seeker.now }
+    ensures { (test : Name → Bool) → Tells seeker.now test → OnOk result
+        (Adds (coded_values seeker.now test sought base value.entry) found.old.items
+        found.new.items) }
+{
+    let node = value.node();
+    add_itself(found, seeker, sought.is_it, base, value)?;
+    add_inside(found, seeker, sought, base, node)
+}
+
+/// .. those inside its outermost part.
+#[cycle(walk)]
+fn add_inside<'p, 'r>(
+    found: &mut Vec<Element<'p, 'r>>,
+    seeker: &Seeker<'p, '_, 'r, '_, '_>,
+    sought: Sought,
+    base: Base,
+    node: Node<'p, 'r>,
+) -> Result<(), AllocError>
+    requires seeker { IsSeeker seeker.now }
+    ensures { (test : Name → Bool) → Tells seeker.now test → OnOk result
+        (Adds (coded_inside seeker.now test sought base (node_value node.entry)) found.old.items
+        found.new.items) }
+{
+    match node {
+        Node::Unset | Node::Derived | Node::Number(_) | Node::Text(_) => Ok(()),
+        Node::Bits(_) | Node::Element(_) | Node::Reference(_) => Ok(()),
+        Node::Typed(word, inner) => {
+            let within = seeker.by_name(word);
+            add_values(found, seeker, within, seeker.types.of_name(word), inner)
+        }
+        Node::Sequence(values) => add_elements(found, seeker, sought, base, &values),
+        Node::Bag(values) => add_elements(found, seeker, sought, base, &values),
+    }
+}
+
+/// .. those in the elements of an aggregate.
+#[cycle(walk)]
+fn add_elements<'p, 'r>(
+    found: &mut Vec<Element<'p, 'r>>,
+    seeker: &Seeker<'p, '_, 'r, '_, '_>,
+    sought: Sought,
+    base: Base,
+    values: &Slots<'p, 'r>,
+) -> Result<(), AllocError>
+    requires seeker { IsSeeker seeker.now }
+    ensures { (test : Name → Bool) → Tells seeker.now test → OnOk result
+        (Adds (coded_elements seeker.now test sought base values.now) found.old.items
+        found.new.items) }
+{
+    let within = seeker.elements_of(sought);
+    add_each(
+        found,
+        seeker,
+        within,
+        seeker.types.of_elements(base),
+        values,
+    )
+}
+
+/// .. those in each of these values.
+#[cycle(walk)]
+fn add_each<'p, 'r>(
+    found: &mut Vec<Element<'p, 'r>>,
+    seeker: &Seeker<'p, '_, 'r, '_, '_>,
+    sought: Sought,
+    base: Base,
+    values: &Slots<'p, 'r>,
+) -> Result<(), AllocError>
+    requires seeker { IsSeeker seeker.now }
+    ensures { (test : Name → Bool) → Tells seeker.now test → OnOk result
+        (Adds (coded_each seeker.now test sought base values.now) found.old.items
+        found.new.items) }
+{
+    for i in 0..values.len() {
+        add_values(found, seeker, sought, base, values.at(i))?;
+    }
+    Ok(())
+}
