@@ -6,7 +6,8 @@
 Makes files of that size (60 if none is given) in a temporary folder, that conform to a schema made for
 them, runs both commands on each, the best of five runs, and prints the time of `check` as a multiple
 of that of `plain`, and its memory beside the size of the file. Then the same with a schema that has a
-uniqueness rule and an inverse attribute more.
+uniqueness rule and an inverse attribute more, and with one that has domain rules more, one or two for
+most instances, as published schemas have.
 
 The files: `points` has points, directions and placements, some 45 bytes an instance (1.35 million in
 60 MB); `parts` is shaped like real ones, with strings, selects, enumerations and external mapping, a
@@ -40,11 +41,21 @@ ENTITY points; all : SET [0:?] OF point; END_ENTITY;
 ENTITY key; word : STRING; END_ENTITY;
 END_SCHEMA;
 """
-# The bodies of entities, and what they are in the schema with rules.
+# The bodies of entities and types, and what they are in the schema with rules of the whole population.
 RULES = {
     "coords : LIST [1:3] OF REAL;": "coords : LIST [1:3] OF REAL; INVERSE places : BAG OF placement FOR location;",
     "corners : LIST [3:?] OF UNIQUE point;": "corners : LIST [3:?] OF UNIQUE point; UNIQUE corners;",
     "word : STRING;": "word : STRING; UNIQUE word;",
+}
+# .. and in the one with domain rules.
+DOMAIN_RULES = {
+    "len_m = REAL;": "len_m = REAL; WHERE finite : {-1.0E12 < SELF < 1.0E12};",
+    "coords : LIST [1:3] OF REAL;": "coords : LIST [1:3] OF REAL; DERIVE dim : INTEGER := HIINDEX(coords); WHERE dim : dim >= 2;",
+    "ratios : LIST [2:3] OF REAL;": "ratios : LIST [2:3] OF REAL; WHERE length : SIZEOF(QUERY(r <* ratios | r <> 0.0)) > 0;",
+    "axis : OPTIONAL direction;": "axis : OPTIONAL direction; WHERE is_point : 'BENCH.POINT' IN TYPEOF(location); "
+    "same_dim : NOT EXISTS(axis) OR (SIZEOF(axis.ratios) = location.dim);",
+    "corners : LIST [3:?] OF UNIQUE point;": "corners : LIST [3:?] OF UNIQUE point; WHERE dims : SIZEOF(QUERY(p <* corners | p.dim <> 3)) = 0;",
+    "position : placement; same : BOOLEAN;": "position : placement; same : BOOLEAN; WHERE single : (SIZEOF(bounds) = 1) OR same;",
 }
 HEADER = """ISO-10303-21;
 HEADER;
@@ -130,6 +141,12 @@ def measure_all(files, size, program, schema, folder):
     return seconds
 
 
+def replaced(text, bodies):
+    for plain, with_rule in bodies.items():
+        text = text.replace(plain, with_rule)
+    return text
+
+
 def main():
     parser = argparse.ArgumentParser(description=__doc__, formatter_class=argparse.RawDescriptionHelpFormatter)
     parser.add_argument("program")
@@ -137,18 +154,19 @@ def main():
     words = parser.parse_args()
     size = words.megabytes * 1_000_000
     with tempfile.TemporaryDirectory() as folder:
-        schema, ruled = os.path.join(folder, "bench.exp"), os.path.join(folder, "ruled.exp")
-        text = SCHEMA
-        for plain, with_rule in RULES.items():
-            text = text.replace(plain, with_rule)
-        for path, content in ((schema, SCHEMA), (ruled, text)):
-            with open(path, "w", encoding="ascii") as file:
-                file.write(content)
-        without = measure_all(FILES, size, words.program, schema, folder)
-        print("with rules")
-        seconds = measure_all({**FILES, **RULED_FILES}, size, words.program, ruled, folder)
-        for name in without:
-            print(f"{name}: {seconds[name] / without[name]:.2f} times as long with rules")
+        schemas = {"": {}, "rules of the population": RULES, "domain rules": DOMAIN_RULES}
+        without = {}
+        for number, (what, bodies) in enumerate(schemas.items()):
+            schema = os.path.join(folder, f"bench{number}.exp")
+            with open(schema, "w", encoding="ascii") as file:
+                file.write(replaced(SCHEMA, bodies))
+            if what:
+                print(f"with {what}")
+            files = {**FILES, **RULED_FILES} if bodies is RULES else FILES
+            seconds = measure_all(files, size, words.program, schema, folder)
+            for name in without:
+                print(f"{name}: {seconds[name] / without[name]:.2f} times as long with {what}")
+            without = without or seconds
     return 0
 
 

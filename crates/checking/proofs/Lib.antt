@@ -1,3 +1,4 @@
 mod Answering
 mod Failing
 mod Behind
+mod Ruled

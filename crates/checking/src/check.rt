@@ -2,7 +2,8 @@
 
 ghost use Rattle.std.specs.Prelude.{◌≡◌, ◌≤◌, ◌^◌, IfSome, Some, false, length};
 ghost use Rattle.express_schemas.specs.SchemaViews.{schema_of};
-ghost use Rattle.express_types.specs.Judging.{AreRuleTables};
+ghost use Rattle.express_types.specs.Judging.{AreDomainTables, AreRuleTables};
+ghost use Rattle.derivation_ranks.specs.Firsts.{AreFirsts};
 ghost use Rattle.resolved_types.specs.Made.{IsMade};
 ghost use Rattle.checking.specs.Checks.{
   Checks,
@@ -17,7 +18,7 @@ ghost use Rattle.checking.specs.Checks.{
 };
 
 use crate::fault::{CheckFault, of_schema, of_schema_source};
-use crate::findings::file_findings;
+use crate::findings::{Found, file_findings};
 use command_line::fault::{Fault, LIMIT, Role};
 use command_line::read::read_whole;
 use devices::device::Source;
@@ -25,6 +26,7 @@ use express_text::read_schema;
 use express_types::graph::TypeGraph;
 use express_types::resolving::resolve;
 use reports::report::Report;
+use rule_outcomes::report::RuleReport;
 use std::alloc::Global;
 use std::hash::RandomState;
 use step_exchange::exchange::read_exchange;
@@ -38,6 +40,9 @@ fn report<'s>(
 ) -> Result<Report<'s>, Fault>
     requires made { IsMade graph.types }
     requires rules { AreRuleTables (schema_of graph.types.names.schema.now) graph.rules }
+    requires domain { AreDomainTables (schema_of graph.types.names.schema.now) graph.domain }
+    requires firsts { AreFirsts (schema_of graph.types.names.schema.now)
+        graph.judged.firsts.items }
     requires within { length bytes.now ≤ 2 ^ 40 }
     ensures { FileAnswers (schema_of graph.entry.types.names.schema.now) bytes.now result }
 {
@@ -50,12 +55,17 @@ fn report<'s>(
         Err(_) => return Err(Fault::Memory),
     };
     let instances = exchange.names.len() as u64;
+    let Found { findings, rules } = found;
+    let RuleReport {
+        findings: rule_findings,
+        unknown,
+    } = rules;
     Ok(Report {
         unchecked: graph.into_unchecked(),
-        findings: found.findings,
-        rule_findings: found.rule_findings,
+        findings,
+        rule_findings,
         instances,
-        unknown: 0,
+        unknown,
     })
 }
 
@@ -68,6 +78,9 @@ fn report_source<'s, S: Source>(
 ) -> Result<Report<'s>, Fault>
     requires made { IsMade graph.types }
     requires rules { AreRuleTables (schema_of graph.types.names.schema.now) graph.rules }
+    requires domain { AreDomainTables (schema_of graph.types.names.schema.now) graph.domain }
+    requires firsts { AreFirsts (schema_of graph.types.names.schema.now)
+        graph.judged.firsts.items }
     ensures answers { SourceAnswers (schema_of graph.entry.types.names.schema.now)
         (S.to_come file.old) result }
     ensures failed { S.has_failed file.old ≡ false

@@ -2,58 +2,38 @@
 
 ghost use Rattle.std.specs.Prelude.{◌≡◌, true, IfOk};
 ghost use Rattle.express_schemas.specs.SchemaViews.{schema_of};
-ghost use Rattle.express_types.specs.Judging.{AreRuleTables};
+ghost use Rattle.express_types.specs.Judging.{AreRuleTables, AreDomainTables};
+ghost use Rattle.derivation_ranks.specs.Firsts.{AreFirsts};
 ghost use Rattle.resolved_types.specs.Made.{IsMade};
-ghost use Rattle.rule_tables.specs.Seen.{rules_seen, AreNumbered};
+ghost use Rattle.schema_tables.specs.Tables.{AreTables};
 ghost use Rattle.step_exchange.specs.Exchanges.{structure};
-ghost use Rattle.step_population.specs.Seen.{population_seen};
-ghost use Rattle.checking.specs.Reporting.{AreFindings, AreRuleFindings};
+ghost use Rattle.checking.specs.Reporting.{AreFindings};
+ghost use Rattle.checking.specs.Ruling.{AreReady};
 ghost use Rattle.checking.specs.Sparing.{AreInstanceFindings, IsWithout};
 
+use crate::rules::{empty_report, rule_findings, rules_are_said};
 use conformance::finding::Finding;
+use conforming_values::laws::no_findings_exactly_where_it_conforms;
 use express_types::graph::TypeGraph;
 use file_findings::findings::findings;
 use file_findings::rows::rows_of;
 use instance_forms::making::entities_are_said;
 use resolved_types::types::ResolvedTypes;
-use rule_findings::finding::RuleFinding;
-use rule_tables::tables::RuleTables;
+use rule_outcomes::report::RuleReport;
 use schema_tables::tables::SchemaTables;
+use setting_tables::tables::SettingTables;
 use std::alloc::{AllocError, Global};
 use std::hash::RandomState;
 use step_exchange::structure::Exchange;
-use step_extent::extents::Extents;
 use step_population::populate::{Verdict, populate};
-use step_population::population::Population;
 
 /// What is found of a file.
 #[derive(Drop)]
 pub struct Found<'s> {
     /// Of its instances one by one, in order.
     pub findings: Vec<Finding>,
-    /// Of all of them, where nothing else is found.
-    pub rule_findings: Vec<RuleFinding<'s>>,
-}
-
-/// The instances that break rules of a whole population: uniqueness rules, then the bounds of
-/// inverse attributes (ISO 10303-11, 9.2.2.1 and 9.2.1.3). Keys are hashed by these numbers.
-fn rule_findings<'s>(
-    alloc: Global,
-    keys: RandomState,
-    population: &Population<'_, '_, 's, '_>,
-    rules: &RuleTables<'s>,
-) -> Result<Vec<RuleFinding<'s>>, AllocError>
-    requires numbered { AreNumbered (schema_of population.now.types.now.names.schema.now)
-        rules.now }
-    ensures { IfOk result (λ t. AreRuleFindings
-        (rules_seen (schema_of population.now.types.now.names.schema.now) rules.now)
-        (population_seen population.now) t.items) }
-{
-    let extents = Extents::build(alloc, population, rules)?;
-    let mut findings = extents.check_unique(alloc, keys)?;
-    let mut broken = extents.check_inverse(alloc)?;
-    findings.append(&mut broken)?;
-    Ok(findings)
+    /// Of the rules of its schema, where nothing else is found.
+    pub rules: RuleReport<'s>,
 }
 
 /// The findings of a file's instances one by one, in order. Names are hashed by these keys.
@@ -61,13 +41,14 @@ fn instance_findings(
     alloc: Global,
     keys: RandomState,
     types: &ResolvedTypes<'_, '_>,
+    tables: &SchemaTables,
     exchange: &Exchange<'_>,
 ) -> Result<Vec<Finding>, AllocError>
     requires made { IsMade types.now }
+    requires tables { AreTables types.now tables.now }
     ensures { IfOk result (λ fs. AreInstanceFindings (schema_of types.now.names.schema.now)
         (structure exchange.now) fs.items) }
 {
-    let tables = SchemaTables::of(alloc, types)?;
     let known = tables.knowledge(types);
     let bases = tables.bases(types);
     entities_are_said(&known);
@@ -75,56 +56,105 @@ fn instance_findings(
     findings(alloc, &known, &bases, &rows, exchange)
 }
 
-/// Whether no rule of a schema speaks of a whole population.
-fn is_without(rules: &RuleTables<'_>) -> bool
-    ensures { result ≡ true → IsWithout rules.now }
+/// Whether a schema has no rules that are checked.
+fn is_without(graph: &TypeGraph<'_, '_>) -> bool
+    ensures { result ≡ true → IsWithout graph.now.rules graph.now.domain }
 {
-    rules.uniques.is_empty() && rules.inverses.is_empty()
+    graph.rules.uniques.is_empty()
+        && graph.rules.inverses.is_empty()
+        && graph.domain.rules.is_empty()
 }
 
-/// What is found of a file by a schema without rules that speak of a whole population. There is no
-/// need of the population then.
-fn found_without_rules<'s>(
+/// What is found of a file by a schema without rules. There is no need of the population then.
+fn found_without_rules<'r, 't, 's: 'r>(
     alloc: Global,
     keys: RandomState,
-    graph: &TypeGraph<'_, 's>,
-    exchange: &Exchange<'_>,
+    graph: &'r TypeGraph<'t, 's>,
+    tables: &SchemaTables,
+    settings: &SettingTables<'r, 's>,
+    exchange: &'r Exchange<'_>,
 ) -> Result<Found<'s>, AllocError>
-    requires made { IsMade graph.now.types }
-    requires rules { AreRuleTables (schema_of graph.now.types.names.schema.now) graph.now.rules }
-    requires without { IsWithout graph.now.rules }
-    ensures { IfOk result (λ x. AreFindings (schema_of graph.now.types.names.schema.now)
-        (structure exchange.now) x.findings.items x.rule_findings.items) }
+    requires ready { AreReady graph.now.types graph.now.rules graph.now.domain
+        graph.now.judged.firsts.items tables.now settings.now }
+    requires without { IsWithout graph.now.rules graph.now.domain }
+    ensures { IfOk result (λ x. AreFindings (schema_of graph.entry.now.types.names.schema.now)
+        (structure exchange.entry.now) x.findings.items x.rules.findings.items x.rules.unknown) }
 {
-    let findings = instance_findings(alloc, keys, &graph.types, exchange)?;
+    let firsts = &graph.judged.firsts;
+    rules_are_said(
+        &graph.types,
+        &graph.rules,
+        &graph.domain,
+        firsts,
+        tables,
+        settings,
+    );
+    let findings = instance_findings(alloc, keys, &graph.types, tables, exchange)?;
     Ok(Found {
         findings,
-        rule_findings: Vec::new(alloc),
+        rules: empty_report(alloc),
     })
 }
 
 /// What is found of a file, by its population where nothing is found of its instances one by one.
-fn found_by_population<'s>(
+fn found_by_population<'r, 't, 's: 'r>(
     alloc: Global,
     keys: RandomState,
-    graph: &TypeGraph<'_, 's>,
-    exchange: &Exchange<'_>,
+    graph: &'r TypeGraph<'t, 's>,
+    tables: &SchemaTables,
+    settings: &SettingTables<'r, 's>,
+    exchange: &'r Exchange<'_>,
 ) -> Result<Found<'s>, AllocError>
-    requires made { IsMade graph.now.types }
-    requires rules { AreRuleTables (schema_of graph.now.types.names.schema.now) graph.now.rules }
-    ensures { IfOk result (λ x. AreFindings (schema_of graph.now.types.names.schema.now)
-        (structure exchange.now) x.findings.items x.rule_findings.items) }
+    requires ready { AreReady graph.now.types graph.now.rules graph.now.domain
+        graph.now.judged.firsts.items tables.now settings.now }
+    ensures { IfOk result (λ x. AreFindings (schema_of graph.entry.now.types.names.schema.now)
+        (structure exchange.entry.now) x.findings.items x.rules.findings.items x.rules.unknown) }
 {
+    let firsts = &graph.judged.firsts;
+    rules_are_said(
+        &graph.types,
+        &graph.rules,
+        &graph.domain,
+        firsts,
+        tables,
+        settings,
+    );
+    no_findings_exactly_where_it_conforms();
     match populate(alloc, keys, &graph.types, exchange)? {
         Verdict::Typed(population) => Ok(Found {
             findings: Vec::new(alloc),
-            rule_findings: rule_findings(alloc, keys, &population, &graph.rules)?,
+            rules: rule_findings(alloc, keys, graph, tables, settings, &population)?,
         }),
         Verdict::Faulty(findings) => Ok(Found {
             findings,
-            rule_findings: Vec::new(alloc),
+            rules: empty_report(alloc),
         }),
     }
+}
+
+/// What is found of a file by a schema with these tables.
+fn found_by_tables<'r, 't, 's: 'r>(
+    alloc: Global,
+    keys: RandomState,
+    graph: &'r TypeGraph<'t, 's>,
+    tables: &'r SchemaTables,
+    exchange: &'r Exchange<'_>,
+) -> Result<Found<'s>, AllocError>
+    requires made { IsMade graph.now.types }
+    requires rules { AreRuleTables (schema_of graph.now.types.names.schema.now) graph.now.rules }
+    requires domain { AreDomainTables (schema_of graph.now.types.names.schema.now)
+        graph.now.domain }
+    requires firsts { AreFirsts (schema_of graph.now.types.names.schema.now)
+        graph.now.judged.firsts.items }
+    requires tables { AreTables graph.now.types tables.now }
+    ensures { IfOk result (λ x. AreFindings (schema_of graph.entry.now.types.names.schema.now)
+        (structure exchange.entry.now) x.findings.items x.rules.findings.items x.rules.unknown) }
+{
+    let settings = SettingTables::of(alloc, keys, &graph.types, tables)?;
+    if is_without(graph) {
+        return found_without_rules(alloc, keys, graph, tables, &settings, exchange);
+    }
+    found_by_population(alloc, keys, graph, tables, &settings, exchange)
 }
 
 /// The findings of a file. Names are hashed by these keys.
@@ -136,11 +166,13 @@ pub fn file_findings<'s>(
 ) -> Result<Found<'s>, AllocError>
     requires made { IsMade graph.now.types }
     requires rules { AreRuleTables (schema_of graph.now.types.names.schema.now) graph.now.rules }
+    requires domain { AreDomainTables (schema_of graph.now.types.names.schema.now)
+        graph.now.domain }
+    requires firsts { AreFirsts (schema_of graph.now.types.names.schema.now)
+        graph.now.judged.firsts.items }
     ensures { IfOk result (λ x. AreFindings (schema_of graph.now.types.names.schema.now)
-        (structure exchange.now) x.findings.items x.rule_findings.items) }
+        (structure exchange.now) x.findings.items x.rules.findings.items x.rules.unknown) }
 {
-    if is_without(&graph.rules) {
-        return found_without_rules(alloc, keys, graph, exchange);
-    }
-    found_by_population(alloc, keys, graph, exchange)
+    let tables = SchemaTables::of(alloc, &graph.types)?;
+    found_by_tables(alloc, keys, graph, &tables, exchange)
 }

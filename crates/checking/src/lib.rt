@@ -4,3 +4,4 @@
 pub mod check;
 pub mod fault;
 pub mod findings;
+mod rules;

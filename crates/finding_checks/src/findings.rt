@@ -29,6 +29,10 @@ ENTITY group SUBTYPE OF (item);
 id : STRING; members : SET [1:?] OF placement;
 UNIQUE ur1 : id; END_ENTITY;
 ENTITY note; words : STRING; subject : placement; END_ENTITY;
+TYPE positive = REAL; WHERE SELF > 0.0; END_TYPE;
+TYPE size = SELECT (positive, len_m); END_TYPE;
+ENTITY scale; factors : LIST [1:?] OF positive; END_ENTITY;
+ENTITY box; width : size; END_ENTITY;
 ENTITY node; next : node; END_ENTITY;
 ENTITY bundle; members : SET [1:?] OF node; END_ENTITY;
 ENTITY shape; label : STRING(8); END_ENTITY;
@@ -150,19 +154,55 @@ const ROWS: &'static [Row] = &[
         "one id twice",
         b"GEO",
         b"#1=POINT((0.));\n#2=PLACEMENT(#1,$);\n#3=GROUP('a',(#2));\n#4=GROUP('a',(#2));\n",
-        b"F17 UniqueBroken #4 GROUP.UR1\ninstances 4\nunknown 0\nfindings 1\n",
+        b"F17 UniqueBroken #4 GROUP.UR1\ninstances 4\nunknown 1\nfindings 1\n",
     ),
     (
         "two notes of a placement",
         b"GEO",
         b"#1=POINT((0.));\n#2=POINT((0.));\n#4=PLACEMENT(#2,$);\n#5=NOTE('a',#4);\n#6=NOTE('b',#4);\n",
-        b"F18 InverseBound #4 PLACEMENT.NOTES\ninstances 5\nunknown 0\nfindings 1\n",
+        b"F18 InverseBound #4 PLACEMENT.NOTES\ninstances 5\nunknown 1\nfindings 1\n",
     ),
     (
         "keys by value, however spelt, in the order of the file",
         b"GEO",
         b"#9=PLACEMENT(#1,$);\n#2=NOTE('a',#9);\n#7=GROUP('caf\\X\\E9',(#9));\n#3=NOTE('b',#9);\n#4=GROUP('caf\\X2\\00E9\\X0\\',(#9));\n#1=POINT((0.));\n#5=GROUP('caf\\S\\i',(#9));\n#6=NOTE('c',#9);\n",
-        b"F17 UniqueBroken #4 GROUP.UR1\nF17 UniqueBroken #5 GROUP.UR1\nF18 InverseBound #9 PLACEMENT.NOTES\ninstances 8\nunknown 0\nfindings 3\n",
+        b"F17 UniqueBroken #4 GROUP.UR1\nF17 UniqueBroken #5 GROUP.UR1\nF18 InverseBound #9 PLACEMENT.NOTES\ninstances 8\nunknown 1\nfindings 3\n",
+    ),
+    (
+        "a direction without a ratio that isn't 0",
+        b"GEO",
+        b"#1=DIRECTION((0.,0.));\n",
+        b"F16 WhereFalse #1 DIRECTION.WR1\ninstances 1\nunknown 0\nfindings 1\n",
+    ),
+    (
+        "a rule that asks for a value that isn't there",
+        b"GEO",
+        b"#1=POINT((0.));\n#2=PLACEMENT(#1,$);\n",
+        b"instances 2\nunknown 1\nfindings 0\n",
+    ),
+    (
+        "three ratios and two coordinates",
+        b"GEO",
+        b"#1=POINT((0.,0.));\n#2=DIRECTION((1.,0.,0.));\n#3=PLACEMENT(#1,#2);\n",
+        b"F16 WhereFalse #3 PLACEMENT.WR1\ninstances 3\nunknown 0\nfindings 1\n",
+    ),
+    (
+        "as many ratios as coordinates",
+        b"GEO",
+        b"#1=POINT((0.,0.));\n#2=DIRECTION((1.,0.));\n#3=PLACEMENT(#1,#2);\n",
+        b"instances 3\nunknown 0\nfindings 0\n",
+    ),
+    (
+        "a rule of a type, once for an instance, and inside a SELECT",
+        b"GEO",
+        b"#1=SCALE((1.,-2.,0.));\n#2=BOX(POSITIVE(-1.));\n#3=BOX(LEN_M(-1.));\n#4=SCALE((1.));\n",
+        b"F16 WhereFalse #1 POSITIVE.?1\nF16 WhereFalse #2 POSITIVE.?1\ninstances 4\nunknown 0\nfindings 2\n",
+    ),
+    (
+        "rules of the whole file behind those of instances",
+        b"GEO",
+        b"#1=POINT((0.));\n#2=PLACEMENT(#1,$);\n#3=GROUP('a',(#2));\n#4=GROUP('a',(#2));\n#5=DIRECTION((0.,0.));\n",
+        b"F16 WhereFalse #5 DIRECTION.WR1\nF17 UniqueBroken #4 GROUP.UR1\ninstances 5\nunknown 1\nfindings 2\n",
     ),
     (
         "other faults, and so no rules that speak of all",

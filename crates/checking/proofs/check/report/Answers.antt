@@ -1,4 +1,3 @@
-use Rattle.std.proofs.Common.{refl}
 use Rattle.step_exchange.specs.Exchanges.{structure}
 use Rattle.checking.proofs.Answering.{as-many}
 use Rattle.checking.proofs.check.report.Goals as goal
@@ -12,6 +11,5 @@ returns c =
         unchecked = c.into_unchecked.ensures;
         findings = c.in-Ok-file_findings.ensures;
         instances = as-many x c.len-instances.result c.len-instances.ensures;
-        unknown = refl;
       },
     )

@@ -1,0 +1,694 @@
+use Rattle.std.proofs.Common.{◌≡◌, ◌<◌, ◌≤◌, ◌+◌, ◌*◌, ◌∷◌, [], suc, length, drop, ap, sym, subst, refl, ◌∙◌, arith}
+use Rattle.std.proofs.lemmas.Result.{IfOk-weaker}
+use Rattle.std.specs.Option.{option_map}
+use Rattle.std.specs.Vec.{vec_len}
+use Rattle.express_trees.specs.declared.tree.Expr.{size-Expr}
+use Rattle.express_trees.specs.declared.tree.Logical.TheVariants.{Unknown}
+use Rattle.std.specs.Prelude.{if◌then◌else◌}
+use Rattle.express_trees.specs.Trees.{reference, named}
+use Rattle.express_trees.specs.Views.{capitals, root_of, tree_of, trees_of, alternatives_of, qualifiers_of, selections_of, selection_of}
+use Rattle.express_logic.specs.Data.{logical, aggregate, element, indeterminate}
+use Rattle.express_logic.specs.Logic.{both, either, negated}
+use Rattle.express_logic.specs.Comparing.{equal, member}
+use Rattle.express_logic.specs.Views.{datum_of, text_of}
+use Rattle.express_meanings.specs.Expressions.{means, of_junction, of_call, string_of, with_value, first_of_two, attribute_of, instance_attribute, instance_group, variable, is_of_type}
+use Rattle.express_meanings.specs.Operations.{bare, says, is_true, or_else, limited, kept_shape, indexed, compared}
+use Rattle.held_values.specs.declared.element.Element.TheVariants as elements
+use Rattle.held_values.specs.Parts.{holding, element_datum, whole_elements}
+use Rattle.express_evaluation.specs.Scopes.{variables_of}
+use Rattle.express_evaluation.specs.Weights.{weight}
+use Rattle.derivation_formulas.specs.Formulas.{formula_seen, formula_place}
+use Rattle.express_settings.specs.Settings.{below_rank, setting_by, derivation_in, or_nothing}
+use Rattle.express_evaluation.specs.Contexts.{setting_in, worth_in, instance_of, meaning_in, truth_in, selected_in, item_in, within_in, related_in, and_all_in, or_all_in, among_each_in, condition_in, passes_in, queried_in}
+use Rattle.express_evaluation.proofs.Arms.{part, part-truth, of-tree, or-known, or-unknown, related-is, related-in, related-not, typeof-is, typeof-not, other-is, or-is}
+use Rattle.express_evaluation.proofs.Items.{item-plain, item-attribute, item-other}
+use Rattle.express_evaluation.proofs.Kept.{Keeps, keeps_none, keeps_next, keeps_all}
+use Rattle.express_evaluation.proofs.Layers.{reference-seen, aggregate-seen, attribute-selected, group-selected, parenthesized-seen, interval-seen, query-seen, call-seen, nvl-seen, not-seen, conjunction-seen, disjunction-seen, comparison-seen, index-selected}
+use Rattle.express_evaluation.proofs.Ranked.{below-none, below-late, below-rank}
+use Rattle.express_evaluation.proofs.Scopes.{variables_pushed, popped}
+use Rattle.express_evaluation.proofs.Walking.{either_false, either_none, either_groups, next-dropped, none-dropped, or-first, select-first}
+use Rattle.express_evaluation.proofs.Weighing.{weighs_more}
+use Rattle.express_evaluation.proofs.evaluate.+evaluation.Goals as goal
+
+pub among_each-loop-expression-init : goal.among_each-loop-expression-init
+among_each-loop-expression-init t c = record { value = λ m. either_false _; variables = refl }
+
+pub among_each-loop-expression-preserved : goal.among_each-loop-expression-preserved
+among_each-loop-expression-preserved t c =
+    let d = datum_of holding c.args.value.now in
+    let xs = c.args.expressions.now in
+    let i = c.loop-expression.expression-index in
+    let x = c.expression-item.result in
+    let r = c.loop-expression.result in
+    let lt : i < length xs = omega (arith, c.loop-expression-test.true) in
+    let inv = c.loop-expression.invariant in record {
+      value = λ m.
+          ap (λ p. either p (among_each_in c.args.context.now m c.args.variables.now.items d (trees_of (drop (i + 1) xs))))
+          (c.or-result.ensures ∙ ap (either r) (c.equal.ensures ∙ ap (equal d) (c.in_ok-other.ensures.0 m
+          ∙ ap (λ ws. meaning_in c.args.context.now m ws (tree_of x)) inv.variables)))
+          ∙ either_groups r (equal d (meaning_in c.args.context.now m c.args.variables.now.items (tree_of x)))
+          (among_each_in c.args.context.now m c.args.variables.now.items d (trees_of (drop (i + 1) xs)))
+          ∙ ap (λ ys. either r (among_each_in c.args.context.now m c.args.variables.now.items d (trees_of ys)))
+          (sym (next-dropped xs i x lt c.expression-item.is)) ∙ inv.value m;
+      variables = c.in_ok-other.ensures.1 ∙ inv.variables;
+    }
+
+pub among_each-returns : goal.among_each-returns
+among_each-returns t c =
+    let d = datum_of holding c.args.value.now in
+    let xs = c.args.expressions.now in
+    let i = c.loop-expression.expression-index in
+    let r = c.loop-expression.result in
+    let inv = c.loop-expression.invariant in (
+      λ m.
+          sym (either_none r)
+          ∙ ap (λ ys. either r (among_each_in c.args.context.now m c.args.variables.now.items d (trees_of ys)))
+          (sym (none-dropped i xs (omega (arith, c.loop-expression-test.false)))) ∙ inv.value m,
+      inv.variables,
+    )
+
+pub and_all-loop-expression-preserved : goal.and_all-loop-expression-preserved
+and_all-loop-expression-preserved t c =
+    let xs = c.args.expressions.now in
+    let i = c.loop-expression.expression-index in
+    let x = c.expression-item.result in
+    let p = c.loop-expression.value in
+    let lt : i < length xs = omega (arith, c.loop-expression-test.true) in
+    let inv = c.loop-expression.invariant in
+    let found = c.in_ok-evaluate_truth.ensures in record {
+      value = λ m.
+          ap (λ q. and_all_in c.args.context.now m c.args.variables.now.items q (trees_of (drop (i + 1) xs)))
+          (c.and-value.ensures ∙ ap (both p) (found.0 m ∙ ap (λ ws. truth_in c.args.context.now m ws (tree_of x)) inv.variables))
+          ∙ ap (λ ys. and_all_in c.args.context.now m c.args.variables.now.items p (trees_of ys)) (sym (next-dropped xs i x lt c.expression-item.is))
+          ∙ inv.value m;
+      variables = found.1 ∙ inv.variables;
+    }
+
+pub and_all-returns : goal.and_all-returns
+and_all-returns t c =
+    let xs = c.args.expressions.now in
+    let i = c.loop-expression.expression-index in
+    let p = c.loop-expression.value in
+    let inv = c.loop-expression.invariant in (
+      λ m. ap (λ ys. and_all_in c.args.context.now m c.args.variables.now.items p (trees_of ys)) (sym (none-dropped i xs (omega (arith, c.loop-expression-test.false))))
+          ∙ inv.value m,
+      inv.variables,
+    )
+
+pub derived-returns-in_default : goal.derived-returns-in_default
+derived-returns-in_default t c =
+    let S = c.args.context.now.setting.now in
+    λ m. sym (below-none S m c.args.context.now.limit c.args.instance (derivation_in S c.args.derivation)
+    (sym (c.formula.ensures.meant m c.requires.number) ∙ ap (option_map formula_seen) c.in_default.is))
+
+pub derived-returns-then-formula-context : goal.derived-returns-then-formula-context
+derived-returns-then-formula-context t c =
+    let S = c.args.context.now.setting.now in
+    λ m. sym (below-late S m c.args.context.now.limit c.args.instance (derivation_in S c.args.derivation)
+    (formula_seen c.in-Some.formula) (sym (c.in-Some.ensures.meant m c.requires.number))
+    (omega (arith, c.if-formula-context.true)))
+
+pub derived-evaluate-requires : goal.derived-evaluate-requires
+derived-evaluate-requires t c =
+    let S = c.args.context.now.setting.now in
+    let f = c.in-Some.formula in
+    let h : 8 * weight S.formulas.now c.args.context.now.limit ≡ t = c.decreases in
+    let at = formula_place S.firsts.now (length S.formulas.now) c.args.derivation.entity c.args.derivation.number in
+    let w = weighs_more S.formulas.now at f c.args.context.now.limit (sym c.in-Some.ensures.place) c.if-formula-context.false in
+    let r : 8 * (size-Expr f.expression.now + weight S.formulas.now f.rank) < t = omega (arith, h, w) in
+    (r, c.requires.setting)
+
+pub derived-returns : goal.derived-returns
+unfolding element_datum
+derived-returns t c =
+    let S = c.args.context.now.setting.now in
+    let f = c.in-Some.formula in
+    IfOk-weaker c.evaluate.result _ _
+    (λ d g m. g.0 m
+    ∙ ap (λ vs. means (setting_by S m (below_rank S m f.rank)) vs (element_datum (elements.Instance c.args.instance)) (tree_of f.expression.now))
+    (ap variables_of c.new-variables.ensures.items)
+    ∙ sym (below-rank S m c.args.context.now.limit c.args.instance (derivation_in S c.args.derivation) (formula_seen f)
+    (sym (c.in-Some.ensures.meant m c.requires.number)) c.if-formula-context.false)) c.evaluate.ensures
+
+pub evaluate-returns-then-is_known : goal.evaluate-returns-then-is_known
+evaluate-returns-then-is_known t c =
+    let x = c.in-Nvl in
+    let found = c.in_ok-value-in-Nvl.ensures in
+    let d = datum_of holding c.in_ok-value-in-Nvl.value in (
+      λ m.
+          let other = meaning_in c.args.context.now m c.args.variables.now.items (tree_of x.second.value) in
+          let first = part c.args.context.now m c.args.variables.now.items c.args.variables.now.items c.deref-in-Nvl.result.now x.first.value d c.deref-in-Nvl.ensures refl (found.0 m) in
+          of-tree c.args.context.now m c.args.variables.now.items d _ _ (ap tree_of x.is ∙ nvl-seen x.first x.second)
+          (sym (or-known d other (sym c.is_known.ensures ∙ c.if-is_known.true)) ∙ ap (λ e. or_else e other) first),
+      found.1,
+    )
+
+pub evaluate-returns-in-Parenthesized : goal.evaluate-returns-in-Parenthesized
+evaluate-returns-in-Parenthesized t c =
+    let x = c.in-Parenthesized in
+    IfOk-weaker c.evaluate.result _ _
+    (λ v h. (
+      (λ m.
+          of-tree c.args.context.now m c.args.variables.now.items (datum_of holding v) _ _ (ap tree_of x.is ∙ parenthesized-seen x.inner)
+          (part c.args.context.now m c.args.variables.now.items c.args.variables.now.items c.deref-in-Parenthesized.result.now x.inner.value (datum_of holding v) c.deref-in-Parenthesized.ensures
+          refl (h.0 m))),
+      h.1,
+    )) c.evaluate.ensures
+
+pub evaluate-returns-in_ok-high-in-Interval : goal.evaluate-returns-in_ok-high-in-Interval
+evaluate-returns-in_ok-high-in-Interval t c =
+    let x = c.in-Interval in
+    let one = c.in_ok-low-in-Interval.ensures in
+    let two = c.in_ok-item-in-Interval.ensures in
+    let three = c.in_ok-high-in-Interval.ensures in
+    let d = datum_of holding c.in_ok-low-in-Interval.low in
+    let e = datum_of holding c.in_ok-item-in-Interval.item in
+    let f = datum_of holding c.in_ok-high-in-Interval.high in (
+      λ m.
+          let low = part c.args.context.now m c.args.variables.now.items c.args.variables.now.items c.deref-in-Interval.result.now x.low.value d c.deref-in-Interval.ensures refl (one.0 m) in
+          let item = part c.args.context.now m c.args.variables.now.items c.evaluate-in-Interval.new.variables.items c.deref-in-Interval-2.result.now x.item.value e
+          c.deref-in-Interval-2.ensures one.1 (two.0 m) in
+          let high = part c.args.context.now m c.args.variables.now.items c.evaluate-in-Interval-2.new.variables.items c.deref-in-Interval-3.result.now x.high.value f
+          c.deref-in-Interval-3.ensures (two.1 ∙ one.1) (three.0 m) in
+          of-tree c.args.context.now m c.args.variables.now.items (logical c.and.result) _ _ (ap tree_of x.is ∙ interval-seen x.low x.above x.item x.below x.high)
+          (ap logical (c.and.ensures ∙ ap (λ p. both p c.limited-in-Interval.result) c.limited.ensures
+          ∙ ap (both (limited x.above d e)) c.limited-in-Interval.ensures
+          ∙ ap (λ k. both (limited x.above k e) (limited x.below e f)) low
+          ∙ ap (λ k. both (limited x.above (meaning_in c.args.context.now m c.args.variables.now.items (tree_of x.low.value)) k) (limited x.below k f)) item
+          ∙ ap (λ k. both (limited x.above (meaning_in c.args.context.now m c.args.variables.now.items (tree_of x.low.value)) (meaning_in c.args.context.now m c.args.variables.now.items (tree_of x.item.value)))
+          (limited x.below (meaning_in c.args.context.now m c.args.variables.now.items (tree_of x.item.value)) k)) high)),
+      three.1 ∙ two.1 ∙ one.1,
+    )
+
+pub evaluate-returns-in_ok-source-in-Query : goal.evaluate-returns-in_ok-source-in-Query
+evaluate-returns-in_ok-source-in-Query t c =
+    let x = c.in-Query in
+    let found = c.in_ok-source-in-Query.ensures in
+    let d = datum_of holding c.in_ok-source-in-Query.source in
+    let b = datum_of holding c.bare.result in
+    let ws = c.evaluate-in-Query.new.variables.items in
+    let n = capitals x.variable in
+    IfOk-weaker c.query.result _ _
+    (λ v h. (
+      (λ m.
+          let source = part c.args.context.now m c.args.variables.now.items c.args.variables.now.items c.deref-in-Query.result.now x.source.value d c.deref-in-Query.ensures refl (found.0 m) in
+          of-tree c.args.context.now m c.args.variables.now.items (datum_of holding v) _ _ (ap tree_of x.is ∙ query-seen x.variable x.source x.condition)
+          (h.0 m ∙ ap (λ ks. queried_in c.args.context.now m ks n (tree_of c.deref-in-Query-2.result.now) b) found.1
+          ∙ ap (λ y. queried_in c.args.context.now m c.args.variables.now.items n (tree_of y) b) c.deref-in-Query-2.ensures
+          ∙ ap (λ e. queried_in c.args.context.now m c.args.variables.now.items n (tree_of x.condition.value) e)
+          (c.bare.ensures ∙ ap bare source))),
+      h.1 ∙ found.1,
+    )) c.query.ensures
+
+pub evaluate-returns-in_ok-value-in-Call : goal.evaluate-returns-in_ok-value-in-Call
+evaluate-returns-in_ok-value-in-Call t c =
+    let x = c.in-Call in
+    let found = c.in_ok-value-in-Call.ensures in
+    let d = datum_of holding c.in_ok-value-in-Call.value in
+    IfOk-weaker c.called.result _ _
+    (λ v h. (
+      (λ m.
+          let argument = part c.args.context.now m c.args.variables.now.items c.args.variables.now.items c.deref-in-Call.result.now x.argument.value d c.deref-in-Call.ensures refl (found.0 m) in
+          of-tree c.args.context.now m c.args.variables.now.items (datum_of holding v) _ _ (ap tree_of x.is ∙ call-seen x.function x.argument)
+          (h ∙ ap (of_call x.function) argument)),
+      found.1,
+    )) c.called.ensures
+
+pub evaluate-returns-else-is_known : goal.evaluate-returns-else-is_known
+evaluate-returns-else-is_known t c =
+    let x = c.in-Nvl in
+    let found = c.in_ok-value-in-Nvl.ensures in
+    let d = datum_of holding c.in_ok-value-in-Nvl.value in
+    let ws = c.evaluate-in-Nvl.new.variables.items in
+    IfOk-weaker c.evaluate-in-Nvl-2.result _ _
+    (λ v h. (
+      (λ m.
+          let e = datum_of holding v in
+          let other = meaning_in c.args.context.now m c.args.variables.now.items (tree_of x.second.value) in
+          let first = part c.args.context.now m c.args.variables.now.items c.args.variables.now.items c.deref-in-Nvl.result.now x.first.value d c.deref-in-Nvl.ensures refl (found.0 m) in
+          let second = part c.args.context.now m c.args.variables.now.items ws c.deref-in-Nvl-2.result.now x.second.value e c.deref-in-Nvl-2.ensures found.1 (h.0 m) in
+          of-tree c.args.context.now m c.args.variables.now.items e _ _ (ap tree_of x.is ∙ nvl-seen x.first x.second)
+          (second ∙ sym (or-unknown d other (sym c.is_known.ensures ∙ c.if-is_known.false)) ∙ ap (λ e. or_else e other) first)),
+      h.1 ∙ found.1,
+    )) c.evaluate-in-Nvl-2.ensures
+
+pub evaluate-returns-in_ok-evaluate_truth-in-Not :
+    goal.evaluate-returns-in_ok-evaluate_truth-in-Not
+evaluate-returns-in_ok-evaluate_truth-in-Not t c =
+    let x = c.in-Not in
+    let found = c.in_ok-evaluate_truth-in-Not.ensures in (
+      λ m.
+          of-tree c.args.context.now m c.args.variables.now.items (logical c.not.result) _ _ (ap tree_of x.is ∙ not-seen x.inner)
+          (ap logical (c.not.ensures ∙ ap negated (part-truth c.args.context.now m c.args.variables.now.items c.args.variables.now.items c.deref-in-Not.result.now x.inner.value _
+          c.deref-in-Not.ensures refl (found.0 m)))),
+      found.1,
+    )
+
+pub evaluate-returns-in_ok-and_all-in-Conjunction :
+    goal.evaluate-returns-in_ok-and_all-in-Conjunction
+evaluate-returns-in_ok-and_all-in-Conjunction t c =
+    let x = c.in-Conjunction in
+    let one = c.in_ok-value-in-Conjunction.ensures in
+    let two = c.in_ok-and_all-in-Conjunction.ensures in
+    let p = c.in_ok-value-in-Conjunction.value in
+    let ws = c.evaluate_truth-in-Conjunction.new.variables.items in (
+      λ m.
+          let first = part-truth c.args.context.now m c.args.variables.now.items c.args.variables.now.items c.deref-in-Conjunction.result.now x.first.value p c.deref-in-Conjunction.ensures refl (one.0 m) in
+          of-tree c.args.context.now m c.args.variables.now.items (logical c.in_ok-and_all-in-Conjunction.field-0) _ _ (ap tree_of x.is ∙ conjunction-seen x.first x.others)
+          (ap logical (two.0 m ∙ ap (λ ks. and_all_in c.args.context.now m ks p (trees_of c.deref-in-Conjunction-2.result.now)) one.1
+          ∙ ap (λ ys. and_all_in c.args.context.now m c.args.variables.now.items p (trees_of ys)) c.deref-in-Conjunction-2.ensures.value
+          ∙ ap (λ q. and_all_in c.args.context.now m c.args.variables.now.items q (trees_of x.others.items)) first)),
+      two.1 ∙ one.1,
+    )
+
+pub evaluate-returns-in_ok-or_all-in-Disjunction :
+    goal.evaluate-returns-in_ok-or_all-in-Disjunction
+evaluate-returns-in_ok-or_all-in-Disjunction t c =
+    let x = c.in-Disjunction in
+    let one = c.in_ok-value-in-Disjunction.ensures in
+    let two = c.in_ok-or_all-in-Disjunction.ensures in
+    let p = c.in_ok-value-in-Disjunction.value in
+    let ws = c.evaluate_truth-in-Disjunction.new.variables.items in (
+      λ m.
+          let first = part-truth c.args.context.now m c.args.variables.now.items c.args.variables.now.items c.deref-in-Disjunction.result.now x.first.value p c.deref-in-Disjunction.ensures refl (one.0 m) in
+          of-tree c.args.context.now m c.args.variables.now.items (logical c.in_ok-or_all-in-Disjunction.field-0) _ _ (ap tree_of x.is ∙ disjunction-seen x.first x.others)
+          (ap logical (two.0 m ∙ ap (λ ks. or_all_in c.args.context.now m ks p (alternatives_of c.deref-in-Disjunction-2.result.now)) one.1
+          ∙ ap (λ ys. or_all_in c.args.context.now m c.args.variables.now.items p (alternatives_of ys)) c.deref-in-Disjunction-2.ensures.value
+          ∙ ap (λ q. or_all_in c.args.context.now m c.args.variables.now.items q (alternatives_of x.others.items)) first)),
+      two.1 ∙ one.1,
+    )
+
+pub evaluate_truth-returns : goal.evaluate_truth-returns
+evaluate_truth-returns t c =
+    let found = c.in_ok-evaluate.ensures in ((λ m. c.truth.ensures ∙ ap says (found.0 m)), found.1)
+
+pub found_or_nothing-returns-in-Some : goal.found_or_nothing-returns-in-Some
+found_or_nothing-returns-in-Some t c = λ m. ap or_nothing (ap (option_map (datum_of holding)) (sym c.in-Some.is) ∙ c.in_ok-value.ensures m)
+
+pub found_or_nothing-returns-in-None : goal.found_or_nothing-returns-in-None
+found_or_nothing-returns-in-None t c = λ m. ap or_nothing (ap (option_map (datum_of holding)) (sym c.in-None.is) ∙ c.in_ok-value.ensures m)
+
+pub named-returns-in-Some : goal.named-returns-in-Some
+named-returns-in-Some t c =
+    let n = capitals c.args.name in
+    let qs = qualifiers_of c.args.qualifiers.now in
+    let found = ap (λ ws. variable (variables_of ws) n) (sym c.deref.ensures.value) ∙ sym c.find.ensures ∙ ap (option_map (datum_of holding)) c.in-Some.is in
+    IfOk-weaker c.selected.result _ _
+    (λ v h. (
+      (λ m. h.0 m
+          ∙ sym (ap (λ o. with_value (first_of_two o (attribute_of (setting_in c.args.context.now m) (element_datum c.args.context.now.me) n))
+          (item_in c.args.context.now m c.args.variables.now.items n qs) (λ d. selected_in c.args.context.now m c.args.variables.now.items qs d)) found)),
+      h.1,
+    )) c.selected.ensures
+
+pub named-returns-in-Some-2 : goal.named-returns-in-Some-2
+named-returns-in-Some-2 t c =
+    let n = capitals c.args.name in
+    let qs = qualifiers_of c.args.qualifiers.now in
+    let found = ap (λ ws. variable (variables_of ws) n) (sym c.deref.ensures.value) ∙ sym c.find.ensures ∙ ap (option_map (datum_of holding)) c.in_default.is in
+    IfOk-weaker c.selected-in-Some-2.result _ _
+    (λ v h. (
+      (λ m.
+          let at = c.in_ok-value.ensures m
+          ∙ ap (λ i. worth_in c.args.context.now m i c.attribute_behind-found.result) c.instance_of.ensures
+          ∙ c.attribute_behind-found.ensures.worth m
+          ∙ ap (λ d. instance_attribute (setting_in c.args.context.now m) d n) (c.bare-me.ensures ∙ ap bare c.datum.ensures) in
+          h.0 m
+          ∙ sym (ap (λ o. with_value (first_of_two o (attribute_of (setting_in c.args.context.now m) (element_datum c.args.context.now.me) n))
+          (item_in c.args.context.now m c.args.variables.now.items n qs) (λ d. selected_in c.args.context.now m c.args.variables.now.items qs d)) found
+          ∙ ap (λ o. with_value o (item_in c.args.context.now m c.args.variables.now.items n qs) (λ d. selected_in c.args.context.now m c.args.variables.now.items qs d))
+          (sym at ∙ ap (option_map (datum_of holding)) c.in-Some-2.is))),
+      h.1,
+    )) c.selected-in-Some-2.ensures
+
+pub named-returns : goal.named-returns
+named-returns t c =
+    let n = capitals c.args.name in
+    let qs = qualifiers_of c.args.qualifiers.now in
+    let found = ap (λ ws. variable (variables_of ws) n) (sym c.deref.ensures.value) ∙ sym c.find.ensures ∙ ap (option_map (datum_of holding)) c.in_default.is in
+    IfOk-weaker c.item_behind.result _ _
+    (λ v h. (
+      (λ m.
+          let at = c.in_ok-value.ensures m
+          ∙ ap (λ i. worth_in c.args.context.now m i c.attribute_behind-found.result) c.instance_of.ensures
+          ∙ c.attribute_behind-found.ensures.worth m
+          ∙ ap (λ d. instance_attribute (setting_in c.args.context.now m) d n) (c.bare-me.ensures ∙ ap bare c.datum.ensures) in
+          h.0 m
+          ∙ sym (ap (λ o. with_value (first_of_two o (attribute_of (setting_in c.args.context.now m) (element_datum c.args.context.now.me) n))
+          (item_in c.args.context.now m c.args.variables.now.items n qs) (λ d. selected_in c.args.context.now m c.args.variables.now.items qs d)) found
+          ∙ ap (λ o. with_value o (item_in c.args.context.now m c.args.variables.now.items n qs) (λ d. selected_in c.args.context.now m c.args.variables.now.items qs d))
+          (sym at ∙ ap (option_map (datum_of holding)) c.in-None.is))),
+      h.1,
+    )) c.item_behind.ensures
+
+pub or_all-loop-alternative-preserved : goal.or_all-loop-alternative-preserved
+or_all-loop-alternative-preserved t c =
+    let xs = c.args.alternatives.now in
+    let i = c.loop-alternative.alternative-index in
+    let x = c.alternative-item.result in
+    let p = c.loop-alternative.value in
+    let lt : i < length xs = omega (arith, c.loop-alternative-test.true) in
+    let inv = c.loop-alternative.invariant in
+    let found = c.in_ok-term.ensures in record {
+      value = λ m.
+          ap (λ q. or_all_in c.args.context.now m c.args.variables.now.items q (alternatives_of (drop (i + 1) xs)))
+          (c.joined-value.ensures
+          ∙ ap (of_junction x.junction p) (found.0 m ∙ ap (λ ws. truth_in c.args.context.now m ws (tree_of x.term)) inv.variables))
+          ∙ sym (or-first c.args.context.now m c.args.variables.now.items p x (drop (i + 1) xs))
+          ∙ ap (λ ys. or_all_in c.args.context.now m c.args.variables.now.items p (alternatives_of ys)) (sym (next-dropped xs i x lt c.alternative-item.is))
+          ∙ inv.value m;
+      variables = found.1 ∙ inv.variables;
+    }
+
+pub or_all-returns : goal.or_all-returns
+or_all-returns t c =
+    let xs = c.args.alternatives.now in
+    let i = c.loop-alternative.alternative-index in
+    let p = c.loop-alternative.value in
+    let inv = c.loop-alternative.invariant in (
+      λ m. ap (λ ys. or_all_in c.args.context.now m c.args.variables.now.items p (alternatives_of ys)) (sym (none-dropped i xs (omega (arith, c.loop-alternative-test.false))))
+          ∙ inv.value m,
+      inv.variables,
+    )
+
+pub passes-returns : goal.passes-returns
+passes-returns t c =
+    let x = tree_of c.args.condition.now in
+    let pushed = c.in_ok-push.ensures.items in
+    let found = c.in_ok-value.ensures in
+    let ok = c.evaluate.new.variables.ok in
+    let len : vec_len c.evaluate.new.variables ≡ length c.evaluate.new.variables.items = cc in (
+      λ m. c.is_true.ensures
+          ∙ ap (λ d. is_true (says d)) (found.0 m ∙ ap (λ vs. means (setting_in c.args.context.now m) vs (element_datum c.args.context.now.me) x)
+          (ap variables_of pushed ∙ variables_pushed c.args.variables.now.items c.args.variable)),
+      popped c.evaluate.new.variables.items (vec_len c.evaluate.new.variables) c.args.variables.now.items c.pop.new.self.items c.args.variable
+          (found.1 ∙ pushed) len c.pop.ensures.rest,
+    )
+
+pub passing-loop-i-init : goal.passing-loop-i-init
+passing-loop-i-init t c = record {
+  kept = λ m. keeps_none (condition_in c.args.context.now m c.args.variables.now.items (capitals c.args.name) (tree_of c.args.condition.now))
+      (whole_elements c.args.source.now) (holding c.args.source.now).elements _ c.new-kept.ensures.items;
+  variables = refl;
+}
+
+pub passing-loop-i-preserved : goal.passing-loop-i-preserved
+passing-loop-i-preserved t c =
+    let es = (holding c.args.source.now).elements in
+    let base = whole_elements c.args.source.now in
+    let i = c.loop-i.i in
+    let next : i + 1 ≡ suc i = omega arith in
+    let within = subst (λ n. i < n) c.len-i-end.ensures c.loop-i-test.true in
+    let inv = c.loop-i.invariant in
+    let found = c.in_ok-holds.ensures in record {
+      kept = λ m.
+          let p = condition_in c.args.context.now m c.args.variables.now.items (capitals c.args.name) (tree_of c.args.condition.now) in
+          subst (λ n. Keeps p base es c.keep_if.new.kept.items n) (sym next)
+          (keeps_next p base es c.loop-i.kept.items c.keep_if.new.kept.items c.whole_index.result i c.in_ok-holds.holds
+          within (found.0 m ∙ ap (λ ws. passes_in c.args.context.now m ws (capitals c.args.name) (tree_of c.args.condition.now) (element_datum c.element_value.result)) inv.variables
+          ∙ ap (λ d. is_true (p d)) c.element_value.ensures) c.whole_index.ensures c.in_ok-keep_if.ensures (inv.kept m));
+      variables = found.1 ∙ inv.variables;
+    }
+
+pub passing-returns : goal.passing-returns
+passing-returns t c =
+    let es = (holding c.args.source.now).elements in
+    let base = whole_elements c.args.source.now in
+    let all : c.loop-i.i ≡ c.len-i-end.result = omega (arith, c.loop-i-test.false, c.loop-i.auto.i-end) in
+    let inv = c.loop-i.invariant in (
+      λ m. keeps_all (condition_in c.args.context.now m c.args.variables.now.items (capitals c.args.name) (tree_of c.args.condition.now)) base es
+          c.loop-i.kept.items c.loop-i.i (all ∙ c.len-i-end.ensures) (inv.kept m),
+      inv.variables,
+    )
+
+pub query-returns : goal.query-returns
+query-returns t c =
+    let n = capitals c.args.name in
+    let x = tree_of c.args.condition.now in
+    let part = c.in-Aggregate.part in
+    let found = c.in_ok-kept.ensures in (
+      λ m.
+          ap (λ h. aggregate h.shape h.elements) c.keep.ensures
+          ∙ ap (λ ds. aggregate (kept_shape (holding part).shape) ds) (found.0 m)
+          ∙ ap (λ d. queried_in c.args.context.now m c.args.variables.now.items n x d) (ap (datum_of holding) (sym c.in-Aggregate.is)),
+      found.1,
+    )
+
+pub select-returns-in-Attribute : goal.select-returns-in-Attribute
+select-returns-in-Attribute t c =
+    let S = c.args.context.now.setting.now in
+    let d = datum_of holding c.args.value in
+    let x = c.in-Attribute in
+    let inside = c.bare-value.ensures in
+    IfOk-weaker c.found_or_nothing.result _ _
+    (λ v h. (
+      (λ m. h m
+          ∙ ap (λ i. or_nothing (worth_in c.args.context.now m i c.attribute_behind-found.result)) c.instance_of.ensures
+          ∙ ap or_nothing (c.attribute_behind-found.ensures.worth m
+          ∙ ap (λ e. instance_attribute (setting_in c.args.context.now m) e (capitals x.name)) inside) ∙ or-is (attribute_of (setting_in c.args.context.now m) d (capitals x.name))
+          ∙ ap (λ s. selected_in c.args.context.now m c.args.variables.now.items (selections_of (s ∷ [])) d) (sym (ap selection_of x.is ∙ attribute-selected x.name))),
+      refl,
+    )) c.found_or_nothing.ensures
+
+pub select-returns-in-Group : goal.select-returns-in-Group
+select-returns-in-Group t c =
+    let S = c.args.context.now.setting.now in
+    let d = datum_of holding c.args.value in
+    let x = c.in-Group in
+    let inside = c.bare-value.ensures in
+    IfOk-weaker c.found_or_nothing-in-Group.result _ _
+    (λ v h. (
+      (λ m. h m
+          ∙ ap (λ i. or_nothing (worth_in c.args.context.now m i c.group_behind-found.result)) c.instance_of-in-Group.ensures
+          ∙ c.group_behind-found.ensures.worth m
+          ∙ ap (λ e. instance_group (setting_in c.args.context.now m) e (capitals x.entity) (capitals x.name)) inside
+          ∙ ap (λ s. selected_in c.args.context.now m c.args.variables.now.items (selections_of (s ∷ [])) d) (sym (ap selection_of x.is ∙ group-selected x.entity x.name))),
+      refl,
+    )) c.found_or_nothing-in-Group.ensures
+
+pub select-returns : goal.select-returns
+select-returns t c =
+    let x = c.in-Index in
+    let found = c.in_ok-evaluate-in-Index.ensures in
+    let d = datum_of holding c.args.value in
+    let e = datum_of holding c.in_ok-evaluate-in-Index.field-0 in (
+      λ m.
+          c.indexed.ensures
+          ∙ ap (λ b. indexed b (datum_of holding c.bare-index.result)) c.bare-value.ensures
+          ∙ ap (indexed (bare d)) (c.bare-index.ensures ∙ ap bare (part c.args.context.now m c.args.variables.now.items c.args.variables.now.items c.deref.result.now x.index.value e c.deref.ensures refl (found.0 m)))
+          ∙ ap (λ s. selected_in c.args.context.now m c.args.variables.now.items (selections_of (s ∷ [])) d) (sym (ap selection_of x.is ∙ index-selected x.index)),
+      found.1,
+    )
+
+pub selected-loop-qualifier-preserved : goal.selected-loop-qualifier-preserved
+selected-loop-qualifier-preserved t c =
+    let xs = c.args.qualifiers.now in
+    let i = c.loop-qualifier.qualifier-index in
+    let x = c.qualifier-item.result in
+    let d = datum_of holding c.loop-qualifier.value in
+    let lt : i < length xs = omega (arith, c.loop-qualifier-test.true) in
+    let inv = c.loop-qualifier.invariant in
+    let found = c.in_ok-value.ensures in record {
+      value = λ m.
+          ap (λ e. selected_in c.args.context.now m c.args.variables.now.items (qualifiers_of (drop (i + 1) xs)) e)
+          (found.0 m ∙ ap (λ ws. selected_in c.args.context.now m ws (qualifiers_of (x ∷ [])) d) inv.variables)
+          ∙ sym (select-first c.args.context.now m c.args.variables.now.items x (drop (i + 1) xs) d)
+          ∙ ap (λ ys. selected_in c.args.context.now m c.args.variables.now.items (qualifiers_of ys) d) (sym (next-dropped xs i x lt c.qualifier-item.is))
+          ∙ inv.value m;
+      variables = found.1 ∙ inv.variables;
+    }
+
+pub selected-returns : goal.selected-returns
+selected-returns t c =
+    let xs = c.args.qualifiers.now in
+    let i = c.loop-qualifier.qualifier-index in
+    let d = datum_of holding c.loop-qualifier.value in
+    let inv = c.loop-qualifier.invariant in (
+      λ m. ap (λ ys. selected_in c.args.context.now m c.args.variables.now.items (qualifiers_of ys) d) (sym (none-dropped i xs (omega (arith, c.loop-qualifier-test.false))))
+          ∙ inv.value m,
+      inv.variables,
+    )
+
+pub within-returns-in-Parenthesized : goal.within-returns-in-Parenthesized
+within-returns-in-Parenthesized t c =
+    let x = c.in-Parenthesized in
+    let s = option_map text_of c.args.text in
+    let d = datum_of holding c.args.value in
+    IfOk-weaker c.within.result _ _
+    (λ p h. (
+      (λ m. h.0 m ∙ ap (λ y. within_in c.args.context.now m c.args.variables.now.items s d (tree_of y)) c.deref.ensures
+          ∙ ap (λ y. within_in c.args.context.now m c.args.variables.now.items s d y) (sym (ap tree_of x.is ∙ parenthesized-seen x.inner))),
+      h.1,
+    )) c.within.ensures
+
+pub within-returns-then-is_known : goal.within-returns-then-is_known
+within-returns-then-is_known t c =
+    let x = c.in-Aggregate in
+    let s = option_map text_of c.args.text in
+    let d = datum_of holding c.args.value in
+    IfOk-weaker c.among_each.result _ _
+    (λ p h. (
+      (λ m. h.0 m ∙ ap (λ ys. among_each_in c.args.context.now m c.args.variables.now.items d (trees_of ys)) c.deref-then-is_known.ensures.value
+          ∙ sym (ap (λ b. if b then among_each_in c.args.context.now m c.args.variables.now.items d (trees_of x.items.items) else Unknown)
+          (sym c.is_known.ensures ∙ c.if-is_known.true))
+          ∙ ap (λ y. within_in c.args.context.now m c.args.variables.now.items s d y) (sym (ap tree_of x.is ∙ aggregate-seen x.items))),
+      h.1,
+    )) c.among_each.ensures
+
+pub evaluate-returns-in-Reference : goal.evaluate-returns-in-Reference
+evaluate-returns-in-Reference t c =
+    let x = c.in-Reference in
+    IfOk-weaker c.referred.result _ _
+    (λ v h. (
+      (λ m. of-tree c.args.context.now m c.args.variables.now.items (datum_of holding v) _ _ (ap tree_of x.is ∙ reference-seen x.root x.qualifiers)
+          (h.0 m ∙ ap (λ ks. meaning_in c.args.context.now m c.args.variables.now.items (reference (root_of x.root) (qualifiers_of ks))) c.deref.ensures.value)),
+      h.1,
+    )) c.referred.ensures
+
+pub evaluate-returns-in_ok-related-in-Comparison : goal.evaluate-returns-in_ok-related-in-Comparison
+evaluate-returns-in_ok-related-in-Comparison t c =
+    let x = c.in-Comparison in
+    let r = x.relation in
+    let one = c.in_ok-value-in-Comparison.ensures in
+    let two = c.in_ok-related-in-Comparison.ensures in
+    let d = datum_of holding c.in_ok-value-in-Comparison.value in
+    let o = option_map text_of c.string_of-text.result in
+    let s = string_of (tree_of x.left.value) in
+    let y = tree_of x.right.value in (
+      λ m.
+          let left = part c.args.context.now m c.args.variables.now.items c.args.variables.now.items c.deref-in-Comparison-2.result.now x.left.value d c.deref-in-Comparison-2.ensures refl
+          (one.0 m) in
+          of-tree c.args.context.now m c.args.variables.now.items (logical c.in_ok-related-in-Comparison.related) _ _
+          (ap tree_of x.is ∙ comparison-seen x.left x.relation x.right)
+          (ap logical (two.0 m ∙ ap (λ ks. related_in c.args.context.now m ks r o d (tree_of c.deref-in-Comparison-3.result.now)) one.1
+          ∙ ap (λ e. related_in c.args.context.now m c.args.variables.now.items r o d (tree_of e)) c.deref-in-Comparison-3.ensures
+          ∙ ap (λ p. related_in c.args.context.now m c.args.variables.now.items r p d y) (c.string_of-text.ensures
+          ∙ ap (λ e. string_of (tree_of e)) c.deref-in-Comparison.ensures)
+          ∙ ap (λ e. related_in c.args.context.now m c.args.variables.now.items r s e y) left) ∙ related-is c.args.context.now m c.args.variables.now.items (tree_of x.left.value) y r),
+      two.1 ∙ one.1,
+    )
+
+pub is_member-returns : goal.is_member-returns
+is_member-returns t c =
+    let found = c.in_ok-evaluate.ensures in (
+      λ m. c.member.ensures
+          ∙ ap (member (datum_of holding c.args.value.now)) (c.bare-right.ensures ∙ ap bare (found.0 m)),
+      found.1,
+    )
+
+pub referred-returns-in-SelfInstance : goal.referred-returns-in-SelfInstance
+referred-returns-in-SelfInstance t c =
+    let qs = qualifiers_of c.args.qualifiers.now in
+    IfOk-weaker c.selected.result _ _
+    (λ v h. (
+      (λ m. h.0 m ∙ ap (λ d. selected_in c.args.context.now m c.args.variables.now.items qs d) c.datum.ensures
+          ∙ ap (λ r. meaning_in c.args.context.now m c.args.variables.now.items (reference (root_of r) qs)) (sym c.in-SelfInstance.is)),
+      h.1,
+    )) c.selected.ensures
+
+pub referred-returns-in-Name : goal.referred-returns-in-Name
+referred-returns-in-Name t c =
+    let qs = qualifiers_of c.args.qualifiers.now in
+    IfOk-weaker c.named.result _ _
+    (λ v h. (
+      (λ m. h.0 m ∙ ap (λ r. meaning_in c.args.context.now m c.args.variables.now.items (reference (root_of r) qs)) (sym c.in-Name.is)),
+      h.1,
+    )) c.named.ensures
+
+pub related-returns-then-is_in : goal.related-returns-then-is_in
+related-returns-then-is_in t c =
+    let s = option_map text_of c.args.text in
+    let d = datum_of holding c.args.value in
+    let y = tree_of c.args.expression.now in
+    IfOk-weaker c.within.result _ _
+    (λ p h. (
+      (λ m. h.0 m ∙ sym (related-in c.args.context.now m c.args.variables.now.items s d y c.args.relation (sym c.is_in.ensures ∙ c.if-is_in.true))),
+      h.1,
+    )) c.within.ensures
+
+pub related-returns : goal.related-returns
+related-returns t c =
+    let s = option_map text_of c.args.text in
+    let d = datum_of holding c.args.value in
+    let y = tree_of c.args.expression.now in
+    let found = c.in_ok-right.ensures in (
+      λ m. c.compared.ensures ∙ ap (compared c.args.relation d) (found.0 m)
+          ∙ sym (related-not c.args.context.now m c.args.variables.now.items s d y c.args.relation (sym c.is_in.ensures ∙ c.if-is_in.false)),
+      found.1,
+    )
+
+pub within-returns-then-not-is_typeof : goal.within-returns-then-not-is_typeof
+within-returns-then-not-is_typeof t c =
+    let x = c.in-Call in
+    let s = option_map text_of c.args.text in
+    let d = datum_of holding c.args.value in
+    let seen = ap tree_of x.is ∙ call-seen x.function x.argument in
+    IfOk-weaker c.is_member.result _ _
+    (λ p h. (
+      (λ m. h.0 m ∙ ap (λ y. member d (bare (meaning_in c.args.context.now m c.args.variables.now.items y))) seen
+          ∙ sym (typeof-not c.args.context.now m c.args.variables.now.items s d (tree_of x.argument.value) x.function (sym c.is_typeof.ensures ∙ c.if-not-is_typeof.true))
+          ∙ ap (λ y. within_in c.args.context.now m c.args.variables.now.items s d y) (sym seen)),
+      h.1,
+    )) c.is_member.ensures
+
+pub within-returns-in-Call : goal.within-returns-in-Call
+within-returns-in-Call t c =
+    let x = c.in-Call in
+    let s = option_map text_of c.args.text in
+    let d = datum_of holding c.args.value in
+    let e = datum_of holding c.in_ok-argument-in-Call.argument in
+    let seen = ap tree_of x.is ∙ call-seen x.function x.argument in
+    let found = c.in_ok-argument-in-Call.ensures in (
+      λ m. c.is_of_type.ensures m
+          ∙ ap (is_of_type (setting_in c.args.context.now m) s) (part c.args.context.now m c.args.variables.now.items c.args.variables.now.items c.deref-in-Call.result.now x.argument.value e
+          c.deref-in-Call.ensures refl (found.0 m))
+          ∙ sym (typeof-is c.args.context.now m c.args.variables.now.items s d (tree_of x.argument.value) x.function
+          (sym c.is_typeof.ensures ∙ c.if-not-is_typeof.false))
+          ∙ ap (λ y. within_in c.args.context.now m c.args.variables.now.items s d y) (sym seen),
+      found.1,
+    )
+
+pub within-returns : goal.within-returns
+within-returns t c =
+    let s = option_map text_of c.args.text in
+    let d = datum_of holding c.args.value in
+    let no = c.in_default in
+    IfOk-weaker c.is_member-in_default.result _ _
+    (λ p h. (
+      (λ m. h.0 m
+          ∙ sym (other-is c.args.context.now m c.args.variables.now.items s d c.args.expression.now no.not-Parenthesized no.not-Aggregate no.not-Call)),
+      h.1,
+    )) c.is_member-in_default.ensures
+
+pub item_behind-returns-in_default : goal.item_behind-returns-in_default
+item_behind-returns-in_default t c = (
+  λ m. c.item_value.ensures m
+      ∙ item-plain c.args.context.now m c.args.variables.now.items (capitals c.args.name) c.args.qualifiers.now c.in_default.ensures.cases,
+  refl,
+)
+
+pub item_behind-returns-then-is_item_of : goal.item_behind-returns-then-is_item_of
+item_behind-returns-then-is_item_of t c =
+    let n = capitals c.args.name in
+    let a = c.in-Attribute.item in
+    let vs = c.args.variables.now.items in
+    let qs = c.in-Some.others.now in
+    IfOk-weaker c.selected.result _ _
+    (λ d h. (
+      (λ m.
+          h.0 m
+          ∙ ap (λ b. if b then selected_in c.args.context.now m vs (qualifiers_of qs) (element (capitals a)) else indeterminate)
+          (sym c.if-is_item_of.true ∙ c.is_item_of.ensures m)
+          ∙ item-attribute c.args.context.now m vs n a qs
+          ∙ sym (ap (λ xs. item_in c.args.context.now m vs n (qualifiers_of xs))
+          (c.in-Some.ensures.cases.0 ∙ ap (λ q. q ∷ qs) c.in-Attribute.is))),
+      h.1,
+    )) c.selected.ensures
+
+pub item_behind-returns-in_default-first : goal.item_behind-returns-in_default-first
+item_behind-returns-in_default-first t c = (
+  λ m. item-other c.args.context.now m c.args.variables.now.items (capitals c.args.name) c.in-Some.first.now c.in-Some.others.now
+      c.in_default-first.not-Attribute
+      ∙ sym (ap (λ xs. item_in c.args.context.now m c.args.variables.now.items (capitals c.args.name) (qualifiers_of xs)) c.in-Some.ensures.cases.0),
+  refl,
+)

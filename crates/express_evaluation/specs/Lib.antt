@@ -1,0 +1,4 @@
+pub mod Contexts
+pub mod Scopes
+pub mod Weights
+pub mod Forms

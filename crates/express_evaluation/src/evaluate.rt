@@ -1,0 +1,577 @@
+//! Expressions are evaluated (ISO 10303-11, 12).
+
+ghost use Rattle.std.specs.Prelude.{◌≡◌, ◌++◌, ◌∷◌, [], IfOk, OnOk, if◌then◌else◌};
+ghost use Rattle.std.specs.Option.{option_map};
+ghost use Rattle.step_literals.specs.Words.{upper};
+ghost use Rattle.express_trees.specs.Trees.{reference};
+ghost use Rattle.express_trees.specs.Views.{
+  capitals,
+  root_of,
+  tree_of,
+  trees_of,
+  alternatives_of,
+  qualifiers_of,
+  selection_of,
+};
+ghost use Rattle.express_logic.specs.Comparing.{member};
+ghost use Rattle.express_logic.specs.Views.{datum_of, text_of};
+ghost use Rattle.express_meanings.specs.Operations.{bare};
+ghost use Rattle.held_values.specs.Parts.{holding, element_datum, picked, whole_elements};
+ghost use Rattle.express_evaluation.specs.Scopes.{variables_of};
+ghost use Rattle.schema_names.specs.Numbers.{HasNumber};
+ghost use Rattle.base_types.specs.Seen.{name_at};
+ghost use Rattle.express_settings.specs.Settings.{IsSetting, IsFound, schema_in, or_nothing};
+ghost use Rattle.express_evaluation.specs.Contexts.{
+  Gives,
+  MeantBy,
+  worth_in,
+  derived_in,
+  meaning_in,
+  truth_in,
+  selected_in,
+  named_in,
+  within_in,
+  related_in,
+  and_all_in,
+  or_all_in,
+  among_each_in,
+  item_in,
+  passes_in,
+  filtered_in,
+  queried_in,
+};
+
+use crate::context::Context;
+use crate::literals::{literal_datum, signed_datum, string_of};
+use crate::operations::{
+    called, compared, is_in, is_of_type, is_true, is_typeof, joined, limited, truth,
+};
+use crate::qualifiers::{attribute_behind, group_behind, instance_of, item_value};
+use crate::variables::{Variable, find};
+use attribute_sources::source::Derivation;
+use express_logic::compare::{equal, member};
+use express_logic::datum::{Datum, Held};
+use express_logic::logical::{Logical, and, not, or};
+use express_logic::strings::AnyString;
+use express_settings::attributes::Found;
+use express_trees::tree::{Alternative, Expr, Qualifier, Relation, Root};
+use held_values::element::Element;
+use held_values::indices::indexed;
+use held_values::operations::{bare, is_known};
+use held_values::part::Part;
+use std::alloc::{AllocError, Global};
+use step_literals::literal::Word;
+
+/// What an expression is worth.
+#[cycle(evaluation)]
+pub fn evaluate<'p, 'e, 'r, 't, 's: 'r, 'a>(
+    expression: &Expr<'s>,
+    alloc: Global,
+    context: &Context<'p, 'e, 'r, 't, 's, 'a>,
+    variables: &mut Vec<Variable<'p, 'r>>,
+) -> Result<Datum<'r, Part<'p, 'r>>, AllocError>
+    requires setting { IsSetting context.now.setting.now }
+    ensures { IfOk result (λ d. Gives context.now variables.old.items variables.new.items (datum_of holding d)
+        (λ m. meaning_in context.now m variables.old.items (tree_of expression.now))) }
+{
+    match expression {
+        Expr::Literal(literal) => Ok(literal_datum(*literal)),
+        Expr::Signed(sign, number) => Ok(signed_datum(*sign, *number)),
+        Expr::Reference(root, qualifiers) => {
+            referred(qualifiers, alloc, context, variables, *root)
+        }
+        Expr::Parenthesized(inner) => evaluate(inner, alloc, context, variables),
+        Expr::Aggregate(_) => Ok(Datum::Indeterminate),
+        Expr::Interval {
+            low,
+            above,
+            item,
+            below,
+            high,
+        } => {
+            let low = evaluate(low, alloc, context, variables)?;
+            let item = evaluate(item, alloc, context, variables)?;
+            let high = evaluate(high, alloc, context, variables)?;
+            Ok(Datum::Logical(and(limited(*above, &low, &item), limited(*below, &item, &high))))
+        }
+        Expr::Query {
+            variable,
+            source,
+            condition,
+        } => {
+            let source = evaluate(source, alloc, context, variables)?;
+            query(
+                condition,
+                alloc,
+                context,
+                variables,
+                *variable,
+                bare(source),
+            )
+        }
+        Expr::Call(function, argument) => {
+            let value = evaluate(argument, alloc, context, variables)?;
+            called(*function, value)
+        }
+        Expr::Nvl(first, second) => {
+            let value = evaluate(first, alloc, context, variables)?;
+            if is_known(&value) {
+                return Ok(value);
+            }
+            evaluate(second, alloc, context, variables)
+        }
+        Expr::Not(inner) => Ok(Datum::Logical(not(evaluate_truth(
+            inner, alloc, context, variables,
+        )?))),
+        Expr::Conjunction(first, others) => {
+            let value = evaluate_truth(first, alloc, context, variables)?;
+            Ok(Datum::Logical(and_all(others, alloc, context, variables, value)?))
+        }
+        Expr::Disjunction(first, others) => {
+            let value = evaluate_truth(first, alloc, context, variables)?;
+            Ok(Datum::Logical(or_all(others, alloc, context, variables, value)?))
+        }
+        Expr::Comparison(left, relation, right) => {
+            let text = string_of(left);
+            let value = evaluate(left, alloc, context, variables)?;
+            let related = related(right, alloc, context, variables, *relation, text, value)?;
+            Ok(Datum::Logical(related))
+        }
+    }
+}
+
+/// What a reference means: SELF or a name, with its qualifiers.
+#[cycle(evaluation)]
+fn referred<'p, 'e, 'r, 't, 's: 'r, 'a>(
+    qualifiers: &[Qualifier<'s>],
+    alloc: Global,
+    context: &Context<'p, 'e, 'r, 't, 's, 'a>,
+    variables: &mut Vec<Variable<'p, 'r>>,
+    root: Root<'s>,
+) -> Result<Datum<'r, Part<'p, 'r>>, AllocError>
+    requires setting { IsSetting context.now.setting.now }
+    ensures { IfOk result (λ d. Gives context.now variables.old.items variables.new.items (datum_of holding d)
+        (λ m. meaning_in context.now m variables.old.items (reference (root_of root.entry)
+        (qualifiers_of qualifiers.now)))) }
+{
+    match root {
+        Root::SelfInstance => {
+            selected(qualifiers, alloc, context, variables, context.me.datum())
+        }
+        Root::Name(name) => named(qualifiers, alloc, context, variables, name),
+    }
+}
+
+/// What a relation says of a string and a value on its left, and an expression on its right.
+#[cycle(evaluation)]
+fn related<'p, 'e, 'r, 't, 's: 'r, 'a>(
+    expression: &Expr<'s>,
+    alloc: Global,
+    context: &Context<'p, 'e, 'r, 't, 's, 'a>,
+    variables: &mut Vec<Variable<'p, 'r>>,
+    relation: Relation,
+    text: Option<AnyString<'s>>,
+    value: Datum<'r, Part<'p, 'r>>,
+) -> Result<Logical, AllocError>
+    requires setting { IsSetting context.now.setting.now }
+    ensures { IfOk result (λ d. Gives context.now variables.old.items variables.new.items d
+        (λ m. related_in context.now m variables.old.items relation
+        (option_map text_of text.entry) (datum_of holding value.entry) (tree_of expression.now))) }
+{
+    if is_in(relation) {
+        return within(expression, alloc, context, variables, text, value);
+    }
+    let right = evaluate(expression, alloc, context, variables)?;
+    Ok(compared(relation, &value, &right))
+}
+
+/// Whether a value is an element of an expression's.
+#[cycle(evaluation)]
+fn is_member<'p, 'e, 'r, 't, 's: 'r, 'a>(
+    expression: &Expr<'s>,
+    alloc: Global,
+    context: &Context<'p, 'e, 'r, 't, 's, 'a>,
+    variables: &mut Vec<Variable<'p, 'r>>,
+    value: &Datum<'r, Part<'p, 'r>>,
+) -> Result<Logical, AllocError>
+    requires setting { IsSetting context.now.setting.now }
+    ensures { IfOk result (λ d. Gives context.now variables.old.items variables.new.items d
+        (λ m. member (datum_of holding value.now)
+        (bare (meaning_in context.now m variables.old.items (tree_of expression.now))))) }
+{
+    let right = bare(evaluate(expression, alloc, context, variables)?);
+    Ok(member(value, &right))
+}
+
+/// What an expression says as an operand of a logical operator.
+#[cycle(evaluation)]
+fn evaluate_truth<'p, 'e, 'r, 't, 's: 'r, 'a>(
+    expression: &Expr<'s>,
+    alloc: Global,
+    context: &Context<'p, 'e, 'r, 't, 's, 'a>,
+    variables: &mut Vec<Variable<'p, 'r>>,
+) -> Result<Logical, AllocError>
+    requires setting { IsSetting context.now.setting.now }
+    ensures { IfOk result (λ d. Gives context.now variables.old.items variables.new.items d
+        (λ m. truth_in context.now m variables.old.items (tree_of expression.now))) }
+{
+    Ok(truth(evaluate(expression, alloc, context, variables)?))
+}
+
+/// AND of a value and some expressions.
+#[cycle(evaluation)]
+fn and_all<'p, 'e, 'r, 't, 's: 'r, 'a>(
+    expressions: &[Expr<'s>],
+    alloc: Global,
+    context: &Context<'p, 'e, 'r, 't, 's, 'a>,
+    variables: &mut Vec<Variable<'p, 'r>>,
+    first: Logical,
+) -> Result<Logical, AllocError>
+    requires setting { IsSetting context.now.setting.now }
+    ensures { IfOk result (λ d. Gives context.now variables.old.items variables.new.items d
+        (λ m. and_all_in context.now m variables.old.items first (trees_of expressions.now))) }
+{
+    let mut value = first;
+    for expression in expressions {
+        value = and(
+            value,
+            evaluate_truth(expression, alloc, context, variables)?,
+        );
+    }
+    Ok(value)
+}
+
+/// OR and XOR of a value and some terms, from left to right.
+#[cycle(evaluation)]
+fn or_all<'p, 'e, 'r, 't, 's: 'r, 'a>(
+    alternatives: &[Alternative<'s>],
+    alloc: Global,
+    context: &Context<'p, 'e, 'r, 't, 's, 'a>,
+    variables: &mut Vec<Variable<'p, 'r>>,
+    first: Logical,
+) -> Result<Logical, AllocError>
+    requires setting { IsSetting context.now.setting.now }
+    ensures { IfOk result (λ d. Gives context.now variables.old.items variables.new.items d
+        (λ m. or_all_in context.now m variables.old.items first (alternatives_of alternatives.now))) }
+{
+    let mut value = first;
+    for alternative in alternatives {
+        let term = evaluate_truth(&alternative.term, alloc, context, variables)?;
+        value = joined(alternative.junction, value, term);
+    }
+    Ok(value)
+}
+
+/// What an expression on the right of IN says of a string and a value on its left.
+#[cycle(evaluation)]
+fn within<'p, 'e, 'r, 't, 's: 'r, 'a>(
+    expression: &Expr<'s>,
+    alloc: Global,
+    context: &Context<'p, 'e, 'r, 't, 's, 'a>,
+    variables: &mut Vec<Variable<'p, 'r>>,
+    text: Option<AnyString<'s>>,
+    value: Datum<'r, Part<'p, 'r>>,
+) -> Result<Logical, AllocError>
+    requires setting { IsSetting context.now.setting.now }
+    ensures { IfOk result (λ d. Gives context.now variables.old.items variables.new.items d
+        (λ m. within_in context.now m variables.old.items (option_map text_of text.entry)
+        (datum_of holding value.entry) (tree_of expression.now))) }
+{
+    match expression {
+        Expr::Parenthesized(inner) => within(inner, alloc, context, variables, text, value),
+        Expr::Aggregate(items) => {
+            if is_known(&value) {
+                among_each(items, alloc, context, variables, &value)
+            } else {
+                Ok(Logical::Unknown)
+            }
+        }
+        Expr::Call(function, argument) => {
+            if !is_typeof(*function) {
+                return is_member(expression, alloc, context, variables, &value);
+            }
+            let argument = evaluate(argument, alloc, context, variables)?;
+            Ok(is_of_type(context, text, argument))
+        }
+        _ => is_member(expression, alloc, context, variables, &value),
+    }
+}
+
+/// Whether a value is equal to one of some expressions.
+#[cycle(evaluation)]
+fn among_each<'p, 'e, 'r, 't, 's: 'r, 'a>(
+    expressions: &[Expr<'s>],
+    alloc: Global,
+    context: &Context<'p, 'e, 'r, 't, 's, 'a>,
+    variables: &mut Vec<Variable<'p, 'r>>,
+    value: &Datum<'r, Part<'p, 'r>>,
+) -> Result<Logical, AllocError>
+    requires setting { IsSetting context.now.setting.now }
+    ensures { IfOk result (λ d. Gives context.now variables.old.items variables.new.items d
+        (λ m. among_each_in context.now m variables.old.items (datum_of holding value.now)
+        (trees_of expressions.now))) }
+{
+    let mut result = Logical::False;
+    for expression in expressions {
+        let other = evaluate(expression, alloc, context, variables)?;
+        result = or(result, equal(value, &other));
+    }
+    Ok(result)
+}
+
+/// What qualifiers select of a value, one after another.
+#[cycle(evaluation)]
+fn selected<'p, 'e, 'r, 't, 's: 'r, 'a>(
+    qualifiers: &[Qualifier<'s>],
+    alloc: Global,
+    context: &Context<'p, 'e, 'r, 't, 's, 'a>,
+    variables: &mut Vec<Variable<'p, 'r>>,
+    value: Datum<'r, Part<'p, 'r>>,
+) -> Result<Datum<'r, Part<'p, 'r>>, AllocError>
+    requires setting { IsSetting context.now.setting.now }
+    ensures { IfOk result (λ d. Gives context.now variables.old.items variables.new.items (datum_of holding d)
+        (λ m. selected_in context.now m variables.old.items (qualifiers_of qualifiers.now)
+        (datum_of holding value.entry))) }
+{
+    let mut value = value;
+    for qualifier in qualifiers {
+        value = select(qualifier, alloc, context, variables, value)?;
+    }
+    Ok(value)
+}
+
+/// What one qualifier selects of a value.
+#[cycle(evaluation)]
+fn select<'p, 'e, 'r, 't, 's: 'r, 'a>(
+    qualifier: &Qualifier<'s>,
+    alloc: Global,
+    context: &Context<'p, 'e, 'r, 't, 's, 'a>,
+    variables: &mut Vec<Variable<'p, 'r>>,
+    value: Datum<'r, Part<'p, 'r>>,
+) -> Result<Datum<'r, Part<'p, 'r>>, AllocError>
+    requires setting { IsSetting context.now.setting.now }
+    ensures { IfOk result (λ d. Gives context.now variables.old.items variables.new.items (datum_of holding d)
+        (λ m. selected_in context.now m variables.old.items (qualifiers_of (qualifier.now ∷ []))
+        (datum_of holding value.entry))) }
+{
+    let value = bare(value);
+    match qualifier {
+        Qualifier::Attribute(name) => {
+            let found = attribute_behind(context, &value, *name);
+            found_or_nothing(found, alloc, context, instance_of(&value))
+        }
+        Qualifier::Group(entity, name) => {
+            let found = group_behind(context, &value, *entity, *name);
+            found_or_nothing(found, alloc, context, instance_of(&value))
+        }
+        Qualifier::Index(index) => {
+            let index = bare(evaluate(index, alloc, context, variables)?);
+            Ok(indexed(&value, &index))
+        }
+    }
+}
+
+/// The value of an attribute of an instance, where there is one.
+#[cycle(evaluation)]
+fn found_value<'p, 'e, 'r, 't, 's: 'r, 'a>(
+    found: Found<'p, 'r>,
+    alloc: Global,
+    context: &Context<'p, 'e, 'r, 't, 's, 'a>,
+    instance: u64,
+) -> Result<Option<Datum<'r, Part<'p, 'r>>>, AllocError>
+    requires setting { IsSetting context.now.setting.now }
+    requires found { IsFound context.now.setting.now found }
+    ensures { IfOk result (λ o. (m : MeantBy context.now) → option_map (datum_of holding) o
+        ≡ worth_in context.now m instance found.entry) }
+{
+    match found {
+        Found::Missing => Ok(None),
+        Found::Value(value) => Ok(Some(value)),
+        Found::Derived(derivation) => { Ok(Some(derived(alloc, context, instance, derivation)?)) }
+    }
+}
+
+/// .. else it is indeterminate.
+#[cycle(evaluation)]
+fn found_or_nothing<'p, 'e, 'r, 't, 's: 'r, 'a>(
+    found: Found<'p, 'r>,
+    alloc: Global,
+    context: &Context<'p, 'e, 'r, 't, 's, 'a>,
+    instance: u64,
+) -> Result<Datum<'r, Part<'p, 'r>>, AllocError>
+    requires setting { IsSetting context.now.setting.now }
+    requires found { IsFound context.now.setting.now found }
+    ensures { IfOk result (λ d. (m : MeantBy context.now) → datum_of holding d
+        ≡ or_nothing (worth_in context.now m instance found.entry)) }
+{
+    match found_value(found, alloc, context, instance)? {
+        Some(value) => Ok(value),
+        None => Ok(Datum::Indeterminate),
+    }
+}
+
+/// The value of a derived attribute of an instance; indeterminate where its rank isn't below the
+/// limit, or it is set aside.
+#[cycle(evaluation)]
+fn derived<'p, 'e, 'r, 't, 's: 'r, 'a>(
+    alloc: Global,
+    context: &Context<'p, 'e, 'r, 't, 's, 'a>,
+    instance: u64,
+    derivation: Derivation,
+) -> Result<Datum<'r, Part<'p, 'r>>, AllocError>
+    requires setting { IsSetting context.now.setting.now }
+    requires number { HasNumber (schema_in context.now.setting.now)
+        (name_at (schema_in context.now.setting.now) derivation.entity) derivation.entity }
+    ensures { IfOk result (λ d. (m : MeantBy context.now) → datum_of holding d
+        ≡ derived_in context.now m instance derivation) }
+{
+    let Some(formula) = context.setting.formula(derivation) else {
+        return Ok(Datum::Indeterminate);
+    };
+    if formula.rank as u64 >= context.limit {
+        return Ok(Datum::Indeterminate);
+    }
+    let me: Element<'p, 'r> = Element::Instance(instance);
+    let inner = Context {
+        setting: context.setting,
+        me,
+        limit: formula.rank as u64,
+    };
+    let mut variables: Vec<Variable<'p, 'r>> = Vec::new(alloc);
+    evaluate(formula.expression, alloc, &inner, &mut variables)
+}
+
+/// What a name with qualifiers means: a variable, else an attribute of SELF, else an item.
+#[cycle(evaluation)]
+fn named<'p, 'e, 'r, 't, 's: 'r, 'a>(
+    qualifiers: &[Qualifier<'s>],
+    alloc: Global,
+    context: &Context<'p, 'e, 'r, 't, 's, 'a>,
+    variables: &mut Vec<Variable<'p, 'r>>,
+    name: Word<'s>,
+) -> Result<Datum<'r, Part<'p, 'r>>, AllocError>
+    requires setting { IsSetting context.now.setting.now }
+    ensures { IfOk result (λ d. Gives context.now variables.old.items variables.new.items (datum_of holding d)
+        (λ m. named_in context.now m variables.old.items (capitals name.entry)
+        (qualifiers_of qualifiers.now))) }
+{
+    if let Some(value) = find(variables, name) {
+        return selected(qualifiers, alloc, context, variables, value);
+    }
+    let me = bare(context.me.datum());
+    let found = attribute_behind(context, &me, name);
+    match found_value(found, alloc, context, instance_of(&me))? {
+        Some(value) => selected(qualifiers, alloc, context, variables, value),
+        None => item_behind(qualifiers, alloc, context, variables, name),
+    }
+}
+
+/// An item of an enumeration, or of one that is named before it.
+#[cycle(evaluation)]
+fn item_behind<'p, 'e, 'r, 't, 's: 'r, 'a>(
+    qualifiers: &[Qualifier<'s>],
+    alloc: Global,
+    context: &Context<'p, 'e, 'r, 't, 's, 'a>,
+    variables: &mut Vec<Variable<'p, 'r>>,
+    name: Word<'s>,
+) -> Result<Datum<'r, Part<'p, 'r>>, AllocError>
+    requires setting { IsSetting context.now.setting.now }
+    ensures { IfOk result (λ d. Gives context.now variables.old.items variables.new.items (datum_of holding d)
+        (λ m. item_in context.now m variables.old.items (capitals name.entry)
+        (qualifiers_of qualifiers.now))) }
+{
+    let Some((first, others)) = qualifiers.split_first() else {
+        return Ok(item_value(context, name));
+    };
+    match first {
+        Qualifier::Attribute(item) => {
+            if context.setting.is_item_of(name, *item) {
+                selected(others, alloc, context, variables, Datum::Element(*item))
+            } else {
+                Ok(Datum::Indeterminate)
+            }
+        }
+        _ => Ok(Datum::Indeterminate),
+    }
+}
+
+/// Those elements of a value at which a condition is TRUE, where it is an aggregate.
+#[cycle(evaluation)]
+fn query<'p, 'e, 'r, 't, 's: 'r, 'a>(
+    condition: &Expr<'s>,
+    alloc: Global,
+    context: &Context<'p, 'e, 'r, 't, 's, 'a>,
+    variables: &mut Vec<Variable<'p, 'r>>,
+    name: Word<'s>,
+    source: Datum<'r, Part<'p, 'r>>,
+) -> Result<Datum<'r, Part<'p, 'r>>, AllocError>
+    requires setting { IsSetting context.now.setting.now }
+    ensures { IfOk result (λ d. Gives context.now variables.old.items variables.new.items (datum_of holding d)
+        (λ m. queried_in context.now m variables.old.items (capitals name.entry)
+        (tree_of condition.now) (datum_of holding source.entry))) }
+{
+    let Datum::Aggregate(part) = source else {
+        return Ok(Datum::Indeterminate);
+    };
+    let kept = passing(condition, alloc, context, variables, name, &part)?;
+    Ok(Datum::Aggregate(part.keep(kept)))
+}
+
+/// The indices, in the whole of an aggregate, of its elements at which a condition is TRUE.
+#[cycle(evaluation)]
+fn passing<'p, 'e, 'r, 't, 's: 'r, 'a>(
+    condition: &Expr<'s>,
+    alloc: Global,
+    context: &Context<'p, 'e, 'r, 't, 's, 'a>,
+    variables: &mut Vec<Variable<'p, 'r>>,
+    name: Word<'s>,
+    source: &Part<'p, 'r>,
+) -> Result<Vec<usize>, AllocError>
+    requires setting { IsSetting context.now.setting.now }
+    ensures { IfOk result (λ kept. Gives context.now variables.old.items variables.new.items
+        (picked kept.items (whole_elements source.now))
+        (λ m. filtered_in context.now m variables.old.items (capitals name.entry) (tree_of condition.now)
+        (holding source.now).elements)) }
+{
+    let mut kept = Vec::new(alloc);
+    for i in 0..source.len() {
+        let variable = Variable {
+            name,
+            value: source.element_value(i),
+        };
+        let holds = passes(condition, alloc, context, variables, variable)?;
+        keep_if(&mut kept, holds, source.whole_index(i))?;
+    }
+    Ok(kept)
+}
+
+/// Whether a condition is TRUE at the value of a variable.
+#[cycle(evaluation)]
+fn passes<'p, 'e, 'r, 't, 's: 'r, 'a>(
+    condition: &Expr<'s>,
+    alloc: Global,
+    context: &Context<'p, 'e, 'r, 't, 's, 'a>,
+    variables: &mut Vec<Variable<'p, 'r>>,
+    variable: Variable<'p, 'r>,
+) -> Result<bool, AllocError>
+    requires setting { IsSetting context.now.setting.now }
+    ensures { IfOk result (λ holds. Gives context.now variables.old.items variables.new.items holds
+        (λ m. passes_in context.now m variables.old.items (capitals variable.entry.name)
+        (tree_of condition.now) (element_datum variable.entry.value))) }
+{
+    variables.push(variable)?;
+    let value = evaluate(condition, alloc, context, variables)?;
+    variables.pop();
+    Ok(is_true(value))
+}
+
+/// One index more, where it is kept.
+fn keep_if(kept: &mut Vec<usize>, holds: bool, index: usize) -> Result<(), AllocError>
+    ensures { OnOk result (kept.new.items
+        ≡ (if holds then kept.old.items ++ index ∷ [] else kept.old.items)) }
+{
+    if holds {
+        kept.push(index)?;
+    }
+    Ok(())
+}

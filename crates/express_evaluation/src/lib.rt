@@ -1,0 +1,9 @@
+//! What expressions are worth at the instances of a population (ISO 10303-11, 12).
+#![tactic(auto)]
+
+pub mod context;
+pub mod evaluate;
+pub mod literals;
+pub mod operations;
+pub mod qualifiers;
+pub mod variables;

@@ -1,0 +1,80 @@
+//! Attributes that have their values at once, and names of items.
+
+ghost use Rattle.std.specs.Prelude.{◌≡◌};
+ghost use Rattle.std.specs.Option.{option_map};
+ghost use Rattle.express_trees.specs.Views.{capitals};
+ghost use Rattle.express_logic.specs.Views.{datum_of};
+ghost use Rattle.express_meanings.specs.Expressions.{item_value, instance_attribute, instance_group};
+ghost use Rattle.held_values.specs.Parts.{holding};
+ghost use Rattle.express_settings.specs.Settings.{IsSetting, IsFound, or_nothing};
+ghost use Rattle.express_evaluation.specs.Contexts.{MeantBy, setting_in, worth_in, instance_of};
+
+use crate::context::Context;
+use express_logic::datum::Datum;
+use express_settings::attributes::Found;
+use held_values::part::Part;
+use step_literals::literal::Word;
+
+/// Where the value of an attribute of an instance comes from; nothing of what is no instance.
+pub(crate) fn attribute_behind<'p, 'r>(
+    context: &Context<'p, '_, 'r, '_, '_, '_>,
+    value: &Datum<'r, Part<'p, 'r>>,
+    name: Word<'_>,
+) -> Found<'p, 'r>
+    requires setting { IsSetting context.now.setting.now }
+    ensures worth { (m : MeantBy context.now)
+        → worth_in context.now m (instance_of (datum_of holding value.now)) result
+        ≡ instance_attribute (setting_in context.now m) (datum_of holding value.now) (capitals name.entry) }
+    ensures found { IsFound context.now.setting.now result }
+{
+    match value {
+        Datum::Instance(instance) => context.setting.attribute(*instance, name),
+        _ => Found::Missing,
+    }
+}
+
+/// .. of the attribute that a group means.
+pub(crate) fn group_behind<'p, 'r>(
+    context: &Context<'p, '_, 'r, '_, '_, '_>,
+    value: &Datum<'r, Part<'p, 'r>>,
+    entity: Word<'_>,
+    name: Word<'_>,
+) -> Found<'p, 'r>
+    requires setting { IsSetting context.now.setting.now }
+    ensures worth { (m : MeantBy context.now)
+        → or_nothing (worth_in context.now m (instance_of (datum_of holding value.now)) result)
+        ≡ instance_group (setting_in context.now m) (datum_of holding value.now)
+        (capitals entity.entry) (capitals name.entry) }
+    ensures found { IsFound context.now.setting.now result }
+{
+    match value {
+        Datum::Instance(instance) => context.setting.attribute_of(*instance, entity, name),
+        _ => Found::Missing,
+    }
+}
+
+/// The instance that a value is; 0 where it is none.
+pub(crate) fn instance_of(value: &Datum<'_, Part<'_, '_>>) -> u64
+    ensures { result ≡ instance_of (datum_of holding value.now) }
+{
+    match value {
+        Datum::Instance(instance) => *instance,
+        _ => 0,
+    }
+}
+
+/// An item of an enumeration of this name.
+pub(crate) fn item_value<'p, 'r, 's: 'r>(
+    context: &Context<'p, '_, 'r, '_, 's, '_>,
+    name: Word<'s>,
+) -> Datum<'r, Part<'p, 'r>>
+    requires setting { IsSetting context.now.setting.now }
+    ensures { (m : MeantBy context.now) → datum_of holding result ≡ item_value
+        (setting_in context.now m) (capitals name.entry) }
+{
+    if context.setting.is_item(name) {
+        Datum::Element(name)
+    } else {
+        Datum::Indeterminate
+    }
+}

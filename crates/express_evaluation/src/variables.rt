@@ -1,0 +1,37 @@
+//! The variables of queries (ISO 10303-11, 12.6.7).
+
+ghost use Rattle.std.specs.Prelude.{◌≡◌};
+ghost use Rattle.std.specs.Option.{option_map};
+ghost use Rattle.express_trees.specs.Views.{capitals};
+ghost use Rattle.express_logic.specs.Views.{datum_of};
+ghost use Rattle.express_meanings.specs.Expressions.{variable};
+ghost use Rattle.held_values.specs.Parts.{holding};
+ghost use Rattle.express_evaluation.specs.Scopes.{variables_of};
+
+use express_logic::datum::Datum;
+use held_values::element::Element;
+use held_values::part::Part;
+use step_literals::literal::Word;
+
+/// A variable of a query.
+#[derive(Drop)]
+pub struct Variable<'p, 'r> {
+    pub name: Word<'r>,
+    pub value: Element<'p, 'r>,
+}
+
+/// The value of the innermost variable of this name, the last of all; none where there is none.
+pub(crate) fn find<'p, 'r>(
+    variables: &[Variable<'p, 'r>],
+    name: Word<'_>,
+) -> Option<Datum<'r, Part<'p, 'r>>>
+    ensures { option_map (datum_of holding) result
+        ≡ variable (variables_of variables.now) (capitals name.entry) }
+{
+    let (last, others) = variables.split_last()?;
+    if name == last.name {
+        Some(last.value.datum())
+    } else {
+        find(others, name)
+    }
+}

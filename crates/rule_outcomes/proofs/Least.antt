@@ -1,0 +1,28 @@
+-- The least of some logicals, the last first.
+use Rattle.std.specs.Prelude.{◌≡◌, ◌<◌, ℕ, List, [], ◌∷◌, ◌++◌, length, map}
+use Rattle.std.proofs.Common.{refl, ap, ◌∙◌, arith}
+use Rattle.express_trees.specs.declared.tree.Logical.{Logical}
+use Rattle.express_trees.specs.declared.tree.Logical.TheVariants.{True}
+use Rattle.express_logic.specs.Logic.{both}
+use Rattle.express_meanings.specs.Findings.{least}
+
+-- .. and this behind them
+abbrev pub least_with : List Logical → Logical → Logical
+least_with [] q = q
+least_with (p ∷ ps) q = both p (least_with ps q)
+
+pub with-last : (ps : List Logical) (p q : Logical) → least_with (ps ++ p ∷ []) q ≡ least_with ps (both p q)
+with-last [] p q = refl
+with-last (o ∷ ps) p q = ap (both o) (with-last ps p q)
+
+pub with-true : (ps : List Logical) → least_with ps True ≡ least ps
+with-true [] = refl
+with-true (p ∷ ps) = ap (both p) (with-true ps)
+
+pub map-last : {A B : Type 0} (f : A → B) (xs : List A) (x : A) → map f (xs ++ x ∷ []) ≡ map f xs ++ f x ∷ []
+map-last f [] x = refl
+map-last f (y ∷ xs) x = ap (λ l. f y ∷ l) (map-last f xs x)
+
+pub no-items : {A : Type 0} (xs : List A) → length xs ≡ 0 → xs ≡ []
+no-items [] h = refl
+no-items (x ∷ xs) h = absurd (omega (arith, h))

@@ -1,0 +1,21 @@
+use Rattle.std.proofs.Common.{◌≡◌, ◌∙◌, [], ap}
+use Rattle.express_trees.specs.Views.{tree_of}
+use Rattle.express_logic.specs.Data.{truth}
+use Rattle.express_meanings.specs.Expressions.{means}
+use Rattle.express_meanings.specs.Operations.{says}
+use Rattle.held_values.specs.Parts.{element_datum}
+use Rattle.express_settings.specs.Settings.{setting_by, below_rank}
+use Rattle.express_evaluation.specs.Scopes.{variables_of}
+use Rattle.rule_outcomes.proofs.Settled.{meant-whole}
+use Rattle.rule_outcomes.proofs.outcome.said_of.Goals as goal
+
+pub returns : goal.returns
+returns c =
+    let S = c.args.asked.now.setting.now in
+    let n = c.args.asked.now.limit in
+    let me = element_datum c.args.me in
+    let x = tree_of c.args.rule.now.condition.now in
+    λ m. c.truth.ensures ∙ ap truth c.bare.ensures
+    ∙ ap says (c.in_ok-value.ensures.0 m
+    ∙ ap (λ vs. means (setting_by S m (below_rank S m n)) vs me x) (ap variables_of c.new-variables.ensures.items)
+    ∙ meant-whole S m c.requires.setting n c.requires.limit [] me x)

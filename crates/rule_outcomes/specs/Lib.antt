@@ -1,0 +1,4 @@
+pub mod Limits
+pub mod Outcomes
+pub mod Applying
+pub mod Counting

@@ -1,0 +1,146 @@
+//! Domain rules are checked.
+
+ghost use Rattle.std.specs.Prelude.{◌≡◌, ◌<◌, ◌∷◌, [], Some, length, map, slice_get, IfOk, OnOk};
+ghost use Rattle.express_schemas.specs.Profile.{Every};
+ghost use Rattle.conformance.specs.Populations.{Instance};
+ghost use Rattle.rule_findings.specs.Findings.{AreFindingsOf};
+ghost use Rattle.rule_findings.specs.declared.finding.RuleFindingKind.TheVariants.{WhereFalse};
+ghost use Rattle.domain_rules.specs.Seen.{rule_seen, IsNumbered};
+ghost use Rattle.express_meanings.specs.Findings.{rule_findings, unknown};
+ghost use Rattle.express_settings.specs.Settings.{IsSetting, Meant, schema_in, population_in};
+ghost use Rattle.rule_outcomes.specs.Limits.{IsLimit};
+ghost use Rattle.rule_outcomes.specs.Outcomes.{outcome_in};
+ghost use Rattle.rule_outcomes.specs.Counting.{
+  capped,
+  Counts,
+  broken_by,
+  open_by,
+  broken_at,
+  open_at,
+};
+
+use crate::applying::numbers_by_form;
+use crate::limit::rank_limit;
+use crate::outcome::{Asked, outcome};
+use crate::report::RuleReport;
+use domain_rules::rule::{DomainRule, RuleHolder};
+use express_logic::logical::Logical;
+use express_settings::setting::Setting;
+use rule_findings::finding::{RuleFinding, RuleFindingKind};
+use std::alloc::{AllocError, Global};
+use step_extent::inverses::row_at;
+
+/// The number of what states a rule.
+fn holder_number(holder: RuleHolder) -> u32
+    ensures { result ≡ Rattle.rule_outcomes.specs.Counting.holder_number holder }
+{
+    match holder {
+        RuleHolder::Entity(number) => number,
+        RuleHolder::Type(number) => number,
+    }
+}
+
+/// Adds what a rule says of the instance of a name.
+fn add_outcome<'s>(
+    report: &mut RuleReport<'s>,
+    setting: &Setting<'_, '_, '_, '_, 's, '_>,
+    name: u64,
+    rule: &DomainRule<'_, 's>,
+    outcome: Logical,
+) -> Result<(), AllocError>
+    requires numbered { IsNumbered (schema_in setting.now) rule.now }
+    ensures { OnOk result (Counts (broken_by (schema_in setting.now) name rule.now outcome)
+        (length (open_by (schema_in setting.now) rule.now outcome)) report.old report.new) }
+{
+    match outcome {
+        Logical::False => {
+            let rule = setting
+                .extents
+                .label(holder_number(rule.holder), rule.label);
+            report.findings.push(RuleFinding {
+                kind: RuleFindingKind::WhereFalse,
+                instance: name,
+                rule,
+            })?;
+            Ok(())
+        }
+        Logical::Unknown => {
+            report.unknown = report.unknown.saturating_add(1);
+            Ok(())
+        }
+        Logical::True => Ok(()),
+    }
+}
+
+/// Adds what the rules of these numbers say at the instance of a row, which has this name.
+fn add_instance<'p, 'e, 'r, 't, 's: 'r, 'a>(
+    alloc: Global,
+    asked: &Asked<'p, 'e, 'r, 't, 's, 'a>,
+    report: &mut RuleReport<'s>,
+    rules: &[DomainRule<'t, 's>],
+    row: usize,
+    name: u64,
+    numbers: &[usize],
+) -> Result<(), AllocError>
+    requires setting { IsSetting asked.now.setting.now }
+    requires limit { IsLimit asked.now.setting.now.formulas.now asked.now.limit }
+    requires numbered { Every (IsNumbered (schema_in asked.now.setting.now)) rules.now }
+    requires row { row < length (population_in asked.now.setting.now) }
+    requires within { Every (λ n. n < length rules.now) numbers.now }
+    ensures { OnOk result ((m : Meant asked.now.setting.now) → (x : Instance)
+        → slice_get (population_in asked.now.setting.now) row ≡ Some x → name ≡ x.name
+        → Counts (broken_at asked.now.setting.now m x rules.now numbers.now)
+        (length (open_at asked.now.setting.now m x rules.now numbers.now)) report.old report.new) }
+{
+    for number in numbers {
+        let rule = &rules[*number];
+        let outcome = outcome(alloc, asked, row, rule)?;
+        add_outcome(report, asked.setting, name, rule, outcome)?;
+    }
+    Ok(())
+}
+
+/// The instances at which domain rules are FALSE, by instance in the order of the file, then by rule
+/// in the order of the text; and how many pairs of an instance and a rule are UNKNOWN
+/// (ISO 10303-11, 9.1 and 9.2.2.2).
+///
+/// An error says that memory ran out.
+pub fn check_rules<'p, 'e, 'r, 't, 's: 'r, 'a>(
+    alloc: Global,
+    setting: &'p Setting<'p, 'e, 'r, 't, 's, 'a>,
+    rules: &[DomainRule<'t, 's>],
+) -> Result<RuleReport<'s>, AllocError>
+    requires setting { IsSetting setting.now }
+    requires numbered { Every (IsNumbered (schema_in setting.now)) rules.now }
+    ensures findings { IfOk result (λ r. (m : Meant setting.entry.now) → AreFindingsOf WhereFalse
+        (rule_findings (schema_in setting.entry.now) m.domain m.entities m.attributes
+        (population_in setting.entry.now) (map (rule_seen (schema_in setting.entry.now)) rules.now))
+        r.findings.items) }
+    ensures unknown { IfOk result (λ r. (m : Meant setting.entry.now) → r.unknown
+        ≡ capped (unknown (schema_in setting.entry.now) m.domain m.entities m.attributes
+        (population_in setting.entry.now)
+        (map (rule_seen (schema_in setting.entry.now)) rules.now))) }
+{
+    let limit = rank_limit(setting.formulas);
+    let asked = Asked { setting, limit };
+    let population = setting.extents.population;
+    let rows = numbers_by_form(alloc, rules, population.forms())?;
+    let mut report = RuleReport {
+        findings: Vec::new(alloc),
+        unknown: 0,
+    };
+    for row in 0..population.len() {
+        let instance = population.instance(row);
+        let numbers = row_at(&rows, instance.form);
+        add_instance(
+            alloc,
+            &asked,
+            &mut report,
+            rules,
+            row,
+            instance.name,
+            numbers,
+        )?;
+    }
+    Ok(report)
+}
