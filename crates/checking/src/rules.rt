@@ -14,6 +14,7 @@ use derivation_formulas::existing::formulas_are_said;
 use express_settings::setting::Setting;
 use express_types::graph::TypeGraph;
 use express_types::judging::DomainTables;
+use form_sources::table::FormSources;
 use resolved_types::types::ResolvedTypes;
 use rule_outcomes::check::check_rules;
 use rule_outcomes::report::RuleReport;
@@ -74,9 +75,13 @@ fn domain_findings<'e, 'r, 't, 's: 'r, 'a>(
 {
     let types = extents.population.types;
     rules_are_said(types, extents.rules, domain, firsts, tables, settings);
+    let inverses = extents.rules.inverses.as_slice();
+    let forms = extents.population.forms();
+    let sources = FormSources::of(alloc, types, &settings.sources, inverses, forms)?;
     let setting = Setting {
         extents,
         tables: settings,
+        forms: &sources,
         formulas: &domain.formulas,
         firsts,
     };

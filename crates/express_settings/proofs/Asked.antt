@@ -38,6 +38,16 @@ module _ (s : Schema) (d : Domain) (en : Entities) (attributes : Attributes) (is
       by (Some x) at (Some i) e =
           ap Some (e ∙ ap (λ n. referring i.gathering (inverse_value is i n)) (sym (at_name y is x at).1))
 
+  -- where no type declares the attribute, nothing is found
+  pub is_missing : (y : ℕ) (a : Name) → None ≡ attributes.source (types_at is y) a
+      → None ≡ attribute_in s d en attributes is computed (instance_at is y) a
+  is_missing y a h = by (instance_at is y) h
+    where
+      by : (o : Option Instance) → None ≡ attributes.source (types_in o) a
+          → None ≡ attribute_in s d en attributes is computed o a
+      by None h = refl
+      by (Some i) h = ap (λ q. found q (value_from s d en attributes is computed i)) h
+
   module _ (inverses : List InverseAttribute) (are : AreAttributes s inverses attributes) (y : ℕ) (types : List Name) (known : types ≡ types_at is y) (a : Name) where
     -- no type, no attribute
     nothing_named : (x : Source) → attributes.source [] a ≡ Some x → ⊥

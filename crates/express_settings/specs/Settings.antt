@@ -22,6 +22,7 @@ use Rattle.held_values.specs.Parts.{holding}
 use Rattle.attribute_sources.specs.declared.source.Derivation.{Derivation as NumberedDerivation}
 use Rattle.attribute_sources.specs.Seen.{inverses_seen, derivation_seen}
 use Rattle.attribute_sources.specs.Tables.{IsKnown}
+use Rattle.form_sources.specs.Sources.{AreFormSources}
 use Rattle.derivation_ranks.specs.Firsts.{AreFirsts}
 use Rattle.derivation_formulas.specs.Formulas.{AreFormulas}
 use Rattle.setting_tables.specs.Tables.{AreSettingTables}
@@ -45,6 +46,7 @@ derivation_in S e = derivation_seen (schema_in S) e
 pub record IsSetting (S : Setting) : Type 0 where
   pub known : IsKnown S.extents.now.population.now.types.now S.tables.now.sources S.extents.now.rules.now.inverses.items
   pub tables : AreSettingTables S.extents.now.population.now.types.now S.tables.now
+  pub forms : AreFormSources (schema_in S) (inverses_in S) S.extents.now.population.now.rows.forms.items S.forms.now
   pub formulas : AreFormulas (schema_in S) S.formulas.now
   pub firsts : AreFirsts (schema_in S) S.firsts.now
 

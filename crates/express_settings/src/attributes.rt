@@ -1,6 +1,7 @@
 //! The values of attributes of instances (ISO 10303-11, 12.7.3 and 12.7.4).
 
-ghost use Rattle.std.specs.Prelude.{◌≡◌, ◌<◌, ℕ, Some, length, slice_get};
+ghost use Rattle.std.specs.Prelude.{◌≡◌, ◌<◌, ℕ, Some, length, slice_get, IfSome};
+ghost use Rattle.std.specs.Option.{option_map};
 ghost use Rattle.express_trees.specs.Views.{capitals};
 ghost use Rattle.type_graphs.specs.Attributes as attributes;
 ghost use Rattle.attribute_places.specs.Places.{all_places};
@@ -10,7 +11,8 @@ ghost use Rattle.express_logic.specs.Views.{datum_of};
 ghost use Rattle.express_meanings.specs.Meanings.{instances, referring};
 ghost use Rattle.express_meanings.specs.Operations.{only};
 ghost use Rattle.held_values.specs.Parts.{holding};
-ghost use Rattle.attribute_sources.specs.Seen.{IsNumbered};
+ghost use Rattle.attribute_sources.specs.Seen.{IsNumbered, source_seen};
+ghost use Rattle.conformance.specs.Populations.{types_at};
 ghost use Rattle.express_settings.specs.Settings.{
   IsSetting,
   Meant,
@@ -134,6 +136,30 @@ impl<'p, 'e, 'r, 't, 's: 'r, 'a> Setting<'p, 'e, 'r, 't, 's, 'a> {
         }
     }
 
+    /// Where an instance has the value of its attribute of this name; none where it has none.
+    fn source(&self, instance: u64, name: Word<'_>) -> Option<Source>
+        requires setting { IsSetting self.now }
+        ensures value { (m : Meant self.now)
+            → option_map (source_seen (schema_in self.now) (inverses_in self.now)) result
+            ≡ m.attributes.source (types_at (population_in self.now) instance)
+            (capitals name.entry) }
+        ensures numbered { IfSome result (IsNumbered (schema_in self.now)
+            (inverses_in self.now)) }
+    {
+        let population = self.extents.population;
+        match self.forms.find(population.form_of(instance), name) {
+            Some(source) => Some(source),
+            None => {
+                self.tables.sources.source(
+                    population.types,
+                    &self.extents.rules.inverses,
+                    population.types_of(instance),
+                    name,
+                )
+            }
+        }
+    }
+
     /// The value that an instance has of its attribute of this name, where it isn't derived
     /// (ISO 10303-11, 12.7.3). It takes no memory.
     pub fn attribute(&self, instance: u64, name: Word<'_>) -> Found<'p, 'r>
@@ -143,13 +169,7 @@ impl<'p, 'e, 'r, 't, 's: 'r, 'a> Setting<'p, 'e, 'r, 't, 's, 'a> {
             ≡ attribute_by self.now m computed instance (capitals name.entry) }
         ensures found { IsFound self.now result }
     {
-        let population = self.extents.population;
-        match self.tables.sources.source(
-            population.types,
-            &self.extents.rules.inverses,
-            population.types_of(instance),
-            name,
-        ) {
+        match self.source(instance, name) {
             Some(source) => self.found(instance, source),
             None => Found::Missing,
         }

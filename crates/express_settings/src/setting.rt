@@ -1,6 +1,7 @@
 //! A population, and what expressions ask of its schema.
 
 use derivation_formulas::formula::Formula;
+use form_sources::table::FormSources;
 use setting_tables::tables::SettingTables;
 use step_extent::extents::Extents;
 
@@ -9,6 +10,8 @@ use step_extent::extents::Extents;
 pub struct Setting<'p, 'e, 'r, 't, 's, 'a> {
     pub extents: &'p Extents<'e, 'r, 't, 's, 'a>,
     pub tables: &'p SettingTables<'r, 's>,
+    /// By form of an instance, where the values of its attributes are.
+    pub forms: &'p FormSources<'s>,
     /// By number of a derived attribute, how it is computed; none for one that is set aside.
     pub formulas: &'p [Option<Formula<'t, 's>>],
     /// By declaration, how many derived attributes stand before it.

@@ -2,9 +2,12 @@
 use Rattle.std.specs.Prelude.{◌≡◌, ◌<◌, ℕ, List, [], ◌∷◌, ◌++◌, length, map}
 use Rattle.std.proofs.Common.{refl, ap, ◌∙◌, arith}
 use Rattle.express_trees.specs.declared.tree.Logical.{Logical}
-use Rattle.express_trees.specs.declared.tree.Logical.TheVariants.{True}
+use Rattle.express_trees.specs.declared.tree.Logical.TheVariants.{False, Unknown, True}
 use Rattle.express_logic.specs.Logic.{both}
+use Rattle.express_logic.specs.Data.{instance}
 use Rattle.express_meanings.specs.Findings.{least}
+use Rattle.held_values.specs.declared.element.Element.TheVariants as elements
+use Rattle.held_values.specs.Parts.{element_datum}
 
 -- .. and this behind them
 abbrev pub least_with : List Logical → Logical → Logical
@@ -26,3 +29,12 @@ map-last f (y ∷ xs) x = ap (λ l. f y ∷ l) (map-last f xs x)
 pub no-items : {A : Type 0} (xs : List A) → length xs ≡ 0 → xs ≡ []
 no-items [] h = refl
 no-items (x ∷ xs) h = absurd (omega (arith, h))
+
+pub least-one : (p : Logical) → least (p ∷ []) ≡ p
+least-one False = refl
+least-one Unknown = refl
+least-one True = refl
+
+pub instance-worth : (n : ℕ) → element_datum (elements.Instance n) ≡ instance n
+unfolding element_datum
+instance-worth n = refl

@@ -3,3 +3,5 @@ pub mod Settled
 pub mod Least
 pub mod Telling
 pub mod Counted
+pub mod Wanting
+pub mod Covering

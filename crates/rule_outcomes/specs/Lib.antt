@@ -2,3 +2,5 @@ pub mod Limits
 pub mod Outcomes
 pub mod Applying
 pub mod Counting
+pub mod Wanted
+pub mod Planning

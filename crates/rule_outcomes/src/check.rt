@@ -1,6 +1,6 @@
 //! Domain rules are checked.
 
-ghost use Rattle.std.specs.Prelude.{◌≡◌, ◌<◌, ◌∷◌, [], Some, length, map, slice_get, IfOk, OnOk};
+ghost use Rattle.std.specs.Prelude.{◌≡◌, ◌<◌, Some, length, map, flat_map, slice_get, IfOk, OnOk};
 ghost use Rattle.express_schemas.specs.Profile.{Every};
 ghost use Rattle.conformance.specs.Populations.{Instance};
 ghost use Rattle.rule_findings.specs.Findings.{AreFindingsOf};
@@ -9,7 +9,7 @@ ghost use Rattle.domain_rules.specs.Seen.{rule_seen, IsNumbered};
 ghost use Rattle.express_meanings.specs.Findings.{rule_findings, unknown};
 ghost use Rattle.express_settings.specs.Settings.{IsSetting, Meant, schema_in, population_in};
 ghost use Rattle.rule_outcomes.specs.Limits.{IsLimit};
-ghost use Rattle.rule_outcomes.specs.Outcomes.{outcome_in};
+ghost use Rattle.rule_outcomes.specs.Planning.{IsPlan, TellAll};
 ghost use Rattle.rule_outcomes.specs.Counting.{
   capped,
   Counts,
@@ -17,12 +17,16 @@ ghost use Rattle.rule_outcomes.specs.Counting.{
   open_by,
   broken_at,
   open_at,
+  broken_in,
+  open_in,
+  Has,
 };
 
-use crate::applying::numbers_by_form;
 use crate::limit::rank_limit;
 use crate::outcome::{Asked, outcome};
+use crate::plan::{Plan, plan_of, types_at};
 use crate::report::RuleReport;
+use crate::wanted::table_at;
 use domain_rules::rule::{DomainRule, RuleHolder};
 use express_logic::logical::Logical;
 use express_settings::setting::Setting;
@@ -72,32 +76,90 @@ fn add_outcome<'s>(
     }
 }
 
-/// Adds what the rules of these numbers say at the instance of a row, which has this name.
+/// An instance, and the rules that are tried there.
+#[derive(Drop)]
+struct Tried<'n> {
+    pub row: usize,
+    pub name: u64,
+    /// The numbers of the rules.
+    pub numbers: &'n [usize],
+    /// The numbers of the defined types of its values.
+    pub types: &'n [u32],
+}
+
+/// Adds what rules say at an instance.
 fn add_instance<'p, 'e, 'r, 't, 's: 'r, 'a>(
     alloc: Global,
     asked: &Asked<'p, 'e, 'r, 't, 's, 'a>,
     report: &mut RuleReport<'s>,
-    rules: &[DomainRule<'t, 's>],
-    row: usize,
-    name: u64,
-    numbers: &[usize],
+    plan: &Plan<'_, 't, 's>,
+    tried: &Tried<'_>,
 ) -> Result<(), AllocError>
     requires setting { IsSetting asked.now.setting.now }
     requires limit { IsLimit asked.now.setting.now.formulas.now asked.now.limit }
-    requires numbered { Every (IsNumbered (schema_in asked.now.setting.now)) rules.now }
-    requires row { row < length (population_in asked.now.setting.now) }
-    requires within { Every (λ n. n < length rules.now) numbers.now }
+    requires plan { IsPlan (schema_in asked.now.setting.now)
+        asked.now.setting.now.extents.now.population.now.rows.forms.items plan.now }
+    requires row { tried.now.row < length (population_in asked.now.setting.now) }
+    requires within { Every (λ n. n < length plan.now.rules.now) tried.now.numbers.now }
     ensures { OnOk result ((m : Meant asked.now.setting.now) → (x : Instance)
-        → slice_get (population_in asked.now.setting.now) row ≡ Some x → name ≡ x.name
-        → Counts (broken_at asked.now.setting.now m x rules.now numbers.now)
-        (length (open_at asked.now.setting.now m x rules.now numbers.now)) report.old report.new) }
+        → slice_get (population_in asked.now.setting.now) tried.now.row ≡ Some x
+        → tried.now.name ≡ x.name
+        → TellAll asked.now.setting.now m x tried.now.types.now plan.now.rules.now
+        → Counts (broken_at asked.now.setting.now m x plan.now.rules.now tried.now.numbers.now)
+        (length (open_at asked.now.setting.now m x plan.now.rules.now tried.now.numbers.now))
+        report.old report.new) }
 {
-    for number in numbers {
-        let rule = &rules[*number];
-        let outcome = outcome(alloc, asked, row, rule)?;
-        add_outcome(report, asked.setting, name, rule, outcome)?;
+    for number in tried.numbers {
+        let rule = &plan.rules[*number];
+        let table = table_at(&plan.tables, *number);
+        let outcome = outcome(
+            alloc,
+            asked,
+            tried.row,
+            tried.name,
+            rule,
+            table,
+            tried.types,
+        )?;
+        add_outcome(report, asked.setting, tried.name, rule, outcome)?;
     }
     Ok(())
+}
+
+/// What rules say at all instances.
+fn planned_report<'p, 'e, 'r, 't, 's: 'r, 'a>(
+    alloc: Global,
+    asked: &Asked<'p, 'e, 'r, 't, 's, 'a>,
+    plan: &Plan<'_, 't, 's>,
+) -> Result<RuleReport<'s>, AllocError>
+    requires setting { IsSetting asked.now.setting.now }
+    requires limit { IsLimit asked.now.setting.now.formulas.now asked.now.limit }
+    requires plan { IsPlan (schema_in asked.now.setting.now)
+        asked.now.setting.now.extents.now.population.now.rows.forms.items plan.now }
+    ensures { IfOk result (λ r. (m : Meant asked.now.setting.now) → Has
+        (flat_map (broken_in asked.now.setting.now m plan.now.rules.now)
+        (population_in asked.now.setting.now))
+        (length (flat_map (open_in asked.now.setting.now m plan.now.rules.now)
+        (population_in asked.now.setting.now))) r) }
+{
+    let population = asked.setting.extents.population;
+    let mut report = RuleReport {
+        findings: Vec::new(alloc),
+        unknown: 0,
+    };
+    for row in 0..population.len() {
+        let instance = population.instance(row);
+        let numbers = row_at(&plan.rows, instance.form);
+        let types = types_at(alloc, asked.setting, plan, row)?;
+        let tried = Tried {
+            row,
+            name: instance.name,
+            numbers,
+            types: &types,
+        };
+        add_instance(alloc, asked, &mut report, plan, &tried)?;
+    }
+    Ok(report)
 }
 
 /// The instances at which domain rules are FALSE, by instance in the order of the file, then by rule
@@ -123,24 +185,7 @@ pub fn check_rules<'p, 'e, 'r, 't, 's: 'r, 'a>(
 {
     let limit = rank_limit(setting.formulas);
     let asked = Asked { setting, limit };
-    let population = setting.extents.population;
-    let rows = numbers_by_form(alloc, rules, population.forms())?;
-    let mut report = RuleReport {
-        findings: Vec::new(alloc),
-        unknown: 0,
-    };
-    for row in 0..population.len() {
-        let instance = population.instance(row);
-        let numbers = row_at(&rows, instance.form);
-        add_instance(
-            alloc,
-            &asked,
-            &mut report,
-            rules,
-            row,
-            instance.name,
-            numbers,
-        )?;
-    }
+    let plan = plan_of(alloc, setting, rules)?;
+    let report = planned_report(alloc, &asked, &plan)?;
     Ok(report)
 }

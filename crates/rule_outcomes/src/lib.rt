@@ -5,4 +5,6 @@ mod applying;
 pub mod check;
 mod limit;
 mod outcome;
+mod plan;
 pub mod report;
+mod wanted;

@@ -4,12 +4,18 @@ ghost use Rattle.std.specs.Prelude.{◌≡◌, ◌<◌, Some, length, slice_get,
 ghost use Rattle.express_trees.specs.Views.{tree_of};
 ghost use Rattle.conformance.specs.Populations.{Instance};
 ghost use Rattle.held_values.specs.Parts.{element_datum};
+ghost use Rattle.schema_names.specs.Numbers.{HasNumber};
+ghost use Rattle.base_types.specs.Seen.{name_at};
 ghost use Rattle.domain_rules.specs.Seen.{IsNumbered};
+ghost use Rattle.domain_rules.specs.declared.rule.RuleHolder.TheVariants as holders;
 ghost use Rattle.express_settings.specs.Settings.{IsSetting, Meant, schema_in, population_in};
 ghost use Rattle.rule_outcomes.specs.Limits.{IsLimit};
-ghost use Rattle.rule_outcomes.specs.Outcomes.{said_of, outcome_in};
+ghost use Rattle.rule_outcomes.specs.Outcomes.{said_of, said_by, outcome_in};
+ghost use Rattle.rule_outcomes.specs.Wanted.{IsTableFor, IsTableOf};
+ghost use Rattle.rule_outcomes.specs.Planning.{Tell};
 
-use domain_rules::rule::DomainRule;
+use crate::wanted::has_one_of;
+use domain_rules::rule::{DomainRule, RuleHolder};
 use express_evaluation::context::Context;
 use express_evaluation::evaluate::evaluate;
 use express_evaluation::variables::Variable;
@@ -17,7 +23,7 @@ use express_logic::logical::{Logical, and};
 use express_settings::setting::Setting;
 use held_values::element::Element;
 use held_values::operations::bare;
-use self_values::values::self_values;
+use self_values::values::{is_of_entity, self_values};
 use std::alloc::{AllocError, Global};
 
 /// A setting, and a rank above those of all its derived attributes.
@@ -49,25 +55,86 @@ fn said_of<'p, 'e, 'r, 't, 's: 'r, 'a>(
     Ok(bare(value).truth())
 }
 
-/// What a rule says at the instance of a row: of several values of SELF the least, TRUE for none.
-pub(crate) fn outcome<'p, 'e, 'r, 't, 's: 'r, 'a>(
+/// What a rule of an entity says at the instance of a row, which has this name.
+fn entity_outcome<'p, 'e, 'r, 't, 's: 'r, 'a>(
     alloc: Global,
     asked: &Asked<'p, 'e, 'r, 't, 's, 'a>,
     row: usize,
+    name: u64,
     rule: &DomainRule<'t, 's>,
+    entity: u32,
 ) -> Result<Logical, AllocError>
     requires setting { IsSetting asked.now.setting.now }
     requires limit { IsLimit asked.now.setting.now.formulas.now asked.now.limit }
     requires within { row < length (population_in asked.now.setting.now) }
-    requires numbered { IsNumbered (schema_in asked.now.setting.now) rule.now }
+    requires numbered { HasNumber (schema_in asked.now.setting.now)
+        (name_at (schema_in asked.now.setting.now) entity) entity }
+    ensures { IfOk result (λ p. (m : Meant asked.now.setting.now) → (x : Instance)
+        → slice_get (population_in asked.now.setting.now) row ≡ Some x → name ≡ x.name
+        → p ≡ said_by asked.now.setting.now m x rule.now (holders.Entity entity)) }
+{
+    if is_of_entity(asked.setting.extents.population, row, entity) {
+        return said_of(alloc, asked, rule, Element::Instance(name));
+    }
+    Ok(Logical::True)
+}
+
+/// What a rule of a defined type says at the instance of a row: of several values the least, TRUE
+/// for none. The table has that type and those defined by it; these are the types of its values.
+fn type_outcome<'p, 'e, 'r, 't, 's: 'r, 'a>(
+    alloc: Global,
+    asked: &Asked<'p, 'e, 'r, 't, 's, 'a>,
+    row: usize,
+    rule: &DomainRule<'t, 's>,
+    declared: u32,
+    table: &[bool],
+    types: &[u32],
+) -> Result<Logical, AllocError>
+    requires setting { IsSetting asked.now.setting.now }
+    requires limit { IsLimit asked.now.setting.now.formulas.now asked.now.limit }
+    requires within { row < length (population_in asked.now.setting.now) }
+    requires table { IsTableFor (schema_in asked.now.setting.now) declared table.now }
     ensures { IfOk result (λ p. (m : Meant asked.now.setting.now) → (x : Instance)
         → slice_get (population_in asked.now.setting.now) row ≡ Some x
-        → p ≡ outcome_in asked.now.setting.now m x rule.now) }
+        → Tell asked.now.setting.now m x types.now (holders.Type declared)
+        → p ≡ said_by asked.now.setting.now m x rule.now (holders.Type declared)) }
 {
-    let mut values = self_values(alloc, asked.setting, row, rule.holder)?;
+    if !has_one_of(table, types) {
+        return Ok(Logical::True);
+    }
+    let mut values = self_values(alloc, asked.setting, row, table)?;
     let mut outcome = Logical::True;
     while let Some(me) = values.pop() {
         outcome = and(said_of(alloc, asked, rule, me)?, outcome);
     }
     Ok(outcome)
+}
+
+/// What a rule says at the instance of a row, which has this name: TRUE where it has no value of
+/// SELF there.
+pub(crate) fn outcome<'p, 'e, 'r, 't, 's: 'r, 'a>(
+    alloc: Global,
+    asked: &Asked<'p, 'e, 'r, 't, 's, 'a>,
+    row: usize,
+    name: u64,
+    rule: &DomainRule<'t, 's>,
+    table: &[bool],
+    types: &[u32],
+) -> Result<Logical, AllocError>
+    requires setting { IsSetting asked.now.setting.now }
+    requires limit { IsLimit asked.now.setting.now.formulas.now asked.now.limit }
+    requires within { row < length (population_in asked.now.setting.now) }
+    requires numbered { IsNumbered (schema_in asked.now.setting.now) rule.now }
+    requires table { IsTableOf (schema_in asked.now.setting.now) rule.now.holder table.now }
+    ensures { IfOk result (λ p. (m : Meant asked.now.setting.now) → (x : Instance)
+        → slice_get (population_in asked.now.setting.now) row ≡ Some x → name ≡ x.name
+        → Tell asked.now.setting.now m x types.now rule.now.holder
+        → p ≡ outcome_in asked.now.setting.now m x rule.now) }
+{
+    match rule.holder {
+        RuleHolder::Entity(entity) => entity_outcome(alloc, asked, row, name, rule, entity),
+        RuleHolder::Type(declared) => {
+            type_outcome(alloc, asked, row, rule, declared, table, types)
+        }
+    }
 }

@@ -1,43 +1,83 @@
--- Lists of elements that go on.
-use Rattle.std.specs.Prelude.{◌≡◌, ℕ, List, [], ◌∷◌, ◌++◌, map}
-use Rattle.std.proofs.Common.{refl, sym, ap, ◌∙◌, append_assoc, append-nil}
+-- Values that are found, one behind the other.
+use Rattle.std.specs.Prelude.{◌≡◌, ℕ, Bool, true, false, ◌||◌, List, [], ◌∷◌, ◌++◌, map, eqb}
+use Rattle.std.specs.List.{list_any}
+use Rattle.std.proofs.Common.{refl, sym, ap, subst, ◌∙◌, append_assoc, append-nil, arith}
+use Rattle.std.proofs.lemmas.Bool.Decides.{nat_tests}
 use Rattle.std.proofs.lemmas.List.{map-append}
-use Rattle.express_logic.specs.Data.{Datum, instance}
+use Rattle.std.proofs.lemmas.List.Folds.{list_any-append}
+use Rattle.digraph.specs.Graphs.{has}
+use Rattle.digraph.proofs.Found.{has-more}
+use Rattle.express_logic.specs.Data.{Datum}
 use Rattle.held_values.specs.declared.element.Element.{Element}
-use Rattle.held_values.specs.declared.element.Element.TheVariants as elements
 use Rattle.held_values.specs.Parts.{element_datum}
-use Rattle.self_values.specs.Seeking.{Adds}
+use Rattle.self_values.specs.declared.found.Found.{Found}
+use Rattle.self_values.specs.Coded.{Told}
+use Rattle.self_values.specs.Seeking.{worth, number, Adds}
 
-pub adds-nothing : (old : List Element) → Adds [] old old
-adds-nothing old = sym (append-nil (map element_datum old))
+or-false : (b : Bool) → (b || false) ≡ b
+or-false true = refl
+or-false false = refl
 
-pub adds-one : (x : Element) (d : Datum) (old new : List Element) → new ≡ old ++ x ∷ [] → element_datum x ≡ d
-    → Adds (d ∷ []) old new
-adds-one x d old new is e =
-    ap (map element_datum) is ∙ map-append element_datum old (x ∷ [])
-    ∙ ap (λ (y : Datum). map element_datum old ++ y ∷ []) e
+assoc : (a b c : Bool) → ((a || b) || c) ≡ (a || (b || c))
+assoc true b c = refl
+assoc false b c = refl
 
-pub adds-instance : (n : ℕ) (old new : List Element) → new ≡ old ++ elements.Instance n ∷ []
-    → Adds (instance n ∷ []) old new
-unfolding element_datum
-adds-instance n old new is = adds-one (elements.Instance n) (instance n) old new is refl
+pub noted-before : (xs : List ℕ) (n i : ℕ) → has xs n ≡ true → has xs i ≡ (has xs i || eqb i n)
+noted-before xs n i h = grind (arith, nat_tests)
 
-pub adds-both : (ds es : List Datum) (old mid new : List Element) → Adds ds old mid → Adds es mid new
-    → Adds (ds ++ es) old new
-adds-both ds es old mid new h k =
-    k ∙ ap (λ (l : List Datum). l ++ es) h ∙ append_assoc (map element_datum old) ds es
+pub adds-nothing : (old : Found) → Adds [] old old
+adds-nothing old = record {
+  keeps = refl;
+  values = λ k. sym (append-nil (map element_datum old.values.items));
+  types = λ k i. sym (or-false (has old.types.items i));
+}
+
+-- a value that is kept, and one whose type is noted
+pub adds-value : (n : ℕ) (d : Datum) (x : Element) (old new : Found) → new.keeps ≡ old.keeps → old.keeps ≡ true
+    → new.values.items ≡ old.values.items ++ x ∷ [] → element_datum x ≡ d → Adds ((n, d) ∷ []) old new
+adds-value n d x old new same keeps is e = record {
+  keeps = same;
+  values = λ k. ap (map element_datum) is ∙ map-append element_datum old.values.items (x ∷ [])
+      ∙ ap (λ (y : Datum). map element_datum old.values.items ++ y ∷ []) e;
+  types = λ k i. absurd (let no : true ≡ false = sym keeps ∙ k in cc);
+}
+
+pub adds-type : (n : ℕ) (d : Datum) (old new : Found) → new.keeps ≡ old.keeps → old.keeps ≡ false
+    → ((i : ℕ) → has new.types.items i ≡ (has old.types.items i || eqb i n)) → Adds ((n, d) ∷ []) old new
+adds-type n d old new same keeps h = record {
+  keeps = same;
+  values = λ k. absurd (let no : true ≡ false = sym k ∙ keeps in cc);
+  types = λ k i. h i ∙ ap (λ b. has old.types.items i || b) (sym (or-false (eqb i n)));
+}
+
+pub adds-both : (ts us : List Told) (old mid new : Found) → Adds ts old mid → Adds us mid new → Adds (ts ++ us) old new
+adds-both ts us old mid new h k = record {
+  keeps = k.keeps ∙ h.keeps;
+  values = λ e. k.values (h.keeps ∙ e) ∙ ap (λ (l : List Datum). l ++ map worth us) (h.values e)
+      ∙ append_assoc (map element_datum old.values.items) (map worth ts) (map worth us)
+      ∙ ap (λ (l : List Datum). map element_datum old.values.items ++ l) (sym (map-append worth ts us));
+  types = λ e i. k.types (h.keeps ∙ e) i ∙ ap (λ b. b || has (map number us) i) (h.types e i)
+      ∙ assoc (has old.types.items i) (has (map number ts) i) (has (map number us) i)
+      ∙ ap (λ b. has old.types.items i || b)
+      (sym (list_any-append (eqb i) (map number ts) (map number us))
+      ∙ ap (λ (l : List ℕ). has l i) (sym (map-append number ts us)));
+}
 
 -- some are left to be added
-abbrev pub AddsUpTo : List Datum → List Datum → List Element → List Element → Type 0
-AddsUpTo whole left old now = map element_datum now ++ left ≡ map element_datum old ++ whole
+abbrev pub AddsUpTo : List Told → List Told → Found → Found → Type 0
+AddsUpTo whole left old now = (done : List Told) × (done ++ left ≡ whole) × Adds done old now
 
-pub next : (whole left ds rest : List Datum) (old now new : List Element) → left ≡ ds ++ rest
-    → AddsUpTo whole left old now → Adds ds now new → AddsUpTo whole rest old new
-next whole left ds rest old now new cut h k =
-    ap (λ (l : List Datum). l ++ rest) k ∙ append_assoc (map element_datum now) ds rest
-    ∙ ap (λ (l : List Datum). map element_datum now ++ l) (sym cut) ∙ h
+pub starts : (whole : List Told) (old : Found) → AddsUpTo whole whole old old
+starts whole old = ([], refl, adds-nothing old)
 
-pub ends : (whole left : List Datum) (old new : List Element) → left ≡ [] → AddsUpTo whole left old new
-    → Adds whole old new
-ends whole left old new none h =
-    sym (append-nil (map element_datum new)) ∙ ap (λ (l : List Datum). map element_datum new ++ l) (sym none) ∙ h
+pub next : (whole left ts rest : List Told) (old now new : Found) → left ≡ ts ++ rest
+    → AddsUpTo whole left old now → Adds ts now new → AddsUpTo whole rest old new
+next whole left ts rest old now new cut (done, e, h) k = (
+  done ++ ts,
+  append_assoc done ts rest ∙ ap (λ (l : List Told). done ++ l) (sym cut) ∙ e,
+  adds-both done ts old now new h k,
+)
+
+pub ends : (whole left : List Told) (old new : Found) → left ≡ [] → AddsUpTo whole left old new → Adds whole old new
+ends whole left old new none (done, e, h) =
+    subst (λ ts. Adds ts old new) (sym (append-nil done) ∙ ap (λ (l : List Told). done ++ l) (sym none) ∙ e) h

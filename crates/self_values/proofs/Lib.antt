@@ -2,5 +2,6 @@ pub mod Adding
 pub mod Fitting
 pub mod Meaning
 pub mod Placing
+pub mod Sifting
 pub mod Testing
 pub mod Walking

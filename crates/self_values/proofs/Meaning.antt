@@ -1,5 +1,5 @@
 -- By the tables of a schema the values of a defined type are what they are by the schema.
-use Rattle.std.specs.Prelude.{◌≡◌, ℕ, ◌&&◌, not, Bool, true, false, cond, [], ◌∷◌, ◌++◌, Option, None, Some, slice_get, ◌⊎◌}
+use Rattle.std.specs.Prelude.{◌≡◌, ℕ, ◌&&◌, not, Bool, true, false, cond, List, [], ◌∷◌, ◌++◌, Option, None, Some, slice_get, ◌⊎◌}
 use Rattle.std.specs.Option.{option_map}
 use Rattle.std.proofs.Common.{refl, sym, ap, subst, ◌∙◌, inl, inr}
 use Rattle.std.proofs.lemmas.Option.{slice_get-map}
@@ -24,6 +24,7 @@ use Rattle.base_types.specs.declared.base.Base.TheVariants as bases
 use Rattle.base_types.specs.Seen.{type_at, or_integer, base_seen}
 use Rattle.base_types.specs.Tables.{IsKnown, IsNumbered}
 use Rattle.instance_forms.proofs.Naming.{name-at}
+use Rattle.express_logic.specs.Data.{Datum}
 use Rattle.express_meanings.specs.Attributes.{Attributes}
 use Rattle.express_meanings.specs.Findings.{element_in, is_of, itself, values_of, each_of}
 use Rattle.express_meanings.specs.Values.{datum}
@@ -33,8 +34,10 @@ use Rattle.held_values.proofs.Items.{item-declared}
 use Rattle.held_values.proofs.Worth.{fitting_values_are_worth_the_same}
 use Rattle.self_values.specs.declared.sought.Sought.{Sought}
 use Rattle.self_values.specs.declared.sought.Seeker.{Seeker}
-use Rattle.self_values.specs.Coded.{schema_in, named_of, named_at, told, by_number, by_name, elements_by, elements_of, coded_values, coded_each}
-use Rattle.self_values.specs.Seeking.{IsSeeker}
+use Rattle.self_values.specs.Coded.{schema_in, named_of, named_at, wanted_in, Told, told_by, by_number, by_name, elements_by, elements_of, coded_itself, coded_values, coded_each, coded_elements}
+use Rattle.self_values.specs.Seeking.{IsSeeker, IsDeclared}
+use Rattle.self_values.proofs.Sifting.{told}
+use Rattle.self_values.proofs.Testing.{at-declared, found-declared}
 
 -- the name of a type or an entity has a number
 met-numbered : (s : Schema) (n : Name) → IsType s n ⊎ IsEntity s n → (i : ℕ) × HasNumber s n i
@@ -55,7 +58,11 @@ inner-there s d r is (conformance.select m) n c e = by (d.is_item m n) refl (is_
 inner-there s d r is b n c e = absurd (cc)
 
 module _ (x : Seeker) (is_seeker : IsSeeker x) (are : AreValueTypes (schema_in x) x.types.now) (d : Domain)
-    (is : IsDomain (schema_in x) d) (en : Entities) (attributes : Attributes) (t : Name) (typing : Typing) where
+    (is : IsDomain (schema_in x) d) (en : Entities) (attributes : Attributes) (t : Name) (typing : Typing)
+    (F : List Told → List Datum) (empty : F [] ≡ []) (joined : (xs ys : List Told) → F (xs ++ ys) ≡ F xs ++ F ys)
+    (single : (o : Option ℕ) → IsDeclared (schema_in x) o → (z : Datum)
+    → F (told_by (wanted_in x.wanted.now o) z)
+    ≡ cond (told (schema_in x) (λ n. attributes.is_defined_by n t) o) (z ∷ []) []) where
   abbrev s : Schema
   s = schema_in x
 
@@ -65,7 +72,7 @@ module _ (x : Seeker) (is_seeker : IsSeeker x) (are : AreValueTypes (schema_in x
 
   -- the tables say of a data type what the schema says
   pub record IsSought (q : Sought) (k : DataType) : Type 0 where
-    pub of : q.is_it ≡ is_of s d en attributes t k
+    pub of : (z : Datum) → F (told_by q.declared z) ≡ cond (is_of s d en attributes t k) (z ∷ []) []
     pub asks : base_seen s q.base ≡ base d k
     pub numbered : IsNumbered s q.base
 
@@ -91,31 +98,35 @@ module _ (x : Seeker) (is_seeker : IsSeeker x) (are : AreValueTypes (schema_in x
   told-at None known = refl
   told-at (Some k) known = told-form k known
 
-  pub sought-number : (j : ℕ) → IsKnown s (type_at s j) → IsSought (by_number x test j) (type_at s j)
+  pub sought-number : (j : ℕ) → IsKnown s (type_at s j) → IsSought (by_number x j) (type_at s j)
   sought-number j known = record {
-    of = ap (λ l. told s test (named_at l j)) is_seeker.forms
+    of = λ z.
+        single (named_at x.forms.now j) (at-declared s x.forms.now is_seeker.forms j (named_at x.forms.now j) refl) z
+        ∙ ap (λ b. cond b (z ∷ []) []) (ap (λ l. told s test (named_at l j)) is_seeker.forms
         ∙ ap (λ o. told s test (named_of o)) (slice_get-map (form_in s) (all_data_types s) j)
-        ∙ told-at (slice_get (all_data_types s) j) known;
+        ∙ told-at (slice_get (all_data_types s) j) known);
     asks = are.by_number d is j known;
     numbered = are.numbered j;
   }
 
-  sought-name : (n : Name) (i : ℕ) → HasNumber s n i → IsSought (by_name x test n) (named n)
+  sought-name : (n : Name) (i : ℕ) → HasNumber s n i → IsSought (by_name x n) (named n)
   sought-name n i h = record {
-    of = told-name n i h;
+    of = λ z.
+        single (number_of s n) (found-declared s n (number_of s n) refl) z
+        ∙ ap (λ b. cond b (z ∷ []) []) (told-name n i h);
     asks = are.by_name d is n i h;
     numbered = are.named n;
   }
 
-  sought-element : (q : Sought) (k : DataType) → IsSought q k → IsSought (elements_of x test q) (element_in k (base d k))
+  sought-element : (q : Sought) (k : DataType) → IsSought q k → IsSought (elements_of x q) (element_in k (base d k))
   sought-element q k h = by q.base refl
     where
       seen : (b : Base) → q.base ≡ b → element_in k (base_seen s b) ≡ element_in k (base d k)
       seen b e = ap (element_in k) (ap (base_seen s) (sym e) ∙ h.asks)
 
-      by : (b : Base) → q.base ≡ b → IsSought (elements_by x test q b) (element_in k (base d k))
+      by : (b : Base) → q.base ≡ b → IsSought (elements_by x q b) (element_in k (base d k))
       by (bases.Aggregate a) e =
-          subst (IsSought (by_number x test a.element)) (seen (bases.Aggregate a) e)
+          subst (IsSought (by_number x a.element)) (seen (bases.Aggregate a) e)
           (sought-number a.element (subst (IsNumbered s) e h.numbered))
       by bases.Integer e = subst (IsSought q) (seen bases.Integer e) h
       by bases.Number e = subst (IsSought q) (seen bases.Number e) h
@@ -146,8 +157,9 @@ module _ (x : Seeker) (is_seeker : IsSeeker x) (are : AreValueTypes (schema_in x
   -- a value itself
   alone : (q : Sought) (k : DataType) → IsSought q k → (b : Base) (v : Value)
       → coded_datum x.types.now b v ≡ datum s d (base_seen s b) v
-      → cond q.is_it (coded_datum x.types.now b v ∷ []) [] ≡ itself s d en attributes t k (base_seen s b) v
-  alone q k h b v e = λ i. cond (h.of i) (e i ∷ []) []
+      → F (told_by q.declared (coded_datum x.types.now b v)) ≡ itself s d en attributes t k (base_seen s b) v
+  alone q k h b v e =
+      h.of (coded_datum x.types.now b v) ∙ ap (λ z. cond (is_of s d en attributes t k) (z ∷ []) []) e
 
   worth : (b : Base) → IsNumbered s b → (v : Value) → Fits s d typing (base_seen s b) v
       → coded_datum x.types.now b v ≡ datum s d (base_seen s b) v
@@ -156,9 +168,9 @@ module _ (x : Seeker) (is_seeker : IsSeeker x) (are : AreValueTypes (schema_in x
 
   leaf-same : (q : Sought) (k : DataType) → IsSought q k → (b : Base) → IsNumbered s b → (a : Leaf)
       → Fits s d typing (base_seen s b) (leaf a)
-      → coded_values x test q b (leaf a) ≡ values_of s d en attributes t k (base_seen s b) (leaf a)
-  leaf-same q k h b known leaves.unset fits = refl
-  leaf-same q k h b known leaves.derived fits = refl
+      → F (coded_values x q b (leaf a)) ≡ values_of s d en attributes t k (base_seen s b) (leaf a)
+  leaf-same q k h b known leaves.unset fits = empty
+  leaf-same q k h b known leaves.derived fits = empty
   leaf-same q k h b known (leaves.number z) fits =
       alone q k h b (leaf (leaves.number z)) (worth b known (leaf (leaves.number z)) fits)
   leaf-same q k h b known (leaves.text c) fits =
@@ -169,34 +181,36 @@ module _ (x : Seeker) (is_seeker : IsSeeker x) (are : AreValueTypes (schema_in x
       alone q k h b (leaf (leaves.element e)) (worth b known (leaf (leaves.element e)) fits)
 
   unset-same : (q : Sought) (k : DataType) (b : Base) (v : Value) → v ≡ leaf unset
-      → coded_values x test q b v ≡ values_of s d en attributes t k (base_seen s b) v
+      → F (coded_values x q b v) ≡ values_of s d en attributes t k (base_seen s b) v
   unset-same q k b v e =
-      ap (coded_values x test q b) e ∙ ap (values_of s d en attributes t k (base_seen s b)) (sym e)
+      ap (λ w. F (coded_values x q b w)) e ∙ empty ∙ ap (values_of s d en attributes t k (base_seen s b)) (sym e)
 
   mutual
     value-same : (q : Sought) (k : DataType) → IsSought q k → (b : Base) → IsNumbered s b → (v : Value)
         → Fits s d typing (base_seen s b) v
-        → coded_values x test q b v ≡ values_of s d en attributes t k (base_seen s b) v
+        → F (coded_values x q b v) ≡ values_of s d en attributes t k (base_seen s b) v
     value-same q k h b known (leaf a) fits = leaf-same q k h b known a fits
     value-same q k h b known (reference y) fits = alone q k h b (reference y) refl
     value-same q k h b known (values.typed n v) (c, e, fits) =
         let ((i, l), same) = inner-there s d is_seeker.resolved is (base_seen s b) n c e in
         let seen : base_seen s (named_base x.types.now n) ≡ d.of_name n = are.by_name d is n i l in
-        value-same (by_name x test n) (named n) (sought-name n i l) (named_base x.types.now n) (are.named n) v
+        value-same (by_name x n) (named n) (sought-name n i l) (named_base x.types.now n) (are.named n) v
         (subst (λ z. Fits s d typing z v) (same ∙ sym seen) fits)
         ∙ ap (λ z. values_of s d en attributes t (named n) z v) seen
     value-same q k h b known (values.sequence vs) g =
         let here = element-seen b known in
-        (λ i. alone q k h b (values.sequence vs) (worth b known (values.sequence vs) g) i
-        ++ each-same (elements_of x test q) (element_in k (base d k)) (sought-element q k h) (element_base x.types.now b)
+        joined (coded_itself x q.declared b (values.sequence vs)) (coded_elements x q b vs)
+        ∙ (λ i. alone q k h b (values.sequence vs) (worth b known (values.sequence vs) g) i
+        ++ each-same (elements_of x q) (element_in k (base d k)) (sought-element q k h) (element_base x.types.now b)
         (element-numbered b known) g.of.optional vs
         (subst (λ z. FitEach s d typing g.of.optional z vs) (sym (here ∙ ap (element s d) g.is_of)) g.each) i)
         ∙ ap (λ z. itself s d en attributes t k (base_seen s b) (values.sequence vs)
         ++ each_of s d en attributes t (element_in k (base d k)) z vs) here
     value-same q k h b known (values.bag vs) g =
         let here = element-seen b known in
-        (λ i. alone q k h b (values.bag vs) (worth b known (values.bag vs) g) i
-        ++ each-same (elements_of x test q) (element_in k (base d k)) (sought-element q k h) (element_base x.types.now b)
+        joined (coded_itself x q.declared b (values.bag vs)) (coded_elements x q b vs)
+        ∙ (λ i. alone q k h b (values.bag vs) (worth b known (values.bag vs) g) i
+        ++ each-same (elements_of x q) (element_in k (base d k)) (sought-element q k h) (element_base x.types.now b)
         (element-numbered b known) g.of.optional vs
         (subst (λ z. FitEach s d typing g.of.optional z vs) (sym (here ∙ ap (element s d) g.is_of)) g.each) i)
         ∙ ap (λ z. itself s d en attributes t k (base_seen s b) (values.bag vs)
@@ -204,18 +218,20 @@ module _ (x : Seeker) (is_seeker : IsSeeker x) (are : AreValueTypes (schema_in x
 
     each-same : (q : Sought) (k : DataType) → IsSought q k → (b : Base) → IsNumbered s b → (optional : Bool)
         (vs : Values) → FitEach s d typing optional (base_seen s b) vs
-        → coded_each x test q b vs ≡ each_of s d en attributes t k (base_seen s b) vs
-    each-same q k h b known optional values.none fits = refl
+        → F (coded_each x q b vs) ≡ each_of s d en attributes t k (base_seen s b) vs
+    each-same q k h b known optional values.none fits = empty
     each-same q k h b known optional (values.more v vs) (inl left, fits) =
-        (λ i. unset-same q k b v left.1 i ++ each-same q k h b known optional vs fits i)
+        joined (coded_values x q b v) (coded_each x q b vs)
+        ∙ (λ i. unset-same q k b v left.1 i ++ each-same q k h b known optional vs fits i)
     each-same q k h b known optional (values.more v vs) (inr fit, fits) =
-        (λ i. value-same q k h b known v fit i ++ each-same q k h b known optional vs fits i)
+        joined (coded_values x q b v) (coded_each x q b vs)
+        ∙ (λ i. value-same q k h b known v fit i ++ each-same q k h b known optional vs fits i)
 
   -- .. where it is left out or derived too
   pub all-same : (q : Sought) (k : DataType) → IsSought q k → (b : Base) → IsNumbered s b → (v : Value)
       → ((v ≡ leaf unset) ⊎ (v ≡ leaf derived)) ⊎ Fits s d typing (base_seen s b) v
-      → coded_values x test q b v ≡ values_of s d en attributes t k (base_seen s b) v
+      → F (coded_values x q b v) ≡ values_of s d en attributes t k (base_seen s b) v
   all-same q k h b known v (inl (inl e)) = unset-same q k b v e
   all-same q k h b known v (inl (inr e)) =
-      ap (coded_values x test q b) e ∙ ap (values_of s d en attributes t k (base_seen s b)) (sym e)
+      ap (λ w. F (coded_values x q b w)) e ∙ empty ∙ ap (values_of s d en attributes t k (base_seen s b)) (sym e)
   all-same q k h b known v (inr fits) = value-same q k h b known v fits

@@ -33,21 +33,21 @@ use Rattle.instance_forms.specs.declared.form.SlotForm.{SlotForm}
 use Rattle.instance_forms.specs.Slots.{uses_by}
 use Rattle.instance_forms.proofs.Naming.{among-is}
 use Rattle.step_population.specs.Seen.{or_nowhere, place_at, slots_seen, instance_seen}
-use Rattle.step_population.specs.Whole.{ArePlaced, HaveEntities}
+use Rattle.step_population.specs.Whole.{types_by_form, ArePlaced, HaveEntities}
 use Rattle.step_extent.proofs.Held.{HasNumbers}
-use Rattle.express_logic.specs.Data.{instance}
+use Rattle.express_logic.specs.Data.{Datum}
 use Rattle.express_meanings.specs.Attributes.{Attributes}
 use Rattle.express_meanings.specs.Findings.{values_of, in_slot}
 use Rattle.express_meanings.specs.Values.{first_declared}
-use Rattle.held_values.specs.declared.element.Element.{Element}
 use Rattle.held_values.specs.Tables.{AreValueTypes}
 use Rattle.setting_tables.specs.Tables.{AreDeclared}
 use Rattle.self_values.specs.declared.sought.Seeker.{Seeker}
 use Rattle.self_values.specs.declared.values.Asked.{Asked}
-use Rattle.self_values.specs.Coded.{schema_in, by_number, coded_uses, coded_place, coded_slots, types_in, slots_in}
-use Rattle.self_values.specs.Seeking.{IsSeeker, Adds}
+use Rattle.self_values.specs.Coded.{schema_in, wanted_in, Told, told_by, by_number, coded_values, coded_uses, coded_place, coded_slots, slots_in}
+use Rattle.self_values.specs.Seeking.{IsSeeker, IsDeclared}
 use Rattle.self_values.proofs.Fitting.{declared-fits}
 use Rattle.self_values.proofs.Meaning.{sought-number, all-same}
+use Rattle.self_values.proofs.Sifting.{told}
 
 some-is : {A : Type 0} (x y : A) → Some x ≡ Some y → x ≡ y
 some-is x y e = cc
@@ -131,23 +131,26 @@ MayFit s d en typing z =
 
 module _ (x : Seeker) (is_seeker : IsSeeker x) (are : AreValueTypes (schema_in x) x.types.now) (d : Domain)
     (is : IsDomain (schema_in x) d) (en : Entities) (g : AreEntities (schema_in x) en) (attributes : Attributes)
-    (t : Name) (typing : Typing) (k : Asked) (uses : AreUses (schema_in x) k.uses.now)
+    (t : Name) (typing : Typing) (F : List Told → List Datum) (empty : F [] ≡ [])
+    (joined : (xs ys : List Told) → F (xs ++ ys) ≡ F xs ++ F ys)
+    (single : (o : Option ℕ) → IsDeclared (schema_in x) o → (z : Datum)
+    → F (told_by (wanted_in x.wanted.now o) z)
+    ≡ cond (told (schema_in x) (λ n. attributes.is_defined_by n t) o) (z ∷ []) []) (k : Asked) (uses : AreUses (schema_in x) k.uses.now)
     (declared : AreDeclared (schema_in x) k.declared.now) where
   abbrev s : Schema
   s = schema_in x
 
-  abbrev test : Name → Bool
-  test n = attributes.is_defined_by n t
-
   uses-same : (b : Base) → IsNumbered s b → (v : Value)
       → ((v ≡ leaf unset) ⊎ (v ≡ leaf derived)) ⊎ Fits s d typing (base_seen s b) v → (us : List AttributeUse)
       → Every (λ (u : AttributeUse). IsKnown s (type_at s u.data_type)) us
-      → coded_uses x test b (Some v) us
+      → F (coded_uses x b (Some v) us)
       ≡ flat_map (λ (l : DataType). values_of s d en attributes t l (base_seen s b) v) (asked s us)
-  uses-same b known v fits [] all = refl
+  uses-same b known v fits [] all = empty
   uses-same b known v fits (u ∷ us) all =
-      (λ i. all-same x is_seeker are d is en attributes t typing (by_number x test u.data_type) (type_at s u.data_type)
-      (sought-number x is_seeker are d is en attributes t typing u.data_type all.0) b known v fits i
+      joined (coded_values x (by_number x u.data_type) b v) (coded_uses x b (Some v) us)
+      ∙ (λ i. all-same x is_seeker are d is en attributes t typing F empty joined single (by_number x u.data_type)
+      (type_at s u.data_type)
+      (sought-number x is_seeker are d is en attributes t typing F empty joined single u.data_type all.0) b known v fits i
       ++ uses-same b known v fits us all.1 i)
 
   module _ (numbered : Every (λ i. HasNumber s (name_at s i) i) k.types.now)
@@ -157,7 +160,7 @@ module _ (x : Seeker) (is_seeker : IsSeeker x) (are : AreValueTypes (schema_in x
 
     slot-same : (y : SlotForm) (v : Value) → y.place < length (all_places s)
         → MayFit s d en typing (record { place = place_at s y.place; value = v })
-        → coded_place x test k y.place (Some v)
+        → F (coded_place x k y.place (Some v))
         ≡ in_slot s d en attributes t types (record { place = place_at s y.place; value = v })
     slot-same y v lt fits =
         let p : Place = place_at s y.place in
@@ -165,7 +168,7 @@ module _ (x : Seeker) (is_seeker : IsSeeker x) (are : AreValueTypes (schema_in x
         let (b, there, h) = declared p y.place at in
         let same : base_seen s b ≡ first_declared s d en p = h.says d en is g in
         let us : List AttributeUse = uses_by k.uses.now k.types.now y.place in
-        ap (λ c. coded_uses x test c (Some v) us) (got k.declared.now y.place b Integer there)
+        ap (λ c. F (coded_uses x c (Some v) us)) (got k.declared.now y.place b Integer there)
         ∙ uses-same b h.numbered v
         (subst (λ z. ((v ≡ leaf unset) ⊎ (v ≡ leaf derived)) ⊎ Fits s d typing z v) (sym same) fits) us
         (known-uses s k.uses.now uses y.place k.types.now)
@@ -175,30 +178,31 @@ module _ (x : Seeker) (is_seeker : IsSeeker x) (are : AreValueTypes (schema_in x
 
     slots-same : (ys : List SlotForm) (vs : Values) → Every (λ (y : SlotForm). y.place < length (all_places s)) ys
         → ((z : Slot) → Among z (slots_seen s ys vs) → MayFit s d en typing z)
-        → coded_slots x test k ys vs ≡ flat_map (in_slot s d en attributes t types) (slots_seen s ys vs)
-    slots-same [] none placed fits = refl
-    slots-same [] (more v vs) placed fits = refl
-    slots-same (y ∷ ys) none placed fits = refl
+        → F (coded_slots x k ys vs) ≡ flat_map (in_slot s d en attributes t types) (slots_seen s ys vs)
+    slots-same [] none placed fits = empty
+    slots-same [] (more v vs) placed fits = empty
+    slots-same (y ∷ ys) none placed fits = empty
     slots-same (y ∷ ys) (more v vs) placed fits =
-        (λ i. slot-same y v placed.0 (fits (record { place = place_at s y.place; value = v }) (inl refl)) i
+        joined (coded_place x k y.place (Some v)) (coded_slots x k ys vs)
+        ∙ (λ i. slot-same y v placed.0 (fits (record { place = place_at s y.place; value = v }) (inl refl)) i
         ++ slots-same ys vs placed.1 (λ z m. fits z (inr m)) i)
 
   -- an instance of no form has no values
-  no-slots : (vs : Values) → coded_slots x test k [] vs ≡ []
-  no-slots none = refl
-  no-slots (more v vs) = refl
+  no-slots : (vs : Values) → F (coded_slots x k [] vs) ≡ []
+  no-slots none = empty
+  no-slots (more v vs) = empty
 
   -- of an instance that conforms
-  pub instance-same : (o : Option Form) (ys : List SlotForm) → k.types.now ≡ types_in o → ys ≡ slots_in o
+  pub instance-same : (o : Option Form) (ys : List SlotForm) → k.types.now ≡ types_by_form o → ys ≡ slots_in o
       → ArePlaced s o → HaveEntities s o → HasNumbers s o → (n section : ℕ) (vs : Values)
       → Conforms s d typing en (instance_seen s n section o vs)
-      → coded_slots x test k ys vs
+      → F (coded_slots x k ys vs)
       ≡ flat_map (in_slot s d en attributes t (instance_seen s n section o vs).types)
       (instance_seen s n section o vs).slots
   instance-same None ys ts ss placed entities numbers n section vs c =
-      ap (λ l. coded_slots x test k l vs) ss ∙ no-slots vs
+      ap (λ l. F (coded_slots x k l vs)) ss ∙ no-slots vs
   instance-same (Some f) ys ts ss placed entities numbers n section vs c =
-      ap (λ l. coded_slots x test k l vs) ss
+      ap (λ l. F (coded_slots x k l vs)) ss
       ∙ slots-same (subst (Every (λ i. HasNumber s (name_at s i) i)) (sym ts) numbers)
       (subst (Every (λ i. is_entity_at s i ≡ true)) (sym ts) entities) f.slots.items vs placed
       (declared-fits s d en g typing (instance_seen s n section (Some f) vs) c)
@@ -212,22 +216,6 @@ one-instance is row x y at there = some-is x y (sym at ∙ there)
 -- an instance of a form is of an entity where the number of the entity is among those of its types
 pub is-of-entity : (s : Schema) (i : ℕ) → HasNumber s (name_at s i) i → (o : Option Form) → HasNumbers s o
     → (n section : ℕ) (vs : Values)
-    → among (name_at s i) (instance_seen s n section o vs).types ≡ has (types_in o) i
+    → among (name_at s i) (instance_seen s n section o vs).types ≡ has (types_by_form o) i
 is-of-entity s i h None numbers n section vs = refl
 is-of-entity s i h (Some f) numbers n section vs = among-is s (name_at s i) i h f.types.items numbers
-
-name-seen : (s : Schema) (o : Option Form) (n section : ℕ) (vs : Values)
-    → (instance_seen s n section o vs).name ≡ n
-name-seen s None n section vs = refl
-name-seen s (Some f) n section vs = refl
-
--- what is added for an instance
-pub instance-added : (s : Schema) (i : ℕ) (o : Option Form) (n section : ℕ) (vs : Values) (x : Instance)
-    → instance_seen s n section o vs ≡ x → (b : Bool)
-    → among (name_at s i) (instance_seen s n section o vs).types ≡ b → (old new : List Element)
-    → Adds (cond b (instance n ∷ []) []) old new
-    → Adds (cond (among (name_at s i) x.types) (instance x.name ∷ []) []) old new
-instance-added s i o n section vs x same b is old new h =
-    subst (λ (z : Instance). Adds (cond (among (name_at s i) z.types) (instance z.name ∷ []) []) old new) same
-    (subst (λ c. Adds (cond c (instance (instance_seen s n section o vs).name ∷ []) []) old new) (sym is)
-    (subst (λ m. Adds (cond b (instance m ∷ []) []) old new) (sym (name-seen s o n section vs)) h))

@@ -1,19 +1,16 @@
--- Whether data types are what is sought.
-use Rattle.std.specs.Prelude.{◌≡◌, ℕ, Bool, List, map, Option, None, Some, slice_get, ◌↔◌, IsTrue}
+-- The numbers that data types name.
+use Rattle.std.specs.Prelude.{◌≡◌, ℕ, List, map, Option, None, Some, slice_get}
 use Rattle.std.specs.Option.{option_map}
 use Rattle.std.proofs.Common.{refl, sym, ap, subst, ◌∙◌}
 use Rattle.std.proofs.lemmas.Option.{slice_get-map}
 use Rattle.express_schemas.specs.Schemas.{Schema, DataType, integer, number, boolean, logical, real, string, binary, named, array, list, bag, set}
-use Rattle.type_graphs.specs.Names.{Name, IsOrLeads, Renames}
+use Rattle.type_graphs.specs.Names.{Name}
 use Rattle.schema_names.specs.Numbers.{number_of}
 use Rattle.data_types.specs.declared.forms.Form.{Form}
 use Rattle.data_types.specs.Numbered.{form_in, all_data_types}
-use Rattle.base_types.specs.declared.base.Base.{Base}
-use Rattle.base_types.specs.Seen.{name_at}
-use Rattle.instance_forms.proofs.Naming.{same-test, has-own-name}
-use Rattle.self_values.specs.declared.sought.Seeker.{Seeker}
-use Rattle.self_values.specs.Coded.{schema_in, named_in, named_of, named_at, told, sought}
-use Rattle.self_values.specs.Seeking.{IsDeclared, Tells}
+use Rattle.instance_forms.proofs.Naming.{has-own-name}
+use Rattle.self_values.specs.Coded.{named_in, named_of, named_at}
+use Rattle.self_values.specs.Seeking.{IsDeclared}
 
 -- a number that is found is that of its name
 pub found-declared : (s : Schema) (n : Name) (o : Option ℕ) → o ≡ number_of s n → IsDeclared s o
@@ -45,15 +42,3 @@ at-declared s forms is j o e =
     subst (IsDeclared s)
     (sym (e ∙ ap (λ l. named_at l j) is ∙ ap named_of (slice_get-map (form_in s) (all_data_types s) j)))
     (of-declared s (slice_get (all_data_types s) j))
-
--- two tests of one name
-pub told-so : (x : Seeker) (test : Name → Bool) → Tells x test → (i : ℕ) (b : Bool)
-    → (IsTrue b ↔ IsOrLeads (Renames (schema_in x)) (named (name_at (schema_in x) i))
-    (named (name_at (schema_in x) x.declared))) → (o : Option ℕ) → o ≡ Some i → b ≡ told (schema_in x) test o
-told-so x test tells i b h o is =
-    let k = tells (name_at (schema_in x) i) in
-    same-test b (test (name_at (schema_in x) i)) (λ e. k.1 (h.0 e)) (λ e. h.1 (k.0 e))
-    ∙ ap (told (schema_in x) test) (sym is)
-
-pub sought-as : (a b : Bool) (c d : Base) → a ≡ b → c ≡ d → sought a c ≡ sought b d
-sought-as a b c d e f = λ i. sought (e i) (f i)

@@ -9,7 +9,6 @@ use Rattle.step_values.specs.Slots.{nth}
 use Rattle.step_values.specs.Values as values
 use Rattle.step_values.specs.Values.{Value, leaf, reference, Values, none, more}
 use Rattle.step_values.proofs.Walks.{after, after_at, after_all, not_equal}
-use Rattle.type_graphs.specs.Names.{Name}
 use Rattle.base_types.specs.declared.base.Base.{Base}
 use Rattle.base_types.specs.Making.{entry}
 use Rattle.attribute_uses.specs.declared.uses.AttributeUse.{AttributeUse}
@@ -37,88 +36,88 @@ drop-all (x ∷ xs) (suc i) h = drop-all xs i (omega (arith, h))
 is-same : (i j : ℕ) → i ≡ j → (i == j) ≡ true
 is-same i j e = grind (arith, nat_tests)
 
-module _ (x : Seeker) (test : Name → Bool) where
+module _ (x : Seeker) where
   -- a value, and what is inside it
   pub whole-value : (q : Sought) (b : Base) (v : Value)
-      → coded_itself x test q.is_it b v ++ coded_inside x test q b v ≡ coded_values x test q b v
-  whole-value q b (leaf a) = append-nil (coded_itself x test q.is_it b (leaf a))
-  whole-value q b (reference y) = append-nil (coded_itself x test q.is_it b (reference y))
+      → coded_itself x q.declared b v ++ coded_inside x q b v ≡ coded_values x q b v
+  whole-value q b (leaf a) = append-nil (coded_itself x q.declared b (leaf a))
+  whole-value q b (reference y) = append-nil (coded_itself x q.declared b (reference y))
   whole-value q b (values.typed n v) = refl
   whole-value q b (values.sequence vs) = refl
   whole-value q b (values.bag vs) = refl
 
   -- values in turn
   pub each-next : (q : Sought) (b : Base) (vs : Values) (i : ℕ) (v : Value) → nth vs i ≡ Some v
-      → coded_each x test q b (after i vs) ≡ coded_values x test q b v ++ coded_each x test q b (after (i + 1) vs)
-  each-next q b vs i v at = ap (coded_each x test q b) (after_at vs i v at)
+      → coded_each x q b (after i vs) ≡ coded_values x q b v ++ coded_each x q b (after (i + 1) vs)
+  each-next q b vs i v at = ap (coded_each x q b) (after_at vs i v at)
 
   pub each-ends : (q : Sought) (b : Base) (vs : Values) (i : ℕ) → size vs ≤ i
-      → coded_each x test q b (after i vs) ≡ []
-  each-ends q b vs i h = ap (coded_each x test q b) (after_all vs i h)
+      → coded_each x q b (after i vs) ≡ []
+  each-ends q b vs i h = ap (coded_each x q b) (after_all vs i h)
 
   -- declarations in turn
   module _ (b : Base) (o : Option Value) where
     -- one of the place, and one of another
     pub use-there : (u : AttributeUse) (q : ℕ) → u.place ≡ q
-        → coded_uses x test b o (of_place q (u ∷ [])) ≡ coded_at x test (by_number x test u.data_type) b o
+        → coded_uses x b o (of_place q (u ∷ [])) ≡ coded_at x (by_number x u.data_type) b o
     use-there u q e =
-        ap (λ c. coded_uses x test b o (cond c (u ∷ []) [])) (is-same u.place q e)
-        ∙ append-nil (coded_at x test (by_number x test u.data_type) b o)
+        ap (λ c. coded_uses x b o (cond c (u ∷ []) [])) (is-same u.place q e)
+        ∙ append-nil (coded_at x (by_number x u.data_type) b o)
 
-    pub use-elsewhere : (u : AttributeUse) (q : ℕ) → u.place ≢ q → coded_uses x test b o (of_place q (u ∷ [])) ≡ []
-    use-elsewhere u q n = ap (λ c. coded_uses x test b o (cond c (u ∷ []) [])) (not_equal u.place q n)
+    pub use-elsewhere : (u : AttributeUse) (q : ℕ) → u.place ≢ q → coded_uses x b o (of_place q (u ∷ [])) ≡ []
+    use-elsewhere u q n = ap (λ c. coded_uses x b o (cond c (u ∷ []) [])) (not_equal u.place q n)
 
     pub use-next : (q : ℕ) (us : List AttributeUse) (u : AttributeUse) (longer : List AttributeUse)
         → longer ≡ us ++ u ∷ []
-        → coded_uses x test b o (of_place q longer)
-        ≡ coded_uses x test b o (of_place q us) ++ coded_uses x test b o (of_place q (u ∷ []))
+        → coded_uses x b o (of_place q longer)
+        ≡ coded_uses x b o (of_place q us) ++ coded_uses x b o (of_place q (u ∷ []))
     use-next q us u longer is =
-        ap (λ l. coded_uses x test b o (of_place q l)) is
-        ∙ ap (coded_uses x test b o) (filter-append (λ (v : AttributeUse). v.place == q) us (u ∷ []))
-        ∙ flat_map-append (λ (v : AttributeUse). coded_at x test (by_number x test v.data_type) b o) (of_place q us)
+        ap (λ l. coded_uses x b o (of_place q l)) is
+        ∙ ap (coded_uses x b o) (filter-append (λ (v : AttributeUse). v.place == q) us (u ∷ []))
+        ∙ flat_map-append (λ (v : AttributeUse). coded_at x (by_number x v.data_type) b o) (of_place q us)
         (of_place q (u ∷ []))
 
     pub type-next : (t : Uses) (q : ℕ) (types : List ℕ) (j : ℕ) (longer : List ℕ) (us : List AttributeUse)
         → longer ≡ types ++ j ∷ [] → us ≡ uses_at t j
-        → coded_uses x test b o (uses_by t longer q)
-        ≡ coded_uses x test b o (uses_by t types q) ++ coded_uses x test b o (of_place q us)
+        → coded_uses x b o (uses_by t longer q)
+        ≡ coded_uses x b o (uses_by t types q) ++ coded_uses x b o (of_place q us)
     type-next t q types j longer us is at =
-        ap (λ l. coded_uses x test b o (uses_by t l q)) is
-        ∙ ap (coded_uses x test b o) (flat_map-append (λ k. of_place q (uses_at t k)) types (j ∷ []))
-        ∙ flat_map-append (λ (v : AttributeUse). coded_at x test (by_number x test v.data_type) b o) (uses_by t types q)
+        ap (λ l. coded_uses x b o (uses_by t l q)) is
+        ∙ ap (coded_uses x b o) (flat_map-append (λ k. of_place q (uses_at t k)) types (j ∷ []))
+        ∙ flat_map-append (λ (v : AttributeUse). coded_at x (by_number x v.data_type) b o) (uses_by t types q)
         (uses_by t (j ∷ []) q)
-        ∙ ap (λ l. coded_uses x test b o (uses_by t types q) ++ coded_uses x test b o l)
+        ∙ ap (λ l. coded_uses x b o (uses_by t types q) ++ coded_uses x b o l)
         (append-nil (of_place q (uses_at t j)) ∙ ap (of_place q) (sym at))
 
   -- attributes in turn
-  nothing-there : (b : Base) (us : List AttributeUse) → coded_uses x test b None us ≡ []
+  nothing-there : (b : Base) (us : List AttributeUse) → coded_uses x b None us ≡ []
   nothing-there b [] = refl
   nothing-there b (u ∷ us) = nothing-there b us
 
-  no-values : (k : Asked) (ys : List SlotForm) → coded_slots x test k ys none ≡ []
+  no-values : (k : Asked) (ys : List SlotForm) → coded_slots x k ys none ≡ []
   no-values k [] = refl
   no-values k (y ∷ ys) = refl
 
   pub slot-next : (k : Asked) (ys : List SlotForm) (vs : Values) (i : ℕ) (y : SlotForm) → slice_get ys i ≡ Some y
-      → coded_slots x test k (drop i ys) (after i vs)
-      ≡ coded_place x test k y.place (nth vs i) ++ coded_slots x test k (drop (i + 1) ys) (after (i + 1) vs)
+      → coded_slots x k (drop i ys) (after i vs)
+      ≡ coded_place x k y.place (nth vs i) ++ coded_slots x k (drop (i + 1) ys) (after (i + 1) vs)
   slot-next k ys vs i y at =
-      ap (λ l. coded_slots x test k l (after i vs)) (drop-item ys i y at) ∙ by (nth vs i) refl
+      ap (λ l. coded_slots x k l (after i vs)) (drop-item ys i y at) ∙ by (nth vs i) refl
     where
       rest : List SlotForm
       rest = drop (i + 1) ys
 
       by : (o : Option Value) → nth vs i ≡ o
-          → coded_slots x test k (y ∷ rest) (after i vs)
-          ≡ coded_place x test k y.place o ++ coded_slots x test k rest (after (i + 1) vs)
-      by (Some v) e = ap (coded_slots x test k (y ∷ rest)) (after_at vs i v e)
+          → coded_slots x k (y ∷ rest) (after i vs)
+          ≡ coded_place x k y.place o ++ coded_slots x k rest (after (i + 1) vs)
+      by (Some v) e = ap (coded_slots x k (y ∷ rest)) (after_at vs i v e)
       by None e =
           let far = past vs i e in
-          ap (coded_slots x test k (y ∷ rest)) (after_all vs i far)
-          ∙ sym (no-values k rest) ∙ ap (coded_slots x test k rest) (sym (after_all vs (i + 1) (omega (arith, far))))
-          ∙ ap (λ l. l ++ coded_slots x test k rest (after (i + 1) vs))
+          ap (coded_slots x k (y ∷ rest)) (after_all vs i far)
+          ∙ sym (no-values k rest) ∙ ap (coded_slots x k rest) (sym (after_all vs (i + 1) (omega (arith, far))))
+          ∙ ap (λ l. l ++ coded_slots x k rest (after (i + 1) vs))
           (sym (nothing-there (entry k.declared.now y.place) (uses_by k.uses.now k.types.now y.place)))
 
   pub slots-end : (k : Asked) (ys : List SlotForm) (vs : Values) (i : ℕ) → length ys ≤ i
-      → coded_slots x test k (drop i ys) (after i vs) ≡ []
-  slots-end k ys vs i h = ap (λ l. coded_slots x test k l (after i vs)) (drop-all ys i h)
+      → coded_slots x k (drop i ys) (after i vs) ≡ []
+  slots-end k ys vs i h = ap (λ l. coded_slots x k l (after i vs)) (drop-all ys i h)

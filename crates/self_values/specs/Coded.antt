@@ -1,6 +1,6 @@
--- The values of a defined type among those of an instance, by the tables of a schema (ISO 10303-11, 9.1). What the code
--- computes; no promise stands here.
-use Rattle.std.specs.Prelude.{ℕ, ◌&&◌, Bool, true, false, cond, List, [], ◌∷◌, ◌++◌, flat_map, Option, None, Some, slice_get}
+-- The values of some defined types among those of an instance, each with the number of its type, by the tables of a
+-- schema (ISO 10303-11, 9.1). What the code computes; no promise stands here.
+use Rattle.std.specs.Prelude.{ℕ, Bool, true, false, cond, List, [], ◌∷◌, ◌++◌, flat_map, Option, None, Some, slice_get}
 use Rattle.step_values.specs.declared.slot.Kind.{Kind}
 use Rattle.step_values.specs.declared.slot.Kind.TheVariants as kinds
 use Rattle.step_values.specs.Slots.{kind_of}
@@ -42,13 +42,29 @@ named_of (Some f) = named_in f
 abbrev pub named_at : List Form → ℕ → Option ℕ
 named_at all j = named_of (slice_get all j)
 
--- whether what is declared at a number passes a test of its name
-abbrev pub told : Schema → (Name → Bool) → Option ℕ → Bool
-told s test None = false
-told s test (Some i) = test (name_at s i)
+abbrev pub or_false : Option Bool → Bool
+or_false None = false
+or_false (Some b) = b
 
-abbrev pub sought : Bool → Base → Sought
-sought b c = record { is_it = b; base = c }
+-- values of the type of a number are sought
+abbrev pub is_wanted : List Bool → ℕ → Bool
+is_wanted wanted i = or_false (slice_get wanted i)
+
+-- the number, if values of its type are sought
+abbrev pub wanted_in : List Bool → Option ℕ → Option ℕ
+wanted_in wanted None = None
+wanted_in wanted (Some i) = cond (is_wanted wanted i) (Some i) None
+
+abbrev pub sought : Option ℕ → Base → Sought
+sought o c = record { declared = o; base = c }
+
+-- a value of the defined type of a number, and what it is worth
+abbrev pub Told : Type 0
+Told = ℕ × Datum
+
+abbrev pub told_by : Option ℕ → Datum → List Told
+told_by None d = []
+told_by (Some i) d = (i, d) ∷ []
 
 -- a value of this kind is one of its data type; one inside a typed value is of the type that is named there
 abbrev pub is_whole : Kind → Bool
@@ -57,15 +73,14 @@ is_whole kinds.Derived = false
 is_whole kinds.Typed = false
 is_whole k = true
 
-module _ (x : Seeker) (test : Name → Bool) where
+module _ (x : Seeker) where
   -- the data type of a number
   abbrev pub by_number : ℕ → Sought
-  by_number j =
-      sought (told (schema_in x) test (named_at x.forms.now j)) (number_base x.types.now j)
+  by_number j = sought (wanted_in x.wanted.now (named_at x.forms.now j)) (number_base x.types.now j)
 
   -- the type of a name
   abbrev pub by_name : Name → Sought
-  by_name n = sought (told (schema_in x) test (number_of (schema_in x) n)) (named_base x.types.now n)
+  by_name n = sought (wanted_in x.wanted.now (number_of (schema_in x) n)) (named_base x.types.now n)
 
   -- the data type of the elements; of what is no aggregate, the same
   abbrev pub elements_by : Sought → Base → Sought
@@ -76,30 +91,30 @@ module _ (x : Seeker) (test : Name → Bool) where
   elements_of q = elements_by q q.base
 
   -- the value itself, where it is sought
-  abbrev pub coded_itself : Bool → Base → Value → List Datum
-  coded_itself is_it b v = cond (is_whole (kind_of v) && is_it) (coded_datum x.types.now b v ∷ []) []
+  abbrev pub coded_itself : Option ℕ → Base → Value → List Told
+  coded_itself o b v = cond (is_whole (kind_of v)) (told_by o (coded_datum x.types.now b v)) []
 
   -- the values that are sought in a value: itself, elements, and what stands inside typed values
   abbrev mutual
-    pub coded_values : Sought → Base → Value → List Datum
-    coded_values q b (leaf a) = coded_itself q.is_it b (leaf a)
-    coded_values q b (reference y) = coded_itself q.is_it b (reference y)
+    pub coded_values : Sought → Base → Value → List Told
+    coded_values q b (leaf a) = coded_itself q.declared b (leaf a)
+    coded_values q b (reference y) = coded_itself q.declared b (reference y)
     coded_values q b (values.typed n v) = coded_values (by_name n) (named_base x.types.now n) v
     coded_values q b (values.sequence vs) =
-        coded_itself q.is_it b (values.sequence vs) ++ coded_each (elements_of q) (element_base x.types.now b) vs
+        coded_itself q.declared b (values.sequence vs) ++ coded_each (elements_of q) (element_base x.types.now b) vs
     coded_values q b (values.bag vs) =
-        coded_itself q.is_it b (values.bag vs) ++ coded_each (elements_of q) (element_base x.types.now b) vs
+        coded_itself q.declared b (values.bag vs) ++ coded_each (elements_of q) (element_base x.types.now b) vs
 
-    pub coded_each : Sought → Base → Values → List Datum
+    pub coded_each : Sought → Base → Values → List Told
     coded_each q b values.none = []
     coded_each q b (more v vs) = coded_values q b v ++ coded_each q b vs
 
   -- .. in the elements of an aggregate of this data type
-  abbrev pub coded_elements : Sought → Base → Values → List Datum
+  abbrev pub coded_elements : Sought → Base → Values → List Told
   coded_elements q b vs = coded_each (elements_of q) (element_base x.types.now b) vs
 
   -- .. beside the value itself
-  abbrev pub coded_inside : Sought → Base → Value → List Datum
+  abbrev pub coded_inside : Sought → Base → Value → List Told
   coded_inside q b (leaf a) = []
   coded_inside q b (reference y) = []
   coded_inside q b (values.typed n v) = coded_values (by_name n) (named_base x.types.now n) v
@@ -107,28 +122,24 @@ module _ (x : Seeker) (test : Name → Bool) where
   coded_inside q b (values.bag vs) = coded_elements q b vs
 
   -- .. where there is a value
-  abbrev pub coded_at : Sought → Base → Option Value → List Datum
+  abbrev pub coded_at : Sought → Base → Option Value → List Told
   coded_at q b None = []
   coded_at q b (Some v) = coded_values q b v
 
   -- .. by the data types of these declarations in turn
-  abbrev pub coded_uses : Base → Option Value → List AttributeUse → List Datum
+  abbrev pub coded_uses : Base → Option Value → List AttributeUse → List Told
   coded_uses b o us = flat_map (λ (u : AttributeUse). coded_at (by_number u.data_type) b o) us
 
   -- .. by those of the attribute of a place
-  abbrev pub coded_place : Asked → ℕ → Option Value → List Datum
+  abbrev pub coded_place : Asked → ℕ → Option Value → List Told
   coded_place k q o = coded_uses (entry k.declared.now q) o (uses_by k.uses.now k.types.now q)
 
   -- .. in values in turn, which are those of these attributes
-  abbrev pub coded_slots : Asked → List SlotForm → Values → List Datum
+  abbrev pub coded_slots : Asked → List SlotForm → Values → List Told
   coded_slots k (y ∷ ys) (more v vs) = coded_place k y.place (Some v) ++ coded_slots k ys vs
   coded_slots k ys vs = []
 
--- what an instance of a form is of, and the attributes that it has
-abbrev pub types_in : Option InstanceForm → List ℕ
-types_in None = []
-types_in (Some f) = f.types.items
-
+-- the attributes that an instance of a form has
 abbrev pub slots_in : Option InstanceForm → List SlotForm
 slots_in None = []
 slots_in (Some f) = f.slots.items

@@ -1,2 +1,3 @@
 pub mod Coded
 pub mod Seeking
+pub mod Speaking

@@ -1,15 +1,13 @@
 //! The values of SELF at an instance.
-#![tactic(auto, unfolding(held_values::specs::Parts::element_datum))]
+#![tactic(auto)]
 
 ghost use Rattle.std.specs.Prelude.{
   ◌≡◌,
   ◌<◌,
-  Bool,
   [],
   ◌∷◌,
+  List,
   Some,
-  cond,
-  flat_map,
   length,
   map,
   slice_get,
@@ -26,27 +24,25 @@ ghost use Rattle.attribute_uses.specs.Uses.{of_place, uses_at};
 ghost use Rattle.conformance.specs.Fitting.{among};
 ghost use Rattle.conformance.specs.Populations.{Instance};
 ghost use Rattle.step_population.specs.Seen.{population_seen};
-ghost use Rattle.step_population.specs.Whole.{form_among};
-ghost use Rattle.express_logic.specs.Data;
-ghost use Rattle.express_meanings.specs.Findings.{selves, in_slot};
+ghost use Rattle.step_population.specs.Whole.{form_among, types_by_form};
 ghost use Rattle.held_values.specs.Parts.{element_datum};
-ghost use Rattle.domain_rules.specs.Seen.{holder_seen, IsNumberedHolder};
 ghost use Rattle.express_settings.specs.Settings.{IsSetting, Meant, schema_in, population_in};
 ghost use Rattle.self_values.specs.Coded.{
-  types_in,
+  Told,
   slots_in,
   coded_at,
   coded_uses,
   coded_place,
   coded_slots,
 };
-ghost use Rattle.self_values.specs.Seeking.{IsSeeker, Tells, Adds};
+ghost use Rattle.self_values.specs.Seeking.{Tells, Adds};
+ghost use Rattle.self_values.specs.Speaking.{is_of, values_of, AreFound, TypesTell};
 
+use crate::found::Found;
 use crate::sought::{Seeker, Sought};
 use crate::walk::add_values;
 use attribute_uses::uses::{AttributeUse, Uses};
 use base_types::base::Base;
-use domain_rules::rule::RuleHolder;
 use express_settings::setting::Setting;
 use held_values::element::Element;
 use instance_forms::form::{Form, SlotForm};
@@ -67,7 +63,7 @@ struct Asked<'n> {
 
 /// What an instance of the form of a number is of.
 fn types_at(forms: &[Form], form: Option<u32>) -> &[u32]
-    ensures { result.now ≡ types_in (form_among forms.now form) }
+    ensures { result.now ≡ types_by_form (form_among forms.now form) }
 {
     let Some(number) = form else {
         return &[];
@@ -113,17 +109,15 @@ fn uses_at(uses: &Uses, number: u32) -> &[AttributeUse]
 
 /// Adds the values that are sought in the value at a position, where there is one.
 fn add_at<'p, 'r>(
-    found: &mut Vec<Element<'p, 'r>>,
+    found: &mut Found<'p, 'r>,
     seeker: &Seeker<'p, '_, 'r, '_, '_>,
     sought: Sought,
     base: Base,
     values: &Slots<'p, 'r>,
     position: usize,
 ) -> Result<(), AllocError>
-    requires seeker { IsSeeker seeker.now }
-    ensures { (test : Name → Bool) → Tells seeker.now test → OnOk result
-        (Adds (coded_at seeker.now test sought base (nth values.now position)) found.old.items
-        found.new.items) }
+    ensures { OnOk result (Adds (coded_at seeker.now sought base (nth values.now position))
+        found.old found.new) }
 {
     match values.item(position) {
         Some(value) => add_values(found, seeker, sought, base, value),
@@ -133,7 +127,7 @@ fn add_at<'p, 'r>(
 
 /// .. by the data type of a declaration, where it is one of the attribute of a place.
 fn add_use<'p, 'r>(
-    found: &mut Vec<Element<'p, 'r>>,
+    found: &mut Found<'p, 'r>,
     seeker: &Seeker<'p, '_, 'r, '_, '_>,
     base: Base,
     values: &Slots<'p, 'r>,
@@ -141,10 +135,8 @@ fn add_use<'p, 'r>(
     place: u32,
     each: AttributeUse,
 ) -> Result<(), AllocError>
-    requires seeker { IsSeeker seeker.now }
-    ensures { (test : Name → Bool) → Tells seeker.now test → OnOk result
-        (Adds (coded_uses seeker.now test base (nth values.now position)
-        (of_place place (each ∷ []))) found.old.items found.new.items) }
+    ensures { OnOk result (Adds (coded_uses seeker.now base (nth values.now position)
+        (of_place place (each ∷ []))) found.old found.new) }
 {
     if each.place == place {
         let sought = seeker.by_number(each.data_type);
@@ -156,7 +148,7 @@ fn add_use<'p, 'r>(
 
 /// .. by those of the declarations by an entity.
 fn add_uses<'p, 'r>(
-    found: &mut Vec<Element<'p, 'r>>,
+    found: &mut Found<'p, 'r>,
     seeker: &Seeker<'p, '_, 'r, '_, '_>,
     base: Base,
     values: &Slots<'p, 'r>,
@@ -164,10 +156,8 @@ fn add_uses<'p, 'r>(
     place: u32,
     uses: &[AttributeUse],
 ) -> Result<(), AllocError>
-    requires seeker { IsSeeker seeker.now }
-    ensures { (test : Name → Bool) → Tells seeker.now test → OnOk result
-        (Adds (coded_uses seeker.now test base (nth values.now position)
-        (of_place place uses.now)) found.old.items found.new.items) }
+    ensures { OnOk result (Adds (coded_uses seeker.now base (nth values.now position)
+        (of_place place uses.now)) found.old found.new) }
 {
     for i in 0..uses.len() {
         add_use(found, seeker, base, values, position, place, uses[i])?;
@@ -177,17 +167,15 @@ fn add_uses<'p, 'r>(
 
 /// .. by those of the declarations by the types of the instance.
 fn add_place<'p, 'r>(
-    found: &mut Vec<Element<'p, 'r>>,
+    found: &mut Found<'p, 'r>,
     seeker: &Seeker<'p, '_, 'r, '_, '_>,
     asked: &Asked<'_>,
     values: &Slots<'p, 'r>,
     position: usize,
     place: u32,
 ) -> Result<(), AllocError>
-    requires seeker { IsSeeker seeker.now }
-    ensures { (test : Name → Bool) → Tells seeker.now test → OnOk result
-        (Adds (coded_place seeker.now test asked.now place (nth values.now position))
-        found.old.items found.new.items) }
+    ensures { OnOk result (Adds (coded_place seeker.now asked.now place (nth values.now position))
+        found.old found.new) }
 {
     let base = declared_at(asked.declared, place);
     let types = asked.types;
@@ -201,16 +189,14 @@ fn add_place<'p, 'r>(
 /// Adds the values that are sought in the values of an instance, which are those of these
 /// attributes.
 fn add_slots<'p, 'r>(
-    found: &mut Vec<Element<'p, 'r>>,
+    found: &mut Found<'p, 'r>,
     seeker: &Seeker<'p, '_, 'r, '_, '_>,
     asked: &Asked<'_>,
     slots: &[SlotForm],
     values: &Slots<'p, 'r>,
 ) -> Result<(), AllocError>
-    requires seeker { IsSeeker seeker.now }
-    ensures { (test : Name → Bool) → Tells seeker.now test → OnOk result
-        (Adds (coded_slots seeker.now test asked.now slots.now values.now) found.old.items
-        found.new.items) }
+    ensures { OnOk result (Adds (coded_slots seeker.now asked.now slots.now values.now) found.old
+        found.new) }
 {
     for i in 0..slots.len() {
         add_place(found, seeker, asked, values, i, slots[i].place)?;
@@ -218,22 +204,19 @@ fn add_slots<'p, 'r>(
     Ok(())
 }
 
-/// Adds the values of a defined type that the instance of a row has.
+/// Adds the values of some defined types that the instance of a row has.
 fn add_values_of<'p, 'e, 'r, 't, 's: 'r, 'a>(
-    found: &mut Vec<Element<'p, 'r>>,
+    found: &mut Found<'p, 'r>,
     setting: &Setting<'p, 'e, 'r, 't, 's, 'a>,
     row: usize,
-    declared: u32,
+    wanted: &[bool],
 ) -> Result<(), AllocError>
     requires setting { IsSetting setting.now }
     requires within { row < length (population_in setting.now) }
-    requires numbered { HasNumber (schema_in setting.now)
-        (name_at (schema_in setting.now) declared) declared }
-    ensures { (m : Meant setting.now) → (x : Instance)
-        → slice_get (population_in setting.now) row ≡ Some x → OnOk result
-        (Adds (flat_map (in_slot (schema_in setting.now) m.domain m.entities m.attributes
-        (name_at (schema_in setting.now) declared) x.types) x.slots) found.old.items
-        found.new.items) }
+    ensures { OnOk result ((told : List Told) × Adds told found.old found.new
+        × ((m : Meant setting.now) → (x : Instance)
+        → slice_get (population_in setting.now) row ≡ Some x
+        → AreFound setting.now m x wanted.now told)) }
 {
     let population = setting.extents.population;
     let tables = setting.tables;
@@ -243,7 +226,7 @@ fn add_values_of<'p, 'e, 'r, 't, 's: 'r, 'a>(
         names: &population.types.names,
         types: &tables.value_types,
         forms: &tables.data_types.forms,
-        declared,
+        wanted,
     };
     let asked = Asked {
         uses: tables.uses,
@@ -254,71 +237,68 @@ fn add_values_of<'p, 'e, 'r, 't, 's: 'r, 'a>(
     add_slots(found, &seeker, &asked, slots, &instance.values)
 }
 
-/// Adds the instance of a row, if it is of an entity.
-fn add_instance<'p, 'r>(
-    found: &mut Vec<Element<'p, 'r>>,
-    population: &Population<'_, '_, '_, '_>,
-    row: usize,
-    entity: u32,
-) -> Result<(), AllocError>
+/// Whether the instance of a row is of an entity.
+pub fn is_of_entity(population: &Population<'_, '_, '_, '_>, row: usize, entity: u32) -> bool
     requires within { row < length (population_seen population.now) }
     requires numbered { HasNumber (schema_of population.now.types.now.names.schema.now)
         (name_at (schema_of population.now.types.now.names.schema.now) entity) entity }
     ensures { (x : Instance) → slice_get (population_seen population.now) row ≡ Some x
-        → OnOk result (Adds (cond (among
-        (name_at (schema_of population.now.types.now.names.schema.now) entity) x.types)
-        (Data.instance x.name ∷ []) []) found.old.items found.new.items) }
+        → result
+        ≡ among (name_at (schema_of population.now.types.now.names.schema.now) entity) x.types }
 {
     let instance = population.instance(row);
-    if types_at(population.forms(), instance.form).contains(&entity) {
-        found.push(Element::Instance(instance.name))?;
-    }
-    Ok(())
+    types_at(population.forms(), instance.form).contains(&entity)
 }
 
-/// Adds the values of SELF for which a rule of this holder is tried at the instance of a row.
-fn add_selves<'p, 'e, 'r, 't, 's: 'r, 'a>(
-    found: &mut Vec<Element<'p, 'r>>,
-    setting: &Setting<'p, 'e, 'r, 't, 's, 'a>,
-    row: usize,
-    holder: RuleHolder,
-) -> Result<(), AllocError>
-    requires setting { IsSetting setting.now }
-    requires within { row < length (population_in setting.now) }
-    requires holder { IsNumberedHolder (schema_in setting.now) holder }
-    ensures { (m : Meant setting.now) → (x : Instance)
-        → slice_get (population_in setting.now) row ≡ Some x → OnOk result
-        (Adds (selves (schema_in setting.now) m.domain m.entities m.attributes x
-        (holder_seen (schema_in setting.now) holder)) found.old.items found.new.items) }
-{
-    match holder {
-        RuleHolder::Entity(entity) => {
-            add_instance(found, setting.extents.population, row, entity)
-        }
-        RuleHolder::Type(declared) => add_values_of(found, setting, row, declared),
-    }
-}
-
-/// The values of SELF for which a rule of this holder is tried at the instance of a row, in order:
-/// for that of an entity the instance, if it is of that entity; for that of a defined type each of
-/// its values that the instance has, at any depth (ISO 10303-11, 9.1 and 9.2.2.2).
+/// The values of defined types that the instance of a row has, at any depth, in order, for which
+/// the rules of a defined type are tried: those of the types that are wanted, by number of a
+/// declaration (ISO 10303-11, 9.1).
 ///
 /// An error says that memory ran out.
 pub fn self_values<'p, 'e, 'r, 't, 's: 'r, 'a>(
     alloc: Global,
     setting: &Setting<'p, 'e, 'r, 't, 's, 'a>,
     row: usize,
-    holder: RuleHolder,
+    wanted: &[bool],
 ) -> Result<Vec<Element<'p, 'r>>, AllocError>
     requires setting { IsSetting setting.now }
     requires within { row < length (population_in setting.now) }
-    requires holder { IsNumberedHolder (schema_in setting.now) holder }
-    ensures { IfOk result (λ t. (m : Meant setting.now) → (x : Instance)
-        → slice_get (population_in setting.now) row ≡ Some x
-        → map element_datum t.items ≡ selves (schema_in setting.now) m.domain m.entities
-        m.attributes x (holder_seen (schema_in setting.now) holder)) }
+    ensures { IfOk result (λ v. (m : Meant setting.now) → (x : Instance)
+        → slice_get (population_in setting.now) row ≡ Some x → (t : Name)
+        → Tells (schema_in setting.now) wanted.now (is_of setting.now m t)
+        → map element_datum v.items ≡ values_of setting.now m x t) }
 {
-    let mut found = Vec::new(alloc);
-    add_selves(&mut found, setting, row, holder)?;
-    Ok(found)
+    let mut found = Found {
+        keeps: true,
+        values: Vec::new(alloc),
+        types: Vec::new(alloc),
+    };
+    add_values_of(&mut found, setting, row, wanted)?;
+    let Found { values, .. } = found;
+    Ok(values)
+}
+
+/// The numbers of the defined types of such values, each once: there is none for the rules of a type
+/// where none of these numbers is that of the type or of one that is defined by it.
+///
+/// An error says that memory ran out.
+pub fn value_types<'p, 'e, 'r, 't, 's: 'r, 'a>(
+    alloc: Global,
+    setting: &Setting<'p, 'e, 'r, 't, 's, 'a>,
+    row: usize,
+    wanted: &[bool],
+) -> Result<Vec<u32>, AllocError>
+    requires setting { IsSetting setting.now }
+    requires within { row < length (population_in setting.now) }
+    ensures { IfOk result (λ v. (m : Meant setting.now) → (x : Instance)
+        → slice_get (population_in setting.now) row ≡ Some x → TypesTell setting.now m x wanted.now v.items) }
+{
+    let mut found = Found {
+        keeps: false,
+        values: Vec::new(alloc),
+        types: Vec::new(alloc),
+    };
+    add_values_of(&mut found, setting, row, wanted)?;
+    let Found { types, .. } = found;
+    Ok(types)
 }

@@ -1,9 +1,8 @@
 //! The values of a defined type in a value, at any depth (ISO 10303-11, 9.1).
-#![tactic(auto, unfolding(held_values::specs::Parts::element_datum))]
+#![tactic(auto)]
 
-ghost use Rattle.std.specs.Prelude.{◌≡◌, Bool, OnOk};
+ghost use Rattle.std.specs.Prelude.{◌≡◌, OnOk};
 ghost use Rattle.step_values.specs.Slots.{node_value};
-ghost use Rattle.type_graphs.specs.Names.{Name};
 ghost use Rattle.self_values.specs.Coded.{
   is_whole,
   coded_itself,
@@ -12,11 +11,11 @@ ghost use Rattle.self_values.specs.Coded.{
   coded_elements,
   coded_inside,
 };
-ghost use Rattle.self_values.specs.Seeking.{IsSeeker, Tells, Adds};
+ghost use Rattle.self_values.specs.Seeking.{Adds};
 
+use crate::found::{Found, add};
 use crate::sought::{Seeker, Sought};
 use base_types::base::Base;
-use held_values::element::Element;
 use std::alloc::AllocError;
 use step_values::slot::{Kind, Node, Slot, Slots};
 
@@ -34,63 +33,57 @@ fn is_whole(kind: Kind) -> bool
 
 /// Adds the value itself, where it is sought.
 fn add_itself<'p, 'r>(
-    found: &mut Vec<Element<'p, 'r>>,
+    found: &mut Found<'p, 'r>,
     seeker: &Seeker<'p, '_, 'r, '_, '_>,
-    is_it: bool,
+    declared: Option<u32>,
     base: Base,
     value: Slot<'p, 'r>,
 ) -> Result<(), AllocError>
-    ensures { (test : Name → Bool) → OnOk result
-        (Adds (coded_itself seeker.now test is_it base value.entry) found.old.items
-        found.new.items) }
+    ensures { OnOk result (Adds (coded_itself seeker.now declared base value.entry) found.old found.new) }
 {
-    if is_it && is_whole(value.kind()) {
-        let types = seeker.types;
-        found.push(Element::Value { types, base, value })?;
+    let Some(number) = declared else {
+        return Ok(());
+    };
+    if !is_whole(value.kind()) {
+        return Ok(());
     }
-    Ok(())
+    add(found, number, seeker.types, base, value)
 }
 
 /// Adds the values that are sought in a value: itself, elements, and what stands inside typed
 /// values. It is worth what it is by its base.
 #[cycle(walk)]
 pub(crate) fn add_values<'p, 'r>(
-    found: &mut Vec<Element<'p, 'r>>,
+    found: &mut Found<'p, 'r>,
     seeker: &Seeker<'p, '_, 'r, '_, '_>,
     sought: Sought,
     base: Base,
     value: Slot<'p, 'r>,
 ) -> Result<(), AllocError>
-    requires seeker { IsSeeker seeker.now }
-    ensures { (test : Name → Bool) → Tells seeker.now test → OnOk result
-        (Adds (coded_values seeker.now test sought base value.entry) found.old.items
-        found.new.items) }
+    ensures { OnOk result (Adds (coded_values seeker.now sought base value.entry) found.old found.new) }
 {
     let node = value.node();
-    add_itself(found, seeker, sought.is_it, base, value)?;
+    add_itself(found, seeker, sought.declared, base, value)?;
     add_inside(found, seeker, sought, base, node)
 }
 
 /// .. those inside its outermost part.
 #[cycle(walk)]
 fn add_inside<'p, 'r>(
-    found: &mut Vec<Element<'p, 'r>>,
+    found: &mut Found<'p, 'r>,
     seeker: &Seeker<'p, '_, 'r, '_, '_>,
     sought: Sought,
     base: Base,
     node: Node<'p, 'r>,
 ) -> Result<(), AllocError>
-    requires seeker { IsSeeker seeker.now }
-    ensures { (test : Name → Bool) → Tells seeker.now test → OnOk result
-        (Adds (coded_inside seeker.now test sought base (node_value node.entry)) found.old.items
-        found.new.items) }
+    ensures { OnOk result (Adds (coded_inside seeker.now sought base (node_value node.entry)) found.old found.new) }
 {
     match node {
         Node::Unset | Node::Derived | Node::Number(_) | Node::Text(_) => Ok(()),
         Node::Bits(_) | Node::Element(_) | Node::Reference(_) => Ok(()),
         Node::Typed(word, inner) => {
             let within = seeker.by_name(word);
-            add_values(found, seeker, within, seeker.types.of_name(word), inner)
+            add_values(found, seeker, within, within.base, inner)
         }
         Node::Sequence(values) => add_elements(found, seeker, sought, base, &values),
         Node::Bag(values) => add_elements(found, seeker, sought, base, &values),
@@ -100,16 +93,13 @@ fn add_inside<'p, 'r>(
 /// .. those in the elements of an aggregate.
 #[cycle(walk)]
 fn add_elements<'p, 'r>(
-    found: &mut Vec<Element<'p, 'r>>,
+    found: &mut Found<'p, 'r>,
     seeker: &Seeker<'p, '_, 'r, '_, '_>,
     sought: Sought,
     base: Base,
     values: &Slots<'p, 'r>,
 ) -> Result<(), AllocError>
-    requires seeker { IsSeeker seeker.now }
-    ensures { (test : Name → Bool) → Tells seeker.now test → OnOk result
-        (Adds (coded_elements seeker.now test sought base values.now) found.old.items
-        found.new.items) }
+    ensures { OnOk result (Adds (coded_elements seeker.now sought base values.now) found.old found.new) }
 {
     let within = seeker.elements_of(sought);
     add_each(
@@ -124,16 +114,13 @@ fn add_elements<'p, 'r>(
 /// .. those in each of these values.
 #[cycle(walk)]
 fn add_each<'p, 'r>(
-    found: &mut Vec<Element<'p, 'r>>,
+    found: &mut Found<'p, 'r>,
     seeker: &Seeker<'p, '_, 'r, '_, '_>,
     sought: Sought,
     base: Base,
     values: &Slots<'p, 'r>,
 ) -> Result<(), AllocError>
-    requires seeker { IsSeeker seeker.now }
-    ensures { (test : Name → Bool) → Tells seeker.now test → OnOk result
-        (Adds (coded_each seeker.now test sought base values.now) found.old.items
-        found.new.items) }
+    ensures { OnOk result (Adds (coded_each seeker.now sought base values.now) found.old found.new) }
 {
     for i in 0..values.len() {
         add_values(found, seeker, sought, base, values.at(i))?;

@@ -34,7 +34,7 @@ use Rattle.instance_forms.specs.declared.form.SlotForm.{SlotForm}
 use Rattle.instance_forms.specs.declared.form.Form.{Form}
 use Rattle.conformance.specs.Populations.{Slot, Instance, instance_at, slot_at, value_in, value_of, types_in, types_at}
 use Rattle.step_population.specs.Seen.{or_nowhere, place_at, slots_seen, instance_seen, instances_seen, section_numbers, population_seen, nodes_seen}
-use Rattle.step_population.specs.Whole.{form_among, slot_count, ArePlaced, HaveEntities, AreNumbered, HaveSlots}
+use Rattle.step_population.specs.Whole.{form_among, types_by_form, slot_count, ArePlaced, HaveEntities, AreNumbered, HaveSlots}
 use Rattle.step_population.specs.Ordering.{picked_at, position_among}
 use Rattle.step_population.specs.declared.population.Population.{Population}
 use Rattle.step_population.proofs.Turns.{got, form-of-row}
@@ -335,11 +335,6 @@ module _ (s : Schema) (q : ℕ) (le : length (all_places s) ≤ q) where
   pub beyond-form : (o : Option Form) (vs : Values) → ArePlaced s o → value_by_form s o vs q ≡ None
   beyond-form None vs h = refl
   beyond-form (Some x) vs h = ap (picked_at vs) (beyond-slots x.slots.items h)
-
--- the types of an instance of this form
-abbrev pub types_by_form : Option Form → List ℕ
-types_by_form None = []
-types_by_form (Some x) = x.types.items
 
 pub types-of-form : (s : Schema) (y k : ℕ) (o : Option Form) (vs : Values)
     → types_in (Some (instance_seen s y k o vs)) ≡ map (name_at s) (types_by_form o)

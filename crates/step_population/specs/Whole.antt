@@ -1,5 +1,5 @@
 -- Tables that belong together.
-use Rattle.std.specs.Prelude.{◌≡◌, ⊤, ℕ, ◌<◌, ◌≤◌, true, List, ◌∷◌, Option, None, Some, length, slice_get}
+use Rattle.std.specs.Prelude.{◌≡◌, ⊤, ℕ, ◌<◌, ◌≤◌, true, List, [], ◌∷◌, Option, None, Some, length, slice_get}
 use Rattle.express_schemas.specs.Schemas.{Schema}
 use Rattle.express_schemas.specs.Profile.{Every}
 use Rattle.schema_names.specs.Numbers.{HasNumber}
@@ -19,6 +19,11 @@ use Rattle.file_findings.specs.declared.rows.Rows.{Rows}
 abbrev pub form_among : List Form → Option ℕ → Option Form
 form_among forms None = None
 form_among forms (Some n) = slice_get forms n
+
+-- the types of an instance of this form
+abbrev pub types_by_form : Option Form → List ℕ
+types_by_form None = []
+types_by_form (Some x) = x.types.items
 
 -- the attributes of a form are numbered
 abbrev pub ArePlaced : Schema → Option Form → Type 0

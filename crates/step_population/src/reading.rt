@@ -1,6 +1,7 @@
 //! What a typed population says of its instances.
 
-ghost use Rattle.std.specs.Prelude.{◌≡◌, ◌<◌, ◌≤◌, None, length, map};
+ghost use Rattle.std.specs.Prelude.{◌≡◌, ◌<◌, ◌≤◌, None, length, map, slice_get};
+ghost use Rattle.std.specs.Option.{option_flatten};
 ghost use Rattle.columns.specs.Nodes.{IsColumn};
 ghost use Rattle.step_values.specs.Cells.{value_nodes};
 ghost use Rattle.step_values.specs.Targets.{LeadTo, targets_of};
@@ -13,9 +14,11 @@ ghost use Rattle.row_index.specs.Index.{place_of};
 ghost use Rattle.base_types.specs.Seen.{name_at};
 ghost use Rattle.conformance.specs.Populations.{value_of, types_at};
 ghost use Rattle.step_population.specs.Seen.{place_at, population_seen, nodes_seen};
+ghost use Rattle.step_population.specs.Whole.{form_among, types_by_form};
 
 use crate::building::form_at;
 use crate::population::Population;
+use file_findings::rows::Rows;
 use instance_forms::form::SlotForm;
 use step_values::cell::Cell;
 use step_values::slot::Slot;
@@ -30,6 +33,16 @@ pub fn position_of(slots: &[SlotForm], place: u32) -> Option<usize>
         }
     }
     None
+}
+
+/// The number of the form of a row; none where one of its keywords is no entity.
+fn form_number(rows: &Rows, row: usize) -> Option<u32>
+    ensures { result ≡ option_flatten (slice_get rows.now.form_of.items row) }
+{
+    match rows.form_of.get(row) {
+        Some(number) => *number,
+        None => None,
+    }
 }
 
 impl<'r, 't, 's, 'a> Population<'r, 't, 's, 'a> {
@@ -76,6 +89,19 @@ impl<'r, 't, 's, 'a> Population<'r, 't, 's, 'a> {
             Some(form) => &form.types,
             None => &[],
         }
+    }
+
+    /// The number of the form of the instance of a name, among those of the population; none where
+    /// there is no such instance. It takes no memory.
+    pub fn form_of(&self, name: u64) -> Option<u32>
+        ensures { types_at (population_seen self.now) name
+            ≡ map (name_at (schema_of self.now.types.now.names.schema.now))
+            (types_by_form (form_among self.now.rows.forms.items result)) }
+    {
+        let Some(row) = self.rows.index.find(name) else {
+            return None;
+        };
+        form_number(&self.rows, row as usize)
     }
 
     /// The whole column of cells, one for each node of a value, what is inside each before it, and

@@ -9,7 +9,21 @@ use Rattle.step_population.specs.Seen.{population_seen}
 use Rattle.express_meanings.specs.Attributes.{AreAttributes}
 use Rattle.express_meanings.specs.Findings.{rule_findings, unknown}
 use Rattle.rule_outcomes.specs.Counting.{capped}
+use Rattle.attribute_sources.specs.Seen.{inverses_seen}
+use Rattle.attribute_sources.specs.Tables.{IsKnown}
+use Rattle.form_sources.specs.Sources.{AreFormSources}
 use Rattle.checking.proofs.rules.domain_findings.Goals as goal
+
+pub of-requires-clause-known : goal.of-requires-clause-known
+of-requires-clause-known c =
+    let ready = c.requires.ready in
+    let d = ready.tables.base_types.exists in
+    subst (IsKnown c.args.extents.now.population.now.types.now c.args.settings.now.sources)
+    (sym c.as_slice-inverses.ensures.value) (record {
+      made = ready.made;
+      sources = ready.settings.sources;
+      inverses = record { declared = (d.0, (ready.rules.rules d.0 d.1).inverses); numbered = ready.rules.numbered.inverses };
+    })
 
 pub check_rules-requires-clause-setting : goal.check_rules-requires-clause-setting
 check_rules-requires-clause-setting c =
@@ -23,6 +37,10 @@ check_rules-requires-clause-setting c =
         inverses = record { declared = (d.0, (ready.rules.rules d.0 d.1).inverses); numbered = ready.rules.numbered.inverses };
       };
       tables = ready.settings;
+      forms = subst (λ rows. AreFormSources s (inverses_seen s rows) c.args.extents.now.population.now.rows.forms.items c.in_ok-sources.sources)
+          c.as_slice-inverses.ensures.value
+          (subst (λ fs. AreFormSources s (inverses_seen s c.as_slice-inverses.result.now) fs c.in_ok-sources.sources)
+          c.forms-forms.ensures.forms c.in_ok-sources.ensures);
       formulas = subst (AreFormulas s) (sym c.deref.ensures.value) ready.domain.formulas;
       firsts = ready.firsts;
     }

@@ -1,82 +1,26 @@
-use Rattle.std.proofs.lemmas.List.{take_all}
-use Rattle.std.proofs.Common.{◌≡◌, ◌<◌, ◌≤◌, arith, ◌+◌, ◌∙◌, [], ◌++◌, length, map, take, flat_map, ap, sym, subst}
-use Rattle.express_schemas.specs.Profile.{Every}
-use Rattle.step_population.specs.Seen.{instance_seen}
-use Rattle.step_population.specs.Whole.{form_among}
-use Rattle.step_population.proofs.Found.{kept}
-use Rattle.step_extent.specs.Inverses.{row_by}
-use Rattle.step_extent.proofs.Held.{flat-next}
-use Rattle.express_settings.specs.Settings.{schema_in, population_in}
-use Rattle.rule_outcomes.specs.Applying.{numbers_by}
+use Rattle.std.proofs.Common.{◌∙◌, ap, map, subst}
+use Rattle.rule_findings.specs.Findings.{AreFindingsOf}
 use Rattle.rule_findings.specs.declared.finding.RuleFindingKind.TheVariants.{WhereFalse}
-use Rattle.step_extent.specs.Findings.{Adds}
-use Rattle.rule_outcomes.specs.Counting.{capped, Counts, Has, broken_at, open_at, broken_in, open_in}
-use Rattle.rule_outcomes.proofs.Telling.{row-within, broken-told, open-told, broken-are, open-are, seen-name}
-use Rattle.rule_outcomes.proofs.Counted.{has-more, all-findings}
+use Rattle.domain_rules.specs.Seen.{rule_seen}
+use Rattle.express_meanings.specs.Findings.{rule_findings, unknown}
+use Rattle.express_settings.specs.Settings.{schema_in, population_in}
+use Rattle.rule_outcomes.specs.Counting.{capped}
+use Rattle.rule_outcomes.proofs.Counted.{all-findings}
 use Rattle.rule_outcomes.proofs.check.check_rules.Goals as goal
-
-pub add_instance-requires-clause-within : goal.add_instance-requires-clause-within
-add_instance-requires-clause-within c =
-    let rules = c.args.rules.now in
-    let forms = c.args.setting.now.extents.now.population.now.rows.forms.items in
-    let form = c.instance-instance.result.form in
-    let row : c.row_at-numbers.result.now ≡ row_by (map (numbers_by rules 0) forms) form =
-    c.row_at-numbers.ensures
-    ∙ ap (λ rs. row_by (map (λ v. v.items) rs) form) c.deref.ensures.value
-    ∙ ap (λ rs. row_by rs form) (c.in_ok-rows.ensures ∙ ap (map (numbers_by rules 0)) c.forms.ensures.forms) in
-    subst (Every (λ n. n < length rules)) (sym row) (row-within rules forms form)
-
-pub loop-row-preserved : goal.loop-row-preserved
-loop-row-preserved c m =
-    let S = c.args.setting.now in
-    let p = S.extents.now.population.now in
-    let s = schema_in S in
-    let is = population_in S in
-    let rules = c.args.rules.now in
-    let forms = p.rows.forms.items in
-    let i = c.instance-instance.result in
-    let section = c.instance-instance.ensures.section in
-    let x = instance_seen s i.name section (form_among forms i.form) i.values in
-    let at = c.instance-instance.ensures.seen in
-    let k = c.loop-row.row in
-    let row : c.row_at-numbers.result.now ≡ row_by (map (numbers_by rules 0) forms) i.form =
-    c.row_at-numbers.ensures
-    ∙ ap (λ rs. row_by (map (λ v. v.items) rs) i.form) c.deref.ensures.value
-    ∙ ap (λ rs. row_by rs i.form) (c.in_ok-rows.ensures ∙ ap (map (numbers_by rules 0)) c.forms.ensures.forms) in
-    let broken : broken_at S m x rules c.row_at-numbers.result.now ≡ broken_in S m rules x =
-    ap (broken_at S m x rules) row
-    ∙ broken-told S m i.name section i.values forms (kept p).numbered i.form rules c.requires.numbered
-    ∙ broken-are S m x rules in
-    let open-ones : open_at S m x rules c.row_at-numbers.result.now ≡ open_in S m rules x =
-    ap (open_at S m x rules) row
-    ∙ open-told S m i.name section i.values forms (kept p).numbered i.form rules c.requires.numbered
-    ∙ open-are S m x rules in
-    let counts : Counts (broken_in S m rules x) (length (open_in S m rules x)) c.loop-row.report c.add_instance.new.report =
-    subst (λ bs. Counts bs (length (open_in S m rules x)) c.loop-row.report c.add_instance.new.report) broken
-    (subst (λ os. Counts (broken_at S m x rules c.row_at-numbers.result.now) (length os) c.loop-row.report c.add_instance.new.report)
-    open-ones (c.in_ok-add_instance.ensures m x at (seen-name s i.name section (form_among forms i.form) i.values))) in
-    subst (λ bs. Has bs (length (flat_map (open_in S m rules) (take (k + 1) is))) c.add_instance.new.report)
-    (sym (flat-next (broken_in S m rules) is k x at))
-    (subst (λ os. Has (flat_map (broken_in S m rules) (take k is) ++ broken_in S m rules x) (length os) c.add_instance.new.report)
-    (sym (flat-next (open_in S m rules) is k x at))
-    (has-more (flat_map (broken_in S m rules) (take k is)) (broken_in S m rules x) (flat_map (open_in S m rules) (take k is))
-    (open_in S m rules x) c.loop-row.report c.add_instance.new.report (c.loop-row.invariant m) counts))
 
 pub returns-clause-findings : goal.returns-clause-findings
 returns-clause-findings c m =
     let S = c.args.setting.now in
-    let fs = c.loop-row.report.findings.items in
-    let past = c.loop-row-test.false in
-    let end = c.len-row-end.ensures in
-    all-findings (flat_map (broken_in S m c.args.rules.now) (population_in S)) fs
-    (subst (λ is. Adds WhereFalse (flat_map (broken_in S m c.args.rules.now) is) [] fs)
-    (take_all c.loop-row.row (population_in S) (omega (arith, past, end))) (c.loop-row.invariant m).findings)
+    let s = schema_in S in
+    let r = c.in_ok-report.report in
+    subst (λ rules. AreFindingsOf WhereFalse (rule_findings s m.domain m.entities m.attributes (population_in S)
+    (map (rule_seen s) rules)) r.findings.items) c.in_ok-plan.ensures.rules
+    (all-findings _ r.findings.items (c.in_ok-report.ensures m).findings)
 
 pub returns-clause-unknown : goal.returns-clause-unknown
 returns-clause-unknown c m =
     let S = c.args.setting.now in
-    let past = c.loop-row-test.false in
-    let end = c.len-row-end.ensures in
-    (c.loop-row.invariant m).unknown
-    ∙ ap (λ is. capped (length (flat_map (open_in S m c.args.rules.now) is)))
-    (take_all c.loop-row.row (population_in S) (omega (arith, past, end)))
+    let s = schema_in S in
+    (c.in_ok-report.ensures m).unknown
+    ∙ ap (λ rules. capped (unknown s m.domain m.entities m.attributes (population_in S) (map (rule_seen s) rules)))
+    c.in_ok-plan.ensures.rules

@@ -1,32 +1,30 @@
-use Rattle.std.proofs.Common.{◌≡◌, ◌∙◌, ◌∷◌, [], ◌++◌, map, ap, sym}
-use Rattle.express_trees.specs.declared.tree.Logical.{Logical}
-use Rattle.express_logic.specs.Logic.{both}
-use Rattle.express_meanings.specs.Findings.{least}
-use Rattle.held_values.specs.declared.element.Element.{Element}
-use Rattle.held_values.specs.Parts.{element_datum}
-use Rattle.step_extent.proofs.Adding.{map-twice}
-use Rattle.rule_outcomes.specs.Outcomes.{said_of}
-use Rattle.rule_outcomes.proofs.Least.{least_with, with-true, with-last, map-last}
+use Rattle.std.proofs.Common.{◌≡◌, ◌∙◌, ap, sym, subst}
+use Rattle.std.proofs.lemmas.Result.{IfOk-weaker}
+use Rattle.domain_rules.specs.Seen.{IsNumberedHolder}
+use Rattle.express_settings.specs.Settings.{schema_in}
+use Rattle.rule_outcomes.specs.Outcomes.{said_by}
+use Rattle.rule_outcomes.specs.Wanted.{IsTableOf}
+use Rattle.rule_outcomes.specs.Planning.{Tell}
 use Rattle.rule_outcomes.proofs.outcome.outcome.Goals as goal
 
-pub loop-me-init : goal.loop-me-init
-loop-me-init c m x at =
-    let S = c.args.asked.now.setting.now in
-    let r = c.args.rule.now in
-    let vs = c.in_ok-values.values.items in
-    with-true (map (λ (e : Element). said_of S m r (element_datum e)) vs)
-    ∙ ap least (sym (map-twice (λ d. said_of S m r d) element_datum vs)
-    ∙ ap (map (λ d. said_of S m r d)) (c.in_ok-values.ensures m x at))
+pub entity_outcome-requires-clause-numbered : goal.entity_outcome-requires-clause-numbered
+entity_outcome-requires-clause-numbered c =
+    subst (IsNumberedHolder (schema_in c.args.asked.now.setting.now)) c.in-Entity.is c.requires.numbered
 
-pub loop-me-preserved : goal.loop-me-preserved
-loop-me-preserved c m x at =
+pub type_outcome-requires-clause-table : goal.type_outcome-requires-clause-table
+type_outcome-requires-clause-table c =
+    subst (λ h. IsTableOf (schema_in c.args.asked.now.setting.now) h c.args.table.now) c.in-Type.is c.requires.table
+
+pub returns-in-Entity : goal.returns-in-Entity
+returns-in-Entity c =
+    IfOk-weaker c.entity_outcome.result _ _ (λ p h m x at same tell.
+    h m x at same ∙ ap (said_by c.args.asked.now.setting.now m x c.args.rule.now) (sym c.in-Entity.is))
+    c.entity_outcome.ensures
+
+pub returns-in-Type : goal.returns-in-Type
+returns-in-Type c =
     let S = c.args.asked.now.setting.now in
-    let r = c.args.rule.now in
-    let f : Element → Logical = λ e. said_of S m r (element_datum e) in
-    let q = c.loop-me.outcome in
-    let left = c.pop.new.self.items in
-    let me = c.in-Some.me in
-    ap (least_with (map f left)) (c.and-outcome.ensures ∙ ap (λ p. both p q) (c.in_ok-said_of.ensures m))
-    ∙ sym (with-last (map f left) (f me) q)
-    ∙ ap (λ ps. least_with ps q) (sym (ap (map f) c.in-Some.ensures.items ∙ map-last f left me))
-    ∙ c.loop-me.invariant m x at
+    IfOk-weaker c.type_outcome.result _ _ (λ p h m x at same tell.
+    h m x at (subst (Tell S m x c.args.types.now) c.in-Type.is tell)
+    ∙ ap (said_by S m x c.args.rule.now) (sym c.in-Type.is))
+    c.type_outcome.ensures

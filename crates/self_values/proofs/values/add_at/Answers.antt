@@ -6,14 +6,13 @@ use Rattle.self_values.proofs.Adding.{adds-nothing}
 use Rattle.self_values.proofs.values.add_at.Goals as goal
 
 pub returns-in-Some : goal.returns-in-Some
-returns-in-Some c test tells =
+returns-in-Some c =
     on_ok_weaker c.add_values.result
-    (subst (λ ds. Adds ds c.args.found.now.items c.add_values.new.found.items)
-    (ap (coded_at c.args.seeker.now test c.args.sought c.args.base) c.in-Some.ensures))
-    (c.add_values.ensures test tells)
+    (subst (λ ds. Adds ds c.args.found.now c.add_values.new.found)
+    (ap (coded_at c.args.seeker.now c.args.sought c.args.base) c.in-Some.ensures))
+    c.add_values.ensures
 
 pub returns-in-None : goal.returns-in-None
-returns-in-None c test tells =
-    subst (λ ds. Adds ds c.args.found.now.items c.args.found.now.items)
-    (ap (coded_at c.args.seeker.now test c.args.sought c.args.base) c.in-None.ensures)
-    (adds-nothing c.args.found.now.items)
+returns-in-None c =
+    subst (λ ds. Adds ds c.args.found.now c.args.found.now)
+    (ap (coded_at c.args.seeker.now c.args.sought c.args.base) c.in-None.ensures) (adds-nothing c.args.found.now)

@@ -1,13 +1,10 @@
-use Rattle.std.specs.Prelude.{Bool}
 use Rattle.std.proofs.Common.{drop}
 use Rattle.step_values.proofs.Walks.{after}
-use Rattle.type_graphs.specs.Names.{Name}
 use Rattle.self_values.specs.Coded.{coded_slots}
-use Rattle.self_values.specs.Seeking.{Tells}
 use Rattle.self_values.proofs.Adding.{AddsUpTo}
 use Rattle.self_values.proofs.values.add_slots.Given as goal
 
 abbrev pub invariant-loop-i : goal.invariant-loop-i
-invariant-loop-i l = (test : Name → Bool) → Tells l.seeker test
-    → AddsUpTo (coded_slots l.seeker test l.asked l.slots l.values)
-    (coded_slots l.seeker test l.asked (drop l.i l.slots) (after l.i l.values)) l.fn.found.items l.found.items
+invariant-loop-i l =
+    AddsUpTo (coded_slots l.seeker l.asked l.slots l.values)
+    (coded_slots l.seeker l.asked (drop l.i l.slots) (after l.i l.values)) l.fn.found l.found

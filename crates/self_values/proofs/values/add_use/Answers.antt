@@ -8,17 +8,17 @@ use Rattle.self_values.proofs.Walking.{use-there, use-elsewhere}
 use Rattle.self_values.proofs.values.add_use.Goals as goal
 
 pub returns-then-each-place : goal.returns-then-each-place
-returns-then-each-place c test tells =
+returns-then-each-place c =
     let o = nth c.args.values.now c.args.position in
     on_ok_weaker c.add_at.result
-    (subst (λ ds. Adds ds c.args.found.now.items c.add_at.new.found.items)
-    (ap (λ q. coded_at c.args.seeker.now test q c.args.base o) (c.by_number-sought.ensures test tells)
-    ∙ sym (use-there c.args.seeker.now test c.args.base o c.args.each c.args.place c.if-each-place.true)))
-    (c.add_at.ensures test tells)
+    (subst (λ ds. Adds ds c.args.found.now c.add_at.new.found)
+    (ap (λ q. coded_at c.args.seeker.now q c.args.base o) c.by_number-sought.ensures
+    ∙ sym (use-there c.args.seeker.now c.args.base o c.args.each c.args.place c.if-each-place.true)))
+    c.add_at.ensures
 
 pub returns-else-each-place : goal.returns-else-each-place
-returns-else-each-place c test tells =
+returns-else-each-place c =
     let o = nth c.args.values.now c.args.position in
-    subst (λ ds. Adds ds c.args.found.now.items c.args.found.now.items)
-    (sym (use-elsewhere c.args.seeker.now test c.args.base o c.args.each c.args.place c.if-each-place.false))
-    (adds-nothing c.args.found.now.items)
+    subst (λ ds. Adds ds c.args.found.now c.args.found.now)
+    (sym (use-elsewhere c.args.seeker.now c.args.base o c.args.each c.args.place c.if-each-place.false))
+    (adds-nothing c.args.found.now)

@@ -7,11 +7,11 @@ use Rattle.self_values.proofs.Walking.{use-next}
 use Rattle.self_values.proofs.values.add_uses.Goals as goal
 
 pub loop-i-init : goal.loop-i-init
-loop-i-init c test tells = adds-nothing c.args.found.now.items
+loop-i-init c = adds-nothing c.args.found.now
 
 pub loop-i-preserved : goal.loop-i-preserved
-loop-i-preserved c test tells =
-    subst (λ ds. Adds ds c.args.found.now.items c.add_use.new.found.items)
-    (sym (use-next c.args.seeker.now test c.args.base (nth c.args.values.now c.args.position) c.args.place _ _ _
+loop-i-preserved c =
+    subst (λ ds. Adds ds c.args.found.now c.add_use.new.found)
+    (sym (use-next c.args.seeker.now c.args.base (nth c.args.values.now c.args.position) c.args.place _ _ _
     (take_more c.args.uses.now c.loop-i.i _ c.loop-i-test.true)))
-    (adds-both _ _ _ _ _ (c.loop-i.invariant test tells) (c.in_ok-add_use.ensures test tells))
+    (adds-both _ _ _ _ _ c.loop-i.invariant c.in_ok-add_use.ensures)

@@ -1,13 +1,10 @@
-use Rattle.std.specs.Prelude.{Bool}
 use Rattle.std.proofs.Common.{take}
 use Rattle.step_values.specs.Slots.{nth}
-use Rattle.type_graphs.specs.Names.{Name}
 use Rattle.attribute_uses.specs.Uses.{of_place}
 use Rattle.self_values.specs.Coded.{coded_uses}
-use Rattle.self_values.specs.Seeking.{Tells, Adds}
+use Rattle.self_values.specs.Seeking.{Adds}
 use Rattle.self_values.proofs.values.add_uses.Given as goal
 
 abbrev pub invariant-loop-i : goal.invariant-loop-i
-invariant-loop-i l = (test : Name → Bool) → Tells l.seeker test
-    → Adds (coded_uses l.seeker test l.base (nth l.values l.position) (of_place l.place (take l.i l.uses)))
-    l.fn.found.items l.found.items
+invariant-loop-i l =
+    Adds (coded_uses l.seeker l.base (nth l.values l.position) (of_place l.place (take l.i l.uses))) l.fn.found l.found

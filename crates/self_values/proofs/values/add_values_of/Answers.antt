@@ -1,5 +1,6 @@
-use Rattle.std.specs.Prelude.{flat_map, OnOk}
-use Rattle.std.proofs.Common.{◌∙◌, ap, sym, subst}
+use Rattle.std.specs.Prelude.{ℕ, List, ◌∷◌, ◌++◌, [], cond, map, Option}
+use Rattle.std.proofs.Common.{◌≡◌, ◌∙◌, ap, sym, subst, refl}
+use Rattle.std.proofs.lemmas.List.{map-append}
 use Rattle.std.proofs.lemmas.Result.{on_ok_weaker}
 use Rattle.express_schemas.specs.Profile.{Every}
 use Rattle.type_graphs.specs.Names.{Name}
@@ -9,29 +10,22 @@ use Rattle.base_types.specs.Seen.{name_at}
 use Rattle.conformance.specs.Populations.{Instance}
 use Rattle.conforming_values.specs.Conforming.{Conforms, typing_of}
 use Rattle.step_population.specs.Seen.{instance_seen}
-use Rattle.step_population.specs.Whole.{form_among, AreNumbered}
+use Rattle.step_population.specs.Whole.{form_among, types_by_form, AreNumbered}
 use Rattle.step_extent.proofs.Held.{numbers-of}
-use Rattle.express_meanings.specs.Findings.{in_slot}
+use Rattle.express_logic.specs.Data.{Datum}
 use Rattle.express_settings.specs.Settings.{schema_in, population_in}
 use Rattle.setting_tables.specs.Tables.{AreDeclared}
 use Rattle.self_values.specs.declared.sought.Seeker.{Seeker}
 use Rattle.self_values.specs.declared.values.Asked.{Asked}
-use Rattle.self_values.specs.Coded.{types_in, slots_in}
-use Rattle.self_values.specs.Seeking.{Adds}
+use Rattle.self_values.specs.Coded.{wanted_in, Told, told_by, coded_slots, slots_in}
+use Rattle.self_values.specs.Seeking.{IsSeeker, IsDeclared, those, worth}
+use Rattle.self_values.specs.Speaking.{is_of, values_of, AreFound}
 use Rattle.self_values.proofs.Placing.{instance-same, one-instance}
+use Rattle.self_values.proofs.Sifting.{told, those-joined, exactly-one, those-of-one}
 use Rattle.self_values.proofs.values.add_values_of.Goals as goal
 
-pub add_slots-requires : goal.add_slots-requires
-add_slots-requires c = record {
-  seeker = record {
-    resolved = c.requires.setting.known.made.resolved;
-    forms = c.deref.ensures.value ∙ c.requires.setting.tables.forms;
-    numbered = c.requires.numbered;
-  };
-}
-
 pub returns : goal.returns
-returns c m x at =
+returns c =
     let S = c.args.setting.now in
     let p = S.extents.now.population.now in
     let s = schema_in S in
@@ -41,33 +35,47 @@ returns c m x at =
     let r = c.instance-instance.result in
     let h = c.instance-instance.ensures in
     let o = form_among p.rows.forms.items r.form in
-    let t = name_at s c.args.declared in
     let y = instance_seen s r.name h.section o r.values in
     let seeker : Seeker = record {
       names = record { ref_ptr = (0, 0); now = p.types.now.names };
       types = record { ref_ptr = (0, 0); now = S.tables.now.value_types };
       forms = record { ref_ptr = (0, 0); now = c.deref.result.now };
-      declared = c.args.declared;
+      wanted = c.args.wanted;
     } in
     let asked : Asked = record {
       uses = record { ref_ptr = (0, 0); now = S.tables.now.uses.now };
       declared = record { ref_ptr = (0, 0); now = c.deref-2.result.now };
       types = record { ref_ptr = (0, 0); now = c.types_at.result.now };
     } in
-    subst (λ (z : Instance). OnOk c.add_slots.result
-    (Adds (flat_map (in_slot s m.domain m.entities m.attributes t z.types) z.slots) c.args.found.now.items
-    c.add_slots.new.found.items)) (one-instance is c.args.row y x h.seen at)
-    (on_ok_weaker c.add_slots.result
-    (subst (λ ds. Adds ds c.args.found.now.items c.add_slots.new.found.items)
-    (instance-same seeker (record {
+    let is_seeker : IsSeeker seeker = record {
       resolved = c.requires.setting.known.made.resolved;
       forms = c.deref.ensures.value ∙ tables.forms;
-      numbered = c.requires.numbered;
-    }) tables.value_types m.domain m.is_domain m.entities m.are_entities m.attributes t (typing_of is) asked tables.uses
-    (subst (AreDeclared s) (sym c.deref-2.ensures.value) tables.declared) o c.slots_at-slots.result.now
-    (c.types_at.ensures ∙ ap (λ l. types_in (form_among l r.form)) forms.forms)
-    (c.slots_at-slots.ensures ∙ ap (λ l. slots_in (form_among l r.form)) forms.forms) h.placed h.entities
-    (numbers-of s p.rows.forms.items r.form (subst (Every (AreNumbered s)) forms.forms forms.numbered)) r.name h.section
-    r.values
-    (every-at (Conforms s m.domain (typing_of is) m.entities) y is m.conforms (at-among is c.args.row y h.seen))))
-    (c.add_slots.ensures (λ (n : Name). m.attributes.is_defined_by n t) (λ n. m.are_attributes.names n t)))
+    } in
+    let all : List Told = coded_slots seeker asked c.slots_at-slots.result.now r.values in
+    on_ok_weaker c.add_slots.result
+    (λ adds. (
+      all,
+      adds,
+      λ m x at.
+          let given : (t : Name) (F : List Told → List Datum) → F [] ≡ []
+          → ((xs ys : List Told) → F (xs ++ ys) ≡ F xs ++ F ys)
+          → ((k : Option ℕ) → IsDeclared s k → (z : Datum)
+          → F (told_by (wanted_in c.args.wanted.now k) z) ≡ cond (told s (is_of S m t) k) (z ∷ []) [])
+          → F all ≡ values_of S m x t =
+          λ t F empty joined single.
+          subst (λ (z : Instance). F all ≡ values_of S m z t) (one-instance is c.args.row y x h.seen at)
+          (instance-same seeker is_seeker tables.value_types m.domain m.is_domain m.entities m.are_entities m.attributes t
+          (typing_of is) F empty joined single asked tables.uses
+          (subst (AreDeclared s) (sym c.deref-2.ensures.value) tables.declared) o c.slots_at-slots.result.now
+          (c.types_at.ensures ∙ ap (λ l. types_by_form (form_among l r.form)) forms.forms)
+          (c.slots_at-slots.ensures ∙ ap (λ l. slots_in (form_among l r.form)) forms.forms) h.placed h.entities
+          (numbers-of s p.rows.forms.items r.form (subst (Every (AreNumbered s)) forms.forms forms.numbered)) r.name h.section
+          r.values
+          (every-at (Conforms s m.domain (typing_of is) m.entities) y is m.conforms (at-among is c.args.row y h.seen))) in
+          record {
+            exactly = λ t tells. given t (map worth) refl (map-append worth) (exactly-one s (is_of S m t) c.args.wanted.now tells);
+            those_of = λ t p agrees covers. given t (those p) refl (those-joined p)
+                (those-of-one s (is_of S m t) c.args.wanted.now p agrees covers);
+          },
+    ))
+    c.add_slots.ensures

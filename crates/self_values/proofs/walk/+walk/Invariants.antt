@@ -1,11 +1,8 @@
-use Rattle.std.specs.Prelude.{Bool}
 use Rattle.std.proofs.Common.{suc}
 use Rattle.step_values.specs.Slots.{node_value}
 use Rattle.step_values.proofs.Walks.{after}
 use Rattle.step_values.proofs.Weights.{weight, weight_of}
-use Rattle.type_graphs.specs.Names.{Name}
 use Rattle.self_values.specs.Coded.{coded_each}
-use Rattle.self_values.specs.Seeking.{Tells}
 use Rattle.self_values.proofs.Adding.{AddsUpTo}
 use Rattle.self_values.proofs.walk.+walk.Given as goal
 
@@ -22,6 +19,6 @@ abbrev pub decreases-add_each : goal.decreases-add_each
 decreases-add_each a = weight_of a.values.now
 
 abbrev pub invariant-add_each-loop-i : goal.invariant-add_each-loop-i
-invariant-add_each-loop-i l = (test : Name → Bool) → Tells l.seeker test
-    → AddsUpTo (coded_each l.seeker test l.sought l.base l.values)
-    (coded_each l.seeker test l.sought l.base (after l.i l.values)) l.fn.found.items l.found.items
+invariant-add_each-loop-i l =
+    AddsUpTo (coded_each l.seeker l.sought l.base l.values) (coded_each l.seeker l.sought l.base (after l.i l.values))
+    l.fn.found l.found

@@ -3,5 +3,5 @@ use Rattle.self_values.specs.Coded.{elements_by}
 use Rattle.self_values.proofs.sought.Seeker.elements_of.Goals as goal
 
 pub returns-in-Aggregate : goal.returns-in-Aggregate
-returns-in-Aggregate c test tells =
-    c.by_number.ensures test tells ∙ sym (ap (elements_by c.args.self.now test c.args.sought) c.in-Aggregate.is)
+returns-in-Aggregate c =
+    c.by_number.ensures ∙ sym (ap (elements_by c.args.self.now c.args.sought) c.in-Aggregate.is)

@@ -4,7 +4,8 @@ use Rattle.base_types.specs.Seen.{name_at}
 use Rattle.express_schemas.specs.SchemaViews.{schema_of}
 use Rattle.express_schemas.specs.Profile.{Every}
 use Rattle.schema_names.specs.Numbers.{HasNumber}
-use Rattle.step_population.proofs.Found.{no-types, types-of-row, types_by_form}
+use Rattle.step_population.specs.Whole.{types_by_form}
+use Rattle.step_population.proofs.Found.{no-types, types-of-row}
 use Rattle.step_population.proofs.Rowwise.{numbered-row}
 use Rattle.step_population.proofs.population.Population.types_of.Goals as goal
 

@@ -1,0 +1,27 @@
+use Rattle.std.proofs.Common.{◌≡◌, ◌∙◌, Some, ap, sym, subst, map, slice_get}
+use Rattle.std.specs.Prelude.{IfSome}
+use Rattle.std.specs.Option.{option_map}
+use Rattle.std.proofs.lemmas.Option.{slice_get-map, slice_get-get_or}
+use Rattle.express_trees.specs.Views.{capitals}
+use Rattle.step_population.specs.Whole.{form_among, types_by_form}
+use Rattle.form_sources.specs.Sources.{IsSourceOf, AreNamedSources}
+use Rattle.form_sources.proofs.Rows.{row-of-form}
+use Rattle.form_sources.proofs.table.FormSources.find.Goals as goal
+
+pub returns-in-Some-get : goal.returns-in-Some-get
+returns-in-Some-get c s inverses forms all =
+    let x = c.args.self.now in
+    let n = c.in-Some.number in
+    let r = c.in-Some-get.row.now in
+    let got = c.in-Some-get.ensures.lookup in
+    let at : slice_get x.rows.items n ≡ Some r =
+    ap (λ xs. slice_get xs n) (sym c.deref.ensures.value)
+    ∙ slice_get-get_or c.deref.result.now n r got.3.0 ∙ ap Some (sym got.1) in
+    let there : slice_get (map (λ v. v.items) x.rows.items) n ≡ Some r.items =
+    slice_get-map (λ v. v.items) x.rows.items n ∙ ap (option_map (λ v. v.items)) at in
+    let types = types_by_form (form_among forms (Some n)) in
+    subst (λ o. IfSome c.find_in.result (IsSourceOf s inverses (types_by_form (form_among forms o)) (capitals c.args.name)))
+    (sym c.in-Some.is)
+    (c.find_in.ensures s inverses types
+    (subst (AreNamedSources s inverses types) (sym c.deref-in-Some-get.ensures.value)
+    (row-of-form s inverses forms (map (λ v. v.items) x.rows.items) all n r.items there)))
