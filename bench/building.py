@@ -7,6 +7,7 @@ import sys
 HERE = os.path.dirname(os.path.abspath(__file__))
 ROOT = os.path.dirname(HERE)
 CRATES = os.path.join(ROOT, "crates")
+RT = os.path.join(HERE, "rt.py")
 
 
 def build(folder, name, stands_on):
@@ -33,7 +34,7 @@ def build_crate(folder, name):
 def built(crates, name):
     """The program of this crate, proved and built."""
     crate = os.path.join(crates, name)
-    subprocess.run(["rt", "run"], cwd=crate, stdout=subprocess.DEVNULL, stderr=subprocess.DEVNULL, check=False)
+    subprocess.run([RT, "run"], cwd=crate, stdout=subprocess.DEVNULL, stderr=subprocess.DEVNULL, check=False)
     program = os.path.join(crate, "out", name)
     if not os.path.exists(program):
         sys.exit("the program wasn't built: run `rt run` in a copy of it to see why")

@@ -8,21 +8,12 @@ them: it leaves no stamp beside what it builds. This writes that stamp, for each
 of all below it, is the same in COPY. GATE may still be running: a library counts from when its last file is there.
 Nothing that `rt ci` decides rests on this.
 """
-import importlib.machinery
-import importlib.util
 import os
 import shutil
 import subprocess
 import sys
 
-
-def load(path):
-    """The program `rt`, as a module."""
-    sys.path.insert(0, os.path.dirname(path))
-    loader = importlib.machinery.SourceFileLoader("rt_program", path)
-    made = importlib.util.module_from_spec(importlib.util.spec_from_loader("rt_program", loader))
-    loader.exec_module(made)
-    return made
+from rt import load, prepare
 
 
 def crates(rt, top):
@@ -58,6 +49,7 @@ def main():
     gate, copy = map(os.path.abspath, sys.argv[1:])
     kit = os.path.dirname(subprocess.run(["rt", "doc"], capture_output=True, text=True, check=True).stdout.strip())
     rt = load(f"{kit}/bin/rt")
+    prepare(rt.rtlib.Crate)
     there, here = crates(rt, gate), crates(rt, copy)
     stamps = {name: crate.stamp() for name, crate in there.items()}
     for name, crate in here.items():

@@ -18,7 +18,7 @@ import subprocess
 import sys
 import tempfile
 
-from building import ROOT, copy_repository
+from building import ROOT, RT, copy_repository
 
 
 def main(names):
@@ -93,7 +93,7 @@ def tried(folder, names):
         shutil.rmtree(os.path.join(crate, "must-fail"), ignore_errors=True)
         os.rename(os.path.join(crate, "wrong"), os.path.join(crate, "must-fail"))
     # what rt makes for each edit lies in the folder too
-    ran = subprocess.Popen(["rt", "must-fail", *names], cwd=copy, env={**os.environ, "TMPDIR": work})
+    ran = subprocess.Popen([RT, "must-fail", *names], cwd=copy, env={**os.environ, "TMPDIR": work})
     try:
         return 1 if ran.wait() else 0
     finally:

@@ -1,4 +1,7 @@
 //! Expressions are evaluated (ISO 10303-11, 12).
+//!
+//! The functions of the cycle aren't inlined into each other: each clears its locals at its entry, so
+//! that `evaluate` would pay at each node for what all others need.
 
 ghost use Rattle.std.specs.Prelude.{◌≡◌, ◌++◌, ◌∷◌, [], IfOk, OnOk, if◌then◌else◌};
 ghost use Rattle.std.specs.Option.{option_map};
@@ -142,6 +145,7 @@ pub fn evaluate<'p, 'e, 'r, 't, 's: 'r, 'a>(
 
 /// What a reference means: SELF or a name, with its qualifiers.
 #[cycle(evaluation)]
+#[inline(never)]
 fn referred<'p, 'e, 'r, 't, 's: 'r, 'a>(
     qualifiers: &[Qualifier<'s>],
     alloc: Global,
@@ -164,6 +168,7 @@ fn referred<'p, 'e, 'r, 't, 's: 'r, 'a>(
 
 /// What a relation says of a string and a value on its left, and an expression on its right.
 #[cycle(evaluation)]
+#[inline(never)]
 fn related<'p, 'e, 'r, 't, 's: 'r, 'a>(
     expression: &Expr<'s>,
     alloc: Global,
@@ -187,6 +192,7 @@ fn related<'p, 'e, 'r, 't, 's: 'r, 'a>(
 
 /// Whether a value is an element of an expression's.
 #[cycle(evaluation)]
+#[inline(never)]
 fn is_member<'p, 'e, 'r, 't, 's: 'r, 'a>(
     expression: &Expr<'s>,
     alloc: Global,
@@ -220,6 +226,7 @@ fn evaluate_truth<'p, 'e, 'r, 't, 's: 'r, 'a>(
 
 /// AND of a value and some expressions.
 #[cycle(evaluation)]
+#[inline(never)]
 fn and_all<'p, 'e, 'r, 't, 's: 'r, 'a>(
     expressions: &[Expr<'s>],
     alloc: Global,
@@ -243,6 +250,7 @@ fn and_all<'p, 'e, 'r, 't, 's: 'r, 'a>(
 
 /// OR and XOR of a value and some terms, from left to right.
 #[cycle(evaluation)]
+#[inline(never)]
 fn or_all<'p, 'e, 'r, 't, 's: 'r, 'a>(
     alternatives: &[Alternative<'s>],
     alloc: Global,
@@ -264,6 +272,7 @@ fn or_all<'p, 'e, 'r, 't, 's: 'r, 'a>(
 
 /// What an expression on the right of IN says of a string and a value on its left.
 #[cycle(evaluation)]
+#[inline(never)]
 fn within<'p, 'e, 'r, 't, 's: 'r, 'a>(
     expression: &Expr<'s>,
     alloc: Global,
@@ -299,6 +308,7 @@ fn within<'p, 'e, 'r, 't, 's: 'r, 'a>(
 
 /// Whether a value is equal to one of some expressions.
 #[cycle(evaluation)]
+#[inline(never)]
 fn among_each<'p, 'e, 'r, 't, 's: 'r, 'a>(
     expressions: &[Expr<'s>],
     alloc: Global,
@@ -342,6 +352,7 @@ fn selected<'p, 'e, 'r, 't, 's: 'r, 'a>(
 
 /// What one qualifier selects of a value.
 #[cycle(evaluation)]
+#[inline(never)]
 fn select<'p, 'e, 'r, 't, 's: 'r, 'a>(
     qualifier: &Qualifier<'s>,
     alloc: Global,
@@ -413,6 +424,7 @@ fn found_or_nothing<'p, 'e, 'r, 't, 's: 'r, 'a>(
 /// The value of a derived attribute of an instance; indeterminate where its rank isn't below the
 /// limit, or it is set aside.
 #[cycle(evaluation)]
+#[inline(never)]
 fn derived<'p, 'e, 'r, 't, 's: 'r, 'a>(
     alloc: Global,
     context: &Context<'p, 'e, 'r, 't, 's, 'a>,
@@ -443,6 +455,7 @@ fn derived<'p, 'e, 'r, 't, 's: 'r, 'a>(
 
 /// What a name with qualifiers means: a variable, else an attribute of SELF, else an item.
 #[cycle(evaluation)]
+#[inline(never)]
 fn named<'p, 'e, 'r, 't, 's: 'r, 'a>(
     qualifiers: &[Qualifier<'s>],
     alloc: Global,
@@ -468,6 +481,7 @@ fn named<'p, 'e, 'r, 't, 's: 'r, 'a>(
 
 /// An item of an enumeration, or of one that is named before it.
 #[cycle(evaluation)]
+#[inline(never)]
 fn item_behind<'p, 'e, 'r, 't, 's: 'r, 'a>(
     qualifiers: &[Qualifier<'s>],
     alloc: Global,
@@ -497,6 +511,7 @@ fn item_behind<'p, 'e, 'r, 't, 's: 'r, 'a>(
 
 /// Those elements of a value at which a condition is TRUE, where it is an aggregate.
 #[cycle(evaluation)]
+#[inline(never)]
 fn query<'p, 'e, 'r, 't, 's: 'r, 'a>(
     condition: &Expr<'s>,
     alloc: Global,
@@ -519,6 +534,7 @@ fn query<'p, 'e, 'r, 't, 's: 'r, 'a>(
 
 /// The indices, in the whole of an aggregate, of its elements at which a condition is TRUE.
 #[cycle(evaluation)]
+#[inline(never)]
 fn passing<'p, 'e, 'r, 't, 's: 'r, 'a>(
     condition: &Expr<'s>,
     alloc: Global,
@@ -547,6 +563,7 @@ fn passing<'p, 'e, 'r, 't, 's: 'r, 'a>(
 
 /// Whether a condition is TRUE at the value of a variable.
 #[cycle(evaluation)]
+#[inline(never)]
 fn passes<'p, 'e, 'r, 't, 's: 'r, 'a>(
     condition: &Expr<'s>,
     alloc: Global,

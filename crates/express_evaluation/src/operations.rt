@@ -95,6 +95,7 @@ pub(crate) fn joined(junction: Junction, p: Logical, q: Logical) -> Logical
 }
 
 /// The value of a function of the language; that of TYPEOF is none but on the right of IN.
+#[inline(never)]
 pub(crate) fn called<'p, 'r>(
     function: Function,
     value: Datum<'r, Part<'p, 'r>>,

@@ -16,10 +16,10 @@ ghost use Rattle.form_sources.specs.Sources.{
   AreFormSources,
 };
 
-use attribute_places::attributes::Place;
 use attribute_sources::source::Source;
 use attribute_sources::sources::AttributeSources;
-use instance_forms::form::Form;
+use express_schemas::tree::{Declaration, Derived, Inverse};
+use instance_forms::form::{Form, SlotForm};
 use resolved_types::types::ResolvedTypes;
 use rule_tables::inverses::InverseAttribute;
 use std::alloc::{AllocError, Global};
@@ -32,34 +32,57 @@ pub struct NamedSource<'s> {
     pub source: Source,
 }
 
-/// By form, where its instances have the values of explicit attributes.
+/// By form, where its instances have the values of its explicit attributes, and of the derived and
+/// inverse ones that its types declare.
 #[derive(Drop)]
 pub struct FormSources<'s> {
     pub rows: Vec<Vec<NamedSource<'s>>>,
 }
 
-/// Where instances of these types have the value of the attribute of a place, by its name alone.
+/// Where instances of these types have the value of the attribute of a name.
 fn named_source<'s>(
     schema: &ResolvedTypes<'_, 's>,
     sources: &AttributeSources,
     inverses: &[InverseAttribute<'_>],
     types: &[u32],
-    place: Place<'s>,
+    name: Word<'s>,
 ) -> Option<NamedSource<'s>>
     requires known { IsKnown schema.now sources.now inverses.now }
     requires types { AreTypes (schema_in schema.now) types.now }
     ensures { IfSome result (IsNamedSource (schema_in schema.now)
         (inverses_seen (schema_in schema.now) inverses.now) types.now) }
 {
-    let name = place.attribute;
     match sources.source(schema, inverses, types, name) {
         Some(source) => Some(NamedSource { name, source }),
         None => None,
     }
 }
 
-/// Adds where instances of these types have the value of the explicit attribute of a number.
-fn add_source<'s>(
+/// Adds where instances of these types have the value of the attribute of a name.
+fn add_named<'s>(
+    row: &mut Vec<NamedSource<'s>>,
+    schema: &ResolvedTypes<'_, 's>,
+    sources: &AttributeSources,
+    inverses: &[InverseAttribute<'_>],
+    types: &[u32],
+    name: Word<'s>,
+) -> Result<(), AllocError>
+    requires known { IsKnown schema.now sources.now inverses.now }
+    requires types { AreTypes (schema_in schema.now) types.now }
+    requires row { AreNamedSources (schema_in schema.now)
+        (inverses_seen (schema_in schema.now) inverses.now) types.now row.old.items }
+    ensures { OnOk result (AreNamedSources (schema_in schema.now)
+        (inverses_seen (schema_in schema.now) inverses.now) types.now row.new.items) }
+{
+    let Some(named) = named_source(schema, sources, inverses, types, name) else {
+        return Ok(());
+    };
+    row.push(named)?;
+    Ok(())
+}
+
+/// .. of the explicit attribute of a number.
+fn add_place<'s>(
     row: &mut Vec<NamedSource<'s>>,
     schema: &ResolvedTypes<'_, 's>,
     sources: &AttributeSources,
@@ -74,17 +97,147 @@ fn add_source<'s>(
     ensures { OnOk result (AreNamedSources (schema_in schema.now)
         (inverses_seen (schema_in schema.now) inverses.now) types.now row.new.items) }
 {
-    let Some(place) = schema.places.attributes.get(number as usize) else {
-        return Ok(());
-    };
-    let Some(named) = named_source(schema, sources, inverses, types, *place) else {
-        return Ok(());
-    };
-    row.push(named)?;
+    match schema.places.attributes.get(number as usize) {
+        Some(place) => add_named(row, schema, sources, inverses, types, place.attribute),
+        None => Ok(()),
+    }
+}
+
+/// .. of these explicit attributes.
+fn add_slots<'s>(
+    row: &mut Vec<NamedSource<'s>>,
+    schema: &ResolvedTypes<'_, 's>,
+    sources: &AttributeSources,
+    inverses: &[InverseAttribute<'_>],
+    types: &[u32],
+    slots: &[SlotForm],
+) -> Result<(), AllocError>
+    requires known { IsKnown schema.now sources.now inverses.now }
+    requires types { AreTypes (schema_in schema.now) types.now }
+    requires row { AreNamedSources (schema_in schema.now)
+        (inverses_seen (schema_in schema.now) inverses.now) types.now row.old.items }
+    ensures { OnOk result (AreNamedSources (schema_in schema.now)
+        (inverses_seen (schema_in schema.now) inverses.now) types.now row.new.items) }
+{
+    for i in 0..slots.len() {
+        add_place(row, schema, sources, inverses, types, slots[i].place)?;
+    }
     Ok(())
 }
 
-/// Where instances of a form have the values of its attributes.
+/// .. of these derived attributes.
+fn add_derived<'s>(
+    row: &mut Vec<NamedSource<'s>>,
+    schema: &ResolvedTypes<'_, 's>,
+    sources: &AttributeSources,
+    inverses: &[InverseAttribute<'_>],
+    types: &[u32],
+    attributes: &[Derived<'s>],
+) -> Result<(), AllocError>
+    requires known { IsKnown schema.now sources.now inverses.now }
+    requires types { AreTypes (schema_in schema.now) types.now }
+    requires row { AreNamedSources (schema_in schema.now)
+        (inverses_seen (schema_in schema.now) inverses.now) types.now row.old.items }
+    ensures { OnOk result (AreNamedSources (schema_in schema.now)
+        (inverses_seen (schema_in schema.now) inverses.now) types.now row.new.items) }
+{
+    for each in attributes {
+        add_named(row, schema, sources, inverses, types, each.attribute.name())?;
+    }
+    Ok(())
+}
+
+/// .. of these inverse attributes.
+fn add_inverse<'s>(
+    row: &mut Vec<NamedSource<'s>>,
+    schema: &ResolvedTypes<'_, 's>,
+    sources: &AttributeSources,
+    inverses: &[InverseAttribute<'_>],
+    types: &[u32],
+    attributes: &[Inverse<'s>],
+) -> Result<(), AllocError>
+    requires known { IsKnown schema.now sources.now inverses.now }
+    requires types { AreTypes (schema_in schema.now) types.now }
+    requires row { AreNamedSources (schema_in schema.now)
+        (inverses_seen (schema_in schema.now) inverses.now) types.now row.old.items }
+    ensures { OnOk result (AreNamedSources (schema_in schema.now)
+        (inverses_seen (schema_in schema.now) inverses.now) types.now row.new.items) }
+{
+    for each in attributes {
+        add_named(row, schema, sources, inverses, types, each.attribute.name())?;
+    }
+    Ok(())
+}
+
+/// .. of the derived and inverse attributes of a declaration, where it is an entity's.
+fn add_declared<'s>(
+    row: &mut Vec<NamedSource<'s>>,
+    schema: &ResolvedTypes<'_, 's>,
+    sources: &AttributeSources,
+    inverses: &[InverseAttribute<'_>],
+    types: &[u32],
+    declaration: &Declaration<'s>,
+) -> Result<(), AllocError>
+    requires known { IsKnown schema.now sources.now inverses.now }
+    requires types { AreTypes (schema_in schema.now) types.now }
+    requires row { AreNamedSources (schema_in schema.now)
+        (inverses_seen (schema_in schema.now) inverses.now) types.now row.old.items }
+    ensures { OnOk result (AreNamedSources (schema_in schema.now)
+        (inverses_seen (schema_in schema.now) inverses.now) types.now row.new.items) }
+{
+    let Declaration::Entity(entity) = declaration else {
+        return Ok(());
+    };
+    let derived = entity.derived_attributes();
+    add_derived(row, schema, sources, inverses, types, derived)?;
+    let inverse = entity.inverse_attributes();
+    add_inverse(row, schema, sources, inverses, types, inverse)
+}
+
+/// .. of those of the declaration of a number.
+fn add_type<'s>(
+    row: &mut Vec<NamedSource<'s>>,
+    schema: &ResolvedTypes<'_, 's>,
+    sources: &AttributeSources,
+    inverses: &[InverseAttribute<'_>],
+    types: &[u32],
+    number: u32,
+) -> Result<(), AllocError>
+    requires known { IsKnown schema.now sources.now inverses.now }
+    requires types { AreTypes (schema_in schema.now) types.now }
+    requires row { AreNamedSources (schema_in schema.now)
+        (inverses_seen (schema_in schema.now) inverses.now) types.now row.old.items }
+    ensures { OnOk result (AreNamedSources (schema_in schema.now)
+        (inverses_seen (schema_in schema.now) inverses.now) types.now row.new.items) }
+{
+    match schema.names.schema.declarations.get(number as usize) {
+        Some(declaration) => add_declared(row, schema, sources, inverses, types, declaration),
+        None => Ok(()),
+    }
+}
+
+/// .. of those of each of the types.
+fn add_types<'s>(
+    row: &mut Vec<NamedSource<'s>>,
+    schema: &ResolvedTypes<'_, 's>,
+    sources: &AttributeSources,
+    inverses: &[InverseAttribute<'_>],
+    types: &[u32],
+) -> Result<(), AllocError>
+    requires known { IsKnown schema.now sources.now inverses.now }
+    requires types { AreTypes (schema_in schema.now) types.now }
+    requires row { AreNamedSources (schema_in schema.now)
+        (inverses_seen (schema_in schema.now) inverses.now) types.now row.old.items }
+    ensures { OnOk result (AreNamedSources (schema_in schema.now)
+        (inverses_seen (schema_in schema.now) inverses.now) types.now row.new.items) }
+{
+    for i in 0..types.len() {
+        add_type(row, schema, sources, inverses, types, types[i])?;
+    }
+    Ok(())
+}
+
+/// Where instances of a form have the values of their attributes, the explicit ones first.
 fn form_row<'s>(
     alloc: Global,
     schema: &ResolvedTypes<'_, 's>,
@@ -97,12 +250,10 @@ fn form_row<'s>(
     ensures { IfOk result (λ t. AreNamedSources (schema_in schema.now)
         (inverses_seen (schema_in schema.now) inverses.now) form.now.types.items t.items) }
 {
-    let mut row = Vec::new(alloc);
+    let mut row: Vec<NamedSource<'s>> = Vec::new(alloc);
     let types = form.types.as_slice();
-    let slots = form.slots.as_slice();
-    for i in 0..slots.len() {
-        add_source(&mut row, schema, sources, inverses, types, slots[i].place)?;
-    }
+    add_slots(&mut row, schema, sources, inverses, types, &form.slots)?;
+    add_types(&mut row, schema, sources, inverses, types)?;
     Ok(row)
 }
 
@@ -145,8 +296,8 @@ impl<'s> FormSources<'s> {
         Ok(FormSources { rows })
     }
 
-    /// Where instances of a form have the value of their explicit attribute of this name. None says
-    /// nothing: the attribute may be derived or inverse, or there is none. It takes no memory.
+    /// Where instances of a form have the value of their attribute of this name. None says nothing.
+    /// It takes no memory.
     pub fn find(&self, form: Option<u32>, name: Word<'_>) -> Option<Source>
         ensures { (s : Schema) (inverses : List InverseTree) (forms : List Form)
             → AreFormSources s inverses forms self.now

@@ -1,7 +1,7 @@
 use Rattle.attribute_sources.specs.Seen.{schema_in, inverses_seen}
 use Rattle.form_sources.specs.Sources.{AreNamedSources}
-use Rattle.form_sources.proofs.table.form_row.Given as goal
+use Rattle.form_sources.proofs.table.add_types.Given as goal
 
 abbrev pub invariant-loop-i : goal.invariant-loop-i
 invariant-loop-i l =
-    AreNamedSources (schema_in l.schema) (inverses_seen (schema_in l.schema) l.inverses) l.form.types.items l.row.items
+    AreNamedSources (schema_in l.schema) (inverses_seen (schema_in l.schema) l.inverses) l.types l.row.items

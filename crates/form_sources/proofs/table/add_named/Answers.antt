@@ -2,7 +2,7 @@ use Rattle.std.proofs.Common.{sym, subst}
 use Rattle.express_schemas.proofs.Lists.{every_push}
 use Rattle.attribute_sources.specs.Seen.{schema_in, inverses_seen}
 use Rattle.form_sources.specs.Sources.{IsNamedSource, AreNamedSources}
-use Rattle.form_sources.proofs.table.add_source.Goals as goal
+use Rattle.form_sources.proofs.table.add_named.Goals as goal
 
 pub returns : goal.returns
 returns c =
@@ -10,5 +10,5 @@ returns c =
     let inverses = inverses_seen s c.args.inverses.now in
     let types = c.args.types.now in
     subst (AreNamedSources s inverses types) (sym c.in_ok-push.ensures.items)
-    (every_push (IsNamedSource s inverses types) c.args.row.now.items c.in-Some-named_source.named c.requires.row
-    c.in-Some-named_source.ensures)
+    (every_push (IsNamedSource s inverses types) c.args.row.now.items c.in-Some.named c.requires.row
+    c.in-Some.ensures)
