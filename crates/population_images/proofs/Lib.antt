@@ -1,0 +1,8 @@
+pub mod Keywords
+pub mod Listing
+pub mod Filed
+pub mod Rowed
+pub mod Placed
+pub mod Led
+pub mod Conforming
+mod Examples
