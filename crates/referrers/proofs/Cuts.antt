@@ -1,13 +1,15 @@
 -- The references to one target stand together in a list that is sorted by target.
-use Rattle.std.proofs.Common.{◌≡◌, ◌<◌, ◌≤◌, ◌+◌, ◌-◌, ℕ, zero, suc, Bool, true, false, cond, List, [], ◌∷◌, length, take, drop, map, get_or, refl, sym, ◌∙◌, ap, ltb, leb, ltb-true, leb-true, ltb-false, leb-false, arith, eq-eqb, ◌==◌}
+use Rattle.std.proofs.Common.{◌≡◌, ◌<◌, ◌≤◌, ◌+◌, ◌-◌, ℕ, zero, suc, Bool, true, false, cond, List, [], ◌∷◌, length, take, drop, map, get_or, refl, sym, ◌∙◌, ap, min, ltb, leb, ltb-true, leb-true, ltb-false, leb-false, arith, eq-eqb, ◌==◌}
 use Rattle.std.specs.Prelude.{not, ◌&&◌}
 use Rattle.std.specs.List.{filter}
 use Rattle.std.specs.Ordering.{nat_cmp, is_lt}
 use Rattle.std.specs.List.Sorted.{IsStableByKey, ties}
 use Rattle.std.proofs.lemmas.Bool.Decides.{nat_tests}
+use Rattle.std.proofs.lemmas.List.{get_or_default}
 use Rattle.std.proofs.lemmas.List.Elements.{filter_agree}
 use Rattle.referrers.specs.declared.referrers.Reference.{Reference}
-use Rattle.referrers.specs.Referring.{referrers_of, AreEnds}
+use Rattle.std.specs.List.Sorted.{IsNonDecreasingBy}
+use Rattle.referrers.specs.Referring.{referrers_of, AreByTarget, Begin, End, AreEnds}
 
 -- so many references stand before those of t, and so many are to t
 pub record Cut (t lo n : ℕ) (ps : List Reference) : Type 0 where
@@ -73,23 +75,23 @@ mapped zero (suc n) (p ∷ ps) = ap (λ l. p.referrer ∷ l) (mapped zero n ps)
 mapped (suc lo) n (p ∷ ps) = mapped lo n ps
 
 -- between the first that isn't below t and the first that is above it
-pub no_reference : Reference
+abbrev pub no_reference : Reference
 no_reference = record { target = 0; referrer = 0 }
 
 module _ (t first end : ℕ) (ps : List Reference) (at : AreEnds t first end ps) where
   pub in_order : end < first → ⊥
   in_order l =
-      let w = at.first_within in
-      let a : (get_or ps end no_reference).target < t = ltb-true _ _ (at.begins.0 end no_reference (omega arith) l) in
-      let b = at.ends.1 end no_reference (omega arith) (omega (arith, l, w)) in
+      let w = at.begin.within in
+      let a : (get_or ps end no_reference).target < t = ltb-true _ _ (at.begin.point.0 end no_reference (omega arith) l) in
+      let b = at.ends.point.1 end no_reference (omega arith) (omega (arith, l, w)) in
       let c = leb-false (get_or ps end no_reference).target t b in omega (arith, a, c)
 
   cut_by : first ≤ end → Cut t first (end - first) ps
   cut_by o = record {
-    before = λ k d l. ltb-true _ _ (at.begins.0 k d (omega arith) l);
-    of = λ k d l h. let w = at.end_within in between (get_or ps k d).target (at.begins.1 k d l (omega (arith, h, w, o))) (at.ends.0 k d (omega arith) (omega (arith, h, o)));
-    after = λ k d l h. beyond (get_or ps k d).target (at.ends.1 k d (omega (arith, l, o)) h);
-    within = let w = at.end_within in omega (arith, o, w);
+    before = λ k d l. ltb-true _ _ (at.begin.point.0 k d (omega arith) l);
+    of = λ k d l h. let w = at.ends.within in between (get_or ps k d).target (at.begin.point.1 k d l (omega (arith, h, w, o))) (at.ends.point.0 k d (omega arith) (omega (arith, h, o)));
+    after = λ k d l h. beyond (get_or ps k d).target (at.ends.point.1 k d (omega (arith, l, o)) h);
+    within = let w = at.ends.within in omega (arith, o, w);
   }
     where
       between : (u : ℕ) → ltb u t ≡ false → leb u t ≡ true → u ≡ t
@@ -100,6 +102,66 @@ module _ (t first end : ℕ) (ps : List Reference) (at : AreEnds t first end ps)
 
   pub found : first ≤ end → take (end - first) (drop first (map (λ p. p.referrer) ps)) ≡ referrers_of t ps
   found o = mapped first (end - first) ps ∙ ap (map (λ p. p.referrer)) (sym (cut t first (end - first) ps (cut_by o)))
+
+-- a number below the lesser of two is below each
+pub within_both : (k m n l : ℕ) → l ≡ min m n → k < l → k < m
+within_both k m n l e h = grind (arith, nat_tests, e, h)
+
+-- one reference more leads to a target
+pub one_more : (t first : ℕ) (ps : List Reference) (end : ℕ) → end < length ps
+    → ((k : ℕ) (d : Reference) → first ≤ k → k < end → (get_or ps k d).target ≡ t)
+    → (get_or ps end no_reference).target ≡ t
+    → (k : ℕ) (d : Reference) → first ≤ k → k < end + 1 → (get_or ps k d).target ≡ t
+one_more t first ps end l of e k d o h = by (k == end) refl
+  where
+    by : (b : Bool) → (k == end) ≡ b → (get_or ps k d).target ≡ t
+    by true q =
+        let same : k ≡ end = grind (arith, nat_tests, q) in
+        ap (λ i. (get_or ps i d).target) same
+        ∙ ap (λ (p : Reference). p.target) (get_or_default ps end d no_reference l) ∙ e
+    by false q = of k d o (grind (arith, nat_tests, q, h))
+
+-- the first behind those to a target that leads elsewhere
+module _ (t first : ℕ) (ps : List Reference) (sorted : AreByTarget ps) (begin : Begin t first ps) where
+  up_to : (end : ℕ) (e : Reference) → ((k : ℕ) (d : Reference) → first ≤ k → k < end → (get_or ps k d).target ≡ t)
+      → end < length ps → first ≤ end → ((get_or ps end e).target ≡ t → ⊥) → t < (get_or ps end e).target
+  up_to end e of l o n =
+      let b = ltb-false _ _ (begin.point.1 end e o l) in by (get_or ps end e).target b n
+    where
+      by : (u : ℕ) → t ≤ u → (u ≡ t → ⊥) → t < u
+      by u b n = grind (arith, nat_tests, b, n)
+
+  pub ended : (end : ℕ) (e : Reference) → ((k : ℕ) (d : Reference) → first ≤ k → k < end → (get_or ps k d).target ≡ t)
+      → end < length ps → first ≤ end → ((get_or ps end e).target ≡ t → ⊥) → End t end ps
+  ended end e of l o n = record {
+    point = (
+      λ k d z h. before k d h,
+      λ k d h w.
+          let s : (get_or ps end e).target ≤ (get_or ps k e).target = sorted end k e h w in
+          let same : (get_or ps k d).target ≡ (get_or ps k e).target =
+          ap (λ (p : Reference). p.target) (get_or_default ps k d e w) in
+          leb-above (get_or ps k d).target (omega (arith, s, same, up_to end e of l o n)),
+    );
+    within = omega (arith, l);
+  }
+    where
+      leb-above : (u : ℕ) → t < u → leb u t ≡ false
+      leb-above u h = grind (arith, nat_tests, h)
+
+      leb-below : (u : ℕ) → u ≤ t → leb u t ≡ true
+      leb-below u h = grind (arith, nat_tests, h)
+
+      before : (k : ℕ) (d : Reference) → k < end → leb (get_or ps k d).target t ≡ true
+      before k d h = by (ltb k first) refl
+        where
+          by : (b : Bool) → ltb k first ≡ b → leb (get_or ps k d).target t ≡ true
+          by true q =
+              let a : (get_or ps k d).target < t =
+              ltb-true _ _ (begin.point.0 k d (omega arith) (ltb-true k first q)) in
+              leb-below (get_or ps k d).target (omega (arith, a))
+          by false q =
+              let a : (get_or ps k d).target ≡ t = of k d (ltb-false k first q) h in
+              leb-below (get_or ps k d).target (omega (arith, a))
 
 -- a stable sort keeps the referrers of each target in order
 pub stays : (t : ℕ) (ps qs : List Reference) → IsStableByKey (λ p. p.target) nat_cmp ps qs → referrers_of t qs ≡ referrers_of t ps

@@ -1,10 +1,13 @@
 //! References by the names of their ends.
 
 ghost use Rattle.std.specs.Prelude.{◌≡◌, ℕ, IfOk, map};
-ghost use Rattle.referrers.specs.Referring.{referrers_of, AreByTarget, AreEnds};
+ghost use Rattle.referrers.specs.Referring.{referrers_of, AreByTarget, Begin, End, AreEnds};
 
 use std::alloc::{AllocError, Global};
 use std::marker::Model;
+
+/// So many references lead to most targets, or fewer: these are looked at one by one.
+const FEW: usize = 4;
 
 /// A reference: the name of the instance that is referred to, and of the one that refers.
 #[derive(Clone, Copy, Debug, PartialEq, Eq)]
@@ -64,14 +67,28 @@ impl Referrers {
     }
 }
 
+/// Where the references to a target end that begin at an index, or would begin there.
+fn end_behind(references: &[Reference], first: usize, target: u64) -> usize
+    requires sorted { AreByTarget references.now }
+    requires begin { Begin target first references.now }
+    ensures { End target result references.now }
+{
+    let few = references.len().min(first.saturating_add(FEW));
+    for end in first..few {
+        if references[end].target != target {
+            return end;
+        }
+    }
+    references.partition_point(|reference| reference.target <= target)
+}
+
 /// Where the references to a target begin and end.
 fn ends(references: &[Reference], target: u64) -> (usize, usize)
     requires { AreByTarget references.now }
     ensures { AreEnds target result.0 result.1 references.now }
 {
     let first = references.partition_point(|reference| reference.target < target);
-    let end = references.partition_point(|reference| reference.target <= target);
-    (first, end)
+    (first, end_behind(references, first, target))
 }
 
 /// The referrers of references, in turn.
