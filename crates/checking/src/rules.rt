@@ -15,6 +15,8 @@ use express_settings::setting::Setting;
 use express_types::graph::TypeGraph;
 use express_types::judging::DomainTables;
 use form_sources::table::FormSources;
+use population_findings::inverses::check_inverse;
+use population_findings::uniques::check_unique;
 use resolved_types::types::ResolvedTypes;
 use rule_outcomes::check::check_rules;
 use rule_outcomes::report::RuleReport;
@@ -113,8 +115,8 @@ pub(crate) fn rule_findings<'r, 't, 's: 'r>(
     let firsts = &graph.judged.firsts;
     let extents = Extents::build(alloc, population, &graph.rules)?;
     let mut report = domain_findings(alloc, domain, firsts, tables, settings, &extents)?;
-    let mut uniques = extents.check_unique(alloc, keys)?;
-    let mut bounds = extents.check_inverse(alloc)?;
+    let mut uniques = check_unique(alloc, keys, &extents)?;
+    let mut bounds = check_inverse(alloc, &extents)?;
     report.findings.append(&mut uniques)?;
     report.findings.append(&mut bounds)?;
     Ok(report)

@@ -4,5 +4,5 @@ pub mod Held
 pub mod Named
 pub mod Valued
 pub mod Adding
-pub mod Broken
+pub mod Numbered
 pub mod Placing

@@ -1,15 +1,9 @@
--- The inverse attributes of instances, by number, and which of their bounds are broken.
-use Rattle.std.specs.Prelude.{ℕ, suc, not, Bool, cond, List, [], ◌∷◌, length, flat_map, Option, None, Some, slice_get}
+-- The inverse attributes of instances, by number.
+use Rattle.std.specs.Prelude.{ℕ, suc, cond, List, [], ◌∷◌, Option, None, Some, slice_get}
 use Rattle.digraph.specs.Graphs.{has}
-use Rattle.express_trees.specs.Views.{capitals}
-use Rattle.express_schemas.specs.Schemas.{Schema}
-use Rattle.base_types.specs.Seen.{name_at, or_empty}
-use Rattle.conformance.specs.Populations.{Instance}
+use Rattle.base_types.specs.Seen.{or_empty}
 use Rattle.instance_forms.specs.declared.form.Form.{Form}
-use Rattle.population_rules.specs.Findings.{Breach, may_hold}
-use Rattle.population_rules.specs.Referring.{inverse_value}
 use Rattle.rule_tables.specs.declared.inverses.InverseAttribute.{InverseAttribute}
-use Rattle.rule_tables.specs.Seen.{gathering_seen, inverse_seen}
 
 -- the numbers, from n on, of those that instances of a form have
 abbrev pub numbers_by : List InverseAttribute → ℕ → Form → List ℕ
@@ -21,21 +15,3 @@ numbers_by (i ∷ inverses) n x =
 abbrev pub row_by : List (List ℕ) → Option ℕ → List ℕ
 row_by rows None = []
 row_by rows (Some n) = or_empty (slice_get rows n)
-
--- what is told where an instance y breaks the bounds of an inverse attribute
-abbrev pub breach : Schema → ℕ → InverseAttribute → Breach
-breach s y i = record { instance = y; holder = name_at s i.entity; label = capitals i.name }
-
-module _ (s : Schema) (is : List Instance) (y : ℕ) where
-  -- an inverse attribute holds of y as many as it may
-  abbrev pub keeps : InverseAttribute → Bool
-  keeps i = may_hold (gathering_seen i.gathering) (length (inverse_value is (inverse_seen s i) y))
-
-  -- what is told of an inverse attribute, where there is one
-  abbrev pub breach_in : Option InverseAttribute → List Breach
-  breach_in None = []
-  breach_in (Some i) = cond (not (keeps i)) (breach s y i ∷ []) []
-
-  -- .. of those of these numbers
-  abbrev pub breaches_at : List InverseAttribute → List ℕ → List Breach
-  breaches_at inverses numbers = flat_map (λ n. breach_in (slice_get inverses n)) numbers

@@ -1,6 +1,6 @@
 use Rattle.std.proofs.Common.{◌≡◌, ◌∙◌, ◌∷◌, [], ◌++◌, ◌+◌, cond, drop, ap, sym, append_assoc}
 use Rattle.step_extent.specs.Inverses.{numbers_by}
-use Rattle.step_extent.proofs.Broken.{next-number}
+use Rattle.step_extent.proofs.Numbered.{next-number}
 use Rattle.step_extent.proofs.inverses.numbers_of.Goals as goal
 use Rattle.step_extent.proofs.inverses.numbers_of.Goals.{then-has_inverse+in_ok-push, else-has_inverse}
 

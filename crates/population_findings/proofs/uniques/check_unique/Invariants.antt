@@ -5,11 +5,11 @@ use Rattle.rule_findings.specs.declared.finding.RuleFindingKind.TheVariants.{Uni
 use Rattle.rule_tables.specs.Seen.{unique_seen}
 use Rattle.step_population.specs.Seen.{population_seen}
 use Rattle.step_extent.specs.Findings.{Adds}
-use Rattle.step_extent.proofs.extents.Extents.check_unique.Given as goal
+use Rattle.population_findings.proofs.uniques.check_unique.Given as goal
 
 abbrev pub invariant-loop-rule : goal.invariant-loop-rule
 invariant-loop-rule l =
     Adds UniqueBroken
-    (flat_map (breaches_of_unique (population_seen l.self.population.now))
-    (map (unique_seen (schema_of l.self.population.now.types.now.names.schema.now))
-    (take l.rule-index l.self.rules.now.uniques.items))) [] l.findings.items
+    (flat_map (breaches_of_unique (population_seen l.extents.population.now))
+    (map (unique_seen (schema_of l.extents.population.now.types.now.names.schema.now))
+    (take l.rule-index l.extents.rules.now.uniques.items))) [] l.findings.items

@@ -5,10 +5,10 @@ use Rattle.rule_findings.specs.declared.finding.RuleFindingKind.TheVariants.{Inv
 use Rattle.rule_tables.specs.Seen.{rules_seen}
 use Rattle.step_population.specs.Seen.{population_seen}
 use Rattle.step_extent.specs.Findings.{Adds}
-use Rattle.step_extent.proofs.extents.Extents.check_inverse.Given as goal
+use Rattle.population_findings.proofs.inverses.check_inverse.Given as goal
 
 abbrev pub invariant-loop-row : goal.invariant-loop-row
 invariant-loop-row l =
     Adds InverseBound
-    (flat_map (breaches_of_inverse (rules_seen (schema_of l.self.population.now.types.now.names.schema.now) l.self.rules.now)
-    (population_seen l.self.population.now)) (take l.row (population_seen l.self.population.now))) [] l.findings.items
+    (flat_map (breaches_of_inverse (rules_seen (schema_of l.extents.population.now.types.now.names.schema.now) l.extents.rules.now)
+    (population_seen l.extents.population.now)) (take l.row (population_seen l.extents.population.now))) [] l.findings.items

@@ -6,7 +6,7 @@ use Rattle.schema_names.proofs.Rows.{map-joined}
 use Rattle.step_extent.specs.Findings.{Adds}
 use Rattle.step_extent.proofs.Adding.{adds-one, adds-more}
 use Rattle.step_extent.proofs.Held.{take-next}
-use Rattle.step_extent.proofs.uniques.add_findings.Goals as goal
+use Rattle.population_findings.proofs.uniques.add_findings.Goals as goal
 
 pub loop-name-preserved : goal.loop-name-preserved
 loop-name-preserved c holder label h =

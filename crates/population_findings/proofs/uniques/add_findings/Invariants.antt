@@ -4,7 +4,7 @@ use Rattle.type_graphs.specs.Parts.{dotted}
 use Rattle.unchecked_parts.specs.Adding.{said}
 use Rattle.rule_findings.specs.declared.finding.RuleFindingKind.TheVariants.{UniqueBroken}
 use Rattle.step_extent.specs.Findings.{Adds}
-use Rattle.step_extent.proofs.uniques.add_findings.Given as goal
+use Rattle.population_findings.proofs.uniques.add_findings.Given as goal
 
 abbrev pub invariant-loop-name : goal.invariant-loop-name
 invariant-loop-name l =

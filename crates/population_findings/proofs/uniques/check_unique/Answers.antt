@@ -7,14 +7,14 @@ use Rattle.rule_tables.specs.Seen.{unique_seen}
 use Rattle.step_population.specs.Seen.{population_seen}
 use Rattle.step_extent.specs.Findings.{Adds}
 use Rattle.step_extent.proofs.Adding.{adds-more, flat-mapped}
-use Rattle.step_extent.proofs.extents.Extents.check_unique.Goals as goal
+use Rattle.population_findings.proofs.uniques.check_unique.Goals as goal
 
 pub loop-rule-preserved : goal.loop-rule-preserved
 loop-rule-preserved c =
-    let p = c.args.self.now.population.now in
+    let p = c.args.extents.now.population.now in
     let f = breaches_of_unique (population_seen p) in
     let g = unique_seen (schema_of p.types.now.names.schema.now) in
-    let us = c.args.self.now.rules.now.uniques.items in
+    let us = c.args.extents.now.rules.now.uniques.items in
     let k = c.loop-rule.rule-index in
     let u = c.rule-item.result in
     let at : slice_get us k ≡ Some u =

@@ -8,11 +8,11 @@ use Rattle.step_population.specs.Seen.{population_seen}
 use Rattle.step_population.proofs.Turns.{on-ok}
 use Rattle.step_extent.specs.Findings.{Adds}
 use Rattle.step_extent.proofs.Adding.{map-twice}
-use Rattle.step_extent.proofs.extents.Extents.add_rule.Goals as goal
+use Rattle.population_findings.proofs.uniques.add_rule.Goals as goal
 
 pub returns : goal.returns
 returns c =
-    let p = c.args.self.now.population.now in
+    let p = c.args.extents.now.population.now in
     let is = population_seen p in
     let u = unique_seen (schema_of p.types.now.names.schema.now) c.args.rule.now in
     let make : ℕ → Breach = λ y. record { instance = y; holder = u.entity; label = u.label } in

@@ -18,8 +18,8 @@ use Rattle.rule_tables.specs.declared.tables.RuleTables.{RuleTables}
 use Rattle.rule_tables.specs.Seen.{inverse_seen, rules_seen, IsNumberedInverse}
 use Rattle.step_population.specs.Seen.{instance_seen}
 use Rattle.step_population.specs.Whole.{form_among, AreNumbered}
-use Rattle.step_extent.specs.Inverses.{numbers_by, row_by, keeps, breach_in, breaches_at}
-use Rattle.step_population.proofs.Turns.{drop-got}
+use Rattle.step_extent.specs.Inverses.{numbers_by, row_by}
+use Rattle.population_findings.specs.Bounds.{keeps, breach_in, breaches_at}
 
 module _ (s : Schema) (is : List Instance) (y section : ℕ) (vs : Values) where
   -- an instance of this form
@@ -119,14 +119,3 @@ row-within inverses forms None = tt
 row-within inverses [] (Some n) = tt
 row-within inverses (x ∷ forms) (Some zero) = numbers-within inverses 0 (length inverses) x (omega arith)
 row-within inverses (x ∷ forms) (Some (suc n)) = row-within inverses forms (Some n)
-
--- one number more
-pub next-number : (inverses : List InverseAttribute) (n : ℕ) (i : InverseAttribute) (x : Form) → n < length inverses
-    → i ≡ get_or inverses n i
-    → numbers_by (drop n inverses) n x
-    ≡ cond (has x.types.items i.entity) (n ∷ numbers_by (drop (n + 1) inverses) (n + 1) x)
-    (numbers_by (drop (n + 1) inverses) (n + 1) x)
-next-number inverses n i x lt at =
-    ap (λ l. numbers_by l n x) (drop-got inverses n i lt at)
-    ∙ ap (λ m. cond (has x.types.items i.entity) (n ∷ numbers_by (drop (n + 1) inverses) m x)
-    (numbers_by (drop (n + 1) inverses) m x)) (sym (add-one n))

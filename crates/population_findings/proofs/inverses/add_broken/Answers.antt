@@ -6,19 +6,19 @@ use Rattle.step_population.specs.Seen.{population_seen}
 use Rattle.step_population.proofs.Found.{every-at}
 use Rattle.step_population.proofs.Turns.{got}
 use Rattle.step_extent.specs.Findings.{Adds}
-use Rattle.step_extent.specs.Inverses.{breach, breach_in, breaches_at}
+use Rattle.population_findings.specs.Bounds.{breach, breach_in, breaches_at}
 use Rattle.step_extent.proofs.Adding.{adds-none, adds-one, adds-more}
 use Rattle.step_extent.proofs.Held.{flat-next}
-use Rattle.step_extent.proofs.extents.Extents.add_broken.Goals as goal
-use Rattle.step_extent.proofs.extents.Extents.add_broken.Goals.{then-not-keeps+in_ok-push, else-not-keeps}
+use Rattle.population_findings.proofs.inverses.add_broken.Goals as goal
+use Rattle.population_findings.proofs.inverses.add_broken.Goals.{then-not-keeps+in_ok-push, else-not-keeps}
 
 pub loop-number-preserved : goal.loop-number-preserved
 loop-number-preserved c =
-    let p = c.args.self.now.population.now in
+    let p = c.args.extents.now.population.now in
     let s = schema_of p.types.now.names.schema.now in
     let is = population_seen p in
     let y = c.args.name in
-    let all = c.args.self.now.rules.now.inverses.items in
+    let all = c.args.extents.now.rules.now.inverses.items in
     let numbers = c.args.numbers.now in
     let k = c.loop-number.number-index in
     let n = slice_index_or numbers k 0 in

@@ -8,16 +8,17 @@ use Rattle.step_population.specs.Seen.{population_seen, instance_seen}
 use Rattle.step_population.specs.Whole.{form_among}
 use Rattle.step_population.proofs.Found.{kept}
 use Rattle.step_extent.specs.Findings.{Adds}
-use Rattle.step_extent.specs.Inverses.{breaches_at, numbers_by, row_by}
+use Rattle.step_extent.specs.Inverses.{numbers_by, row_by}
+use Rattle.population_findings.specs.Bounds.{breaches_at}
 use Rattle.step_extent.proofs.Adding.{adds-more}
-use Rattle.step_extent.proofs.Broken.{told-of, breaches-are, row-within}
+use Rattle.population_findings.proofs.Broken.{told-of, breaches-are, row-within}
 use Rattle.step_extent.proofs.Held.{flat-next}
-use Rattle.step_extent.proofs.extents.Extents.check_inverse.Goals as goal
+use Rattle.population_findings.proofs.inverses.check_inverse.Goals as goal
 
 pub add_broken-requires-clause-within : goal.add_broken-requires-clause-within
 add_broken-requires-clause-within c =
-    let all = c.args.self.now.rules.now.inverses.items in
-    let forms = c.args.self.now.population.now.rows.forms.items in
+    let all = c.args.extents.now.rules.now.inverses.items in
+    let forms = c.args.extents.now.population.now.rows.forms.items in
     let form = c.instance-instance.result.form in
     let row : c.row_at-numbers.result.now ≡ row_by (map (numbers_by all 0) forms) form =
     c.row_at-numbers.ensures
@@ -29,10 +30,10 @@ add_broken-requires-clause-within c =
 
 pub loop-row-preserved : goal.loop-row-preserved
 loop-row-preserved c =
-    let p = c.args.self.now.population.now in
+    let p = c.args.extents.now.population.now in
     let s = schema_of p.types.now.names.schema.now in
     let is = population_seen p in
-    let t = c.args.self.now.rules.now in
+    let t = c.args.extents.now.rules.now in
     let all = t.inverses.items in
     let forms = p.rows.forms.items in
     let x = c.instance-instance.result in
