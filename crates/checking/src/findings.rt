@@ -11,7 +11,7 @@ ghost use Rattle.checking.specs.Reporting.{AreFindings};
 ghost use Rattle.checking.specs.Ruling.{AreReady};
 ghost use Rattle.checking.specs.Sparing.{AreInstanceFindings, IsWithout};
 
-use crate::rules::{empty_report, rule_findings, rules_are_said};
+use crate::rules::{rule_findings, rules_are_said};
 use conformance::finding::Finding;
 use conforming_values::laws::no_findings_exactly_where_it_conforms;
 use express_types::graph::TypeGraph;
@@ -19,7 +19,7 @@ use file_findings::findings::findings;
 use file_findings::rows::rows_of;
 use instance_forms::making::entities_are_said;
 use resolved_types::types::ResolvedTypes;
-use rule_outcomes::report::RuleReport;
+use rule_outcomes::report::{RuleReport, empty_report};
 use schema_tables::tables::SchemaTables;
 use setting_tables::tables::SettingTables;
 use std::alloc::{AllocError, Global};

@@ -28,17 +28,6 @@ use std::hash::RandomState;
 use step_extent::extents::Extents;
 use step_population::population::Population;
 
-/// A report of which nothing is said.
-pub(crate) fn empty_report<'s>(alloc: Global) -> RuleReport<'s>
-    ensures findings { result.findings.items ≡ [] }
-    ensures unknown { result.unknown ≡ 0 }
-{
-    RuleReport {
-        findings: Vec::new(alloc),
-        unknown: 0,
-    }
-}
-
 /// What a schema says in rules can be said by functions.
 pub(crate) fn rules_are_said(
     types: &ResolvedTypes<'_, '_>,

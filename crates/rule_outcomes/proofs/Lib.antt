@@ -5,3 +5,4 @@ pub mod Telling
 pub mod Counted
 pub mod Wanting
 pub mod Covering
+mod Ruleless

@@ -25,7 +25,7 @@ ghost use Rattle.rule_outcomes.specs.Counting.{
 use crate::limit::rank_limit;
 use crate::outcome::{Asked, outcome};
 use crate::plan::{Plan, plan_of, types_at};
-use crate::report::RuleReport;
+use crate::report::{RuleReport, empty_report};
 use crate::wanted::table_at;
 use domain_rules::rule::{DomainRule, RuleHolder};
 use express_logic::logical::Logical;
@@ -183,6 +183,9 @@ pub fn check_rules<'p, 'e, 'r, 't, 's: 'r, 'a>(
         (population_in setting.entry.now)
         (map (rule_seen (schema_in setting.entry.now)) rules.now))) }
 {
+    if rules.is_empty() {
+        return Ok(empty_report(alloc));
+    }
     let limit = rank_limit(setting.formulas);
     let asked = Asked { setting, limit };
     let plan = plan_of(alloc, setting, rules)?;

@@ -1,6 +1,9 @@
 //! What is found of domain rules.
 
+ghost use Rattle.std.specs.Prelude.{◌≡◌, []};
+
 use rule_findings::finding::RuleFinding;
+use std::alloc::Global;
 
 /// What the domain rules of a schema say of a population.
 #[derive(Drop)]
@@ -11,4 +14,15 @@ pub struct RuleReport<'s> {
     /// How many pairs of an instance and a rule there are of which it isn't known whether the
     /// instance keeps the rule; 2^64 - 1 where there are more.
     pub unknown: u64,
+}
+
+/// A report of which nothing is said.
+pub fn empty_report<'s>(alloc: Global) -> RuleReport<'s>
+    ensures findings { result.findings.items ≡ [] }
+    ensures unknown { result.unknown ≡ 0 }
+{
+    RuleReport {
+        findings: Vec::new(alloc),
+        unknown: 0,
+    }
 }

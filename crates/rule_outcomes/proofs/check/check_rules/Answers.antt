@@ -1,4 +1,4 @@
-use Rattle.std.proofs.Common.{◌∙◌, ap, map, subst}
+use Rattle.std.proofs.Common.{rules, ◌≡◌, [], length, ◌∙◌, ap, map, sym, subst}
 use Rattle.rule_findings.specs.Findings.{AreFindingsOf}
 use Rattle.rule_findings.specs.declared.finding.RuleFindingKind.TheVariants.{WhereFalse}
 use Rattle.domain_rules.specs.Seen.{rule_seen}
@@ -6,7 +6,28 @@ use Rattle.express_meanings.specs.Findings.{rule_findings, unknown}
 use Rattle.express_settings.specs.Settings.{schema_in, population_in}
 use Rattle.rule_outcomes.specs.Counting.{capped}
 use Rattle.rule_outcomes.proofs.Counted.{all-findings}
+use Rattle.rule_outcomes.proofs.Ruleless.{no-rules, none-false, none-unknown}
 use Rattle.rule_outcomes.proofs.check.check_rules.Goals as goal
+
+pub returns-then-is_empty-clause-findings : goal.returns-then-is_empty-clause-findings
+returns-then-is_empty-clause-findings c m =
+    let S = c.args.setting.now in
+    let s = schema_in S in
+    let e : length c.args.rules.now ≡ 0 = search rules in
+    subst (λ rs. AreFindingsOf WhereFalse (rule_findings s m.domain m.entities m.attributes (population_in S)
+    (map (rule_seen s) rs)) c.empty_report.result.findings.items) (sym (no-rules c.args.rules.now e))
+    (none-false s m.domain m.entities m.attributes (population_in S) c.empty_report.result.findings.items
+    c.empty_report.ensures.findings)
+
+pub returns-then-is_empty-clause-unknown : goal.returns-then-is_empty-clause-unknown
+returns-then-is_empty-clause-unknown c m =
+    let S = c.args.setting.now in
+    let s = schema_in S in
+    let e : length c.args.rules.now ≡ 0 = search rules in
+    c.empty_report.ensures.unknown
+    ∙ ap capped (sym (none-unknown s m.domain m.entities m.attributes (population_in S)))
+    ∙ ap (λ rs. capped (unknown s m.domain m.entities m.attributes (population_in S) (map (rule_seen s) rs)))
+    (sym (no-rules c.args.rules.now e))
 
 pub returns-clause-findings : goal.returns-clause-findings
 returns-clause-findings c m =
