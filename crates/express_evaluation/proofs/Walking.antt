@@ -70,3 +70,7 @@ module _ (c : Context) (m : MeantBy c) (vs : List Variable) where
       → selected_in c m vs (qualifiers_of (x ∷ xs)) d
       ≡ selected_in c m vs (qualifiers_of xs) (selected_in c m vs (qualifiers_of (x ∷ [])) d)
   select-first x xs d = selection-first (selection_of x) (map selection_of xs) d
+
+  pub selected-plain : (xs : List Qualifier) (d : Datum) → length xs ≡ 0 → d ≡ selected_in c m vs (qualifiers_of xs) d
+  selected-plain [] d e = refl
+  selected-plain (x ∷ xs) d e = absurd (omega (arith, e))

@@ -1,15 +1,17 @@
 -- What the parts of an expression mean, with what it is evaluated with.
-use Rattle.std.specs.Prelude.{◌≡◌, ℕ, Bool, List, [], ◌∷◌, Option}
+use Rattle.std.specs.Prelude.{◌≡◌, ℕ, Bool, List, Option}
 use Rattle.step_literals.specs.declared.literal.items.Item.{Item}
 use Rattle.express_trees.specs.declared.tree.Logical.{Logical}
 use Rattle.express_trees.specs.declared.tree.Relation.{Relation}
 use Rattle.express_trees.specs.declared.tree.Relation.TheVariants as relations
 use Rattle.express_trees.specs.Trees.{Tree, Trees, Alternatives, Qualifiers}
 use Rattle.type_graphs.specs.Names.{Name}
+use Rattle.express_trees.specs.declared.tree.Limit.{Limit}
+use Rattle.express_logic.specs.Logic.{both}
 use Rattle.express_logic.specs.Data.{Datum, Data, instance}
-use Rattle.express_meanings.specs.Operations.{says, queried, filtered, is_true, compared}
+use Rattle.express_meanings.specs.Operations.{says, queried, filtered, is_true, compared, limited}
 use Rattle.express_meanings.specs.Expressions as expressions
-use Rattle.express_meanings.specs.Expressions.{means, selected, item_behind, with_value, named_value, and_all, or_all, is_in, among_each, bound}
+use Rattle.express_meanings.specs.Expressions.{means, selected, item_behind, with_value, attribute_of, named_value, and_all, or_all, is_in, among_each, bound}
 use Rattle.express_evaluation.specs.declared.context.Context.{Context}
 use Rattle.express_evaluation.specs.declared.variables.Variable.{Variable}
 use Rattle.held_values.specs.Parts.{element_datum}
@@ -50,6 +52,12 @@ named_in c m vs n qs =
     with_value (named_value (setting_in c m) (variables_of vs) (element_datum c.me) n)
     (item_behind (setting_in c m) (variables_of vs) (element_datum c.me) n qs) (λ d. selected_in c m vs qs d)
 
+-- .. of a name that is no variable
+abbrev pub unbound_in : (c : Context) → MeantBy c → List Variable → Name → Qualifiers → Datum
+unbound_in c m vs n qs =
+    with_value (attribute_of (setting_in c m) (element_datum c.me) n)
+    (item_behind (setting_in c m) (variables_of vs) (element_datum c.me) n qs) (λ d. selected_in c m vs qs d)
+
 abbrev pub item_in : (c : Context) → MeantBy c → List Variable → Name → Qualifiers → Datum
 item_in c m vs n qs = item_behind (setting_in c m) (variables_of vs) (element_datum c.me) n qs
 
@@ -67,6 +75,12 @@ within_in c m vs s d y = is_in (setting_in c m) (variables_of vs) (element_datum
 abbrev pub related_in : (c : Context) → MeantBy c → List Variable → Relation → Option (List Item) → Datum → Tree → Logical
 related_in c m vs relations.In s d y = within_in c m vs s d y
 related_in c m vs r s d y = compared r d (meaning_in c m vs y)
+
+-- whether a value lies between two others
+abbrev pub between_in : (c : Context) → MeantBy c → List Variable → Limit → Limit → Tree → Tree → Tree → Logical
+between_in c m vs above below low x high =
+    both (limited above (meaning_in c m vs low) (meaning_in c m vs x))
+    (limited below (meaning_in c m vs x) (meaning_in c m vs high))
 
 abbrev pub among_each_in : (c : Context) → MeantBy c → List Variable → Datum → Trees → Logical
 among_each_in c m vs d ys = among_each (setting_in c m) (variables_of vs) (element_datum c.me) d ys

@@ -1,5 +1,6 @@
 -- Forms that are told apart.
 use Rattle.std.specs.Prelude.{Bool, true, false}
+use Rattle.express_trees.specs.Trees.{Tree, parenthesized, interval, negation, conjunction, disjunction, comparison}
 use Rattle.express_trees.specs.declared.tree.Relation.{Relation}
 use Rattle.express_trees.specs.declared.tree.Relation.TheVariants as relations
 use Rattle.express_trees.specs.declared.tree.Function.{Function}
@@ -12,3 +13,13 @@ is_in r = false
 abbrev pub is_typeof : Function → Bool
 is_typeof functions.Typeof = true
 is_typeof f = false
+
+-- a condition by its form, in parentheses or not
+abbrev pub is_condition : Tree → Bool
+is_condition (parenthesized x) = is_condition x
+is_condition (interval low above x below high) = true
+is_condition (negation x) = true
+is_condition (conjunction x xs) = true
+is_condition (disjunction x xs) = true
+is_condition (comparison x r y) = true
+is_condition x = false

@@ -3,7 +3,7 @@
 //! The functions of the cycle aren't inlined into each other: each clears its locals at its entry, so
 //! that `evaluate` would pay at each node for what all others need.
 
-ghost use Rattle.std.specs.Prelude.{◌≡◌, ◌++◌, ◌∷◌, [], IfOk, OnOk, if◌then◌else◌};
+ghost use Rattle.std.specs.Prelude.{◌≡◌, ◌++◌, ◌∷◌, [], true, IfOk, OnOk, if◌then◌else◌};
 ghost use Rattle.std.specs.Option.{option_map};
 ghost use Rattle.step_literals.specs.Words.{upper};
 ghost use Rattle.express_trees.specs.Trees.{reference};
@@ -17,8 +17,11 @@ ghost use Rattle.express_trees.specs.Views.{
   selection_of,
 };
 ghost use Rattle.express_logic.specs.Comparing.{member};
+ghost use Rattle.express_logic.specs.Data.{logical};
 ghost use Rattle.express_logic.specs.Views.{datum_of, text_of};
-ghost use Rattle.express_meanings.specs.Operations.{bare};
+ghost use Rattle.express_meanings.specs.Operations.{bare, indexed, or_else};
+ghost use Rattle.express_meanings.specs.Expressions.{of_call, string_of};
+ghost use Rattle.express_evaluation.specs.Forms.{is_condition};
 ghost use Rattle.held_values.specs.Parts.{holding, element_datum, picked, whole_elements};
 ghost use Rattle.express_evaluation.specs.Scopes.{variables_of};
 ghost use Rattle.schema_names.specs.Numbers.{HasNumber};
@@ -33,6 +36,8 @@ ghost use Rattle.express_evaluation.specs.Contexts.{
   truth_in,
   selected_in,
   named_in,
+  unbound_in,
+  between_in,
   within_in,
   related_in,
   and_all_in,
@@ -47,9 +52,11 @@ ghost use Rattle.express_evaluation.specs.Contexts.{
 use crate::context::Context;
 use crate::literals::{literal_datum, signed_datum, string_of};
 use crate::operations::{
-    called, compared, is_in, is_of_type, is_true, is_typeof, joined, limited, truth,
+    called, compared, is_condition, is_in, is_of_type, is_true, is_typeof, joined, limited, truth,
 };
-use crate::qualifiers::{attribute_behind, group_behind, instance_of, item_value};
+use crate::qualifiers::{
+    attribute_behind, attribute_of_self, group_behind, instance_of, item_value, self_instance,
+};
 use crate::variables::{Variable, find};
 use attribute_sources::source::Derivation;
 use express_logic::compare::{equal, member};
@@ -57,7 +64,7 @@ use express_logic::datum::{Datum, Held};
 use express_logic::logical::{Logical, and, not, or};
 use express_logic::strings::AnyString;
 use express_settings::attributes::Found;
-use express_trees::tree::{Alternative, Expr, Qualifier, Relation, Root};
+use express_trees::tree::{Alternative, Expr, Function, Limit, Qualifier, Relation, Root};
 use held_values::element::Element;
 use held_values::indices::indexed;
 use held_values::operations::{bare, is_known};
@@ -67,6 +74,7 @@ use step_literals::literal::Word;
 
 /// What an expression is worth.
 #[cycle(evaluation)]
+#[inline(never)]
 pub fn evaluate<'p, 'e, 'r, 't, 's: 'r, 'a>(
     expression: &Expr<'s>,
     alloc: Global,
@@ -85,62 +93,137 @@ pub fn evaluate<'p, 'e, 'r, 't, 's: 'r, 'a>(
         }
         Expr::Parenthesized(inner) => evaluate(inner, alloc, context, variables),
         Expr::Aggregate(_) => Ok(Datum::Indeterminate),
+        Expr::Query {
+            variable,
+            source,
+            condition,
+        } => query(source, condition, alloc, context, variables, *variable),
+        Expr::Call(function, argument) => call(argument, alloc, context, variables, *function),
+        Expr::Nvl(first, second) => first_known(first, second, alloc, context, variables),
+        _ => Ok(Datum::Logical(condition(expression, alloc, context, variables)?)),
+    }
+}
+
+/// What an expression says as an operand of a logical operator. Conditions make no value.
+#[cycle(evaluation)]
+#[inline(never)]
+pub fn evaluate_truth<'p, 'e, 'r, 't, 's: 'r, 'a>(
+    expression: &Expr<'s>,
+    alloc: Global,
+    context: &Context<'p, 'e, 'r, 't, 's, 'a>,
+    variables: &mut Vec<Variable<'p, 'r>>,
+) -> Result<Logical, AllocError>
+    requires setting { IsSetting context.now.setting.now }
+    ensures { IfOk result (λ d. Gives context.now variables.old.items variables.new.items d
+        (λ m. truth_in context.now m variables.old.items (tree_of expression.now))) }
+{
+    if is_condition(expression) {
+        return condition(expression, alloc, context, variables);
+    }
+    Ok(truth(evaluate(expression, alloc, context, variables)?))
+}
+
+/// The logical that a condition is worth.
+#[cycle(evaluation)]
+#[inline(never)]
+fn condition<'p, 'e, 'r, 't, 's: 'r, 'a>(
+    expression: &Expr<'s>,
+    alloc: Global,
+    context: &Context<'p, 'e, 'r, 't, 's, 'a>,
+    variables: &mut Vec<Variable<'p, 'r>>,
+) -> Result<Logical, AllocError>
+    requires setting { IsSetting context.now.setting.now }
+    requires form { is_condition (tree_of expression.now) ≡ true }
+    ensures { IfOk result (λ d. Gives context.now variables.old.items variables.new.items (logical d)
+        (λ m. meaning_in context.now m variables.old.items (tree_of expression.now))) }
+{
+    match expression {
+        Expr::Parenthesized(inner) => condition(inner, alloc, context, variables),
         Expr::Interval {
             low,
             above,
             item,
             below,
             high,
-        } => {
-            let low = evaluate(low, alloc, context, variables)?;
-            let item = evaluate(item, alloc, context, variables)?;
-            let high = evaluate(high, alloc, context, variables)?;
-            Ok(Datum::Logical(and(limited(*above, &low, &item), limited(*below, &item, &high))))
-        }
-        Expr::Query {
-            variable,
-            source,
-            condition,
-        } => {
-            let source = evaluate(source, alloc, context, variables)?;
-            query(
-                condition,
-                alloc,
-                context,
-                variables,
-                *variable,
-                bare(source),
-            )
-        }
-        Expr::Call(function, argument) => {
-            let value = evaluate(argument, alloc, context, variables)?;
-            called(*function, value)
-        }
-        Expr::Nvl(first, second) => {
-            let value = evaluate(first, alloc, context, variables)?;
-            if is_known(&value) {
-                return Ok(value);
-            }
-            evaluate(second, alloc, context, variables)
-        }
-        Expr::Not(inner) => Ok(Datum::Logical(not(evaluate_truth(
-            inner, alloc, context, variables,
-        )?))),
+        } => between(low, item, high, alloc, context, variables, *above, *below),
+        Expr::Not(inner) => Ok(not(evaluate_truth(inner, alloc, context, variables)?)),
         Expr::Conjunction(first, others) => {
             let value = evaluate_truth(first, alloc, context, variables)?;
-            Ok(Datum::Logical(and_all(others, alloc, context, variables, value)?))
+            and_all(others, alloc, context, variables, value)
         }
         Expr::Disjunction(first, others) => {
             let value = evaluate_truth(first, alloc, context, variables)?;
-            Ok(Datum::Logical(or_all(others, alloc, context, variables, value)?))
+            or_all(others, alloc, context, variables, value)
         }
         Expr::Comparison(left, relation, right) => {
-            let text = string_of(left);
-            let value = evaluate(left, alloc, context, variables)?;
-            let related = related(right, alloc, context, variables, *relation, text, value)?;
-            Ok(Datum::Logical(related))
+            related(left, right, alloc, context, variables, *relation)
         }
+        _ => Ok(Logical::Unknown),
     }
+}
+
+/// Whether a value lies between two others.
+#[cycle(evaluation)]
+#[inline(never)]
+fn between<'p, 'e, 'r, 't, 's: 'r, 'a>(
+    low: &Expr<'s>,
+    item: &Expr<'s>,
+    high: &Expr<'s>,
+    alloc: Global,
+    context: &Context<'p, 'e, 'r, 't, 's, 'a>,
+    variables: &mut Vec<Variable<'p, 'r>>,
+    above: Limit,
+    below: Limit,
+) -> Result<Logical, AllocError>
+    requires setting { IsSetting context.now.setting.now }
+    ensures { IfOk result (λ d. Gives context.now variables.old.items variables.new.items d
+        (λ m. between_in context.now m variables.old.items above below (tree_of low.now)
+        (tree_of item.now) (tree_of high.now))) }
+{
+    let low = evaluate(low, alloc, context, variables)?;
+    let item = evaluate(item, alloc, context, variables)?;
+    let high = evaluate(high, alloc, context, variables)?;
+    Ok(and(limited(above, &low, &item), limited(below, &item, &high)))
+}
+
+/// The value of a function of the language.
+#[cycle(evaluation)]
+#[inline(never)]
+fn call<'p, 'e, 'r, 't, 's: 'r, 'a>(
+    argument: &Expr<'s>,
+    alloc: Global,
+    context: &Context<'p, 'e, 'r, 't, 's, 'a>,
+    variables: &mut Vec<Variable<'p, 'r>>,
+    function: Function,
+) -> Result<Datum<'r, Part<'p, 'r>>, AllocError>
+    requires setting { IsSetting context.now.setting.now }
+    ensures { IfOk result (λ d. Gives context.now variables.old.items variables.new.items (datum_of holding d)
+        (λ m. of_call function (meaning_in context.now m variables.old.items (tree_of argument.now)))) }
+{
+    let value = evaluate(argument, alloc, context, variables)?;
+    called(function, value)
+}
+
+/// The first of two values, or the second where there is none: NVL.
+#[cycle(evaluation)]
+#[inline(never)]
+fn first_known<'p, 'e, 'r, 't, 's: 'r, 'a>(
+    first: &Expr<'s>,
+    second: &Expr<'s>,
+    alloc: Global,
+    context: &Context<'p, 'e, 'r, 't, 's, 'a>,
+    variables: &mut Vec<Variable<'p, 'r>>,
+) -> Result<Datum<'r, Part<'p, 'r>>, AllocError>
+    requires setting { IsSetting context.now.setting.now }
+    ensures { IfOk result (λ d. Gives context.now variables.old.items variables.new.items (datum_of holding d)
+        (λ m. or_else (meaning_in context.now m variables.old.items (tree_of first.now))
+        (meaning_in context.now m variables.old.items (tree_of second.now)))) }
+{
+    let value = evaluate(first, alloc, context, variables)?;
+    if is_known(&value) {
+        return Ok(value);
+    }
+    evaluate(second, alloc, context, variables)
 }
 
 /// What a reference means: SELF or a name, with its qualifiers.
@@ -166,28 +249,28 @@ fn referred<'p, 'e, 'r, 't, 's: 'r, 'a>(
     }
 }
 
-/// What a relation says of a string and a value on its left, and an expression on its right.
+/// What a relation says of two expressions.
 #[cycle(evaluation)]
 #[inline(never)]
 fn related<'p, 'e, 'r, 't, 's: 'r, 'a>(
-    expression: &Expr<'s>,
+    left: &Expr<'s>,
+    right: &Expr<'s>,
     alloc: Global,
     context: &Context<'p, 'e, 'r, 't, 's, 'a>,
     variables: &mut Vec<Variable<'p, 'r>>,
     relation: Relation,
-    text: Option<AnyString<'s>>,
-    value: Datum<'r, Part<'p, 'r>>,
 ) -> Result<Logical, AllocError>
     requires setting { IsSetting context.now.setting.now }
     ensures { IfOk result (λ d. Gives context.now variables.old.items variables.new.items d
-        (λ m. related_in context.now m variables.old.items relation
-        (option_map text_of text.entry) (datum_of holding value.entry) (tree_of expression.now))) }
+        (λ m. related_in context.now m variables.old.items relation (string_of (tree_of left.now))
+        (meaning_in context.now m variables.old.items (tree_of left.now)) (tree_of right.now))) }
 {
+    let value = evaluate(left, alloc, context, variables)?;
     if is_in(relation) {
-        return within(expression, alloc, context, variables, text, value);
+        return within(right, alloc, context, variables, string_of(left), &value);
     }
-    let right = evaluate(expression, alloc, context, variables)?;
-    Ok(compared(relation, &value, &right))
+    let other = evaluate(right, alloc, context, variables)?;
+    Ok(compared(relation, &value, &other))
 }
 
 /// Whether a value is an element of an expression's.
@@ -207,21 +290,6 @@ fn is_member<'p, 'e, 'r, 't, 's: 'r, 'a>(
 {
     let right = bare(evaluate(expression, alloc, context, variables)?);
     Ok(member(value, &right))
-}
-
-/// What an expression says as an operand of a logical operator.
-#[cycle(evaluation)]
-fn evaluate_truth<'p, 'e, 'r, 't, 's: 'r, 'a>(
-    expression: &Expr<'s>,
-    alloc: Global,
-    context: &Context<'p, 'e, 'r, 't, 's, 'a>,
-    variables: &mut Vec<Variable<'p, 'r>>,
-) -> Result<Logical, AllocError>
-    requires setting { IsSetting context.now.setting.now }
-    ensures { IfOk result (λ d. Gives context.now variables.old.items variables.new.items d
-        (λ m. truth_in context.now m variables.old.items (tree_of expression.now))) }
-{
-    Ok(truth(evaluate(expression, alloc, context, variables)?))
 }
 
 /// AND of a value and some expressions.
@@ -279,30 +347,30 @@ fn within<'p, 'e, 'r, 't, 's: 'r, 'a>(
     context: &Context<'p, 'e, 'r, 't, 's, 'a>,
     variables: &mut Vec<Variable<'p, 'r>>,
     text: Option<AnyString<'s>>,
-    value: Datum<'r, Part<'p, 'r>>,
+    value: &Datum<'r, Part<'p, 'r>>,
 ) -> Result<Logical, AllocError>
     requires setting { IsSetting context.now.setting.now }
     ensures { IfOk result (λ d. Gives context.now variables.old.items variables.new.items d
         (λ m. within_in context.now m variables.old.items (option_map text_of text.entry)
-        (datum_of holding value.entry) (tree_of expression.now))) }
+        (datum_of holding value.now) (tree_of expression.now))) }
 {
     match expression {
         Expr::Parenthesized(inner) => within(inner, alloc, context, variables, text, value),
         Expr::Aggregate(items) => {
-            if is_known(&value) {
-                among_each(items, alloc, context, variables, &value)
+            if is_known(value) {
+                among_each(items, alloc, context, variables, value)
             } else {
                 Ok(Logical::Unknown)
             }
         }
         Expr::Call(function, argument) => {
             if !is_typeof(*function) {
-                return is_member(expression, alloc, context, variables, &value);
+                return is_member(expression, alloc, context, variables, value);
             }
             let argument = evaluate(argument, alloc, context, variables)?;
             Ok(is_of_type(context, text, argument))
         }
-        _ => is_member(expression, alloc, context, variables, &value),
+        _ => is_member(expression, alloc, context, variables, value),
     }
 }
 
@@ -329,9 +397,30 @@ fn among_each<'p, 'e, 'r, 't, 's: 'r, 'a>(
     Ok(result)
 }
 
-/// What qualifiers select of a value, one after another.
+/// What qualifiers select of a value; without any it is answered at once.
 #[cycle(evaluation)]
 fn selected<'p, 'e, 'r, 't, 's: 'r, 'a>(
+    qualifiers: &[Qualifier<'s>],
+    alloc: Global,
+    context: &Context<'p, 'e, 'r, 't, 's, 'a>,
+    variables: &mut Vec<Variable<'p, 'r>>,
+    value: Datum<'r, Part<'p, 'r>>,
+) -> Result<Datum<'r, Part<'p, 'r>>, AllocError>
+    requires setting { IsSetting context.now.setting.now }
+    ensures { IfOk result (λ d. Gives context.now variables.old.items variables.new.items (datum_of holding d)
+        (λ m. selected_in context.now m variables.old.items (qualifiers_of qualifiers.now)
+        (datum_of holding value.entry))) }
+{
+    if qualifiers.is_empty() {
+        return Ok(value);
+    }
+    select_each(qualifiers, alloc, context, variables, value)
+}
+
+/// .. one after another.
+#[cycle(evaluation)]
+#[inline(never)]
+fn select_each<'p, 'e, 'r, 't, 's: 'r, 'a>(
     qualifiers: &[Qualifier<'s>],
     alloc: Global,
     context: &Context<'p, 'e, 'r, 't, 's, 'a>,
@@ -369,42 +458,39 @@ fn select<'p, 'e, 'r, 't, 's: 'r, 'a>(
     match qualifier {
         Qualifier::Attribute(name) => {
             let found = attribute_behind(context, &value, *name);
-            found_or_nothing(found, alloc, context, instance_of(&value))
+            found_value(found, alloc, context, instance_of(&value))
         }
         Qualifier::Group(entity, name) => {
             let found = group_behind(context, &value, *entity, *name);
-            found_or_nothing(found, alloc, context, instance_of(&value))
+            found_value(found, alloc, context, instance_of(&value))
         }
-        Qualifier::Index(index) => {
-            let index = bare(evaluate(index, alloc, context, variables)?);
-            Ok(indexed(&value, &index))
-        }
+        Qualifier::Index(index) => element(index, alloc, context, variables, &value),
     }
 }
 
-/// The value of an attribute of an instance, where there is one.
+/// The element of a value at the index that an expression is worth.
 #[cycle(evaluation)]
-fn found_value<'p, 'e, 'r, 't, 's: 'r, 'a>(
-    found: Found<'p, 'r>,
+#[inline(never)]
+fn element<'p, 'e, 'r, 't, 's: 'r, 'a>(
+    index: &Expr<'s>,
     alloc: Global,
     context: &Context<'p, 'e, 'r, 't, 's, 'a>,
-    instance: u64,
-) -> Result<Option<Datum<'r, Part<'p, 'r>>>, AllocError>
+    variables: &mut Vec<Variable<'p, 'r>>,
+    value: &Datum<'r, Part<'p, 'r>>,
+) -> Result<Datum<'r, Part<'p, 'r>>, AllocError>
     requires setting { IsSetting context.now.setting.now }
-    requires found { IsFound context.now.setting.now found }
-    ensures { IfOk result (λ o. (m : MeantBy context.now) → option_map (datum_of holding) o
-        ≡ worth_in context.now m instance found.entry) }
+    ensures { IfOk result (λ d. Gives context.now variables.old.items variables.new.items (datum_of holding d)
+        (λ m. indexed (datum_of holding value.now)
+        (bare (meaning_in context.now m variables.old.items (tree_of index.now))))) }
 {
-    match found {
-        Found::Missing => Ok(None),
-        Found::Value(value) => Ok(Some(value)),
-        Found::Derived(derivation) => { Ok(Some(derived(alloc, context, instance, derivation)?)) }
-    }
+    let index = bare(evaluate(index, alloc, context, variables)?);
+    Ok(indexed(value, &index))
 }
 
-/// .. else it is indeterminate.
+/// The value of an attribute of an instance; indeterminate where there is none.
 #[cycle(evaluation)]
-fn found_or_nothing<'p, 'e, 'r, 't, 's: 'r, 'a>(
+#[inline(never)]
+fn found_value<'p, 'e, 'r, 't, 's: 'r, 'a>(
     found: Found<'p, 'r>,
     alloc: Global,
     context: &Context<'p, 'e, 'r, 't, 's, 'a>,
@@ -415,9 +501,10 @@ fn found_or_nothing<'p, 'e, 'r, 't, 's: 'r, 'a>(
     ensures { IfOk result (λ d. (m : MeantBy context.now) → datum_of holding d
         ≡ or_nothing (worth_in context.now m instance found.entry)) }
 {
-    match found_value(found, alloc, context, instance)? {
-        Some(value) => Ok(value),
-        None => Ok(Datum::Indeterminate),
+    match found {
+        Found::Missing => Ok(Datum::Indeterminate),
+        Found::Value(value) => Ok(value),
+        Found::Derived(derivation) => derived(alloc, context, instance, derivation),
     }
 }
 
@@ -468,14 +555,37 @@ fn named<'p, 'e, 'r, 't, 's: 'r, 'a>(
         (λ m. named_in context.now m variables.old.items (capitals name.entry)
         (qualifiers_of qualifiers.now))) }
 {
-    if let Some(value) = find(variables, name) {
-        return selected(qualifiers, alloc, context, variables, value);
+    match find(variables, name) {
+        Some(value) => {
+            let value = value.datum();
+            selected(qualifiers, alloc, context, variables, value)
+        }
+        None => unbound(qualifiers, alloc, context, variables, name),
     }
-    let me = bare(context.me.datum());
-    let found = attribute_behind(context, &me, name);
-    match found_value(found, alloc, context, instance_of(&me))? {
-        Some(value) => selected(qualifiers, alloc, context, variables, value),
-        None => item_behind(qualifiers, alloc, context, variables, name),
+}
+
+/// What a name that is no variable means: an attribute of SELF, else an item.
+#[cycle(evaluation)]
+#[inline(never)]
+fn unbound<'p, 'e, 'r, 't, 's: 'r, 'a>(
+    qualifiers: &[Qualifier<'s>],
+    alloc: Global,
+    context: &Context<'p, 'e, 'r, 't, 's, 'a>,
+    variables: &mut Vec<Variable<'p, 'r>>,
+    name: Word<'s>,
+) -> Result<Datum<'r, Part<'p, 'r>>, AllocError>
+    requires setting { IsSetting context.now.setting.now }
+    ensures { IfOk result (λ d. Gives context.now variables.old.items variables.new.items (datum_of holding d)
+        (λ m. unbound_in context.now m variables.old.items (capitals name.entry)
+        (qualifiers_of qualifiers.now))) }
+{
+    match attribute_of_self(context, name) {
+        Found::Missing => item_behind(qualifiers, alloc, context, variables, name),
+        Found::Value(value) => selected(qualifiers, alloc, context, variables, value),
+        Found::Derived(derivation) => {
+            let value = derived(alloc, context, self_instance(context), derivation)?;
+            selected(qualifiers, alloc, context, variables, value)
+        }
     }
 }
 
@@ -513,18 +623,19 @@ fn item_behind<'p, 'e, 'r, 't, 's: 'r, 'a>(
 #[cycle(evaluation)]
 #[inline(never)]
 fn query<'p, 'e, 'r, 't, 's: 'r, 'a>(
+    source: &Expr<'s>,
     condition: &Expr<'s>,
     alloc: Global,
     context: &Context<'p, 'e, 'r, 't, 's, 'a>,
     variables: &mut Vec<Variable<'p, 'r>>,
     name: Word<'s>,
-    source: Datum<'r, Part<'p, 'r>>,
 ) -> Result<Datum<'r, Part<'p, 'r>>, AllocError>
     requires setting { IsSetting context.now.setting.now }
     ensures { IfOk result (λ d. Gives context.now variables.old.items variables.new.items (datum_of holding d)
-        (λ m. queried_in context.now m variables.old.items (capitals name.entry)
-        (tree_of condition.now) (datum_of holding source.entry))) }
+        (λ m. queried_in context.now m variables.old.items (capitals name.entry) (tree_of condition.now)
+        (bare (meaning_in context.now m variables.old.items (tree_of source.now))))) }
 {
+    let source = bare(evaluate(source, alloc, context, variables)?);
     let Datum::Aggregate(part) = source else {
         return Ok(Datum::Indeterminate);
     };
@@ -577,7 +688,7 @@ fn passes<'p, 'e, 'r, 't, 's: 'r, 'a>(
         (tree_of condition.now) (element_datum variable.entry.value))) }
 {
     variables.push(variable)?;
-    let value = evaluate(condition, alloc, context, variables)?;
+    let value = evaluate_truth(condition, alloc, context, variables)?;
     variables.pop();
     Ok(is_true(value))
 }

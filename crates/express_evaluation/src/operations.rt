@@ -2,11 +2,12 @@
 
 ghost use Rattle.std.specs.Prelude.{◌≡◌, IfOk};
 ghost use Rattle.std.specs.Option.{option_map};
+ghost use Rattle.express_trees.specs.Views.{tree_of};
 ghost use Rattle.express_logic.specs.Logic.{known};
 ghost use Rattle.express_logic.specs.Views.{datum_of, text_of};
 ghost use Rattle.express_meanings.specs.Expressions.{of_call, of_junction, is_of_type};
 ghost use Rattle.express_meanings.specs.Operations.{says, compared, limited, is_true};
-ghost use Rattle.express_evaluation.specs.Forms.{is_in, is_typeof};
+ghost use Rattle.express_evaluation.specs.Forms.{is_condition, is_in, is_typeof};
 ghost use Rattle.held_values.specs.Parts.{holding, capitals_of};
 ghost use Rattle.express_settings.specs.Settings.{IsSetting, is_defined_in};
 ghost use Rattle.express_evaluation.specs.Contexts.{MeantBy, setting_in};
@@ -16,7 +17,7 @@ use express_logic::compare::{equal, less, member};
 use express_logic::datum::Datum;
 use express_logic::logical::{Logical, known, not, or, xor};
 use express_logic::strings::AnyString;
-use express_trees::tree::{Function, Junction, Limit, Relation};
+use express_trees::tree::{Expr, Function, Junction, Limit, Relation};
 use held_values::operations::{bare, high_index, is_known, low_index, size};
 use held_values::part::Part;
 use std::alloc::AllocError;
@@ -30,10 +31,10 @@ pub(crate) fn truth(value: Datum<'_, Part<'_, '_>>) -> Logical
 }
 
 /// Whether a condition is TRUE.
-pub(crate) fn is_true(value: Datum<'_, Part<'_, '_>>) -> bool
-    ensures { result ≡ is_true (says (datum_of holding value.entry)) }
+pub(crate) fn is_true(value: Logical) -> bool
+    ensures { result ≡ is_true value }
 {
-    matches!(truth(value), Logical::True)
+    matches!(value, Logical::True)
 }
 
 /// What a relation says of two values.
@@ -53,6 +54,22 @@ pub(crate) fn compared<'p, 'r>(
         Relation::LessOrEqual => not(less(right, left)),
         Relation::GreaterOrEqual => not(less(left, right)),
         Relation::In => member(left, right),
+    }
+}
+
+/// Whether an expression is a condition by its form, in parentheses or not: a comparison, or what a
+/// logical operator makes of others.
+pub(crate) fn is_condition(expression: &Expr<'_>) -> bool
+    ensures { result ≡ is_condition (tree_of expression.now) }
+{
+    match expression {
+        Expr::Parenthesized(inner) => is_condition(inner),
+        Expr::Interval { .. } => true,
+        Expr::Not(_) => true,
+        Expr::Conjunction(_, _) => true,
+        Expr::Disjunction(_, _) => true,
+        Expr::Comparison(_, _, _) => true,
+        _ => false,
     }
 }
 

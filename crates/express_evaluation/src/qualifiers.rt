@@ -4,14 +4,16 @@ ghost use Rattle.std.specs.Prelude.{◌≡◌};
 ghost use Rattle.std.specs.Option.{option_map};
 ghost use Rattle.express_trees.specs.Views.{capitals};
 ghost use Rattle.express_logic.specs.Views.{datum_of};
-ghost use Rattle.express_meanings.specs.Expressions.{item_value, instance_attribute, instance_group};
-ghost use Rattle.held_values.specs.Parts.{holding};
+ghost use Rattle.express_meanings.specs.Expressions.{attribute_of, item_value, instance_attribute, instance_group};
+ghost use Rattle.express_meanings.specs.Operations.{bare};
+ghost use Rattle.held_values.specs.Parts.{element_datum, holding};
 ghost use Rattle.express_settings.specs.Settings.{IsSetting, IsFound, or_nothing};
 ghost use Rattle.express_evaluation.specs.Contexts.{MeantBy, setting_in, worth_in, instance_of};
 
 use crate::context::Context;
 use express_logic::datum::Datum;
 use express_settings::attributes::Found;
+use held_values::operations::bare;
 use held_values::part::Part;
 use step_literals::literal::Word;
 
@@ -33,7 +35,23 @@ pub(crate) fn attribute_behind<'p, 'r>(
     }
 }
 
+/// .. of an attribute of SELF.
+#[inline(never)]
+pub(crate) fn attribute_of_self<'p, 'r>(
+    context: &Context<'p, '_, 'r, '_, '_, '_>,
+    name: Word<'_>,
+) -> Found<'p, 'r>
+    requires setting { IsSetting context.now.setting.now }
+    ensures worth { (m : MeantBy context.now)
+        → worth_in context.now m (instance_of (bare (element_datum context.now.me))) result
+        ≡ attribute_of (setting_in context.now m) (element_datum context.now.me) (capitals name.entry) }
+    ensures found { IsFound context.now.setting.now result }
+{
+    attribute_behind(context, &bare(context.me.datum()), name)
+}
+
 /// .. of the attribute that a group means.
+#[inline(never)]
 pub(crate) fn group_behind<'p, 'r>(
     context: &Context<'p, '_, 'r, '_, '_, '_>,
     value: &Datum<'r, Part<'p, 'r>>,
@@ -61,6 +79,14 @@ pub(crate) fn instance_of(value: &Datum<'_, Part<'_, '_>>) -> u64
         Datum::Instance(instance) => *instance,
         _ => 0,
     }
+}
+
+/// The instance that SELF is; 0 where it is none.
+#[inline(never)]
+pub(crate) fn self_instance(context: &Context<'_, '_, '_, '_, '_, '_>) -> u64
+    ensures { result ≡ instance_of (bare (element_datum context.now.me)) }
+{
+    instance_of(&bare(context.me.datum()))
 }
 
 /// An item of an enumeration of this name.

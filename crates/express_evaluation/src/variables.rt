@@ -3,14 +3,11 @@
 ghost use Rattle.std.specs.Prelude.{◌≡◌};
 ghost use Rattle.std.specs.Option.{option_map};
 ghost use Rattle.express_trees.specs.Views.{capitals};
-ghost use Rattle.express_logic.specs.Views.{datum_of};
 ghost use Rattle.express_meanings.specs.Expressions.{variable};
-ghost use Rattle.held_values.specs.Parts.{holding};
+ghost use Rattle.held_values.specs.Parts.{element_datum};
 ghost use Rattle.express_evaluation.specs.Scopes.{variables_of};
 
-use express_logic::datum::Datum;
 use held_values::element::Element;
-use held_values::part::Part;
 use step_literals::literal::Word;
 
 /// A variable of a query.
@@ -21,16 +18,16 @@ pub struct Variable<'p, 'r> {
 }
 
 /// The value of the innermost variable of this name, the last of all; none where there is none.
-pub(crate) fn find<'p, 'r>(
-    variables: &[Variable<'p, 'r>],
+pub(crate) fn find<'v, 'p, 'r>(
+    variables: &'v [Variable<'p, 'r>],
     name: Word<'_>,
-) -> Option<Datum<'r, Part<'p, 'r>>>
-    ensures { option_map (datum_of holding) result
+) -> Option<&'v Element<'p, 'r>>
+    ensures { option_map (λ value. element_datum value.now) result
         ≡ variable (variables_of variables.now) (capitals name.entry) }
 {
     let (last, others) = variables.split_last()?;
     if name == last.name {
-        Some(last.value.datum())
+        Some(&last.value)
     } else {
         find(others, name)
     }

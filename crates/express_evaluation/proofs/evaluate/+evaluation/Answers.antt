@@ -1,13 +1,14 @@
-use Rattle.std.proofs.Common.{◌≡◌, ◌<◌, ◌≤◌, ◌+◌, ◌*◌, ◌∷◌, [], suc, length, drop, ap, sym, subst, refl, ◌∙◌, arith}
+use Rattle.std.proofs.Common.{◌≡◌, ◌<◌, ◌+◌, ◌*◌, ◌∷◌, [], suc, length, drop, ap, sym, subst, refl, ◌∙◌, Some, arith, rules}
 use Rattle.std.proofs.lemmas.Result.{IfOk-weaker}
+use Rattle.std.proofs.lemmas.Bool.Decides.{nat_tests}
 use Rattle.std.specs.Option.{option_map}
 use Rattle.std.specs.Vec.{vec_len}
 use Rattle.express_trees.specs.declared.tree.Expr.{size-Expr}
 use Rattle.express_trees.specs.declared.tree.Logical.TheVariants.{Unknown}
 use Rattle.std.specs.Prelude.{if◌then◌else◌}
-use Rattle.express_trees.specs.Trees.{reference, named}
+use Rattle.express_trees.specs.Trees.{reference}
 use Rattle.express_trees.specs.Views.{capitals, root_of, tree_of, trees_of, alternatives_of, qualifiers_of, selections_of, selection_of}
-use Rattle.express_logic.specs.Data.{logical, aggregate, element, indeterminate}
+use Rattle.express_logic.specs.Data.{Datum, logical, aggregate, element, indeterminate}
 use Rattle.express_logic.specs.Logic.{both, either, negated}
 use Rattle.express_logic.specs.Comparing.{equal, member}
 use Rattle.express_logic.specs.Views.{datum_of, text_of}
@@ -19,14 +20,14 @@ use Rattle.express_evaluation.specs.Scopes.{variables_of}
 use Rattle.express_evaluation.specs.Weights.{weight}
 use Rattle.derivation_formulas.specs.Formulas.{formula_seen, formula_place}
 use Rattle.express_settings.specs.Settings.{below_rank, setting_by, derivation_in, or_nothing}
-use Rattle.express_evaluation.specs.Contexts.{setting_in, worth_in, instance_of, meaning_in, truth_in, selected_in, item_in, within_in, related_in, and_all_in, or_all_in, among_each_in, condition_in, passes_in, queried_in}
+use Rattle.express_evaluation.specs.Contexts.{setting_in, worth_in, derived_in, instance_of, meaning_in, truth_in, between_in, selected_in, item_in, within_in, related_in, and_all_in, or_all_in, among_each_in, condition_in, passes_in, filtered_in, queried_in}
 use Rattle.express_evaluation.proofs.Arms.{part, part-truth, of-tree, or-known, or-unknown, related-is, related-in, related-not, typeof-is, typeof-not, other-is, or-is}
 use Rattle.express_evaluation.proofs.Items.{item-plain, item-attribute, item-other}
 use Rattle.express_evaluation.proofs.Kept.{Keeps, keeps_none, keeps_next, keeps_all}
 use Rattle.express_evaluation.proofs.Layers.{reference-seen, aggregate-seen, attribute-selected, group-selected, parenthesized-seen, interval-seen, query-seen, call-seen, nvl-seen, not-seen, conjunction-seen, disjunction-seen, comparison-seen, index-selected}
 use Rattle.express_evaluation.proofs.Ranked.{below-none, below-late, below-rank}
 use Rattle.express_evaluation.proofs.Scopes.{variables_pushed, popped}
-use Rattle.express_evaluation.proofs.Walking.{either_false, either_none, either_groups, next-dropped, none-dropped, or-first, select-first}
+use Rattle.express_evaluation.proofs.Walking.{either_false, either_none, either_groups, next-dropped, none-dropped, or-first, select-first, selected-plain}
 use Rattle.express_evaluation.proofs.Weighing.{weighs_more}
 use Rattle.express_evaluation.proofs.evaluate.+evaluation.Goals as goal
 
@@ -112,10 +113,10 @@ pub derived-evaluate-requires : goal.derived-evaluate-requires
 derived-evaluate-requires t c =
     let S = c.args.context.now.setting.now in
     let f = c.in-Some.formula in
-    let h : 8 * weight S.formulas.now c.args.context.now.limit ≡ t = c.decreases in
+    let h : 16 * weight S.formulas.now c.args.context.now.limit ≡ t = c.decreases in
     let at = formula_place S.firsts.now (length S.formulas.now) c.args.derivation.entity c.args.derivation.number in
     let w = weighs_more S.formulas.now at f c.args.context.now.limit (sym c.in-Some.ensures.place) c.if-formula-context.false in
-    let r : 8 * (size-Expr f.expression.now + weight S.formulas.now f.rank) < t = omega (arith, h, w) in
+    let r : 16 * (size-Expr f.expression.now + weight S.formulas.now f.rank) + 1 < t = omega (arith, h, w) in
     (r, c.requires.setting)
 
 pub derived-returns : goal.derived-returns
@@ -130,19 +131,6 @@ derived-returns t c =
     ∙ sym (below-rank S m c.args.context.now.limit c.args.instance (derivation_in S c.args.derivation) (formula_seen f)
     (sym (c.in-Some.ensures.meant m c.requires.number)) c.if-formula-context.false)) c.evaluate.ensures
 
-pub evaluate-returns-then-is_known : goal.evaluate-returns-then-is_known
-evaluate-returns-then-is_known t c =
-    let x = c.in-Nvl in
-    let found = c.in_ok-value-in-Nvl.ensures in
-    let d = datum_of holding c.in_ok-value-in-Nvl.value in (
-      λ m.
-          let other = meaning_in c.args.context.now m c.args.variables.now.items (tree_of x.second.value) in
-          let first = part c.args.context.now m c.args.variables.now.items c.args.variables.now.items c.deref-in-Nvl.result.now x.first.value d c.deref-in-Nvl.ensures refl (found.0 m) in
-          of-tree c.args.context.now m c.args.variables.now.items d _ _ (ap tree_of x.is ∙ nvl-seen x.first x.second)
-          (sym (or-known d other (sym c.is_known.ensures ∙ c.if-is_known.true)) ∙ ap (λ e. or_else e other) first),
-      found.1,
-    )
-
 pub evaluate-returns-in-Parenthesized : goal.evaluate-returns-in-Parenthesized
 evaluate-returns-in-Parenthesized t c =
     let x = c.in-Parenthesized in
@@ -155,191 +143,22 @@ evaluate-returns-in-Parenthesized t c =
       h.1,
     )) c.evaluate.ensures
 
-pub evaluate-returns-in_ok-high-in-Interval : goal.evaluate-returns-in_ok-high-in-Interval
-evaluate-returns-in_ok-high-in-Interval t c =
-    let x = c.in-Interval in
-    let one = c.in_ok-low-in-Interval.ensures in
-    let two = c.in_ok-item-in-Interval.ensures in
-    let three = c.in_ok-high-in-Interval.ensures in
-    let d = datum_of holding c.in_ok-low-in-Interval.low in
-    let e = datum_of holding c.in_ok-item-in-Interval.item in
-    let f = datum_of holding c.in_ok-high-in-Interval.high in (
-      λ m.
-          let low = part c.args.context.now m c.args.variables.now.items c.args.variables.now.items c.deref-in-Interval.result.now x.low.value d c.deref-in-Interval.ensures refl (one.0 m) in
-          let item = part c.args.context.now m c.args.variables.now.items c.evaluate-in-Interval.new.variables.items c.deref-in-Interval-2.result.now x.item.value e
-          c.deref-in-Interval-2.ensures one.1 (two.0 m) in
-          let high = part c.args.context.now m c.args.variables.now.items c.evaluate-in-Interval-2.new.variables.items c.deref-in-Interval-3.result.now x.high.value f
-          c.deref-in-Interval-3.ensures (two.1 ∙ one.1) (three.0 m) in
-          of-tree c.args.context.now m c.args.variables.now.items (logical c.and.result) _ _ (ap tree_of x.is ∙ interval-seen x.low x.above x.item x.below x.high)
-          (ap logical (c.and.ensures ∙ ap (λ p. both p c.limited-in-Interval.result) c.limited.ensures
-          ∙ ap (both (limited x.above d e)) c.limited-in-Interval.ensures
-          ∙ ap (λ k. both (limited x.above k e) (limited x.below e f)) low
-          ∙ ap (λ k. both (limited x.above (meaning_in c.args.context.now m c.args.variables.now.items (tree_of x.low.value)) k) (limited x.below k f)) item
-          ∙ ap (λ k. both (limited x.above (meaning_in c.args.context.now m c.args.variables.now.items (tree_of x.low.value)) (meaning_in c.args.context.now m c.args.variables.now.items (tree_of x.item.value)))
-          (limited x.below (meaning_in c.args.context.now m c.args.variables.now.items (tree_of x.item.value)) k)) high)),
-      three.1 ∙ two.1 ∙ one.1,
-    )
-
-pub evaluate-returns-in_ok-source-in-Query : goal.evaluate-returns-in_ok-source-in-Query
-evaluate-returns-in_ok-source-in-Query t c =
-    let x = c.in-Query in
-    let found = c.in_ok-source-in-Query.ensures in
-    let d = datum_of holding c.in_ok-source-in-Query.source in
-    let b = datum_of holding c.bare.result in
-    let ws = c.evaluate-in-Query.new.variables.items in
-    let n = capitals x.variable in
-    IfOk-weaker c.query.result _ _
-    (λ v h. (
-      (λ m.
-          let source = part c.args.context.now m c.args.variables.now.items c.args.variables.now.items c.deref-in-Query.result.now x.source.value d c.deref-in-Query.ensures refl (found.0 m) in
-          of-tree c.args.context.now m c.args.variables.now.items (datum_of holding v) _ _ (ap tree_of x.is ∙ query-seen x.variable x.source x.condition)
-          (h.0 m ∙ ap (λ ks. queried_in c.args.context.now m ks n (tree_of c.deref-in-Query-2.result.now) b) found.1
-          ∙ ap (λ y. queried_in c.args.context.now m c.args.variables.now.items n (tree_of y) b) c.deref-in-Query-2.ensures
-          ∙ ap (λ e. queried_in c.args.context.now m c.args.variables.now.items n (tree_of x.condition.value) e)
-          (c.bare.ensures ∙ ap bare source))),
-      h.1 ∙ found.1,
-    )) c.query.ensures
-
-pub evaluate-returns-in_ok-value-in-Call : goal.evaluate-returns-in_ok-value-in-Call
-evaluate-returns-in_ok-value-in-Call t c =
-    let x = c.in-Call in
-    let found = c.in_ok-value-in-Call.ensures in
-    let d = datum_of holding c.in_ok-value-in-Call.value in
-    IfOk-weaker c.called.result _ _
-    (λ v h. (
-      (λ m.
-          let argument = part c.args.context.now m c.args.variables.now.items c.args.variables.now.items c.deref-in-Call.result.now x.argument.value d c.deref-in-Call.ensures refl (found.0 m) in
-          of-tree c.args.context.now m c.args.variables.now.items (datum_of holding v) _ _ (ap tree_of x.is ∙ call-seen x.function x.argument)
-          (h ∙ ap (of_call x.function) argument)),
-      found.1,
-    )) c.called.ensures
-
-pub evaluate-returns-else-is_known : goal.evaluate-returns-else-is_known
-evaluate-returns-else-is_known t c =
-    let x = c.in-Nvl in
-    let found = c.in_ok-value-in-Nvl.ensures in
-    let d = datum_of holding c.in_ok-value-in-Nvl.value in
-    let ws = c.evaluate-in-Nvl.new.variables.items in
-    IfOk-weaker c.evaluate-in-Nvl-2.result _ _
-    (λ v h. (
-      (λ m.
-          let e = datum_of holding v in
-          let other = meaning_in c.args.context.now m c.args.variables.now.items (tree_of x.second.value) in
-          let first = part c.args.context.now m c.args.variables.now.items c.args.variables.now.items c.deref-in-Nvl.result.now x.first.value d c.deref-in-Nvl.ensures refl (found.0 m) in
-          let second = part c.args.context.now m c.args.variables.now.items ws c.deref-in-Nvl-2.result.now x.second.value e c.deref-in-Nvl-2.ensures found.1 (h.0 m) in
-          of-tree c.args.context.now m c.args.variables.now.items e _ _ (ap tree_of x.is ∙ nvl-seen x.first x.second)
-          (second ∙ sym (or-unknown d other (sym c.is_known.ensures ∙ c.if-is_known.false)) ∙ ap (λ e. or_else e other) first)),
-      h.1 ∙ found.1,
-    )) c.evaluate-in-Nvl-2.ensures
-
-pub evaluate-returns-in_ok-evaluate_truth-in-Not :
-    goal.evaluate-returns-in_ok-evaluate_truth-in-Not
-evaluate-returns-in_ok-evaluate_truth-in-Not t c =
-    let x = c.in-Not in
-    let found = c.in_ok-evaluate_truth-in-Not.ensures in (
-      λ m.
-          of-tree c.args.context.now m c.args.variables.now.items (logical c.not.result) _ _ (ap tree_of x.is ∙ not-seen x.inner)
-          (ap logical (c.not.ensures ∙ ap negated (part-truth c.args.context.now m c.args.variables.now.items c.args.variables.now.items c.deref-in-Not.result.now x.inner.value _
-          c.deref-in-Not.ensures refl (found.0 m)))),
-      found.1,
-    )
-
-pub evaluate-returns-in_ok-and_all-in-Conjunction :
-    goal.evaluate-returns-in_ok-and_all-in-Conjunction
-evaluate-returns-in_ok-and_all-in-Conjunction t c =
-    let x = c.in-Conjunction in
-    let one = c.in_ok-value-in-Conjunction.ensures in
-    let two = c.in_ok-and_all-in-Conjunction.ensures in
-    let p = c.in_ok-value-in-Conjunction.value in
-    let ws = c.evaluate_truth-in-Conjunction.new.variables.items in (
-      λ m.
-          let first = part-truth c.args.context.now m c.args.variables.now.items c.args.variables.now.items c.deref-in-Conjunction.result.now x.first.value p c.deref-in-Conjunction.ensures refl (one.0 m) in
-          of-tree c.args.context.now m c.args.variables.now.items (logical c.in_ok-and_all-in-Conjunction.field-0) _ _ (ap tree_of x.is ∙ conjunction-seen x.first x.others)
-          (ap logical (two.0 m ∙ ap (λ ks. and_all_in c.args.context.now m ks p (trees_of c.deref-in-Conjunction-2.result.now)) one.1
-          ∙ ap (λ ys. and_all_in c.args.context.now m c.args.variables.now.items p (trees_of ys)) c.deref-in-Conjunction-2.ensures.value
-          ∙ ap (λ q. and_all_in c.args.context.now m c.args.variables.now.items q (trees_of x.others.items)) first)),
-      two.1 ∙ one.1,
-    )
-
-pub evaluate-returns-in_ok-or_all-in-Disjunction :
-    goal.evaluate-returns-in_ok-or_all-in-Disjunction
-evaluate-returns-in_ok-or_all-in-Disjunction t c =
-    let x = c.in-Disjunction in
-    let one = c.in_ok-value-in-Disjunction.ensures in
-    let two = c.in_ok-or_all-in-Disjunction.ensures in
-    let p = c.in_ok-value-in-Disjunction.value in
-    let ws = c.evaluate_truth-in-Disjunction.new.variables.items in (
-      λ m.
-          let first = part-truth c.args.context.now m c.args.variables.now.items c.args.variables.now.items c.deref-in-Disjunction.result.now x.first.value p c.deref-in-Disjunction.ensures refl (one.0 m) in
-          of-tree c.args.context.now m c.args.variables.now.items (logical c.in_ok-or_all-in-Disjunction.field-0) _ _ (ap tree_of x.is ∙ disjunction-seen x.first x.others)
-          (ap logical (two.0 m ∙ ap (λ ks. or_all_in c.args.context.now m ks p (alternatives_of c.deref-in-Disjunction-2.result.now)) one.1
-          ∙ ap (λ ys. or_all_in c.args.context.now m c.args.variables.now.items p (alternatives_of ys)) c.deref-in-Disjunction-2.ensures.value
-          ∙ ap (λ q. or_all_in c.args.context.now m c.args.variables.now.items q (alternatives_of x.others.items)) first)),
-      two.1 ∙ one.1,
-    )
-
 pub evaluate_truth-returns : goal.evaluate_truth-returns
 evaluate_truth-returns t c =
     let found = c.in_ok-evaluate.ensures in ((λ m. c.truth.ensures ∙ ap says (found.0 m)), found.1)
-
-pub found_or_nothing-returns-in-Some : goal.found_or_nothing-returns-in-Some
-found_or_nothing-returns-in-Some t c = λ m. ap or_nothing (ap (option_map (datum_of holding)) (sym c.in-Some.is) ∙ c.in_ok-value.ensures m)
-
-pub found_or_nothing-returns-in-None : goal.found_or_nothing-returns-in-None
-found_or_nothing-returns-in-None t c = λ m. ap or_nothing (ap (option_map (datum_of holding)) (sym c.in-None.is) ∙ c.in_ok-value.ensures m)
 
 pub named-returns-in-Some : goal.named-returns-in-Some
 named-returns-in-Some t c =
     let n = capitals c.args.name in
     let qs = qualifiers_of c.args.qualifiers.now in
-    let found = ap (λ ws. variable (variables_of ws) n) (sym c.deref.ensures.value) ∙ sym c.find.ensures ∙ ap (option_map (datum_of holding)) c.in-Some.is in
+    let found = ap (λ ws. variable (variables_of ws) n) (sym c.deref.ensures.value) ∙ sym c.find.ensures ∙ ap (option_map (λ v. element_datum v.now)) c.in-Some.is in
     IfOk-weaker c.selected.result _ _
     (λ v h. (
-      (λ m. h.0 m
+      (λ m. h.0 m ∙ ap (λ d. selected_in c.args.context.now m c.args.variables.now.items qs d) c.datum-value.ensures
           ∙ sym (ap (λ o. with_value (first_of_two o (attribute_of (setting_in c.args.context.now m) (element_datum c.args.context.now.me) n))
           (item_in c.args.context.now m c.args.variables.now.items n qs) (λ d. selected_in c.args.context.now m c.args.variables.now.items qs d)) found)),
       h.1,
     )) c.selected.ensures
-
-pub named-returns-in-Some-2 : goal.named-returns-in-Some-2
-named-returns-in-Some-2 t c =
-    let n = capitals c.args.name in
-    let qs = qualifiers_of c.args.qualifiers.now in
-    let found = ap (λ ws. variable (variables_of ws) n) (sym c.deref.ensures.value) ∙ sym c.find.ensures ∙ ap (option_map (datum_of holding)) c.in_default.is in
-    IfOk-weaker c.selected-in-Some-2.result _ _
-    (λ v h. (
-      (λ m.
-          let at = c.in_ok-value.ensures m
-          ∙ ap (λ i. worth_in c.args.context.now m i c.attribute_behind-found.result) c.instance_of.ensures
-          ∙ c.attribute_behind-found.ensures.worth m
-          ∙ ap (λ d. instance_attribute (setting_in c.args.context.now m) d n) (c.bare-me.ensures ∙ ap bare c.datum.ensures) in
-          h.0 m
-          ∙ sym (ap (λ o. with_value (first_of_two o (attribute_of (setting_in c.args.context.now m) (element_datum c.args.context.now.me) n))
-          (item_in c.args.context.now m c.args.variables.now.items n qs) (λ d. selected_in c.args.context.now m c.args.variables.now.items qs d)) found
-          ∙ ap (λ o. with_value o (item_in c.args.context.now m c.args.variables.now.items n qs) (λ d. selected_in c.args.context.now m c.args.variables.now.items qs d))
-          (sym at ∙ ap (option_map (datum_of holding)) c.in-Some-2.is))),
-      h.1,
-    )) c.selected-in-Some-2.ensures
-
-pub named-returns : goal.named-returns
-named-returns t c =
-    let n = capitals c.args.name in
-    let qs = qualifiers_of c.args.qualifiers.now in
-    let found = ap (λ ws. variable (variables_of ws) n) (sym c.deref.ensures.value) ∙ sym c.find.ensures ∙ ap (option_map (datum_of holding)) c.in_default.is in
-    IfOk-weaker c.item_behind.result _ _
-    (λ v h. (
-      (λ m.
-          let at = c.in_ok-value.ensures m
-          ∙ ap (λ i. worth_in c.args.context.now m i c.attribute_behind-found.result) c.instance_of.ensures
-          ∙ c.attribute_behind-found.ensures.worth m
-          ∙ ap (λ d. instance_attribute (setting_in c.args.context.now m) d n) (c.bare-me.ensures ∙ ap bare c.datum.ensures) in
-          h.0 m
-          ∙ sym (ap (λ o. with_value (first_of_two o (attribute_of (setting_in c.args.context.now m) (element_datum c.args.context.now.me) n))
-          (item_in c.args.context.now m c.args.variables.now.items n qs) (λ d. selected_in c.args.context.now m c.args.variables.now.items qs d)) found
-          ∙ ap (λ o. with_value o (item_in c.args.context.now m c.args.variables.now.items n qs) (λ d. selected_in c.args.context.now m c.args.variables.now.items qs d))
-          (sym at ∙ ap (option_map (datum_of holding)) c.in-None.is))),
-      h.1,
-    )) c.item_behind.ensures
 
 pub or_all-loop-alternative-preserved : goal.or_all-loop-alternative-preserved
 or_all-loop-alternative-preserved t c =
@@ -376,12 +195,12 @@ passes-returns t c =
     let x = tree_of c.args.condition.now in
     let pushed = c.in_ok-push.ensures.items in
     let found = c.in_ok-value.ensures in
-    let ok = c.evaluate.new.variables.ok in
-    let len : vec_len c.evaluate.new.variables ≡ length c.evaluate.new.variables.items = cc in (
+    let ok = c.evaluate_truth.new.variables.ok in
+    let len : vec_len c.evaluate_truth.new.variables ≡ length c.evaluate_truth.new.variables.items = cc in (
       λ m. c.is_true.ensures
-          ∙ ap (λ d. is_true (says d)) (found.0 m ∙ ap (λ vs. means (setting_in c.args.context.now m) vs (element_datum c.args.context.now.me) x)
+          ∙ ap is_true (found.0 m ∙ ap (λ vs. says (means (setting_in c.args.context.now m) vs (element_datum c.args.context.now.me) x))
           (ap variables_of pushed ∙ variables_pushed c.args.variables.now.items c.args.variable)),
-      popped c.evaluate.new.variables.items (vec_len c.evaluate.new.variables) c.args.variables.now.items c.pop.new.self.items c.args.variable
+      popped c.evaluate_truth.new.variables.items (vec_len c.evaluate_truth.new.variables) c.args.variables.now.items c.pop.new.self.items c.args.variable
           (found.1 ∙ pushed) len c.pop.ensures.rest,
     )
 
@@ -421,26 +240,13 @@ passing-returns t c =
       inv.variables,
     )
 
-pub query-returns : goal.query-returns
-query-returns t c =
-    let n = capitals c.args.name in
-    let x = tree_of c.args.condition.now in
-    let part = c.in-Aggregate.part in
-    let found = c.in_ok-kept.ensures in (
-      λ m.
-          ap (λ h. aggregate h.shape h.elements) c.keep.ensures
-          ∙ ap (λ ds. aggregate (kept_shape (holding part).shape) ds) (found.0 m)
-          ∙ ap (λ d. queried_in c.args.context.now m c.args.variables.now.items n x d) (ap (datum_of holding) (sym c.in-Aggregate.is)),
-      found.1,
-    )
-
 pub select-returns-in-Attribute : goal.select-returns-in-Attribute
 select-returns-in-Attribute t c =
     let S = c.args.context.now.setting.now in
     let d = datum_of holding c.args.value in
     let x = c.in-Attribute in
     let inside = c.bare-value.ensures in
-    IfOk-weaker c.found_or_nothing.result _ _
+    IfOk-weaker c.found_value.result _ _
     (λ v h. (
       (λ m. h m
           ∙ ap (λ i. or_nothing (worth_in c.args.context.now m i c.attribute_behind-found.result)) c.instance_of.ensures
@@ -448,7 +254,7 @@ select-returns-in-Attribute t c =
           ∙ ap (λ e. instance_attribute (setting_in c.args.context.now m) e (capitals x.name)) inside) ∙ or-is (attribute_of (setting_in c.args.context.now m) d (capitals x.name))
           ∙ ap (λ s. selected_in c.args.context.now m c.args.variables.now.items (selections_of (s ∷ [])) d) (sym (ap selection_of x.is ∙ attribute-selected x.name))),
       refl,
-    )) c.found_or_nothing.ensures
+    )) c.found_value.ensures
 
 pub select-returns-in-Group : goal.select-returns-in-Group
 select-returns-in-Group t c =
@@ -456,7 +262,7 @@ select-returns-in-Group t c =
     let d = datum_of holding c.args.value in
     let x = c.in-Group in
     let inside = c.bare-value.ensures in
-    IfOk-weaker c.found_or_nothing-in-Group.result _ _
+    IfOk-weaker c.found_value-in-Group.result _ _
     (λ v h. (
       (λ m. h m
           ∙ ap (λ i. or_nothing (worth_in c.args.context.now m i c.group_behind-found.result)) c.instance_of-in-Group.ensures
@@ -464,24 +270,10 @@ select-returns-in-Group t c =
           ∙ ap (λ e. instance_group (setting_in c.args.context.now m) e (capitals x.entity) (capitals x.name)) inside
           ∙ ap (λ s. selected_in c.args.context.now m c.args.variables.now.items (selections_of (s ∷ [])) d) (sym (ap selection_of x.is ∙ group-selected x.entity x.name))),
       refl,
-    )) c.found_or_nothing-in-Group.ensures
+    )) c.found_value-in-Group.ensures
 
-pub select-returns : goal.select-returns
-select-returns t c =
-    let x = c.in-Index in
-    let found = c.in_ok-evaluate-in-Index.ensures in
-    let d = datum_of holding c.args.value in
-    let e = datum_of holding c.in_ok-evaluate-in-Index.field-0 in (
-      λ m.
-          c.indexed.ensures
-          ∙ ap (λ b. indexed b (datum_of holding c.bare-index.result)) c.bare-value.ensures
-          ∙ ap (indexed (bare d)) (c.bare-index.ensures ∙ ap bare (part c.args.context.now m c.args.variables.now.items c.args.variables.now.items c.deref.result.now x.index.value e c.deref.ensures refl (found.0 m)))
-          ∙ ap (λ s. selected_in c.args.context.now m c.args.variables.now.items (selections_of (s ∷ [])) d) (sym (ap selection_of x.is ∙ index-selected x.index)),
-      found.1,
-    )
-
-pub selected-loop-qualifier-preserved : goal.selected-loop-qualifier-preserved
-selected-loop-qualifier-preserved t c =
+pub select_each-loop-qualifier-preserved : goal.select_each-loop-qualifier-preserved
+select_each-loop-qualifier-preserved t c =
     let xs = c.args.qualifiers.now in
     let i = c.loop-qualifier.qualifier-index in
     let x = c.qualifier-item.result in
@@ -498,8 +290,8 @@ selected-loop-qualifier-preserved t c =
       variables = found.1 ∙ inv.variables;
     }
 
-pub selected-returns : goal.selected-returns
-selected-returns t c =
+pub select_each-returns : goal.select_each-returns
+select_each-returns t c =
     let xs = c.args.qualifiers.now in
     let i = c.loop-qualifier.qualifier-index in
     let d = datum_of holding c.loop-qualifier.value in
@@ -513,7 +305,7 @@ pub within-returns-in-Parenthesized : goal.within-returns-in-Parenthesized
 within-returns-in-Parenthesized t c =
     let x = c.in-Parenthesized in
     let s = option_map text_of c.args.text in
-    let d = datum_of holding c.args.value in
+    let d = datum_of holding c.args.value.now in
     IfOk-weaker c.within.result _ _
     (λ p h. (
       (λ m. h.0 m ∙ ap (λ y. within_in c.args.context.now m c.args.variables.now.items s d (tree_of y)) c.deref.ensures
@@ -525,7 +317,7 @@ pub within-returns-then-is_known : goal.within-returns-then-is_known
 within-returns-then-is_known t c =
     let x = c.in-Aggregate in
     let s = option_map text_of c.args.text in
-    let d = datum_of holding c.args.value in
+    let d = datum_of holding c.args.value.now in
     IfOk-weaker c.among_each.result _ _
     (λ p h. (
       (λ m. h.0 m ∙ ap (λ ys. among_each_in c.args.context.now m c.args.variables.now.items d (trees_of ys)) c.deref-then-is_known.ensures.value
@@ -544,29 +336,6 @@ evaluate-returns-in-Reference t c =
           (h.0 m ∙ ap (λ ks. meaning_in c.args.context.now m c.args.variables.now.items (reference (root_of x.root) (qualifiers_of ks))) c.deref.ensures.value)),
       h.1,
     )) c.referred.ensures
-
-pub evaluate-returns-in_ok-related-in-Comparison : goal.evaluate-returns-in_ok-related-in-Comparison
-evaluate-returns-in_ok-related-in-Comparison t c =
-    let x = c.in-Comparison in
-    let r = x.relation in
-    let one = c.in_ok-value-in-Comparison.ensures in
-    let two = c.in_ok-related-in-Comparison.ensures in
-    let d = datum_of holding c.in_ok-value-in-Comparison.value in
-    let o = option_map text_of c.string_of-text.result in
-    let s = string_of (tree_of x.left.value) in
-    let y = tree_of x.right.value in (
-      λ m.
-          let left = part c.args.context.now m c.args.variables.now.items c.args.variables.now.items c.deref-in-Comparison-2.result.now x.left.value d c.deref-in-Comparison-2.ensures refl
-          (one.0 m) in
-          of-tree c.args.context.now m c.args.variables.now.items (logical c.in_ok-related-in-Comparison.related) _ _
-          (ap tree_of x.is ∙ comparison-seen x.left x.relation x.right)
-          (ap logical (two.0 m ∙ ap (λ ks. related_in c.args.context.now m ks r o d (tree_of c.deref-in-Comparison-3.result.now)) one.1
-          ∙ ap (λ e. related_in c.args.context.now m c.args.variables.now.items r o d (tree_of e)) c.deref-in-Comparison-3.ensures
-          ∙ ap (λ p. related_in c.args.context.now m c.args.variables.now.items r p d y) (c.string_of-text.ensures
-          ∙ ap (λ e. string_of (tree_of e)) c.deref-in-Comparison.ensures)
-          ∙ ap (λ e. related_in c.args.context.now m c.args.variables.now.items r s e y) left) ∙ related-is c.args.context.now m c.args.variables.now.items (tree_of x.left.value) y r),
-      two.1 ∙ one.1,
-    )
 
 pub is_member-returns : goal.is_member-returns
 is_member-returns t c =
@@ -595,33 +364,11 @@ referred-returns-in-Name t c =
       h.1,
     )) c.named.ensures
 
-pub related-returns-then-is_in : goal.related-returns-then-is_in
-related-returns-then-is_in t c =
-    let s = option_map text_of c.args.text in
-    let d = datum_of holding c.args.value in
-    let y = tree_of c.args.expression.now in
-    IfOk-weaker c.within.result _ _
-    (λ p h. (
-      (λ m. h.0 m ∙ sym (related-in c.args.context.now m c.args.variables.now.items s d y c.args.relation (sym c.is_in.ensures ∙ c.if-is_in.true))),
-      h.1,
-    )) c.within.ensures
-
-pub related-returns : goal.related-returns
-related-returns t c =
-    let s = option_map text_of c.args.text in
-    let d = datum_of holding c.args.value in
-    let y = tree_of c.args.expression.now in
-    let found = c.in_ok-right.ensures in (
-      λ m. c.compared.ensures ∙ ap (compared c.args.relation d) (found.0 m)
-          ∙ sym (related-not c.args.context.now m c.args.variables.now.items s d y c.args.relation (sym c.is_in.ensures ∙ c.if-is_in.false)),
-      found.1,
-    )
-
 pub within-returns-then-not-is_typeof : goal.within-returns-then-not-is_typeof
 within-returns-then-not-is_typeof t c =
     let x = c.in-Call in
     let s = option_map text_of c.args.text in
-    let d = datum_of holding c.args.value in
+    let d = datum_of holding c.args.value.now in
     let seen = ap tree_of x.is ∙ call-seen x.function x.argument in
     IfOk-weaker c.is_member.result _ _
     (λ p h. (
@@ -631,11 +378,11 @@ within-returns-then-not-is_typeof t c =
       h.1,
     )) c.is_member.ensures
 
-pub within-returns-in-Call : goal.within-returns-in-Call
-within-returns-in-Call t c =
+pub within-returns-in_ok-argument-in-Call : goal.within-returns-in_ok-argument-in-Call
+within-returns-in_ok-argument-in-Call t c =
     let x = c.in-Call in
     let s = option_map text_of c.args.text in
-    let d = datum_of holding c.args.value in
+    let d = datum_of holding c.args.value.now in
     let e = datum_of holding c.in_ok-argument-in-Call.argument in
     let seen = ap tree_of x.is ∙ call-seen x.function x.argument in
     let found = c.in_ok-argument-in-Call.ensures in (
@@ -648,10 +395,10 @@ within-returns-in-Call t c =
       found.1,
     )
 
-pub within-returns : goal.within-returns
-within-returns t c =
+pub within-returns-in_default : goal.within-returns-in_default
+within-returns-in_default t c =
     let s = option_map text_of c.args.text in
-    let d = datum_of holding c.args.value in
+    let d = datum_of holding c.args.value.now in
     let no = c.in_default in
     IfOk-weaker c.is_member-in_default.result _ _
     (λ p h. (
@@ -692,3 +439,342 @@ item_behind-returns-in_default-first t c = (
       ∙ sym (ap (λ xs. item_in c.args.context.now m c.args.variables.now.items (capitals c.args.name) (qualifiers_of xs)) c.in-Some.ensures.cases.0),
   refl,
 )
+
+pub evaluate-returns-in-Query : goal.evaluate-returns-in-Query
+evaluate-returns-in-Query t c =
+    let x = c.in-Query in
+    let C = c.args.context.now in
+    let vs = c.args.variables.now.items in
+    let n = capitals x.variable in
+    IfOk-weaker c.query.result _ _
+    (λ v h. (
+      (λ m.
+          of-tree C m vs (datum_of holding v) _ _ (ap tree_of x.is ∙ query-seen x.variable x.source x.condition)
+          (h.0 m
+          ∙ ap (λ y. queried_in C m vs n (tree_of c.deref-in-Query-2.result.now) (bare (meaning_in C m vs (tree_of y)))) c.deref-in-Query.ensures
+          ∙ ap (λ y. queried_in C m vs n (tree_of y) (bare (meaning_in C m vs (tree_of x.source.value)))) c.deref-in-Query-2.ensures)),
+      h.1,
+    )) c.query.ensures
+
+pub evaluate-returns-in-Call : goal.evaluate-returns-in-Call
+evaluate-returns-in-Call t c =
+    let x = c.in-Call in
+    let C = c.args.context.now in
+    let vs = c.args.variables.now.items in
+    IfOk-weaker c.call.result _ _
+    (λ v h. (
+      (λ m. of-tree C m vs (datum_of holding v) _ _ (ap tree_of x.is ∙ call-seen x.function x.argument)
+          (h.0 m ∙ ap (λ y. of_call x.function (meaning_in C m vs (tree_of y))) c.deref-in-Call.ensures)),
+      h.1,
+    )) c.call.ensures
+
+pub evaluate-returns-in-Nvl : goal.evaluate-returns-in-Nvl
+evaluate-returns-in-Nvl t c =
+    let x = c.in-Nvl in
+    let C = c.args.context.now in
+    let vs = c.args.variables.now.items in
+    IfOk-weaker c.first_known.result _ _
+    (λ v h. (
+      (λ m. of-tree C m vs (datum_of holding v) _ _ (ap tree_of x.is ∙ nvl-seen x.first x.second)
+          (h.0 m ∙ ap (λ y. or_else (meaning_in C m vs (tree_of y)) (meaning_in C m vs (tree_of c.deref-in-Nvl-2.result.now))) c.deref-in-Nvl.ensures
+          ∙ ap (λ y. or_else (meaning_in C m vs (tree_of x.first.value)) (meaning_in C m vs (tree_of y))) c.deref-in-Nvl-2.ensures)),
+      h.1,
+    )) c.first_known.ensures
+
+pub condition-returns-in-Parenthesized : goal.condition-returns-in-Parenthesized
+condition-returns-in-Parenthesized t c =
+    let x = c.in-Parenthesized in
+    let C = c.args.context.now in
+    let vs = c.args.variables.now.items in
+    IfOk-weaker c.condition.result _ _
+    (λ p h. (
+      (λ m. of-tree C m vs (logical p) _ _ (ap tree_of x.is ∙ parenthesized-seen x.inner)
+          (h.0 m ∙ ap (λ y. meaning_in C m vs (tree_of y)) c.deref.ensures)),
+      h.1,
+    )) c.condition.ensures
+
+pub condition-returns-in-Interval : goal.condition-returns-in-Interval
+condition-returns-in-Interval t c =
+    let x = c.in-Interval in
+    let C = c.args.context.now in
+    let vs = c.args.variables.now.items in
+    let low = tree_of x.low.value in
+    let item = tree_of x.item.value in
+    IfOk-weaker c.between.result _ _
+    (λ p h. (
+      (λ m. of-tree C m vs (logical p) _ _ (ap tree_of x.is ∙ interval-seen x.low x.above x.item x.below x.high)
+          (ap logical (h.0 m ∙ ap (λ y. between_in C m vs x.above x.below (tree_of y) (tree_of c.deref-in-Interval-2.result.now) (tree_of c.deref-in-Interval-3.result.now)) c.deref-in-Interval.ensures
+          ∙ ap (λ y. between_in C m vs x.above x.below low (tree_of y) (tree_of c.deref-in-Interval-3.result.now)) c.deref-in-Interval-2.ensures
+          ∙ ap (λ y. between_in C m vs x.above x.below low item (tree_of y)) c.deref-in-Interval-3.ensures))),
+      h.1,
+    )) c.between.ensures
+
+pub condition-returns-in_ok-evaluate_truth-in-Not : goal.condition-returns-in_ok-evaluate_truth-in-Not
+condition-returns-in_ok-evaluate_truth-in-Not t c =
+    let x = c.in-Not in
+    let C = c.args.context.now in
+    let vs = c.args.variables.now.items in
+    let found = c.in_ok-evaluate_truth-in-Not.ensures in (
+      λ m. of-tree C m vs (logical c.not.result) _ _ (ap tree_of x.is ∙ not-seen x.inner)
+          (ap logical (c.not.ensures ∙ ap negated (part-truth C m vs vs c.deref-in-Not.result.now x.inner.value _ c.deref-in-Not.ensures refl (found.0 m)))),
+      found.1,
+    )
+
+pub condition-returns-in_ok-value-in-Conjunction : goal.condition-returns-in_ok-value-in-Conjunction
+condition-returns-in_ok-value-in-Conjunction t c =
+    let x = c.in-Conjunction in
+    let C = c.args.context.now in
+    let vs = c.args.variables.now.items in
+    let one = c.in_ok-value-in-Conjunction.ensures in
+    let p = c.in_ok-value-in-Conjunction.value in
+    IfOk-weaker c.and_all.result _ _
+    (λ q h. (
+      (λ m.
+          let first = part-truth C m vs vs c.deref-in-Conjunction.result.now x.first.value p c.deref-in-Conjunction.ensures refl (one.0 m) in
+          of-tree C m vs (logical q) _ _ (ap tree_of x.is ∙ conjunction-seen x.first x.others)
+          (ap logical (h.0 m ∙ ap (λ ks. and_all_in C m ks p (trees_of c.deref-in-Conjunction-2.result.now)) one.1
+          ∙ ap (λ ys. and_all_in C m vs p (trees_of ys)) c.deref-in-Conjunction-2.ensures.value
+          ∙ ap (λ q. and_all_in C m vs q (trees_of x.others.items)) first))),
+      h.1 ∙ one.1,
+    )) c.and_all.ensures
+
+pub condition-returns-in_ok-value-in-Disjunction : goal.condition-returns-in_ok-value-in-Disjunction
+condition-returns-in_ok-value-in-Disjunction t c =
+    let x = c.in-Disjunction in
+    let C = c.args.context.now in
+    let vs = c.args.variables.now.items in
+    let one = c.in_ok-value-in-Disjunction.ensures in
+    let p = c.in_ok-value-in-Disjunction.value in
+    IfOk-weaker c.or_all.result _ _
+    (λ q h. (
+      (λ m.
+          let first = part-truth C m vs vs c.deref-in-Disjunction.result.now x.first.value p c.deref-in-Disjunction.ensures refl (one.0 m) in
+          of-tree C m vs (logical q) _ _ (ap tree_of x.is ∙ disjunction-seen x.first x.others)
+          (ap logical (h.0 m ∙ ap (λ ks. or_all_in C m ks p (alternatives_of c.deref-in-Disjunction-2.result.now)) one.1
+          ∙ ap (λ ys. or_all_in C m vs p (alternatives_of ys)) c.deref-in-Disjunction-2.ensures.value
+          ∙ ap (λ q. or_all_in C m vs q (alternatives_of x.others.items)) first))),
+      h.1 ∙ one.1,
+    )) c.or_all.ensures
+
+pub condition-returns-in-Comparison : goal.condition-returns-in-Comparison
+condition-returns-in-Comparison t c =
+    let x = c.in-Comparison in
+    let C = c.args.context.now in
+    let vs = c.args.variables.now.items in
+    let r = x.relation in
+    let left = tree_of x.left.value in
+    IfOk-weaker c.related.result _ _
+    (λ p h. (
+      (λ m. of-tree C m vs (logical p) _ _ (ap tree_of x.is ∙ comparison-seen x.left r x.right)
+          (ap logical (h.0 m
+          ∙ ap (λ y. related_in C m vs r (string_of (tree_of y)) (meaning_in C m vs (tree_of y)) (tree_of c.deref-in-Comparison-2.result.now)) c.deref-in-Comparison.ensures
+          ∙ ap (λ y. related_in C m vs r (string_of left) (meaning_in C m vs left) (tree_of y)) c.deref-in-Comparison-2.ensures)
+          ∙ related-is C m vs left (tree_of x.right.value) r)),
+      h.1,
+    )) c.related.ensures
+
+pub between-returns : goal.between-returns
+between-returns t c =
+    let C = c.args.context.now in
+    let vs = c.args.variables.now.items in
+    let one = c.in_ok-low.ensures in
+    let two = c.in_ok-item.ensures in
+    let three = c.in_ok-high.ensures in
+    let e = datum_of holding c.in_ok-item.item in
+    let f = datum_of holding c.in_ok-high.high in (
+      λ m.
+          let at = λ (l : Datum) (i : Datum) (h : Datum). both (limited c.args.above l i) (limited c.args.below i h) in
+          let low = meaning_in C m vs (tree_of c.args.low.now) in
+          let item = meaning_in C m vs (tree_of c.args.item.now) in
+          c.and.ensures ∙ ap (λ p. both p c.limited-2.result) c.limited.ensures
+          ∙ ap (both (limited c.args.above (datum_of holding c.in_ok-low.low) e)) c.limited-2.ensures
+          ∙ ap (λ l. at l e f) (one.0 m) ∙ ap (λ i. at low i f) (two.0 m ∙ ap (λ ws. meaning_in C m ws (tree_of c.args.item.now)) one.1)
+          ∙ ap (λ h. at low item h) (three.0 m ∙ ap (λ ws. meaning_in C m ws (tree_of c.args.high.now)) (two.1 ∙ one.1)),
+      three.1 ∙ two.1 ∙ one.1,
+    )
+
+pub call-returns : goal.call-returns
+call-returns t c =
+    let found = c.in_ok-value.ensures in
+    IfOk-weaker c.called.result _ _ (λ v h. ((λ m. h ∙ ap (of_call c.args.function) (found.0 m)), found.1)) c.called.ensures
+
+pub first_known-returns-then-is_known : goal.first_known-returns-then-is_known
+first_known-returns-then-is_known t c =
+    let C = c.args.context.now in
+    let vs = c.args.variables.now.items in
+    let found = c.in_ok-value.ensures in
+    let d = datum_of holding c.in_ok-value.value in (
+      λ m.
+          let other = meaning_in C m vs (tree_of c.args.second.now) in
+          sym (or-known d other (sym c.is_known.ensures ∙ c.if-is_known.true)) ∙ ap (λ e. or_else e other) (found.0 m),
+      found.1,
+    )
+
+pub first_known-returns : goal.first_known-returns
+first_known-returns t c =
+    let C = c.args.context.now in
+    let vs = c.args.variables.now.items in
+    let found = c.in_ok-value.ensures in
+    let d = datum_of holding c.in_ok-value.value in
+    let y = tree_of c.args.second.now in
+    IfOk-weaker c.evaluate-2.result _ _
+    (λ v h. (
+      (λ m.
+          let other = meaning_in C m vs y in
+          h.0 m ∙ ap (λ ws. meaning_in C m ws y) found.1
+          ∙ sym (or-unknown d other (sym c.is_known.ensures ∙ c.if-is_known.false)) ∙ ap (λ e. or_else e other) (found.0 m)),
+      h.1 ∙ found.1,
+    )) c.evaluate-2.ensures
+
+pub related-returns-then-is_in : goal.related-returns-then-is_in
+related-returns-then-is_in t c =
+    let C = c.args.context.now in
+    let vs = c.args.variables.now.items in
+    let found = c.in_ok-value.ensures in
+    let s = string_of (tree_of c.args.left.now) in
+    let d = datum_of holding c.in_ok-value.value in
+    let y = tree_of c.args.right.now in
+    IfOk-weaker c.within.result _ _
+    (λ p h. (
+      (λ m. h.0 m ∙ ap (λ ws. within_in C m ws (option_map text_of c.string_of.result) d y) found.1
+          ∙ ap (λ o. within_in C m vs o d y) c.string_of.ensures ∙ ap (λ e. within_in C m vs s e y) (found.0 m)
+          ∙ sym (related-in C m vs s (meaning_in C m vs (tree_of c.args.left.now)) y c.args.relation (sym c.is_in.ensures ∙ c.if-is_in.true))),
+      h.1 ∙ found.1,
+    )) c.within.ensures
+
+pub related-returns : goal.related-returns
+related-returns t c =
+    let C = c.args.context.now in
+    let vs = c.args.variables.now.items in
+    let found = c.in_ok-value.ensures in
+    let other = c.in_ok-other.ensures in
+    let r = c.args.relation in
+    let x = tree_of c.args.left.now in
+    let y = tree_of c.args.right.now in (
+      λ m. c.compared.ensures ∙ ap (λ e. compared r e (datum_of holding c.in_ok-other.other)) (found.0 m)
+          ∙ ap (compared r (meaning_in C m vs x)) (other.0 m ∙ ap (λ ws. meaning_in C m ws y) found.1)
+          ∙ sym (related-not C m vs (string_of x) (meaning_in C m vs x) y r (sym c.is_in.ensures ∙ c.if-is_in.false)),
+      other.1 ∙ found.1,
+    )
+
+pub query-returns : goal.query-returns
+query-returns t c =
+    let C = c.args.context.now in
+    let vs = c.args.variables.now.items in
+    let n = capitals c.args.name in
+    let x = tree_of c.args.condition.now in
+    let part = c.in-Aggregate.part in
+    let source = c.in_ok-evaluate.ensures in
+    let found = c.in_ok-kept.ensures in (
+      λ m.
+          ap (λ h. aggregate h.shape h.elements) c.keep.ensures
+          ∙ ap (λ ds. aggregate (kept_shape (holding part).shape) ds)
+          (found.0 m ∙ ap (λ ws. filtered_in C m ws n x (holding part).elements) source.1)
+          ∙ ap (λ d. queried_in C m vs n x d) (ap (datum_of holding) (sym c.in-Aggregate.is) ∙ c.bare-source.ensures ∙ ap bare (source.0 m)),
+      found.1 ∙ source.1,
+    )
+
+pub query-returns-in_default : goal.query-returns-in_default
+query-returns-in_default t c =
+    let C = c.args.context.now in
+    let vs = c.args.variables.now.items in
+    let n = capitals c.args.name in
+    let x = tree_of c.args.condition.now in
+    let source = c.in_ok-evaluate.ensures in (
+      λ m.
+          let none : indeterminate ≡ queried_in C m vs n x (datum_of holding c.bare-source.result) = search rules in
+          none ∙ ap (λ d. queried_in C m vs n x d) (c.bare-source.ensures ∙ ap bare (source.0 m)),
+      source.1,
+    )
+
+pub element-returns : goal.element-returns
+element-returns t c =
+    let found = c.in_ok-evaluate.ensures in (
+      λ m. c.indexed.ensures ∙ ap (indexed (datum_of holding c.args.value.now)) (c.bare-index.ensures ∙ ap bare (found.0 m)),
+      found.1,
+    )
+
+pub select-returns : goal.select-returns
+select-returns t c =
+    let x = c.in-Index in
+    let C = c.args.context.now in
+    let vs = c.args.variables.now.items in
+    let d = datum_of holding c.args.value in
+    IfOk-weaker c.element.result _ _
+    (λ v h. (
+      (λ m. h.0 m ∙ ap (λ b. indexed b (bare (meaning_in C m vs (tree_of c.deref.result.now)))) c.bare-value.ensures
+          ∙ ap (λ y. indexed (bare d) (bare (meaning_in C m vs (tree_of y)))) c.deref.ensures
+          ∙ ap (λ s. selected_in C m vs (selections_of (s ∷ [])) d) (sym (ap selection_of x.is ∙ index-selected x.index))),
+      h.1,
+    )) c.element.ensures
+
+pub selected-returns-then-is_empty : goal.selected-returns-then-is_empty
+selected-returns-then-is_empty t c =
+    let none : length c.args.qualifiers.now ≡ 0 = grind (arith, nat_tests) in
+    ((λ m. selected-plain c.args.context.now m c.args.variables.now.items c.args.qualifiers.now (datum_of holding c.args.value) none), refl)
+
+pub unbound-returns-in-Missing : goal.unbound-returns-in-Missing
+unbound-returns-in-Missing t c =
+    let C = c.args.context.now in
+    let vs = c.args.variables.now.items in
+    let n = capitals c.args.name in
+    let qs = qualifiers_of c.args.qualifiers.now in
+    let i = instance_of (bare (element_datum C.me)) in
+    IfOk-weaker c.item_behind.result _ _
+    (λ v h. (
+      (λ m. h.0 m
+          ∙ ap (λ o. with_value o (item_in C m vs n qs) (λ d. selected_in C m vs qs d))
+          (ap (λ x. worth_in C m i x) (sym c.in-Missing.is) ∙ c.attribute_of_self.ensures.worth m)),
+      h.1,
+    )) c.item_behind.ensures
+
+pub unbound-returns-in-Value : goal.unbound-returns-in-Value
+unbound-returns-in-Value t c =
+    let C = c.args.context.now in
+    let vs = c.args.variables.now.items in
+    let n = capitals c.args.name in
+    let qs = qualifiers_of c.args.qualifiers.now in
+    let i = instance_of (bare (element_datum C.me)) in
+    IfOk-weaker c.selected.result _ _
+    (λ v h. (
+      (λ m. h.0 m
+          ∙ ap (λ o. with_value o (item_in C m vs n qs) (λ d. selected_in C m vs qs d))
+          (ap (λ x. worth_in C m i x) (sym c.in-Value.is) ∙ c.attribute_of_self.ensures.worth m)),
+      h.1,
+    )) c.selected.ensures
+
+pub unbound-returns-in_ok-value-in-Derived : goal.unbound-returns-in_ok-value-in-Derived
+unbound-returns-in_ok-value-in-Derived t c =
+    let C = c.args.context.now in
+    let vs = c.args.variables.now.items in
+    let n = capitals c.args.name in
+    let qs = qualifiers_of c.args.qualifiers.now in
+    let i = instance_of (bare (element_datum C.me)) in
+    let e = c.in-Derived.derivation in
+    IfOk-weaker c.selected-in-Derived.result _ _
+    (λ v h. (
+      (λ m. h.0 m
+          ∙ ap (λ o. with_value o (item_in C m vs n qs) (λ d. selected_in C m vs qs d))
+          (ap Some (c.in_ok-value-in-Derived.ensures m ∙ ap (λ k. derived_in C m k e) c.self_instance.ensures)
+          ∙ ap (λ x. worth_in C m i x) (sym c.in-Derived.is) ∙ c.attribute_of_self.ensures.worth m)),
+      h.1,
+    )) c.selected-in-Derived.ensures
+
+pub named-returns-in-None : goal.named-returns-in-None
+named-returns-in-None t c =
+    let C = c.args.context.now in
+    let vs = c.args.variables.now.items in
+    let n = capitals c.args.name in
+    let qs = qualifiers_of c.args.qualifiers.now in
+    let found = ap (λ ws. variable (variables_of ws) n) (sym c.deref.ensures.value) ∙ sym c.find.ensures ∙ ap (option_map (λ v. element_datum v.now)) c.in-None.is in
+    IfOk-weaker c.unbound.result _ _
+    (λ v h. (
+      (λ m. h.0 m
+          ∙ sym (ap (λ o. with_value (first_of_two o (attribute_of (setting_in C m) (element_datum C.me) n))
+          (item_in C m vs n qs) (λ d. selected_in C m vs qs d)) found)),
+      h.1,
+    )) c.unbound.ensures
+
+pub evaluate_truth-returns-then-is_condition : goal.evaluate_truth-returns-then-is_condition
+evaluate_truth-returns-then-is_condition t c =
+    IfOk-weaker c.condition.result _ _ (λ p h. ((λ m. ap says (h.0 m)), h.1)) c.condition.ensures

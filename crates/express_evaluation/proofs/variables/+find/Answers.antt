@@ -1,4 +1,4 @@
-use Rattle.std.proofs.Common.{◌≡◌, ap, sym, ◌∙◌, Some}
+use Rattle.std.proofs.Common.{sym, ◌∙◌}
 use Rattle.express_trees.specs.Views.{capitals}
 use Rattle.express_evaluation.proofs.Scopes.{found_last, passed_last}
 use Rattle.express_evaluation.proofs.variables.+find.Goals as goal
@@ -6,8 +6,7 @@ use Rattle.express_evaluation.proofs.variables.+find.Goals as goal
 pub returns-then-eq : goal.returns-then-eq
 returns-then-eq t c =
     let h = c.in_ok-last.ensures.cases in
-    ap Some c.datum.ensures
-    ∙ sym (found_last (capitals c.args.name) c.args.variables.now c.in_ok-last.others.now c.in_ok-last.last.now h.0 c.if-eq.ensures)
+    sym (found_last (capitals c.args.name) c.args.variables.now c.in_ok-last.others.now c.in_ok-last.last.now h.0 c.if-eq.ensures)
 
 pub returns-else-eq : goal.returns-else-eq
 returns-else-eq t c =
