@@ -17,12 +17,11 @@ ghost use Rattle.rule_outcomes.specs.Planning.{Tell};
 use crate::wanted::has_one_of;
 use domain_rules::rule::{DomainRule, RuleHolder};
 use express_evaluation::context::Context;
-use express_evaluation::evaluate::evaluate;
+use express_evaluation::evaluate::evaluate_truth;
 use express_evaluation::variables::Variable;
 use express_logic::logical::{Logical, and};
 use express_settings::setting::Setting;
 use held_values::element::Element;
-use held_values::operations::bare;
 use self_values::values::{is_of_entity, self_values};
 use std::alloc::{AllocError, Global};
 
@@ -51,8 +50,8 @@ fn said_of<'p, 'e, 'r, 't, 's: 'r, 'a>(
         limit: asked.limit,
     };
     let mut variables: Vec<Variable<'p, 'r>> = Vec::new(alloc);
-    let value = evaluate(rule.condition, alloc, &context, &mut variables)?;
-    Ok(bare(value).truth())
+    let truth = evaluate_truth(rule.condition, alloc, &context, &mut variables)?;
+    Ok(truth)
 }
 
 /// What a rule of an entity says at the instance of a row, which has this name.
