@@ -50,8 +50,7 @@ fn said_of<'p, 'e, 'r, 't, 's: 'r, 'a>(
         limit: asked.limit,
     };
     let mut variables: Vec<Variable<'p, 'r>> = Vec::new(alloc);
-    let truth = evaluate_truth(rule.condition, alloc, &context, &mut variables)?;
-    Ok(truth)
+    evaluate_truth(rule.condition, alloc, &context, &mut variables)
 }
 
 /// What a rule of an entity says at the instance of a row, which has this name.

@@ -1,6 +1,6 @@
 use Rattle.std.proofs.Common.{◌≡◌, ◌∙◌, [], ap}
+use Rattle.std.proofs.lemmas.Result.{IfOk-weaker}
 use Rattle.express_trees.specs.Views.{tree_of}
-use Rattle.express_logic.specs.Data.{truth}
 use Rattle.express_meanings.specs.Expressions.{means}
 use Rattle.express_meanings.specs.Operations.{says}
 use Rattle.held_values.specs.Parts.{element_datum}
@@ -15,7 +15,7 @@ returns c =
     let n = c.args.asked.now.limit in
     let me = element_datum c.args.me in
     let x = tree_of c.args.rule.now.condition.now in
-    λ m. c.truth.ensures ∙ ap truth c.bare.ensures
-    ∙ ap says (c.in_ok-value.ensures.0 m
-    ∙ ap (λ vs. means (setting_by S m (below_rank S m n)) vs me x) (ap variables_of c.new-variables.ensures.items)
-    ∙ meant-whole S m c.requires.setting n c.requires.limit [] me x)
+    IfOk-weaker c.evaluate_truth.result _ _
+    (λ p h m. h.0 m
+    ∙ ap says (ap (λ vs. means (setting_by S m (below_rank S m n)) vs me x) (ap variables_of c.new-variables.ensures.items)
+    ∙ meant-whole S m c.requires.setting n c.requires.limit [] me x)) c.evaluate_truth.ensures
