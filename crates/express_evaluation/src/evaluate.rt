@@ -3,10 +3,8 @@
 ghost use Rattle.std.specs.Prelude.{◌≡◌, ◌++◌, ◌∷◌, [], true, IfOk, OnOk, if◌then◌else◌};
 ghost use Rattle.std.specs.Option.{option_map};
 ghost use Rattle.step_literals.specs.Words.{upper};
-ghost use Rattle.express_trees.specs.Trees.{reference};
 ghost use Rattle.express_trees.specs.Views.{
   capitals,
-  root_of,
   tree_of,
   trees_of,
   alternatives_of,
@@ -14,7 +12,7 @@ ghost use Rattle.express_trees.specs.Views.{
   selection_of,
 };
 ghost use Rattle.express_logic.specs.Comparing.{member};
-ghost use Rattle.express_logic.specs.Data.{logical};
+ghost use Rattle.express_logic.specs.Data.{Datum as Worth, logical};
 ghost use Rattle.express_logic.specs.Views.{datum_of, text_of};
 ghost use Rattle.express_meanings.specs.Operations.{bare, indexed, or_else};
 ghost use Rattle.express_meanings.specs.Expressions.{of_call, string_of};
@@ -49,7 +47,8 @@ ghost use Rattle.express_evaluation.specs.Contexts.{
 use crate::context::Context;
 use crate::literals::{literal_datum, signed_datum, string_of};
 use crate::operations::{
-    called, compared, is_condition, is_in, is_of_type, is_true, is_typeof, joined, limited, truth,
+    called, compared, is_condition, is_in, is_of_type, is_true, is_typed, is_typeof, joined,
+    limited, truth,
 };
 use crate::qualifiers::{
     attribute_behind, attribute_of_self, group_behind, instance_of, item_value, self_instance,
@@ -85,9 +84,10 @@ pub fn evaluate<'p, 'e, 'r, 't, 's: 'r, 'a>(
     match expression {
         Expr::Literal(literal) => Ok(literal_datum(*literal)),
         Expr::Signed(sign, number) => Ok(signed_datum(*sign, *number)),
-        Expr::Reference(root, qualifiers) => {
-            referred(qualifiers, alloc, context, variables, *root)
-        }
+        Expr::Reference(root, qualifiers) => match *root {
+            Root::SelfInstance => own(qualifiers, alloc, context, variables),
+            Root::Name(name) => named(qualifiers, alloc, context, variables, name),
+        },
         Expr::Parenthesized(inner) => evaluate(inner, alloc, context, variables),
         Expr::Aggregate(_) => Ok(Datum::Indeterminate),
         Expr::Query {
@@ -223,27 +223,21 @@ fn first_known<'p, 'e, 'r, 't, 's: 'r, 'a>(
     evaluate(second, alloc, context, variables)
 }
 
-/// What a reference means: SELF or a name, with its qualifiers.
+/// What qualifiers select of SELF.
 #[cycle(evaluation)]
 #[inline(never)]
-fn referred<'p, 'e, 'r, 't, 's: 'r, 'a>(
+fn own<'p, 'e, 'r, 't, 's: 'r, 'a>(
     qualifiers: &[Qualifier<'s>],
     alloc: Global,
     context: &Context<'p, 'e, 'r, 't, 's, 'a>,
     variables: &mut Vec<Variable<'p, 'r>>,
-    root: Root<'s>,
 ) -> Result<Datum<'r, Part<'p, 'r>>, AllocError>
     requires setting { IsSetting context.now.setting.now }
     ensures { IfOk result (λ d. Gives context.now variables.old.items variables.new.items (datum_of holding d)
-        (λ m. meaning_in context.now m variables.old.items (reference (root_of root.entry)
-        (qualifiers_of qualifiers.now)))) }
+        (λ m. selected_in context.now m variables.old.items (qualifiers_of qualifiers.now)
+        (element_datum context.now.me))) }
 {
-    match root {
-        Root::SelfInstance => {
-            selected(qualifiers, alloc, context, variables, context.me.datum())
-        }
-        Root::Name(name) => named(qualifiers, alloc, context, variables, name),
-    }
+    selected(qualifiers, alloc, context, variables, context.me.datum())
 }
 
 /// What a relation says of two expressions.
@@ -449,17 +443,37 @@ fn select<'p, 'e, 'r, 't, 's: 'r, 'a>(
         (λ m. selected_in context.now m variables.old.items (qualifiers_of (qualifier.now ∷ []))
         (datum_of holding value.entry))) }
 {
-    let value = bare(value);
+    if is_typed(&value) {
+        return select_inside(qualifier, alloc, context, variables, &bare(value));
+    }
+    select_inside(qualifier, alloc, context, variables, &value)
+}
+
+/// .. of which this is what is inside.
+#[cycle(evaluation)]
+#[inline(never)]
+fn select_inside<'p, 'e, 'r, 't, 's: 'r, 'a>(
+    qualifier: &Qualifier<'s>,
+    alloc: Global,
+    context: &Context<'p, 'e, 'r, 't, 's, 'a>,
+    variables: &mut Vec<Variable<'p, 'r>>,
+    value: &Datum<'r, Part<'p, 'r>>,
+) -> Result<Datum<'r, Part<'p, 'r>>, AllocError>
+    requires setting { IsSetting context.now.setting.now }
+    ensures { IfOk result (λ v. (d : Worth) → datum_of holding value.now ≡ bare d
+        → Gives context.now variables.old.items variables.new.items (datum_of holding v)
+        (λ m. selected_in context.now m variables.old.items (qualifiers_of (qualifier.now ∷ [])) d)) }
+{
     match qualifier {
         Qualifier::Attribute(name) => {
-            let found = attribute_behind(context, &value, *name);
-            found_value(found, alloc, context, instance_of(&value))
+            let found = attribute_behind(context, value, *name);
+            found_value(found, alloc, context, instance_of(value))
         }
         Qualifier::Group(entity, name) => {
-            let found = group_behind(context, &value, *entity, *name);
-            found_value(found, alloc, context, instance_of(&value))
+            let found = group_behind(context, value, *entity, *name);
+            found_value(found, alloc, context, instance_of(value))
         }
-        Qualifier::Index(index) => element(index, alloc, context, variables, &value),
+        Qualifier::Index(index) => element(index, alloc, context, variables, value),
     }
 }
 
