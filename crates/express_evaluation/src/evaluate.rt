@@ -3,8 +3,10 @@
 ghost use Rattle.std.specs.Prelude.{◌≡◌, ◌++◌, ◌∷◌, [], true, IfOk, OnOk, if◌then◌else◌};
 ghost use Rattle.std.specs.Option.{option_map};
 ghost use Rattle.step_literals.specs.Words.{upper};
+ghost use Rattle.express_trees.specs.Trees.{reference};
 ghost use Rattle.express_trees.specs.Views.{
   capitals,
+  root_of,
   tree_of,
   trees_of,
   alternatives_of,
@@ -84,10 +86,9 @@ pub fn evaluate<'p, 'e, 'r, 't, 's: 'r, 'a>(
     match expression {
         Expr::Literal(literal) => Ok(literal_datum(*literal)),
         Expr::Signed(sign, number) => Ok(signed_datum(*sign, *number)),
-        Expr::Reference(root, qualifiers) => match *root {
-            Root::SelfInstance => own(qualifiers, alloc, context, variables),
-            Root::Name(name) => named(qualifiers, alloc, context, variables, name),
-        },
+        Expr::Reference(root, qualifiers) => {
+            referred(qualifiers, alloc, context, variables, *root)
+        }
         Expr::Parenthesized(inner) => evaluate(inner, alloc, context, variables),
         Expr::Aggregate(_) => Ok(Datum::Indeterminate),
         Expr::Query {
@@ -221,6 +222,27 @@ fn first_known<'p, 'e, 'r, 't, 's: 'r, 'a>(
         return Ok(value);
     }
     evaluate(second, alloc, context, variables)
+}
+
+/// What a reference means: SELF or a name, with its qualifiers.
+#[cycle(evaluation)]
+#[inline(never)]
+fn referred<'p, 'e, 'r, 't, 's: 'r, 'a>(
+    qualifiers: &[Qualifier<'s>],
+    alloc: Global,
+    context: &Context<'p, 'e, 'r, 't, 's, 'a>,
+    variables: &mut Vec<Variable<'p, 'r>>,
+    root: Root<'s>,
+) -> Result<Datum<'r, Part<'p, 'r>>, AllocError>
+    requires setting { IsSetting context.now.setting.now }
+    ensures { IfOk result (λ d. Gives context.now variables.old.items variables.new.items (datum_of holding d)
+        (λ m. meaning_in context.now m variables.old.items (reference (root_of root.entry)
+        (qualifiers_of qualifiers.now)))) }
+{
+    match root {
+        Root::SelfInstance => own(qualifiers, alloc, context, variables),
+        Root::Name(name) => named(qualifiers, alloc, context, variables, name),
+    }
 }
 
 /// What qualifiers select of SELF.

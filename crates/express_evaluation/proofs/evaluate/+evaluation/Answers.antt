@@ -20,7 +20,7 @@ use Rattle.express_evaluation.specs.Scopes.{variables_of}
 use Rattle.express_evaluation.specs.Weights.{weight}
 use Rattle.derivation_formulas.specs.Formulas.{formula_seen, formula_place}
 use Rattle.express_settings.specs.Settings.{below_rank, setting_by, derivation_in, or_nothing}
-use Rattle.express_evaluation.specs.Contexts.{setting_in, worth_in, derived_in, instance_of, meaning_in, truth_in, between_in, selected_in, named_in, item_in, within_in, related_in, and_all_in, or_all_in, among_each_in, condition_in, passes_in, filtered_in, queried_in}
+use Rattle.express_evaluation.specs.Contexts.{setting_in, worth_in, derived_in, instance_of, meaning_in, truth_in, between_in, selected_in, item_in, within_in, related_in, and_all_in, or_all_in, among_each_in, condition_in, passes_in, filtered_in, queried_in}
 use Rattle.express_evaluation.proofs.Arms.{part, part-truth, of-tree, or-known, or-unknown, related-is, related-in, related-not, typeof-is, typeof-not, other-is, or-is}
 use Rattle.express_evaluation.proofs.Items.{item-plain, item-attribute, item-other}
 use Rattle.express_evaluation.proofs.Kept.{Keeps, keeps_none, keeps_next, keeps_all}
@@ -755,35 +755,37 @@ select-returns t c =
     let d = datum_of holding c.args.value in
     IfOk-weaker c.select_inside-2.result _ _ (λ v h. h d (sym (c.is_typed.ensures c.if-is_typed.false))) c.select_inside-2.ensures
 
-pub evaluate-returns-in-SelfInstance : goal.evaluate-returns-in-SelfInstance
-evaluate-returns-in-SelfInstance t c =
-    let x = c.in-Reference in
-    let C = c.args.context.now in
-    let vs = c.args.variables.now.items in
-    IfOk-weaker c.own.result _ _
-    (λ v h. (
-      (λ m. of-tree C m vs (datum_of holding v) _ _ (ap tree_of x.is ∙ reference-seen x.root x.qualifiers)
-          (h.0 m ∙ ap (λ ks. selected_in C m vs (qualifiers_of ks) (element_datum C.me)) c.deref.ensures.value
-          ∙ ap (λ r. meaning_in C m vs (reference (root_of r) (qualifiers_of x.qualifiers.items))) (sym c.in-SelfInstance.is))),
-      h.1,
-    )) c.own.ensures
-
-pub evaluate-returns-in-Name : goal.evaluate-returns-in-Name
-evaluate-returns-in-Name t c =
-    let x = c.in-Reference in
-    let C = c.args.context.now in
-    let vs = c.args.variables.now.items in
-    let n = capitals c.in-Name.name in
-    IfOk-weaker c.named.result _ _
-    (λ v h. (
-      (λ m. of-tree C m vs (datum_of holding v) _ _ (ap tree_of x.is ∙ reference-seen x.root x.qualifiers)
-          (h.0 m ∙ ap (λ ks. named_in C m vs n (qualifiers_of ks)) c.deref-in-Name.ensures.value
-          ∙ ap (λ r. meaning_in C m vs (reference (root_of r) (qualifiers_of x.qualifiers.items))) (sym c.in-Name.is))),
-      h.1,
-    )) c.named.ensures
-
 pub own-returns : goal.own-returns
 own-returns t c =
     let qs = qualifiers_of c.args.qualifiers.now in
     IfOk-weaker c.selected.result _ _
     (λ v h. ((λ m. h.0 m ∙ ap (λ d. selected_in c.args.context.now m c.args.variables.now.items qs d) c.datum.ensures), h.1)) c.selected.ensures
+
+pub evaluate-returns-in-Reference : goal.evaluate-returns-in-Reference
+evaluate-returns-in-Reference t c =
+    let x = c.in-Reference in
+    IfOk-weaker c.referred.result _ _
+    (λ v h. (
+      (λ m. of-tree c.args.context.now m c.args.variables.now.items (datum_of holding v) _ _ (ap tree_of x.is ∙ reference-seen x.root x.qualifiers)
+          (h.0 m ∙ ap (λ ks. meaning_in c.args.context.now m c.args.variables.now.items (reference (root_of x.root) (qualifiers_of ks))) c.deref.ensures.value)),
+      h.1,
+    )) c.referred.ensures
+
+pub referred-returns-in-Name : goal.referred-returns-in-Name
+referred-returns-in-Name t c =
+    let qs = qualifiers_of c.args.qualifiers.now in
+    IfOk-weaker c.named.result _ _
+    (λ v h. (
+      (λ m. h.0 m ∙ ap (λ r. meaning_in c.args.context.now m c.args.variables.now.items (reference (root_of r) qs)) (sym c.in-Name.is)),
+      h.1,
+    )) c.named.ensures
+
+pub referred-returns-in-SelfInstance : goal.referred-returns-in-SelfInstance
+referred-returns-in-SelfInstance t c =
+    let qs = qualifiers_of c.args.qualifiers.now in
+    IfOk-weaker c.own.result _ _
+    (λ v h. (
+      (λ m. h.0 m
+          ∙ ap (λ r. meaning_in c.args.context.now m c.args.variables.now.items (reference (root_of r) qs)) (sym c.in-SelfInstance.is)),
+      h.1,
+    )) c.own.ensures

@@ -89,6 +89,9 @@ decreases-unbound l = 16 * (goal.size-unbound l + left l.context.now) + 9
 abbrev pub decreases-named : goal.decreases-named
 decreases-named l = 16 * (goal.size-named l + left l.context.now) + 10
 
+abbrev pub decreases-referred : goal.decreases-referred
+decreases-referred l = 16 * (goal.size-referred l + left l.context.now) + 11
+
 abbrev pub decreases-own : goal.decreases-own
 decreases-own l = 16 * (goal.size-own l + left l.context.now) + 8
 
