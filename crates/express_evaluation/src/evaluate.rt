@@ -452,7 +452,6 @@ fn select_each<'p, 'e, 'r, 't, 's: 'r, 'a>(
 
 /// What one qualifier selects of a value.
 #[cycle(evaluation)]
-#[inline(never)]
 fn select<'p, 'e, 'r, 't, 's: 'r, 'a>(
     qualifier: &Qualifier<'s>,
     alloc: Global,
@@ -471,7 +470,7 @@ fn select<'p, 'e, 'r, 't, 's: 'r, 'a>(
     select_inside(qualifier, alloc, context, variables, &value)
 }
 
-/// .. of which this is what is inside.
+/// .. inside which there is this one.
 #[cycle(evaluation)]
 #[inline(never)]
 fn select_inside<'p, 'e, 'r, 't, 's: 'r, 'a>(
