@@ -6,7 +6,7 @@ ghost use Rattle.express_trees.specs.Views.{tree_of};
 ghost use Rattle.express_logic.specs.Logic.{known};
 ghost use Rattle.express_logic.specs.Views.{datum_of, text_of};
 ghost use Rattle.express_meanings.specs.Expressions.{of_call, of_junction, is_of_type};
-ghost use Rattle.express_meanings.specs.Operations.{bare, says, compared, limited, is_true};
+ghost use Rattle.express_meanings.specs.Operations.{bare, says, size, compared, limited, is_true};
 ghost use Rattle.express_evaluation.specs.Forms.{is_condition, is_in, is_typeof};
 ghost use Rattle.held_values.specs.Parts.{holding, capitals_of};
 ghost use Rattle.express_settings.specs.Settings.{IsSetting, is_defined_in};
@@ -124,6 +124,18 @@ pub(crate) fn joined(junction: Junction, p: Logical, q: Logical) -> Logical
     }
 }
 
+/// How many elements there are, in a typed value too: SIZEOF.
+fn size_inside<'p, 'r>(
+    value: Datum<'r, Part<'p, 'r>>,
+) -> Result<Datum<'r, Part<'p, 'r>>, AllocError>
+    ensures { IfOk result (λ d. datum_of holding d ≡ size (bare (datum_of holding value.entry))) }
+{
+    if is_typed(&value) {
+        return size(&bare(value));
+    }
+    size(&value)
+}
+
 /// The value of a function of the language; that of TYPEOF is none but on the right of IN.
 pub(crate) fn called<'p, 'r>(
     function: Function,
@@ -134,7 +146,7 @@ pub(crate) fn called<'p, 'r>(
 {
     match function {
         Function::Exists => Ok(Datum::Logical(known(is_known(&value)))),
-        Function::Sizeof => size(&bare(value)),
+        Function::Sizeof => size_inside(value),
         Function::Hiindex => high_index(&bare(value)),
         Function::Loindex => Ok(low_index(&bare(value))),
         Function::Typeof => Ok(Datum::Indeterminate),
