@@ -17,7 +17,7 @@ ghost use Rattle.express_trees.specs.Views.{
   selection_of,
 };
 ghost use Rattle.express_logic.specs.Comparing.{member};
-ghost use Rattle.express_logic.specs.Data.{logical};
+ghost use Rattle.express_logic.specs.Data.{Datum as Worth, logical};
 ghost use Rattle.express_logic.specs.Views.{datum_of, text_of};
 ghost use Rattle.express_meanings.specs.Operations.{bare, indexed, or_else};
 ghost use Rattle.express_meanings.specs.Expressions.{of_call, string_of};
@@ -52,7 +52,8 @@ ghost use Rattle.express_evaluation.specs.Contexts.{
 use crate::context::Context;
 use crate::literals::{literal_datum, signed_datum, string_of};
 use crate::operations::{
-    called, compared, is_condition, is_in, is_of_type, is_true, is_typeof, joined, limited, truth,
+    called, compared, is_condition, is_in, is_of_type, is_true, is_typed, is_typeof, joined,
+    limited, truth,
 };
 use crate::qualifiers::{
     attribute_behind, attribute_of_self, group_behind, instance_of, item_value, self_instance,
@@ -242,11 +243,26 @@ fn referred<'p, 'e, 'r, 't, 's: 'r, 'a>(
         (qualifiers_of qualifiers.now)))) }
 {
     match root {
-        Root::SelfInstance => {
-            selected(qualifiers, alloc, context, variables, context.me.datum())
-        }
+        Root::SelfInstance => own(qualifiers, alloc, context, variables),
         Root::Name(name) => named(qualifiers, alloc, context, variables, name),
     }
+}
+
+/// What qualifiers select of SELF.
+#[cycle(evaluation)]
+#[inline(never)]
+fn own<'p, 'e, 'r, 't, 's: 'r, 'a>(
+    qualifiers: &[Qualifier<'s>],
+    alloc: Global,
+    context: &Context<'p, 'e, 'r, 't, 's, 'a>,
+    variables: &mut Vec<Variable<'p, 'r>>,
+) -> Result<Datum<'r, Part<'p, 'r>>, AllocError>
+    requires setting { IsSetting context.now.setting.now }
+    ensures { IfOk result (λ d. Gives context.now variables.old.items variables.new.items (datum_of holding d)
+        (λ m. selected_in context.now m variables.old.items (qualifiers_of qualifiers.now)
+        (element_datum context.now.me))) }
+{
+    selected(qualifiers, alloc, context, variables, context.me.datum())
 }
 
 /// What a relation says of two expressions.
@@ -441,7 +457,6 @@ fn select_each<'p, 'e, 'r, 't, 's: 'r, 'a>(
 
 /// What one qualifier selects of a value.
 #[cycle(evaluation)]
-#[inline(never)]
 fn select<'p, 'e, 'r, 't, 's: 'r, 'a>(
     qualifier: &Qualifier<'s>,
     alloc: Global,
@@ -454,17 +469,37 @@ fn select<'p, 'e, 'r, 't, 's: 'r, 'a>(
         (λ m. selected_in context.now m variables.old.items (qualifiers_of (qualifier.now ∷ []))
         (datum_of holding value.entry))) }
 {
-    let value = bare(value);
+    if is_typed(&value) {
+        return select_inside(qualifier, alloc, context, variables, &bare(value));
+    }
+    select_inside(qualifier, alloc, context, variables, &value)
+}
+
+/// .. inside which there is this one.
+#[cycle(evaluation)]
+#[inline(never)]
+fn select_inside<'p, 'e, 'r, 't, 's: 'r, 'a>(
+    qualifier: &Qualifier<'s>,
+    alloc: Global,
+    context: &Context<'p, 'e, 'r, 't, 's, 'a>,
+    variables: &mut Vec<Variable<'p, 'r>>,
+    value: &Datum<'r, Part<'p, 'r>>,
+) -> Result<Datum<'r, Part<'p, 'r>>, AllocError>
+    requires setting { IsSetting context.now.setting.now }
+    ensures { IfOk result (λ v. (d : Worth) → datum_of holding value.now ≡ bare d
+        → Gives context.now variables.old.items variables.new.items (datum_of holding v)
+        (λ m. selected_in context.now m variables.old.items (qualifiers_of (qualifier.now ∷ [])) d)) }
+{
     match qualifier {
         Qualifier::Attribute(name) => {
-            let found = attribute_behind(context, &value, *name);
-            found_value(found, alloc, context, instance_of(&value))
+            let found = attribute_behind(context, value, *name);
+            found_value(found, alloc, context, instance_of(value))
         }
         Qualifier::Group(entity, name) => {
-            let found = group_behind(context, &value, *entity, *name);
-            found_value(found, alloc, context, instance_of(&value))
+            let found = group_behind(context, value, *entity, *name);
+            found_value(found, alloc, context, instance_of(value))
         }
-        Qualifier::Index(index) => element(index, alloc, context, variables, &value),
+        Qualifier::Index(index) => element(index, alloc, context, variables, value),
     }
 }
 

@@ -1,12 +1,12 @@
 //! What is made of values (ISO 10303-11, 12 and 15).
 
-ghost use Rattle.std.specs.Prelude.{◌≡◌, IfOk};
+ghost use Rattle.std.specs.Prelude.{◌≡◌, false, IfOk};
 ghost use Rattle.std.specs.Option.{option_map};
 ghost use Rattle.express_trees.specs.Views.{tree_of};
 ghost use Rattle.express_logic.specs.Logic.{known};
 ghost use Rattle.express_logic.specs.Views.{datum_of, text_of};
 ghost use Rattle.express_meanings.specs.Expressions.{of_call, of_junction, is_of_type};
-ghost use Rattle.express_meanings.specs.Operations.{says, compared, limited, is_true};
+ghost use Rattle.express_meanings.specs.Operations.{bare, says, size, compared, limited, is_true};
 ghost use Rattle.express_evaluation.specs.Forms.{is_condition, is_in, is_typeof};
 ghost use Rattle.held_values.specs.Parts.{holding, capitals_of};
 ghost use Rattle.express_settings.specs.Settings.{IsSetting, is_defined_in};
@@ -23,11 +23,24 @@ use held_values::part::Part;
 use std::alloc::AllocError;
 use step_literals::literal::Word;
 
+/// Whether a value has the name of its type. One that hasn't is bare, and needn't be copied.
+pub(crate) fn is_typed(value: &Datum<'_, Part<'_, '_>>) -> bool
+    ensures { result ≡ false → bare (datum_of holding value.now) ≡ datum_of holding value.now }
+{
+    match value {
+        Datum::Typed(_) => true,
+        _ => false,
+    }
+}
+
 /// What a value says as an operand of a logical operator.
 pub(crate) fn truth(value: Datum<'_, Part<'_, '_>>) -> Logical
     ensures { result ≡ says (datum_of holding value.entry) }
 {
-    bare(value).truth()
+    if is_typed(&value) {
+        return bare(value).truth();
+    }
+    value.truth()
 }
 
 /// Whether a condition is TRUE.
@@ -111,6 +124,18 @@ pub(crate) fn joined(junction: Junction, p: Logical, q: Logical) -> Logical
     }
 }
 
+/// How many elements there are, in a typed value too: SIZEOF.
+fn size_inside<'p, 'r>(
+    value: Datum<'r, Part<'p, 'r>>,
+) -> Result<Datum<'r, Part<'p, 'r>>, AllocError>
+    ensures { IfOk result (λ d. datum_of holding d ≡ size (bare (datum_of holding value.entry))) }
+{
+    if is_typed(&value) {
+        return size(&bare(value));
+    }
+    size(&value)
+}
+
 /// The value of a function of the language; that of TYPEOF is none but on the right of IN.
 #[inline(never)]
 pub(crate) fn called<'p, 'r>(
@@ -122,7 +147,7 @@ pub(crate) fn called<'p, 'r>(
 {
     match function {
         Function::Exists => Ok(Datum::Logical(known(is_known(&value)))),
-        Function::Sizeof => size(&bare(value)),
+        Function::Sizeof => size_inside(value),
         Function::Hiindex => high_index(&bare(value)),
         Function::Loindex => Ok(low_index(&bare(value))),
         Function::Typeof => Ok(Datum::Indeterminate),

@@ -13,6 +13,7 @@ ghost use Rattle.express_evaluation.specs.Contexts.{MeantBy, setting_in, worth_i
 use crate::context::Context;
 use express_logic::datum::Datum;
 use express_settings::attributes::Found;
+use held_values::element::Element;
 use held_values::operations::bare;
 use held_values::part::Part;
 use step_literals::literal::Word;
@@ -35,9 +36,9 @@ pub(crate) fn attribute_behind<'p, 'r>(
     }
 }
 
-/// .. of an attribute of SELF.
+/// .. of SELF as a value.
 #[inline(never)]
-pub(crate) fn attribute_of_self<'p, 'r>(
+fn attribute_of_value<'p, 'r>(
     context: &Context<'p, '_, 'r, '_, '_, '_>,
     name: Word<'_>,
 ) -> Found<'p, 'r>
@@ -48,6 +49,23 @@ pub(crate) fn attribute_of_self<'p, 'r>(
     ensures found { IsFound context.now.setting.now result }
 {
     attribute_behind(context, &bare(context.me.datum()), name)
+}
+
+/// .. of an attribute of SELF.
+pub(crate) fn attribute_of_self<'p, 'r>(
+    context: &Context<'p, '_, 'r, '_, '_, '_>,
+    name: Word<'_>,
+) -> Found<'p, 'r>
+    requires setting { IsSetting context.now.setting.now }
+    ensures worth { (m : MeantBy context.now)
+        → worth_in context.now m (instance_of (bare (element_datum context.now.me))) result
+        ≡ attribute_of (setting_in context.now m) (element_datum context.now.me) (capitals name.entry) }
+    ensures found { IsFound context.now.setting.now result }
+{
+    match context.me {
+        Element::Instance(instance) => context.setting.attribute(instance, name),
+        _ => attribute_of_value(context, name),
+    }
 }
 
 /// .. of the attribute that a group means.

@@ -240,14 +240,12 @@ passing-returns t c =
       inv.variables,
     )
 
-pub select-returns-in-Attribute : goal.select-returns-in-Attribute
-select-returns-in-Attribute t c =
+pub select_inside-returns-in-Attribute : goal.select_inside-returns-in-Attribute
+select_inside-returns-in-Attribute t c =
     let S = c.args.context.now.setting.now in
-    let d = datum_of holding c.args.value in
     let x = c.in-Attribute in
-    let inside = c.bare-value.ensures in
     IfOk-weaker c.found_value.result _ _
-    (λ v h. (
+    (λ v h d inside. (
       (λ m. h m
           ∙ ap (λ i. or_nothing (worth_in c.args.context.now m i c.attribute_behind-found.result)) c.instance_of.ensures
           ∙ ap or_nothing (c.attribute_behind-found.ensures.worth m
@@ -256,14 +254,12 @@ select-returns-in-Attribute t c =
       refl,
     )) c.found_value.ensures
 
-pub select-returns-in-Group : goal.select-returns-in-Group
-select-returns-in-Group t c =
+pub select_inside-returns-in-Group : goal.select_inside-returns-in-Group
+select_inside-returns-in-Group t c =
     let S = c.args.context.now.setting.now in
-    let d = datum_of holding c.args.value in
     let x = c.in-Group in
-    let inside = c.bare-value.ensures in
     IfOk-weaker c.found_value-in-Group.result _ _
-    (λ v h. (
+    (λ v h d inside. (
       (λ m. h m
           ∙ ap (λ i. or_nothing (worth_in c.args.context.now m i c.group_behind-found.result)) c.instance_of-in-Group.ensures
           ∙ c.group_behind-found.ensures.worth m
@@ -327,16 +323,6 @@ within-returns-then-is_known t c =
       h.1,
     )) c.among_each.ensures
 
-pub evaluate-returns-in-Reference : goal.evaluate-returns-in-Reference
-evaluate-returns-in-Reference t c =
-    let x = c.in-Reference in
-    IfOk-weaker c.referred.result _ _
-    (λ v h. (
-      (λ m. of-tree c.args.context.now m c.args.variables.now.items (datum_of holding v) _ _ (ap tree_of x.is ∙ reference-seen x.root x.qualifiers)
-          (h.0 m ∙ ap (λ ks. meaning_in c.args.context.now m c.args.variables.now.items (reference (root_of x.root) (qualifiers_of ks))) c.deref.ensures.value)),
-      h.1,
-    )) c.referred.ensures
-
 pub is_member-returns : goal.is_member-returns
 is_member-returns t c =
     let found = c.in_ok-evaluate.ensures in (
@@ -344,25 +330,6 @@ is_member-returns t c =
           ∙ ap (member (datum_of holding c.args.value.now)) (c.bare-right.ensures ∙ ap bare (found.0 m)),
       found.1,
     )
-
-pub referred-returns-in-SelfInstance : goal.referred-returns-in-SelfInstance
-referred-returns-in-SelfInstance t c =
-    let qs = qualifiers_of c.args.qualifiers.now in
-    IfOk-weaker c.selected.result _ _
-    (λ v h. (
-      (λ m. h.0 m ∙ ap (λ d. selected_in c.args.context.now m c.args.variables.now.items qs d) c.datum.ensures
-          ∙ ap (λ r. meaning_in c.args.context.now m c.args.variables.now.items (reference (root_of r) qs)) (sym c.in-SelfInstance.is)),
-      h.1,
-    )) c.selected.ensures
-
-pub referred-returns-in-Name : goal.referred-returns-in-Name
-referred-returns-in-Name t c =
-    let qs = qualifiers_of c.args.qualifiers.now in
-    IfOk-weaker c.named.result _ _
-    (λ v h. (
-      (λ m. h.0 m ∙ ap (λ r. meaning_in c.args.context.now m c.args.variables.now.items (reference (root_of r) qs)) (sym c.in-Name.is)),
-      h.1,
-    )) c.named.ensures
 
 pub within-returns-then-not-is_typeof : goal.within-returns-then-not-is_typeof
 within-returns-then-not-is_typeof t c =
@@ -694,15 +661,14 @@ element-returns t c =
       found.1,
     )
 
-pub select-returns : goal.select-returns
-select-returns t c =
+pub select_inside-returns-in-Index : goal.select_inside-returns-in-Index
+select_inside-returns-in-Index t c =
     let x = c.in-Index in
     let C = c.args.context.now in
     let vs = c.args.variables.now.items in
-    let d = datum_of holding c.args.value in
     IfOk-weaker c.element.result _ _
-    (λ v h. (
-      (λ m. h.0 m ∙ ap (λ b. indexed b (bare (meaning_in C m vs (tree_of c.deref.result.now)))) c.bare-value.ensures
+    (λ v h d inside. (
+      (λ m. h.0 m ∙ ap (λ b. indexed b (bare (meaning_in C m vs (tree_of c.deref.result.now)))) inside
           ∙ ap (λ y. indexed (bare d) (bare (meaning_in C m vs (tree_of y)))) c.deref.ensures
           ∙ ap (λ s. selected_in C m vs (selections_of (s ∷ [])) d) (sym (ap selection_of x.is ∙ index-selected x.index))),
       h.1,
@@ -778,3 +744,48 @@ named-returns-in-None t c =
 pub evaluate_truth-returns-then-is_condition : goal.evaluate_truth-returns-then-is_condition
 evaluate_truth-returns-then-is_condition t c =
     IfOk-weaker c.condition.result _ _ (λ p h. ((λ m. ap says (h.0 m)), h.1)) c.condition.ensures
+
+pub select-returns-then-is_typed : goal.select-returns-then-is_typed
+select-returns-then-is_typed t c =
+    let d = datum_of holding c.args.value in
+    IfOk-weaker c.select_inside.result _ _ (λ v h. h d c.bare.ensures) c.select_inside.ensures
+
+pub select-returns : goal.select-returns
+select-returns t c =
+    let d = datum_of holding c.args.value in
+    IfOk-weaker c.select_inside-2.result _ _ (λ v h. h d (sym (c.is_typed.ensures c.if-is_typed.false))) c.select_inside-2.ensures
+
+pub own-returns : goal.own-returns
+own-returns t c =
+    let qs = qualifiers_of c.args.qualifiers.now in
+    IfOk-weaker c.selected.result _ _
+    (λ v h. ((λ m. h.0 m ∙ ap (λ d. selected_in c.args.context.now m c.args.variables.now.items qs d) c.datum.ensures), h.1)) c.selected.ensures
+
+pub evaluate-returns-in-Reference : goal.evaluate-returns-in-Reference
+evaluate-returns-in-Reference t c =
+    let x = c.in-Reference in
+    IfOk-weaker c.referred.result _ _
+    (λ v h. (
+      (λ m. of-tree c.args.context.now m c.args.variables.now.items (datum_of holding v) _ _ (ap tree_of x.is ∙ reference-seen x.root x.qualifiers)
+          (h.0 m ∙ ap (λ ks. meaning_in c.args.context.now m c.args.variables.now.items (reference (root_of x.root) (qualifiers_of ks))) c.deref.ensures.value)),
+      h.1,
+    )) c.referred.ensures
+
+pub referred-returns-in-Name : goal.referred-returns-in-Name
+referred-returns-in-Name t c =
+    let qs = qualifiers_of c.args.qualifiers.now in
+    IfOk-weaker c.named.result _ _
+    (λ v h. (
+      (λ m. h.0 m ∙ ap (λ r. meaning_in c.args.context.now m c.args.variables.now.items (reference (root_of r) qs)) (sym c.in-Name.is)),
+      h.1,
+    )) c.named.ensures
+
+pub referred-returns-in-SelfInstance : goal.referred-returns-in-SelfInstance
+referred-returns-in-SelfInstance t c =
+    let qs = qualifiers_of c.args.qualifiers.now in
+    IfOk-weaker c.own.result _ _
+    (λ v h. (
+      (λ m. h.0 m
+          ∙ ap (λ r. meaning_in c.args.context.now m c.args.variables.now.items (reference (root_of r) qs)) (sym c.in-SelfInstance.is)),
+      h.1,
+    )) c.own.ensures

@@ -68,26 +68,32 @@ decreases-found_value l = 16 * left l.context.now + 1
 abbrev pub decreases-element : goal.decreases-element
 decreases-element l = 16 * (goal.size-element l + left l.context.now) + 3
 
+abbrev pub decreases-select_inside : goal.decreases-select_inside
+decreases-select_inside l = 16 * (goal.size-select_inside l + left l.context.now) + 4
+
 abbrev pub decreases-select : goal.decreases-select
-decreases-select l = 16 * (goal.size-select l + left l.context.now) + 4
+decreases-select l = 16 * (goal.size-select l + left l.context.now) + 5
 
 abbrev pub decreases-select_each : goal.decreases-select_each
-decreases-select_each l = 16 * (goal.size-select_each l + left l.context.now) + 5
+decreases-select_each l = 16 * (goal.size-select_each l + left l.context.now) + 6
 
 abbrev pub decreases-selected : goal.decreases-selected
-decreases-selected l = 16 * (goal.size-selected l + left l.context.now) + 6
+decreases-selected l = 16 * (goal.size-selected l + left l.context.now) + 7
 
 abbrev pub decreases-item_behind : goal.decreases-item_behind
-decreases-item_behind l = 16 * (goal.size-item_behind l + left l.context.now) + 7
+decreases-item_behind l = 16 * (goal.size-item_behind l + left l.context.now) + 8
 
 abbrev pub decreases-unbound : goal.decreases-unbound
-decreases-unbound l = 16 * (goal.size-unbound l + left l.context.now) + 8
+decreases-unbound l = 16 * (goal.size-unbound l + left l.context.now) + 9
 
 abbrev pub decreases-named : goal.decreases-named
-decreases-named l = 16 * (goal.size-named l + left l.context.now) + 9
+decreases-named l = 16 * (goal.size-named l + left l.context.now) + 10
 
 abbrev pub decreases-referred : goal.decreases-referred
-decreases-referred l = 16 * (goal.size-referred l + left l.context.now) + 10
+decreases-referred l = 16 * (goal.size-referred l + left l.context.now) + 11
+
+abbrev pub decreases-own : goal.decreases-own
+decreases-own l = 16 * (goal.size-own l + left l.context.now) + 8
 
 abbrev pub invariant-and_all-loop-expression : goal.invariant-and_all-loop-expression
 invariant-and_all-loop-expression l =
