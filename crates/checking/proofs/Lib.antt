@@ -1,4 +1,2 @@
 mod Answering
 mod Failing
-mod Behind
-mod Ruled

@@ -18,7 +18,6 @@ ghost use Rattle.checking.specs.Checks.{
 };
 
 use crate::fault::{CheckFault, of_schema, of_schema_source};
-use crate::findings::{Found, file_findings};
 use command_line::fault::{Fault, LIMIT, Role};
 use command_line::read::read_whole;
 use devices::device::Source;
@@ -27,6 +26,7 @@ use express_types::graph::TypeGraph;
 use express_types::resolving::resolve;
 use reports::report::Report;
 use rule_outcomes::report::RuleReport;
+use schema_findings::findings::{Found, file_findings};
 use std::alloc::Global;
 use std::hash::RandomState;
 use step_exchange::exchange::read_exchange;

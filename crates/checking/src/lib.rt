@@ -3,5 +3,3 @@
 
 pub mod check;
 pub mod fault;
-pub mod findings;
-mod rules;

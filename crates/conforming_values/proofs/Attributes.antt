@@ -1,26 +1,25 @@
 -- Records with as many parameters as attributes have a value for each attribute of their entities.
-use Rattle.std.specs.Prelude.{◌≡◌, ℕ, suc, ◌+◌, ◌||◌, Bool, true, false, cond, List, [], ◌∷◌, length, map, flat_map, Option, Some, None, ◌↔◌, bytes_eq}
-use Rattle.std.specs.List.{filter, list_any, list_all}
-use Rattle.std.proofs.Common.{refl, sym, ◌∙◌, ap, subst, inl, inr, eqb-true, arith}
+use Rattle.std.specs.Prelude.{◌≡◌, ℕ, suc, ◌+◌, Bool, true, false, cond, List, [], ◌∷◌, length, map, flat_map, Option, Some, None, ◌↔◌}
+use Rattle.std.specs.List.{filter, list_all}
+use Rattle.std.proofs.Common.{refl, sym, ◌∙◌, ap, subst, eqb-true, arith}
 use Rattle.std.proofs.lemmas.Bool.{and_parts}
 use Rattle.std.proofs.lemmas.List.{length-append}
-use Rattle.std.proofs.lemmas.Slice.Eq.{bytes_eq-Decides}
 use Rattle.step_structures.specs.Trees as trees
 use Rattle.step_structures.specs.Trees.{Trees, Record, Form, internal, external, Row}
 use Rattle.express_schemas.specs.Schemas.{Schema, Declaration, type, entity, skipped, Entity}
 use Rattle.type_graphs.specs.Names.{Name, Among, declaration_of, entities, explicit_names, IsEntityAt, DeclaresExplicit}
 use Rattle.type_graphs.specs.Attributes.{Place, own_places, IsPlaces}
 use Rattle.type_graphs.specs.Faults.{IsResolved}
-use Rattle.type_graphs.proofs.Lists.{among-map, among-flat, from-flat}
+use Rattle.type_graphs.proofs.Lists.{among-map, among-filter, from-filter, from-map, among-flat, from-flat}
 use Rattle.type_graphs.proofs.Supertypes.{entity-name}
 use Rattle.type_graphs.proofs.Placed.{explicit-have-places}
 use Rattle.type_graphs.proofs.Climbing.{places-are-explicit}
-use Rattle.type_graphs.proofs.Recursion.{to-any}
+use Rattle.type_graphs.proofs.Recursion.{to-any, from-any}
 use Rattle.conformance.specs.Bases.{Domain}
 use Rattle.conformance.specs.Fitting.{entity_names, among, is_entity, count}
 use Rattle.conformance.specs.Entities.{Entities, AreEntities, own_in, own_places_of, named_entity, records, parameters, joined, types_of, places_of, unknown_entities, has_count, wrong_counts}
 use Rattle.conformance.specs.Populations.{Slot, slots_of, instance_of}
-use Rattle.conforming_values.proofs.Declared.{from_map, entity_at}
+use Rattle.conforming_values.proofs.Declared.{entity_at}
 use Rattle.conforming_values.proofs.Targets.{none_fails}
 
 one_less : (m n : ℕ) → suc m ≡ suc n → m ≡ n
@@ -36,36 +35,6 @@ nothing_more n = omega (arith)
 holds : (b : Bool) → ◌≡◌ {A = ℕ} (cond b 0 1) 0 → b ≡ true
 holds true e = refl
 holds false e = absurd (cc)
-
-from_any : (n : Name) (ns : List Name) → list_any (bytes_eq n) ns ≡ true → Among n ns
-from_any n [] h = absurd (cc)
-from_any n (m ∷ ns) h = by (bytes_eq n m) refl h (from_any n ns)
-  where
-    by : (b : Bool) → bytes_eq n m ≡ b → (b || list_any (bytes_eq n) ns) ≡ true
-        → (list_any (bytes_eq n) ns ≡ true → Among n ns) → Among n (m ∷ ns)
-    by true e k more = inl (sym ((bytes_eq-Decides n m).0 e))
-    by false e k more = inr (more k)
-
-filtered : {A : Type 0} (test : A → Bool) (x : A) (xs : List A) → Among x xs → test x ≡ true → Among x (filter test xs)
-filtered test x [] m h = m
-filtered test x (y ∷ ys) m h = by (test y) refl m (λ k. filtered test x ys k h)
-  where
-    by : (b : Bool) → test y ≡ b → Among x (y ∷ ys) → (Among x ys → Among x (filter test ys))
-        → Among x (cond b (y ∷ filter test ys) (filter test ys))
-    by true e (inl s) more = inl s
-    by true e (inr k) more = inr (more k)
-    by false e (inl s) more = let t = ap test s in absurd (cc)
-    by false e (inr k) more = more k
-
-passed : {A : Type 0} (test : A → Bool) (x : A) (xs : List A) → Among x (filter test xs) → test x ≡ true
-passed test x [] m = elim m [ ]
-passed test x (y ∷ ys) m = by (test y) refl m (passed test x ys)
-  where
-    by : (b : Bool) → test y ≡ b → Among x (cond b (y ∷ filter test ys) (filter test ys))
-        → (Among x (filter test ys) → test x ≡ true) → test x ≡ true
-    by true e (inl s) more = ap test (sym s) ∙ e
-    by true e (inr k) more = more k
-    by false e k more = more k
 
 module _ (s : Schema) (d : Domain) (en : Entities) where
   slots_places : (types : List Name) (ps : List Place) (xs : Trees) → count xs ≡ length ps
@@ -105,11 +74,11 @@ module _ (s : Schema) (d : Domain) (en : Entities) where
     of_entity n m =
         let places : IsPlaces s n (en.places n) = (entity_at s r n m, en.places, are.places, refl) in (
           (λ h. let found = places-are-explicit s n (en.places n) e a r places h in (
-            filtered (en.is_kind_of n) e (entity_names s) (declared_entity found.1) ((are.kinds n e).1 found.0),
+            among-filter (en.is_kind_of n) e (entity_names s) (declared_entity found.1) ((are.kinds n e).1 found.0),
             found.1,
           )),
           (λ h. explicit-have-places s n (en.places n) e a places
-              ((are.kinds n e).0 (passed (en.is_kind_of n) e (entity_names s) h.0)) h.1),
+              ((are.kinds n e).0 (from-filter (en.is_kind_of n) e (entity_names s) h.0)) h.1),
         )
 
     own_declared : (n : Name) (o : Option Declaration) → declaration_of s.declarations n ≡ o → Among (e, a) (own_in o)
@@ -118,7 +87,7 @@ module _ (s : Schema) (d : Domain) (en : Entities) where
     own_declared n (Some (type t)) at m = elim m [ ]
     own_declared n (Some (skipped x)) at m = elim m [ ]
     own_declared n (Some (entity x)) at m =
-        let from = from_map (λ (b : Name). (x.name, b)) (explicit_names x) (e, a) m in
+        let from = from-map (λ (b : Name). (x.name, b)) (explicit_names x) (e, a) m in
         let same : n ≡ e = sym (entity-name s n x at).1 ∙ ap (λ (p : Place). p.0) from.2 in (
           same,
           (
@@ -141,13 +110,13 @@ module _ (s : Schema) (d : Domain) (en : Entities) where
     of_parts rs = (
       (λ h. let from = from-flat (λ r. own_places_of s (named_entity r)) (e, a) rs h in
           let said = own_declared (named_entity from.0) _ refl from.2 in (
-            filtered (λ n. among n (map named_entity rs)) e (entity_names s) (declared_entity said.1)
+            among-filter (λ n. among n (map named_entity rs)) e (entity_names s) (declared_entity said.1)
                 (to-any e (map named_entity rs) (subst (λ n. Among n (map named_entity rs)) said.0
                 (among-map named_entity from.0 rs from.1))),
             said.1,
           )),
-      (λ h. let from = from_map named_entity rs e (from_any e (map named_entity rs)
-          (passed (λ n. among n (map named_entity rs)) e (entity_names s) h.0)) in
+      (λ h. let from = from-map named_entity rs e (from-any e (map named_entity rs)
+          (from-filter (λ n. among n (map named_entity rs)) e (entity_names s) h.0)) in
           among-flat (λ r. own_places_of s (named_entity r)) from.0 (e, a) rs from.1
           (own_place (named_entity from.0) from.2 h.1)),
     )
@@ -157,7 +126,7 @@ module _ (s : Schema) (d : Domain) (en : Entities) where
     of_form (internal x) known =
         let all = none_fails (λ (r : Record). is_entity s (named_entity r)) (x ∷ []) known in
         of_entity (named_entity x)
-        (from_any (named_entity x) (entity_names s) (and_parts (is_entity s (named_entity x)) true all).0)
+        (from-any (named_entity x) (entity_names s) (and_parts (is_entity s (named_entity x)) true all).0)
     of_form (external rs) known = of_parts rs
 
   pub attributes_of : IsResolved s → AreEntities s en → (k : ℕ) (r : Row) → unknown_entities s en r.form ≡ 0

@@ -6,7 +6,7 @@ use Rattle.type_graphs.specs.Names.{Name, OneOf, Among, listed, entities, entiti
 use Rattle.type_graphs.specs.Faults.{IsResolved, declared, declared_from, in_scope, items_of}
 use Rattle.type_graphs.specs.Shapes.{AreAlike}
 use Rattle.type_graphs.specs.Attributes.{collected, DeclaresAs, IsFirstType}
-use Rattle.type_graphs.proofs.Lists.{AreFresh, are-fresh, fresh-right, among-left, among-right, among-map, from-flat}
+use Rattle.type_graphs.proofs.Lists.{AreFresh, are-fresh, fresh-right, among-left, among-right, among-map, from-map, from-flat}
 use Rattle.type_graphs.proofs.Supertypes.{found, stands, entity-name}
 use Rattle.conformance.specs.Bases.{Domain, base, IsDomain}
 use Rattle.conformance.specs.Fitting.{entity_names}
@@ -26,11 +26,6 @@ apart : {A : Type 0} (x : A) (xs ys : List A) → AreFresh (xs ++ ys) → Among 
 apart x [] ys h m n = m
 apart x (y ∷ xs) ys h (inl e) n = h.0 (subst (λ z. Among z (xs ++ ys)) (sym e) (among-right x xs ys n))
 apart x (y ∷ xs) ys h (inr m) n = apart x xs ys h.1 m n
-
-pub from_map : {A B : Type 0} (f : A → B) (xs : List A) (y : B) → Among y (map f xs) → (x : A) × Among x xs × (f x ≡ y)
-from_map f [] y h = elim h [ ]
-from_map f (x ∷ xs) y (inl e) = (x, inl refl, e)
-from_map f (x ∷ xs) y (inr m) = let rest = from_map f xs y m in (rest.0, inr rest.1, rest.2)
 
 -- an entity declares each attribute once, where the names are resolved
 fresh_in : (k : ℕ) (ds : List Declaration) (e : Entity) → AreFresh (declared_from k ds) → Among (entity e) ds
@@ -192,7 +187,7 @@ module _ (s : Schema) (r : IsResolved s) where
   -- the entity of a name
   pub entity_at : (n : Name) → Among n (entity_names s) → (e : Entity) × IsEntityAt s n e
   entity_at n h =
-      let from = from_map (λ (e : Entity). e.name) (entities s) n h in (
+      let from = from-map (λ (e : Entity). e.name) (entities s) n h in (
         from.0,
         subst (λ m. IsEntityAt s m from.0) from.2
             (stands 1 s.declarations (entity from.0) from.0.name all_fresh
@@ -238,7 +233,7 @@ module _ (s : Schema) (r : IsResolved s) where
       (known : (n : Name) → Among n types → Among n (entity_names s)) (p a : Name) where
     typed : (k : DataType) → Among k (data_types s en types (p, a)) → IsOfPlace p a k
     typed k m =
-        let named = from_map (λ (x : Explicit). x.data_type) (declarations_by s en types (p, a)) k m in
+        let named = from-map (λ (x : Explicit). x.data_type) (declarations_by s en types (p, a)) k m in
         let by = from-flat (λ (n : Name). en.declarations n (p, a)) named.0 types named.1 in
         let at = entity_at by.0 (known by.0 by.1) in
         let said = those (DeclaresSo s at.0 (p, a)) at.0.explicits (en.declarations by.0 (p, a))

@@ -8,7 +8,7 @@ use Rattle.express_schemas.specs.Schemas.{Schema, DataType}
 use Rattle.express_schemas.specs.Profile.{Every}
 use Rattle.type_graphs.specs.Names.{Name, Among, DeclaresExplicit}
 use Rattle.type_graphs.specs.Attributes.{Place}
-use Rattle.type_graphs.proofs.Lists.{among-map, every-at, every-of}
+use Rattle.type_graphs.proofs.Lists.{among-map, from-map, every-at, every-of}
 use Rattle.conformance.specs.Bases.{Domain, base}
 use Rattle.conformance.specs.Entities.{Entities, abstract_leaves, missing_supertypes, broken_one_ofs, is_derived, is_optional, data_types}
 use Rattle.conformance.specs.Populations.{Slot, Instance}
@@ -16,7 +16,6 @@ use Rattle.conforming_values.specs.Fits.{Typing}
 use Rattle.conforming_values.specs.Apart.{KeepsApart}
 use Rattle.conforming_values.specs.Conforming.{FitsAll, ValueFits, SlotFits, Conforms, typing_of, PopulationConforms}
 use Rattle.conforming_values.specs.Images.{IsLed, KeepsSlotApart, KeepsInstanceApart, IsImage}
-use Rattle.conforming_values.proofs.Declared.{from_map}
 use Rattle.conforming_values.proofs.Carrying.{unset_led, fits_carried}
 
 derived_led : (w : Value) → Agree (◌==◌) (leaf leaves.derived) w → w ≡ leaf leaves.derived
@@ -55,7 +54,7 @@ module _ (s : Schema) (d : Domain) (before after : Typing) (h : ℕ → ℕ)
       old_place : (p : Place) → Among p (map (λ (y : Slot). y.place) j.slots)
           → Among p (map (λ (x : Slot). x.place) i.slots)
       old_place p m =
-          let new = from_map (λ (y : Slot). y.place) j.slots p m in
+          let new = from-map (λ (y : Slot). y.place) j.slots p m in
           let old = e.values new.0 new.1 in
           subst (λ q. Among q (map (λ (x : Slot). x.place) i.slots)) (old.2 ∙ new.2)
           (among-map (λ (x : Slot). x.place) old.0 i.slots old.1)
@@ -63,7 +62,7 @@ module _ (s : Schema) (d : Domain) (before after : Typing) (h : ℕ → ℕ)
       new_place : (p : Place) → Among p (map (λ (x : Slot). x.place) i.slots)
           → Among p (map (λ (y : Slot). y.place) j.slots)
       new_place p m =
-          let old = from_map (λ (x : Slot). x.place) i.slots p m in
+          let old = from-map (λ (x : Slot). x.place) i.slots p m in
           subst (λ q. Among q (map (λ (y : Slot). y.place) j.slots)) old.2 (e.places old.0 old.1)
 
       instance_led : Conforms s d after en j

@@ -5,7 +5,7 @@ use Rattle.step_structures.specs.Trees.{Row, Section, File, rows_of}
 use Rattle.express_schemas.specs.Schemas.{Schema}
 use Rattle.express_schemas.specs.Profile.{Every}
 use Rattle.type_graphs.specs.Names.{Among}
-use Rattle.type_graphs.proofs.Lists.{among-left, among-right, among-either, among-map, every-at, every-of}
+use Rattle.type_graphs.proofs.Lists.{among-left, among-right, among-either, among-map, from-map, every-at, every-of}
 use Rattle.conformance.specs.declared.finding.FindingKind.TheVariants.{SchemaName}
 use Rattle.conformance.specs.declared.finding.Spot.TheVariants.{Nothing}
 use Rattle.conformance.specs.declared.finding.Finding.{Finding}
@@ -18,7 +18,6 @@ use Rattle.conforming_values.specs.SpeltRecords.{IsRowSpelt}
 use Rattle.conforming_values.specs.Images.{IsLed, IsImage}
 use Rattle.conforming_values.specs.Rewritten.{IsRewritten}
 use Rattle.conforming_values.specs.PopulationLaws.{AreOf}
-use Rattle.conforming_values.proofs.Declared.{from_map}
 use Rattle.conforming_values.proofs.Instances.{front_empty, rest_empty}
 use Rattle.conforming_values.proofs.Populations.{empty_each, every_other, population_conforms}
 use Rattle.conforming_values.proofs.Leading.{images_conform}
@@ -46,7 +45,7 @@ module _ (s : Schema) (d : Domain) (en : Entities) where
           → (l : ℕ) × (q : Row) × Among q (rows_of xs) × (instance_of s d en l q ≡ j))
           → (l : ℕ) × (q : Row) × Among q (x.rows ++ rows_of xs) × (instance_of s d en l q ≡ j)
       by (inl m) more =
-          let from = from_map (instance_of s d en k) x.rows j m in
+          let from = from-map (instance_of s d en k) x.rows j m in
           (k, from.0, among-left from.0 x.rows (rows_of xs) from.1, from.2)
       by (inr m) more = let rest = more m in (rest.0, rest.1, among-right rest.1 x.rows (rows_of xs) rest.2, rest.3)
 

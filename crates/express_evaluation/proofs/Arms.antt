@@ -21,9 +21,9 @@ use Rattle.express_logic.specs.Comparing.{member}
 use Rattle.express_meanings.specs.Operations.{bare, or_else, compared}
 use Rattle.express_meanings.specs.Expressions.{or_this, string_of, is_of_type}
 use Rattle.express_evaluation.specs.declared.context.Context.{Context}
-use Rattle.express_evaluation.specs.declared.variables.Variable.{Variable}
-use Rattle.express_evaluation.specs.Forms.{is_in, is_typeof}
-use Rattle.express_evaluation.proofs.Layers.{literal-seen, signed-seen, reference-seen, interval-seen, query-seen, nvl-seen, not-seen, conjunction-seen, disjunction-seen, comparison-seen}
+use Rattle.express_operations.specs.declared.variables.Variable.{Variable}
+use Rattle.express_operations.specs.Forms.{is_in, is_typeof}
+use Rattle.express_trees.proofs.Layers.{literal-seen, signed-seen, reference-seen, interval-seen, query-seen, nvl-seen, not-seen, conjunction-seen, disjunction-seen, comparison-seen}
 use Rattle.express_settings.specs.Settings.{or_nothing}
 use Rattle.express_evaluation.specs.Contexts.{MeantBy, setting_in, meaning_in, truth_in, within_in, related_in}
 

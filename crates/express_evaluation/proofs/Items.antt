@@ -14,9 +14,9 @@ use Rattle.express_logic.specs.Data.{element, indeterminate}
 use Rattle.express_meanings.specs.Expressions.{item_value}
 use Rattle.type_graphs.specs.Names.{Name}
 use Rattle.express_evaluation.specs.declared.context.Context.{Context}
-use Rattle.express_evaluation.specs.declared.variables.Variable.{Variable}
+use Rattle.express_operations.specs.declared.variables.Variable.{Variable}
 use Rattle.express_evaluation.specs.Contexts.{MeantBy, setting_in, selected_in, item_in}
-use Rattle.express_evaluation.proofs.Layers.{attribute-selected, group-selected, index-selected}
+use Rattle.express_trees.proofs.Layers.{attribute-selected, group-selected, index-selected}
 
 module _ (c : Context) (m : MeantBy c) (vs : List Variable) (n : Name) where
   pub item-plain : (qs : List Qualifier) → length qs ≡ 0

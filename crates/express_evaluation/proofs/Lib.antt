@@ -1,9 +1,6 @@
-pub mod Kept
 pub mod Ranked
-pub mod Scopes
 pub mod Walking
 pub mod Weighing
 pub mod Arms
-pub mod Layers
 pub mod Unnamed
 pub mod Items

@@ -12,7 +12,7 @@ use Rattle.express_logic.specs.Logic.{either}
 use Rattle.express_logic.specs.Data.{Datum}
 use Rattle.express_meanings.specs.Expressions.{of_junction}
 use Rattle.express_evaluation.specs.declared.context.Context.{Context}
-use Rattle.express_evaluation.specs.declared.variables.Variable.{Variable}
+use Rattle.express_operations.specs.declared.variables.Variable.{Variable}
 use Rattle.express_evaluation.specs.Contexts.{MeantBy, truth_in, or_all_in, selected_in}
 
 pub either_false : (p : Logical) → either False p ≡ p

@@ -13,9 +13,9 @@ use Rattle.express_meanings.specs.Operations.{says, queried, filtered, is_true, 
 use Rattle.express_meanings.specs.Expressions as expressions
 use Rattle.express_meanings.specs.Expressions.{means, selected, item_behind, with_value, attribute_of, named_value, and_all, or_all, is_in, among_each, bound}
 use Rattle.express_evaluation.specs.declared.context.Context.{Context}
-use Rattle.express_evaluation.specs.declared.variables.Variable.{Variable}
+use Rattle.express_operations.specs.declared.variables.Variable.{Variable}
 use Rattle.held_values.specs.Parts.{element_datum}
-use Rattle.express_evaluation.specs.Scopes.{variables_of}
+use Rattle.express_operations.specs.Scopes.{variables_of}
 use Rattle.express_settings.specs.Settings.{Meant, setting_by, below_rank, worth_of, derivation_in}
 use Rattle.attribute_sources.specs.declared.source.Derivation.{Derivation}
 use Rattle.express_settings.specs.declared.attributes.Found.{Found}

@@ -1,4 +1,2 @@
 pub mod Contexts
-pub mod Scopes
 pub mod Weights
-pub mod Forms

@@ -21,9 +21,9 @@ ghost use Rattle.express_logic.specs.Data.{Datum as Worth, logical};
 ghost use Rattle.express_logic.specs.Views.{datum_of, text_of};
 ghost use Rattle.express_meanings.specs.Operations.{bare, indexed, or_else};
 ghost use Rattle.express_meanings.specs.Expressions.{of_call, string_of};
-ghost use Rattle.express_evaluation.specs.Forms.{is_condition};
+ghost use Rattle.express_operations.specs.Forms.{is_condition};
 ghost use Rattle.held_values.specs.Parts.{holding, element_datum, picked, whole_elements};
-ghost use Rattle.express_evaluation.specs.Scopes.{variables_of};
+ghost use Rattle.express_operations.specs.Scopes.{variables_of};
 ghost use Rattle.schema_names.specs.Numbers.{HasNumber};
 ghost use Rattle.base_types.specs.Seen.{name_at};
 ghost use Rattle.express_settings.specs.Settings.{IsSetting, IsFound, schema_in, or_nothing};
@@ -50,20 +50,20 @@ ghost use Rattle.express_evaluation.specs.Contexts.{
 };
 
 use crate::context::Context;
-use crate::literals::{literal_datum, signed_datum, string_of};
-use crate::operations::{
-    called, compared, is_condition, is_in, is_of_type, is_true, is_typed, is_typeof, joined,
-    limited, truth,
-};
 use crate::qualifiers::{
     attribute_behind, attribute_of_self, group_behind, instance_of, item_value, self_instance,
 };
-use crate::variables::{Variable, find};
+use crate::types::is_of_type;
 use attribute_sources::source::Derivation;
 use express_logic::compare::{equal, member};
 use express_logic::datum::{Datum, Held};
 use express_logic::logical::{Logical, and, not, or};
 use express_logic::strings::AnyString;
+use express_operations::literals::{literal_datum, signed_datum, string_of};
+use express_operations::operations::{
+    called, compared, is_condition, is_in, is_true, is_typed, is_typeof, joined, limited, truth,
+};
+use express_operations::variables::{Variable, find};
 use express_settings::attributes::Found;
 use express_trees::tree::{Alternative, Expr, Function, Limit, Qualifier, Relation, Root};
 use held_values::element::Element;

@@ -3,7 +3,5 @@
 
 pub mod context;
 pub mod evaluate;
-pub mod literals;
-pub mod operations;
 pub mod qualifiers;
-pub mod variables;
+pub mod types;

@@ -5,7 +5,7 @@ use Rattle.express_trees.specs.declared.tree.Logical.{Logical}
 use Rattle.express_trees.specs.declared.tree.Logical.TheVariants.{False, Unknown, True}
 use Rattle.express_schemas.specs.Schemas.{Schema}
 use Rattle.type_graphs.specs.Names.{Among}
-use Rattle.type_graphs.proofs.Lists.{among-map}
+use Rattle.type_graphs.proofs.Lists.{among-map, from-map}
 use Rattle.conformance.specs.Bases.{Domain}
 use Rattle.conformance.specs.Entities.{Entities}
 use Rattle.conformance.specs.Populations.{Instance, instance_at}
@@ -109,12 +109,6 @@ least_same ps qs f g =
     let other : rank (least ps) ≤ rank (least qs) = no_more qs ps g in
     rank_tells (least ps) (least qs) (omega (arith, some, other))
 
-pub from_map : (f : Datum → Logical) (xs : List Datum) (p : Logical) → Among p (map f xs)
-    → (x : Datum) × Among x xs × (f x ≡ p)
-from_map f [] p m = elim m [ ]
-from_map f (x ∷ xs) p (inl e) = (x, inl refl, e)
-from_map f (x ∷ xs) p (inr m) = let rest = from_map f xs p m in (rest.0, inr rest.1, rest.2)
-
 module _ (s : Schema) (d : Domain) (en : Entities) (inverses : List InverseAttribute) (attributes : Attributes)
     (are : AreAttributes s inverses attributes)
     (is js : List Instance) (h : ℕ → ℕ) (keeps : IsKept inverses is js h) (y : ℕ) (x z : Instance)
@@ -143,7 +137,7 @@ module _ (s : Schema) (d : Domain) (en : Entities) (inverses : List InverseAttri
       forth : (p : Logical) → Among p (map before (selves s d en attributes x r.holder))
           → Among p (map after (selves s d en attributes z r.holder))
       forth p m =
-          let from = from_map before (selves s d en attributes x r.holder) p m in
+          let from = from-map before (selves s d en attributes x r.holder) p m in
           let to = same.forth from.0 from.1 in
           let one : after to.0 ≡ p =
           sym (alike_says (Leads is h) (meaning s d en attributes is from.0 r.condition)
@@ -155,7 +149,7 @@ module _ (s : Schema) (d : Domain) (en : Entities) (inverses : List InverseAttri
       back : (p : Logical) → Among p (map after (selves s d en attributes z r.holder))
           → Among p (map before (selves s d en attributes x r.holder))
       back p m =
-          let from = from_map after (selves s d en attributes z r.holder) p m in
+          let from = from-map after (selves s d en attributes z r.holder) p m in
           let to = same.back from.0 from.1 in
           let one : before to.0 ≡ p =
           alike_says (Leads is h) (meaning s d en attributes is to.0 r.condition)

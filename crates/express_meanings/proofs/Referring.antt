@@ -6,7 +6,7 @@ use Rattle.step_values.specs.Values as values
 use Rattle.step_values.specs.Values.{Value, leaf, reference, typed, sequence, bag, Values, none, more, Agree, AgreeEach}
 use Rattle.step_values.specs.References.{renamed, renamed_each}
 use Rattle.type_graphs.specs.Names.{OneOf, Among}
-use Rattle.type_graphs.proofs.Lists.{every-at, among-map, from-flat}
+use Rattle.type_graphs.proofs.Lists.{every-at, among-map, from-flat, from-map}
 use Rattle.conformance.specs.Fitting.{among}
 use Rattle.conformance.specs.Populations.{Instance, instance_at, slot_at, types_in}
 use Rattle.conforming_values.specs.Apart.{Occurs, OccursIn}
@@ -234,16 +234,11 @@ module _ (is js : List Instance) (h : ℕ → ℕ) (distinct : IsDistinct (◌==
 
         left : instance_at js w ≡ None → Among w (map h before) → ⊥
         left f m =
-            let from = from_map before m in
+            let from = from-map h before w m in
             let known = name_of from.0 from.1 in
             let a = to.led from.0 known.0 known.1 in
             let q : None ≡ Some a.0 = sym f ∙ (ap (instance_at js) (sym from.2) ∙ a.1) in
             absurd (cc)
-          where
-            from_map : (vs : List ℕ) → Among w (map h vs) → (v : ℕ) × Among v vs × (h v ≡ w)
-            from_map [] m = elim m [ ]
-            from_map (v ∷ vs) (inl e) = (v, inl refl, e)
-            from_map (v ∷ vs) (inr m) = let rest = from_map vs m in (rest.0, inr rest.1, rest.2)
 
         by : (q : Option Instance) → instance_at js w ≡ q → count w (map h before) ≡ count w after
         by (Some z) f = is_some z f

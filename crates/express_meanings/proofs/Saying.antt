@@ -4,7 +4,7 @@ use Rattle.std.proofs.Common.{refl, ap, sym, subst, ◌∙◌, inl, inr, arith}
 use Rattle.express_trees.specs.declared.tree.Logical.{Logical}
 use Rattle.express_trees.specs.declared.tree.Logical.TheVariants.{False, Unknown, True}
 use Rattle.type_graphs.specs.Names.{Among}
-use Rattle.type_graphs.proofs.Lists.{among-map}
+use Rattle.type_graphs.proofs.Lists.{among-map, from-map}
 use Rattle.conformance.specs.Populations.{Instance}
 use Rattle.express_logic.specs.Logic.{rank}
 use Rattle.express_logic.specs.Data.{Datum}
@@ -13,7 +13,7 @@ use Rattle.express_meanings.specs.Meanings.{meaning}
 use Rattle.express_meanings.specs.DomainRules.{DomainRule}
 use Rattle.express_meanings.specs.Findings.{least, is_false, selves, outcome, breaches_at}
 use Rattle.express_meanings.specs.Laws.{OutcomesAreLeast, NoFindingExactlyWhereNoRuleIsFalse}
-use Rattle.express_meanings.proofs.Outcomes.{rank_most, rank_tells, least_below, least_in, from_map, each_empty, all_empty, breaches}
+use Rattle.express_meanings.proofs.Outcomes.{rank_most, rank_tells, least_below, least_in, each_empty, all_empty, breaches}
 
 least_false : (ps : List Logical) → least ps ≡ False → Among False ps
 least_false ps e = by (least_in ps)
@@ -60,7 +60,7 @@ unknown_least ps never p m other = by (least ps) refl
 module _ (f : Datum → Logical) (xs : List Datum) where
   -- a value of which this is said
   from : (p : Logical) → Among p (map f xs) → (x : Datum) × Among x xs × (f x ≡ p)
-  from p m = from_map f xs p m
+  from p m = from-map f xs p m
 
   to : (x : Datum) (p : Logical) → Among x xs → f x ≡ p → Among p (map f xs)
   to x p m e = subst (λ q. Among q (map f xs)) e (among-map f x xs m)

@@ -10,3 +10,4 @@ pub mod Building
 pub mod Inversion
 pub mod Ranks
 pub mod Examples
+pub mod Layers

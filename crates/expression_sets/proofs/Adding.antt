@@ -26,7 +26,7 @@ use Rattle.data_types.specs.Values.{Holds, AddsAll, IsMeant}
 use Rattle.data_types.proofs.Sets.{adds-nothing, adds-atom, adds-alike, adds-both}
 use Rattle.schema_names.proofs.Rows.{take-more, map-joined}
 use Rattle.taken_attributes.specs.Taking.{IsSet}
-use Rattle.expression_sets.proofs.Layers.{literal-seen, signed-seen, reference-seen, interval-seen, query-seen, call-seen, nvl-seen, not-seen, conjunction-seen, disjunction-seen, comparison-seen}
+use Rattle.express_trees.proofs.Layers.{literal-seen, signed-seen, reference-seen, interval-seen, query-seen, call-seen, nvl-seen, not-seen, conjunction-seen, disjunction-seen, comparison-seen}
 
 -- what is found of a set is what is found of its parts
 pub record IsAdditive (F : Set → Set) : Type 1 where

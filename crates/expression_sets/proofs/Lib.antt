@@ -1,6 +1,5 @@
 pub mod Agreeing
 pub mod Adding
-pub mod Layers
 pub mod Finding
 pub mod Walking
 pub mod Choosing

@@ -11,7 +11,7 @@ use Rattle.express_trees.specs.Views.{capitals, tree_of}
 use Rattle.express_schemas.specs.Schemas.{Schema}
 use Rattle.type_graphs.specs.Sets.{Set}
 use Rattle.expression_sets.specs.declared.scope.Variable.{Variable as Numbered}
-use Rattle.expression_sets.proofs.Layers.{interval-seen, query-seen, comparison-seen}
+use Rattle.express_trees.proofs.Layers.{interval-seen, query-seen, comparison-seen}
 use Rattle.expression_surveys.specs.declared.survey.Survey.{Survey}
 use Rattle.expression_surveys.specs.Findings.{Within, Walks, Binds, at_tree}
 use Rattle.expression_surveys.specs.Questions.{is_in}

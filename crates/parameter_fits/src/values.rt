@@ -29,21 +29,21 @@ use step_values::row_builder::RowBuilder;
 pub fn push_value<'t: 'a, 'a>(
     builder: &mut RowBuilder<'_, 'a>,
     bases: &Bases<'_, '_, '_>,
-    base: Base,
+    base: &Base,
     index: &RowIndex,
     param: &Param<'t>,
 ) -> Result<(), AllocError>
     requires bases { AreBases bases.now }
-    requires numbered { IsNumbered (schema_at bases.now) base }
+    requires numbered { IsNumbered (schema_at bases.now) base.now }
     requires indexed { AreFound builder.old.names (found index.now) }
     requires within { RefersWithin (found index.now) param.now }
     ensures { MatchResult result
         (λ _. (d : Domain) → IsDomain (schema_at bases.now) d
         → Pushes builder.old builder.new
-        (value_as (schema_at bases.now) d (base_seen (schema_at bases.now) base) param.now))
+        (value_as (schema_at bases.now) d (base_seen (schema_at bases.now) base.now) param.now))
         (λ _. builder.new.names ≡ builder.old.names) }
 {
-    push_node(builder, bases, base, index, &param.node())
+    push_node(builder, bases, base, index, param.node())
 }
 
 /// Pushes the value of an outermost part, with what is inside it.
@@ -51,35 +51,35 @@ pub fn push_value<'t: 'a, 'a>(
 fn push_node<'t: 'a, 'a>(
     builder: &mut RowBuilder<'_, 'a>,
     bases: &Bases<'_, '_, '_>,
-    base: Base,
+    base: &Base,
     index: &RowIndex,
-    node: &Node<'t>,
+    node: Node<'t>,
 ) -> Result<(), AllocError>
     requires bases { AreBases bases.now }
-    requires numbered { IsNumbered (schema_at bases.now) base }
+    requires numbered { IsNumbered (schema_at bases.now) base.now }
     requires indexed { AreFound builder.old.names (found index.now) }
-    requires within { RefersWithin (found index.now) (node_value node.now) }
+    requires within { RefersWithin (found index.now) (node_value node) }
     ensures { MatchResult result
         (λ _. (d : Domain) → IsDomain (schema_at bases.now) d
         → Pushes builder.old builder.new
-        (value_as (schema_at bases.now) d (base_seen (schema_at bases.now) base)
-        (node_value node.now)))
+        (value_as (schema_at bases.now) d (base_seen (schema_at bases.now) base.now)
+        (node_value node.entry)))
         (λ _. builder.new.names ≡ builder.old.names) }
 {
     match node {
         Node::Unset | Node::Keyword(_) => builder.push_unset(),
         Node::Star => builder.push_derived(),
-        Node::Number(number) => builder.push_number(*number),
-        Node::Text(text) => builder.push_text(*text),
-        Node::Bits(bits) => builder.push_bits(*bits),
-        Node::Element(word) => builder.push_element(*word),
-        Node::Reference(name, _) => push_reference(builder, index, *name),
+        Node::Number(number) => builder.push_number(number),
+        Node::Text(text) => builder.push_text(text),
+        Node::Bits(bits) => builder.push_bits(bits),
+        Node::Element(word) => builder.push_element(word),
+        Node::Reference(name, _) => push_reference(builder, index, name),
         Node::Typed(word, inner) => {
-            let within = item(bases, base, *word).unwrap_or(base);
-            push_value(builder, bases, within, index, inner)?;
-            builder.close_typed(*word)
+            let within = item(bases, *base, word).unwrap_or(*base);
+            push_value(builder, bases, &within, index, &inner)?;
+            builder.close_typed(word)
         }
-        Node::List(params) => push_list(builder, bases, base, index, params),
+        Node::List(params) => push_list(builder, bases, base, index, &params),
     }
 }
 
@@ -105,27 +105,29 @@ pub fn push_reference(
 
 /// Pushes the value of a list.
 #[cycle(values)]
+#[inline(never)]
 fn push_list<'t: 'a, 'a>(
     builder: &mut RowBuilder<'_, 'a>,
     bases: &Bases<'_, '_, '_>,
-    base: Base,
+    base: &Base,
     index: &RowIndex,
     params: &Params<'t>,
 ) -> Result<(), AllocError>
     requires bases { AreBases bases.now }
-    requires numbered { IsNumbered (schema_at bases.now) base }
+    requires numbered { IsNumbered (schema_at bases.now) base.now }
     requires indexed { AreFound builder.old.names (found index.now) }
     requires within { ReferWithin (found index.now) (all_of params.now) }
     ensures { MatchResult result
         (λ _. (d : Domain) → IsDomain (schema_at bases.now) d
         → Pushes builder.old builder.new
-        (value_as (schema_at bases.now) d (base_seen (schema_at bases.now) base)
+        (value_as (schema_at bases.now) d (base_seen (schema_at bases.now) base.now)
         (group (all_of params.now))))
         (λ _. builder.new.names ≡ builder.old.names) }
 {
     let mark = builder.pending_len();
-    push_each(builder, bases, element(bases, base), index, params)?;
-    if has_no_order(base) {
+    let inside = element(bases, *base);
+    push_each(builder, bases, &inside, index, params)?;
+    if has_no_order(*base) {
         builder.close_bag(mark)
     } else {
         builder.close_sequence(mark)
@@ -137,18 +139,18 @@ fn push_list<'t: 'a, 'a>(
 fn push_each<'t: 'a, 'a>(
     builder: &mut RowBuilder<'_, 'a>,
     bases: &Bases<'_, '_, '_>,
-    base: Base,
+    base: &Base,
     index: &RowIndex,
     params: &Params<'t>,
 ) -> Result<(), AllocError>
     requires bases { AreBases bases.now }
-    requires numbered { IsNumbered (schema_at bases.now) base }
+    requires numbered { IsNumbered (schema_at bases.now) base.now }
     requires indexed { AreFound builder.old.names (found index.now) }
     requires within { ReferWithin (found index.now) (all_of params.now) }
     ensures { MatchResult result
         (λ _. (d : Domain) → IsDomain (schema_at bases.now) d
         → PushesEach builder.old builder.new
-        (values_as (schema_at bases.now) d (base_seen (schema_at bases.now) base)
+        (values_as (schema_at bases.now) d (base_seen (schema_at bases.now) base.now)
         (all_of params.now)))
         (λ _. builder.new.names ≡ builder.old.names) }
 {

@@ -1,6 +1,6 @@
 -- The inverse attributes whose bounds an instance breaks are among those that it has, by number.
 use Rattle.std.specs.Prelude.{◌≡◌, ℕ, zero, suc, ◌+◌, ◌&&◌, not, Bool, true, false, cond, List, [], ◌∷◌, ◌++◌, map, filter, flat_map, length, Option, None, Some, slice_get}
-use Rattle.std.proofs.Common.{refl, sym, ap, ◌∙◌, ◌<◌, drop, get_or, add-one, arith}
+use Rattle.std.proofs.Common.{refl, sym, ap, ◌∙◌, ◌<◌, arith}
 use Rattle.std.proofs.lemmas.List.Concat.{flat_map-cons}
 use Rattle.digraph.specs.Graphs.{has}
 use Rattle.express_schemas.specs.Schemas.{Schema}

@@ -55,21 +55,32 @@ fn finding<'s>(
     }
 }
 
-/// Whether the inverse attribute of this number may hold as many as it does of an instance.
-fn keeps(extents: &Extents<'_, '_, '_, '_, '_>, name: u64, attribute: usize) -> bool
+/// Whether the inverse attribute of this number may hold as many as it does of an instance. By
+/// attribute there is what `inverse_near` begins with.
+fn keeps(
+    extents: &Extents<'_, '_, '_, '_, '_>,
+    near: &mut [usize],
+    name: u64,
+    attribute: usize,
+) -> bool
     requires { attribute < length extents.now.rules.now.inverses.items }
     ensures { (i : Attribute)
         → slice_get extents.now.rules.now.inverses.items attribute ≡ Some i
         → result ≡ keeps (schema_of extents.now.population.now.types.now.names.schema.now)
         (population_seen extents.now.population.now) name i }
 {
-    let count = extents.inverse_by_number(name, attribute).len();
-    may_hold(extents.rules.inverses[attribute].gathering, count)
+    let begin = near.get(attribute).copied().unwrap_or(0);
+    let (value, next) = extents.inverse_near(name, attribute, begin);
+    if let Some(place) = near.get_mut(attribute) {
+        *place = next;
+    }
+    may_hold(extents.rules.inverses[attribute].gathering, value.len())
 }
 
 /// Adds what is found of an instance by the inverse attributes of these numbers.
 fn add_broken<'s>(
     extents: &Extents<'_, '_, '_, 's, '_>,
+    near: &mut [usize],
     findings: &mut Vec<RuleFinding<'s>>,
     name: u64,
     numbers: &[usize],
@@ -83,7 +94,7 @@ fn add_broken<'s>(
         numbers.now) findings.old.items findings.new.items) }
 {
     for number in numbers {
-        if !keeps(extents, name, *number) {
+        if !keeps(extents, near, name, *number) {
             findings.push(finding(extents, name, *number))?;
         }
     }
@@ -107,11 +118,12 @@ pub fn check_inverse<'s>(
         (population_seen extents.now.population.now)) t.items) }
 {
     let rows = numbers_by_form(alloc, &extents.rules.inverses, extents.population.forms())?;
+    let mut near = vec![in alloc; 0; extents.rules.inverses.len()]?;
     let mut findings = Vec::new(alloc);
     for row in 0..extents.population.len() {
         let instance = extents.population.instance(row);
         let numbers = row_at(&rows, instance.form);
-        add_broken(extents, &mut findings, instance.name, numbers)?;
+        add_broken(extents, &mut near, &mut findings, instance.name, numbers)?;
     }
     Ok(findings)
 }

@@ -16,7 +16,7 @@ use Rattle.step_population.specs.PlainRows.{IsRowOf}
 use Rattle.express_schemas.specs.Schemas.{Schema, entity, Entity}
 use Rattle.type_graphs.specs.Names.{Name, Among, explicit_names, IsEntityAt, DeclaresExplicit}
 use Rattle.type_graphs.specs.Attributes.{Place, same_place}
-use Rattle.type_graphs.proofs.Lists.{among-map}
+use Rattle.type_graphs.proofs.Lists.{among-map, from-map}
 use Rattle.type_graphs.proofs.Geo as geos
 use Rattle.type_graphs.proofs.Geo.{geo, POINT, PLACEMENT, COORDS, LOCATION, AXIS}
 use Rattle.conformance.specs.Populations.{Instance}
@@ -24,7 +24,6 @@ use Rattle.population_rules.proofs.Samples.{instance, slot}
 use Rattle.express_meanings.specs.Images.{IsLedTo}
 use Rattle.population_images.specs.Layout.{IsLaidOut}
 use Rattle.population_images.specs.Images.{MapsRows}
-use Rattle.population_images.proofs.Listing.{from_map}
 use Rattle.population_images.proofs.Led.{images_of_rows_are_led}
 
 abbrev a_point : ℕ → Instance
@@ -57,7 +56,7 @@ attributes_of s n x at ps is e a = (forth, back)
   where
     forth : Among (e, a) ps → Among e (n ∷ []) × DeclaresExplicit s e a
     forth m =
-        let from = from_map (λ (b : Name). (n, b)) (explicit_names x) (e, a) (subst (Among (e, a)) is m) in (
+        let from = from-map (λ (b : Name). (n, b)) (explicit_names x) (e, a) (subst (Among (e, a)) is m) in (
           inl (ap (λ (p : Place). p.0) from.2),
           subst (λ (p : Place). DeclaresExplicit s p.0 p.1) from.2 (x, at, from.1),
         )

@@ -10,7 +10,7 @@ use Rattle.step_population.specs.PlainRows.{values_at, IsRowOf}
 use Rattle.express_schemas.specs.Schemas.{Schema}
 use Rattle.express_schemas.specs.Profile.{Every}
 use Rattle.type_graphs.specs.Names.{Among}
-use Rattle.type_graphs.proofs.Lists.{among-map, every-at, every-of}
+use Rattle.type_graphs.proofs.Lists.{among-map, from-map, every-at, every-of}
 use Rattle.conformance.specs.Entities.{own_places_of}
 use Rattle.conformance.specs.Fitting.{entity_names, among}
 use Rattle.conformance.specs.Populations.{Slot, Instance, instance_at, slot_at}
@@ -22,7 +22,7 @@ use Rattle.express_meanings.proofs.Led.{at_name, place_at}
 use Rattle.population_images.specs.Layout.{IsLaidOut}
 use Rattle.population_images.specs.Images.{MapsRows}
 use Rattle.population_images.specs.Laws.{ImagesOfRowsAreLed}
-use Rattle.population_images.proofs.Listing.{from_map, filter_same}
+use Rattle.population_images.proofs.Listing.{filter_same}
 use Rattle.population_images.proofs.Placed.{references_at, agree_at, places, place_in}
 use Rattle.population_images.proofs.Rowed.{at_own_name, row_of, instance_of, distinct, among_names, names_row}
 
@@ -59,7 +59,7 @@ module _ (s : Schema) where
         let known = (laid_z.attributes w.place.0 w.place.1).0 (among-map (λ (y : Slot). y.place) w z.slots m) in
         let there = (laid_x.attributes w.place.0 w.place.1).1
         (subst (Among w.place.0) (sym same_types) known.0, known.1) in
-        let v = from_map (λ (y : Slot). y.place) x.slots w.place there in (
+        let v = from-map (λ (y : Slot). y.place) x.slots w.place there in (
           v.0,
           v.1,
           v.2,

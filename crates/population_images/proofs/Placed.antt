@@ -9,13 +9,12 @@ use Rattle.express_schemas.specs.Schemas.{Schema}
 use Rattle.type_graphs.specs.Names.{Name, Among, explicit_names, DeclaresExplicit}
 use Rattle.type_graphs.specs.Attributes.{Place, own_places}
 use Rattle.type_graphs.proofs.Lists.{among-map, among-flat}
-use Rattle.type_graphs.proofs.Recursion.{to-any}
+use Rattle.type_graphs.proofs.Recursion.{to-any, from-any}
 use Rattle.type_graphs.proofs.Supertypes.{entity-name}
 use Rattle.conformance.specs.Entities.{own_in, own_places_of}
 use Rattle.conformance.specs.Populations.{Slot, Instance, slot_at}
 use Rattle.express_meanings.proofs.Led.{at_place}
 use Rattle.population_images.specs.Layout.{IsLaidOut}
-use Rattle.population_images.proofs.Listing.{from_any}
 
 -- what holds of the references of a row holds of those at a place
 pub references_at : (R : ℕ → Type 0) (xs : List Slot) (ps : List Place) → EachReferenceOf R (values_at xs ps)
@@ -66,5 +65,5 @@ module _ (s : Schema) where
   place_in x laid p row y m =
       let known = (laid.attributes y.place.0 y.place.1).0 (among-map (λ (z : Slot). z.place) y x.slots m) in
       among-flat (own_places_of s) y.place.0 y.place p.types
-      (from_any y.place.0 p.types (row.types.same y.place.0 ∙ to-any y.place.0 x.types known.0))
+      (from-any y.place.0 p.types (row.types.same y.place.0 ∙ to-any y.place.0 x.types known.0))
       (own_place y.place.0 y.place.1 known.1)

@@ -9,7 +9,7 @@ use Rattle.express_schemas.specs.Schemas.{Schema, Entity, own, Inverse}
 use Rattle.type_graphs.specs.Names.{Name, OneOf, Among, listed, entities}
 use Rattle.type_graphs.specs.Faults.{IsResolved}
 use Rattle.type_graphs.specs.Attributes.{Place}
-use Rattle.type_graphs.proofs.Lists.{from-flat}
+use Rattle.type_graphs.proofs.Lists.{from-map, from-flat}
 use Rattle.type_graphs.proofs.Nearest.{inverted-are-one}
 use Rattle.conformance.specs.Bases.{Domain}
 use Rattle.conformance.specs.Fitting.{among}
@@ -173,11 +173,6 @@ kept {A} f x (y ∷ ys) m = by (f y) (kept f x ys) m
     by true rest = either (λ e. e) rest
     by false rest = λ n. inr (rest n)
 
-from_map : {A B : Type 0} (f : A → B) (xs : List A) (y : B) → Among y (map f xs) → (x : A) × Among x xs × (f x ≡ y)
-from_map f [] y h = elim h [ ]
-from_map f (x ∷ xs) y (inl e) = (x, inl refl, e)
-from_map f (x ∷ xs) y (inr m) = let rest = from_map f xs y m in (rest.0, inr rest.1, rest.2)
-
 module _ (s : Schema) (d : Domain) (resolved : IsResolved s) where
   abbrev own_of : Entity → List (Name × Inverse)
   own_of e = map (λ (i : Inverse). (e.name, i)) (filter (λ (i : Inverse). is_own i.attribute) (listed e.inverses))
@@ -186,7 +181,7 @@ module _ (s : Schema) (d : Domain) (resolved : IsResolved s) where
       → IsInverseAttribute s d x i → IsInverseAttribute s d x j → i ≡ j
   one_inverse x m i j h k =
       let by = from-flat own_of x (entities s) m in
-      let at = from_map (λ (y : Inverse). (by.0.name, y)) (filter (λ (y : Inverse). is_own y.attribute)
+      let at = from-map (λ (y : Inverse). (by.0.name, y)) (filter (λ (y : Inverse). is_own y.attribute)
       (listed by.0.inverses)) x by.2 in
       let same : at.0 ≡ x.1 = ap (λ (y : Name × Inverse). y.1) at.2 in
       let stands : Among x.1 (listed by.0.inverses) =

@@ -19,7 +19,7 @@ use Rattle.derivation_formulas.specs.Formulas.{formula_seen}
 use Rattle.express_settings.specs.declared.setting.Setting.{Setting}
 use Rattle.express_settings.specs.Settings.{IsSetting, Meant, schema_in, population_in, setting_by, below_rank}
 use Rattle.express_evaluation.proofs.Ranked.{below-none, below-rank}
-use Rattle.rule_outcomes.specs.Limits.{above_rank, IsLimit}
+use Rattle.rule_plans.specs.Limits.{above_rank, IsLimit}
 
 abbrev rank_of : Option attributes.Formula → ℕ
 rank_of None = 0

@@ -1,6 +1,6 @@
 -- What is told of the rules of a form's numbers is what is told of all.
-use Rattle.std.specs.Prelude.{◌≡◌, ℕ, zero, suc, ◌+◌, ◌<◌, Bool, true, false, cond, List, [], ◌∷◌, ◌++◌, map, filter, flat_map, length, Option, None, Some, slice_get}
-use Rattle.std.proofs.Common.{refl, sym, ap, subst, ◌∙◌, drop, get_or, add-one, arith}
+use Rattle.std.specs.Prelude.{◌≡◌, ℕ, zero, suc, ◌+◌, Bool, true, false, cond, List, [], ◌∷◌, ◌++◌, map, filter, flat_map, Option, None, Some, slice_get}
+use Rattle.std.proofs.Common.{refl, sym, ap, subst, ◌∙◌, arith}
 use Rattle.std.proofs.lemmas.List.Concat.{flat_map-cons}
 use Rattle.express_trees.specs.declared.tree.Logical.TheVariants.{True}
 use Rattle.express_schemas.specs.Schemas.{Schema}
@@ -13,7 +13,6 @@ use Rattle.instance_forms.proofs.Naming.{among-is}
 use Rattle.population_rules.specs.Findings.{Breach}
 use Rattle.step_population.specs.Seen.{instance_seen}
 use Rattle.step_population.specs.Whole.{form_among, AreNumbered}
-use Rattle.step_population.proofs.Turns.{drop-got}
 use Rattle.step_extent.specs.Inverses.{row_by}
 use Rattle.express_logic.specs.Data.{Datum, instance}
 use Rattle.express_meanings.specs.DomainRules as meanings
@@ -25,38 +24,9 @@ use Rattle.domain_rules.specs.declared.rule.DomainRule.{DomainRule}
 use Rattle.domain_rules.specs.Seen.{holder_seen, rule_seen, IsNumbered, IsNumberedHolder}
 use Rattle.express_settings.specs.declared.setting.Setting.{Setting}
 use Rattle.express_settings.specs.Settings.{Meant, schema_in, population_in}
-use Rattle.rule_outcomes.specs.Applying.{may_hold, may_apply, numbers_by}
+use Rattle.rule_plans.specs.Applying.{may_hold, may_apply, numbers_by}
 use Rattle.rule_outcomes.specs.Outcomes.{said_of, outcome_in}
 use Rattle.rule_outcomes.specs.Counting.{holder_number, broken_by, open_by, broken_of, open_of, of_one, of_number, broken_at, open_at}
-
--- the numbers are within the list
-pub numbers-within : (rules : List DomainRule) (n m : ℕ) (x : Form) → n + length rules ≡ m
-    → Every (λ k. k < m) (numbers_by rules n x)
-numbers-within [] n m x e = tt
-numbers-within (r ∷ rules) n m x e =
-    by (may_apply x r) (numbers-within rules (suc n) m x (omega (arith, e)))
-  where
-    by : (b : Bool) → Every (λ k. k < m) (numbers_by rules (suc n) x)
-        → Every (λ k. k < m) (cond b (n ∷ numbers_by rules (suc n) x) (numbers_by rules (suc n) x))
-    by true h = (omega (arith, e), h)
-    by false h = h
-
-pub row-within : (rules : List DomainRule) (forms : List Form) (n : Option ℕ)
-    → Every (λ k. k < length rules) (row_by (map (numbers_by rules 0) forms) n)
-row-within rules forms None = tt
-row-within rules [] (Some n) = tt
-row-within rules (x ∷ forms) (Some zero) = numbers-within rules 0 (length rules) x (omega arith)
-row-within rules (x ∷ forms) (Some (suc n)) = row-within rules forms (Some n)
-
--- one number more
-pub next-number : (rules : List DomainRule) (n : ℕ) (r : DomainRule) (x : Form) → n < length rules
-    → r ≡ get_or rules n r
-    → numbers_by (drop n rules) n x
-    ≡ cond (may_apply x r) (n ∷ numbers_by (drop (n + 1) rules) (n + 1) x) (numbers_by (drop (n + 1) rules) (n + 1) x)
-next-number rules n r x lt at =
-    ap (λ l. numbers_by l n x) (drop-got rules n r lt at)
-    ∙ ap (λ m. cond (may_apply x r) (n ∷ numbers_by (drop (n + 1) rules) m x) (numbers_by (drop (n + 1) rules) m x))
-    (sym (add-one n))
 
 module _ {A : Type 0} (s : Schema) (f : DomainRule → List A) where
   -- nothing is told of a rule that can't apply

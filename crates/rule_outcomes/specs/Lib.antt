@@ -1,6 +1,2 @@
-pub mod Limits
 pub mod Outcomes
-pub mod Applying
 pub mod Counting
-pub mod Wanted
-pub mod Planning

@@ -8,8 +8,8 @@ ghost use Rattle.rule_findings.specs.declared.finding.RuleFindingKind.TheVariant
 ghost use Rattle.domain_rules.specs.Seen.{rule_seen, IsNumbered};
 ghost use Rattle.express_meanings.specs.Findings.{rule_findings, unknown};
 ghost use Rattle.express_settings.specs.Settings.{IsSetting, Meant, schema_in, population_in};
-ghost use Rattle.rule_outcomes.specs.Limits.{IsLimit};
-ghost use Rattle.rule_outcomes.specs.Planning.{IsPlan, TellAll};
+ghost use Rattle.rule_plans.specs.Limits.{IsLimit};
+ghost use Rattle.rule_plans.specs.Planning.{IsPlan, TellAll};
 ghost use Rattle.rule_outcomes.specs.Counting.{
   capped,
   Counts,
@@ -22,15 +22,15 @@ ghost use Rattle.rule_outcomes.specs.Counting.{
   Has,
 };
 
-use crate::limit::rank_limit;
 use crate::outcome::{Asked, outcome};
-use crate::plan::{Plan, plan_of, types_at};
 use crate::report::{RuleReport, empty_report};
-use crate::wanted::table_at;
 use domain_rules::rule::{DomainRule, RuleHolder};
 use express_logic::logical::Logical;
 use express_settings::setting::Setting;
 use rule_findings::finding::{RuleFinding, RuleFindingKind};
+use rule_plans::limit::rank_limit;
+use rule_plans::plan::{Plan, plan_of, types_at};
+use rule_plans::wanted::table_at;
 use std::alloc::{AllocError, Global};
 use step_extent::inverses::row_at;
 

@@ -1,10 +1,6 @@
 //! What domain rules say at the instances of a population (ISO 10303-11, 9.1 and 9.2.2.2).
 #![tactic(auto)]
 
-mod applying;
 pub mod check;
-mod limit;
 mod outcome;
-mod plan;
 pub mod report;
-mod wanted;

@@ -9,19 +9,19 @@ ghost use Rattle.base_types.specs.Seen.{name_at};
 ghost use Rattle.domain_rules.specs.Seen.{IsNumbered};
 ghost use Rattle.domain_rules.specs.declared.rule.RuleHolder.TheVariants as holders;
 ghost use Rattle.express_settings.specs.Settings.{IsSetting, Meant, schema_in, population_in};
-ghost use Rattle.rule_outcomes.specs.Limits.{IsLimit};
+ghost use Rattle.rule_plans.specs.Limits.{IsLimit};
 ghost use Rattle.rule_outcomes.specs.Outcomes.{said_of, said_by, outcome_in};
-ghost use Rattle.rule_outcomes.specs.Wanted.{IsTableFor, IsTableOf};
-ghost use Rattle.rule_outcomes.specs.Planning.{Tell};
+ghost use Rattle.rule_plans.specs.Wanted.{IsTableFor, IsTableOf};
+ghost use Rattle.rule_plans.specs.Planning.{Tell};
 
-use crate::wanted::has_one_of;
 use domain_rules::rule::{DomainRule, RuleHolder};
 use express_evaluation::context::Context;
 use express_evaluation::evaluate::evaluate_truth;
-use express_evaluation::variables::Variable;
 use express_logic::logical::{Logical, and};
+use express_operations::variables::Variable;
 use express_settings::setting::Setting;
 use held_values::element::Element;
+use rule_plans::wanted::has_one_of;
 use self_values::values::{is_of_entity, self_values};
 use std::alloc::{AllocError, Global};
 

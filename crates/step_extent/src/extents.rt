@@ -114,15 +114,27 @@ impl<'e, 'r, 't, 's, 'a> Extents<'e, 'r, 't, 's, 'a> {
             (slice_get self.now.rules.now.inverses.items attribute)
             (population_seen self.now.population.now) name }
     {
+        let (value, _) = self.inverse_near(name, attribute, 0);
+        value
+    }
+
+    /// .. and what to begin with for the next instance, as `near` here: for instances in the order
+    /// of their names nothing is searched then. What is found doesn't depend on it.
+    pub fn inverse_near(&self, name: u64, attribute: usize, near: usize) -> (&[u64], usize)
+        ensures { result.0.now
+            ≡ inverse_value_by (schema_of self.now.population.now.types.now.names.schema.now)
+            (slice_get self.now.rules.now.inverses.items attribute)
+            (population_seen self.now.population.now) name }
+    {
         let Some(inverse) = self.rules.inverses.get(attribute) else {
-            return &[];
+            return (&[], near);
         };
         if !self.population.types_of(name).contains(&inverse.entity) {
-            return &[];
+            return (&[], near);
         }
         match self.referrers.get(attribute) {
-            Some(referrers) => referrers.find(name),
-            None => &[],
+            Some(referrers) => referrers.find_near(name, near),
+            None => (&[], near),
         }
     }
 }

@@ -73,7 +73,7 @@ fn push_slot<'p: 'v, 'v>(
     }
     let number = slot.data_types[0];
     let base = maker.bases.of_number(number);
-    push_value(builder, &maker.bases, base, maker.index, param)
+    push_value(builder, &maker.bases, &base, maker.index, param)
 }
 
 /// Pushes the values of attributes in turn, by the parameters of a record.

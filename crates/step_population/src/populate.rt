@@ -26,8 +26,8 @@ pub enum Verdict<'r, 't, 's, 'a> {
     Faulty(Vec<Finding>),
 }
 
-/// `populate`, by the tables of the schema.
-fn populate_by<'r, 't, 's, 'a>(
+/// What `populate` answers, by the tables of the schema, where these are made already.
+pub fn populate_by<'r, 't, 's, 'a>(
     alloc: Global,
     keys: RandomState,
     types: &'r ResolvedTypes<'t, 's>,

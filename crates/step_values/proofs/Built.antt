@@ -12,7 +12,7 @@ use Rattle.step_literals.specs.declared.literal.Word.{Word}
 use Rattle.step_values.specs.declared.cell.Cell.{Cell}
 use Rattle.step_values.specs.declared.cell.Cell.TheVariants as cells
 use Rattle.step_values.specs.Building.{AreWithin, built, Builds, Building, Holds, rows_by}
-use Rattle.step_values.specs.Cells.{flat_value, reach_of, value_at, value_by, value_nodes, values_of_run}
+use Rattle.step_values.specs.Cells.{flat_value, inner_of, reach_of, value_at, value_by, value_nodes, values_of_run}
 use Rattle.step_values.specs.NodeCounts.{nodes_of, nodes_in}
 use Rattle.step_values.specs.Targets.{target_of, targets_of, LeadTo}
 use Rattle.step_values.specs.Leaves.{unset}
@@ -63,10 +63,10 @@ head_same v w e = cc
 
 -- a cell with nothing inside says the same over any column, and is one node
 pub flat_says : (f : ℕ → Value) (c : Cell) → reach_of c ≡ 0 → value_by f c ≡ flat_value c
-flat_says f c e = asks_inside f _ c (λ k l. absurd (omega (arith, e, l)))
+flat_says f c e = asks_inside f (λ _. leaf unset) c (λ k l. absurd (omega (arith, e, l)))
 
 flat_nodes : (c : Cell) → reach_of c ≡ 0 → nodes_of (flat_value c) ≡ 1
-flat_nodes (cells.Typed w k) e = absurd (omega (arith, e))
+flat_nodes (cells.Typed high low w) e = absurd (omega (arith, e))
 flat_nodes (cells.Sequence r) e = let none : r.count ≡ 0 = omega (arith, e) in
     ap (λ n. suc (nodes_in (all_of (run (λ _. leaf unset) r.first n)))) none
 flat_nodes (cells.Bag r) e = let none : r.count ≡ 0 = omega (arith, e) in
@@ -214,21 +214,26 @@ module _ (names : List ℕ) where
 
   -- the last value becomes a typed one
   module _ (old : Cells Cell) (runs : List Run) (mark : ℕ) (r : Run) (new : Cells Cell)
-      (h : IsClosed old runs mark r new) (w : Word) (one : r.count ≡ 1) where
-    low_typed : suc r.first ≤ length new.column
-    low_typed = let end = h.end in omega (arith, end, one)
+      (h : IsClosed old runs mark r new) (w : Word) (high low : ℕ) (inner : inner_of high low ≡ r.first)
+      (one : r.count ≡ 1) where
+    low_typed : suc (inner_of high low) ≤ length new.column
+    low_typed = let end = h.end in omega (arith, end, one, inner)
+
+    says_inner : typed (word_of w) (value_at new.column (inner_of high low))
+        ≡ typed (word_of w) (value_at new.column r.first)
+    says_inner = ap (λ k. typed (word_of w) (value_at new.column k)) inner
 
     last_said : value_at new.column r.first ∷ [] ≡ drop mark (said_by value_nodes old.column old.pending)
     last_said = ap (run (value_at new.column) r.first) (sym one) ∙ h.moved
 
-    pub typed_pushed : Builds names new.column runs (new.pending ++ cells.Typed w r.first ∷ [])
-    typed_pushed = parent_pushed old runs mark r new h (cells.Typed w r.first)
-        (typed (word_of w) (value_at new.column r.first)) low_typed refl refl
+    pub typed_pushed : Builds names new.column runs (new.pending ++ cells.Typed high low w ∷ [])
+    typed_pushed = parent_pushed old runs mark r new h (cells.Typed high low w)
+        (typed (word_of w) (value_at new.column r.first)) low_typed refl says_inner
         (nodes_one _ _ last_said)
 
     pub typed_built : (front : List Value) (v : Value)
         → said_by value_nodes old.column old.pending ≡ front ++ v ∷ [] → mark ≡ length front
-        → built names new.column runs (new.pending ++ cells.Typed w r.first ∷ []) ≡ record {
+        → built names new.column runs (new.pending ++ cells.Typed high low w ∷ []) ≡ record {
           names = names;
           rows = rows_by old.column runs;
           pending = front ++ typed (word_of w) v ∷ [];
@@ -239,8 +244,8 @@ module _ (names : List ℕ) where
         let before : take mark said ≡ front = ap (take mark) e ∙ take_at front (v ∷ []) mark (sym m) in
         let is : value_at new.column r.first ≡ v =
         head_same (value_at new.column r.first) v (last_said ∙ last) in
-        parent_built old runs mark r new h (cells.Typed w r.first) (typed (word_of w) v) low_typed refl
-        (ap (typed (word_of w)) is) (nodes_one v _ (sym last))
+        parent_built old runs mark r new h (cells.Typed high low w) (typed (word_of w) v) low_typed refl
+        (says_inner ∙ ap (typed (word_of w)) is) (nodes_one v _ (sym last))
         ∙ (λ i. record
         { names = names; rows = rows_by old.column runs; pending = before i ++ typed (word_of w) v ∷ [] })
 

@@ -5,7 +5,7 @@ use Rattle.columns.specs.declared.column.Run.{Run}
 use Rattle.step_values.specs.declared.cell.Cell.{Cell}
 use Rattle.step_values.specs.declared.cell.Cell.TheVariants as cells
 use Rattle.step_values.specs.Building.{rows_by}
-use Rattle.step_values.specs.Cells.{value_nodes, value_at, value_by}
+use Rattle.step_values.specs.Cells.{inner_of, value_nodes, value_at, value_by}
 use Rattle.step_values.specs.References.{EachReference, EachReferenceOf}
 use Rattle.step_values.specs.Targets.{target_of, targets_of, LeadTo, ReferTo}
 use Rattle.step_values.specs.Values.{Value}
@@ -30,7 +30,7 @@ module _ (names : List ℕ) where
   cell_refers f each (cells.Bits b) leads = tt
   cell_refers f each (cells.Element w) leads = tt
   cell_refers f each (cells.Reference y row) leads = (row, leads.0)
-  cell_refers f each (cells.Typed w k) leads = each k
+  cell_refers f each (cells.Typed high low w) leads = each (inner_of high low)
   cell_refers f each (cells.Sequence r) leads = run_refers f each r.first r.count
   cell_refers f each (cells.Bag r) leads = run_refers f each r.first r.count
 

@@ -1,5 +1,5 @@
 -- What a cell of a column says of a value.
-use Rattle.std.specs.Prelude.{ℕ, suc, ◌+◌, List}
+use Rattle.std.specs.Prelude.{ℕ, suc, ◌+◌, ◌*◌, ◌^◌, List}
 use Rattle.columns.specs.Nodes.{Nodes, run, said_at}
 use Rattle.columns.specs.declared.column.Run.{Run}
 use Rattle.step_values.specs.declared.cell.Cell.{Cell}
@@ -8,9 +8,13 @@ use Rattle.step_values.specs.Leaves.{unset, derived, element}
 use Rattle.step_values.specs.Values.{Value, leaf, reference, typed, sequence, bag, Values}
 use Rattle.step_values.specs.Views.{all_of, word_of, number_leaf, text_leaf, bits_leaf}
 
+-- the place of the value inside a typed one, of its high and its low part
+abbrev pub inner_of : ℕ → ℕ → ℕ
+inner_of high low = high * 2 ^ 32 + low
+
 -- what stands right inside a cell stands before this place
 abbrev pub reach_of : Cell → ℕ
-reach_of (cells.Typed w k) = suc k
+reach_of (cells.Typed high low w) = suc (inner_of high low)
 reach_of (cells.Sequence r) = r.first + r.count
 reach_of (cells.Bag r) = r.first + r.count
 reach_of _ = 0
@@ -28,7 +32,7 @@ value_by f (cells.Text t) = leaf (text_leaf t)
 value_by f (cells.Bits b) = leaf (bits_leaf b)
 value_by f (cells.Element w) = leaf (element (word_of w))
 value_by f (cells.Reference y row) = reference y
-value_by f (cells.Typed w k) = typed (word_of w) (f k)
+value_by f (cells.Typed high low w) = typed (word_of w) (f (inner_of high low))
 value_by f (cells.Sequence r) = sequence (values_at f r)
 value_by f (cells.Bag r) = bag (values_at f r)
 

@@ -4,7 +4,7 @@ use columns::column::Run;
 use std::mem::size_of;
 use step_literals::literal::{Bits, Decimal, Text, Word};
 
-const _: () = prove!(size_of::<Cell>() <= 32);
+const _: () = prove!(size_of::<Cell>() <= 24);
 
 /// One node of a value. Those right inside it stand before it in its column, side by side.
 #[derive(Clone, Copy)]
@@ -28,12 +28,15 @@ pub enum Cell<'a> {
         /// Its number, counted from 0.
         row: u32,
     },
-    /// A value with the name of its type.
+    /// A value with the name of its type. Where the value stands is in two parts, which come first:
+    /// so they fit into the eight bytes that the variant's tag begins, and a cell has 24.
     Typed {
+        /// Its place divided by 2^32, rounded down.
+        high: u8,
+        /// What is left of its place.
+        low: u32,
         /// The name of the type.
         word: Word<'a>,
-        /// Where the value stands.
-        inner: usize,
     },
     /// A LIST or an ARRAY: where its values stand, in order.
     Sequence(Run),

@@ -10,6 +10,7 @@ pub mod labels;
 pub mod laws;
 pub mod literals;
 pub mod normal;
+mod place;
 pub mod row_builder;
 pub mod rows;
 pub mod slot;

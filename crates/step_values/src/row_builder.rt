@@ -29,6 +29,7 @@ ghost use Rattle.step_values.specs.Views.{
 };
 
 use crate::cell::Cell;
+use crate::place::split;
 use crate::rows::ValueRows;
 use columns::column::{Column, Run};
 use std::alloc::{AllocError, Global};
@@ -189,7 +190,8 @@ impl<'n, 'a> RowBuilder<'n, 'a> {
         Ok(())
     }
 
-    /// The last value that is pending becomes one with the name of its type.
+    /// The last value that is pending becomes one with the name of its type. Where there are 2^40
+    /// cells there is no memory for it.
     pub fn close_typed(&mut self, word: Word<'a>) -> Result<(), AllocError>
         requires { 0 < length self.old.pending }
         ensures names { self.new.names ≡ self.old.names }
@@ -198,11 +200,11 @@ impl<'n, 'a> RowBuilder<'n, 'a> {
               pending = front ++ typed (word_of word.entry) v ∷ [];
             }) }
     {
-        let run = self.cells.close(self.cells.pending_len() - 1);
-        let cell = Cell::Typed {
-            word,
-            inner: run.first,
+        let Some((high, low)) = split(self.cells.column().len()) else {
+            return Err(AllocError);
         };
+        self.cells.close(self.cells.pending_len() - 1);
+        let cell = Cell::Typed { high, low, word };
         push_or_clear(self.alloc, &mut self.cells, &mut self.runs, cell)?;
         Ok(())
     }

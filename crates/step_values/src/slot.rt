@@ -13,6 +13,7 @@ ghost use Rattle.step_values.specs.ComputedAgreement.{size};
 ghost use Rattle.step_values.specs.Slots.{node_value, kind_of, len_of, item_of, nth};
 
 use crate::cell::Cell;
+use crate::place::join;
 use columns::column::Run;
 use std::marker::Model;
 use step_literals::literal::{Bits, Decimal, Text, Word};
@@ -205,7 +206,7 @@ fn cell_node<'p, 'a>(column: &'p [Cell<'a>], cell: Cell<'a>) -> Node<'p, 'a>
         Cell::Bits(bits) => Node::Bits(bits),
         Cell::Element(word) => Node::Element(word),
         Cell::Reference { name, .. } => Node::Reference(name),
-        Cell::Typed { word, inner } => Node::Typed(word, Slot::of(column, inner)),
+        Cell::Typed { high, low, word } => Node::Typed(word, Slot::of(column, join(high, low))),
         Cell::Sequence(run) => Node::Sequence(Slots::of(column, run)),
         Cell::Bag(run) => Node::Bag(Slots::of(column, run)),
     }

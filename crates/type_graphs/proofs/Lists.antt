@@ -1,6 +1,8 @@
 -- What stands in lists, and chains of steps.
-use Rattle.std.specs.Prelude.{◌≡◌, List, [], ◌∷◌, ◌++◌, map, flat_map, ◌⊎◌}
-use Rattle.std.proofs.Common.{refl, inl, inr, ap, sym, subst}
+use Rattle.std.specs.Prelude.{◌≡◌, Bool, true, false, cond, List, [], ◌∷◌, ◌++◌, map, flat_map, ◌⊎◌}
+use Rattle.std.specs.List.{filter}
+use Rattle.std.proofs.Common.{refl, inl, inr, ap, sym, subst, ◌∙◌}
+use Rattle.std.proofs.lemmas.Bool.{both_ways}
 use Rattle.digraph.specs.Graphs.{Chain, Leads}
 use Rattle.express_schemas.specs.Profile.{Every}
 use Rattle.type_graphs.specs.Names.{Among, IsFirst}
@@ -30,6 +32,35 @@ pub among-map : {A B : Type 0} (f : A → B) (x : A) (xs : List A) → Among x x
 among-map f x [] h = elim h [ ]
 among-map f x (y ∷ xs) (inl e) = inl (ap f e)
 among-map f x (y ∷ xs) (inr h) = inr (among-map f x xs h)
+
+-- what is in a mapped list is that of an item
+pub from-map : {A B : Type 0} (f : A → B) (xs : List A) (y : B) → Among y (map f xs) → (x : A) × Among x xs × (f x ≡ y)
+from-map f [] y h = elim h [ ]
+from-map f (x ∷ xs) y (inl e) = (x, inl refl, e)
+from-map f (x ∷ xs) y (inr m) = let rest = from-map f xs y m in (rest.0, inr rest.1, rest.2)
+
+-- in lists that are filtered: an item that passes, and no other
+pub among-filter : {A : Type 0} (test : A → Bool) (x : A) (xs : List A) → Among x xs → test x ≡ true
+    → Among x (filter test xs)
+among-filter test x [] m h = m
+among-filter test x (y ∷ ys) m h = by (test y) refl m (λ k. among-filter test x ys k h)
+  where
+    by : (b : Bool) → test y ≡ b → Among x (y ∷ ys) → (Among x ys → Among x (filter test ys))
+        → Among x (cond b (y ∷ filter test ys) (filter test ys))
+    by true e (inl s) more = inl s
+    by true e (inr k) more = inr (more k)
+    by false e (inl s) more = absurd (both_ways (test y) e (ap test s ∙ h))
+    by false e (inr k) more = more k
+
+pub from-filter : {A : Type 0} (test : A → Bool) (x : A) (xs : List A) → Among x (filter test xs) → test x ≡ true
+from-filter test x [] m = elim m [ ]
+from-filter test x (y ∷ ys) m = by (test y) refl m (from-filter test x ys)
+  where
+    by : (b : Bool) → test y ≡ b → Among x (cond b (y ∷ filter test ys) (filter test ys))
+        → (Among x (filter test ys) → test x ≡ true) → test x ≡ true
+    by true e (inl s) more = ap test (sym s) ∙ e
+    by true e (inr k) more = more k
+    by false e k more = more k
 
 pub among-flat : {A B : Type 0} (f : A → List B) (x : A) (b : B) (xs : List A) → Among x xs → Among b (f x)
     → Among b (flat_map f xs)

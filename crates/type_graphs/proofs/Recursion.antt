@@ -89,7 +89,7 @@ to-any q [] h = elim h [ ]
 to-any q (x ∷ xs) (inl e) = or-left (bytes_eq q x) (list_any (bytes_eq q) xs) ((bytes_eq-Decides q x).1 (sym e))
 to-any q (x ∷ xs) (inr m) = or-right (bytes_eq q x) (list_any (bytes_eq q) xs) (to-any q xs m)
 
-from-any : (q : Name) (xs : List Name) → list_any (bytes_eq q) xs ≡ true → Among q xs
+pub from-any : (q : Name) (xs : List Name) → list_any (bytes_eq q) xs ≡ true → Among q xs
 from-any q [] h = absurd (cc)
 from-any q (x ∷ xs) h = by (bytes_eq q x) refl h (from-any q xs)
   where

@@ -16,17 +16,17 @@ use Rattle.express_meanings.specs.Expressions.{means, of_junction, of_call, stri
 use Rattle.express_meanings.specs.Operations.{bare, says, is_true, or_else, limited, kept_shape, indexed, compared}
 use Rattle.held_values.specs.declared.element.Element.TheVariants as elements
 use Rattle.held_values.specs.Parts.{holding, element_datum, whole_elements}
-use Rattle.express_evaluation.specs.Scopes.{variables_of}
+use Rattle.express_operations.specs.Scopes.{variables_of}
 use Rattle.express_evaluation.specs.Weights.{weight}
 use Rattle.derivation_formulas.specs.Formulas.{formula_seen, formula_place}
 use Rattle.express_settings.specs.Settings.{below_rank, setting_by, derivation_in, or_nothing}
 use Rattle.express_evaluation.specs.Contexts.{setting_in, worth_in, derived_in, instance_of, meaning_in, truth_in, between_in, selected_in, item_in, within_in, related_in, and_all_in, or_all_in, among_each_in, condition_in, passes_in, filtered_in, queried_in}
 use Rattle.express_evaluation.proofs.Arms.{part, part-truth, of-tree, or-known, or-unknown, related-is, related-in, related-not, typeof-is, typeof-not, other-is, or-is}
 use Rattle.express_evaluation.proofs.Items.{item-plain, item-attribute, item-other}
-use Rattle.express_evaluation.proofs.Kept.{Keeps, keeps_none, keeps_next, keeps_all}
-use Rattle.express_evaluation.proofs.Layers.{reference-seen, aggregate-seen, attribute-selected, group-selected, parenthesized-seen, interval-seen, query-seen, call-seen, nvl-seen, not-seen, conjunction-seen, disjunction-seen, comparison-seen, index-selected}
+use Rattle.express_operations.proofs.Kept.{Keeps, keeps_none, keeps_next, keeps_all}
+use Rattle.express_trees.proofs.Layers.{reference-seen, aggregate-seen, attribute-selected, group-selected, parenthesized-seen, interval-seen, query-seen, call-seen, nvl-seen, not-seen, conjunction-seen, disjunction-seen, comparison-seen, index-selected}
 use Rattle.express_evaluation.proofs.Ranked.{below-none, below-late, below-rank}
-use Rattle.express_evaluation.proofs.Scopes.{variables_pushed, popped}
+use Rattle.express_operations.proofs.Scopes.{variables_pushed, popped}
 use Rattle.express_evaluation.proofs.Walking.{either_false, either_none, either_groups, next-dropped, none-dropped, or-first, select-first, selected-plain}
 use Rattle.express_evaluation.proofs.Weighing.{weighs_more}
 use Rattle.express_evaluation.proofs.evaluate.+evaluation.Goals as goal

@@ -7,7 +7,7 @@ use Rattle.express_evaluation.specs.declared.context.Context.{Context}
 use Rattle.held_values.specs.Parts.{holding, whole_elements}
 use Rattle.express_evaluation.specs.Weights.{weight}
 use Rattle.express_evaluation.specs.Contexts.{MeantBy, selected_in, and_all_in, or_all_in, among_each_in, condition_in}
-use Rattle.express_evaluation.proofs.Kept.{Keeps}
+use Rattle.express_operations.proofs.Kept.{Keeps}
 use Rattle.express_evaluation.proofs.evaluate.+evaluation.Given as goal
 
 -- what is left to do below the limit

@@ -2,7 +2,7 @@ use Rattle.std.proofs.Common.{◌≡◌, ◌∙◌, ap, sym, Some, slice_get}
 use Rattle.std.specs.Option.{option_copied}
 use Rattle.express_trees.specs.Views.{capitals, of_attribute, of_group, of_element, selection_of, tree_of}
 use Rattle.data_types.specs.Values.{schema_at}
-use Rattle.expression_sets.proofs.Layers.{attribute-selected, group-selected, index-selected}
+use Rattle.express_trees.proofs.Layers.{attribute-selected, group-selected, index-selected}
 use Rattle.expression_sets.proofs.Choosing.{begins, none-begins}
 use Rattle.expression_sets.proofs.meanings.begin_with_item.Goals as goal
 

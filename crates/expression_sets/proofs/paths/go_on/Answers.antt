@@ -4,7 +4,7 @@ use Rattle.express_trees.specs.Views.{capitals, of_attribute, of_group, of_eleme
 use Rattle.type_graphs.specs.Sets.{Elements, of_set, of_entity, WithSubtypes}
 use Rattle.data_types.specs.Values.{Holds}
 use Rattle.taken_attributes.specs.Taking.{IsSet, IsTaken, schema_in}
-use Rattle.expression_sets.proofs.Layers.{attribute-selected, group-selected, index-selected}
+use Rattle.express_trees.proofs.Layers.{attribute-selected, group-selected, index-selected}
 use Rattle.expression_sets.proofs.Walking.{goes-by, goes-to-taken, goes-to-elements}
 use Rattle.expression_sets.proofs.paths.go_on.Goals as goal
 

@@ -5,7 +5,7 @@ use Rattle.express_trees.specs.Views.{root_of, qualifiers_of, tree_of, trees_of,
 use Rattle.type_graphs.specs.Sets.{Aggregates, May, OfReference}
 use Rattle.data_types.specs.Values.{AddsAll, Holds}
 use Rattle.expression_sets.specs.Scopes.{schema_around, own_in, variables_in}
-use Rattle.expression_sets.proofs.Layers.{literal-seen, signed-seen, reference-seen, parenthesized-seen, query-seen, call-seen, nvl-seen, interval-seen, not-seen, conjunction-seen, disjunction-seen, comparison-seen, aggregate-seen}
+use Rattle.express_trees.proofs.Layers.{literal-seen, signed-seen, reference-seen, parenthesized-seen, query-seen, call-seen, nvl-seen, interval-seen, not-seen, conjunction-seen, disjunction-seen, comparison-seen, aggregate-seen}
 use Rattle.expression_sets.proofs.Adding.{adds-tree, query-added, both-added}
 use Rattle.expression_sets.proofs.sets.+add_possible.Goals as goal
 

@@ -4,7 +4,7 @@ use Rattle.express_trees.specs.Views.{tree_of, trees_of}
 use Rattle.type_graphs.specs.Reasons.{ElementsOf, OfTrees}
 use Rattle.taken_attributes.specs.Taking.{IsSet}
 use Rattle.expression_sets.specs.Scopes.{schema_around, own_in, variables_in}
-use Rattle.expression_sets.proofs.Layers.{aggregate-seen}
+use Rattle.express_trees.proofs.Layers.{aggregate-seen}
 use Rattle.expression_sets.proofs.Adding.{elements-otherwise}
 use Rattle.expression_sets.proofs.sets.+possible_elements.Goals as goal
 

@@ -1,4 +1,4 @@
-use Rattle.std.proofs.Common.{◌≡◌, ◌∙◌, sym, ap, subst, arith}
+use Rattle.std.proofs.Common.{rules, ◌≡◌, ◌∙◌, sym, ap, subst, arith}
 use Rattle.std.specs.Prelude.{MatchResult}
 use Rattle.conformance.specs.Bases.{Domain, IsDomain}
 use Rattle.conformance.specs.Fitting.{value_as, or_this}
@@ -50,7 +50,7 @@ push_each-loop-i-preserved t c =
     let some = c.requires.bases.1.exists in
     record {
       names = ap (λ (b : Building). b.names) (c.in_ok-push_value.ensures some.0 some.1) ∙ c.loop-i.invariant.names;
-      pushed = λ d h. pushed_next (schema_at c.args.bases.now) d (base_seen (schema_at c.args.bases.now) c.args.base)
+      pushed = λ d h. pushed_next (schema_at c.args.bases.now) d (base_seen (schema_at c.args.bases.now) c.args.base.now)
           c.args.builder.now c.loop-i.builder c.push_value.new.builder c.args.params.now c.loop-i.i c.at.result
           c.at.ensures (c.loop-i.invariant.pushed d h) (c.in_ok-push_value.ensures d h);
     }
@@ -72,20 +72,36 @@ push_list-returns-then-has_no_order t c =
     let s = schema_at c.args.bases.now in
     let some = c.requires.bases.1.exists in
     list_closed s bag c.args.builder.now c.push_each.new.builder c.close_bag.new.self
-    c.pending_len-mark.result c.pending_len-mark.ensures (base_seen s c.args.base) (base_seen s c.element.result)
+    c.pending_len-mark.result c.pending_len-mark.ensures (base_seen s c.args.base.now) (base_seen s c.element-inside.result)
     c.args.params.now
-    (λ vs. bag_gathered (base_seen s c.args.base) vs (sym (c.has_no_order.ensures s) ∙ c.if-has_no_order.true))
-    some c.element.ensures.says c.in_ok-push_each.ensures c.close_bag.result c.close_bag.ensures
+    (λ vs. bag_gathered (base_seen s c.args.base.now) vs (sym (c.has_no_order.ensures s) ∙ c.if-has_no_order.true))
+    some c.element-inside.ensures.says c.in_ok-push_each.ensures c.close_bag.result c.close_bag.ensures
 
 pub push_list-returns-else-has_no_order : goal.push_list-returns-else-has_no_order
 push_list-returns-else-has_no_order t c =
     let s = schema_at c.args.bases.now in
     let some = c.requires.bases.1.exists in
     list_closed s sequence c.args.builder.now c.push_each.new.builder c.close_sequence.new.self
-    c.pending_len-mark.result c.pending_len-mark.ensures (base_seen s c.args.base) (base_seen s c.element.result)
+    c.pending_len-mark.result c.pending_len-mark.ensures (base_seen s c.args.base.now) (base_seen s c.element-inside.result)
     c.args.params.now
-    (λ vs. sequence_gathered (base_seen s c.args.base) vs (sym (c.has_no_order.ensures s) ∙ c.if-has_no_order.false))
-    some c.element.ensures.says c.in_ok-push_each.ensures c.close_sequence.result c.close_sequence.ensures
+    (λ vs. sequence_gathered (base_seen s c.args.base.now) vs (sym (c.has_no_order.ensures s) ∙ c.if-has_no_order.false))
+    some c.element-inside.ensures.says c.in_ok-push_each.ensures c.close_sequence.result c.close_sequence.ensures
+
+pub push_node-push_value-requires : goal.push_node-push_value-requires
+push_node-push_value-requires t c =
+    let w = ap (λ n. weight (node_value n)) c.in-Typed.is in (
+      omega (arith, c.decreases, w),
+      (
+        c.requires.bases,
+        (
+          search rules,
+          (
+            c.requires.indexed,
+            subst (λ n. RefersWithin (found c.args.index.now) (node_value n)) c.in-Typed.is c.requires.within,
+          ),
+        ),
+      ),
+    )
 
 pub push_node-close_typed-requires : goal.push_node-close_typed-requires
 push_node-close_typed-requires t c =
@@ -97,11 +113,11 @@ push_node-returns-in_ok-push_value-in-Typed t c =
     let s = schema_at c.args.bases.now in
     let some = c.requires.bases.1.exists in
     subst (λ x. MatchResult c.close_typed.result (λ _. (d : Domain) → IsDomain s d
-    → Pushes c.args.builder.now c.close_typed.new.self (value_as s d (base_seen s c.args.base) x))
+    → Pushes c.args.builder.now c.close_typed.new.self (value_as s d (base_seen s c.args.base.now) x))
     (λ _. c.close_typed.new.self.names ≡ c.args.builder.now.names)) (ap node_value (sym c.in-Typed.is))
     (typed_closed s c.args.builder.now c.push_value.new.builder c.close_typed.new.self
-    (base_seen s c.args.base) (base_seen s c.unwrap_or-within.result) c.in-Typed.word.text.now c.in-Typed.inner some
+    (base_seen s c.args.base.now) (base_seen s c.unwrap_or-within.result) c.in-Typed.word.text.now c.in-Typed.inner some
     (λ d h. ap (base_seen s) c.unwrap_or-within.ensures
-    ∙ or_itself s d (base_seen s) c.item.result c.args.base
-    ∙ ap (or_this s d (base_seen s c.args.base)) (c.item.ensures.says d h))
+    ∙ or_itself s d (base_seen s) c.item.result c.args.base.now
+    ∙ ap (or_this s d (base_seen s c.args.base.now)) (c.item.ensures.says d h))
     c.in_ok-push_value-in-Typed.ensures c.close_typed.result c.close_typed.ensures.names c.close_typed.ensures.typed)

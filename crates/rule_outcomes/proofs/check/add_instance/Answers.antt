@@ -7,10 +7,10 @@ use Rattle.domain_rules.specs.declared.rule.DomainRule.{DomainRule}
 use Rattle.domain_rules.specs.Seen.{IsNumbered}
 use Rattle.express_settings.specs.Settings.{schema_in}
 use Rattle.rule_outcomes.specs.Counting.{Counts, broken_by, open_by, broken_of, open_of, of_one, of_number, broken_at, open_at}
-use Rattle.rule_outcomes.specs.Planning.{Tell}
-use Rattle.rule_outcomes.specs.Wanted.{IsTableOf, table_by}
+use Rattle.rule_plans.specs.Planning.{Tell}
+use Rattle.rule_plans.specs.Wanted.{IsTableOf, table_by}
 use Rattle.rule_outcomes.proofs.Counted.{counts-none, counts-joined}
-use Rattle.rule_outcomes.proofs.Wanting.{table-there}
+use Rattle.rule_plans.proofs.Wanting.{table-there}
 use Rattle.rule_outcomes.proofs.check.add_instance.Goals as goal
 
 pub loop-number-init : goal.loop-number-init

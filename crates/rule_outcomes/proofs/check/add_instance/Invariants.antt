@@ -2,7 +2,7 @@ use Rattle.std.proofs.Common.{◌≡◌, Some, length, take, slice_get}
 use Rattle.conformance.specs.Populations.{Instance}
 use Rattle.express_settings.specs.Settings.{Meant, population_in}
 use Rattle.rule_outcomes.specs.Counting.{Counts, broken_at, open_at}
-use Rattle.rule_outcomes.specs.Planning.{TellAll}
+use Rattle.rule_plans.specs.Planning.{TellAll}
 use Rattle.rule_outcomes.proofs.check.add_instance.Given as goal
 
 abbrev pub invariant-loop-number : goal.invariant-loop-number

@@ -7,10 +7,11 @@ use Rattle.step_population.proofs.Found.{kept}
 use Rattle.step_extent.specs.Inverses.{row_by}
 use Rattle.step_extent.proofs.Held.{flat-next}
 use Rattle.express_settings.specs.Settings.{schema_in, population_in}
-use Rattle.rule_outcomes.specs.Applying.{numbers_by}
+use Rattle.rule_plans.specs.Applying.{numbers_by}
 use Rattle.rule_outcomes.specs.Counting.{Counts, Has, broken_at, open_at, broken_in, open_in}
-use Rattle.rule_outcomes.specs.Planning.{TellAll}
-use Rattle.rule_outcomes.proofs.Telling.{row-within, broken-told, open-told, broken-are, open-are, seen-name}
+use Rattle.rule_plans.specs.Planning.{TellAll}
+use Rattle.rule_plans.proofs.Numbers.{row-within}
+use Rattle.rule_outcomes.proofs.Telling.{broken-told, open-told, broken-are, open-are, seen-name}
 use Rattle.rule_outcomes.proofs.Counted.{has-more}
 use Rattle.rule_outcomes.proofs.check.planned_report.Goals as goal
 

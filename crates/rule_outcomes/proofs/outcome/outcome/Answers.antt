@@ -3,8 +3,8 @@ use Rattle.std.proofs.lemmas.Result.{IfOk-weaker}
 use Rattle.domain_rules.specs.Seen.{IsNumberedHolder}
 use Rattle.express_settings.specs.Settings.{schema_in}
 use Rattle.rule_outcomes.specs.Outcomes.{said_by}
-use Rattle.rule_outcomes.specs.Wanted.{IsTableOf}
-use Rattle.rule_outcomes.specs.Planning.{Tell}
+use Rattle.rule_plans.specs.Wanted.{IsTableOf}
+use Rattle.rule_plans.specs.Planning.{Tell}
 use Rattle.rule_outcomes.proofs.outcome.outcome.Goals as goal
 
 pub entity_outcome-requires-clause-numbered : goal.entity_outcome-requires-clause-numbered

@@ -5,7 +5,7 @@ use Rattle.express_meanings.specs.Expressions.{means}
 use Rattle.express_meanings.specs.Operations.{says}
 use Rattle.held_values.specs.Parts.{element_datum}
 use Rattle.express_settings.specs.Settings.{setting_by, below_rank}
-use Rattle.express_evaluation.specs.Scopes.{variables_of}
+use Rattle.express_operations.specs.Scopes.{variables_of}
 use Rattle.rule_outcomes.proofs.Settled.{meant-whole}
 use Rattle.rule_outcomes.proofs.outcome.said_of.Goals as goal
 

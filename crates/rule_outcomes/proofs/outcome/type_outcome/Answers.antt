@@ -9,9 +9,9 @@ use Rattle.step_extent.proofs.Adding.{map-twice}
 use Rattle.express_settings.specs.Settings.{schema_in}
 use Rattle.self_values.specs.Coded.{is_wanted}
 use Rattle.rule_outcomes.specs.Outcomes.{said_of}
-use Rattle.rule_outcomes.proofs.Covering.{table-tells}
+use Rattle.rule_plans.proofs.Covering.{table-tells}
 use Rattle.rule_outcomes.proofs.Least.{least_with, with-true, with-last, map-last}
-use Rattle.rule_outcomes.proofs.Wanting.{none-passes}
+use Rattle.rule_plans.proofs.Wanting.{none-passes}
 use Rattle.rule_outcomes.proofs.outcome.type_outcome.Goals as goal
 
 pub loop-me-init : goal.loop-me-init

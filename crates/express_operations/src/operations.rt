@@ -1,0 +1,148 @@
+//! What is made of values (ISO 10303-11, 12 and 15).
+
+ghost use Rattle.std.specs.Prelude.{◌≡◌, false, IfOk};
+ghost use Rattle.express_trees.specs.Views.{tree_of};
+ghost use Rattle.express_logic.specs.Views.{datum_of};
+ghost use Rattle.express_meanings.specs.Expressions.{of_call, of_junction};
+ghost use Rattle.express_meanings.specs.Operations.{bare, says, size, compared, limited, is_true};
+ghost use Rattle.express_operations.specs.Forms.{is_condition, is_in, is_typeof};
+ghost use Rattle.held_values.specs.Parts.{holding};
+
+use express_logic::compare::{equal, less, member};
+use express_logic::datum::Datum;
+use express_logic::logical::{Logical, known, not, or, xor};
+use express_trees::tree::{Expr, Function, Junction, Limit, Relation};
+use held_values::operations::{bare, high_index, is_known, low_index, size};
+use held_values::part::Part;
+use std::alloc::AllocError;
+
+/// Whether a value has the name of its type. One that hasn't is bare, and needn't be copied.
+pub fn is_typed(value: &Datum<'_, Part<'_, '_>>) -> bool
+    ensures { result ≡ false → bare (datum_of holding value.now) ≡ datum_of holding value.now }
+{
+    match value {
+        Datum::Typed(_) => true,
+        _ => false,
+    }
+}
+
+/// What a value says as an operand of a logical operator.
+pub fn truth(value: Datum<'_, Part<'_, '_>>) -> Logical
+    ensures { result ≡ says (datum_of holding value.entry) }
+{
+    if is_typed(&value) {
+        return bare(value).truth();
+    }
+    value.truth()
+}
+
+/// Whether a condition is TRUE.
+pub fn is_true(value: Logical) -> bool
+    ensures { result ≡ is_true value }
+{
+    matches!(value, Logical::True)
+}
+
+/// What a relation says of two values.
+pub fn compared<'p, 'r>(
+    relation: Relation,
+    left: &Datum<'r, Part<'p, 'r>>,
+    right: &Datum<'r, Part<'p, 'r>>,
+) -> Logical
+    ensures { result
+        ≡ compared relation (datum_of holding left.now) (datum_of holding right.now) }
+{
+    match relation {
+        Relation::Equal => equal(left, right),
+        Relation::NotEqual => not(equal(left, right)),
+        Relation::Less => less(left, right),
+        Relation::Greater => less(right, left),
+        Relation::LessOrEqual => not(less(right, left)),
+        Relation::GreaterOrEqual => not(less(left, right)),
+        Relation::In => member(left, right),
+    }
+}
+
+/// Whether an expression is a condition by its form, in parentheses or not: a comparison, or what a
+/// logical operator makes of others.
+pub fn is_condition(expression: &Expr<'_>) -> bool
+    ensures { result ≡ is_condition (tree_of expression.now) }
+{
+    match expression {
+        Expr::Parenthesized(inner) => is_condition(inner),
+        Expr::Interval { .. } => true,
+        Expr::Not(_) => true,
+        Expr::Conjunction(_, _) => true,
+        Expr::Disjunction(_, _) => true,
+        Expr::Comparison(_, _, _) => true,
+        _ => false,
+    }
+}
+
+/// Whether a relation is IN.
+pub fn is_in(relation: Relation) -> bool
+    ensures { result ≡ is_in relation }
+{
+    matches!(relation, Relation::In)
+}
+
+/// Whether a function is TYPEOF.
+pub fn is_typeof(function: Function) -> bool
+    ensures { result ≡ is_typeof function }
+{
+    matches!(function, Function::Typeof)
+}
+
+/// What a limit of an interval says of two values.
+pub fn limited<'p, 'r>(
+    limit: Limit,
+    left: &Datum<'r, Part<'p, 'r>>,
+    right: &Datum<'r, Part<'p, 'r>>,
+) -> Logical
+    ensures { result ≡ limited limit (datum_of holding left.now) (datum_of holding right.now) }
+{
+    match limit {
+        Limit::Less => less(left, right),
+        Limit::LessOrEqual => not(less(right, left)),
+    }
+}
+
+/// OR or XOR.
+pub fn joined(junction: Junction, p: Logical, q: Logical) -> Logical
+    ensures { result ≡ of_junction junction p q }
+{
+    match junction {
+        Junction::Or => or(p, q),
+        Junction::Xor => xor(p, q),
+    }
+}
+
+/// How many elements there are, in a typed value too: SIZEOF.
+fn size_inside<'p, 'r>(
+    value: Datum<'r, Part<'p, 'r>>,
+) -> Result<Datum<'r, Part<'p, 'r>>, AllocError>
+    ensures { IfOk result (λ d. datum_of holding d ≡ size (bare (datum_of holding value.entry))) }
+{
+    if is_typed(&value) {
+        return size(&bare(value));
+    }
+    size(&value)
+}
+
+/// The value of a function of the language; that of TYPEOF is none but on the right of IN.
+#[inline(never)]
+pub fn called<'p, 'r>(
+    function: Function,
+    value: Datum<'r, Part<'p, 'r>>,
+) -> Result<Datum<'r, Part<'p, 'r>>, AllocError>
+    ensures { IfOk result (λ d. datum_of holding d
+        ≡ of_call function (datum_of holding value.entry)) }
+{
+    match function {
+        Function::Exists => Ok(Datum::Logical(known(is_known(&value)))),
+        Function::Sizeof => size_inside(value),
+        Function::Hiindex => high_index(&bare(value)),
+        Function::Loindex => Ok(low_index(&bare(value))),
+        Function::Typeof => Ok(Datum::Indeterminate),
+    }
+}

@@ -1,0 +1,4 @@
+pub mod Limiting
+pub mod Wanting
+pub mod Covering
+pub mod Numbers

@@ -1,0 +1,28 @@
+use Rattle.std.proofs.Common.{◌∙◌, ap, sym, subst, map, []}
+use Rattle.std.proofs.lemmas.Result.{IfOk-weaker}
+use Rattle.schema_names.proofs.Edges.{number-within}
+use Rattle.base_types.specs.Seen.{name_at}
+use Rattle.express_settings.specs.Settings.{schema_in}
+use Rattle.self_values.specs.Coded.{is_wanted}
+use Rattle.rule_plans.specs.Planning.{TellAll}
+use Rattle.rule_plans.proofs.Covering.{tell-none, tell-all}
+use Rattle.rule_plans.proofs.plan.types_at.Goals as goal
+
+pub returns-then-plan : goal.returns-then-plan
+returns-then-plan c =
+    let S = c.args.setting.now in
+    let s = schema_in S in
+    let p = c.args.plan.now in
+    IfOk-weaker c.value_types.result _ _ (λ v told m x at.
+    tell-all S m x v.items c.deref.result.now (told m x at) p.rules.now (map (λ v. v.items) p.tables.items)
+    c.requires.plan.tables
+    (λ i numbered there.
+    ap (λ ws. is_wanted ws i) c.deref.ensures.value
+    ∙ c.requires.plan.union i (number-within s (name_at s i) i numbered) ∙ there)) c.value_types.ensures
+
+pub returns : goal.returns
+returns c m x at =
+    let S = c.args.setting.now in
+    let p = c.args.plan.now in
+    subst (λ l. TellAll S m x l p.rules.now) (sym c.new.ensures.items)
+    (tell-none S m x [] p.rules.now (sym c.requires.plan.seeks ∙ c.if-plan.false))

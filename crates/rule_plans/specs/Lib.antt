@@ -1,0 +1,4 @@
+pub mod Limits
+pub mod Applying
+pub mod Wanted
+pub mod Planning

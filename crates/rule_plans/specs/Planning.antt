@@ -1,0 +1,40 @@
+-- What is made once of rules and forms, and what the types of values tell of rules.
+use Rattle.std.specs.Prelude.{◌≡◌, ⊤, ℕ, Bool, true, false, List, [], map, length}
+use Rattle.std.specs.List.{list_any}
+use Rattle.digraph.specs.Graphs.{has}
+use Rattle.express_schemas.specs.Schemas.{Schema}
+use Rattle.express_schemas.specs.Profile.{Every}
+use Rattle.base_types.specs.Seen.{name_at}
+use Rattle.conformance.specs.Populations.{Instance}
+use Rattle.instance_forms.specs.declared.form.Form.{Form}
+use Rattle.domain_rules.specs.declared.rule.RuleHolder.{RuleHolder}
+use Rattle.domain_rules.specs.declared.rule.RuleHolder.TheVariants as holders
+use Rattle.domain_rules.specs.declared.rule.DomainRule.{DomainRule}
+use Rattle.domain_rules.specs.Seen.{IsNumbered}
+use Rattle.express_settings.specs.declared.setting.Setting.{Setting}
+use Rattle.express_settings.specs.Settings.{Meant, schema_in}
+use Rattle.self_values.specs.Seeking.{Agrees}
+use Rattle.self_values.specs.Speaking.{is_of, values_of}
+use Rattle.rule_plans.specs.declared.plan.Plan.{Plan}
+use Rattle.rule_plans.specs.Applying.{numbers_by}
+use Rattle.rule_plans.specs.Wanted.{is_type_rule, AreTablesOf, IsUnion}
+
+-- It is made of these rules, for instances of these forms.
+pub record IsPlan (s : Schema) (forms : List Form) (p : Plan) : Type 0 where
+  pub numbered : Every (IsNumbered s) p.rules.now
+  pub rows : map (λ v. v.items) p.rows.items ≡ map (numbers_by p.rules.now 0) forms
+  pub tables : AreTablesOf s p.rules.now (map (λ v. v.items) p.tables.items)
+  pub union : IsUnion (length s.declarations) (map (λ v. v.items) p.tables.items) p.union.items
+  pub seeks : p.seeks ≡ list_any is_type_rule p.rules.now
+
+module _ (S : Setting) (m : Meant S) (x : Instance) (types : List ℕ) where
+  -- Where none of these numbers passes a test that tells the defined type which states a rule and those that are
+  -- defined by it, the rule has no value to be tried for.
+  abbrev pub Tell : RuleHolder → Type 0
+  Tell (holders.Entity i) = ⊤
+  Tell (holders.Type t) =
+      (p : ℕ → Bool) → Agrees (schema_in S) p (is_of S m (name_at (schema_in S) t))
+      → ((i : ℕ) → has types i ≡ true → p i ≡ false) → values_of S m x (name_at (schema_in S) t) ≡ []
+
+  abbrev pub TellAll : List DomainRule → Type 0
+  TellAll rules = Every (λ (r : DomainRule). Tell r.holder) rules

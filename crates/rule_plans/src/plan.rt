@@ -1,0 +1,77 @@
+//! What is made once, to try rules at the instances of a population.
+
+ghost use Rattle.std.specs.Prelude.{◌≡◌, ◌<◌, Some, length, slice_get, IfOk};
+ghost use Rattle.express_schemas.specs.Profile.{Every};
+ghost use Rattle.conformance.specs.Populations.{Instance};
+ghost use Rattle.domain_rules.specs.Seen.{IsNumbered};
+ghost use Rattle.express_settings.specs.Settings.{IsSetting, Meant, schema_in, population_in};
+ghost use Rattle.rule_plans.specs.Planning.{IsPlan, TellAll};
+
+use crate::applying::numbers_by_form;
+use crate::wanted::{has_type_rule, tables_of, union_of};
+use domain_rules::rule::DomainRule;
+use express_settings::setting::Setting;
+use self_values::values::value_types;
+use std::alloc::{AllocError, Global};
+
+/// The rules that are tried, and where.
+#[derive(Drop)]
+pub struct Plan<'n, 't, 's> {
+    pub rules: &'n [DomainRule<'t, 's>],
+    /// By form, the numbers of the rules that may have a value of SELF at its instances.
+    pub rows: Vec<Vec<usize>>,
+    /// By rule, by declaration, whether it is tried for the values of that defined type.
+    pub tables: Vec<Vec<bool>>,
+    /// By declaration, whether some rule is.
+    pub union: Vec<bool>,
+    /// A defined type states one of the rules.
+    pub seeks: bool,
+}
+
+/// The plan of these rules.
+pub fn plan_of<'n, 't, 's>(
+    alloc: Global,
+    setting: &Setting<'_, '_, '_, 't, 's, '_>,
+    rules: &'n [DomainRule<'t, 's>],
+) -> Result<Plan<'n, 't, 's>, AllocError>
+    requires setting { IsSetting setting.now }
+    requires numbered { Every (IsNumbered (schema_in setting.now)) rules.now }
+    ensures plan { IfOk result (IsPlan (schema_in setting.now)
+        setting.now.extents.now.population.now.rows.forms.items) }
+    ensures rules { IfOk result (λ p. p.rules.now ≡ rules.now) }
+{
+    let population = setting.extents.population;
+    let names = &population.types.names;
+    let tables = tables_of(alloc, names, rules)?;
+    let union = union_of(alloc, names, &tables)?;
+    let rows = numbers_by_form(alloc, rules, population.forms())?;
+    let seeks = has_type_rule(rules);
+    Ok(Plan {
+        rules,
+        rows,
+        tables,
+        union,
+        seeks,
+    })
+}
+
+/// The numbers of the defined types of the values at an instance for which rules are tried.
+pub fn types_at<'p, 'e, 'r, 't, 's: 'r, 'a>(
+    alloc: Global,
+    setting: &Setting<'p, 'e, 'r, 't, 's, 'a>,
+    plan: &Plan<'_, '_, '_>,
+    row: usize,
+) -> Result<Vec<u32>, AllocError>
+    requires setting { IsSetting setting.now }
+    requires within { row < length (population_in setting.now) }
+    requires plan { IsPlan (schema_in setting.now)
+        setting.now.extents.now.population.now.rows.forms.items plan.now }
+    ensures { IfOk result (λ v. (m : Meant setting.now) → (x : Instance)
+        → slice_get (population_in setting.now) row ≡ Some x
+        → TellAll setting.now m x v.items plan.now.rules.now) }
+{
+    if plan.seeks {
+        return value_types(alloc, setting, row, &plan.union);
+    }
+    Ok(Vec::new(alloc))
+}
