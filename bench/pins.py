@@ -17,7 +17,7 @@ from building import build
 from check import FILES, RULED_FILES, RULES, SCHEMA, write
 
 SIZE = 60_000_000
-DEPENDENCIES = ["step_pins", "chosen_types", "step_extent", "step_population", "step_exchange", "express_types",
+DEPENDENCIES = ["step_pins", "chosen_types", "step_extent", "populating", "step_population", "step_exchange", "express_types",
                 "resolved_types", "express_text", "express_schemas", "anyhow"]
 RUNS = 5
 

@@ -127,7 +127,7 @@ fn declared_shapes(
     let mut declared = vec![in alloc; Shape::Instances; parts.len()]?;
     for a in &order {
         let i = *a as usize;
-        let declaration = &names.schema.declarations[i];
+        let declaration = names.declaration(*a);
         let shape = shape_in(
             &data_types.forms,
             &declared,

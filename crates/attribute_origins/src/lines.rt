@@ -84,6 +84,6 @@ pub fn lines(
         ≡ length names.now.schema.now.declarations.items) }
 {
     let order = order(alloc, supertypes)?;
-    let mut marks = vec![in alloc; false; names.schema.declarations.len()]?;
+    let mut marks = vec![in alloc; false; names.len()]?;
     lines_along(alloc, supertypes, &order, &mut marks)
 }

@@ -76,7 +76,7 @@ pub fn is_defined_by(names: &Names<'_, '_>, number: u32, other: u32) -> bool
         → IsTrue result ↔ IsOrLeads (Renames (schema_of names.now.schema.now)) (named m) (named n) }
 {
     let mut at = number;
-    for _step in 0..names.schema.declarations.len() {
+    for _step in 0..names.len() {
         if at == other {
             return true;
         }

@@ -150,7 +150,7 @@ pub(crate) fn first_giving(
     ensures { result ≡ first_giving (schema_of names.now.schema.now) (graph_of lines.now)
         (capitals asked.entry.name) asked.entry.entity entity }
 {
-    match names.schema.declarations.get(entity as usize) {
+    match names.at(entity) {
         Some(declaration) => first_behind(names, lines, entity, declaration, asked),
         None => None,
     }

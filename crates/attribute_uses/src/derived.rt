@@ -63,7 +63,7 @@ pub(crate) fn all_derived(
         (schema_in sources.now).declarations (graph_of rows.items)) }
 {
     let mut rows = Vec::new(alloc);
-    for declaration in &sources.names.schema.declarations {
+    for declaration in sources.names.declarations() {
         let row = derived_by(alloc, sources, declaration)?;
         rows.push(row)?;
     }

@@ -252,7 +252,7 @@ fn gathered_uses(
         (schema_in sources.now).declarations (map (λ v. v.items) rows.items)) }
 {
     let mut rows = Vec::new(alloc);
-    let declarations = sources.names.schema.declarations.as_slice();
+    let declarations = sources.names.declarations();
     for n in 0..declarations.len() {
         let row = uses_by(alloc, sources, marks, n, &declarations[n])?;
         rows.push(row)?;

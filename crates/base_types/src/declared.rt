@@ -40,7 +40,7 @@ pub(crate) fn declared_bases(
     let mut declared = vec![in alloc; Base::Integer; edges.len()]?;
     for a in &order {
         let i = *a as usize;
-        let declaration = &names.schema.declarations[i];
+        let declaration = names.declaration(*a);
         let base = base_at(names, &declared, &data_types.rows[i], *a, declaration)?;
         declared[i] = base;
     }

@@ -50,7 +50,7 @@ fn contains(row: &[u32], number: u32) -> bool
 fn is_entity(names: &Names<'_, '_>, number: u32) -> bool
     ensures { result ≡ is_entity_at (schema_of names.now.schema.now) number }
 {
-    match names.schema.declarations.get(number as usize) {
+    match names.at(number) {
         Some(Declaration::Entity(_)) => true,
         Some(Declaration::Type(_)) | Some(Declaration::Skipped(_)) => false,
         None => false,

@@ -251,7 +251,7 @@ pub(crate) fn numbered_bases(
         (all_data_types (schema_of names.now.schema.now))) }
 {
     let mut bases = Vec::new(alloc);
-    for declaration in &names.schema.declarations {
+    for declaration in names.declarations() {
         add_declaration(names, declared, &mut bases, declaration)?;
     }
     Ok(bases)

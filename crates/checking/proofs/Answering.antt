@@ -12,7 +12,7 @@ use Rattle.resolved_types.specs.Resolving.{IsNameFault}
 use Rattle.step_structures.specs.Trees.{Row, rows_of}
 use Rattle.step_exchange.specs.Exchanges.{structure}
 use Rattle.step_exchange.specs.declared.structure.Exchange.{Exchange}
-use Rattle.file_findings.proofs.Placing.{names-are}
+use Rattle.instance_rows.proofs.Placing.{names-are}
 use Rattle.command_line.specs.declared.fault.Role.TheVariants as roles
 use Rattle.command_line.specs.declared.fault.Fault.{Fault}
 use Rattle.command_line.specs.declared.fault.Fault.TheVariants as faults

@@ -280,7 +280,7 @@ pub fn data_types(alloc: Global, names: &Names<'_, '_>) -> Result<DataTypes, All
 {
     let mut forms = Vec::new(alloc);
     let mut rows = Vec::new(alloc);
-    for declaration in &names.schema.declarations {
+    for declaration in names.declarations() {
         let mut row = Vec::new(alloc);
         add_declaration(names, &mut forms, &mut row, declaration)?;
         rows.push(row)?;

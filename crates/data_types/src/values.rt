@@ -122,7 +122,7 @@ fn is_select(declaration: &Declaration<'_>) -> bool
 fn is_select_at(tables: &Tables<'_, '_, '_>, part: u32) -> bool
     ensures { result ≡ is_select_at (schema_at tables.now) part }
 {
-    match tables.names.schema.declarations.get(part as usize) {
+    match tables.names.at(part) {
         Some(declaration) => is_select(declaration),
         None => false,
     }

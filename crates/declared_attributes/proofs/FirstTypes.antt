@@ -1,5 +1,5 @@
 -- The first data type of an attribute stands at one place of the row of its entity.
-use Rattle.std.specs.Prelude.{◌≡◌, ℕ, suc, ◌+◌, ◌<◌, ◌≤◌, Bool, true, false, not, cond, ◌||◌, List, [], ◌∷◌, ◌++◌, ◌⊎◌, Option, None, Some, map, flat_map, drop, length, slice_get, nat_lt}
+use Rattle.std.specs.Prelude.{◌≡◌, ℕ, zero, suc, ◌+◌, ◌<◌, ◌≤◌, Bool, true, false, not, cond, ◌||◌, List, [], ◌∷◌, ◌++◌, ◌⊎◌, Option, None, Some, map, flat_map, drop, length, slice_get, nat_lt}
 use Rattle.std.specs.List.{position, position_or_len}
 use Rattle.std.specs.Option.{option_or}
 use Rattle.std.proofs.Common.{refl, inl, inr, ap, sym, subst, ◌∙◌, arith}
@@ -504,3 +504,9 @@ module _ (s : Schema) where
           (e, at, declares-back e a k one),
           λ l other. typed-once a (typings e) fresh k l one (declared-as l other),
         )
+
+-- an item within is there
+pub not-none : {A : Type 0} (xs : List A) (i : ℕ) → i < length xs → slice_get xs i ≡ None → ⊥
+not-none [] i lt e = absurd (omega (arith, lt))
+not-none (x ∷ xs) zero lt e = absurd (cc)
+not-none (x ∷ xs) (suc i) lt e = not-none xs i (omega (arith, lt)) e

@@ -540,6 +540,6 @@ pub fn gathered<'a>(
         (SaysSchema (schema_in sources.now) (rows_in sources.now)) flat.items) }
 {
     let mut flat = Vec::new(alloc);
-    add_declarations(sources, &sources.names.schema.declarations, &mut flat)?;
+    add_declarations(sources, sources.names.declarations(), &mut flat)?;
     Ok(flat)
 }

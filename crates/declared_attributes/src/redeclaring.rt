@@ -153,7 +153,7 @@ pub fn first_type(
         → HasNumber (schema_of names.now.schema.now) p entity
         → IsFirstTypeAt (schema_of names.now.schema.now) p (capitals attribute.entry) result }
 {
-    let declaration = names.schema.declarations.get(entity as usize)?;
+    let declaration = names.at(entity)?;
     match declaration {
         Declaration::Entity(declared) => own_type(row_of(data_types, entity), declared, attribute),
         _ => None,

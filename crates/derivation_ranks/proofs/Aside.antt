@@ -1,6 +1,6 @@
 -- What has no rank along a topological order: what is faulty, or leads to what is faulty or to itself.
 use Rattle.std.specs.Prelude.{◌≡◌, ℕ, suc, ◌<◌, Bool, true, false, cond, ◌||◌, List, [], ◌∷◌, map, Option, None, Some, get_or, length, eqb, ◌⊎◌}
-use Rattle.std.proofs.Common.{refl, inl, inr, ap, sym, subst, ◌∙◌, arith}
+use Rattle.std.proofs.Common.{refl, inl, inr, sym, subst, ◌∙◌, arith}
 use Rattle.std.proofs.lemmas.Bool.Decides.{nat_tests}
 use Rattle.digraph.specs.Graphs.{Graph, has, next, Step, Chain, Reaches, LeadsToCycle}
 use Rattle.digraph.specs.Orders.{Follows, IsTopologicalOrder, Solves, IsElsewhere}

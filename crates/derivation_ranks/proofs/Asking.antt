@@ -1,13 +1,12 @@
 -- Derived attributes that are asked for by name.
-use Rattle.std.specs.Prelude.{◌≡◌, ℕ, ◌+◌, ◌<◌, Bool, true, false, cond, List, [], ◌∷◌, ◌++◌, Option, None, Some, length, map, take, get_or, slice_get, flat_map, bytes_eq}
+use Rattle.std.specs.Prelude.{◌≡◌, ℕ, ◌+◌, ◌<◌, ◌≤◌, Bool, true, false, cond, List, [], ◌∷◌, ◌++◌, Option, None, Some, length, map, take, get_or, slice_get, flat_map}
 use Rattle.std.specs.List.{position_from}
-use Rattle.std.proofs.Common.{refl, inl, inr, ap, sym, subst, ◌∙◌, arith, zero, suc, nat_lt}
+use Rattle.std.proofs.Common.{refl, ap, sym, subst, ◌∙◌, arith, zero, suc, nat_lt}
 use Rattle.std.proofs.lemmas.Bool.Decides.{nat_tests}
 use Rattle.std.proofs.lemmas.List.{length-append, append-nil, length-map}
 use Rattle.std.proofs.lemmas.Slice.Eq.{bytes_eq-Decides}
 use Rattle.express_schemas.specs.Schemas.{Schema, Declaration, type, entity, skipped, Entity, Derived}
 use Rattle.type_graphs.specs.Names.{Name, listed, IsEntityAt}
-use Rattle.type_graphs.specs.Faults.{IsResolved}
 use Rattle.type_graphs.specs.Attributes.{Derivation, IsNth}
 use Rattle.type_graphs.specs.Ranks.{derived_name, IsFirstFor, IsDerivedAt, IsSetAside, IsRankAt}
 use Rattle.type_graphs.proofs.Supertypes.{entity-name}
@@ -15,11 +14,11 @@ use Rattle.schema_names.specs.Numbers.{HasNumber, IsAt}
 use Rattle.schema_names.proofs.Numbers.{stands-at}
 use Rattle.schema_names.proofs.Rows.{flat-joined, take-more}
 use Rattle.declared_attributes.specs.Derivations.{derivations_from, derivations_in, all_derivations, HasDerivation}
-use Rattle.derivation_ranks.specs.Firsts.{first_of, AreFirsts}
+use Rattle.derivation_ranks.specs.Firsts.{first_of}
 use Rattle.derivation_ranks.specs.Asked.{deriveds_in, derives, first_for}
 use Rattle.derivation_ranks.specs.Ranking.{AreRanksOf}
 use Rattle.derivation_ranks.proofs.Numbering.{number-at}
-use Rattle.derivation_ranks.proofs.Ranked.{below-end, value-at, stands-at as stands-below}
+use Rattle.derivation_ranks.proofs.Ranked.{below-end, stands-at as stands-below}
 
 -- a list with one more
 at-end-is : (xs : List ℕ) (y k : ℕ) → k ≡ length xs → get_or (xs ++ y ∷ []) k 0 ≡ y
@@ -39,6 +38,17 @@ pub seen-there : {A B : Type 0} (f : A → B) (xs : List A) (i : ℕ) (x : A) �
 seen-there f [] i x lt at = absurd (omega (arith, lt))
 seen-there f (y ∷ xs) zero x lt at = ap (λ z. Some (f z)) (sym at)
 seen-there f (y ∷ xs) (suc i) x lt at = seen-there f xs i x (omega (arith, lt)) at
+
+pub item-seen : {A B : Type 0} (f : A → B) (xs : List A) (i : ℕ) (x : A) → slice_get xs i ≡ Some x
+    → slice_get (map f xs) i ≡ Some (f x)
+item-seen f [] i x at = absurd (cc)
+item-seen f (y ∷ xs) zero x at = let same : y ≡ x = cc in ap (λ z. Some (f z)) same
+item-seen f (y ∷ xs) (suc i) x at = item-seen f xs i x at
+
+pub none-past : {A : Type 0} (xs : List A) (i : ℕ) → slice_get xs i ≡ None → length xs ≤ i
+none-past [] i at = omega arith
+none-past (y ∷ xs) zero at = absurd (cc)
+none-past (y ∷ xs) (suc i) at = let more = none-past xs i at in omega (arith, more)
 
 -- counts
 from-count : (e : Name) (n : ℕ) (ds : List Derived) → length (derivations_from e n ds) ≡ length ds

@@ -1,9 +1,9 @@
 -- The numbers of derived attributes.
-use Rattle.std.specs.Prelude.{◌≡◌, ℕ, ◌+◌, ◌<◌, List, [], ◌∷◌, ◌++◌, Option, None, Some, length, take, slice_get, flat_map, ◌⊎◌}
+use Rattle.std.specs.Prelude.{◌≡◌, ℕ, ◌+◌, List, [], ◌∷◌, ◌++◌, Some, length, take, slice_get, flat_map, ◌⊎◌}
 use Rattle.std.proofs.Common.{refl, inl, inr, ap, sym, subst, ◌∙◌, arith, zero, suc}
 use Rattle.std.proofs.lemmas.List.{length-append}
 use Rattle.express_schemas.specs.Schemas.{Schema, Declaration, type, entity, skipped, Entity, Derived}
-use Rattle.type_graphs.specs.Names.{Name, listed, IsEntityAt}
+use Rattle.type_graphs.specs.Names.{Name, listed}
 use Rattle.type_graphs.specs.Faults.{IsResolved}
 use Rattle.type_graphs.specs.Attributes.{Derivation, IsNth, IsDerivation}
 use Rattle.type_graphs.proofs.Supertypes.{entity-name}
@@ -11,7 +11,7 @@ use Rattle.schema_names.specs.Numbers.{HasNumber, IsAt}
 use Rattle.schema_names.proofs.Numbers.{stands-at, each-number}
 use Rattle.schema_names.proofs.Items.{stays}
 use Rattle.attribute_places.proofs.OwnNumbers.{own-number-of}
-use Rattle.declared_attributes.specs.Derivations.{derivations_from, derivations_in, all_derivations, HasDerivation}
+use Rattle.declared_attributes.specs.Derivations.{derivations_from, derivations_in, HasDerivation}
 use Rattle.derivation_ranks.specs.Firsts.{first_of}
 
 -- joined lists

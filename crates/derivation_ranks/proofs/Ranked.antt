@@ -6,8 +6,8 @@ use Rattle.std.proofs.lemmas.Slice.Eq.{bytes_eq-Decides}
 use Rattle.digraph.specs.Graphs.{Graph, IsGraph, has, next, Step, Chain, Leads, Reaches}
 use Rattle.digraph.specs.Orders.{IsTopologicalOrder, Solves, IsElsewhere}
 use Rattle.digraph.proofs.Searching.{right-holds, reached-within}
-use Rattle.express_schemas.specs.Schemas.{Schema, Derived}
-use Rattle.type_graphs.specs.Names.{OneOf, IsOrLeads}
+use Rattle.express_schemas.specs.Schemas.{Schema}
+use Rattle.type_graphs.specs.Names.{OneOf}
 use Rattle.type_graphs.specs.Faults.{IsResolved}
 use Rattle.type_graphs.specs.Attributes.{Derivation}
 use Rattle.type_graphs.specs.Ranks.{Uses, IsFaulty, IsSetAside, IsRank, AreRanks}

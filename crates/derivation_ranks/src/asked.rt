@@ -50,7 +50,7 @@ pub fn first_derivations(alloc: Global, names: &Names<'_, '_>) -> Result<Vec<u32
 {
     let mut firsts = Vec::new(alloc);
     let mut count: u32 = 0;
-    for declaration in &names.schema.declarations {
+    for declaration in names.declarations() {
         firsts.push(count)?;
         count = count_more(count, declaration)?;
     }
@@ -99,7 +99,7 @@ pub fn rank_at(
     ensures { ∥ IsRankOf (schema_of names.now.schema.now) entity (capitals attribute.entry)
         result ∥₁ }
 {
-    let declaration = names.schema.declarations.get(entity as usize)?;
+    let declaration = names.at(entity)?;
     let place = first_for(declaration, attribute)?;
     rank_behind(ranks, firsts[entity as usize], place)
 }

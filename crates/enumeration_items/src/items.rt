@@ -89,7 +89,7 @@ impl<'a> Items<'a> {
         ensures { IfOk result (AreItems (schema_of names.now.schema.now)) }
     {
         let mut items = IndexMap::with_hasher(alloc, keys);
-        for declaration in &names.schema.declarations {
+        for declaration in names.declarations() {
             add_names(&mut items, items_of(declaration))?;
         }
         Ok(Items { items })
@@ -114,7 +114,7 @@ fn includes(names: &[Word<'_>], name: Word<'_>) -> bool
 fn has_item_at(tables: &Tables<'_, '_, '_>, part: u32, name: Word<'_>) -> bool
     ensures { result ≡ has_item_at (schema_at tables.now) (capitals name.entry) part }
 {
-    match tables.names.schema.declarations.get(part as usize) {
+    match tables.names.at(part) {
         Some(declaration) => includes(items_of(declaration), name),
         None => false,
     }

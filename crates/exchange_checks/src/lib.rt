@@ -13,3 +13,5 @@ mod prefixes;
 mod printer;
 #[cfg(test)]
 mod rows;
+#[cfg(test)]
+mod texts;

@@ -14,10 +14,10 @@ use std::io::Write;
 
 // Takes at most `step` bytes a call, and fails where there is no more room.
 #[derive(Drop)]
-struct Limited {
-    bytes: Vec<u8>,
-    step: usize,
-    room: usize,
+pub(crate) struct Limited {
+    pub(crate) bytes: Vec<u8>,
+    pub(crate) step: usize,
+    pub(crate) room: usize,
 }
 
 impl Write for Limited {

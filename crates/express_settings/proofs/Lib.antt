@@ -1,5 +1,3 @@
 pub mod Explicits
 pub mod Places
 pub mod Asked
-pub mod Saying
-pub mod Enumerations

@@ -1,4 +1,3 @@
 pub mod Settings
 pub mod Worth
 pub mod Sources
-pub mod Naming

@@ -18,7 +18,7 @@ use schema_names::names::Names;
 fn is_numbered(names: &Names<'_, '_>, number: u32) -> bool
     ensures { result ≡ is_numbered (schema_of names.now.schema.now) number }
 {
-    if number as usize >= names.schema.declarations.len() {
+    if number as usize >= names.len() {
         return false;
     }
     match names.name(number) {

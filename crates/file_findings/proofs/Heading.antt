@@ -1,7 +1,7 @@
 -- The string that names the schema.
-use Rattle.std.specs.Prelude.{◌≡◌, ℕ, zero, suc, ◌&&◌, Bool, true, false, List, [], ◌∷◌, length, map, take, drop, Option, None, Some, slice_get}
+use Rattle.std.specs.Prelude.{◌≡◌, ℕ, ◌&&◌, Bool, false, List, [], ◌∷◌, length, map, take, drop, Some, slice_get}
 use Rattle.std.specs.List.{list_all}
-use Rattle.std.proofs.Common.{refl, sym, ap, subst, ◌∙◌}
+use Rattle.std.proofs.Common.{refl, sym, ap, ◌∙◌}
 use Rattle.step_literals.specs.declared.literal.Text.{Text}
 use Rattle.step_literals.specs.declared.literal.Word.{Word}
 use Rattle.step_literals.specs.Words.{upper}
@@ -14,8 +14,7 @@ use Rattle.step_parameters.specs.declared.param.Node.{Node}
 use Rattle.step_parameters.specs.declared.param.Node.TheVariants as nodes
 use Rattle.step_exchange.specs.declared.structure.Exchange.{Exchange}
 use Rattle.step_exchange.specs.Exchanges.{structure}
-use Rattle.step_exchange.specs.Sections.{sections_of}
-use Rattle.step_exchange.specs.Views.{record_of, record_in, rows_with}
+use Rattle.step_exchange.specs.Views.{record_in, rows_with}
 use Rattle.step_exchange.proofs.SchemaNames.{values_behind}
 use Rattle.conformance.specs.Findings.{string_in, schema_text, names_schema, heading_names}
 use Rattle.file_findings.specs.SchemaNames.{headings_name, names_the_schema}

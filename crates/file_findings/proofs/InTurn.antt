@@ -1,36 +1,35 @@
 -- Findings of an instance, told in turn.
 use Rattle.std.specs.Prelude.{◌≡◌, ℕ, zero, suc, ◌+◌, ◌<◌, ◌≤◌, ◌==◌, ◌&&◌, not, Bool, true, false, cond, List, [], ◌∷◌, ◌++◌, length, map, drop, flat_map, Option, None, Some, slice_get, Result, Ok, Err, OnOk}
-use Rattle.std.specs.List.{filter, list_all, repeat}
+use Rattle.std.specs.List.{filter}
 use Rattle.std.proofs.Common.{refl, sym, ap, subst, ◌∙◌, arith, append_assoc, append-nil, zero-add}
 use Rattle.std.proofs.lemmas.Bool.{and_parts, eqb-true}
 use Rattle.step_structures.specs.Trees.{Record, Row, internal, external}
 use Rattle.step_structures.specs.Trees as trees
 use Rattle.express_schemas.specs.Schemas.{Schema}
-use Rattle.type_graphs.specs.Attributes.{Place}
 use Rattle.conformance.specs.declared.finding.Finding.{Finding}
 use Rattle.conformance.specs.declared.finding.FindingKind.{FindingKind}
 use Rattle.conformance.specs.declared.finding.FindingKind.TheVariants.{UnknownEntity, ParameterCount}
 use Rattle.conformance.specs.Bases.{Domain}
 use Rattle.conformance.specs.Entities.{Entities, records, parameters, named_entity, own_places_of, has_count, how_many, types_of, places_of, wrong_counts, abstract_leaves, missing_supertypes, broken_one_ofs}
-use Rattle.conformance.specs.Fitting.{count, is_entity}
 use Rattle.conformance.specs.Findings.{whole, or_next, misfits_from, row_findings, target_in, findings}
-use Rattle.instance_forms.specs.declared.form.Form.{Form}
+use Rattle.row_forms.specs.declared.form.Form.{Form}
 use Rattle.instance_forms.specs.Forms.{IsFormOf, counts_of}
-use Rattle.file_findings.specs.Keywords.{are_entities, unknown_among}
+use Rattle.instance_rows.specs.Keywords.{unknown_among}
 use Rattle.digraph.specs.Graphs.{graph_of}
 use Rattle.row_index.specs.Index.{found}
 use Rattle.step_literals.specs.Words.{upper}
 use Rattle.step_literals.specs.declared.literal.Word.{Word}
 use Rattle.step_exchange.specs.declared.structure.Exchange.{Exchange}
 use Rattle.step_exchange.specs.Exchanges.{structure}
-use Rattle.file_findings.specs.Rows.{rows_in, AreRowsOf, HasTypes, HaveForms, HasFormAmong}
+use Rattle.instance_rows.specs.Rows.{rows_in, AreRowsOf, HaveForms, HasFormAmong}
 use Rattle.file_findings.proofs.Targeting.{target-is}
 use Rattle.file_findings.specs.Counting.{miscounts}
 use Rattle.file_findings.specs.declared.judge.Judge.{Judge}
-use Rattle.file_findings.specs.declared.rows.Rows.{Rows}
-use Rattle.file_findings.specs.Judging.{AreOf, schema_by, target_by, is_sound, types_told, TellsTypes, TellsAll, behind, TellsBehind, IsOfForm, TellsForm, TellsRowsTo, TellsRows, form_at, form_of_number, schema_told}
-use Rattle.file_findings.proofs.Records.{none-unknown, some-unknown}
-use Rattle.file_findings.proofs.Placing.{form-of-row}
+use Rattle.row_forms.specs.declared.rows.Rows.{Rows}
+use Rattle.row_forms.specs.Rows.{form_at, form_of_number}
+use Rattle.file_findings.specs.Judging.{AreOf, schema_by, target_by, is_sound, types_told, TellsTypes, TellsAll, behind, TellsBehind, IsOfForm, TellsForm, TellsRowsTo, TellsRows, schema_told}
+use Rattle.instance_rows.proofs.Records.{none-unknown, some-unknown}
+use Rattle.instance_rows.proofs.Placing.{form-of-row}
 
 -- one more of a whole instance
 pub whole-more : (name n : ℕ) (kind : FindingKind) → whole name kind (suc n)

@@ -1,7 +1,4 @@
-pub mod Naming
-pub mod Records
-pub mod Makings
-pub mod Placing
+pub mod Miscounts
 pub mod Misfitting
 pub mod InTurn
 pub mod Spelling

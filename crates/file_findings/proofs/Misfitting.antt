@@ -1,16 +1,16 @@
 -- Parameters that don't fit, in turn.
-use Rattle.std.specs.Prelude.{◌≡◌, ℕ, zero, suc, ◌+◌, ◌<◌, ◌≤◌, ◌==◌, ◌&&◌, Bool, true, false, cond, List, [], ◌∷◌, ◌++◌, length, map, drop, Option, None, Some, slice_get, get_or, Result, Ok, Err, IfOk}
+use Rattle.std.specs.Prelude.{◌≡◌, ℕ, zero, suc, ◌+◌, ◌<◌, ◌≤◌, ◌&&◌, Bool, true, false, cond, List, [], ◌∷◌, ◌++◌, length, map, drop, Option, None, Some, slice_get, get_or, Result, Ok, Err, IfOk}
 use Rattle.std.proofs.Common.{refl, sym, ap, subst, ◌∙◌, arith, append_assoc, append-nil, add-one}
 use Rattle.std.proofs.Math.ListN.{drop_of_length-le}
 use Rattle.express_schemas.specs.Schemas.{Schema}
 use Rattle.express_schemas.specs.Profile.{Every}
 use Rattle.type_graphs.specs.Names.{Name}
 use Rattle.type_graphs.specs.Attributes.{Place}
-use Rattle.step_structures.specs.Trees.{Tree, Trees, none, one}
+use Rattle.step_structures.specs.Trees.{Tree, Trees, none}
 use Rattle.step_parameters.specs.Params.{parts_of}
 use Rattle.step_exchange.specs.Views.{record_of, record_in, begins_with_keyword, form_of}
 use Rattle.step_exchange.proofs.SchemaNames.{values_behind}
-use Rattle.file_findings.proofs.Makings.{form-internal}
+use Rattle.instance_rows.proofs.Makings.{form-internal}
 use Rattle.step_parameters.specs.Cells.{all_of}
 use Rattle.step_exchange.proofs.Cuts.{drop_next}
 use Rattle.base_types.specs.Seen.{type_at}
@@ -20,10 +20,10 @@ use Rattle.conformance.specs.declared.finding.FindingKind.{FindingKind}
 use Rattle.conformance.specs.declared.finding.FindingKind.TheVariants.{MisplacedStar}
 use Rattle.conformance.specs.Bases as bases
 use Rattle.conformance.specs.Bases.{Domain, base}
-use Rattle.conformance.specs.Entities.{Entities, joined, data_types, records, parameters}
+use Rattle.conformance.specs.Entities.{Entities, joined, records, parameters}
 use Rattle.conformance.specs.Fitting.{Target, or_else, is_dollar, is_star_or_dollar, misfit}
 use Rattle.conformance.specs.Findings.{misfit_of, misfit_at, misfits_from, at_place}
-use Rattle.instance_forms.specs.declared.form.SlotForm.{SlotForm}
+use Rattle.row_forms.specs.declared.form.SlotForm.{SlotForm}
 use Rattle.instance_forms.specs.Forms.{AreSlotsOf, IsSlotOf}
 use Rattle.file_findings.specs.declared.judge.Judge.{Judge}
 use Rattle.file_findings.specs.Judging.{AreOf, schema_by, target_by, TellsBetween, TellsRecord, TellsUpTo, TellsAll}

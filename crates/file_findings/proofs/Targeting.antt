@@ -1,8 +1,7 @@
 -- What references lead to, by the rows of a file.
 use Rattle.std.specs.Prelude.{◌≡◌, ℕ, zero, suc, ◌==◌, Bool, true, false, cond, List, [], ◌∷◌, map, Option, None, Some, slice_get}
 use Rattle.std.specs.Option.{option_map}
-use Rattle.std.specs.List.{list_all}
-use Rattle.std.proofs.Common.{refl, sym, ap, subst, ◌∙◌}
+use Rattle.std.proofs.Common.{refl, sym, ap, ◌∙◌}
 use Rattle.digraph.specs.Graphs.{Graph, graph_of}
 use Rattle.express_schemas.specs.Schemas.{Schema}
 use Rattle.step_structures.specs.Trees.{Row}
@@ -13,13 +12,12 @@ use Rattle.conformance.specs.Bases.{Domain}
 use Rattle.conformance.specs.Entities.{Entities, records, types_of}
 use Rattle.conformance.specs.Fitting.{Target, absent, unknown, of_types}
 use Rattle.conformance.specs.Findings.{target_form, target_in}
-use Rattle.instance_forms.specs.declared.form.Form.{Form}
-use Rattle.instance_forms.specs.Forms.{IsFormOf}
+use Rattle.row_forms.specs.declared.form.Form.{Form}
 use Rattle.parameter_fits.specs.declared.targets.Targets.{Targets}
 use Rattle.parameter_fits.specs.Targets.{of_form, of_row, of_found, target_of}
-use Rattle.file_findings.specs.Keywords.{are_entities}
-use Rattle.file_findings.specs.Rows.{HasFormAmong, HaveForms, AreRowsOf}
-use Rattle.file_findings.specs.declared.rows.Rows.{Rows}
+use Rattle.instance_rows.specs.Keywords.{are_entities}
+use Rattle.instance_rows.specs.Rows.{HasFormAmong, HaveForms}
+use Rattle.row_forms.specs.declared.rows.Rows.{Rows}
 
 mapped-at : (xs : List Form) (n : ℕ) (x : Form) → slice_get xs n ≡ Some x
     → slice_get (map (λ (y : Form). y.types.items) xs) n ≡ Some x.types.items

@@ -1,8 +1,7 @@
 -- Records with another number of parameters than they have attributes.
-use Rattle.std.specs.Prelude.{ℕ, ◌+◌, ◌==◌, Bool, true, false, cond, List, [], ◌∷◌, Option, None, Some, slice_get}
-use Rattle.step_structures.specs.Trees.{Record, Form}
+use Rattle.std.specs.Prelude.{ℕ, ◌+◌, ◌==◌, Bool, false, cond, List, [], ◌∷◌, Option, None, Some}
+use Rattle.step_structures.specs.Trees.{Record}
 use Rattle.conformance.specs.Fitting.{count}
-use Rattle.conformance.specs.Entities.{records}
 
 -- it has as many as are asked, where that is known
 abbrev pub has_as_many : Record → Option ℕ → Bool

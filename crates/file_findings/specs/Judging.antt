@@ -1,5 +1,5 @@
 -- What the parameters of a file are judged by.
-use Rattle.std.specs.Prelude.{◌≡◌, ℕ, ◌==◌, ◌&&◌, Bool, cond, ◌++◌, List, [], ◌∷◌, Option, None, Some, drop, flat_map, slice_get}
+use Rattle.std.specs.Prelude.{◌≡◌, ℕ, ◌==◌, ◌&&◌, Bool, cond, ◌++◌, List, [], ◌∷◌, Option, None, Some, drop, flat_map}
 use Rattle.express_schemas.specs.Schemas.{Schema}
 use Rattle.type_graphs.specs.Names.{Name}
 use Rattle.type_graphs.specs.Attributes.{Place}
@@ -15,13 +15,13 @@ use Rattle.conformance.specs.declared.finding.Spot.TheVariants.{Nothing}
 use Rattle.base_types.specs.Seen.{schema_at}
 use Rattle.base_types.specs.Tables.{AreBases}
 use Rattle.parameter_fits.specs.Targets.{AreTargets, target_of}
-use Rattle.instance_forms.specs.declared.form.SlotForm.{SlotForm}
-use Rattle.instance_forms.specs.declared.form.Form.{Form}
+use Rattle.row_forms.specs.declared.form.SlotForm.{SlotForm}
+use Rattle.row_forms.specs.declared.form.Form.{Form}
 use Rattle.instance_forms.specs.Forms.{AreSlotsOf, IsFormOf}
 use Rattle.file_findings.specs.SchemaNames.{names_the_schema}
-use Rattle.file_findings.specs.Rows.{HasTypes, HaveForms}
+use Rattle.instance_rows.specs.Rows.{HasTypes, HaveForms}
 use Rattle.file_findings.specs.declared.judge.Judge.{Judge}
-use Rattle.file_findings.specs.declared.rows.Rows.{Rows}
+use Rattle.row_forms.specs.declared.rows.Rows.{Rows}
 
 -- the schema by which is judged
 abbrev pub schema_by : Judge → Schema
@@ -57,15 +57,6 @@ TellsUpTo j name slots xs old to left new =
     → AreSlotsOf (schema_by j) en types ps slots
     → new ++ misfits_from (schema_by j) d en (target_by j) name to types (drop to ps) left
     ≡ old ++ misfits_from (schema_by j) d en (target_by j) name 0 types ps xs
-
--- the form of a row
-abbrev pub form_of_number : List Form → Option (Option ℕ) → Option Form
-form_of_number all None = None
-form_of_number all (Some None) = None
-form_of_number all (Some (Some n)) = slice_get all n
-
-abbrev pub form_at : Rows → ℕ → Option Form
-form_at t row = form_of_number t.forms.items (slice_get t.form_of.items row)
 
 -- an instance has a form where all its keywords are entities
 abbrev pub IsOfForm : Schema → Entities → Option Form → trees.Form → Type 0

@@ -5,7 +5,7 @@ ghost use Rattle.step_exchange.specs.Views.{record_of, record_in, form_of};
 ghost use Rattle.conformance.specs.Entities.{records};
 ghost use Rattle.file_findings.specs.Counting.{has_as_many, miscounts};
 
-use crate::keywords::is_internal;
+use instance_rows::keywords::is_internal;
 use step_parameters::param::Params;
 
 /// 1 for a record that has another number of parameters than the one at this index has to have.

@@ -1,6 +1,6 @@
 //! All findings of a file, in order.
 
-ghost use Rattle.std.specs.Prelude.{◌≡◌, ◌++◌, IfOk, OnOk, option_copied};
+ghost use Rattle.std.specs.Prelude.{◌≡◌, ◌++◌, IfOk, OnOk};
 ghost use Rattle.express_trees.specs.Views.{capitals};
 ghost use Rattle.step_exchange.specs.Exchanges.{structure};
 ghost use Rattle.step_exchange.specs.Views.{form_in, form_of, rows_with};
@@ -9,31 +9,31 @@ ghost use Rattle.conformance.specs.Entities.{Entities, AreEntities};
 ghost use Rattle.conformance.specs.Findings.{findings};
 ghost use Rattle.base_types.specs.Tables.{AreBases};
 ghost use Rattle.instance_forms.specs.Knowing.{AreKnown, schema_in};
-ghost use Rattle.file_findings.specs.Rows.{AreRowsOf, rows_in};
+ghost use Rattle.instance_rows.specs.Rows.{AreRowsOf, rows_in};
+ghost use Rattle.row_forms.specs.Rows.{form_at};
 ghost use Rattle.file_findings.specs.Judging.{
   IsJudge,
   TellsBehind,
   TellsForm,
   TellsRows,
   TellsTypes,
-  form_at,
   is_sound,
   schema_told,
 };
 
 use crate::counts::wrong_counts;
 use crate::judge::Judge;
-use crate::keywords::unknown_entities;
 use crate::misfits::tell_misfits;
-use crate::rows::Rows;
 use crate::schema_name::is_of_schema;
 use crate::telling::tell_whole;
 use base_types::lookup::Bases;
 use conformance::finding::{Finding, FindingKind, Spot};
-use instance_forms::form::Form;
 use instance_forms::knowledge::Knowledge;
 use instance_forms::making::entities_are_said;
+use instance_rows::keywords::unknown_entities;
 use parameter_fits::targets::Targets;
+use row_forms::form::Form;
+use row_forms::rows::{Rows, form_at};
 use std::alloc::{AllocError, Global};
 use step_exchange::structure::Exchange;
 use step_literals::literal::Word;
@@ -70,19 +70,6 @@ fn tell_schema(
         spot: Spot::Nothing,
     })?;
     Ok(())
-}
-
-/// The form of the instance of a row; none where one of its keywords is no entity.
-fn form_at(rows: &Rows, row: usize) -> Option<&Form>
-    ensures { option_copied result ≡ form_at rows.now row }
-{
-    let Some(number) = rows.form_of.get(row) else {
-        return None;
-    };
-    match *number {
-        Some(number) => rows.forms.get(number as usize),
-        None => None,
-    }
 }
 
 /// Whether a schema asks nothing of the types of instances of a form that they don't have.

@@ -4,9 +4,6 @@
 mod counts;
 pub mod findings;
 mod judge;
-mod keywords;
-mod making;
 mod misfits;
-pub mod rows;
 mod schema_name;
 mod telling;

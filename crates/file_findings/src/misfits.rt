@@ -23,11 +23,11 @@ ghost use Rattle.file_findings.specs.Judging.{
 };
 
 use crate::judge::Judge;
-use crate::keywords::is_internal;
 use crate::telling::tell_at;
 use conformance::finding::{Finding, FindingKind};
-use instance_forms::form::SlotForm;
+use instance_rows::keywords::is_internal;
 use parameter_fits::fits::misfit;
+use row_forms::form::SlotForm;
 use std::alloc::AllocError;
 use step_parameters::param::{Node, Param, Params};
 

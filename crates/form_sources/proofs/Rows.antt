@@ -3,7 +3,7 @@ use Rattle.std.specs.Prelude.{◌≡◌, ℕ, zero, suc, List, [], ◌∷◌, ma
 use Rattle.std.specs.List.{AllZip}
 use Rattle.std.proofs.Common.{subst}
 use Rattle.express_schemas.specs.Schemas.{Schema}
-use Rattle.instance_forms.specs.declared.form.Form.{Form}
+use Rattle.row_forms.specs.declared.form.Form.{Form}
 use Rattle.population_rules.specs.Rules.{InverseAttribute}
 use Rattle.step_population.specs.Whole.{form_among, types_by_form}
 use Rattle.form_sources.specs.declared.table.NamedSource.{NamedSource}

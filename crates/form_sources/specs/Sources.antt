@@ -5,7 +5,7 @@ use Rattle.express_trees.specs.Views.{capitals}
 use Rattle.express_schemas.specs.Schemas.{Schema}
 use Rattle.express_schemas.specs.Profile.{Every}
 use Rattle.type_graphs.specs.Names.{Name}
-use Rattle.instance_forms.specs.declared.form.Form.{Form}
+use Rattle.row_forms.specs.declared.form.Form.{Form}
 use Rattle.population_rules.specs.Rules.{InverseAttribute}
 use Rattle.express_meanings.specs.Attributes.{Attributes, AreAttributes}
 use Rattle.attribute_sources.specs.declared.source.Source.{Source}

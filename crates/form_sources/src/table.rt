@@ -4,7 +4,7 @@ ghost use Rattle.std.specs.Prelude.{◌≡◌, ℕ, List, map, IfOk, OnOk, IfSom
 ghost use Rattle.express_schemas.specs.Schemas.{Schema};
 ghost use Rattle.express_schemas.specs.Profile.{Every};
 ghost use Rattle.express_trees.specs.Views.{capitals};
-ghost use Rattle.instance_forms.specs.declared.form.Form.{Form};
+ghost use Rattle.row_forms.specs.declared.form.Form.{Form};
 ghost use Rattle.population_rules.specs.Rules.{InverseAttribute as InverseTree};
 ghost use Rattle.step_population.specs.Whole.{form_among, types_by_form, AreNumbered};
 ghost use Rattle.attribute_sources.specs.Seen.{schema_in, AreTypes, inverses_seen};
@@ -19,8 +19,8 @@ ghost use Rattle.form_sources.specs.Sources.{
 use attribute_sources::source::Source;
 use attribute_sources::sources::AttributeSources;
 use express_schemas::tree::{Declaration, Derived, Inverse};
-use instance_forms::form::{Form, SlotForm};
 use resolved_types::types::ResolvedTypes;
+use row_forms::form::{Form, SlotForm};
 use rule_tables::inverses::InverseAttribute;
 use std::alloc::{AllocError, Global};
 use step_literals::literal::Word;
@@ -210,7 +210,7 @@ fn add_type<'s>(
     ensures { OnOk result (AreNamedSources (schema_in schema.now)
         (inverses_seen (schema_in schema.now) inverses.now) types.now row.new.items) }
 {
-    match schema.names.schema.declarations.get(number as usize) {
+    match schema.names.at(number) {
         Some(declaration) => add_declared(row, schema, sources, inverses, types, declaration),
         None => Ok(()),
     }

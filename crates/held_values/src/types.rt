@@ -68,7 +68,7 @@ fn named_bases<'r, 't, 'a: 'r>(
         ≡ entry_in bases.now.table.now.by_declaration.items (number_of (schema_at bases.now) n)) }
 {
     let mut by_name: NamedBases<'r> = IndexMap::with_hasher(alloc, keys);
-    for i in (0..bases.names.schema.declarations.len()).rev() {
+    for i in (0..bases.names.len()).rev() {
         add_name(&mut by_name, bases, i as u32)?;
     }
     Ok(by_name)

@@ -16,7 +16,7 @@ use Rattle.base_types.specs.Seen.{name_at}
 use Rattle.conformance.specs.Fitting.{among, entity_names}
 use Rattle.conformance.specs.Entities.{Entities, AreEntities, named_entity, own_in, own_places_of, types_of, places_of, how_many, abstract_leaves, missing_supertypes, broken_one_ofs}
 use Rattle.instance_forms.specs.declared.knowledge.Knowledge.{Knowledge}
-use Rattle.instance_forms.specs.declared.form.Form.{Form as NumberedForm}
+use Rattle.row_forms.specs.declared.form.Form.{Form as NumberedForm}
 use Rattle.instance_forms.specs.Knowing.{AreKnown, schema_in}
 use Rattle.instance_forms.specs.Forms.{NameEntities, counts_of, AreSlotsOf, IsFormOf}
 use Rattle.instance_forms.specs.Marked.{numbers, is_marked, marks_on, marks_two, AreMarks, is_above, is_kind, is_abstract_at}

@@ -20,7 +20,7 @@ use Rattle.attribute_uses.specs.declared.uses.Uses.{Uses}
 use Rattle.base_types.specs.Seen.{name_at, type_at}
 use Rattle.base_types.specs.Tables.{IsKnown}
 use Rattle.conformance.specs.Entities.{Entities, AreEntities, is_derived, declarations_by}
-use Rattle.instance_forms.specs.declared.form.SlotForm.{SlotForm}
+use Rattle.row_forms.specs.declared.form.SlotForm.{SlotForm}
 use Rattle.instance_forms.specs.Slots.{IsSlotAt, uses_by}
 use Rattle.instance_forms.specs.Forms.{IsSlotOf, AreSlotsOf}
 use Rattle.instance_forms.proofs.Naming.{AreNumbered}

@@ -10,8 +10,8 @@ use Rattle.attribute_places.specs.Places.{all_places}
 use Rattle.base_types.specs.Seen.{name_at, type_at}
 use Rattle.base_types.specs.Tables.{IsKnown}
 use Rattle.conformance.specs.Entities.{Entities, named_entity, own_places_of, types_of, places_of, abstract_leaves, missing_supertypes, broken_one_ofs, is_derived, is_optional, data_types}
-use Rattle.instance_forms.specs.declared.form.SlotForm.{SlotForm}
-use Rattle.instance_forms.specs.declared.form.Form.{Form as NumberedForm}
+use Rattle.row_forms.specs.declared.form.SlotForm.{SlotForm}
+use Rattle.row_forms.specs.declared.form.Form.{Form as NumberedForm}
 
 -- the records name entities of these numbers
 abbrev pub NameEntities : Schema → List Record → List ℕ → Type 0

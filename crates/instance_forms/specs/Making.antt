@@ -4,7 +4,7 @@ use Rattle.std.specs.List.{AllZip}
 use Rattle.digraph.specs.Graphs.{graph_of}
 use Rattle.conformance.specs.Entities.{how_many}
 use Rattle.instance_forms.specs.declared.knowledge.Knowledge.{Knowledge}
-use Rattle.instance_forms.specs.declared.form.Form.{Form}
+use Rattle.row_forms.specs.declared.form.Form.{Form}
 use Rattle.instance_forms.specs.Knowing.{schema_in}
 use Rattle.instance_forms.specs.Marked.{AreMarks, numbers, is_marked, marks_two, is_abstract_at, is_above}
 use Rattle.instance_forms.specs.Slots.{IsSlotAt}

@@ -5,7 +5,7 @@ use Rattle.digraph.specs.Graphs.{graph_of, has, next}
 use Rattle.attribute_uses.specs.Uses.{of_place, uses_at}
 use Rattle.attribute_uses.specs.declared.uses.AttributeUse.{AttributeUse}
 use Rattle.attribute_uses.specs.declared.uses.Uses.{Uses}
-use Rattle.instance_forms.specs.declared.form.SlotForm.{SlotForm}
+use Rattle.row_forms.specs.declared.form.SlotForm.{SlotForm}
 
 -- the declarations of the attribute of a place by these types
 abbrev pub uses_by : Uses → List ℕ → ℕ → List AttributeUse

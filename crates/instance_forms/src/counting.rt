@@ -21,7 +21,7 @@ use schema_names::names::Names;
 fn is_abstract(names: &Names<'_, '_>, number: u32) -> bool
     ensures { result ≡ is_abstract_at (schema_of names.now.schema.now) number }
 {
-    match names.schema.declarations.get(number as usize) {
+    match names.at(number) {
         Some(Declaration::Entity(entity)) => entity.is_abstract,
         _ => false,
     }

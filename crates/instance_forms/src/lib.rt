@@ -3,7 +3,6 @@
 #![tactic(auto)]
 
 mod counting;
-pub mod form;
 pub mod knowledge;
 pub mod making;
 mod marking;

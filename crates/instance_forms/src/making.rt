@@ -10,11 +10,11 @@ ghost use Rattle.instance_forms.specs.Forms.{IsFormOf, NameEntities};
 ghost use Rattle.instance_forms.specs.Making.{IsForm};
 
 use crate::counting::{abstract_leaves, rows_with_two, unmarked_ones};
-use crate::form::Form;
 use crate::knowledge::Knowledge;
 use crate::marking::{marked_numbers, marks_above, marks_on, marks_on_kinds, row_at};
 pub use crate::operands::one_ofs;
 use crate::slots::slots;
+use row_forms::form::Form;
 use std::alloc::{AllocError, Global};
 
 /// The form of instances whose types are marked, and whose records have to have so many

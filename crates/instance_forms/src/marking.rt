@@ -71,7 +71,7 @@ fn unmarked(alloc: Global, known: &Knowledge<'_, '_, '_>) -> Result<Vec<bool>, A
     ensures { IfOk result (λ marks.
         AreMarks (length (schema_in known.now).declarations) (λ i. false) marks.items) }
 {
-    vec![in alloc; false; known.names.schema.declarations.len()]
+    vec![in alloc; false; known.names.len()]
 }
 
 /// Marks on these numbers.

@@ -66,7 +66,7 @@ pub fn one_ofs(alloc: Global, names: &Names<'_, '_>) -> Result<Vec<Vec<u32>>, Al
         (graph_of rows.items)) }
 {
     let mut rows = Vec::new(alloc);
-    for declaration in &names.schema.declarations {
+    for declaration in names.declarations() {
         add_operands(alloc, names, declaration, &mut rows)?;
     }
     Ok(rows)

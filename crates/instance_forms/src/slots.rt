@@ -7,9 +7,9 @@ ghost use Rattle.attribute_uses.specs.Uses.{of_place, uses_at};
 ghost use Rattle.attribute_uses.specs.declared.uses.AttributeUse.{AttributeUse};
 ghost use Rattle.instance_forms.specs.Slots.{IsSlotAt};
 
-use crate::form::SlotForm;
 use crate::marking::row_at;
 use attribute_uses::uses::{AttributeUse, Uses};
+use row_forms::form::SlotForm;
 use std::alloc::{AllocError, Global};
 
 /// The declarations of explicit attributes by an entity; none where it is no number of one.

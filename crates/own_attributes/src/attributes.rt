@@ -99,7 +99,7 @@ pub fn declares_at(names: &Names<'_, '_>, number: u32, meant: Meant, name: Word<
     ensures { result
         ≡ declares_at (schema_of names.now.schema.now) meant (capitals name.entry) number }
 {
-    match names.schema.declarations.get(number as usize) {
+    match names.at(number) {
         Some(declaration) => declares(declaration, meant, name),
         None => false,
     }

@@ -132,7 +132,7 @@ fn is_among(word: Word<'_>, words: &[Word<'_>]) -> bool
 fn has_item(bases: &Bases<'_, '_, '_>, number: u32, word: Word<'_>) -> bool
     ensures { result ≡ among (upper word.entry.text.now) (items_at (schema_at bases.now) number) }
 {
-    match bases.names.schema.declarations.get(number as usize) {
+    match bases.names.at(number) {
         Some(declaration) => is_among(word, items_in(declaration)),
         None => false,
     }

@@ -1,5 +1,7 @@
-//! Tests of the typed populations of files.
+//! Tests of the typed populations of small files, and of the instances that keep their identity.
 #![tactic(auto)]
 
+#[cfg(test)]
+mod pinned;
 #[cfg(test)]
 mod populations;

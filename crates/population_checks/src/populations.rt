@@ -4,6 +4,7 @@ ghost use Rattle.resolved_types.specs.Made.{IsMade};
 
 use express_schemas::tree::SchemaTree;
 use express_text::read_schema;
+use populating::populate::{Verdict, populate};
 use resolved_types::resolving::resolve_types;
 use resolved_types::types::ResolvedTypes;
 use std::alloc::Global;
@@ -13,7 +14,6 @@ use step_equal::plain::Plain;
 use step_exchange::exchange::read_exchange;
 use step_exchange::structure::Exchange;
 use step_literals::literal::Word;
-use step_population::populate::{Verdict, populate};
 use step_population::population::Population;
 use step_values::slot::{Kind, Slots};
 

@@ -8,7 +8,7 @@ use Rattle.express_schemas.specs.Profile.{Every}
 use Rattle.base_types.specs.Seen.{name_at}
 use Rattle.conformance.specs.Populations.{Instance}
 use Rattle.step_values.specs.Values.{Values}
-use Rattle.instance_forms.specs.declared.form.Form.{Form}
+use Rattle.row_forms.specs.declared.form.Form.{Form}
 use Rattle.instance_forms.proofs.Naming.{among-is}
 use Rattle.population_rules.specs.Rules as rules
 use Rattle.population_rules.specs.Findings.{Breach, may_hold, breaks, breaches_of_inverse}

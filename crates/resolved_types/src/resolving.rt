@@ -3,9 +3,11 @@
 ghost use Rattle.std.specs.Prelude.{◌≡◌, IfOk, MatchResult};
 ghost use Rattle.std.specs.String.{string_bytes};
 ghost use Rattle.digraph.specs.Graphs.{graph_of};
+ghost use Rattle.digraph.specs.Closures.{IsClosure};
 ghost use Rattle.express_trees.specs.Views.{capitals};
 ghost use Rattle.express_schemas.specs.SchemaViews.{schema_of};
-ghost use Rattle.type_graphs.specs.Faults.{IsResolved};
+ghost use Rattle.type_graphs.specs.Faults.{IsFault, IsResolved};
+ghost use Rattle.schema_names.specs.Edges.{IsGraphOf, supertypes_in};
 ghost use Rattle.own_attributes.specs.Above.{AreAbove};
 ghost use Rattle.resolved_types.specs.Made.{IsMade};
 ghost use Rattle.resolved_types.specs.Resolving.{IsFound, IsResolution, IsSaid, IsNameFault};
@@ -67,6 +69,28 @@ enum Resolution<'t, 'a> {
     Faulty(Faulty<'a>),
 }
 
+/// What is above each declaration of a schema whose names are resolved; else the fault that is
+/// answered.
+fn above_or_fault<'a>(
+    alloc: Global,
+    keys: RandomState,
+    names: &Names<'_, 'a>,
+    supertypes: &[Vec<u32>],
+) -> Result<Result<Vec<Vec<u32>>, Faulty<'a>>, AllocError>
+    requires graph { IsGraphOf (schema_of names.now.schema.now) supertypes_in
+        (graph_of supertypes.now) }
+    ensures { IfOk result (λ found. MatchResult found
+        (λ above. IsResolved (schema_of names.now.schema.now)
+        × IsClosure (graph_of supertypes.now) (graph_of above.items))
+        (λ faulty. IsFault (schema_of names.now.schema.now) faulty.kind (capitals faulty.name))) }
+{
+    let above = closure(alloc, supertypes)?;
+    match first_fault(alloc, keys, names, &above)? {
+        Some(faulty) => Ok(Err(faulty)),
+        None => Ok(Ok(above)),
+    }
+}
+
 /// The types of a schema, or the fault that is answered.
 fn try_resolve<'t, 'a>(
     alloc: Global,
@@ -77,12 +101,13 @@ fn try_resolve<'t, 'a>(
 {
     let names = Names::of(alloc, keys, schema)?;
     let supertypes = supertype_graph(alloc, &names)?;
-    let above = closure(alloc, &supertypes)?;
-    if let Some(faulty) = first_fault(alloc, keys, &names, &above)? {
-        return Ok(Resolution::Faulty(faulty));
+    match above_or_fault(alloc, keys, &names, &supertypes)? {
+        Ok(above) => {
+            let types = make_types(alloc, names, &supertypes, above)?;
+            Ok(Resolution::Resolved(types))
+        }
+        Err(faulty) => Ok(Resolution::Faulty(faulty)),
     }
-    let types = make_types(alloc, names, &supertypes, above)?;
-    Ok(Resolution::Resolved(types))
 }
 
 /// The fault that says what is wrong with a name; where there is no memory for it, that.

@@ -2,7 +2,7 @@
 use Rattle.std.specs.Prelude.{◌≡◌, ℕ, zero, suc, ◌+◌, ◌<◌, Bool, true, false, cond, List, [], ◌∷◌, map, length, Option, None, Some}
 use Rattle.std.proofs.Common.{sym, ap, ◌∙◌, drop, get_or, add-one, arith}
 use Rattle.express_schemas.specs.Profile.{Every}
-use Rattle.instance_forms.specs.declared.form.Form.{Form}
+use Rattle.row_forms.specs.declared.form.Form.{Form}
 use Rattle.step_population.proofs.Turns.{drop-got}
 use Rattle.step_extent.specs.Inverses.{row_by}
 use Rattle.domain_rules.specs.declared.rule.DomainRule.{DomainRule}

@@ -1,7 +1,7 @@
 -- Which rules may have a value of SELF at instances of a form.
 use Rattle.std.specs.Prelude.{ℕ, suc, Bool, true, cond, List, [], ◌∷◌}
 use Rattle.digraph.specs.Graphs.{has}
-use Rattle.instance_forms.specs.declared.form.Form.{Form}
+use Rattle.row_forms.specs.declared.form.Form.{Form}
 use Rattle.domain_rules.specs.declared.rule.RuleHolder.{RuleHolder}
 use Rattle.domain_rules.specs.declared.rule.RuleHolder.TheVariants as holders
 use Rattle.domain_rules.specs.declared.rule.DomainRule.{DomainRule}

@@ -6,7 +6,7 @@ use Rattle.express_schemas.specs.Schemas.{Schema}
 use Rattle.express_schemas.specs.Profile.{Every}
 use Rattle.base_types.specs.Seen.{name_at}
 use Rattle.conformance.specs.Populations.{Instance}
-use Rattle.instance_forms.specs.declared.form.Form.{Form}
+use Rattle.row_forms.specs.declared.form.Form.{Form}
 use Rattle.domain_rules.specs.declared.rule.RuleHolder.{RuleHolder}
 use Rattle.domain_rules.specs.declared.rule.RuleHolder.TheVariants as holders
 use Rattle.domain_rules.specs.declared.rule.DomainRule.{DomainRule}

@@ -50,7 +50,7 @@ fn table_for(alloc: Global, names: &Names<'_, '_>, declared: u32) -> Result<Vec<
     ensures { IfOk result (λ t. IsTableFor (schema_of names.now.schema.now) declared t.items) }
 {
     let mut table = Vec::new(alloc);
-    for number in 0..names.schema.declarations.len() {
+    for number in 0..names.len() {
         table.push(is_defined_by(names, number as u32, declared))?;
     }
     Ok(table)
@@ -113,7 +113,7 @@ pub fn union_of(
         (map (λ v. v.items) tables.now) t.items) }
 {
     let mut union = Vec::new(alloc);
-    for number in 0..names.schema.declarations.len() {
+    for number in 0..names.len() {
         union.push(is_in_any(tables, number as u32))?;
     }
     Ok(union)

@@ -192,7 +192,7 @@ pub fn inverse_attributes<'a>(
         t.items) }
 {
     let mut attributes = Vec::new(alloc);
-    let declarations = &sources.known.tables.names.schema.declarations;
+    let declarations = sources.known.tables.names.declarations();
     add_all(&mut attributes, sources, declarations)?;
     Ok(attributes)
 }

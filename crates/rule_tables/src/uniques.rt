@@ -249,7 +249,7 @@ pub fn unique_rules<'a>(
         t.items) }
 {
     let mut rules = Vec::new(alloc);
-    let declarations = &sources.known.tables.names.schema.declarations;
+    let declarations = sources.known.tables.names.declarations();
     add_all(alloc, &mut rules, sources, declarations)?;
     Ok(rules)
 }

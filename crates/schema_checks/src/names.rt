@@ -130,7 +130,7 @@ pub(crate) fn has_places(
     let Some(number) = number(types, name) else {
         return false;
     };
-    if (number as usize) >= types.names.schema.declarations.len() {
+    if (number as usize) >= types.names.len() {
         return false;
     }
     are_places(&types.places.attributes, types.places(number), wanted)
@@ -146,7 +146,7 @@ pub(crate) fn are_kinds(
     let (Some(lower), Some(upper)) = (number(types, lower), number(types, upper)) else {
         return false;
     };
-    if (lower as usize) >= types.names.schema.declarations.len() {
+    if (lower as usize) >= types.names.len() {
         return false;
     }
     types.is_kind_of(lower, upper) == wanted

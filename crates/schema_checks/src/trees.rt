@@ -126,15 +126,19 @@ const CASES: &'static [Case] = &[
     ),
 ];
 
+fn declaration_at<'t, 'a>(schema: &'t SchemaTree<'a>, place: usize) -> Option<&'t Declaration<'a>> {
+    schema.declarations.get(place)
+}
+
 fn entity_at<'t, 'a>(schema: &'t SchemaTree<'a>, place: usize) -> Option<&'t Entity<'a>> {
-    match schema.declarations.get(place) {
+    match declaration_at(schema, place) {
         Some(Declaration::Entity(entity)) => Some(entity),
         _ => None,
     }
 }
 
 fn underlying_at<'t, 'a>(schema: &'t SchemaTree<'a>, place: usize) -> Option<&'t Underlying<'a>> {
-    match schema.declarations.get(place) {
+    match declaration_at(schema, place) {
         Some(Declaration::Type(declared)) => Some(&declared.underlying),
         _ => None,
     }
@@ -184,7 +188,7 @@ pub(crate) fn entities_are_read(schema: &SchemaTree<'_>) -> bool {
 
 /// Whether the function of `GEO` is kept as it stands.
 pub(crate) fn is_function_kept(schema: &SchemaTree<'_>) -> bool {
-    match schema.declarations.get(17) {
+    match declaration_at(schema, 17) {
         Some(Declaration::Skipped(Skipped::Function(name, tokens))) => {
             name.spelling() == b"ok".as_slice()
                 && tokens.passage().text()

@@ -41,7 +41,7 @@ pub fn check_demands<'a>(names: &Names<'_, 'a>, above: &[Vec<u32>]) -> Result<()
     ensures { Checks (schema_of names.now.schema.now) (demands (schema_of names.now.schema.now))
         result }
 {
-    for declaration in &names.schema.declarations {
+    for declaration in names.declarations() {
         check_declaration(names, above, declaration)?;
     }
     Ok(())

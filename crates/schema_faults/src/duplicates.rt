@@ -28,6 +28,6 @@ pub fn first_duplicate<'a>(
         names: IndexSet::with_hasher(alloc, keys),
         duplicate: None,
     };
-    see_all(&mut seen, &names.schema.declarations)?;
+    see_all(&mut seen, names.declarations())?;
     Ok(seen.duplicate)
 }

@@ -16,8 +16,9 @@ use conformance::finding::Finding;
 use conforming_values::laws::no_findings_exactly_where_it_conforms;
 use express_types::graph::TypeGraph;
 use file_findings::findings::findings;
-use file_findings::rows::rows_of;
 use instance_forms::making::entities_are_said;
+use instance_rows::rows::rows_of;
+use populating::populate::{Verdict, populate_by};
 use resolved_types::types::ResolvedTypes;
 use rule_outcomes::report::{RuleReport, empty_report};
 use schema_tables::tables::SchemaTables;
@@ -25,7 +26,6 @@ use setting_tables::tables::SettingTables;
 use std::alloc::{AllocError, Global};
 use std::hash::RandomState;
 use step_exchange::structure::Exchange;
-use step_population::populate::{Verdict, populate_by};
 
 /// What is found of a file.
 #[derive(Drop)]

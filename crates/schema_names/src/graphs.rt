@@ -120,7 +120,7 @@ fn graph(
         IsGraphOf (schema_of names.now.schema.now) (named_in relation) (graph_of rows.items)) }
 {
     let mut rows = Vec::new(alloc);
-    for declaration in &names.schema.declarations {
+    for declaration in names.declarations() {
         let row = numbers_of(alloc, names, named_in(relation, declaration))?;
         rows.push(row)?;
     }

@@ -10,10 +10,12 @@ ghost use Rattle.std.specs.Prelude.{
   cond,
   length,
   map,
+  option_copied,
   slice_get,
   IfOk,
   OnOk,
 };
+ghost use Rattle.std.specs.Vec.{vec_len};
 ghost use Rattle.indexmap.specs.IndexMap.{get};
 ghost use Rattle.step_literals.specs.declared.literal.Word.{Word};
 ghost use Rattle.express_trees.specs.Views.{capitals};
@@ -133,5 +135,27 @@ impl<'t, 'a> Names<'t, 'a> {
         ensures { slice_get self.now.schema.now.declarations.items number ≡ Some result.now }
     {
         &self.schema.declarations[number as usize]
+    }
+
+    /// What is declared at a number; none where nothing is.
+    pub fn at(&self, number: u32) -> Option<&Declaration<'a>>
+        ensures { option_copied result
+            ≡ slice_get self.now.schema.now.declarations.items number }
+    {
+        self.schema.declarations.get(number as usize)
+    }
+
+    /// How many declarations there are.
+    pub fn len(&self) -> usize
+        ensures { result ≡ vec_len self.now.schema.now.declarations }
+    {
+        self.schema.declarations.len()
+    }
+
+    /// All that is declared, by number.
+    pub fn declarations(&self) -> &[Declaration<'a>]
+        ensures { result.now ≡ self.now.schema.now.declarations.items }
+    {
+        &self.schema.declarations
     }
 }

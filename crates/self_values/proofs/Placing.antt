@@ -28,8 +28,8 @@ use Rattle.base_types.specs.Tables.{IsKnown, IsNumbered}
 use Rattle.attribute_uses.specs.declared.uses.AttributeUse.{AttributeUse}
 use Rattle.attribute_uses.specs.declared.uses.Uses.{Uses}
 use Rattle.attribute_uses.specs.Uses.{HasPlace, of_place, uses_at, seen, said, AreUses}
-use Rattle.instance_forms.specs.declared.form.Form.{Form}
-use Rattle.instance_forms.specs.declared.form.SlotForm.{SlotForm}
+use Rattle.row_forms.specs.declared.form.Form.{Form}
+use Rattle.row_forms.specs.declared.form.SlotForm.{SlotForm}
 use Rattle.instance_forms.specs.Slots.{uses_by}
 use Rattle.instance_forms.proofs.Naming.{among-is}
 use Rattle.step_population.specs.Seen.{or_nowhere, place_at, slots_seen, instance_seen}

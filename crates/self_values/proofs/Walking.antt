@@ -14,7 +14,7 @@ use Rattle.base_types.specs.Making.{entry}
 use Rattle.attribute_uses.specs.declared.uses.AttributeUse.{AttributeUse}
 use Rattle.attribute_uses.specs.declared.uses.Uses.{Uses}
 use Rattle.attribute_uses.specs.Uses.{of_place, uses_at}
-use Rattle.instance_forms.specs.declared.form.SlotForm.{SlotForm}
+use Rattle.row_forms.specs.declared.form.SlotForm.{SlotForm}
 use Rattle.instance_forms.specs.Slots.{uses_by}
 use Rattle.step_population.proofs.Turns.{drop-item}
 use Rattle.self_values.specs.declared.sought.Sought.{Sought}

@@ -17,8 +17,8 @@ use Rattle.base_types.specs.declared.base.Base.TheVariants as bases
 use Rattle.base_types.specs.Making.{entry}
 use Rattle.base_types.specs.Seen.{name_at}
 use Rattle.attribute_uses.specs.declared.uses.AttributeUse.{AttributeUse}
-use Rattle.instance_forms.specs.declared.form.Form.{Form as InstanceForm}
-use Rattle.instance_forms.specs.declared.form.SlotForm.{SlotForm}
+use Rattle.row_forms.specs.declared.form.Form.{Form as InstanceForm}
+use Rattle.row_forms.specs.declared.form.SlotForm.{SlotForm}
 use Rattle.instance_forms.specs.Slots.{uses_by}
 use Rattle.express_logic.specs.Data.{Datum}
 use Rattle.held_values.specs.Coded.{number_base, named_base, element_base, coded_datum}

@@ -45,7 +45,7 @@ use attribute_uses::uses::{AttributeUse, Uses};
 use base_types::base::Base;
 use express_settings::setting::Setting;
 use held_values::element::Element;
-use instance_forms::form::{Form, SlotForm};
+use row_forms::form::{Form, SlotForm};
 use std::alloc::{AllocError, Global};
 use step_population::population::Population;
 use step_values::slot::Slots;

@@ -9,3 +9,4 @@ pub mod Places
 pub mod Outcome
 pub mod Whole
 pub mod Writing
+pub mod Counts

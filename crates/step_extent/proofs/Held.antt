@@ -12,7 +12,7 @@ use Rattle.attribute_places.proofs.Repeats.{AreOne}
 use Rattle.step_values.specs.Values.{Value, leaf, reference, typed, sequence, bag, Values, none, more}
 use Rattle.base_types.specs.Seen.{name_at}
 use Rattle.conformance.specs.Populations.{slot_at}
-use Rattle.instance_forms.specs.declared.form.Form.{Form}
+use Rattle.row_forms.specs.declared.form.Form.{Form}
 use Rattle.instance_forms.proofs.Naming.{among-is}
 use Rattle.population_rules.specs.Referring.{times, times_in, times_at, holds, held}
 use Rattle.referrers.specs.declared.referrers.Reference.{Reference}

@@ -2,7 +2,7 @@
 use Rattle.std.specs.Prelude.{◌≡◌, ℕ, ◌+◌, cond, List, ◌∷◌, length}
 use Rattle.std.proofs.Common.{sym, ap, ◌∙◌, ◌<◌, drop, get_or, add-one}
 use Rattle.digraph.specs.Graphs.{has}
-use Rattle.instance_forms.specs.declared.form.Form.{Form}
+use Rattle.row_forms.specs.declared.form.Form.{Form}
 use Rattle.rule_tables.specs.declared.inverses.InverseAttribute.{InverseAttribute}
 use Rattle.step_extent.specs.Inverses.{numbers_by}
 use Rattle.step_population.proofs.Turns.{drop-got}

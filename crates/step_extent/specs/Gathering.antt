@@ -3,7 +3,7 @@ use Rattle.std.specs.Prelude.{◌≡◌, ℕ, cond, List, flat_map, Option, None
 use Rattle.digraph.specs.Graphs.{has}
 use Rattle.express_schemas.specs.Schemas.{Schema}
 use Rattle.conformance.specs.Populations.{Instance}
-use Rattle.instance_forms.specs.declared.form.Form.{Form}
+use Rattle.row_forms.specs.declared.form.Form.{Form}
 use Rattle.population_rules.specs.Referring.{held}
 use Rattle.referrers.specs.declared.referrers.Reference.{Reference}
 use Rattle.referrers.specs.Referring.{referrers_of}

@@ -2,7 +2,7 @@
 use Rattle.std.specs.Prelude.{ℕ, suc, cond, List, [], ◌∷◌, Option, None, Some, slice_get}
 use Rattle.digraph.specs.Graphs.{has}
 use Rattle.base_types.specs.Seen.{or_empty}
-use Rattle.instance_forms.specs.declared.form.Form.{Form}
+use Rattle.row_forms.specs.declared.form.Form.{Form}
 use Rattle.rule_tables.specs.declared.inverses.InverseAttribute.{InverseAttribute}
 
 -- the numbers, from n on, of those that instances of a form have

@@ -4,7 +4,7 @@ ghost use Rattle.std.specs.Prelude.{◌≡◌, map, IfOk};
 ghost use Rattle.digraph.specs.Graphs.{has};
 ghost use Rattle.step_extent.specs.Inverses.{numbers_by, row_by};
 
-use instance_forms::form::Form;
+use row_forms::form::Form;
 use rule_tables::inverses::InverseAttribute;
 use std::alloc::{AllocError, Global};
 

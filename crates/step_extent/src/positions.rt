@@ -4,7 +4,7 @@ ghost use Rattle.std.specs.Prelude.{◌≡◌, IfOk, is_some, map};
 ghost use Rattle.std.specs.List.{list_any};
 ghost use Rattle.step_extent.specs.Gathering.{position_at, position_by};
 
-use instance_forms::form::Form;
+use row_forms::form::Form;
 use rule_tables::inverses::InverseAttribute;
 use std::alloc::{AllocError, Global};
 use step_population::reading::position_of;

@@ -6,7 +6,7 @@ use Rattle.express_schemas.specs.Schemas.{Schema}
 use Rattle.type_graphs.specs.Names.{OneOf}
 use Rattle.conformance.specs.Populations.{Slot}
 use Rattle.conforming_values.specs.Standing.{InBag}
-use Rattle.instance_forms.specs.declared.form.SlotForm.{SlotForm}
+use Rattle.row_forms.specs.declared.form.SlotForm.{SlotForm}
 use Rattle.step_population.specs.Seen.{slots_seen}
 use Rattle.step_values.specs.Slots.{nth}
 use Rattle.step_values.specs.Values.{Value, Values, none, more}

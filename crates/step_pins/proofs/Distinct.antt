@@ -11,9 +11,9 @@ use Rattle.step_structures.specs.Trees.{Row}
 use Rattle.step_structures.specs.Texts.{IsRead}
 use Rattle.step_values.specs.Values.{Values}
 use Rattle.conformance.specs.Populations.{Instance}
-use Rattle.instance_forms.specs.declared.form.Form.{Form}
-use Rattle.file_findings.specs.Rows.{rows_in}
-use Rattle.file_findings.proofs.Placing.{names-are}
+use Rattle.row_forms.specs.declared.form.Form.{Form}
+use Rattle.instance_rows.specs.Rows.{rows_in}
+use Rattle.instance_rows.proofs.Placing.{names-are}
 use Rattle.population_rules.specs.Laws.{names}
 use Rattle.step_exchange.specs.Exchanges.{structure}
 use Rattle.step_population.specs.Seen.{instance_seen, instances_seen, section_numbers, population_seen}

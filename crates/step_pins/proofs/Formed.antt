@@ -21,8 +21,8 @@ use Rattle.conformance.specs.Entities.{Entities, AreEntities, is_leaf}
 use Rattle.conformance.specs.Fitting.{among}
 use Rattle.conformance.specs.Populations.{Slot, Instance, slot_at}
 use Rattle.instance_forms.specs.Marked.{is_above}
-use Rattle.instance_forms.specs.declared.form.Form.{Form}
-use Rattle.instance_forms.specs.declared.form.SlotForm.{SlotForm}
+use Rattle.row_forms.specs.declared.form.Form.{Form}
+use Rattle.row_forms.specs.declared.form.SlotForm.{SlotForm}
 use Rattle.instance_forms.proofs.Naming.{among-is}
 use Rattle.instance_forms.proofs.Kindred.{below-is}
 use Rattle.population_rules.specs.Pins.{HasUnchosenLeaf, OccursAt}

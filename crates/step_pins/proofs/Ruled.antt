@@ -15,7 +15,7 @@ use Rattle.base_types.specs.Seen.{name_at}
 use Rattle.conformance.specs.Entities.{Entities, AreEntities}
 use Rattle.conformance.specs.Fitting.{among}
 use Rattle.conformance.specs.Populations.{Instance}
-use Rattle.instance_forms.specs.declared.form.Form.{Form}
+use Rattle.row_forms.specs.declared.form.Form.{Form}
 use Rattle.population_rules.specs.Pins.{HasUnchosenLeaf, OccursAt}
 use Rattle.population_rules.specs.Rules as rules
 use Rattle.rule_tables.specs.Seen.{unique_seen, IsNumberedUnique}

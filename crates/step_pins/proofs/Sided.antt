@@ -9,7 +9,7 @@ use Rattle.type_graphs.specs.Names.{OneOf, Among}
 use Rattle.base_types.specs.Seen.{name_at}
 use Rattle.conformance.specs.Fitting.{among}
 use Rattle.conformance.specs.Populations.{Instance, types_at}
-use Rattle.instance_forms.specs.declared.form.Form.{Form}
+use Rattle.row_forms.specs.declared.form.Form.{Form}
 use Rattle.instance_forms.proofs.Naming.{among-is}
 use Rattle.population_rules.specs.Laws.{names}
 use Rattle.population_rules.specs.Pins.{IsInverseSide}

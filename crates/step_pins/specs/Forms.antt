@@ -3,7 +3,7 @@ use Rattle.std.specs.Prelude.{◌≡◌, ℕ, ◌&&◌, ◌||◌, not, Bool, con
 use Rattle.std.specs.List.{list_any}
 use Rattle.digraph.specs.Graphs.{Graph, graph_of, has}
 use Rattle.instance_forms.specs.Marked.{is_above}
-use Rattle.instance_forms.specs.declared.form.Form.{Form}
+use Rattle.row_forms.specs.declared.form.Form.{Form}
 use Rattle.rule_tables.specs.declared.uniques.UniqueRule.{UniqueRule}
 use Rattle.chosen_types.specs.Chosen.{is_chosen}
 use Rattle.chosen_types.specs.declared.choice.Chosen.{Chosen}

@@ -9,7 +9,7 @@ use Rattle.conformance.specs.Populations.{Slot, Instance, slot_at}
 use Rattle.conforming_values.specs.Standing.{InBag}
 use Rattle.population_rules.specs.Pins.{HasUnchosenLeaf, OccursAt}
 use Rattle.population_rules.specs.Rules.{UniqueRule}
-use Rattle.instance_forms.specs.declared.form.Form.{Form}
+use Rattle.row_forms.specs.declared.form.Form.{Form}
 use Rattle.step_population.specs.Seen.{slots_seen}
 use Rattle.step_values.specs.Slots.{nth}
 use Rattle.step_values.specs.Values.{Values}

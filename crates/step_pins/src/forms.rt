@@ -14,7 +14,7 @@ ghost use Rattle.step_pins.specs.Forms.{
 };
 
 use chosen_types::choice::Chosen;
-use instance_forms::form::{Form, SlotForm};
+use row_forms::form::{Form, SlotForm};
 use rule_tables::uniques::UniqueRule;
 use std::alloc::{AllocError, Global};
 use step_population::reading::position_of;

@@ -17,7 +17,7 @@ ghost use Rattle.step_pins.specs.Rows.{PinsByForm, PinnedAt, PinnedBy, PinnedAmo
 
 use crate::forms::{FormRules, Sources, rules_by_form};
 use chosen_types::choice::Chosen;
-use instance_forms::form::{Form, SlotForm};
+use row_forms::form::{Form, SlotForm};
 use rule_tables::tables::RuleTables;
 use std::alloc::{AllocError, Global};
 use std::collections::BTreeSet;

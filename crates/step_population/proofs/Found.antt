@@ -26,12 +26,12 @@ use Rattle.step_values.specs.Values.{Value, leaf, reference, typed, sequence, ba
 use Rattle.step_values.proofs.References.{each_weaker_of}
 use Rattle.schema_names.specs.Numbers.{HasNumber}
 use Rattle.parameter_fits.proofs.Pointwise.{places_stand}
-use Rattle.file_findings.specs.Judging.{form_at as form_in_rows}
+use Rattle.row_forms.specs.Rows.{form_at as form_in_rows}
 use Rattle.row_index.specs.Index.{found, place_of}
 use Rattle.base_types.specs.Making.{is_entity_at}
 use Rattle.base_types.specs.Seen.{name_at}
-use Rattle.instance_forms.specs.declared.form.SlotForm.{SlotForm}
-use Rattle.instance_forms.specs.declared.form.Form.{Form}
+use Rattle.row_forms.specs.declared.form.SlotForm.{SlotForm}
+use Rattle.row_forms.specs.declared.form.Form.{Form}
 use Rattle.conformance.specs.Populations.{Slot, Instance, instance_at, slot_at, value_in, value_of, types_in, types_at}
 use Rattle.step_population.specs.Seen.{or_nowhere, place_at, slots_seen, instance_seen, instances_seen, section_numbers, population_seen, nodes_seen}
 use Rattle.step_population.specs.Whole.{form_among, types_by_form, slot_count, ArePlaced, HaveEntities, AreNumbered, HaveSlots}

@@ -1,9 +1,4 @@
 pub mod Turns
-pub mod Typed
-pub mod Clean
-pub mod Populating
-pub mod Judged
-pub mod Verdicts
 pub mod Found
 pub mod Rowwise
 pub mod Ordered
@@ -11,4 +6,3 @@ pub mod Orders
 pub mod Headed
 pub mod Copied
 pub mod RowsMade
-pub mod Entities

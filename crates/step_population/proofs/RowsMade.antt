@@ -13,8 +13,8 @@ use Rattle.attribute_places.proofs.Repeats.{AreOne}
 use Rattle.base_types.specs.Seen.{name_at}
 use Rattle.conformance.specs.Entities.{own_places_of}
 use Rattle.conformance.specs.Populations.{slot_at}
-use Rattle.instance_forms.specs.declared.form.SlotForm.{SlotForm}
-use Rattle.instance_forms.specs.declared.form.Form.{Form}
+use Rattle.row_forms.specs.declared.form.SlotForm.{SlotForm}
+use Rattle.row_forms.specs.declared.form.Form.{Form}
 use Rattle.step_values.specs.Values.{Values, none, more}
 use Rattle.step_values.specs.Views.{word_of}
 use Rattle.step_equal.specs.Rows.{Row}

@@ -5,8 +5,8 @@ use Rattle.express_schemas.specs.Schemas.{Schema}
 use Rattle.express_schemas.specs.Profile.{Every}
 use Rattle.step_values.specs.Values.{Values}
 use Rattle.row_index.specs.Index.{found}
-use Rattle.file_findings.specs.Judging.{form_at as form_in_rows}
-use Rattle.instance_forms.specs.declared.form.Form.{Form}
+use Rattle.row_forms.specs.Rows.{form_at as form_in_rows}
+use Rattle.row_forms.specs.declared.form.Form.{Form}
 use Rattle.step_population.specs.Seen.{instance_seen, instances_seen, section_numbers, population_seen}
 use Rattle.step_population.specs.Whole.{form_among, ArePlaced, HaveEntities, AreNumbered}
 use Rattle.step_population.specs.declared.population.Population.{Population}

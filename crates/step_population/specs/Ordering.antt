@@ -12,8 +12,8 @@ use Rattle.step_equal.specs.Settled.{AreInOrder}
 use Rattle.step_equal.specs.declared.row.RowHead.{RowHead}
 use Rattle.base_types.specs.Seen.{name_at}
 use Rattle.conformance.specs.Entities.{own_places_of}
-use Rattle.instance_forms.specs.declared.form.SlotForm.{SlotForm}
-use Rattle.instance_forms.specs.declared.form.Form.{Form}
+use Rattle.row_forms.specs.declared.form.SlotForm.{SlotForm}
+use Rattle.row_forms.specs.declared.form.Form.{Form}
 use Rattle.step_population.specs.declared.ordering.Order.{Order}
 use Rattle.step_population.specs.PlainRows.{or_unset}
 

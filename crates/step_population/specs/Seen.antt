@@ -9,8 +9,8 @@ use Rattle.step_exchange.specs.declared.section.Section.{Section}
 use Rattle.step_values.specs.NodeCounts.{nodes_of}
 use Rattle.step_values.specs.Values.{Values, more}
 use Rattle.base_types.specs.Seen.{name_at}
-use Rattle.instance_forms.specs.declared.form.SlotForm.{SlotForm}
-use Rattle.instance_forms.specs.declared.form.Form.{Form}
+use Rattle.row_forms.specs.declared.form.SlotForm.{SlotForm}
+use Rattle.row_forms.specs.declared.form.Form.{Form}
 use Rattle.conformance.specs.Populations.{Slot, Instance}
 use Rattle.step_population.specs.Whole.{form_among}
 use Rattle.step_population.specs.declared.population.Population.{Population}

@@ -11,9 +11,9 @@ use Rattle.step_values.specs.Building.{Kept}
 use Rattle.step_values.specs.ComputedAgreement.{size}
 use Rattle.step_values.specs.Targets.{LeadTo, ReferTo}
 use Rattle.step_values.specs.Values.{Values}
-use Rattle.instance_forms.specs.declared.form.SlotForm.{SlotForm}
-use Rattle.instance_forms.specs.declared.form.Form.{Form}
-use Rattle.file_findings.specs.declared.rows.Rows.{Rows}
+use Rattle.row_forms.specs.declared.form.SlotForm.{SlotForm}
+use Rattle.row_forms.specs.declared.form.Form.{Form}
+use Rattle.row_forms.specs.declared.rows.Rows.{Rows}
 
 -- the form of a number, where there is one
 abbrev pub form_among : List Form → Option ℕ → Option Form

@@ -8,7 +8,7 @@ ghost use Rattle.step_population.specs.Seen.{population_seen};
 ghost use Rattle.step_population.specs.Instances.{IsInstance};
 
 use crate::population::Population;
-use instance_forms::form::Form;
+use row_forms::form::Form;
 use step_values::slot::Slots;
 
 /// An instance of a population.

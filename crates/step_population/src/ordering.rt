@@ -29,7 +29,7 @@ ghost use Rattle.step_population.specs.Ordering.{
 };
 
 use crate::reading::position_of;
-use instance_forms::form::{Form, SlotForm};
+use row_forms::form::{Form, SlotForm};
 use schema_names::names::Names;
 use std::alloc::{AllocError, Global};
 use step_literals::literal::Word;

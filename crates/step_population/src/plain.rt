@@ -35,7 +35,7 @@ use crate::copying::push_all_picked;
 use crate::ordering::{Order, orders};
 use crate::population::Population;
 use attribute_places::attributes::explicit_attributes;
-use file_findings::rows::Rows;
+use row_forms::rows::Rows;
 use row_index::index::RowIndex;
 use std::alloc::{AllocError, Global};
 use std::hash::RandomState;

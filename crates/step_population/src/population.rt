@@ -3,8 +3,8 @@
 ghost use Rattle.express_schemas.specs.SchemaViews.{schema_of};
 ghost use Rattle.step_population.specs.Whole.{IsWhole};
 
-use file_findings::rows::Rows;
 use resolved_types::types::ResolvedTypes;
+use row_forms::rows::Rows;
 use step_exchange::structure::Exchange;
 use step_values::rows::ValueRows;
 
@@ -14,9 +14,9 @@ pub struct Population<'r, 't, 's, 'a> {
     pub types: &'r ResolvedTypes<'t, 's>,
     pub exchange: &'r Exchange<'a>,
     /// The forms of its instances.
-    pub(crate) rows: Rows,
+    pub rows: Rows,
     /// For each instance the values of its attributes, in the order of its form.
-    pub(crate) values: ValueRows<'r>,
+    pub values: ValueRows<'r>,
     pub ghost whole: { ∥ IsWhole (schema_of types.now.names.schema.now) exchange.now.names rows
         values ∥₁ },
 }

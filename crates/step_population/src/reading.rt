@@ -9,17 +9,16 @@ ghost use Rattle.express_schemas.specs.Profile.{Every};
 ghost use Rattle.express_schemas.specs.SchemaViews.{schema_of};
 ghost use Rattle.schema_names.specs.Numbers.{HasNumber};
 ghost use Rattle.attribute_places.specs.Places.{all_places};
-ghost use Rattle.instance_forms.specs.declared.form.SlotForm.{SlotForm};
+ghost use Rattle.row_forms.specs.declared.form.SlotForm.{SlotForm};
 ghost use Rattle.row_index.specs.Index.{place_of};
 ghost use Rattle.base_types.specs.Seen.{name_at};
 ghost use Rattle.conformance.specs.Populations.{value_of, types_at};
 ghost use Rattle.step_population.specs.Seen.{place_at, population_seen, nodes_seen};
 ghost use Rattle.step_population.specs.Whole.{form_among, types_by_form};
 
-use crate::building::form_at;
 use crate::population::Population;
-use file_findings::rows::Rows;
-use instance_forms::form::SlotForm;
+use row_forms::form::SlotForm;
+use row_forms::rows::{Rows, form_at};
 use step_values::cell::Cell;
 use step_values::slot::Slot;
 

@@ -74,7 +74,7 @@ pub(crate) fn has_rank(
     let Some(number) = graph.find(entity) else {
         return false;
     };
-    if (number as usize) >= graph.types.names.schema.declarations.len() {
+    if (number as usize) >= graph.types.names.len() {
         return false;
     }
     graph.rank(number, attribute) == wanted

@@ -46,7 +46,7 @@ pub fn unchecked_parts(
         (unchecked_in t.items)) }
 {
     let mut list = Vec::new(alloc);
-    let declarations = &findings.known.tables.names.schema.declarations;
+    let declarations = findings.known.tables.names.declarations();
     add_all(alloc, &mut list, findings, declarations)?;
     Ok(list)
 }

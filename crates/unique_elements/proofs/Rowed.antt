@@ -19,8 +19,8 @@ use Rattle.base_types.specs.Making.{is_entity_at}
 use Rattle.base_types.specs.Seen.{name_at}
 use Rattle.attribute_uses.specs.declared.uses.Uses.{Uses}
 use Rattle.attribute_uses.specs.Uses.{AreUses}
-use Rattle.instance_forms.specs.declared.form.Form.{Form}
-use Rattle.instance_forms.specs.declared.form.SlotForm.{SlotForm}
+use Rattle.row_forms.specs.declared.form.Form.{Form}
+use Rattle.row_forms.specs.declared.form.SlotForm.{SlotForm}
 use Rattle.instance_forms.specs.Slots.{uses_by}
 use Rattle.population_rules.specs.Elements.{HasUnique, HasUniqueValue}
 use Rattle.step_population.specs.Seen.{or_nowhere, place_at, slots_seen, instance_seen}

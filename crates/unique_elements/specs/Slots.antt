@@ -13,8 +13,8 @@ use Rattle.base_types.specs.Tables.{IsKnown, IsNumbered}
 use Rattle.attribute_uses.specs.declared.uses.AttributeUse.{AttributeUse}
 use Rattle.attribute_uses.specs.declared.uses.Uses.{Uses}
 use Rattle.attribute_uses.specs.Uses.{uses_at}
-use Rattle.instance_forms.specs.declared.form.Form.{Form}
-use Rattle.instance_forms.specs.declared.form.SlotForm.{SlotForm}
+use Rattle.row_forms.specs.declared.form.Form.{Form}
+use Rattle.row_forms.specs.declared.form.SlotForm.{SlotForm}
 use Rattle.instance_forms.specs.Slots.{uses_by}
 use Rattle.population_rules.specs.Elements.{HasUnique}
 use Rattle.unique_elements.specs.Holding.{may_hold}

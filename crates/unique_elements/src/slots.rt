@@ -22,7 +22,7 @@ use crate::holding::may_hold;
 use attribute_uses::uses::{AttributeUse, Uses};
 use base_types::base::Base;
 use base_types::lookup::Bases;
-use instance_forms::form::Form;
+use row_forms::form::Form;
 use std::alloc::{AllocError, Global};
 
 /// What a data type asks of a value of instances of a form, where a LIST or ARRAY OF UNIQUE can

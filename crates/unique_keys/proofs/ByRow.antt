@@ -2,7 +2,7 @@
 use Rattle.std.specs.Prelude.{◌≡◌, ℕ, List, map, Option, Some, None, slice_get, Vec}
 use Rattle.std.proofs.Common.{refl, sym, ◌∙◌, ap}
 use Rattle.conformance.specs.Populations.{Instance}
-use Rattle.instance_forms.specs.declared.form.Form.{Form}
+use Rattle.row_forms.specs.declared.form.Form.{Form}
 use Rattle.population_rules.specs.Findings.{key}
 use Rattle.rule_tables.specs.declared.uniques.UniqueRule.{UniqueRule}
 use Rattle.rule_tables.specs.Seen.{unique_seen, IsNumberedUnique}

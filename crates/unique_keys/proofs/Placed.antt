@@ -9,8 +9,8 @@ use Rattle.express_schemas.specs.Profile.{Every}
 use Rattle.attribute_places.specs.Places.{all_places}
 use Rattle.attribute_places.proofs.Repeats.{AreOne}
 use Rattle.base_types.specs.Seen.{name_at}
-use Rattle.instance_forms.specs.declared.form.SlotForm.{SlotForm}
-use Rattle.instance_forms.specs.declared.form.Form.{Form}
+use Rattle.row_forms.specs.declared.form.SlotForm.{SlotForm}
+use Rattle.row_forms.specs.declared.form.Form.{Form}
 use Rattle.instance_forms.proofs.Naming.{among-is}
 use Rattle.population_rules.specs.Findings.{given, with_part, parts, key}
 use Rattle.rule_tables.specs.declared.uniques.UniqueRule.{UniqueRule}

@@ -2,7 +2,7 @@
 use Rattle.std.specs.Prelude.{◌≡◌, ℕ, ◌+◌, ◌<◌, ◌≤◌, List, [], ◌∷◌, ◌++◌, length, Option, Some, None}
 use Rattle.std.proofs.Common.{refl, sym, ◌∙◌, ap, get_or, drop}
 use Rattle.std.proofs.lemmas.List.{append-nil}
-use Rattle.instance_forms.specs.declared.form.SlotForm.{SlotForm}
+use Rattle.row_forms.specs.declared.form.SlotForm.{SlotForm}
 use Rattle.step_population.specs.Ordering.{position_among}
 use Rattle.unique_keys.specs.Positions.{with_position, positions_of}
 use Rattle.unique_keys.proofs.Behind.{drop_at, drop_all, behind, in_front, behind_more}

@@ -1,8 +1,8 @@
 -- What the code computes; no promise stands here. Where the parts of keys stand among the values of instances.
 use Rattle.std.specs.Prelude.{ℕ, cond, List, [], ◌∷◌, Option, Some, None, slice_get, Vec}
 use Rattle.digraph.specs.Graphs.{has}
-use Rattle.instance_forms.specs.declared.form.SlotForm.{SlotForm}
-use Rattle.instance_forms.specs.declared.form.Form.{Form}
+use Rattle.row_forms.specs.declared.form.SlotForm.{SlotForm}
+use Rattle.row_forms.specs.declared.form.Form.{Form}
 use Rattle.rule_tables.specs.declared.uniques.UniqueRule.{UniqueRule}
 use Rattle.step_population.specs.Ordering.{position_among}
 

@@ -8,7 +8,7 @@ ghost use Rattle.unique_keys.specs.Positions.{
   positions_among,
 };
 
-use instance_forms::form::{Form, SlotForm};
+use row_forms::form::{Form, SlotForm};
 use rule_tables::uniques::UniqueRule;
 use std::alloc::{AllocError, Global};
 use step_population::reading::position_of;

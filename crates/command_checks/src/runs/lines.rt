@@ -133,6 +133,16 @@ const ROWS: &'static [Row] = &[
         LOST,
     ),
     (PLAIN, FILE, true, ALL, ALL, 4, 0, LOST),
+    (
+        PLAIN,
+        "",
+        false,
+        ALL,
+        ALL,
+        2,
+        0,
+        "file: E6 Expected at byte 0\n",
+    ),
     (PLAIN, "", false, ALL, 4, 4, 0, "file"),
     (PLAIN, FILE, false, SENT, 0, 0, SENT, ""),
     (

@@ -1,6 +1,5 @@
 use Rattle.std.proofs.Common.{rules, ◌≡◌, ◌∙◌, ℕ, List, Some, length, vec_len, get_or, ap, sym, subst, refl, arith}
 use Rattle.std.proofs.lemmas.List.{length-map, length-set, take_all}
-use Rattle.std.proofs.lemmas.Option.{slice_get-get_or}
 use Rattle.digraph.specs.Graphs.{Graph, graph_of}
 use Rattle.digraph.specs.Orders.{IsTopologicalOrder}
 use Rattle.digraph.proofs.Gathered.{order-inside}
@@ -24,8 +23,8 @@ pub order-requires-clause-graph : goal.order-requires-clause-graph
 order-requires-clause-graph c =
     is-graph (schema_of c.args.names.now.schema.now) parts_in (graph_of c.args.parts.now) c.requires.graph
 
-pub index-declaration-requires : goal.index-declaration-requires
-index-declaration-requires c =
+pub declaration-declaration-requires : goal.declaration-declaration-requires
+declaration-declaration-requires c =
     let order = c.deref-a-items.result.now in
     let o = subst (IsTopologicalOrder (graph_of c.args.parts.now)) (sym c.deref-a-items.ensures.value)
     c.in_ok-order.ensures in
@@ -33,9 +32,7 @@ index-declaration-requires c =
     let same = c.requires.graph.same in
     let rows = length-map c.args.parts.now (λ v. v.items) in
     let seen = length-map c.args.names.now.schema.now.declarations.items declaration_of in
-    let whole : length c.args.names.now.schema.now.declarations.items ≡ vec_len c.args.names.now.schema.now.declarations
-    = search rules in
-    omega (arith, lt, same, rows, seen, whole)
+    omega (arith, lt, same, rows, seen)
 
 pub index-requires : goal.index-requires
 index-requires c =
@@ -84,11 +81,9 @@ loop-a-preserved c =
     let rows = length-map c.args.data_types.now.rows.items (λ v. v.items) in
     let each = rows-same whole_types (all_data_types s) s.declarations (graph_of c.args.data_types.now.rows.items)
     c.requires.rows in
-    let d : Declaration = declaration_of c.index-declaration.result.now in
-    let there = slice_get-get_or c.args.names.now.schema.now.declarations.items x c.index-declaration.result.now
-    (omega (arith, lt, same, edges, seen)) in
+    let d : Declaration = declaration_of c.declaration-declaration.result.now in
     let at : IsAt s x d = mapped-at declaration_of c.args.names.now.schema.now.declarations.items x
-    c.index-declaration.result.now (there ∙ ap Some (sym c.index-declaration.ensures)) in
+    c.declaration-declaration.result.now c.declaration-declaration.ensures in
     let row = row-is (λ v. v.items) c.args.data_types.now.rows.items x c.index.result.now
     c.deref-in-loop-a-2.result.now (omega (arith, lt, same, edges, rows, each)) c.index.ensures
     c.deref-in-loop-a-2.ensures.value in

@@ -13,7 +13,7 @@ loop-declaration-init c =
 pub loop-declaration-preserved : goal.loop-declaration-preserved
 loop-declaration-preserved c =
     zip-next (AreDerivedIn (schema_in c.args.sources.now)) declaration_of (λ v. v.items)
-    c.deref-declaration-items.result.now
+    c.declarations-declaration-items.result.now
     c.loop-declaration.declaration-index c.declaration-item.result c.loop-declaration.rows.items c.push.new.self.items
     c.in_ok-row.row c.loop-declaration-test.true c.declaration-item.is c.loop-declaration.invariant c.in_ok-row.ensures
     c.in_ok-push.ensures.items
@@ -21,7 +21,7 @@ loop-declaration-preserved c =
 pub returns : goal.returns
 returns c =
     let s = schema_in c.args.sources.now in
-    let xs = c.deref-declaration-items.result.now in
+    let xs = c.declarations-declaration-items.result.now in
     subst (λ ds. AllZip (AreDerivedIn s) ds (graph_of c.loop-declaration.rows.items))
     (all-taken declaration_of xs c.loop-declaration.declaration-index c.loop-declaration-test.false
-    ∙ ap (map declaration_of) c.deref-declaration-items.ensures.value) c.loop-declaration.invariant
+    ∙ ap (map declaration_of) c.declarations-declaration-items.ensures) c.loop-declaration.invariant

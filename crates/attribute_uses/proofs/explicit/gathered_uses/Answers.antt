@@ -18,8 +18,8 @@ uses_by-requires c = record {
   sources = c.requires.sources;
   clean = c.loop-n.invariant.0;
   many = c.loop-n.invariant.1;
-  at = ap (λ xs. slice_get (map declaration_of xs) c.loop-n.n) (sym c.as_slice-declarations.ensures.value)
-      ∙ seen declaration_of c.as_slice-declarations.result.now c.loop-n.n c.index-declarations-n.result
+  at = ap (λ xs. slice_get (map declaration_of xs) c.loop-n.n) (sym c.declarations-declarations.ensures)
+      ∙ seen declaration_of c.declarations-declarations.result.now c.loop-n.n c.index-declarations-n.result
       c.loop-n-test.true c.index-declarations-n.is;
 }
 
@@ -27,7 +27,7 @@ pub loop-n-preserved : goal.loop-n-preserved
 loop-n-preserved c = (
   c.in_ok-row.ensures.clean,
   c.in_ok-row.ensures.length ∙ c.loop-n.invariant.1,
-  zip-next (AreUsesIn (schema_in c.args.sources.now)) declaration_of (λ v. v.items) c.as_slice-declarations.result.now
+  zip-next (AreUsesIn (schema_in c.args.sources.now)) declaration_of (λ v. v.items) c.declarations-declarations.result.now
       c.loop-n.n c.index-declarations-n.result c.loop-n.rows.items c.push.new.self.items c.in_ok-row.row
       c.loop-n-test.true c.index-declarations-n.is c.loop-n.invariant.2 c.in_ok-row.ensures.uses
       c.in_ok-push.ensures.items,
@@ -36,8 +36,8 @@ loop-n-preserved c = (
 pub returns : goal.returns
 returns c =
     let s = schema_in c.args.sources.now in
-    let xs = c.as_slice-declarations.result.now in
+    let xs = c.declarations-declarations.result.now in
     subst (λ ds. AllZip (AreUsesIn s) ds (map (λ v. v.items) c.loop-n.rows.items))
     (all-taken declaration_of xs c.loop-n.n c.loop-n-test.false
-    ∙ ap (map declaration_of) c.as_slice-declarations.ensures.value)
+    ∙ ap (map declaration_of) c.declarations-declarations.ensures)
     c.loop-n.invariant.2

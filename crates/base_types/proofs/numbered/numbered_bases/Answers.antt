@@ -6,7 +6,7 @@ use Rattle.base_types.proofs.numbered.numbered_bases.Goals as goal
 
 pub loop-declaration-preserved : goal.loop-declaration-preserved
 loop-declaration-preserved c =
-    let xs = c.deref-declaration-items.result.now in
+    let xs = c.declarations-declaration-items.result.now in
     let at = c.loop-declaration.declaration-index in
     let lt : at < length xs = omega (arith, c.loop-declaration-test.true) in
     goes-declaration (schema_of c.args.names.now.schema.now) c.args.declared.now declaration_of xs at

@@ -8,7 +8,7 @@ use Rattle.data_types.proofs.forms.data_types.Goals as goal
 
 pub loop-declaration-preserved : goal.loop-declaration-preserved
 loop-declaration-preserved c =
-    let xs = c.deref-declaration-items.result.now in
+    let xs = c.declarations-declaration-items.result.now in
     let at = c.loop-declaration.declaration-index in
     let lt : at < length xs = omega (arith, c.loop-declaration-test.true) in
     next-declaration (schema_of c.args.names.now.schema.now) declaration_of xs at c.declaration-item.result

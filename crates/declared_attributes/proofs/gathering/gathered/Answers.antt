@@ -6,7 +6,7 @@ use Rattle.declared_attributes.proofs.gathering.gathered.Goals as goal
 pub returns : goal.returns
 returns c =
     subst (λ xs. AddsAll [] (AreNth (SaysAt (schema_in c.args.sources.now) (rows_in c.args.sources.now) (map declaration_of xs))
-    (map declaration_of xs)) c.add_declarations.new.flat.items) c.deref.ensures.value
+    (map declaration_of xs)) c.add_declarations.new.flat.items) c.declarations.ensures
     (subst (λ old. AddsAll old (AreNth (SaysAt (schema_in c.args.sources.now) (rows_in c.args.sources.now)
-    (map declaration_of c.deref.result.now)) (map declaration_of c.deref.result.now))
+    (map declaration_of c.declarations.result.now)) (map declaration_of c.declarations.result.now))
     c.add_declarations.new.flat.items) c.new-flat.ensures.items c.in_ok-add_declarations.ensures)

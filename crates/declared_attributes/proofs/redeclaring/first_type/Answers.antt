@@ -1,6 +1,5 @@
-use Rattle.std.proofs.Common.{◌≡◌, Some, refl, slice_get, arith, length, get_or, [], subst, ◌∙◌, ap}
+use Rattle.std.proofs.Common.{sym, arith, get_or, [], subst, ◌∙◌, ap}
 use Rattle.std.proofs.lemmas.List.{length-map}
-use Rattle.std.proofs.lemmas.Option.{slice_get_read}
 use Rattle.digraph.specs.Graphs.{graph_of}
 use Rattle.express_trees.specs.Views.{capitals}
 use Rattle.express_schemas.specs.Schemas.{entity}
@@ -14,16 +13,15 @@ use Rattle.data_types.specs.Numbered.{whole_types, all_data_types}
 use Rattle.data_types.proofs.Single.{mapped-at}
 use Rattle.declared_attributes.specs.Searching.{number_where, types_own, typings}
 use Rattle.declared_attributes.proofs.Origins.{not-entity, seen-entity}
-use Rattle.declared_attributes.proofs.FirstTypes.{first-type-at}
+use Rattle.declared_attributes.proofs.FirstTypes.{first-type-at, not-none}
 use Rattle.declared_attributes.proofs.redeclaring.first_type.Goals as goal
 
 pub returns-in_err-declaration : goal.returns-in_err-declaration
 returns-in_err-declaration c p ent k =
     let lt = number-within (schema_of c.args.names.now.schema.now) p c.args.entity k in
     let same = length-map c.args.names.now.schema.now.declarations.items declaration_of in
-    let seen = ap length c.deref.ensures.value in
-    let le = c.in_err-declaration.ensures.lookup.3 in
-    absurd (omega (arith, lt, same, seen, le))
+    absurd (not-none c.args.names.now.schema.now.declarations.items c.args.entity (omega (arith, lt, same))
+    (sym c.in_err-declaration.ensures))
 
 pub returns-in-Entity : goal.returns-in-Entity
 returns-in-Entity c p ent k =
@@ -32,12 +30,8 @@ returns-in-Entity c p ent k =
     let ds = c.args.names.now.schema.now.declarations.items in
     let a = capitals c.args.attribute in
     let e = entity_of c.in-Entity.declared in
-    let value = c.deref.ensures.value in
-    let lookup = c.in_ok-declaration.ensures.lookup in
-    let there = subst (λ xs. slice_get xs i ≡ Some c.in_ok-declaration.declaration.now) value
-    (slice_get_read c.deref.result.now (length c.deref.result.now) i c.in_ok-declaration.declaration.now refl lookup.3.0 lookup.1) in
     let at = subst (λ d. IsAt s i (declaration_of d)) c.in-Entity.is
-    (mapped-at declaration_of ds i c.in_ok-declaration.declaration.now there) in
+    (mapped-at declaration_of ds i c.in_ok-declaration.declaration.now (sym c.in_ok-declaration.ensures)) in
     let rows = graph_of c.args.data_types.now.rows.items in
     first-type-at s c.requires.resolved p a e (stands-at s p i k ∙ at) (get_or rows i [])
     (row-at whole_types (all_data_types s) s.declarations rows i (entity e) c.requires.rows at) c.own_type.result
@@ -48,9 +42,6 @@ returns-in_default c p ent k =
     let s = schema_of c.args.names.now.schema.now in
     let i = c.args.entity in
     let ds = c.args.names.now.schema.now.declarations.items in
-    let lookup = c.in_ok-declaration.ensures.lookup in
-    let there = subst (λ xs. slice_get xs i ≡ Some c.in_ok-declaration.declaration.now) c.deref.ensures.value
-    (slice_get_read c.deref.result.now (length c.deref.result.now) i c.in_ok-declaration.declaration.now refl lookup.3.0 lookup.1) in
     λ l first. not-entity s p i (declaration_of c.in_ok-declaration.declaration.now) k
-    (mapped-at declaration_of ds i c.in_ok-declaration.declaration.now there)
+    (mapped-at declaration_of ds i c.in_ok-declaration.declaration.now (sym c.in_ok-declaration.ensures))
     (seen-entity c.in_ok-declaration.declaration.now c.in_default.not-Entity) ent

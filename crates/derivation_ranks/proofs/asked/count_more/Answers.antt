@@ -1,8 +1,7 @@
-use Rattle.std.proofs.Common.{◌≡◌, ap, sym, length, map, arith, ◌∙◌}
+use Rattle.std.proofs.Common.{◌≡◌, ap, sym, length, arith, ◌∙◌}
 use Rattle.std.proofs.lemmas.List.{length-map}
 use Rattle.express_schemas.specs.Views.{derived_of, declaration_of}
 use Rattle.declared_attributes.specs.Derivations.{derivations_in}
-use Rattle.derivation_ranks.specs.Asked.{deriveds_in}
 use Rattle.derivation_ranks.proofs.Asking.{count-of}
 use Rattle.derivation_ranks.proofs.asked.count_more.Goals as goal
 

@@ -1,5 +1,5 @@
 use Rattle.derivation_ranks.proofs.Asking.{first-next, counted-next}
-use Rattle.std.proofs.Common.{◌≡◌, ◌+◌, ◌∙◌, ◌<◌, ap, arith, length, map, get_or, sym, ◌∷◌, []}
+use Rattle.std.proofs.Common.{◌≡◌, ◌+◌, ◌∙◌, ◌<◌, ap, arith, length, get_or, sym, ◌∷◌, []}
 use Rattle.std.proofs.lemmas.List.{length-append}
 use Rattle.declared_attributes.specs.Derivations.{derivations_in}
 use Rattle.express_schemas.specs.Views.{declaration_of}
@@ -10,10 +10,10 @@ loop-declaration-preserved c =
     let xs = c.args.names.now.schema.now.declarations.items in
     let i = c.loop-declaration.declaration-index in
     let x = c.declaration-item.result in
-    let whole : length c.deref-declaration-items.result.now ≡ length xs =
-    ap length c.deref-declaration-items.ensures.value in
+    let whole : length c.declarations-declaration-items.result.now ≡ length xs =
+    ap length c.declarations-declaration-items.ensures in
     let lt : i < length xs = omega (arith, c.loop-declaration-test.true, whole) in
-    let at : x ≡ get_or xs i x = c.declaration-item.is ∙ ap (λ ys. get_or ys i x) c.deref-declaration-items.ensures.value in
+    let at : x ≡ get_or xs i x = c.declaration-item.is ∙ ap (λ ys. get_or ys i x) c.declarations-declaration-items.ensures in
     record {
       long =
           let more : length c.push.new.self.items ≡ length c.loop-declaration.firsts.items + 1 =

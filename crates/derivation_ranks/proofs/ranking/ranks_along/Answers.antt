@@ -1,4 +1,4 @@
-use Rattle.std.proofs.Common.{◌≡◌, ◌<◌, ◌≤◌, ◌+◌, ◌∙◌, ℕ, Option, None, Some, length, map, get_or, set, ap, refl, sym, arith, cond, true, false, Bool}
+use Rattle.std.proofs.Common.{◌≡◌, ◌<◌, ◌∙◌, ℕ, None, length, map, get_or, set, ap, refl, sym, arith, false}
 use Rattle.std.proofs.lemmas.List.{length-set}
 use Rattle.digraph.proofs.Gathered.{order-inside, solves-next, elsewhere-next, set-here, set-elsewhere}
 use Rattle.digraph.specs.Graphs.{next}

@@ -3,7 +3,7 @@ use Rattle.express_logic.specs.Logic.{known}
 use Rattle.express_logic.specs.Views.{text_of}
 use Rattle.held_values.specs.Parts.{capitals_of}
 use Rattle.express_settings.specs.Settings.{schema_in, is_defined_in}
-use Rattle.express_settings.proofs.Saying.{says_nothing}
+use Rattle.setting_names.proofs.Saying.{says_nothing}
 use Rattle.express_evaluation.proofs.Unnamed.{no_number}
 use Rattle.express_evaluation.proofs.types.is_defined_by.Goals as goal
 

@@ -1,5 +1,5 @@
 use Rattle.std.proofs.Common.{◌<◌, length, arith}
-use Rattle.file_findings.proofs.Records.{count-right, count-wrong}
+use Rattle.file_findings.proofs.Miscounts.{count-right, count-wrong}
 use Rattle.file_findings.proofs.counts.wrong_count.Goals as goal
 
 pub returns-then-len-counts-clause-counted : goal.returns-then-len-counts-clause-counted

@@ -2,8 +2,8 @@ use Rattle.std.proofs.Common.{ap, sym, ◌∙◌}
 use Rattle.step_exchange.specs.Views.{record_of}
 use Rattle.conformance.specs.Entities.{records}
 use Rattle.file_findings.specs.Counting.{miscounts}
-use Rattle.file_findings.proofs.Makings.{form-internal, form-external}
-use Rattle.file_findings.proofs.Records.{miscounts-one}
+use Rattle.instance_rows.proofs.Makings.{form-internal, form-external}
+use Rattle.file_findings.proofs.Miscounts.{miscounts-one}
 use Rattle.file_findings.proofs.counts.wrong_counts.Goals as goal
 
 pub returns-then-not-is_internal : goal.returns-then-not-is_internal

@@ -1,7 +1,7 @@
 use Rattle.std.proofs.Common.{◌≡◌, cond, ap, ◌∙◌, slice_get, arith}
 use Rattle.step_exchange.specs.Views.{record_of, record_in}
 use Rattle.file_findings.specs.Counting.{has_as_many}
-use Rattle.file_findings.proofs.Records.{miscounts-more}
+use Rattle.file_findings.proofs.Miscounts.{miscounts-more}
 use Rattle.file_findings.proofs.counts.wrong_partials.Goals as goal
 
 pub loop-i-preserved : goal.loop-i-preserved

@@ -10,9 +10,9 @@ use Rattle.conformance.specs.Findings.{findings}
 use Rattle.base_types.specs.Seen.{schema_at}
 use Rattle.file_findings.specs.declared.judge.Judge.{Judge}
 use Rattle.file_findings.specs.Judging.{schema_told}
-use Rattle.file_findings.specs.Rows.{rows_in, AreNumbered, AreRowsOf}
+use Rattle.instance_rows.specs.Rows.{rows_in, AreNumbered, AreRowsOf}
 use Rattle.file_findings.proofs.InTurn.{all-told}
-use Rattle.file_findings.proofs.Placing.{rows-are}
+use Rattle.instance_rows.proofs.Placing.{rows-are}
 use Rattle.file_findings.proofs.findings.findings.Goals as goal
 
 pub tell_rows-requires : goal.tell_rows-requires

@@ -4,7 +4,7 @@ use Rattle.step_structures.specs.Trees.{Row}
 use Rattle.conformance.specs.Entities.{records, parameters}
 use Rattle.file_findings.specs.Judging.{TellsAll}
 use Rattle.file_findings.specs.Counting.{miscounts}
-use Rattle.std.proofs.Common.{◌≡◌, ap}
+use Rattle.std.proofs.Common.{ap}
 use Rattle.file_findings.proofs.InTurn.{on-ok, tells-types, tells-counts, tells-misfits}
 use Rattle.file_findings.proofs.findings.tell_form.Goals as goal
 

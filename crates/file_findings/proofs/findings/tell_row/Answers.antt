@@ -1,10 +1,11 @@
-use Rattle.std.proofs.Common.{◌≡◌, ◌∙◌, ap, sym, subst}
+use Rattle.std.proofs.Common.{◌∙◌, ap, sym, subst}
 use Rattle.std.specs.Option.{option_copied}
 use Rattle.step_exchange.specs.Views.{form_of, form_in}
 use Rattle.step_structures.specs.Trees.{Row}
 use Rattle.conformance.specs.Entities.{records}
-use Rattle.file_findings.specs.Keywords.{unknown_among}
-use Rattle.file_findings.specs.Judging.{schema_by, TellsBehind, form_at}
+use Rattle.instance_rows.specs.Keywords.{unknown_among}
+use Rattle.row_forms.specs.Rows.{form_at}
+use Rattle.file_findings.specs.Judging.{schema_by, TellsBehind}
 use Rattle.file_findings.proofs.InTurn.{on-ok, tells-known, tells-unknown}
 use Rattle.file_findings.proofs.findings.tell_row.Goals as goal
 

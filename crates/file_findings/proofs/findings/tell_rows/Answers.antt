@@ -1,8 +1,8 @@
-use Rattle.std.proofs.Common.{◌≡◌, ◌≤◌, Some, length, ◌∙◌, ap, sym, drop, get_or, slice_get, arith}
+use Rattle.std.proofs.Common.{◌≤◌, length, ◌∙◌, sym, drop, get_or, arith}
 use Rattle.std.proofs.lemmas.Option.{slice_get-get_or}
 use Rattle.step_exchange.specs.Views.{form_in, rows_with}
 use Rattle.step_structures.specs.Trees.{Row}
-use Rattle.file_findings.proofs.Placing.{row-next, rows-end, rows-short}
+use Rattle.instance_rows.proofs.Placing.{row-next, rows-end, rows-short}
 use Rattle.file_findings.proofs.InTurn.{rows-told-next, rows-told}
 use Rattle.file_findings.proofs.findings.tell_rows.Goals as goal
 

@@ -1,5 +1,4 @@
-use Rattle.std.proofs.Common.{◌≡◌, ◌∙◌, ◌≤◌, None, Some, Option, Bool, true, false, is_some, length, get_or, map, sym, ap, drop, refl}
-use Rattle.express_schemas.specs.Profile.{Every}
+use Rattle.std.proofs.Common.{◌≡◌, ◌∙◌, None, Some, Option, true, false, is_some, sym, refl}
 use Rattle.base_types.specs.Seen.{type_at, base_seen}
 use Rattle.base_types.specs.Tables.{IsKnown}
 use Rattle.conformance.specs.declared.finding.FindingKind.{FindingKind}

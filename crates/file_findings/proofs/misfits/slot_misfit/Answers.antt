@@ -1,9 +1,5 @@
-use Rattle.std.proofs.Common.{sym, ◌∙◌, ap, subst}
-use Rattle.express_schemas.specs.Profile.{Every}
-use Rattle.base_types.specs.Seen.{type_at}
-use Rattle.base_types.specs.Tables.{IsKnown}
-use Rattle.file_findings.specs.Judging.{schema_by, target_by}
-use Rattle.file_findings.proofs.Misfitting.{as-asked, slot-misfit-is}
+use Rattle.std.proofs.Common.{sym, ◌∙◌}
+use Rattle.file_findings.proofs.Misfitting.{slot-misfit-is}
 use Rattle.file_findings.proofs.misfits.slot_misfit.Goals as goal
 
 pub returns : goal.returns

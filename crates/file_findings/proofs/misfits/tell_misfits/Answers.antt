@@ -1,8 +1,7 @@
-use Rattle.std.proofs.Common.{◌≡◌, ◌∙◌, sym, subst, map}
-use Rattle.step_exchange.specs.Views.{record_in}
+use Rattle.std.proofs.Common.{◌∙◌, sym, subst}
 use Rattle.conformance.specs.Entities.{parameters, records}
 use Rattle.file_findings.specs.Judging.{TellsAll}
-use Rattle.file_findings.proofs.Makings.{form-external}
+use Rattle.instance_rows.proofs.Makings.{form-external}
 use Rattle.file_findings.proofs.Misfitting.{tells-one}
 use Rattle.file_findings.proofs.InTurn.{on-ok}
 use Rattle.file_findings.proofs.misfits.tell_misfits.Goals as goal

@@ -1,8 +1,7 @@
-use Rattle.std.proofs.Common.{◌≡◌, ◌≤◌, ◌∙◌, length, drop, map, ap, arith}
+use Rattle.std.proofs.Common.{◌≤◌, ◌∙◌, length, drop, map, ap, arith}
 use Rattle.std.proofs.Math.ListN.{drop_of_length-le}
 use Rattle.step_exchange.specs.Views.{record_in}
 use Rattle.conformance.specs.Entities.{parameters}
-use Rattle.step_structures.specs.Trees.{none}
 use Rattle.file_findings.proofs.Misfitting.{tells-record-next, tells-all}
 use Rattle.file_findings.proofs.misfits.tell_partials.Goals as goal
 

@@ -1,7 +1,6 @@
-use Rattle.std.proofs.Common.{◌≡◌, ◌<◌, length, drop, refl, ap, arith}
-use Rattle.std.proofs.Math.ListN.{drop_of_length-le}
+use Rattle.std.proofs.Common.{◌<◌, length, drop, arith}
 use Rattle.step_parameters.specs.Cells.{all_of}
-use Rattle.file_findings.proofs.Misfitting.{tells-next, tells-short, tells-record}
+use Rattle.file_findings.proofs.Misfitting.{tells-next, tells-short}
 use Rattle.file_findings.proofs.misfits.tell_record.Goals as goal
 
 pub returns-then-place-slots : goal.returns-then-place-slots

@@ -11,7 +11,7 @@ use Rattle.instance_forms.proofs.operands.one_ofs.Goals as goal
 pub loop-declaration-preserved : goal.loop-declaration-preserved
 loop-declaration-preserved c =
     let s = schema_of c.args.names.now.schema.now in
-    let xs = c.deref-declaration-items.result.now in
+    let xs = c.declarations-declaration-items.result.now in
     let at = c.loop-declaration.declaration-index in
     let lt : at < length xs = omega (arith, c.loop-declaration-test.true) in
     operands-more declaration_seen one_ofs_in (filter_map (number_of s)) xs at c.declaration-item.result
@@ -22,8 +22,8 @@ pub returns : goal.returns
 returns c =
     let s = schema_of c.args.names.now.schema.now in
     let whole =
-    take_all c.loop-declaration.declaration-index c.deref-declaration-items.result.now c.loop-declaration-test.false in
+    take_all c.loop-declaration.declaration-index c.declarations-declaration-items.result.now c.loop-declaration-test.false in
     c.loop-declaration.invariant
     ∙ ap (λ ds. map (filter_map (number_of s)) (flat_map one_ofs_in (map declaration_seen ds)))
-    (whole ∙ c.deref-declaration-items.ensures.value)
+    (whole ∙ c.declarations-declaration-items.ensures)
     ∙ ap (map (filter_map (number_of s))) (of-entities s.declarations)

@@ -14,10 +14,10 @@ add_all-requires-clause-few c =
     let ds = c.args.sources.now.known.tables.names.now.schema.now.declarations.items in
     let few = c.args.sources.now.known.tables.names.now.few in
     let long = length-map ds declaration_of in
-    subst (λ xs. length xs < 4294967296) (sym c.deref.ensures.value) (omega (arith, few, long))
+    subst (λ xs. length xs < 4294967296) (sym c.declarations-declarations.ensures) (omega (arith, few, long))
 
 pub add_all-requires-clause-all : goal.add_all-requires-clause-all
-add_all-requires-clause-all c = ap (map declaration_of) c.deref.ensures.value
+add_all-requires-clause-all c = ap (map declaration_of) c.declarations-declarations.ensures
 
 pub returns-clause-seen : goal.returns-clause-seen
 returns-clause-seen c d is =

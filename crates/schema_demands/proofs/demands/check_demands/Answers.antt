@@ -16,7 +16,7 @@ loop-declaration-preserved c =
     let xs = c.args.names.now.schema.now.declarations.items in
     let f = demands_of_declaration in
     let i = c.loop-declaration.declaration-index in
-    let whole = c.deref-declaration-items.ensures.value in
+    let whole = c.declarations-declaration-items.ensures in
     let lt : i < length xs = subst (λ ds. i < length ds) whole (omega (arith, c.loop-declaration-test.true)) in
     let x = c.declaration-item.result in
     let at = subst (λ ds. x ≡ get_or ds i x) whole c.declaration-item.is in
@@ -29,7 +29,7 @@ returns-in_err-check_declaration c =
     let xs = c.args.names.now.schema.now.declarations.items in
     let f = demands_of_declaration in
     let i = c.loop-declaration.declaration-index in
-    let whole = c.deref-declaration-items.ensures.value in
+    let whole = c.declarations-declaration-items.ensures in
     let lt : i < length xs = subst (λ ds. i < length ds) whole (omega (arith, c.loop-declaration-test.true)) in
     let x = c.declaration-item.result in
     let at = subst (λ ds. x ≡ get_or ds i x) whole c.declaration-item.is in
@@ -47,5 +47,5 @@ returns c =
     let f = demands_of_declaration in
     let i = c.loop-declaration.declaration-index in
     subst (Every (IsMet s))
-    (ap (flat_map (λ x. f (declaration_seen x))) (take_all i xs (subst (λ ds. length ds ≤ i) c.deref-declaration-items.ensures.value c.loop-declaration-test.false))
+    (ap (flat_map (λ x. f (declaration_seen x))) (take_all i xs (subst (λ ds. length ds ≤ i) c.declarations-declaration-items.ensures c.loop-declaration-test.false))
     ∙ mapped-each f declaration_seen xs) c.loop-declaration.invariant

@@ -13,5 +13,5 @@ returns c =
     let nothing : Seen = record { names = c.with_hasher.result; duplicate = None } in
     duplicate-shown (schema_of c.args.names.now.schema.now) nothing c.see_all.new.seen
     (seen-nothing nothing c.with_hasher.ensures.empty refl)
-    (subst (λ xs. Sees nothing c.see_all.new.seen (declared_from 1 (map declaration_seen xs))) c.deref.ensures.value
+    (subst (λ xs. Sees nothing c.see_all.new.seen (declared_from 1 (map declaration_seen xs))) c.declarations.ensures
     c.in_ok-see_all.ensures)

@@ -7,7 +7,7 @@ use Rattle.conforming_values.specs.Conforming.{PopulationConforms}
 use Rattle.conforming_values.specs.PopulationLaws.{AreOf}
 use Rattle.step_exchange.specs.Exchanges.{structure}
 use Rattle.step_population.specs.Seen.{population_seen}
-use Rattle.step_population.specs.Verdicts.{IsVerdict}
+use Rattle.populating.specs.Verdicts.{IsVerdict}
 use Rattle.schema_findings.specs.Findings.{AreRuleFindings, AreBehind}
 use Rattle.schema_findings.specs.Ruling.{AreReady, RulesSay}
 use Rattle.schema_findings.proofs.Behind.{none-behind}

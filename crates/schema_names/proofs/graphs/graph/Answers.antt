@@ -13,7 +13,7 @@ use Rattle.schema_names.proofs.graphs.graph.Goals as goal
 pub loop-declaration-preserved : goal.loop-declaration-preserved
 loop-declaration-preserved c =
     let s = schema_of c.args.names.now.schema.now in
-    let xs = c.deref-declaration-items.result.now in
+    let xs = c.declarations-declaration-items.result.now in
     let at = c.loop-declaration.declaration-index in
     let lt : at < length xs = omega (arith, c.loop-declaration-test.true) in
     rows-more declaration_seen (λ (d : Declaration). filter_map (number_of s) (named_in c.args.relation d))
@@ -26,7 +26,7 @@ returns c =
     let s = schema_of c.args.names.now.schema.now in
     let row : Declaration → List ℕ = λ d. filter_map (number_of s) (named_in c.args.relation d) in
     let whole =
-    take_all c.loop-declaration.declaration-index c.deref-declaration-items.result.now c.loop-declaration-test.false in
+    take_all c.loop-declaration.declaration-index c.declarations-declaration-items.result.now c.loop-declaration-test.false in
     graph-of s (named_in c.args.relation) (graph_of c.loop-declaration.rows.items)
     (c.loop-declaration.invariant
-    ∙ ap (λ ds. map row (map declaration_seen ds)) (whole ∙ c.deref-declaration-items.ensures.value))
+    ∙ ap (λ ds. map row (map declaration_seen ds)) (whole ∙ c.declarations-declaration-items.ensures))

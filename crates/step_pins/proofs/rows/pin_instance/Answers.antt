@@ -3,7 +3,7 @@ use Rattle.std.proofs.lemmas.Result.{on_ok_weaker}
 use Rattle.type_graphs.specs.Names.{OneOf}
 use Rattle.conformance.specs.Populations.{Slot}
 use Rattle.conforming_values.specs.Standing.{InBag}
-use Rattle.instance_forms.specs.declared.form.SlotForm.{SlotForm}
+use Rattle.row_forms.specs.declared.form.SlotForm.{SlotForm}
 use Rattle.population_rules.specs.Pins.{OccursAt}
 use Rattle.step_population.specs.Seen.{slots_seen}
 use Rattle.step_values.specs.Slots.{nth}

@@ -1,7 +1,7 @@
 use Rattle.std.proofs.Common.{◌≡◌, ◌+◌, map, drop}
 use Rattle.std.specs.Option.{option_map}
 use Rattle.row_index.specs.Index.{place_of}
-use Rattle.instance_forms.specs.declared.form.SlotForm.{SlotForm}
+use Rattle.row_forms.specs.declared.form.SlotForm.{SlotForm}
 use Rattle.step_population.proofs.reading.position_of.Given as goal
 
 abbrev pub invariant-loop-i : goal.invariant-loop-i

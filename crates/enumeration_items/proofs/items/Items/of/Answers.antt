@@ -14,7 +14,7 @@ use Rattle.enumeration_items.proofs.items.Items.of.Goals as goal
 
 pub loop-declaration-preserved : goal.loop-declaration-preserved
 loop-declaration-preserved c w =
-    let ds = c.deref-declaration-items.result.now in
+    let ds = c.declarations-declaration-items.result.now in
     let at = c.loop-declaration.declaration-index in
     let d = c.declaration-item.result in
     let lt : at < length ds = omega (arith, c.loop-declaration-test.true) in
@@ -28,11 +28,11 @@ loop-declaration-preserved c w =
 pub returns : goal.returns
 returns c w =
     let s = schema_of c.args.names.now.schema.now in
-    let ds = c.deref-declaration-items.result.now in
+    let ds = c.declarations-declaration-items.result.now in
     let all =
     c.loop-declaration.invariant w
     ∙ ap (λ xs. includes (all_items (map declaration_of xs)) (capitals w))
     (take_all c.loop-declaration.declaration-index ds c.loop-declaration-test.false
-    ∙ c.deref-declaration-items.ensures.value) in
+    ∙ c.declarations-declaration-items.ensures) in
     subst (λ b. (b ≡ true) ↔ ((n : Name) × IsItemOf s n (capitals w))) (sym all)
     (all-told s c.requires.resolved (capitals w))

@@ -3,7 +3,7 @@ use Rattle.express_trees.specs.Views.{capitals}
 use Rattle.express_logic.specs.Views.{text_of}
 use Rattle.attribute_sources.proofs.Reading.{tree-within}
 use Rattle.express_settings.specs.Settings.{schema_in}
-use Rattle.express_settings.proofs.Saying.{says_nothing}
+use Rattle.setting_names.proofs.Saying.{says_nothing}
 use Rattle.express_settings.proofs.setting.Setting.is_defined_by.Goals as goal
 
 pub says_definition-requires-clause-within : goal.says_definition-requires-clause-within

@@ -2,7 +2,7 @@ use Rattle.std.proofs.Common.{sym, ◌∙◌}
 use Rattle.express_trees.specs.Views.{capitals}
 use Rattle.express_meanings.proofs.Oneness.{one_truth}
 use Rattle.express_settings.specs.Settings.{schema_in, is_item_in}
-use Rattle.express_settings.proofs.Enumerations.{item_told}
+use Rattle.setting_names.proofs.Enumerations.{item_told}
 use Rattle.express_settings.proofs.setting.Setting.is_item.Goals as goal
 
 pub returns : goal.returns

@@ -1,7 +1,7 @@
 use Rattle.std.proofs.Common.{ap, sym, subst, ◌∙◌, map, []}
 use Rattle.std.proofs.lemmas.Option.{slice_get-get_or}
 use Rattle.std.specs.List.{AllZip}
-use Rattle.instance_forms.specs.declared.form.Form.{Form}
+use Rattle.row_forms.specs.declared.form.Form.{Form}
 use Rattle.attribute_uses.proofs.Going.{zip-next, all-taken}
 use Rattle.attribute_sources.specs.Seen.{schema_in, inverses_seen}
 use Rattle.step_population.specs.Whole.{AreNumbered}

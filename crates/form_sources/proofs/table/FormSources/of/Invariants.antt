@@ -1,6 +1,6 @@
 use Rattle.std.specs.List.{AllZip}
 use Rattle.std.proofs.Common.{map, take}
-use Rattle.instance_forms.specs.declared.form.Form.{Form}
+use Rattle.row_forms.specs.declared.form.Form.{Form}
 use Rattle.attribute_sources.specs.Seen.{schema_in, inverses_seen}
 use Rattle.form_sources.specs.Sources.{AreNamedSources}
 use Rattle.form_sources.proofs.table.FormSources.of.Given as goal

@@ -5,7 +5,7 @@ use Rattle.express_schemas.specs.SchemaViews.{schema_of}
 use Rattle.step_exchange.specs.Sections.{CountsTo}
 use Rattle.step_values.specs.Targets.{LeadTo, ReferTo}
 use Rattle.row_index.specs.Index.{place_of}
-use Rattle.file_findings.proofs.Placing.{counts-prop}
+use Rattle.step_exchange.proofs.Counts.{counts-prop}
 use Rattle.step_population.specs.Seen.{section_numbers}
 use Rattle.step_population.specs.Whole.{AreNumbered}
 use Rattle.step_population.specs.Ordering.{rows_picked, AreHeads}

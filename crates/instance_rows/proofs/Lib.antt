@@ -1,0 +1,4 @@
+pub mod Naming
+pub mod Records
+pub mod Makings
+pub mod Placing

@@ -1,0 +1,42 @@
+use Rattle.std.proofs.Common.{◌∙◌, ◌&&◌, ap, sym}
+use Rattle.express_trees.specs.Views.{capitals}
+use Rattle.express_schemas.specs.Views.{declaration_of}
+use Rattle.express_schemas.specs.SchemaViews.{schema_of}
+use Rattle.std.specs.Prelude.{slice_get}
+use Rattle.express_logic.specs.Views.{text_of}
+use Rattle.attribute_sources.proofs.Reading.{mapped-at}
+use Rattle.setting_names.proofs.Saying.{isnt_said, is_said, type_number, defined_told}
+use Rattle.setting_names.proofs.types.says_defining.Goals as goal
+
+pub returns-in_default : goal.returns-in_default
+returns-in_default c m h defined tells =
+    let t = c.args.names.now.schema.now in
+    let s = schema_of t in
+    let d = c.declaration.result.now in
+    isnt_said s defined (text_of c.args.text.now) m (slice_get s.declarations c.args.other) (declaration_of d)
+    (mapped-at declaration_of t.declarations.items c.args.other d c.declaration.ensures) c.in_default.ensures
+
+pub returns-then-is_dotted : goal.returns-then-is_dotted
+returns-then-is_dotted c m h defined tells =
+    let t = c.args.names.now.schema.now in
+    let s = schema_of t in
+    let text = text_of c.args.text.now in
+    let d = c.declaration.result.now in
+    let n = capitals c.in-Some.name in
+    let at = mapped-at declaration_of t.declarations.items c.args.other d c.declaration.ensures in
+    let told =
+    c.is_defined_by.ensures m n h (type_number s c.requires.resolved c.args.other (declaration_of d) n at c.in-Some.ensures) in
+    let same = defined_told c.is_defined_by.result (defined m n) told (tells n) in
+    same ∙ ap (λ b. b && defined m n) (sym c.if-is_dotted.true ∙ c.is_dotted.ensures)
+    ∙ is_said s defined text m (slice_get s.declarations c.args.other) (declaration_of d) n at c.in-Some.ensures
+
+pub returns-else-is_dotted : goal.returns-else-is_dotted
+returns-else-is_dotted c m h defined tells =
+    let t = c.args.names.now.schema.now in
+    let s = schema_of t in
+    let text = text_of c.args.text.now in
+    let d = c.declaration.result.now in
+    let n = capitals c.in-Some.name in
+    let at = mapped-at declaration_of t.declarations.items c.args.other d c.declaration.ensures in
+    c.if-is_dotted.false ∙ ap (λ b. b && defined m n) (sym c.if-is_dotted.false ∙ c.is_dotted.ensures)
+    ∙ is_said s defined text m (slice_get s.declarations c.args.other) (declaration_of d) n at c.in-Some.ensures
