@@ -1,8 +1,7 @@
 -- Along an order of what defined types are made of, each name gets its shape.
 use Rattle.std.specs.Prelude.{◌≡◌, ℕ, ◌+◌, ◌<◌, Bool, true, false, List, [], ◌∷◌, ◌++◌, Some, ◌⊎◌, map, length, take, slice_get, get_or, eqb}
-use Rattle.std.proofs.Common.{refl, inl, inr, ap, sym, subst, ◌∙◌, zero, suc, arith, set}
+use Rattle.std.proofs.Common.{refl, inl, inr, ap, sym, subst, ◌∙◌, arith, set}
 use Rattle.std.proofs.lemmas.Bool.Decides.{nat_tests}
-use Rattle.std.proofs.lemmas.List.{length-map}
 use Rattle.digraph.specs.Graphs.{Graph, has, Step}
 use Rattle.digraph.specs.Orders.{Follows, IsTopologicalOrder}
 use Rattle.digraph.proofs.Found.{has-more, taken}
@@ -12,11 +11,11 @@ use Rattle.express_schemas.specs.Schemas.{Schema, Declaration, type, entity, ski
 use Rattle.type_graphs.specs.Names.{Name, Among, IsTypeAt, declared_name}
 use Rattle.type_graphs.specs.Faults.{IsResolved}
 use Rattle.type_graphs.specs.Shapes.{of_items, of_instances}
-use Rattle.schema_names.specs.Numbers.{HasNumber, IsAt, AreAt, AreRowsOf}
+use Rattle.schema_names.specs.Numbers.{HasNumber, IsAt, AreAt}
 use Rattle.schema_names.specs.Edges.{IsGraphOf, parts_in, parts_of}
 use Rattle.schema_names.proofs.Numbers.{stands-at, what-stands}
 use Rattle.schema_names.proofs.Edges.{number-within}
-use Rattle.schema_names.proofs.Items.{head-is, tail-is, front-at}
+use Rattle.schema_names.proofs.Items.{front-at, mapped-at}
 use Rattle.data_types.specs.declared.forms.Form.{Form}
 use Rattle.data_types.specs.Numbered.{all_data_types, form_in, whole_types, whole_underlying}
 use Rattle.type_shapes.specs.declared.shapes.Shape.{Shape}
@@ -25,18 +24,6 @@ use Rattle.alike_types.specs.Shaped.{IsShapeOf}
 use Rattle.alike_types.specs.Making.{shape_declared, shape_behind, shape_first, shape_seen, shape_in, IsDeclaredAt, AreDeclared}
 use Rattle.alike_types.proofs.Known.{known-behind, all-ordered}
 use Rattle.alike_types.proofs.Shown.{behind, form-shape}
-
-pub rows-same : {A : Type 0} (of : Declaration → List A) (all : List A) (ds : List Declaration) (rows : Graph)
-    → AreRowsOf of all ds rows → length rows ≡ length ds
-rows-same of all ds rows h =
-    sym (length-map rows (map (slice_get all))) ∙ ap length h
-    ∙ length-map ds (λ (d : Declaration). map Some (of d))
-
-pub mapped-at : {A B : Type 0} (f : A → B) (xs : List A) (i : ℕ) (x : A) → slice_get xs i ≡ Some x
-    → slice_get (map f xs) i ≡ Some (f x)
-mapped-at f [] i x h = absurd (cc)
-mapped-at f (y ∷ ys) zero x h = let same : y ≡ x = cc in ap Some (ap f same)
-mapped-at f (y ∷ ys) (suc i) x h = mapped-at f ys i x h
 
 -- those of what a vertex leads to stand already
 abbrev pub AreBelow : Schema → Graph → List Shape → ℕ → Type 0

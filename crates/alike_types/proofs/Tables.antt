@@ -17,7 +17,7 @@ use Rattle.alike_types.specs.Shaped.{IsShapeOf, AreShapes}
 use Rattle.alike_types.specs.Making.{shape_declared, shape_by, shape_seen, AreDeclared}
 use Rattle.data_types.proofs.Elements.{element, element-behind}
 use Rattle.alike_types.proofs.Shown.{form-shape, shown-below}
-use Rattle.alike_types.proofs.Along.{mapped-at}
+use Rattle.schema_names.proofs.Items.{mapped-at}
 
 -- each shape so far is that of its form
 abbrev pub AreMade : List Form → List Shape → List Shape → Type 0

@@ -29,7 +29,7 @@ pub struct AttributePlaces<'a> {
 /// than 2^32 explicit attributes there is no memory for it.
 pub fn attribute_places<'a>(
     alloc: Global,
-    names: &Names<'_, 'a>,
+    names: &Names<'a, '_>,
     supertypes: &[Vec<u32>],
 ) -> Result<AttributePlaces<'a>, AllocError>
     requires resolved { IsResolved (schema_of names.now.schema.now) }

@@ -1,5 +1,5 @@
 -- What is declared at a number, as it is read.
-use Rattle.std.specs.Prelude.{◌≡◌, ℕ, zero, suc, ◌<◌, true, false, cond, List, [], ◌∷◌, None, Some, map, length, slice_get}
+use Rattle.std.specs.Prelude.{◌≡◌, ℕ, ◌<◌, true, false, cond, List, [], None, Some, length, slice_get}
 use Rattle.std.proofs.Common.{ap, sym, ◌∙◌, arith}
 use Rattle.std.proofs.lemmas.List.{length-map}
 use Rattle.digraph.specs.Graphs.{Graph, next}
@@ -11,13 +11,6 @@ use Rattle.type_graphs.specs.Names.{Name}
 use Rattle.schema_names.specs.Numbers.{number_of, HasNumber}
 use Rattle.schema_names.proofs.Edges.{number-within}
 use Rattle.attribute_sources.specs.Deriving.{is_entity, is_some_entity, line_in}
-
--- what is seen of an item
-pub mapped-at : {A B : Type 0} (f : A → B) (xs : List A) (i : ℕ) (x : A) → slice_get xs i ≡ Some x
-    → slice_get (map f xs) i ≡ Some (f x)
-mapped-at f [] i x h = absurd (cc)
-mapped-at f (y ∷ xs) zero x h = let same : y ≡ x = cc in ap (λ z. Some (f z)) same
-mapped-at f (y ∷ xs) (suc i) x h = mapped-at f xs i x h
 
 -- a number is that of a declaration
 pub tree-within : (t : SchemaTree) (n : Name) (i : ℕ) → HasNumber (schema_of t) n i → i < length t.declarations.items

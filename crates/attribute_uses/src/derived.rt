@@ -18,10 +18,10 @@ use express_schemas::tree::{Declaration, Derived};
 use std::alloc::{AllocError, Global};
 
 /// The numbers of the places that these redeclare.
-fn derived_places(
+fn derived_places<'a>(
     alloc: Global,
-    sources: &Sources<'_, '_, '_>,
-    deriveds: &[Derived<'_>],
+    sources: &Sources<'a, '_, '_>,
+    deriveds: &[Derived<'a>],
 ) -> Result<Vec<u32>, AllocError>
     requires sources { AreSources sources.now }
     ensures { IfOk result (λ places. ArePlacesOf (schema_in sources.now)
@@ -36,10 +36,10 @@ fn derived_places(
 
 /// The numbers of the places that a declaration redeclares as derived; what is no entity redeclares
 /// none.
-fn derived_by(
+fn derived_by<'a>(
     alloc: Global,
-    sources: &Sources<'_, '_, '_>,
-    declaration: &Declaration<'_>,
+    sources: &Sources<'a, '_, '_>,
+    declaration: &Declaration<'a>,
 ) -> Result<Vec<u32>, AllocError>
     requires sources { AreSources sources.now }
     ensures { IfOk result (λ places. AreDerivedIn (schema_in sources.now)

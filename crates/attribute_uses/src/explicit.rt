@@ -149,13 +149,13 @@ fn add_uses(
 }
 
 /// Adds the uses of one declaration, whose data type has this number. No mark is left.
-fn add_explicit(
+fn add_explicit<'a>(
     alloc: Global,
-    sources: &Sources<'_, '_, '_>,
+    sources: &Sources<'a, '_, '_>,
     marks: &mut [bool],
     own: &[u32],
     first: usize,
-    explicit: &Explicit<'_>,
+    explicit: &Explicit<'a>,
     data_type: u32,
     uses: &mut Vec<AttributeUse>,
 ) -> Result<(), AllocError>
@@ -179,13 +179,13 @@ fn add_explicit(
 
 /// The uses of an entity's declarations, with the rows of its data types and of its own places. No
 /// mark is left.
-fn explicit_uses(
+fn explicit_uses<'a>(
     alloc: Global,
-    sources: &Sources<'_, '_, '_>,
+    sources: &Sources<'a, '_, '_>,
     marks: &mut [bool],
     row: &[u32],
     own: &[u32],
-    explicits: &[Explicit<'_>],
+    explicits: &[Explicit<'a>],
 ) -> Result<Vec<AttributeUse>, AllocError>
     requires sources { AreSources sources.now }
     requires clean { AreMarks marks.old [] }
@@ -212,12 +212,12 @@ fn explicit_uses(
 }
 
 /// The uses of the i-th declaration; what is no entity has none. No mark is left.
-fn uses_by(
+fn uses_by<'a>(
     alloc: Global,
-    sources: &Sources<'_, '_, '_>,
+    sources: &Sources<'a, '_, '_>,
     marks: &mut [bool],
     i: usize,
-    declaration: &Declaration<'_>,
+    declaration: &Declaration<'a>,
 ) -> Result<Vec<AttributeUse>, AllocError>
     requires sources { AreSources sources.now }
     requires clean { AreMarks marks.old [] }

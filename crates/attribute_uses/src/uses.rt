@@ -42,8 +42,8 @@ pub struct Uses {
 
 /// What is known of a schema.
 #[derive(Clone, Copy)]
-pub struct Sources<'r, 't, 'a> {
-    pub names: &'r Names<'t, 'a>,
+pub struct Sources<'a, 't, 'r> {
+    pub names: &'r Names<'a, 't>,
     pub data_types: &'r DataTypes,
     /// By entity, its line.
     pub lines: &'r [Vec<u32>],

@@ -1,7 +1,6 @@
 mod Whole
 mod Going
 mod Rows
-mod Tabled
 mod Made
 mod Known
 mod Domains

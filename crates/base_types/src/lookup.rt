@@ -23,8 +23,8 @@ use step_literals::literal::Word;
 
 /// The names of a schema, and what its data types ask of values.
 #[derive(Clone, Copy)]
-pub struct Bases<'r, 't, 'a> {
-    pub names: &'r Names<'t, 'a>,
+pub struct Bases<'a, 't, 'r> {
+    pub names: &'r Names<'a, 't>,
     pub table: &'r BaseTypes,
 }
 
@@ -57,7 +57,7 @@ fn is_entity(names: &Names<'_, '_>, number: u32) -> bool
     }
 }
 
-impl<'r, 't, 'a> Bases<'r, 't, 'a> {
+impl<'a, 't, 'r> Bases<'a, 't, 'r> {
     /// What the data type of a number asks; INTEGER where there is none.
     pub fn of_number(&self, number: u32) -> Base
         requires bases { AreBases self.now }

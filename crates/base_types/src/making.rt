@@ -50,7 +50,7 @@ pub(crate) fn entry_of(declared: &[Base], number: Option<u32>) -> Base
 }
 
 /// What the name in a data type stands for.
-fn named_in(names: &Names<'_, '_>, declared: &[Base], data_type: &DataType<'_>) -> Base
+fn named_in<'a>(names: &Names<'a, '_>, declared: &[Base], data_type: &DataType<'a>) -> Base
     ensures { result ≡ named_in (schema_of names.now.schema.now) declared.now
         (data_type_of data_type.now) }
 {
@@ -66,7 +66,7 @@ fn named_in(names: &Names<'_, '_>, declared: &[Base], data_type: &DataType<'_>) 
 }
 
 /// Whether the name in a data type, if it has any, is that of a type or an entity.
-pub(crate) fn is_known(names: &Names<'_, '_>, data_type: &DataType<'_>) -> bool
+pub(crate) fn is_known<'a>(names: &Names<'a, '_>, data_type: &DataType<'a>) -> bool
     ensures { result ≡ is_known (schema_of names.now.schema.now) (data_type_of data_type.now) }
 {
     match data_type {
@@ -160,12 +160,12 @@ fn base_in(is_known: bool, named: Base, element: u32, data_type: &DataType<'_>) 
 }
 
 /// What a data type asks whose name, if it has any, is known or isn't.
-pub(crate) fn base_of(
-    names: &Names<'_, '_>,
+pub(crate) fn base_of<'a>(
+    names: &Names<'a, '_>,
     declared: &[Base],
     is_known: bool,
     element: u32,
-    data_type: &DataType<'_>,
+    data_type: &DataType<'a>,
 ) -> Base
     ensures { result ≡ base_in is_known
         (named_in (schema_of names.now.schema.now) declared.now (data_type_of data_type.now))
@@ -203,12 +203,12 @@ fn first_of(row: &[u32]) -> u32
 }
 
 /// What stands behind the `=` of the defined type of this number, with the row of its data types.
-fn base_behind(
-    names: &Names<'_, '_>,
+fn base_behind<'a>(
+    names: &Names<'a, '_>,
     declared: &[Base],
     row: &[u32],
     number: u32,
-    underlying: &Underlying<'_>,
+    underlying: &Underlying<'a>,
 ) -> Result<Base, AllocError>
     ensures { IfOk result (λ b. b ≡ base_behind (schema_of names.now.schema.now)
         (named_in (schema_of names.now.schema.now) declared.now) (first_of row.now) number
@@ -231,12 +231,12 @@ fn base_behind(
 }
 
 /// What the declaration of this number stands for.
-pub(crate) fn base_at(
-    names: &Names<'_, '_>,
+pub(crate) fn base_at<'a>(
+    names: &Names<'a, '_>,
     declared: &[Base],
     row: &[u32],
     number: u32,
-    declaration: &Declaration<'_>,
+    declaration: &Declaration<'a>,
 ) -> Result<Base, AllocError>
     ensures { IfOk result (λ b. b ≡ base_at (schema_of names.now.schema.now)
         (named_in (schema_of names.now.schema.now) declared.now) (first_of row.now) number

@@ -38,12 +38,12 @@ use std::alloc::{AllocError, Global};
 use step_literals::literal::Word;
 
 /// Adds what a data type asks, then what those of its elements ask.
-fn add_within(
-    names: &Names<'_, '_>,
+fn add_within<'a>(
+    names: &Names<'a, '_>,
     declared: &[Base],
     bases: &mut Vec<Base>,
     is_known: bool,
-    data_type: &DataType<'_>,
+    data_type: &DataType<'a>,
 ) -> Result<(), AllocError>
     requires { is_known
         ≡ is_known_in (schema_of names.now.schema.now) (data_type_of data_type.now) }
@@ -62,11 +62,11 @@ fn add_within(
 }
 
 /// Adds what a data type and those of its elements ask.
-fn add_data_type(
-    names: &Names<'_, '_>,
+fn add_data_type<'a>(
+    names: &Names<'a, '_>,
     declared: &[Base],
     bases: &mut Vec<Base>,
-    data_type: &DataType<'_>,
+    data_type: &DataType<'a>,
 ) -> Result<(), AllocError>
     ensures { OnOk result (GoesOn (schema_of names.now.schema.now) declared.now bases.old.items
         (within (data_type_of data_type.now)) bases.new.items) }
@@ -76,11 +76,11 @@ fn add_data_type(
 }
 
 /// Adds those of an entity's explicit attributes.
-fn add_explicits(
-    names: &Names<'_, '_>,
+fn add_explicits<'a>(
+    names: &Names<'a, '_>,
     declared: &[Base],
     bases: &mut Vec<Base>,
-    explicits: &[Explicit<'_>],
+    explicits: &[Explicit<'a>],
 ) -> Result<(), AllocError>
     ensures { OnOk result (GoesOn (schema_of names.now.schema.now) declared.now bases.old.items
         (flat_map within (explicit_types (map explicit_of explicits.now))) bases.new.items) }
@@ -92,11 +92,11 @@ fn add_explicits(
 }
 
 /// Adds those of an entity's derived attributes.
-fn add_deriveds(
-    names: &Names<'_, '_>,
+fn add_deriveds<'a>(
+    names: &Names<'a, '_>,
     declared: &[Base],
     bases: &mut Vec<Base>,
-    deriveds: &[Derived<'_>],
+    deriveds: &[Derived<'a>],
 ) -> Result<(), AllocError>
     ensures { OnOk result (GoesOn (schema_of names.now.schema.now) declared.now bases.old.items
         (flat_map within (derived_types (map derived_of deriveds.now))) bases.new.items) }
@@ -158,11 +158,11 @@ fn add_bag(
 }
 
 /// Adds what the data type of an inverse attribute asks (ISO 10303-11, 9.2.1.3).
-fn add_inverse(
-    names: &Names<'_, '_>,
+fn add_inverse<'a>(
+    names: &Names<'a, '_>,
     declared: &[Base],
     bases: &mut Vec<Base>,
-    inverse: &Inverse<'_>,
+    inverse: &Inverse<'a>,
 ) -> Result<(), AllocError>
     ensures { OnOk result (GoesOn (schema_of names.now.schema.now) declared.now bases.old.items
         (within (collected (inverse_of inverse.now).collection (inverse_of inverse.now).entity))
@@ -176,11 +176,11 @@ fn add_inverse(
 }
 
 /// Adds those of an entity's inverse attributes.
-fn add_inverses(
-    names: &Names<'_, '_>,
+fn add_inverses<'a>(
+    names: &Names<'a, '_>,
     declared: &[Base],
     bases: &mut Vec<Base>,
-    inverses: &[Inverse<'_>],
+    inverses: &[Inverse<'a>],
 ) -> Result<(), AllocError>
     ensures { OnOk result (GoesOn (schema_of names.now.schema.now) declared.now bases.old.items
         (flat_map within (inverse_types (map inverse_of inverses.now))) bases.new.items) }
@@ -192,11 +192,11 @@ fn add_inverses(
 }
 
 /// Adds that of a defined type, where it stands for one.
-fn add_underlying(
-    names: &Names<'_, '_>,
+fn add_underlying<'a>(
+    names: &Names<'a, '_>,
     declared: &[Base],
     bases: &mut Vec<Base>,
-    underlying: &Underlying<'_>,
+    underlying: &Underlying<'a>,
 ) -> Result<(), AllocError>
     ensures { OnOk result (GoesOn (schema_of names.now.schema.now) declared.now bases.old.items
         (flat_map within (whole_underlying (underlying_of underlying.now))) bases.new.items) }
@@ -208,11 +208,11 @@ fn add_underlying(
 }
 
 /// Adds those of an entity.
-fn add_entity(
-    names: &Names<'_, '_>,
+fn add_entity<'a>(
+    names: &Names<'a, '_>,
     declared: &[Base],
     bases: &mut Vec<Base>,
-    entity: &Entity<'_>,
+    entity: &Entity<'a>,
 ) -> Result<(), AllocError>
     ensures { OnOk result (GoesOn (schema_of names.now.schema.now) declared.now bases.old.items
         (flat_map within (attribute_types (entity_of entity.now))) bases.new.items) }
@@ -223,11 +223,11 @@ fn add_entity(
 }
 
 /// Adds those of a declaration.
-fn add_declaration(
-    names: &Names<'_, '_>,
+fn add_declaration<'a>(
+    names: &Names<'a, '_>,
     declared: &[Base],
     bases: &mut Vec<Base>,
-    declaration: &Declaration<'_>,
+    declaration: &Declaration<'a>,
 ) -> Result<(), AllocError>
     ensures { OnOk result (GoesOn (schema_of names.now.schema.now) declared.now bases.old.items
         (flat_map within (whole_types (declaration_of declaration.now))) bases.new.items) }

@@ -38,7 +38,7 @@ fn deriveds_in<'d, 'a>(declaration: &'d Declaration<'a>) -> &'d [Derived<'a>]
 /// Adds what the derived attributes of one declaration say by themselves.
 fn judge_declaration<'r, 'a>(
     alloc: Global,
-    known: &Known<'r, '_, 'a>,
+    known: &Known<'a, '_, 'r>,
     items: &'r Items<'a>,
     number: u32,
     declaration: &Declaration<'a>,
@@ -60,7 +60,7 @@ fn judge_declaration<'r, 'a>(
 /// By number, what the derived attributes of a schema say by themselves.
 pub fn judge_derivations<'r, 'a>(
     alloc: Global,
-    known: &Known<'r, '_, 'a>,
+    known: &Known<'a, '_, 'r>,
     items: &'r Items<'a>,
 ) -> Result<Vec<Judgement>, AllocError>
     requires known { IsKnown known.now }

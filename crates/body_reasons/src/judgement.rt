@@ -45,7 +45,7 @@ fn first_found(survey: &Survey) -> Option<Reason>
 /// What a body says by itself, where SELF may be these.
 pub fn judge<'r, 'a>(
     alloc: Global,
-    known: &Known<'r, '_, 'a>,
+    known: &Known<'a, '_, 'r>,
     items: &'r Items<'a>,
     own: &'r [Atom],
     body: &Body<'a>,

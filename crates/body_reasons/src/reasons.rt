@@ -58,7 +58,7 @@ fn reason_with(ranks: &[Option<u32>], judgement: &Judgement) -> Option<Reason>
 /// else that one of the derived attributes that it may use is set aside. None where it is checked.
 pub fn reason_for<'r, 'a>(
     alloc: Global,
-    known: &Known<'r, '_, 'a>,
+    known: &Known<'a, '_, 'r>,
     items: &'r Items<'a>,
     ranks: &[Option<u32>],
     own: &'r [Atom],

@@ -35,7 +35,7 @@ use step_exchange::exchange::read_exchange;
 fn report<'s>(
     alloc: Global,
     keys: RandomState,
-    graph: TypeGraph<'_, 's>,
+    graph: TypeGraph<'s, '_>,
     bytes: &[u8],
 ) -> Result<Report<'s>, Fault>
     requires made { IsMade graph.types }
@@ -73,7 +73,7 @@ fn report<'s>(
 fn report_source<'s, S: Source>(
     alloc: Global,
     keys: RandomState,
-    graph: TypeGraph<'_, 's>,
+    graph: TypeGraph<'s, '_>,
     file: &mut S,
 ) -> Result<Report<'s>, Fault>
     requires made { IsMade graph.types }

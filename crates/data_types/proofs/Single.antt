@@ -18,12 +18,6 @@ form-at g [] n x y h e = absurd (cc)
 form-at g (z ∷ xs) zero x y h e = let same : z ≡ x = cc in e ∙ ap g same
 form-at g (z ∷ xs) (suc n) x y h e = form-at g xs n x y h e
 
-pub mapped-at : {A B : Type 0} (g : A → B) (xs : List A) (n : ℕ) (x : A) → slice_get xs n ≡ Some x
-    → slice_get (map g xs) n ≡ Some (g x)
-mapped-at g [] n x h = absurd (cc)
-mapped-at g (z ∷ xs) zero x h = let same : z ≡ x = cc in ap (λ y. Some (g y)) same
-mapped-at g (z ∷ xs) (suc n) x h = mapped-at g xs n x h
-
 pub what-is : {A : Type 0} (xs : List A) (n : ℕ) → n < length xs → (x : A) × (slice_get xs n ≡ Some x)
 what-is [] n lt = absurd (omega (arith, lt))
 what-is (x ∷ xs) zero lt = (x, refl)

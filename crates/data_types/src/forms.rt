@@ -69,7 +69,7 @@ pub struct DataTypes {
 }
 
 /// What a data type is, one level deep.
-fn form_of(names: &Names<'_, '_>, data_type: &DataType<'_>) -> Form
+fn form_of<'a>(names: &Names<'a, '_>, data_type: &DataType<'a>) -> Form
     ensures { result ≡ form_in (schema_of names.now.schema.now) (data_type_of data_type.now) }
 {
     match data_type {
@@ -85,10 +85,10 @@ fn form_of(names: &Names<'_, '_>, data_type: &DataType<'_>) -> Form
 }
 
 /// Adds the form of a data type, then those of its elements.
-fn add_within(
-    names: &Names<'_, '_>,
+fn add_within<'a>(
+    names: &Names<'a, '_>,
     forms: &mut Vec<Form>,
-    data_type: &DataType<'_>,
+    data_type: &DataType<'a>,
 ) -> Result<(), AllocError>
     ensures { OnOk result (forms.new.items ≡ forms.old.items
         ++ map (form_in (schema_of names.now.schema.now)) (within (data_type_of data_type.now))) }
@@ -115,11 +115,11 @@ fn add_number(forms: &[Form], row: &mut Vec<u32>) -> Result<(), AllocError>
 }
 
 /// Adds a data type with those of its elements, and its number.
-fn add_data_type(
-    names: &Names<'_, '_>,
+fn add_data_type<'a>(
+    names: &Names<'a, '_>,
     forms: &mut Vec<Form>,
     row: &mut Vec<u32>,
-    data_type: &DataType<'_>,
+    data_type: &DataType<'a>,
 ) -> Result<(), AllocError>
     ensures { OnOk result (Adds (schema_of names.now.schema.now) forms.old.items row.old.items
         (data_type_of data_type.now ∷ []) forms.new.items row.new.items) }
@@ -129,11 +129,11 @@ fn add_data_type(
 }
 
 /// Adds those of an entity's explicit attributes.
-fn add_explicits(
-    names: &Names<'_, '_>,
+fn add_explicits<'a>(
+    names: &Names<'a, '_>,
     forms: &mut Vec<Form>,
     row: &mut Vec<u32>,
-    explicits: &[Explicit<'_>],
+    explicits: &[Explicit<'a>],
 ) -> Result<(), AllocError>
     ensures { OnOk result (Adds (schema_of names.now.schema.now) forms.old.items row.old.items
         (explicit_types (map explicit_of explicits.now)) forms.new.items row.new.items) }
@@ -145,11 +145,11 @@ fn add_explicits(
 }
 
 /// Adds those of an entity's derived attributes.
-fn add_deriveds(
-    names: &Names<'_, '_>,
+fn add_deriveds<'a>(
+    names: &Names<'a, '_>,
     forms: &mut Vec<Form>,
     row: &mut Vec<u32>,
-    deriveds: &[Derived<'_>],
+    deriveds: &[Derived<'a>],
 ) -> Result<(), AllocError>
     ensures { OnOk result (Adds (schema_of names.now.schema.now) forms.old.items row.old.items
         (derived_types (map derived_of deriveds.now)) forms.new.items row.new.items) }
@@ -170,10 +170,10 @@ fn add_named(names: &Names<'_, '_>, forms: &mut Vec<Form>, name: Word<'_>) -> Re
 }
 
 /// Adds the forms of the data type of an inverse attribute, an entity or an aggregate of it.
-fn add_collected(
-    names: &Names<'_, '_>,
+fn add_collected<'a>(
+    names: &Names<'a, '_>,
     forms: &mut Vec<Form>,
-    inverse: &Inverse<'_>,
+    inverse: &Inverse<'a>,
 ) -> Result<(), AllocError>
     ensures { OnOk result (forms.new.items ≡ forms.old.items
         ++ map (form_in (schema_of names.now.schema.now)) (within (collected
@@ -189,11 +189,11 @@ fn add_collected(
 }
 
 /// Adds the data type of an inverse attribute, and its number (ISO 10303-11, 9.2.1.3).
-fn add_inverse(
-    names: &Names<'_, '_>,
+fn add_inverse<'a>(
+    names: &Names<'a, '_>,
     forms: &mut Vec<Form>,
     row: &mut Vec<u32>,
-    inverse: &Inverse<'_>,
+    inverse: &Inverse<'a>,
 ) -> Result<(), AllocError>
     ensures { OnOk result (Adds (schema_of names.now.schema.now) forms.old.items row.old.items
         (inverse_types (inverse_of inverse.now ∷ [])) forms.new.items row.new.items) }
@@ -203,11 +203,11 @@ fn add_inverse(
 }
 
 /// Adds those of an entity's inverse attributes.
-fn add_inverses(
-    names: &Names<'_, '_>,
+fn add_inverses<'a>(
+    names: &Names<'a, '_>,
     forms: &mut Vec<Form>,
     row: &mut Vec<u32>,
-    inverses: &[Inverse<'_>],
+    inverses: &[Inverse<'a>],
 ) -> Result<(), AllocError>
     ensures { OnOk result (Adds (schema_of names.now.schema.now) forms.old.items row.old.items
         (inverse_types (map inverse_of inverses.now)) forms.new.items row.new.items) }
@@ -219,11 +219,11 @@ fn add_inverses(
 }
 
 /// Adds that of a defined type, where it stands for one.
-fn add_underlying(
-    names: &Names<'_, '_>,
+fn add_underlying<'a>(
+    names: &Names<'a, '_>,
     forms: &mut Vec<Form>,
     row: &mut Vec<u32>,
-    underlying: &Underlying<'_>,
+    underlying: &Underlying<'a>,
 ) -> Result<(), AllocError>
     ensures { OnOk result (Adds (schema_of names.now.schema.now) forms.old.items row.old.items
         (whole_underlying (underlying_of underlying.now)) forms.new.items row.new.items) }
@@ -235,11 +235,11 @@ fn add_underlying(
 }
 
 /// Adds those of an entity.
-fn add_entity(
-    names: &Names<'_, '_>,
+fn add_entity<'a>(
+    names: &Names<'a, '_>,
     forms: &mut Vec<Form>,
     row: &mut Vec<u32>,
-    entity: &Entity<'_>,
+    entity: &Entity<'a>,
 ) -> Result<(), AllocError>
     ensures { OnOk result (Adds (schema_of names.now.schema.now) forms.old.items row.old.items
         (attribute_types (entity_of entity.now)) forms.new.items row.new.items) }
@@ -250,11 +250,11 @@ fn add_entity(
 }
 
 /// Adds those of a declaration.
-fn add_declaration(
-    names: &Names<'_, '_>,
+fn add_declaration<'a>(
+    names: &Names<'a, '_>,
     forms: &mut Vec<Form>,
     row: &mut Vec<u32>,
-    declaration: &Declaration<'_>,
+    declaration: &Declaration<'a>,
 ) -> Result<(), AllocError>
     ensures { OnOk result (Adds (schema_of names.now.schema.now) forms.old.items row.old.items
         (whole_types (declaration_of declaration.now)) forms.new.items row.new.items) }

@@ -56,8 +56,8 @@ pub enum Atom {
 
 /// What is known of a schema's data types.
 #[derive(Clone, Copy)]
-pub struct Tables<'r, 't, 'a> {
-    pub names: &'r Names<'t, 'a>,
+pub struct Tables<'a, 't, 'r> {
+    pub names: &'r Names<'a, 't>,
     pub data_types: &'r DataTypes,
     /// By declaration, all that it is made of.
     pub parts: &'r [Vec<u32>],
@@ -151,10 +151,10 @@ fn underlying_number(data_types: &DataTypes, part: u32) -> Option<u32>
 }
 
 /// Adds what a defined type gives by itself.
-fn add_underlying(
-    tables: &Tables<'_, '_, '_>,
+fn add_underlying<'a>(
+    tables: &Tables<'a, '_, '_>,
     part: u32,
-    underlying: &Underlying<'_>,
+    underlying: &Underlying<'a>,
     is_of_select: bool,
     atoms: &mut Vec<Atom>,
 ) -> Result<(), AllocError>

@@ -63,7 +63,7 @@ impl<'a> Attributes<'a> {
     pub fn of(
         alloc: Global,
         keys: RandomState,
-        names: &Names<'_, 'a>,
+        names: &Names<'a, '_>,
         data_types: &DataTypes,
         lines: &[Vec<u32>],
         shapes: &[Shape],

@@ -64,8 +64,8 @@ use type_shapes::shapes::Shape;
 
 /// What is known of a schema.
 #[derive(Clone, Copy)]
-pub struct Sources<'r, 't, 'a> {
-    pub names: &'r Names<'t, 'a>,
+pub struct Sources<'a, 't, 'r> {
+    pub names: &'r Names<'a, 't>,
     pub data_types: &'r DataTypes,
     /// By entity, its line.
     pub lines: &'r [Vec<u32>],
@@ -533,7 +533,7 @@ fn add_declarations<'a>(
 /// All that the entities of a schema say of attributes.
 pub fn gathered<'a>(
     alloc: Global,
-    sources: &Sources<'_, '_, 'a>,
+    sources: &Sources<'a, '_, '_>,
 ) -> Result<Vec<Named<'a>>, AllocError>
     requires sources { AreSources sources.now }
     ensures { IfOk result (λ flat. AddsAll []

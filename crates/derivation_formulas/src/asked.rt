@@ -38,7 +38,7 @@ fn place_of(firsts: &[u32], count: usize, entity: u32, number: usize) -> usize
 }
 
 /// The formula at a place; none behind the end.
-fn formula_in<'t, 'a>(formulas: &[Option<Formula<'t, 'a>>], place: usize) -> Option<Formula<'t, 'a>>
+fn formula_in<'t, 'a>(formulas: &[Option<Formula<'a, 't>>], place: usize) -> Option<Formula<'a, 't>>
     ensures { result ≡ option_flatten (slice_get formulas.now place) }
 {
     formulas.get(place).copied().flatten()
@@ -48,11 +48,11 @@ fn formula_in<'t, 'a>(formulas: &[Option<Formula<'t, 'a>>], place: usize) -> Opt
 /// of the entity of this number; none where there is none, or where it is set aside
 /// (ISO 10303-11, 9.2.1.2).
 pub fn formula_at<'t, 'a>(
-    formulas: &[Option<Formula<'t, 'a>>],
+    formulas: &[Option<Formula<'a, 't>>],
     firsts: &[u32],
     entity: u32,
     number: usize,
-) -> Option<Formula<'t, 'a>>
+) -> Option<Formula<'a, 't>>
     ensures meant { (s : Schema) → AreFormulas s formulas.now → AreFirsts s firsts.now
         → (inverses : List InverseAttribute) (attributes : Attributes)
         → AreAttributes s inverses attributes → (e : Name) → HasNumber s e entity

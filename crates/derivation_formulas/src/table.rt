@@ -15,7 +15,7 @@ use schema_names::names::Names;
 use std::alloc::{AllocError, Global};
 
 /// The formula of a body of this rank; none where there is no rank, or no expression.
-fn formula_of<'t, 'a>(rank: Option<u32>, body: &'t Body<'a>) -> Option<Formula<'t, 'a>>
+fn formula_of<'t, 'a>(rank: Option<u32>, body: &'t Body<'a>) -> Option<Formula<'a, 't>>
     ensures { option_map formula_seen result ≡ formula_by rank (body_of body.now) }
 {
     let Some(rank) = rank else {
@@ -40,7 +40,7 @@ fn rank_of(ranks: &[Option<u32>], number: usize) -> Option<u32>
 
 /// Adds those of some derived attributes, whose numbers are the next ones.
 fn add_deriveds<'t, 'a>(
-    formulas: &mut Vec<Option<Formula<'t, 'a>>>,
+    formulas: &mut Vec<Option<Formula<'a, 't>>>,
     ranks: &[Option<u32>],
     deriveds: &'t [Derived<'a>],
 ) -> Result<(), AllocError>
@@ -66,7 +66,7 @@ fn deriveds_of<'t, 'a>(declaration: &'t Declaration<'a>) -> &'t [Derived<'a>]
 
 /// Adds those of some declarations, in the order of the text.
 fn add_all<'t, 'a>(
-    formulas: &mut Vec<Option<Formula<'t, 'a>>>,
+    formulas: &mut Vec<Option<Formula<'a, 't>>>,
     ranks: &[Option<u32>],
     declarations: &'t [Declaration<'a>],
 ) -> Result<(), AllocError>
@@ -87,14 +87,14 @@ fn add_all<'t, 'a>(
 /// ran out.
 pub fn formulas<'t, 'a>(
     alloc: Global,
-    names: &Names<'t, 'a>,
+    names: &Names<'a, 't>,
     ranks: &[Option<u32>],
-) -> Result<Vec<Option<Formula<'t, 'a>>>, AllocError>
+) -> Result<Vec<Option<Formula<'a, 't>>>, AllocError>
     requires resolved { IsResolved (schema_of names.now.schema.now) }
     requires ranks { AreRanksOf (schema_of names.now.schema.now) ranks.now }
     ensures { IfOk result (λ t. AreFormulas (schema_of names.now.schema.now) t.items) }
 {
-    let mut formulas: Vec<Option<Formula<'t, 'a>>> = Vec::new(alloc);
+    let mut formulas: Vec<Option<Formula<'a, 't>>> = Vec::new(alloc);
     add_all(&mut formulas, ranks, &names.schema.declarations)?;
     Ok(formulas)
 }

@@ -39,12 +39,6 @@ seen-there f [] i x lt at = absurd (omega (arith, lt))
 seen-there f (y ∷ xs) zero x lt at = ap (λ z. Some (f z)) (sym at)
 seen-there f (y ∷ xs) (suc i) x lt at = seen-there f xs i x (omega (arith, lt)) at
 
-pub item-seen : {A B : Type 0} (f : A → B) (xs : List A) (i : ℕ) (x : A) → slice_get xs i ≡ Some x
-    → slice_get (map f xs) i ≡ Some (f x)
-item-seen f [] i x at = absurd (cc)
-item-seen f (y ∷ xs) zero x at = let same : y ≡ x = cc in ap (λ z. Some (f z)) same
-item-seen f (y ∷ xs) (suc i) x at = item-seen f xs i x at
-
 pub none-past : {A : Type 0} (xs : List A) (i : ℕ) → slice_get xs i ≡ None → length xs ≤ i
 none-past [] i at = omega arith
 none-past (y ∷ xs) zero at = absurd (cc)

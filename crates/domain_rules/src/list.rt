@@ -20,8 +20,8 @@ use unchecked_list::listing::Holder;
 /// Adds those of the defined type of this number (ISO 10303-11, 9.1).
 fn add_type<'t, 'a>(
     alloc: Global,
-    rules: &mut Vec<DomainRule<'t, 'a>>,
-    findings: &Findings<'_, '_, 'a>,
+    findings: &Findings<'a, '_, '_>,
+    rules: &mut Vec<DomainRule<'a, 't>>,
     number: u32,
     declared: &'t TypeDeclaration<'a>,
 ) -> Result<(), AllocError>
@@ -33,14 +33,14 @@ fn add_type<'t, 'a>(
 {
     let name = declared.name;
     let holder = Holder { number, name };
-    add_type_rules(alloc, rules, findings, holder, declared.domain_rules())
+    add_type_rules(alloc, findings, rules, holder, declared.domain_rules())
 }
 
 /// Adds those of the entity of this number (ISO 10303-11, 9.2.2.2).
 fn add_entity<'t, 'a>(
     alloc: Global,
-    rules: &mut Vec<DomainRule<'t, 'a>>,
-    findings: &Findings<'_, '_, 'a>,
+    findings: &Findings<'a, '_, '_>,
+    rules: &mut Vec<DomainRule<'a, 't>>,
     number: u32,
     entity: &'t Entity<'a>,
 ) -> Result<(), AllocError>
@@ -52,14 +52,14 @@ fn add_entity<'t, 'a>(
 {
     let name = entity.name;
     let holder = Holder { number, name };
-    add_entity_rules(alloc, rules, findings, holder, entity.domain_rules())
+    add_entity_rules(alloc, findings, rules, holder, entity.domain_rules())
 }
 
 /// Adds those of the declaration of this number.
 fn add_declaration<'t, 'a>(
     alloc: Global,
-    rules: &mut Vec<DomainRule<'t, 'a>>,
-    findings: &Findings<'_, '_, 'a>,
+    findings: &Findings<'a, '_, '_>,
+    rules: &mut Vec<DomainRule<'a, 't>>,
     number: u32,
     declaration: &'t Declaration<'a>,
 ) -> Result<(), AllocError>
@@ -70,8 +70,8 @@ fn add_declaration<'t, 'a>(
         rules.old.items rules.new.items) }
 {
     match declaration {
-        Declaration::Type(declared) => add_type(alloc, rules, findings, number, declared),
-        Declaration::Entity(entity) => add_entity(alloc, rules, findings, number, entity),
+        Declaration::Type(declared) => add_type(alloc, findings, rules, number, declared),
+        Declaration::Entity(entity) => add_entity(alloc, findings, rules, number, entity),
         Declaration::Skipped(_) => Ok(()),
     }
 }
@@ -79,8 +79,8 @@ fn add_declaration<'t, 'a>(
 /// Adds those of all declarations, in the order of the text.
 fn add_all<'t, 'a>(
     alloc: Global,
-    rules: &mut Vec<DomainRule<'t, 'a>>,
-    findings: &Findings<'_, '_, 'a>,
+    findings: &Findings<'a, '_, '_>,
+    rules: &mut Vec<DomainRule<'a, 't>>,
     declarations: &'t [Declaration<'a>],
 ) -> Result<(), AllocError>
     requires found { AreFound findings.now }
@@ -91,7 +91,7 @@ fn add_all<'t, 'a>(
         rules.old.items rules.new.items) }
 {
     for i in 0..declarations.len() {
-        add_declaration(alloc, rules, findings, i as u32, &declarations[i])?;
+        add_declaration(alloc, findings, rules, i as u32, &declarations[i])?;
     }
     Ok(())
 }
@@ -102,15 +102,15 @@ fn add_all<'t, 'a>(
 /// It takes the time of the reasons of all rules. An error says that memory ran out.
 pub fn domain_rules<'t, 'a>(
     alloc: Global,
-    findings: &Findings<'_, 't, 'a>,
-) -> Result<Vec<DomainRule<'t, 'a>>, AllocError>
+    findings: &Findings<'a, 't, '_>,
+) -> Result<Vec<DomainRule<'a, 't>>, AllocError>
     requires found { AreFound findings.now }
     ensures checked { IfOk result (λ t. AreDomainRules (schema_found findings.now)
         (map (rule_seen (schema_found findings.now)) t.items)) }
     ensures numbered { IfOk result (λ t. Every (IsNumbered (schema_found findings.now)) t.items) }
 {
-    let mut rules: Vec<DomainRule<'t, 'a>> = Vec::new(alloc);
+    let mut rules: Vec<DomainRule<'a, 't>> = Vec::new(alloc);
     let schema: &'t SchemaTree<'a> = findings.known.tables.names.schema;
-    add_all(alloc, &mut rules, findings, &schema.declarations)?;
+    add_all(alloc, findings, &mut rules, &schema.declarations)?;
     Ok(rules)
 }

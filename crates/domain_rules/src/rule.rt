@@ -15,7 +15,7 @@ pub enum RuleHolder {
 /// A domain rule that is checked: its condition holds of each instance of the entity that states
 /// it, or of each value of the defined type.
 #[derive(Clone, Copy)]
-pub struct DomainRule<'t, 'a> {
+pub struct DomainRule<'a, 't> {
     pub holder: RuleHolder,
     pub label: RuleLabel<'a>,
     pub condition: &'t Expr<'a>,

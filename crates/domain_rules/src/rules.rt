@@ -44,7 +44,7 @@ fn rule_label<'a>(label: Option<Word<'a>>, number: u64) -> RuleLabel<'a>
 
 /// Adds a rule for which there is no reason; then its body is an expression.
 fn add_checked<'t, 'a>(
-    rules: &mut Vec<DomainRule<'t, 'a>>,
+    rules: &mut Vec<DomainRule<'a, 't>>,
     holder: RuleHolder,
     number: u64,
     rule: &'t Rule<'a>,
@@ -73,8 +73,8 @@ fn add_checked<'t, 'a>(
 /// Adds a rule where there is no reason, by its number in its clause where it has no label.
 fn add_rule<'t, 'a>(
     alloc: Global,
-    rules: &mut Vec<DomainRule<'t, 'a>>,
-    findings: &Findings<'_, '_, 'a>,
+    findings: &Findings<'a, '_, '_>,
+    rules: &mut Vec<DomainRule<'a, 't>>,
     own: Own<'_>,
     holder: RuleHolder,
     number: u64,
@@ -97,8 +97,8 @@ fn add_rule<'t, 'a>(
 /// Adds those of some rules for which there is no reason.
 fn add_rules<'t, 'a>(
     alloc: Global,
-    rules: &mut Vec<DomainRule<'t, 'a>>,
-    findings: &Findings<'_, '_, 'a>,
+    findings: &Findings<'a, '_, '_>,
+    rules: &mut Vec<DomainRule<'a, 't>>,
     own: Own<'_>,
     holder: RuleHolder,
     written: &'t [Rule<'a>],
@@ -112,7 +112,7 @@ fn add_rules<'t, 'a>(
 {
     for i in 0..written.len() {
         let number = i as u64 + 1;
-        add_rule(alloc, rules, findings, own, holder, number, &written[i])?;
+        add_rule(alloc, findings, rules, own, holder, number, &written[i])?;
     }
     Ok(())
 }
@@ -120,8 +120,8 @@ fn add_rules<'t, 'a>(
 /// Adds those of the rules of an entity, whose SELF is an instance of it (ISO 10303-11, 9.2.2.2).
 pub(crate) fn add_entity_rules<'t, 'a>(
     alloc: Global,
-    rules: &mut Vec<DomainRule<'t, 'a>>,
-    findings: &Findings<'_, '_, 'a>,
+    findings: &Findings<'a, '_, '_>,
+    rules: &mut Vec<DomainRule<'a, 't>>,
     holder: Holder<'_>,
     written: &'t [Rule<'a>],
 ) -> Result<(), AllocError>
@@ -137,14 +137,14 @@ pub(crate) fn add_entity_rules<'t, 'a>(
         is_over_select: false,
     };
     let stated = RuleHolder::Entity(holder.number);
-    add_rules(alloc, rules, findings, own, stated, written)
+    add_rules(alloc, findings, rules, own, stated, written)
 }
 
 /// Adds those of the rules of a defined type, whose SELF is a value of it (ISO 10303-11, 9.1).
 pub(crate) fn add_type_rules<'t, 'a>(
     alloc: Global,
-    rules: &mut Vec<DomainRule<'t, 'a>>,
-    findings: &Findings<'_, '_, 'a>,
+    findings: &Findings<'a, '_, '_>,
+    rules: &mut Vec<DomainRule<'a, 't>>,
     holder: Holder<'_>,
     written: &'t [Rule<'a>],
 ) -> Result<(), AllocError>
@@ -160,5 +160,5 @@ pub(crate) fn add_type_rules<'t, 'a>(
         is_over_select: is_type_over_select(findings, holder),
     };
     let stated = RuleHolder::Type(holder.number);
-    add_rules(alloc, rules, findings, own, stated, written)
+    add_rules(alloc, findings, rules, own, stated, written)
 }

@@ -83,7 +83,7 @@ impl<'a> Items<'a> {
     pub fn of(
         alloc: Global,
         keys: RandomState,
-        names: &Names<'_, 'a>,
+        names: &Names<'a, '_>,
     ) -> Result<Items<'a>, AllocError>
         requires resolved { IsResolved (schema_of names.now.schema.now) }
         ensures { IfOk result (AreItems (schema_of names.now.schema.now)) }

@@ -77,9 +77,9 @@ use step_literals::literal::Word;
 #[cycle(evaluation)]
 #[inline(never)]
 pub fn evaluate<'p, 'e, 'r, 't, 's: 'r, 'a>(
+    context: &Context<'s, 't, 'r, 'a, 'e, 'p>,
     expression: &Expr<'s>,
     alloc: Global,
-    context: &Context<'p, 'e, 'r, 't, 's, 'a>,
     variables: &mut Vec<Variable<'p, 'r>>,
 ) -> Result<Datum<'r, Part<'p, 'r>>, AllocError>
     requires setting { IsSetting context.now.setting.now }
@@ -90,18 +90,18 @@ pub fn evaluate<'p, 'e, 'r, 't, 's: 'r, 'a>(
         Expr::Literal(literal) => Ok(literal_datum(*literal)),
         Expr::Signed(sign, number) => Ok(signed_datum(*sign, *number)),
         Expr::Reference(root, qualifiers) => {
-            referred(qualifiers, alloc, context, variables, *root)
+            referred(context, qualifiers, alloc, variables, *root)
         }
-        Expr::Parenthesized(inner) => evaluate(inner, alloc, context, variables),
+        Expr::Parenthesized(inner) => evaluate(context, inner, alloc, variables),
         Expr::Aggregate(_) => Ok(Datum::Indeterminate),
         Expr::Query {
             variable,
             source,
             condition,
-        } => query(source, condition, alloc, context, variables, *variable),
-        Expr::Call(function, argument) => call(argument, alloc, context, variables, *function),
-        Expr::Nvl(first, second) => first_known(first, second, alloc, context, variables),
-        _ => Ok(Datum::Logical(condition(expression, alloc, context, variables)?)),
+        } => query(context, source, condition, alloc, variables, *variable),
+        Expr::Call(function, argument) => call(context, argument, alloc, variables, *function),
+        Expr::Nvl(first, second) => first_known(context, first, second, alloc, variables),
+        _ => Ok(Datum::Logical(condition(context, expression, alloc, variables)?)),
     }
 }
 
@@ -109,9 +109,9 @@ pub fn evaluate<'p, 'e, 'r, 't, 's: 'r, 'a>(
 #[cycle(evaluation)]
 #[inline(never)]
 pub fn evaluate_truth<'p, 'e, 'r, 't, 's: 'r, 'a>(
+    context: &Context<'s, 't, 'r, 'a, 'e, 'p>,
     expression: &Expr<'s>,
     alloc: Global,
-    context: &Context<'p, 'e, 'r, 't, 's, 'a>,
     variables: &mut Vec<Variable<'p, 'r>>,
 ) -> Result<Logical, AllocError>
     requires setting { IsSetting context.now.setting.now }
@@ -119,18 +119,18 @@ pub fn evaluate_truth<'p, 'e, 'r, 't, 's: 'r, 'a>(
         (λ m. truth_in context.now m variables.old.items (tree_of expression.now))) }
 {
     if is_condition(expression) {
-        return condition(expression, alloc, context, variables);
+        return condition(context, expression, alloc, variables);
     }
-    Ok(truth(evaluate(expression, alloc, context, variables)?))
+    Ok(truth(evaluate(context, expression, alloc, variables)?))
 }
 
 /// The logical that a condition is worth.
 #[cycle(evaluation)]
 #[inline(never)]
 fn condition<'p, 'e, 'r, 't, 's: 'r, 'a>(
+    context: &Context<'s, 't, 'r, 'a, 'e, 'p>,
     expression: &Expr<'s>,
     alloc: Global,
-    context: &Context<'p, 'e, 'r, 't, 's, 'a>,
     variables: &mut Vec<Variable<'p, 'r>>,
 ) -> Result<Logical, AllocError>
     requires setting { IsSetting context.now.setting.now }
@@ -139,25 +139,25 @@ fn condition<'p, 'e, 'r, 't, 's: 'r, 'a>(
         (λ m. meaning_in context.now m variables.old.items (tree_of expression.now))) }
 {
     match expression {
-        Expr::Parenthesized(inner) => condition(inner, alloc, context, variables),
+        Expr::Parenthesized(inner) => condition(context, inner, alloc, variables),
         Expr::Interval {
             low,
             above,
             item,
             below,
             high,
-        } => between(low, item, high, alloc, context, variables, *above, *below),
-        Expr::Not(inner) => Ok(not(evaluate_truth(inner, alloc, context, variables)?)),
+        } => between(context, low, item, high, alloc, variables, *above, *below),
+        Expr::Not(inner) => Ok(not(evaluate_truth(context, inner, alloc, variables)?)),
         Expr::Conjunction(first, others) => {
-            let value = evaluate_truth(first, alloc, context, variables)?;
-            and_all(others, alloc, context, variables, value)
+            let value = evaluate_truth(context, first, alloc, variables)?;
+            and_all(context, others, alloc, variables, value)
         }
         Expr::Disjunction(first, others) => {
-            let value = evaluate_truth(first, alloc, context, variables)?;
-            or_all(others, alloc, context, variables, value)
+            let value = evaluate_truth(context, first, alloc, variables)?;
+            or_all(context, others, alloc, variables, value)
         }
         Expr::Comparison(left, relation, right) => {
-            related(left, right, alloc, context, variables, *relation)
+            related(context, left, right, alloc, variables, *relation)
         }
         _ => Ok(Logical::Unknown),
     }
@@ -167,11 +167,11 @@ fn condition<'p, 'e, 'r, 't, 's: 'r, 'a>(
 #[cycle(evaluation)]
 #[inline(never)]
 fn between<'p, 'e, 'r, 't, 's: 'r, 'a>(
+    context: &Context<'s, 't, 'r, 'a, 'e, 'p>,
     low: &Expr<'s>,
     item: &Expr<'s>,
     high: &Expr<'s>,
     alloc: Global,
-    context: &Context<'p, 'e, 'r, 't, 's, 'a>,
     variables: &mut Vec<Variable<'p, 'r>>,
     above: Limit,
     below: Limit,
@@ -181,9 +181,9 @@ fn between<'p, 'e, 'r, 't, 's: 'r, 'a>(
         (λ m. between_in context.now m variables.old.items above below (tree_of low.now)
         (tree_of item.now) (tree_of high.now))) }
 {
-    let low = evaluate(low, alloc, context, variables)?;
-    let item = evaluate(item, alloc, context, variables)?;
-    let high = evaluate(high, alloc, context, variables)?;
+    let low = evaluate(context, low, alloc, variables)?;
+    let item = evaluate(context, item, alloc, variables)?;
+    let high = evaluate(context, high, alloc, variables)?;
     Ok(and(limited(above, &low, &item), limited(below, &item, &high)))
 }
 
@@ -191,9 +191,9 @@ fn between<'p, 'e, 'r, 't, 's: 'r, 'a>(
 #[cycle(evaluation)]
 #[inline(never)]
 fn call<'p, 'e, 'r, 't, 's: 'r, 'a>(
+    context: &Context<'s, 't, 'r, 'a, 'e, 'p>,
     argument: &Expr<'s>,
     alloc: Global,
-    context: &Context<'p, 'e, 'r, 't, 's, 'a>,
     variables: &mut Vec<Variable<'p, 'r>>,
     function: Function,
 ) -> Result<Datum<'r, Part<'p, 'r>>, AllocError>
@@ -201,7 +201,7 @@ fn call<'p, 'e, 'r, 't, 's: 'r, 'a>(
     ensures { IfOk result (λ d. Gives context.now variables.old.items variables.new.items (datum_of holding d)
         (λ m. of_call function (meaning_in context.now m variables.old.items (tree_of argument.now)))) }
 {
-    let value = evaluate(argument, alloc, context, variables)?;
+    let value = evaluate(context, argument, alloc, variables)?;
     called(function, value)
 }
 
@@ -209,10 +209,10 @@ fn call<'p, 'e, 'r, 't, 's: 'r, 'a>(
 #[cycle(evaluation)]
 #[inline(never)]
 fn first_known<'p, 'e, 'r, 't, 's: 'r, 'a>(
+    context: &Context<'s, 't, 'r, 'a, 'e, 'p>,
     first: &Expr<'s>,
     second: &Expr<'s>,
     alloc: Global,
-    context: &Context<'p, 'e, 'r, 't, 's, 'a>,
     variables: &mut Vec<Variable<'p, 'r>>,
 ) -> Result<Datum<'r, Part<'p, 'r>>, AllocError>
     requires setting { IsSetting context.now.setting.now }
@@ -220,20 +220,20 @@ fn first_known<'p, 'e, 'r, 't, 's: 'r, 'a>(
         (λ m. or_else (meaning_in context.now m variables.old.items (tree_of first.now))
         (meaning_in context.now m variables.old.items (tree_of second.now)))) }
 {
-    let value = evaluate(first, alloc, context, variables)?;
+    let value = evaluate(context, first, alloc, variables)?;
     if is_known(&value) {
         return Ok(value);
     }
-    evaluate(second, alloc, context, variables)
+    evaluate(context, second, alloc, variables)
 }
 
 /// What a reference means: SELF or a name, with its qualifiers.
 #[cycle(evaluation)]
 #[inline(never)]
 fn referred<'p, 'e, 'r, 't, 's: 'r, 'a>(
+    context: &Context<'s, 't, 'r, 'a, 'e, 'p>,
     qualifiers: &[Qualifier<'s>],
     alloc: Global,
-    context: &Context<'p, 'e, 'r, 't, 's, 'a>,
     variables: &mut Vec<Variable<'p, 'r>>,
     root: Root<'s>,
 ) -> Result<Datum<'r, Part<'p, 'r>>, AllocError>
@@ -243,8 +243,8 @@ fn referred<'p, 'e, 'r, 't, 's: 'r, 'a>(
         (qualifiers_of qualifiers.now)))) }
 {
     match root {
-        Root::SelfInstance => own(qualifiers, alloc, context, variables),
-        Root::Name(name) => named(qualifiers, alloc, context, variables, name),
+        Root::SelfInstance => own(context, qualifiers, alloc, variables),
+        Root::Name(name) => named(context, qualifiers, alloc, variables, name),
     }
 }
 
@@ -252,9 +252,9 @@ fn referred<'p, 'e, 'r, 't, 's: 'r, 'a>(
 #[cycle(evaluation)]
 #[inline(never)]
 fn own<'p, 'e, 'r, 't, 's: 'r, 'a>(
+    context: &Context<'s, 't, 'r, 'a, 'e, 'p>,
     qualifiers: &[Qualifier<'s>],
     alloc: Global,
-    context: &Context<'p, 'e, 'r, 't, 's, 'a>,
     variables: &mut Vec<Variable<'p, 'r>>,
 ) -> Result<Datum<'r, Part<'p, 'r>>, AllocError>
     requires setting { IsSetting context.now.setting.now }
@@ -262,17 +262,17 @@ fn own<'p, 'e, 'r, 't, 's: 'r, 'a>(
         (λ m. selected_in context.now m variables.old.items (qualifiers_of qualifiers.now)
         (element_datum context.now.me))) }
 {
-    selected(qualifiers, alloc, context, variables, context.me.datum())
+    selected(context, qualifiers, alloc, variables, context.me.datum())
 }
 
 /// What a relation says of two expressions.
 #[cycle(evaluation)]
 #[inline(never)]
 fn related<'p, 'e, 'r, 't, 's: 'r, 'a>(
+    context: &Context<'s, 't, 'r, 'a, 'e, 'p>,
     left: &Expr<'s>,
     right: &Expr<'s>,
     alloc: Global,
-    context: &Context<'p, 'e, 'r, 't, 's, 'a>,
     variables: &mut Vec<Variable<'p, 'r>>,
     relation: Relation,
 ) -> Result<Logical, AllocError>
@@ -281,11 +281,11 @@ fn related<'p, 'e, 'r, 't, 's: 'r, 'a>(
         (λ m. related_in context.now m variables.old.items relation (string_of (tree_of left.now))
         (meaning_in context.now m variables.old.items (tree_of left.now)) (tree_of right.now))) }
 {
-    let value = evaluate(left, alloc, context, variables)?;
+    let value = evaluate(context, left, alloc, variables)?;
     if is_in(relation) {
-        return within(right, alloc, context, variables, string_of(left), &value);
+        return within(context, right, alloc, variables, string_of(left), &value);
     }
-    let other = evaluate(right, alloc, context, variables)?;
+    let other = evaluate(context, right, alloc, variables)?;
     Ok(compared(relation, &value, &other))
 }
 
@@ -293,9 +293,9 @@ fn related<'p, 'e, 'r, 't, 's: 'r, 'a>(
 #[cycle(evaluation)]
 #[inline(never)]
 fn is_member<'p, 'e, 'r, 't, 's: 'r, 'a>(
+    context: &Context<'s, 't, 'r, 'a, 'e, 'p>,
     expression: &Expr<'s>,
     alloc: Global,
-    context: &Context<'p, 'e, 'r, 't, 's, 'a>,
     variables: &mut Vec<Variable<'p, 'r>>,
     value: &Datum<'r, Part<'p, 'r>>,
 ) -> Result<Logical, AllocError>
@@ -304,7 +304,7 @@ fn is_member<'p, 'e, 'r, 't, 's: 'r, 'a>(
         (λ m. member (datum_of holding value.now)
         (bare (meaning_in context.now m variables.old.items (tree_of expression.now))))) }
 {
-    let right = bare(evaluate(expression, alloc, context, variables)?);
+    let right = bare(evaluate(context, expression, alloc, variables)?);
     Ok(member(value, &right))
 }
 
@@ -312,9 +312,9 @@ fn is_member<'p, 'e, 'r, 't, 's: 'r, 'a>(
 #[cycle(evaluation)]
 #[inline(never)]
 fn and_all<'p, 'e, 'r, 't, 's: 'r, 'a>(
+    context: &Context<'s, 't, 'r, 'a, 'e, 'p>,
     expressions: &[Expr<'s>],
     alloc: Global,
-    context: &Context<'p, 'e, 'r, 't, 's, 'a>,
     variables: &mut Vec<Variable<'p, 'r>>,
     first: Logical,
 ) -> Result<Logical, AllocError>
@@ -326,7 +326,7 @@ fn and_all<'p, 'e, 'r, 't, 's: 'r, 'a>(
     for expression in expressions {
         value = and(
             value,
-            evaluate_truth(expression, alloc, context, variables)?,
+            evaluate_truth(context, expression, alloc, variables)?,
         );
     }
     Ok(value)
@@ -336,9 +336,9 @@ fn and_all<'p, 'e, 'r, 't, 's: 'r, 'a>(
 #[cycle(evaluation)]
 #[inline(never)]
 fn or_all<'p, 'e, 'r, 't, 's: 'r, 'a>(
+    context: &Context<'s, 't, 'r, 'a, 'e, 'p>,
     alternatives: &[Alternative<'s>],
     alloc: Global,
-    context: &Context<'p, 'e, 'r, 't, 's, 'a>,
     variables: &mut Vec<Variable<'p, 'r>>,
     first: Logical,
 ) -> Result<Logical, AllocError>
@@ -348,7 +348,7 @@ fn or_all<'p, 'e, 'r, 't, 's: 'r, 'a>(
 {
     let mut value = first;
     for alternative in alternatives {
-        let term = evaluate_truth(&alternative.term, alloc, context, variables)?;
+        let term = evaluate_truth(context, &alternative.term, alloc, variables)?;
         value = joined(alternative.junction, value, term);
     }
     Ok(value)
@@ -358,9 +358,9 @@ fn or_all<'p, 'e, 'r, 't, 's: 'r, 'a>(
 #[cycle(evaluation)]
 #[inline(never)]
 fn within<'p, 'e, 'r, 't, 's: 'r, 'a>(
+    context: &Context<'s, 't, 'r, 'a, 'e, 'p>,
     expression: &Expr<'s>,
     alloc: Global,
-    context: &Context<'p, 'e, 'r, 't, 's, 'a>,
     variables: &mut Vec<Variable<'p, 'r>>,
     text: Option<AnyString<'s>>,
     value: &Datum<'r, Part<'p, 'r>>,
@@ -371,22 +371,22 @@ fn within<'p, 'e, 'r, 't, 's: 'r, 'a>(
         (datum_of holding value.now) (tree_of expression.now))) }
 {
     match expression {
-        Expr::Parenthesized(inner) => within(inner, alloc, context, variables, text, value),
+        Expr::Parenthesized(inner) => within(context, inner, alloc, variables, text, value),
         Expr::Aggregate(items) => {
             if is_known(value) {
-                among_each(items, alloc, context, variables, value)
+                among_each(context, items, alloc, variables, value)
             } else {
                 Ok(Logical::Unknown)
             }
         }
         Expr::Call(function, argument) => {
             if !is_typeof(*function) {
-                return is_member(expression, alloc, context, variables, value);
+                return is_member(context, expression, alloc, variables, value);
             }
-            let argument = evaluate(argument, alloc, context, variables)?;
+            let argument = evaluate(context, argument, alloc, variables)?;
             Ok(is_of_type(context, text, argument))
         }
-        _ => is_member(expression, alloc, context, variables, value),
+        _ => is_member(context, expression, alloc, variables, value),
     }
 }
 
@@ -394,9 +394,9 @@ fn within<'p, 'e, 'r, 't, 's: 'r, 'a>(
 #[cycle(evaluation)]
 #[inline(never)]
 fn among_each<'p, 'e, 'r, 't, 's: 'r, 'a>(
+    context: &Context<'s, 't, 'r, 'a, 'e, 'p>,
     expressions: &[Expr<'s>],
     alloc: Global,
-    context: &Context<'p, 'e, 'r, 't, 's, 'a>,
     variables: &mut Vec<Variable<'p, 'r>>,
     value: &Datum<'r, Part<'p, 'r>>,
 ) -> Result<Logical, AllocError>
@@ -407,7 +407,7 @@ fn among_each<'p, 'e, 'r, 't, 's: 'r, 'a>(
 {
     let mut result = Logical::False;
     for expression in expressions {
-        let other = evaluate(expression, alloc, context, variables)?;
+        let other = evaluate(context, expression, alloc, variables)?;
         result = or(result, equal(value, &other));
     }
     Ok(result)
@@ -416,9 +416,9 @@ fn among_each<'p, 'e, 'r, 't, 's: 'r, 'a>(
 /// What qualifiers select of a value; without any it is answered at once.
 #[cycle(evaluation)]
 fn selected<'p, 'e, 'r, 't, 's: 'r, 'a>(
+    context: &Context<'s, 't, 'r, 'a, 'e, 'p>,
     qualifiers: &[Qualifier<'s>],
     alloc: Global,
-    context: &Context<'p, 'e, 'r, 't, 's, 'a>,
     variables: &mut Vec<Variable<'p, 'r>>,
     value: Datum<'r, Part<'p, 'r>>,
 ) -> Result<Datum<'r, Part<'p, 'r>>, AllocError>
@@ -430,16 +430,16 @@ fn selected<'p, 'e, 'r, 't, 's: 'r, 'a>(
     if qualifiers.is_empty() {
         return Ok(value);
     }
-    select_each(qualifiers, alloc, context, variables, value)
+    select_each(context, qualifiers, alloc, variables, value)
 }
 
 /// .. one after another.
 #[cycle(evaluation)]
 #[inline(never)]
 fn select_each<'p, 'e, 'r, 't, 's: 'r, 'a>(
+    context: &Context<'s, 't, 'r, 'a, 'e, 'p>,
     qualifiers: &[Qualifier<'s>],
     alloc: Global,
-    context: &Context<'p, 'e, 'r, 't, 's, 'a>,
     variables: &mut Vec<Variable<'p, 'r>>,
     value: Datum<'r, Part<'p, 'r>>,
 ) -> Result<Datum<'r, Part<'p, 'r>>, AllocError>
@@ -450,7 +450,7 @@ fn select_each<'p, 'e, 'r, 't, 's: 'r, 'a>(
 {
     let mut value = value;
     for qualifier in qualifiers {
-        value = select(qualifier, alloc, context, variables, value)?;
+        value = select(context, qualifier, alloc, variables, value)?;
     }
     Ok(value)
 }
@@ -458,9 +458,9 @@ fn select_each<'p, 'e, 'r, 't, 's: 'r, 'a>(
 /// What one qualifier selects of a value.
 #[cycle(evaluation)]
 fn select<'p, 'e, 'r, 't, 's: 'r, 'a>(
+    context: &Context<'s, 't, 'r, 'a, 'e, 'p>,
     qualifier: &Qualifier<'s>,
     alloc: Global,
-    context: &Context<'p, 'e, 'r, 't, 's, 'a>,
     variables: &mut Vec<Variable<'p, 'r>>,
     value: Datum<'r, Part<'p, 'r>>,
 ) -> Result<Datum<'r, Part<'p, 'r>>, AllocError>
@@ -470,18 +470,18 @@ fn select<'p, 'e, 'r, 't, 's: 'r, 'a>(
         (datum_of holding value.entry))) }
 {
     if is_typed(&value) {
-        return select_inside(qualifier, alloc, context, variables, &bare(value));
+        return select_inside(context, qualifier, alloc, variables, &bare(value));
     }
-    select_inside(qualifier, alloc, context, variables, &value)
+    select_inside(context, qualifier, alloc, variables, &value)
 }
 
 /// .. inside which there is this one.
 #[cycle(evaluation)]
 #[inline(never)]
 fn select_inside<'p, 'e, 'r, 't, 's: 'r, 'a>(
+    context: &Context<'s, 't, 'r, 'a, 'e, 'p>,
     qualifier: &Qualifier<'s>,
     alloc: Global,
-    context: &Context<'p, 'e, 'r, 't, 's, 'a>,
     variables: &mut Vec<Variable<'p, 'r>>,
     value: &Datum<'r, Part<'p, 'r>>,
 ) -> Result<Datum<'r, Part<'p, 'r>>, AllocError>
@@ -493,13 +493,13 @@ fn select_inside<'p, 'e, 'r, 't, 's: 'r, 'a>(
     match qualifier {
         Qualifier::Attribute(name) => {
             let found = attribute_behind(context, value, *name);
-            found_value(found, alloc, context, instance_of(value))
+            found_value(context, found, alloc, instance_of(value))
         }
         Qualifier::Group(entity, name) => {
             let found = group_behind(context, value, *entity, *name);
-            found_value(found, alloc, context, instance_of(value))
+            found_value(context, found, alloc, instance_of(value))
         }
-        Qualifier::Index(index) => element(index, alloc, context, variables, value),
+        Qualifier::Index(index) => element(context, index, alloc, variables, value),
     }
 }
 
@@ -507,9 +507,9 @@ fn select_inside<'p, 'e, 'r, 't, 's: 'r, 'a>(
 #[cycle(evaluation)]
 #[inline(never)]
 fn element<'p, 'e, 'r, 't, 's: 'r, 'a>(
+    context: &Context<'s, 't, 'r, 'a, 'e, 'p>,
     index: &Expr<'s>,
     alloc: Global,
-    context: &Context<'p, 'e, 'r, 't, 's, 'a>,
     variables: &mut Vec<Variable<'p, 'r>>,
     value: &Datum<'r, Part<'p, 'r>>,
 ) -> Result<Datum<'r, Part<'p, 'r>>, AllocError>
@@ -518,7 +518,7 @@ fn element<'p, 'e, 'r, 't, 's: 'r, 'a>(
         (λ m. indexed (datum_of holding value.now)
         (bare (meaning_in context.now m variables.old.items (tree_of index.now))))) }
 {
-    let index = bare(evaluate(index, alloc, context, variables)?);
+    let index = bare(evaluate(context, index, alloc, variables)?);
     Ok(indexed(value, &index))
 }
 
@@ -526,9 +526,9 @@ fn element<'p, 'e, 'r, 't, 's: 'r, 'a>(
 #[cycle(evaluation)]
 #[inline(never)]
 fn found_value<'p, 'e, 'r, 't, 's: 'r, 'a>(
+    context: &Context<'s, 't, 'r, 'a, 'e, 'p>,
     found: Found<'p, 'r>,
     alloc: Global,
-    context: &Context<'p, 'e, 'r, 't, 's, 'a>,
     instance: u64,
 ) -> Result<Datum<'r, Part<'p, 'r>>, AllocError>
     requires setting { IsSetting context.now.setting.now }
@@ -549,7 +549,7 @@ fn found_value<'p, 'e, 'r, 't, 's: 'r, 'a>(
 #[inline(never)]
 fn derived<'p, 'e, 'r, 't, 's: 'r, 'a>(
     alloc: Global,
-    context: &Context<'p, 'e, 'r, 't, 's, 'a>,
+    context: &Context<'s, 't, 'r, 'a, 'e, 'p>,
     instance: u64,
     derivation: Derivation,
 ) -> Result<Datum<'r, Part<'p, 'r>>, AllocError>
@@ -572,16 +572,16 @@ fn derived<'p, 'e, 'r, 't, 's: 'r, 'a>(
         limit: formula.rank as u64,
     };
     let mut variables: Vec<Variable<'p, 'r>> = Vec::new(alloc);
-    evaluate(formula.expression, alloc, &inner, &mut variables)
+    evaluate(&inner, formula.expression, alloc, &mut variables)
 }
 
 /// What a name with qualifiers means: a variable, else an attribute of SELF, else an item.
 #[cycle(evaluation)]
 #[inline(never)]
 fn named<'p, 'e, 'r, 't, 's: 'r, 'a>(
+    context: &Context<'s, 't, 'r, 'a, 'e, 'p>,
     qualifiers: &[Qualifier<'s>],
     alloc: Global,
-    context: &Context<'p, 'e, 'r, 't, 's, 'a>,
     variables: &mut Vec<Variable<'p, 'r>>,
     name: Word<'s>,
 ) -> Result<Datum<'r, Part<'p, 'r>>, AllocError>
@@ -593,9 +593,9 @@ fn named<'p, 'e, 'r, 't, 's: 'r, 'a>(
     match find(variables, name) {
         Some(value) => {
             let value = value.datum();
-            selected(qualifiers, alloc, context, variables, value)
+            selected(context, qualifiers, alloc, variables, value)
         }
-        None => unbound(qualifiers, alloc, context, variables, name),
+        None => unbound(context, qualifiers, alloc, variables, name),
     }
 }
 
@@ -603,9 +603,9 @@ fn named<'p, 'e, 'r, 't, 's: 'r, 'a>(
 #[cycle(evaluation)]
 #[inline(never)]
 fn unbound<'p, 'e, 'r, 't, 's: 'r, 'a>(
+    context: &Context<'s, 't, 'r, 'a, 'e, 'p>,
     qualifiers: &[Qualifier<'s>],
     alloc: Global,
-    context: &Context<'p, 'e, 'r, 't, 's, 'a>,
     variables: &mut Vec<Variable<'p, 'r>>,
     name: Word<'s>,
 ) -> Result<Datum<'r, Part<'p, 'r>>, AllocError>
@@ -615,11 +615,11 @@ fn unbound<'p, 'e, 'r, 't, 's: 'r, 'a>(
         (qualifiers_of qualifiers.now))) }
 {
     match attribute_of_self(context, name) {
-        Found::Missing => item_behind(qualifiers, alloc, context, variables, name),
-        Found::Value(value) => selected(qualifiers, alloc, context, variables, value),
+        Found::Missing => item_behind(context, qualifiers, alloc, variables, name),
+        Found::Value(value) => selected(context, qualifiers, alloc, variables, value),
         Found::Derived(derivation) => {
             let value = derived(alloc, context, self_instance(context), derivation)?;
-            selected(qualifiers, alloc, context, variables, value)
+            selected(context, qualifiers, alloc, variables, value)
         }
     }
 }
@@ -628,9 +628,9 @@ fn unbound<'p, 'e, 'r, 't, 's: 'r, 'a>(
 #[cycle(evaluation)]
 #[inline(never)]
 fn item_behind<'p, 'e, 'r, 't, 's: 'r, 'a>(
+    context: &Context<'s, 't, 'r, 'a, 'e, 'p>,
     qualifiers: &[Qualifier<'s>],
     alloc: Global,
-    context: &Context<'p, 'e, 'r, 't, 's, 'a>,
     variables: &mut Vec<Variable<'p, 'r>>,
     name: Word<'s>,
 ) -> Result<Datum<'r, Part<'p, 'r>>, AllocError>
@@ -645,7 +645,7 @@ fn item_behind<'p, 'e, 'r, 't, 's: 'r, 'a>(
     match first {
         Qualifier::Attribute(item) => {
             if context.setting.is_item_of(name, *item) {
-                selected(others, alloc, context, variables, Datum::Element(*item))
+                selected(context, others, alloc, variables, Datum::Element(*item))
             } else {
                 Ok(Datum::Indeterminate)
             }
@@ -658,10 +658,10 @@ fn item_behind<'p, 'e, 'r, 't, 's: 'r, 'a>(
 #[cycle(evaluation)]
 #[inline(never)]
 fn query<'p, 'e, 'r, 't, 's: 'r, 'a>(
+    context: &Context<'s, 't, 'r, 'a, 'e, 'p>,
     source: &Expr<'s>,
     condition: &Expr<'s>,
     alloc: Global,
-    context: &Context<'p, 'e, 'r, 't, 's, 'a>,
     variables: &mut Vec<Variable<'p, 'r>>,
     name: Word<'s>,
 ) -> Result<Datum<'r, Part<'p, 'r>>, AllocError>
@@ -670,11 +670,11 @@ fn query<'p, 'e, 'r, 't, 's: 'r, 'a>(
         (λ m. queried_in context.now m variables.old.items (capitals name.entry) (tree_of condition.now)
         (bare (meaning_in context.now m variables.old.items (tree_of source.now))))) }
 {
-    let source = bare(evaluate(source, alloc, context, variables)?);
+    let source = bare(evaluate(context, source, alloc, variables)?);
     let Datum::Aggregate(part) = source else {
         return Ok(Datum::Indeterminate);
     };
-    let kept = passing(condition, alloc, context, variables, name, &part)?;
+    let kept = passing(context, condition, alloc, variables, name, &part)?;
     Ok(Datum::Aggregate(part.keep(kept)))
 }
 
@@ -682,9 +682,9 @@ fn query<'p, 'e, 'r, 't, 's: 'r, 'a>(
 #[cycle(evaluation)]
 #[inline(never)]
 fn passing<'p, 'e, 'r, 't, 's: 'r, 'a>(
+    context: &Context<'s, 't, 'r, 'a, 'e, 'p>,
     condition: &Expr<'s>,
     alloc: Global,
-    context: &Context<'p, 'e, 'r, 't, 's, 'a>,
     variables: &mut Vec<Variable<'p, 'r>>,
     name: Word<'s>,
     source: &Part<'p, 'r>,
@@ -701,7 +701,7 @@ fn passing<'p, 'e, 'r, 't, 's: 'r, 'a>(
             name,
             value: source.element_value(i),
         };
-        let holds = passes(condition, alloc, context, variables, variable)?;
+        let holds = passes(context, condition, alloc, variables, variable)?;
         keep_if(&mut kept, holds, source.whole_index(i))?;
     }
     Ok(kept)
@@ -711,9 +711,9 @@ fn passing<'p, 'e, 'r, 't, 's: 'r, 'a>(
 #[cycle(evaluation)]
 #[inline(never)]
 fn passes<'p, 'e, 'r, 't, 's: 'r, 'a>(
+    context: &Context<'s, 't, 'r, 'a, 'e, 'p>,
     condition: &Expr<'s>,
     alloc: Global,
-    context: &Context<'p, 'e, 'r, 't, 's, 'a>,
     variables: &mut Vec<Variable<'p, 'r>>,
     variable: Variable<'p, 'r>,
 ) -> Result<bool, AllocError>
@@ -723,7 +723,7 @@ fn passes<'p, 'e, 'r, 't, 's: 'r, 'a>(
         (tree_of condition.now) (element_datum variable.entry.value))) }
 {
     variables.push(variable)?;
-    let value = evaluate_truth(condition, alloc, context, variables)?;
+    let value = evaluate_truth(context, condition, alloc, variables)?;
     variables.pop();
     Ok(is_true(value))
 }

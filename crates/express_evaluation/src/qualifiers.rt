@@ -20,7 +20,7 @@ use step_literals::literal::Word;
 
 /// Where the value of an attribute of an instance comes from; nothing of what is no instance.
 pub(crate) fn attribute_behind<'p, 'r>(
-    context: &Context<'p, '_, 'r, '_, '_, '_>,
+    context: &Context<'_, '_, 'r, '_, '_, 'p>,
     value: &Datum<'r, Part<'p, 'r>>,
     name: Word<'_>,
 ) -> Found<'p, 'r>
@@ -39,7 +39,7 @@ pub(crate) fn attribute_behind<'p, 'r>(
 /// .. of SELF as a value.
 #[inline(never)]
 fn attribute_of_value<'p, 'r>(
-    context: &Context<'p, '_, 'r, '_, '_, '_>,
+    context: &Context<'_, '_, 'r, '_, '_, 'p>,
     name: Word<'_>,
 ) -> Found<'p, 'r>
     requires setting { IsSetting context.now.setting.now }
@@ -53,7 +53,7 @@ fn attribute_of_value<'p, 'r>(
 
 /// .. of an attribute of SELF.
 pub(crate) fn attribute_of_self<'p, 'r>(
-    context: &Context<'p, '_, 'r, '_, '_, '_>,
+    context: &Context<'_, '_, 'r, '_, '_, 'p>,
     name: Word<'_>,
 ) -> Found<'p, 'r>
     requires setting { IsSetting context.now.setting.now }
@@ -71,7 +71,7 @@ pub(crate) fn attribute_of_self<'p, 'r>(
 /// .. of the attribute that a group means.
 #[inline(never)]
 pub(crate) fn group_behind<'p, 'r>(
-    context: &Context<'p, '_, 'r, '_, '_, '_>,
+    context: &Context<'_, '_, 'r, '_, '_, 'p>,
     value: &Datum<'r, Part<'p, 'r>>,
     entity: Word<'_>,
     name: Word<'_>,
@@ -109,7 +109,7 @@ pub(crate) fn self_instance(context: &Context<'_, '_, '_, '_, '_, '_>) -> u64
 
 /// An item of an enumeration of this name.
 pub(crate) fn item_value<'p, 'r, 's: 'r>(
-    context: &Context<'p, '_, 'r, '_, 's, '_>,
+    context: &Context<'s, '_, 'r, '_, '_, 'p>,
     name: Word<'s>,
 ) -> Datum<'r, Part<'p, 'r>>
     requires setting { IsSetting context.now.setting.now }

@@ -18,7 +18,7 @@ use step_literals::literal::Word;
 
 /// Whether a string names a type of a value, as TYPEOF gives it.
 pub(crate) fn is_of_type<'p, 'r>(
-    context: &Context<'p, '_, 'r, '_, '_, '_>,
+    context: &Context<'_, '_, 'r, '_, '_, 'p>,
     text: Option<AnyString<'_>>,
     value: Datum<'r, Part<'p, 'r>>,
 ) -> Logical

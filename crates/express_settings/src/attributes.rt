@@ -81,7 +81,7 @@ fn referring<'p, 'r>(gathering: Gathering, names: &'p [u64]) -> Datum<'r, Part<'
     }
 }
 
-impl<'p, 'e, 'r, 't, 's: 'r, 'a> Setting<'p, 'e, 'r, 't, 's, 'a> {
+impl<'s: 'r, 't, 'r, 'a, 'e, 'p> Setting<'s, 't, 'r, 'a, 'e, 'p> {
     /// The value that an instance has of the explicit attribute of a number, as its declaration asks.
     fn explicit_value(&self, instance: u64, place: u32) -> Datum<'r, Part<'p, 'r>>
         requires setting { IsSetting self.now }

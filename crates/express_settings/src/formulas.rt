@@ -12,9 +12,9 @@ use attribute_sources::source::Derivation;
 use derivation_formulas::asked::formula_at;
 use derivation_formulas::formula::Formula;
 
-impl<'p, 'e, 'r, 't, 's: 'r, 'a> Setting<'p, 'e, 'r, 't, 's, 'a> {
+impl<'s: 'r, 't, 'r, 'a, 'e, 'p> Setting<'s, 't, 'r, 'a, 'e, 'p> {
     /// How a derived attribute is computed; none where it is set aside.
-    pub fn formula(&self, derivation: Derivation) -> Option<Formula<'t, 's>>
+    pub fn formula(&self, derivation: Derivation) -> Option<Formula<'s, 't>>
         requires setting { IsSetting self.now }
         ensures meant { (m : Meant self.now)
             → HasNumber (schema_in self.now) (name_at (schema_in self.now) derivation.entity)

@@ -8,7 +8,7 @@ use crate::setting::Setting;
 use setting_names::items::is_item_of;
 use step_literals::literal::Word;
 
-impl<'p, 'e, 'r, 't, 's: 'r, 'a> Setting<'p, 'e, 'r, 't, 's, 'a> {
+impl<'s: 'r, 't, 'r, 'a, 'e, 'p> Setting<'s, 't, 'r, 'a, 'e, 'p> {
     /// Whether an enumeration has an item of this name.
     pub fn is_item(&self, name: Word<'_>) -> bool
         requires setting { IsSetting self.now }

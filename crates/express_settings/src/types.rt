@@ -10,7 +10,7 @@ use express_logic::strings::AnyString;
 use setting_names::types::{says_any, says_definition};
 use step_literals::literal::Word;
 
-impl<'p, 'e, 'r, 't, 's: 'r, 'a> Setting<'p, 'e, 'r, 't, 's, 'a> {
+impl<'s: 'r, 't, 'r, 'a, 'e, 'p> Setting<'s, 't, 'r, 'a, 'e, 'p> {
     /// Whether a string names a type of an instance, as TYPEOF gives it.
     pub fn has_type(&self, instance: u64, text: &AnyString<'_>) -> bool
         requires setting { IsSetting self.now }

@@ -14,8 +14,8 @@ use unchecked_list::findings::Findings;
 /// what is found of it.
 pub(crate) fn domain_by<'t, 'a>(
     alloc: Global,
-    findings: &Findings<'_, 't, 'a>,
-) -> Result<DomainTables<'t, 'a>, AllocError>
+    findings: &Findings<'a, 't, '_>,
+) -> Result<DomainTables<'a, 't>, AllocError>
     requires found { AreFound findings.now }
     ensures { IfOk result (AreDomainTables (schema_found findings.now)) }
 {

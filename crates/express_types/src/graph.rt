@@ -24,14 +24,14 @@ use unchecked_parts::list::Unchecked;
 /// A type or an entity has a number, the place of its declaration in the text counted from 0, and
 /// so has an explicit attribute.
 #[derive(Drop)]
-pub struct TypeGraph<'t, 'a> {
+pub struct TypeGraph<'a, 't> {
     /// The types, and where attributes stand.
-    pub types: ResolvedTypes<'t, 'a>,
+    pub types: ResolvedTypes<'a, 't>,
     /// What is found of the bodies of rules and derived attributes.
     pub judged: Judged,
     /// What of it is evaluated: how derived attributes are computed, and the domain rules that are
     /// checked (ISO 10303-11, 9.2.1.2, 9.1 and 9.2.2.2).
-    pub domain: DomainTables<'t, 'a>,
+    pub domain: DomainTables<'a, 't>,
     /// Its rules that speak of a whole population: uniqueness rules and inverse attributes
     /// (ISO 10303-11, 9.2.2.1 and 9.2.1.3).
     pub rules: RuleTables<'a>,
@@ -40,7 +40,7 @@ pub struct TypeGraph<'t, 'a> {
     pub ghost rules_are: { ∥ AreRuleTables (schema_of types.names.schema.now) rules ∥₁ },
 }
 
-impl<'t, 'a> TypeGraph<'t, 'a> {
+impl<'a, 't> TypeGraph<'a, 't> {
     /// The number of the type or entity of this name; none where there is none.
     pub fn find(&self, name: Word<'_>) -> Option<u32>
         ensures { result

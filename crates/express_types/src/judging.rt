@@ -92,7 +92,7 @@ struct Meanings<'a> {
 fn make_meanings<'a>(
     alloc: Global,
     keys: RandomState,
-    names: &Names<'_, 'a>,
+    names: &Names<'a, '_>,
     types: &Types,
     above: &[Vec<u32>],
 ) -> Result<Meanings<'a>, AllocError>
@@ -127,28 +127,28 @@ pub struct Judged {
 /// What is evaluated of a schema: how its derived attributes are computed, and its domain rules that
 /// are checked (ISO 10303-11, 9.2.1.2, 9.1 and 9.2.2.2).
 #[derive(Drop)]
-pub struct DomainTables<'t, 'a> {
+pub struct DomainTables<'a, 't> {
     /// By number, how derived attributes are computed; none for one that is set aside.
-    pub formulas: Vec<Option<Formula<'t, 'a>>>,
+    pub formulas: Vec<Option<Formula<'a, 't>>>,
     /// In the order of the text.
-    pub rules: Vec<DomainRule<'t, 'a>>,
+    pub rules: Vec<DomainRule<'a, 't>>,
 }
 
 /// What is found of a schema's bodies, and what of them is evaluated.
 #[derive(Drop)]
-struct Bodies<'t, 'a> {
+struct Bodies<'a, 't> {
     judged: Judged,
-    domain: DomainTables<'t, 'a>,
+    domain: DomainTables<'a, 't>,
 }
 
 /// What is found of a schema's bodies by what is known.
 fn judge_by<'r, 't, 'a>(
     alloc: Global,
-    known: &Known<'r, 't, 'a>,
+    known: &Known<'a, 't, 'r>,
     items: &'r Items<'a>,
     lines: &'r [Vec<u32>],
     shapes: &'r [Shape],
-) -> Result<Bodies<'t, 'a>, AllocError>
+) -> Result<Bodies<'a, 't>, AllocError>
     requires known { IsKnown known.now }
     requires items { AreItems (schema_in known.now) items.now }
     requires lines { HaveLines (schema_in known.now) (graph_of lines.now) }
@@ -180,10 +180,10 @@ fn judge_by<'r, 't, 'a>(
 
 /// What is found of a schema.
 #[derive(Drop)]
-pub(crate) struct Found<'t, 'a> {
+pub(crate) struct Found<'a, 't> {
     pub judged: Judged,
     /// What of it is evaluated.
-    pub domain: DomainTables<'t, 'a>,
+    pub domain: DomainTables<'a, 't>,
     /// The rules that speak of a whole population.
     pub rules: RuleTables<'a>,
 }
@@ -191,11 +191,11 @@ pub(crate) struct Found<'t, 'a> {
 /// What is found of a schema by what is known.
 fn found_by<'r, 't, 'a>(
     alloc: Global,
-    known: &Known<'r, 't, 'a>,
+    known: &Known<'a, 't, 'r>,
     items: &'r Items<'a>,
     lines: &'r [Vec<u32>],
     shapes: &'r [Shape],
-) -> Result<Found<'t, 'a>, AllocError>
+) -> Result<Found<'a, 't>, AllocError>
     requires known { IsKnown known.now }
     requires items { AreItems (schema_in known.now) items.now }
     requires lines { HaveLines (schema_in known.now) (graph_of lines.now) }
@@ -217,9 +217,9 @@ fn found_by<'r, 't, 'a>(
 pub(crate) fn judge<'r, 't, 'a>(
     alloc: Global,
     keys: RandomState,
-    names: &'r Names<'t, 'a>,
+    names: &'r Names<'a, 't>,
     above: &'r [Vec<u32>],
-) -> Result<Found<'t, 'a>, AllocError>
+) -> Result<Found<'a, 't>, AllocError>
     requires resolved { IsResolved (schema_of names.now.schema.now) }
     requires above { AreAbove (schema_of names.now.schema.now) (graph_of above.now) }
     ensures { IfOk result (AreFound (schema_of names.now.schema.now)) }

@@ -22,8 +22,8 @@ use std::hash::RandomState;
 fn type_graph<'t, 'a>(
     alloc: Global,
     keys: RandomState,
-    types: ResolvedTypes<'t, 'a>,
-) -> Result<TypeGraph<'t, 'a>, AllocError>
+    types: ResolvedTypes<'a, 't>,
+) -> Result<TypeGraph<'a, 't>, AllocError>
     requires { IsMade types }
     ensures same { IfOk result (λ g. g.types ≡ types.entry) }
     ensures rules { IfOk result (λ g. AreRuleTables (schema_of types.entry.names.schema.now)
@@ -57,7 +57,7 @@ pub fn resolve<'t, 'a>(
     alloc: Global,
     keys: RandomState,
     schema: &'t SchemaTree<'a>,
-) -> Result<TypeGraph<'t, 'a>, SchemaFault>
+) -> Result<TypeGraph<'a, 't>, SchemaFault>
     ensures resolved { MatchResult result (λ g. IsResolved (schema_of schema.entry.now))
         (IsNameFault (schema_of schema.entry.now)) }
     ensures same { IfOk result (λ g. g.types.names.schema.now ≡ schema.entry.now) }

@@ -15,7 +15,7 @@ use taken_attributes::known::Known;
 /// The uniqueness rules and the inverse attributes of a schema, by what is known of it.
 pub(crate) fn rules_by<'r, 't, 'a>(
     alloc: Global,
-    known: &Known<'r, 't, 'a>,
+    known: &Known<'a, 't, 'r>,
     lines: &'r [Vec<u32>],
 ) -> Result<RuleTables<'a>, AllocError>
     requires known { IsKnown known.now }

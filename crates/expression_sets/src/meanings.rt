@@ -33,10 +33,10 @@ pub(crate) enum Meaning {
 }
 
 /// Whether qualifiers begin with an item of a defined type.
-fn begin_with_item(
-    tables: &Tables<'_, '_, '_>,
+fn begin_with_item<'a>(
+    tables: &Tables<'a, '_, '_>,
     defined: Word<'_>,
-    qualifiers: &[Qualifier<'_>],
+    qualifiers: &[Qualifier<'a>],
 ) -> bool
     requires tables { AreTables tables.now }
     ensures { IsTrue result ↔ BeginWithItem (schema_at tables.now) (capitals defined.entry)
@@ -53,7 +53,11 @@ fn begin_with_item(
 }
 
 /// What a name means that is neither a variable nor an attribute.
-fn item_meaning(scope: &Scope<'_, '_, '_>, name: Word<'_>, qualifiers: &[Qualifier<'_>]) -> Meaning
+fn item_meaning<'a>(
+    scope: &Scope<'a, '_, '_>,
+    name: Word<'_>,
+    qualifiers: &[Qualifier<'a>],
+) -> Meaning
     requires scope { IsScope scope.now }
     ensures { (IsVariable (variables_in scope.now) (capitals name.entry) → ⊥)
         → ((p : Name) → MayTake (schema_around scope.now)
@@ -73,11 +77,11 @@ fn item_meaning(scope: &Scope<'_, '_, '_>, name: Word<'_>, qualifiers: &[Qualifi
 
 /// What a name means: a variable, else an attribute of SELF, else the item of the type before the
 /// dot, else an item of any enumeration.
-pub(crate) fn meaning_of(
+pub(crate) fn meaning_of<'a>(
     alloc: Global,
-    scope: &Scope<'_, '_, '_>,
+    scope: &Scope<'a, '_, '_>,
     name: Word<'_>,
-    qualifiers: &[Qualifier<'_>],
+    qualifiers: &[Qualifier<'a>],
 ) -> Result<Meaning, AllocError>
     requires scope { IsScope scope.now }
     ensures { IfOk result (IsMeaning (schema_around scope.now) (own_in scope.now)

@@ -32,11 +32,11 @@ fn go_to_attribute(reference: &mut Reference, taken: Taken) -> Result<(), AllocE
 }
 
 /// Goes on with what a qualifier selects (ISO 10303-11, 12.7).
-fn go_on(
+fn go_on<'a>(
     alloc: Global,
-    known: &Known<'_, '_, '_>,
+    known: &Known<'a, '_, '_>,
     reference: &mut Reference,
-    qualifier: &Qualifier<'_>,
+    qualifier: &Qualifier<'a>,
 ) -> Result<(), AllocError>
     requires known { IsKnown known.now }
     ensures { OnOk result (GoesOn (schema_in known.now) reference.old
@@ -59,11 +59,11 @@ fn go_on(
 }
 
 /// Goes on with what qualifiers select, one behind the other.
-pub(crate) fn follow(
+pub(crate) fn follow<'a>(
     alloc: Global,
-    known: &Known<'_, '_, '_>,
+    known: &Known<'a, '_, '_>,
     begun: Reference,
-    qualifiers: &[Qualifier<'_>],
+    qualifiers: &[Qualifier<'a>],
 ) -> Result<Reference, AllocError>
     requires known { IsKnown known.now }
     ensures { IfOk result (GoesOn (schema_in known.now) begun
@@ -77,11 +77,11 @@ pub(crate) fn follow(
 }
 
 /// What qualifiers select of a value that may be these.
-pub(crate) fn select(
+pub(crate) fn select<'a>(
     alloc: Global,
-    known: &Known<'_, '_, '_>,
+    known: &Known<'a, '_, '_>,
     may: Vec<Atom>,
-    qualifiers: &[Qualifier<'_>],
+    qualifiers: &[Qualifier<'a>],
 ) -> Result<Reference, AllocError>
     requires known { IsKnown known.now }
     ensures { IfOk result (IsPath (schema_in known.now) (path_behind (schema_in known.now)
@@ -96,10 +96,10 @@ pub(crate) fn select(
 }
 
 /// What qualifiers select of an item of an enumeration.
-pub(crate) fn select_of_item(
+pub(crate) fn select_of_item<'a>(
     alloc: Global,
-    known: &Known<'_, '_, '_>,
-    qualifiers: &[Qualifier<'_>],
+    known: &Known<'a, '_, '_>,
+    qualifiers: &[Qualifier<'a>],
 ) -> Result<Reference, AllocError>
     requires known { IsKnown known.now }
     ensures { IfOk result (IsPath (schema_in known.now) (path_behind (schema_in known.now)
@@ -111,11 +111,11 @@ pub(crate) fn select_of_item(
 }
 
 /// What qualifiers select of the value of an attribute of SELF, with the attribute.
-pub(crate) fn select_of_taken(
+pub(crate) fn select_of_taken<'a>(
     alloc: Global,
-    known: &Known<'_, '_, '_>,
+    known: &Known<'a, '_, '_>,
     taken: Taken,
-    qualifiers: &[Qualifier<'_>],
+    qualifiers: &[Qualifier<'a>],
 ) -> Result<Reference, AllocError>
     requires known { IsKnown known.now }
     ensures { (own : List Numbered) (n : Name)

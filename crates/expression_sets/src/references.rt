@@ -31,11 +31,11 @@ pub struct Reference {
 }
 
 /// What a reference is that begins with a name.
-fn refer_by_name(
+fn refer_by_name<'a>(
     alloc: Global,
-    scope: &Scope<'_, '_, '_>,
+    scope: &Scope<'a, '_, '_>,
     name: Word<'_>,
-    qualifiers: &[Qualifier<'_>],
+    qualifiers: &[Qualifier<'a>],
 ) -> Result<Reference, AllocError>
     requires scope { IsScope scope.now }
     ensures { IfOk result (IsReferred (schema_around scope.now) (own_in scope.now)
@@ -56,11 +56,11 @@ fn refer_by_name(
 
 /// What a reference is (ISO 10303-11, 12.7): SELF, else a variable, else an attribute of SELF, else
 /// an item of the enumeration before the dot, else an item of any enumeration, with its qualifiers.
-pub fn refer(
+pub fn refer<'a>(
     alloc: Global,
-    scope: &Scope<'_, '_, '_>,
+    scope: &Scope<'a, '_, '_>,
     root: Root<'_>,
-    qualifiers: &[Qualifier<'_>],
+    qualifiers: &[Qualifier<'a>],
 ) -> Result<Reference, AllocError>
     requires scope { IsScope scope.now }
     ensures { IfOk result (IsReferred (schema_around scope.now) (own_in scope.now)

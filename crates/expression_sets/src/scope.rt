@@ -14,8 +14,8 @@ pub struct Variable<'a> {
 
 /// What stands around an expression.
 #[derive(Clone, Copy)]
-pub struct Scope<'r, 't, 'a> {
-    pub known: Known<'r, 't, 'a>,
+pub struct Scope<'a, 't, 'r> {
+    pub known: Known<'a, 't, 'r>,
     pub items: &'r Items<'a>,
     /// What SELF may be.
     pub own: &'r [Atom],

@@ -59,11 +59,11 @@ pub fn elements(
 }
 
 /// Adds what a reference may be.
-fn add_reference(
+fn add_reference<'a>(
     alloc: Global,
-    scope: &Scope<'_, '_, '_>,
+    scope: &Scope<'a, '_, '_>,
     root: Root<'_>,
-    qualifiers: &[Qualifier<'_>],
+    qualifiers: &[Qualifier<'a>],
     atoms: &mut Vec<Atom>,
 ) -> Result<(), AllocError>
     requires scope { IsScope scope.now }
@@ -77,10 +77,10 @@ fn add_reference(
 }
 
 /// Adds what an expression may be.
-fn add_possible(
+fn add_possible<'a>(
     alloc: Global,
-    scope: &Scope<'_, '_, '_>,
-    expression: &Expr<'_>,
+    scope: &Scope<'a, '_, '_>,
+    expression: &Expr<'a>,
     atoms: &mut Vec<Atom>,
 ) -> Result<(), AllocError>
     requires scope { IsScope scope.now }
@@ -115,10 +115,10 @@ fn add_possible(
 }
 
 /// What an expression may be.
-pub fn possible(
+pub fn possible<'a>(
     alloc: Global,
-    scope: &Scope<'_, '_, '_>,
-    expression: &Expr<'_>,
+    scope: &Scope<'a, '_, '_>,
+    expression: &Expr<'a>,
 ) -> Result<Vec<Atom>, AllocError>
     requires scope { IsScope scope.now }
     ensures { IfOk result (λ t. IsSet (schema_around scope.now) (May (schema_around scope.now)
@@ -130,10 +130,10 @@ pub fn possible(
 }
 
 /// What one of some expressions may be.
-fn possible_items(
+fn possible_items<'a>(
     alloc: Global,
-    scope: &Scope<'_, '_, '_>,
-    items: &[Expr<'_>],
+    scope: &Scope<'a, '_, '_>,
+    items: &[Expr<'a>],
 ) -> Result<Vec<Atom>, AllocError>
     requires scope { IsScope scope.now }
     ensures { IfOk result (λ t. IsSet (schema_around scope.now) (OfTrees
@@ -148,10 +148,10 @@ fn possible_items(
 }
 
 /// What the elements of aggregates may be that an expression may be.
-fn elements_of(
+fn elements_of<'a>(
     alloc: Global,
-    scope: &Scope<'_, '_, '_>,
-    expression: &Expr<'_>,
+    scope: &Scope<'a, '_, '_>,
+    expression: &Expr<'a>,
 ) -> Result<Vec<Atom>, AllocError>
     requires scope { IsScope scope.now }
     ensures { IfOk result (λ t. IsSet (schema_around scope.now)
@@ -163,10 +163,10 @@ fn elements_of(
 }
 
 /// What the elements of an expression on the right of IN may be (ISO 10303-11, 12.2.3).
-pub fn possible_elements(
+pub fn possible_elements<'a>(
     alloc: Global,
-    scope: &Scope<'_, '_, '_>,
-    expression: &Expr<'_>,
+    scope: &Scope<'a, '_, '_>,
+    expression: &Expr<'a>,
 ) -> Result<Vec<Atom>, AllocError>
     requires scope { IsScope scope.now }
     ensures { IfOk result (λ t. IsSet (schema_around scope.now) (ElementsOf

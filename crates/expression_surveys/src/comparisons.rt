@@ -40,10 +40,10 @@ use std::alloc::{AllocError, Global};
 use type_tests::said::said_type;
 
 /// Whether an expression may be an instance or an aggregate.
-fn may_be_deep(
+fn may_be_deep<'a>(
     alloc: Global,
-    scope: &Scope<'_, '_, '_>,
-    expression: &Expr<'_>,
+    scope: &Scope<'a, '_, '_>,
+    expression: &Expr<'a>,
 ) -> Result<bool, AllocError>
     requires scope { IsScope scope.now }
     ensures { IfOk result (λ b. IsTrue b ↔ MayBeDeep (may_in scope.now (tree_of expression.now))) }
@@ -53,10 +53,10 @@ fn may_be_deep(
 }
 
 /// Whether the elements of what stands on the right of IN may be instances or aggregates.
-fn may_have_deep(
+fn may_have_deep<'a>(
     alloc: Global,
-    scope: &Scope<'_, '_, '_>,
-    expression: &Expr<'_>,
+    scope: &Scope<'a, '_, '_>,
+    expression: &Expr<'a>,
 ) -> Result<bool, AllocError>
     requires scope { IsScope scope.now }
     ensures { IfOk result (λ b. IsTrue b ↔ MayBeDeep (elements_in scope.now (tree_of expression.now))) }
@@ -66,10 +66,10 @@ fn may_have_deep(
 }
 
 /// Whether an expression may be a string, a binary or an item.
-fn may_be_unordered(
+fn may_be_unordered<'a>(
     alloc: Global,
-    scope: &Scope<'_, '_, '_>,
-    expression: &Expr<'_>,
+    scope: &Scope<'a, '_, '_>,
+    expression: &Expr<'a>,
 ) -> Result<bool, AllocError>
     requires scope { IsScope scope.now }
     ensures { IfOk result (λ b. IsTrue b ↔ MayBeUnordered (may_in scope.now (tree_of expression.now))) }
@@ -79,10 +79,10 @@ fn may_be_unordered(
 }
 
 /// Whether an expression may be a value of no SELECT.
-fn may_be_bare(
+fn may_be_bare<'a>(
     alloc: Global,
-    scope: &Scope<'_, '_, '_>,
-    expression: &Expr<'_>,
+    scope: &Scope<'a, '_, '_>,
+    expression: &Expr<'a>,
 ) -> Result<bool, AllocError>
     requires scope { IsScope scope.now }
     ensures { IfOk result (λ b. IsTrue b ↔ HasBareValue (may_in scope.now (tree_of expression.now))) }
@@ -116,11 +116,11 @@ fn is_over_select(tables: &Tables<'_, '_, '_>, part: u32) -> bool
 
 /// Whether a name, of which a string tells the number, tests the type of an expression
 /// (ISO 10303-11, 15.25).
-fn tests_type(
+fn tests_type<'a>(
     alloc: Global,
-    scope: &Scope<'_, '_, '_>,
+    scope: &Scope<'a, '_, '_>,
     part: u32,
-    expression: &Expr<'_>,
+    expression: &Expr<'a>,
 ) -> Result<bool, AllocError>
     requires scope { IsScope scope.now }
     requires numbered { (n : Name) × HasNumber (schema_around scope.now) n part }
@@ -138,11 +138,11 @@ fn tests_type(
 }
 
 /// Whether `left IN TYPEOF(expression)` has an answer (ISO 10303-11, 15.25).
-fn is_type_test(
+fn is_type_test<'a>(
     alloc: Global,
-    scope: &Scope<'_, '_, '_>,
-    left: &Expr<'_>,
-    expression: &Expr<'_>,
+    scope: &Scope<'a, '_, '_>,
+    left: &Expr<'a>,
+    expression: &Expr<'a>,
 ) -> Result<bool, AllocError>
     requires scope { IsScope scope.now }
     ensures { IfOk result (λ b. IsTrue b ↔ IsTypeTest (schema_around scope.now)
@@ -167,11 +167,11 @@ fn tested<'r, 'a>(expression: &'r Expr<'a>) -> Option<&'r Expr<'a>>
 }
 
 /// Whether TYPEOF stands on the right of IN without an answer (ISO 10303-11, 15.25).
-fn is_bad_type_test(
+fn is_bad_type_test<'a>(
     alloc: Global,
-    scope: &Scope<'_, '_, '_>,
-    left: &Expr<'_>,
-    right: &Expr<'_>,
+    scope: &Scope<'a, '_, '_>,
+    left: &Expr<'a>,
+    right: &Expr<'a>,
 ) -> Result<bool, AllocError>
     requires scope { IsScope scope.now }
     ensures { IfOk result (λ b. IsTrue b ↔ IsBadTypeTest (schema_around scope.now)
@@ -184,12 +184,12 @@ fn is_bad_type_test(
 }
 
 /// Whether a comparison tests a type without an answer (ISO 10303-11, 15.25).
-pub(crate) fn is_bad_test(
+pub(crate) fn is_bad_test<'a>(
     alloc: Global,
-    scope: &Scope<'_, '_, '_>,
-    left: &Expr<'_>,
+    scope: &Scope<'a, '_, '_>,
+    left: &Expr<'a>,
     relation: Relation,
-    right: &Expr<'_>,
+    right: &Expr<'a>,
 ) -> Result<bool, AllocError>
     requires scope { IsScope scope.now }
     ensures { IfOk result (λ b. IsTrue b ↔ IsBadTypeof (schema_around scope.now)
@@ -203,11 +203,11 @@ pub(crate) fn is_bad_test(
 }
 
 /// Whether two expressions may both be instances or aggregates.
-fn are_deep(
+fn are_deep<'a>(
     alloc: Global,
-    scope: &Scope<'_, '_, '_>,
-    left: &Expr<'_>,
-    right: &Expr<'_>,
+    scope: &Scope<'a, '_, '_>,
+    left: &Expr<'a>,
+    right: &Expr<'a>,
 ) -> Result<bool, AllocError>
     requires scope { IsScope scope.now }
     ensures { IfOk result (λ b. IsTrue b ↔ BothDeep
@@ -218,11 +218,11 @@ fn are_deep(
 }
 
 /// Whether an expression and the elements of another may both be instances or aggregates.
-fn are_deep_in(
+fn are_deep_in<'a>(
     alloc: Global,
-    scope: &Scope<'_, '_, '_>,
-    left: &Expr<'_>,
-    right: &Expr<'_>,
+    scope: &Scope<'a, '_, '_>,
+    left: &Expr<'a>,
+    right: &Expr<'a>,
 ) -> Result<bool, AllocError>
     requires scope { IsScope scope.now }
     ensures { IfOk result (λ b. IsTrue b ↔ BothDeep
@@ -233,11 +233,11 @@ fn are_deep_in(
 }
 
 /// Whether one of two expressions may be a string, a binary or an item.
-fn one_is_unordered(
+fn one_is_unordered<'a>(
     alloc: Global,
-    scope: &Scope<'_, '_, '_>,
-    left: &Expr<'_>,
-    right: &Expr<'_>,
+    scope: &Scope<'a, '_, '_>,
+    left: &Expr<'a>,
+    right: &Expr<'a>,
 ) -> Result<bool, AllocError>
     requires scope { IsScope scope.now }
     ensures { IfOk result (λ b. IsTrue b ↔ EitherUnordered
@@ -248,12 +248,12 @@ fn one_is_unordered(
 }
 
 /// Whether a comparison is of what isn't compared (ISO 10303-11, 12.2).
-pub(crate) fn is_bad_kind(
+pub(crate) fn is_bad_kind<'a>(
     alloc: Global,
-    scope: &Scope<'_, '_, '_>,
-    left: &Expr<'_>,
+    scope: &Scope<'a, '_, '_>,
+    left: &Expr<'a>,
     relation: Relation,
-    right: &Expr<'_>,
+    right: &Expr<'a>,
 ) -> Result<bool, AllocError>
     requires scope { IsScope scope.now }
     ensures { IfOk result (λ b. IsTrue b ↔ IsBadKind (schema_around scope.now)
@@ -268,12 +268,12 @@ pub(crate) fn is_bad_kind(
 }
 
 /// Whether an interval is of what isn't ordered (ISO 10303-11, 12.2.4).
-pub(crate) fn is_bad_interval(
+pub(crate) fn is_bad_interval<'a>(
     alloc: Global,
-    scope: &Scope<'_, '_, '_>,
-    low: &Expr<'_>,
-    item: &Expr<'_>,
-    high: &Expr<'_>,
+    scope: &Scope<'a, '_, '_>,
+    low: &Expr<'a>,
+    item: &Expr<'a>,
+    high: &Expr<'a>,
 ) -> Result<bool, AllocError>
     requires scope { IsScope scope.now }
     ensures { IfOk result (λ b. IsTrue b ↔ (MayBeUnordered

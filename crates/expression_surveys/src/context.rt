@@ -11,16 +11,16 @@ use taken_attributes::known::Known;
 
 /// What stands around an expression, without the variables.
 #[derive(Clone, Copy)]
-pub(crate) struct Context<'r, 't, 'a> {
-    pub known: Known<'r, 't, 'a>,
+pub(crate) struct Context<'a, 't, 'r> {
+    pub known: Known<'a, 't, 'r>,
     pub items: &'r Items<'a>,
     /// What SELF may be.
     pub own: &'r [Atom],
 }
 
-impl<'r, 't, 'a> Context<'r, 't, 'a> {
+impl<'a, 't, 'r> Context<'a, 't, 'r> {
     /// With these variables around.
-    pub(crate) fn with(&self, variables: &'r [Variable<'a>]) -> Scope<'r, 't, 'a>
+    pub(crate) fn with(&self, variables: &'r [Variable<'a>]) -> Scope<'a, 't, 'r>
         requires { IsContext self.now }
         ensures scope { IsScope result }
         ensures schema { schema_around result ≡ schema_of_context self.now }

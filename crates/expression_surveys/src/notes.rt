@@ -46,12 +46,12 @@ pub(crate) fn is_in(relation: Relation) -> bool
 }
 
 /// Notes what a reference is.
-pub(crate) fn note_reference(
+pub(crate) fn note_reference<'a>(
     alloc: Global,
-    scope: &Scope<'_, '_, '_>,
+    scope: &Scope<'a, '_, '_>,
     survey: &mut Survey,
     root: Root<'_>,
-    qualifiers: &[Qualifier<'_>],
+    qualifiers: &[Qualifier<'a>],
 ) -> Result<(), AllocError>
     requires scope { IsScope scope.now }
     ensures { OnOk result (Finds (schema_around scope.now) survey.old
@@ -66,13 +66,13 @@ pub(crate) fn note_reference(
 }
 
 /// Notes what is at fault in a comparison.
-pub(crate) fn note_comparison(
+pub(crate) fn note_comparison<'a>(
     alloc: Global,
-    scope: &Scope<'_, '_, '_>,
+    scope: &Scope<'a, '_, '_>,
     survey: &mut Survey,
-    left: &Expr<'_>,
+    left: &Expr<'a>,
     relation: Relation,
-    right: &Expr<'_>,
+    right: &Expr<'a>,
 ) -> Result<(), AllocError>
     requires scope { IsScope scope.now }
     ensures { OnOk result (Finds (schema_around scope.now) survey.old
@@ -88,13 +88,13 @@ pub(crate) fn note_comparison(
 }
 
 /// Notes what is at fault in an interval.
-pub(crate) fn note_interval(
+pub(crate) fn note_interval<'a>(
     alloc: Global,
-    scope: &Scope<'_, '_, '_>,
+    scope: &Scope<'a, '_, '_>,
     survey: &mut Survey,
-    low: &Expr<'_>,
-    item: &Expr<'_>,
-    high: &Expr<'_>,
+    low: &Expr<'a>,
+    item: &Expr<'a>,
+    high: &Expr<'a>,
 ) -> Result<(), AllocError>
     requires scope { IsScope scope.now }
     ensures { OnOk result ((above below : Limit) → Finds (schema_around scope.now) survey.old
@@ -111,7 +111,7 @@ pub(crate) fn note_interval(
 /// Notes what is at fault in a comparison inside these variables.
 pub(crate) fn note_comparison_inside<'a>(
     alloc: Global,
-    context: &Context<'_, '_, 'a>,
+    context: &Context<'a, '_, '_>,
     variables: &[Variable<'a>],
     survey: &mut Survey,
     left: &Expr<'a>,
@@ -136,7 +136,7 @@ pub(crate) fn note_comparison_inside<'a>(
 /// Notes what is at fault in an interval inside these variables.
 pub(crate) fn note_interval_inside<'a>(
     alloc: Global,
-    context: &Context<'_, '_, 'a>,
+    context: &Context<'a, '_, '_>,
     variables: &[Variable<'a>],
     survey: &mut Survey,
     low: &Expr<'a>,

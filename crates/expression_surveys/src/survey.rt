@@ -48,7 +48,7 @@ fn nothing(alloc: Global) -> Survey
 /// What is found in an expression, where SELF may be these.
 pub fn survey_expression<'r, 'a>(
     alloc: Global,
-    known: &Known<'r, '_, 'a>,
+    known: &Known<'a, '_, 'r>,
     items: &'r Items<'a>,
     own: &'r [Atom],
     expression: &Expr<'a>,

@@ -23,7 +23,7 @@ use step_literals::literal::Word;
 /// What the variable of a QUERY over this source may be (ISO 10303-11, 12.6.7).
 fn variable_over<'a>(
     alloc: Global,
-    context: &Context<'_, '_, 'a>,
+    context: &Context<'a, '_, '_>,
     variables: &[Variable<'a>],
     source: &Expr<'a>,
 ) -> Result<Vec<Atom>, AllocError>
@@ -40,7 +40,7 @@ fn variable_over<'a>(
 /// Puts the variable of a QUERY over this source behind those around it.
 pub(crate) fn push_variable<'a>(
     alloc: Global,
-    context: &Context<'_, '_, 'a>,
+    context: &Context<'a, '_, '_>,
     variables: &mut Vec<Variable<'a>>,
     name: Word<'a>,
     source: &Expr<'a>,

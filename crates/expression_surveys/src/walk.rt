@@ -29,7 +29,7 @@ use std::alloc::{AllocError, Global};
 #[cycle(walk)]
 fn survey_all<'a>(
     alloc: Global,
-    context: &Context<'_, '_, 'a>,
+    context: &Context<'a, '_, '_>,
     variables: &mut Vec<Variable<'a>>,
     survey: &mut Survey,
     expressions: &[Expr<'a>],
@@ -49,7 +49,7 @@ fn survey_all<'a>(
 #[cycle(walk)]
 fn survey_alternatives<'a>(
     alloc: Global,
-    context: &Context<'_, '_, 'a>,
+    context: &Context<'a, '_, '_>,
     variables: &mut Vec<Variable<'a>>,
     survey: &mut Survey,
     alternatives: &[Alternative<'a>],
@@ -69,7 +69,7 @@ fn survey_alternatives<'a>(
 #[cycle(walk)]
 fn survey_indices<'a>(
     alloc: Global,
-    context: &Context<'_, '_, 'a>,
+    context: &Context<'a, '_, '_>,
     variables: &mut Vec<Variable<'a>>,
     survey: &mut Survey,
     qualifiers: &[Qualifier<'a>],
@@ -89,7 +89,7 @@ fn survey_indices<'a>(
 #[cycle(walk)]
 fn survey_qualifier<'a>(
     alloc: Global,
-    context: &Context<'_, '_, 'a>,
+    context: &Context<'a, '_, '_>,
     variables: &mut Vec<Variable<'a>>,
     survey: &mut Survey,
     qualifier: &Qualifier<'a>,
@@ -109,7 +109,7 @@ fn survey_qualifier<'a>(
 #[cycle(walk)]
 pub(crate) fn survey_part<'a>(
     alloc: Global,
-    context: &Context<'_, '_, 'a>,
+    context: &Context<'a, '_, '_>,
     variables: &mut Vec<Variable<'a>>,
     survey: &mut Survey,
     is_right_of_in: bool,

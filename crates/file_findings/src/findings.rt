@@ -105,8 +105,8 @@ fn tell_types(found: &mut Vec<Finding>, instance: u64, form: &Form) -> Result<()
 
 /// Tells the findings of an instance of a form.
 fn tell_form(
-    found: &mut Vec<Finding>,
     judge: &Judge<'_, '_, '_>,
+    found: &mut Vec<Finding>,
     instance: u64,
     form: &Form,
     parts: &Params<'_>,
@@ -122,13 +122,13 @@ fn tell_form(
     if wrong > 0 {
         return tell_whole(found, instance, FindingKind::ParameterCount, wrong);
     }
-    tell_misfits(found, judge, instance, &form.slots, parts)
+    tell_misfits(judge, found, instance, &form.slots, parts)
 }
 
 /// Tells the findings of the instance of a row.
 fn tell_row(
-    found: &mut Vec<Finding>,
     judge: &Judge<'_, '_, '_>,
+    found: &mut Vec<Finding>,
     rows: &Rows,
     row: usize,
     instance: u64,
@@ -140,7 +140,7 @@ fn tell_row(
 {
     let parts = value.parts();
     match form_at(rows, row) {
-        Some(form) => tell_form(found, judge, instance, form, &parts),
+        Some(form) => tell_form(judge, found, instance, form, &parts),
         None => {
             let unknown = unknown_entities(judge.bases.names, &parts);
             tell_whole(found, instance, FindingKind::UnknownEntity, unknown)
@@ -150,8 +150,8 @@ fn tell_row(
 
 /// Tells the findings of instances with these names, in order.
 fn tell_rows(
-    found: &mut Vec<Finding>,
     judge: &Judge<'_, '_, '_>,
+    found: &mut Vec<Finding>,
     rows: &Rows,
     names: &[u64],
     instances: &Params<'_>,
@@ -164,7 +164,7 @@ fn tell_rows(
         let Some(instance) = instances.item(i) else {
             return Ok(());
         };
-        tell_row(found, judge, rows, i, names[i], &instance)?;
+        tell_row(judge, found, rows, i, names[i], &instance)?;
     }
     Ok(())
 }
@@ -198,8 +198,8 @@ pub fn findings(
     };
     let (_, instances) = exchange.trees.trees().split(exchange.header_len);
     tell_rows(
-        &mut found,
         &judge,
+        &mut found,
         rows,
         exchange.names.as_slice(),
         &instances,

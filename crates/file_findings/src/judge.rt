@@ -6,9 +6,9 @@ use std::alloc::Global;
 
 /// What data types ask of parameters, and what references lead to.
 #[derive(Clone, Copy)]
-pub struct Judge<'r, 't, 'a> {
+pub struct Judge<'a, 't, 'r> {
     /// Elements that have to be distinct are compared in this memory.
     pub alloc: Global,
-    pub bases: Bases<'r, 't, 'a>,
+    pub bases: Bases<'a, 't, 'r>,
     pub targets: Targets<'r>,
 }

@@ -102,8 +102,8 @@ fn slot_misfit(
 /// index, and answers the index of the attribute behind the last; the place of a parameter counts
 /// from 1 through all records.
 fn tell_record(
-    found: &mut Vec<Finding>,
     judge: &Judge<'_, '_, '_>,
+    found: &mut Vec<Finding>,
     instance: u64,
     slots: &[SlotForm],
     from: usize,
@@ -127,8 +127,8 @@ fn tell_record(
 
 /// Tells the findings of the parameters of partial records.
 fn tell_partials(
-    found: &mut Vec<Finding>,
     judge: &Judge<'_, '_, '_>,
+    found: &mut Vec<Finding>,
     instance: u64,
     slots: &[SlotForm],
     partials: &Params<'_>,
@@ -140,15 +140,15 @@ fn tell_partials(
     let mut place = 0;
     for i in 0..partials.len() {
         let (_, values) = partials.at(i).parts().split(1);
-        place = tell_record(found, judge, instance, slots, place, &values)?;
+        place = tell_record(judge, found, instance, slots, place, &values)?;
     }
     Ok(())
 }
 
 /// Tells the findings of an instance's parameters, which are those of these attributes.
 pub fn tell_misfits(
-    found: &mut Vec<Finding>,
     judge: &Judge<'_, '_, '_>,
+    found: &mut Vec<Finding>,
     instance: u64,
     slots: &[SlotForm],
     parts: &Params<'_>,
@@ -158,9 +158,9 @@ pub fn tell_misfits(
         (parameters (records (form_of parts.now))) found.old.items found.new.items) }
 {
     if !is_internal(parts) {
-        return tell_partials(found, judge, instance, slots, parts);
+        return tell_partials(judge, found, instance, slots, parts);
     }
     let (_, values) = parts.split(1);
-    tell_record(found, judge, instance, slots, 0, &values)?;
+    tell_record(judge, found, instance, slots, 0, &values)?;
     Ok(())
 }

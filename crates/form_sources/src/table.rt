@@ -41,7 +41,7 @@ pub struct FormSources<'s> {
 
 /// Where instances of these types have the value of the attribute of a name.
 fn named_source<'s>(
-    schema: &ResolvedTypes<'_, 's>,
+    schema: &ResolvedTypes<'s, '_>,
     sources: &AttributeSources,
     inverses: &[InverseAttribute<'_>],
     types: &[u32],
@@ -60,8 +60,8 @@ fn named_source<'s>(
 
 /// Adds where instances of these types have the value of the attribute of a name.
 fn add_named<'s>(
+    schema: &ResolvedTypes<'s, '_>,
     row: &mut Vec<NamedSource<'s>>,
-    schema: &ResolvedTypes<'_, 's>,
     sources: &AttributeSources,
     inverses: &[InverseAttribute<'_>],
     types: &[u32],
@@ -83,8 +83,8 @@ fn add_named<'s>(
 
 /// .. of the explicit attribute of a number.
 fn add_place<'s>(
+    schema: &ResolvedTypes<'s, '_>,
     row: &mut Vec<NamedSource<'s>>,
-    schema: &ResolvedTypes<'_, 's>,
     sources: &AttributeSources,
     inverses: &[InverseAttribute<'_>],
     types: &[u32],
@@ -98,15 +98,15 @@ fn add_place<'s>(
         (inverses_seen (schema_in schema.now) inverses.now) types.now row.new.items) }
 {
     match schema.places.attributes.get(number as usize) {
-        Some(place) => add_named(row, schema, sources, inverses, types, place.attribute),
+        Some(place) => add_named(schema, row, sources, inverses, types, place.attribute),
         None => Ok(()),
     }
 }
 
 /// .. of these explicit attributes.
 fn add_slots<'s>(
+    schema: &ResolvedTypes<'s, '_>,
     row: &mut Vec<NamedSource<'s>>,
-    schema: &ResolvedTypes<'_, 's>,
     sources: &AttributeSources,
     inverses: &[InverseAttribute<'_>],
     types: &[u32],
@@ -120,15 +120,15 @@ fn add_slots<'s>(
         (inverses_seen (schema_in schema.now) inverses.now) types.now row.new.items) }
 {
     for i in 0..slots.len() {
-        add_place(row, schema, sources, inverses, types, slots[i].place)?;
+        add_place(schema, row, sources, inverses, types, slots[i].place)?;
     }
     Ok(())
 }
 
 /// .. of these derived attributes.
 fn add_derived<'s>(
+    schema: &ResolvedTypes<'s, '_>,
     row: &mut Vec<NamedSource<'s>>,
-    schema: &ResolvedTypes<'_, 's>,
     sources: &AttributeSources,
     inverses: &[InverseAttribute<'_>],
     types: &[u32],
@@ -142,15 +142,15 @@ fn add_derived<'s>(
         (inverses_seen (schema_in schema.now) inverses.now) types.now row.new.items) }
 {
     for each in attributes {
-        add_named(row, schema, sources, inverses, types, each.attribute.name())?;
+        add_named(schema, row, sources, inverses, types, each.attribute.name())?;
     }
     Ok(())
 }
 
 /// .. of these inverse attributes.
 fn add_inverse<'s>(
+    schema: &ResolvedTypes<'s, '_>,
     row: &mut Vec<NamedSource<'s>>,
-    schema: &ResolvedTypes<'_, 's>,
     sources: &AttributeSources,
     inverses: &[InverseAttribute<'_>],
     types: &[u32],
@@ -164,15 +164,15 @@ fn add_inverse<'s>(
         (inverses_seen (schema_in schema.now) inverses.now) types.now row.new.items) }
 {
     for each in attributes {
-        add_named(row, schema, sources, inverses, types, each.attribute.name())?;
+        add_named(schema, row, sources, inverses, types, each.attribute.name())?;
     }
     Ok(())
 }
 
 /// .. of the derived and inverse attributes of a declaration, where it is an entity's.
 fn add_declared<'s>(
+    schema: &ResolvedTypes<'s, '_>,
     row: &mut Vec<NamedSource<'s>>,
-    schema: &ResolvedTypes<'_, 's>,
     sources: &AttributeSources,
     inverses: &[InverseAttribute<'_>],
     types: &[u32],
@@ -189,15 +189,15 @@ fn add_declared<'s>(
         return Ok(());
     };
     let derived = entity.derived_attributes();
-    add_derived(row, schema, sources, inverses, types, derived)?;
+    add_derived(schema, row, sources, inverses, types, derived)?;
     let inverse = entity.inverse_attributes();
-    add_inverse(row, schema, sources, inverses, types, inverse)
+    add_inverse(schema, row, sources, inverses, types, inverse)
 }
 
 /// .. of those of the declaration of a number.
 fn add_type<'s>(
+    schema: &ResolvedTypes<'s, '_>,
     row: &mut Vec<NamedSource<'s>>,
-    schema: &ResolvedTypes<'_, 's>,
     sources: &AttributeSources,
     inverses: &[InverseAttribute<'_>],
     types: &[u32],
@@ -211,15 +211,15 @@ fn add_type<'s>(
         (inverses_seen (schema_in schema.now) inverses.now) types.now row.new.items) }
 {
     match schema.names.at(number) {
-        Some(declaration) => add_declared(row, schema, sources, inverses, types, declaration),
+        Some(declaration) => add_declared(schema, row, sources, inverses, types, declaration),
         None => Ok(()),
     }
 }
 
 /// .. of those of each of the types.
 fn add_types<'s>(
+    schema: &ResolvedTypes<'s, '_>,
     row: &mut Vec<NamedSource<'s>>,
-    schema: &ResolvedTypes<'_, 's>,
     sources: &AttributeSources,
     inverses: &[InverseAttribute<'_>],
     types: &[u32],
@@ -232,7 +232,7 @@ fn add_types<'s>(
         (inverses_seen (schema_in schema.now) inverses.now) types.now row.new.items) }
 {
     for i in 0..types.len() {
-        add_type(row, schema, sources, inverses, types, types[i])?;
+        add_type(schema, row, sources, inverses, types, types[i])?;
     }
     Ok(())
 }
@@ -240,7 +240,7 @@ fn add_types<'s>(
 /// Where instances of a form have the values of their attributes, the explicit ones first.
 fn form_row<'s>(
     alloc: Global,
-    schema: &ResolvedTypes<'_, 's>,
+    schema: &ResolvedTypes<'s, '_>,
     sources: &AttributeSources,
     inverses: &[InverseAttribute<'_>],
     form: &Form,
@@ -252,8 +252,8 @@ fn form_row<'s>(
 {
     let mut row: Vec<NamedSource<'s>> = Vec::new(alloc);
     let types = form.types.as_slice();
-    add_slots(&mut row, schema, sources, inverses, types, &form.slots)?;
-    add_types(&mut row, schema, sources, inverses, types)?;
+    add_slots(schema, &mut row, sources, inverses, types, &form.slots)?;
+    add_types(schema, &mut row, sources, inverses, types)?;
     Ok(row)
 }
 
@@ -278,7 +278,7 @@ impl<'s> FormSources<'s> {
     /// An error says that memory ran out.
     pub fn of(
         alloc: Global,
-        schema: &ResolvedTypes<'_, 's>,
+        schema: &ResolvedTypes<'s, '_>,
         sources: &AttributeSources,
         inverses: &[InverseAttribute<'_>],
         forms: &[Form],

@@ -154,7 +154,7 @@ impl<'p, 'r> Content<'p, 'r> {
     }
 }
 
-impl<'p, 'r> Held<'r> for Part<'p, 'r> {
+impl<'r, 'p> Held<'r> for Part<'p, 'r> {
     ghost held = { holding };
 
     fn bare(&self) -> Scalar<'r> {

@@ -42,7 +42,7 @@ fn entry(bases: &[Base], number: u32) -> Base
 /// Gives the name of a declaration what it stands for, in place of a later one of that name.
 fn add_name<'r, 't, 'a: 'r>(
     by_name: &mut NamedBases<'r>,
-    bases: &Bases<'r, 't, 'a>,
+    bases: &Bases<'a, 't, 'r>,
     number: u32,
 ) -> Result<(), AllocError>
     requires { number < length bases.now.names.now.schema.now.declarations.items }
@@ -62,7 +62,7 @@ fn add_name<'r, 't, 'a: 'r>(
 fn named_bases<'r, 't, 'a: 'r>(
     alloc: Global,
     keys: RandomState,
-    bases: &Bases<'r, 't, 'a>,
+    bases: &Bases<'a, 't, 'r>,
 ) -> Result<NamedBases<'r>, AllocError>
     ensures { IfOk result (λ m. (n : Name) → found m n
         ≡ entry_in bases.now.table.now.by_declaration.items (number_of (schema_at bases.now) n)) }
@@ -79,7 +79,7 @@ impl<'r> ValueTypes<'r> {
     pub fn of<'t, 'a: 'r>(
         alloc: Global,
         keys: RandomState,
-        bases: &Bases<'r, 't, 'a>,
+        bases: &Bases<'a, 't, 'r>,
     ) -> Result<ValueTypes<'r>, AllocError>
         requires bases { AreBases bases.now }
         ensures { IfOk result (AreValueTypes (schema_at bases.now)) }

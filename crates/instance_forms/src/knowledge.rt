@@ -6,8 +6,8 @@ use schema_names::names::Names;
 
 /// What entities say of their instances, by number.
 #[derive(Clone, Copy)]
-pub struct Knowledge<'r, 't, 'a> {
-    pub names: &'r Names<'t, 'a>,
+pub struct Knowledge<'a, 't, 'r> {
+    pub names: &'r Names<'a, 't>,
     /// By declaration, for an entity the numbers of its proper supertypes.
     pub above: &'r [Vec<u32>],
     /// The explicit attributes, in the order of the text.

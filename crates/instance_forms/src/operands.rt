@@ -26,7 +26,7 @@ fn add_number(row: &mut Vec<u32>, number: Option<u32>) -> Result<(), AllocError>
 /// The numbers of what these names stand for, in order.
 fn numbers_of<'a>(
     alloc: Global,
-    names: &Names<'_, 'a>,
+    names: &Names<'a, '_>,
     words: &[Word<'a>],
 ) -> Result<Vec<u32>, AllocError>
     ensures { IfOk result (λ row. row.items
@@ -42,7 +42,7 @@ fn numbers_of<'a>(
 /// Adds the operands of what a declaration says of its subtypes, where that is a ONEOF.
 fn add_operands<'a>(
     alloc: Global,
-    names: &Names<'_, 'a>,
+    names: &Names<'a, '_>,
     declaration: &Declaration<'a>,
     rows: &mut Vec<Vec<u32>>,
 ) -> Result<(), AllocError>

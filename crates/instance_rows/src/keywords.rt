@@ -63,8 +63,8 @@ pub fn entity_of(names: &Names<'_, '_>, record: &Params<'_>) -> Option<u32>
 /// Puts the numbers of the entities that partial records name in place of these numbers, up to
 /// the first keyword that is no entity, and tells whether there is none such.
 pub fn number_all(
-    entities: &mut Vec<u32>,
     names: &Names<'_, '_>,
+    entities: &mut Vec<u32>,
     partials: &Params<'_>,
 ) -> Result<bool, AllocError>
     requires { IsResolved (schema_of names.now.schema.now) }

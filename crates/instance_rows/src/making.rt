@@ -165,7 +165,7 @@ impl Made {
             };
             return Ok(Some(self.internal(alloc, known, entity)?));
         }
-        if !number_all(entities, known.names, parts)? {
+        if !number_all(known.names, entities, parts)? {
             return Ok(None);
         }
         Ok(Some(self.external(alloc, known, entities)?))

@@ -20,9 +20,9 @@ const MOST_ROWS: usize = 4_294_967_295;
 
 /// The numbers of the forms of these instances, in order.
 fn forms_of(
+    known: &Knowledge<'_, '_, '_>,
     made: &mut Made,
     alloc: Global,
-    known: &Knowledge<'_, '_, '_>,
     instances: &Params<'_>,
 ) -> Result<Vec<Option<u32>>, AllocError>
     requires known { AreKnown known.now }
@@ -55,7 +55,7 @@ pub fn rows_of(
     let index = RowIndex::of(alloc, keys, names)?;
     let (_, instances) = exchange.trees.trees().split(exchange.header_len);
     let mut made = Made::new(alloc, keys, known.names.len())?;
-    let form_of = forms_of(&mut made, alloc, known, &instances)?;
+    let form_of = forms_of(known, &mut made, alloc, &instances)?;
     let Made { forms, types, .. } = made;
     Ok(Rows {
         index,

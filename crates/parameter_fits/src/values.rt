@@ -27,8 +27,8 @@ use step_values::row_builder::RowBuilder;
 /// `AllocError` comes where memory runs out.
 #[cycle(values)]
 pub fn push_value<'t: 'a, 'a>(
-    builder: &mut RowBuilder<'_, 'a>,
     bases: &Bases<'_, '_, '_>,
+    builder: &mut RowBuilder<'_, 'a>,
     base: &Base,
     index: &RowIndex,
     param: &Param<'t>,
@@ -43,14 +43,14 @@ pub fn push_value<'t: 'a, 'a>(
         (value_as (schema_at bases.now) d (base_seen (schema_at bases.now) base.now) param.now))
         (λ _. builder.new.names ≡ builder.old.names) }
 {
-    push_node(builder, bases, base, index, param.node())
+    push_node(bases, builder, base, index, param.node())
 }
 
 /// Pushes the value of an outermost part, with what is inside it.
 #[cycle(values)]
 fn push_node<'t: 'a, 'a>(
-    builder: &mut RowBuilder<'_, 'a>,
     bases: &Bases<'_, '_, '_>,
+    builder: &mut RowBuilder<'_, 'a>,
     base: &Base,
     index: &RowIndex,
     node: Node<'t>,
@@ -76,10 +76,10 @@ fn push_node<'t: 'a, 'a>(
         Node::Reference(name, _) => push_reference(builder, index, name),
         Node::Typed(word, inner) => {
             let within = item(bases, *base, word).unwrap_or(*base);
-            push_value(builder, bases, &within, index, &inner)?;
+            push_value(bases, builder, &within, index, &inner)?;
             builder.close_typed(word)
         }
-        Node::List(params) => push_list(builder, bases, base, index, &params),
+        Node::List(params) => push_list(bases, builder, base, index, &params),
     }
 }
 
@@ -107,8 +107,8 @@ pub fn push_reference(
 #[cycle(values)]
 #[inline(never)]
 fn push_list<'t: 'a, 'a>(
-    builder: &mut RowBuilder<'_, 'a>,
     bases: &Bases<'_, '_, '_>,
+    builder: &mut RowBuilder<'_, 'a>,
     base: &Base,
     index: &RowIndex,
     params: &Params<'t>,
@@ -126,7 +126,7 @@ fn push_list<'t: 'a, 'a>(
 {
     let mark = builder.pending_len();
     let inside = element(bases, *base);
-    push_each(builder, bases, &inside, index, params)?;
+    push_each(bases, builder, &inside, index, params)?;
     if has_no_order(*base) {
         builder.close_bag(mark)
     } else {
@@ -137,8 +137,8 @@ fn push_list<'t: 'a, 'a>(
 /// Pushes the values of parameters side by side.
 #[cycle(values)]
 fn push_each<'t: 'a, 'a>(
-    builder: &mut RowBuilder<'_, 'a>,
     bases: &Bases<'_, '_, '_>,
+    builder: &mut RowBuilder<'_, 'a>,
     base: &Base,
     index: &RowIndex,
     params: &Params<'t>,
@@ -155,7 +155,7 @@ fn push_each<'t: 'a, 'a>(
         (λ _. builder.new.names ≡ builder.old.names) }
 {
     for i in 0..params.len() {
-        push_value(builder, bases, base, index, &params.at(i))?;
+        push_value(bases, builder, base, index, &params.at(i))?;
     }
     Ok(())
 }

@@ -49,16 +49,16 @@ const CELLS: usize = 4;
 
 /// What values are made by: what data types ask, and the row of each name.
 #[derive(Clone, Copy)]
-pub struct Maker<'r, 't, 'a> {
-    pub bases: Bases<'r, 't, 'a>,
+pub struct Maker<'a, 't, 'r> {
+    pub bases: Bases<'a, 't, 'r>,
     pub index: &'r RowIndex,
 }
 
 /// Pushes the value of an attribute, by its parameter: one that is derived, however it is spelt, or
 /// a value of the first of its data types.
 fn push_slot<'p: 'v, 'v>(
-    builder: &mut RowBuilder<'_, 'v>,
     maker: &Maker<'_, '_, '_>,
+    builder: &mut RowBuilder<'_, 'v>,
     slot: &SlotForm,
     param: &Param<'p>,
 ) -> Result<(), AllocError>
@@ -72,13 +72,13 @@ fn push_slot<'p: 'v, 'v>(
     }
     let number = slot.data_types[0];
     let base = maker.bases.of_number(number);
-    push_value(builder, &maker.bases, &base, maker.index, param)
+    push_value(&maker.bases, builder, &base, maker.index, param)
 }
 
 /// Pushes the values of attributes in turn, by the parameters of a record.
 fn push_record<'p: 'v, 'v>(
-    builder: &mut RowBuilder<'_, 'v>,
     maker: &Maker<'_, '_, '_>,
+    builder: &mut RowBuilder<'_, 'v>,
     slots: &[SlotForm],
     values: &Params<'p>,
 ) -> Result<(), AllocError>
@@ -92,15 +92,15 @@ fn push_record<'p: 'v, 'v>(
         let Some(param) = values.item(i) else {
             return Ok(());
         };
-        push_slot(builder, maker, &slots[i], &param)?;
+        push_slot(maker, builder, &slots[i], &param)?;
     }
     Ok(())
 }
 
 /// Pushes the values of attributes in turn, by the parameters of partial records as they stand.
 fn push_partials<'p: 'v, 'v>(
-    builder: &mut RowBuilder<'_, 'v>,
     maker: &Maker<'_, '_, '_>,
+    builder: &mut RowBuilder<'_, 'v>,
     slots: &[SlotForm],
     partials: &Params<'p>,
 ) -> Result<(), AllocError>
@@ -115,7 +115,7 @@ fn push_partials<'p: 'v, 'v>(
     for i in 0..partials.len() {
         let (_, values) = partials.at(i).parts().split(1);
         let (own, behind) = cut(left, values.len());
-        push_record(builder, maker, own, &values)?;
+        push_record(maker, builder, own, &values)?;
         left = behind;
     }
     Ok(())
@@ -123,8 +123,8 @@ fn push_partials<'p: 'v, 'v>(
 
 /// Pushes the values of the attributes of an instance, by its records.
 fn push_instance<'p: 'v, 'v>(
-    builder: &mut RowBuilder<'_, 'v>,
     maker: &Maker<'_, '_, '_>,
+    builder: &mut RowBuilder<'_, 'v>,
     slots: &[SlotForm],
     parts: &Params<'p>,
 ) -> Result<(), AllocError>
@@ -136,16 +136,16 @@ fn push_instance<'p: 'v, 'v>(
         (parameters (records (form_of parts.now))))) }
 {
     if !is_internal(parts) {
-        return push_partials(builder, maker, slots, parts);
+        return push_partials(maker, builder, slots, parts);
     }
     let (_, values) = parts.split(1);
-    push_record(builder, maker, slots, &values)
+    push_record(maker, builder, slots, &values)
 }
 
 /// Makes the row of an instance of this form; one of no form has no values.
 fn push_row<'p: 'v, 'v>(
-    builder: &mut RowBuilder<'_, 'v>,
     maker: &Maker<'_, '_, '_>,
+    builder: &mut RowBuilder<'_, 'v>,
     form: Option<&Form>,
     instance: &Param<'p>,
 ) -> Result<(), AllocError>
@@ -158,15 +158,15 @@ fn push_row<'p: 'v, 'v>(
         (form_in instance.now) ∷ [])) }
 {
     if let Some(form) = form {
-        push_instance(builder, maker, &form.slots, &instance.parts())?;
+        push_instance(maker, builder, &form.slots, &instance.parts())?;
     }
     builder.close_row()
 }
 
 /// Makes the rows of instances with these names, in order.
 fn push_rows<'p: 'v, 'v>(
-    builder: &mut RowBuilder<'_, 'v>,
     maker: &Maker<'_, '_, '_>,
+    builder: &mut RowBuilder<'_, 'v>,
     rows: &Rows,
     names: &[u64],
     instances: &Params<'p>,
@@ -184,13 +184,13 @@ fn push_rows<'p: 'v, 'v>(
         let Some(instance) = instances.item(i) else {
             return Ok(());
         };
-        push_row(builder, maker, form_at(rows, i), &instance)?;
+        push_row(maker, builder, form_at(rows, i), &instance)?;
     }
     Ok(())
 }
 
 /// What the values of instances with these rows are made by.
-fn maker_of<'b, 't, 'a>(bases: &Bases<'b, 't, 'a>, rows: &'b Rows) -> Maker<'b, 't, 'a>
+fn maker_of<'b, 't, 'a>(bases: &Bases<'a, 't, 'b>, rows: &'b Rows) -> Maker<'a, 't, 'b>
     ensures bases { result.bases ≡ bases.now }
     ensures index { result.index.now ≡ rows.now.index }
 {
@@ -216,7 +216,7 @@ fn builder_of<'n, 'v>(alloc: Global, names: &'n [u64]) -> RowBuilder<'n, 'v>
 /// `AllocError` comes where memory runs out.
 pub fn values_of<'b, 'r>(
     alloc: Global,
-    bases: &Bases<'b, '_, '_>,
+    bases: &Bases<'_, '_, 'b>,
     rows: &'b Rows,
     exchange: &'r Exchange<'_>,
 ) -> Result<ValueRows<'r>, AllocError>
@@ -235,6 +235,6 @@ pub fn values_of<'b, 'r>(
     let names = exchange.names.as_slice();
     let (_, instances) = exchange.trees.trees().split(exchange.header_len);
     let mut builder = builder_of(alloc, names);
-    push_rows(&mut builder, &maker, rows, names, &instances)?;
+    push_rows(&maker, &mut builder, rows, names, &instances)?;
     Ok(builder.finish())
 }

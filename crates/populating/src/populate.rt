@@ -19,9 +19,9 @@ use step_population::population::Population;
 
 /// What is found of an exchange structure.
 #[derive(Drop)]
-pub enum Verdict<'r, 't, 's, 'a> {
+pub enum Verdict<'s, 't, 'r, 'a> {
     /// It conforms to the schema, but for rules.
-    Typed(Population<'r, 't, 's, 'a>),
+    Typed(Population<'s, 't, 'r, 'a>),
     /// What is wrong with it, in order; there is one finding at least.
     Faulty(Vec<Finding>),
 }
@@ -30,10 +30,10 @@ pub enum Verdict<'r, 't, 's, 'a> {
 pub fn populate_by<'r, 't, 's, 'a>(
     alloc: Global,
     keys: RandomState,
-    types: &'r ResolvedTypes<'t, 's>,
+    types: &'r ResolvedTypes<'s, 't>,
     tables: &SchemaTables,
     exchange: &'r Exchange<'a>,
-) -> Result<Verdict<'r, 't, 's, 'a>, AllocError>
+) -> Result<Verdict<'s, 't, 'r, 'a>, AllocError>
     requires made { IsMade types.now }
     requires tables { AreTables types.now tables.now }
     ensures { IfOk result (IsVerdict types.now exchange.now) }
@@ -63,9 +63,9 @@ pub fn populate_by<'r, 't, 's, 'a>(
 pub fn populate<'r, 't, 's, 'a>(
     alloc: Global,
     keys: RandomState,
-    types: &'r ResolvedTypes<'t, 's>,
+    types: &'r ResolvedTypes<'s, 't>,
     exchange: &'r Exchange<'a>,
-) -> Result<Verdict<'r, 't, 's, 'a>, AllocError>
+) -> Result<Verdict<'s, 't, 'r, 'a>, AllocError>
     requires made { IsMade types.now }
     ensures { IfOk result (IsVerdict types.now exchange.now) }
 {

@@ -35,7 +35,7 @@ fn may_hold(gathering: Gathering, count: usize) -> bool
 
 /// What is found where an instance breaks the bounds of the inverse attribute of this number.
 fn finding<'s>(
-    extents: &Extents<'_, '_, '_, 's, '_>,
+    extents: &Extents<'s, '_, '_, '_, '_>,
     name: u64,
     attribute: usize,
 ) -> RuleFinding<'s>
@@ -79,7 +79,7 @@ fn keeps(
 
 /// Adds what is found of an instance by the inverse attributes of these numbers.
 fn add_broken<'s>(
-    extents: &Extents<'_, '_, '_, 's, '_>,
+    extents: &Extents<'s, '_, '_, '_, '_>,
     near: &mut [usize],
     findings: &mut Vec<RuleFinding<'s>>,
     name: u64,
@@ -108,7 +108,7 @@ fn add_broken<'s>(
 /// `AllocError` comes where memory runs out.
 pub fn check_inverse<'s>(
     alloc: Global,
-    extents: &Extents<'_, '_, '_, 's, '_>,
+    extents: &Extents<'s, '_, '_, '_, '_>,
 ) -> Result<Vec<RuleFinding<'s>>, AllocError>
     requires numbered { AreNumbered
         (schema_of extents.now.population.now.types.now.names.schema.now) extents.now.rules.now }

@@ -46,7 +46,7 @@ fn add_findings<'s>(
 fn add_rule<'s>(
     alloc: Global,
     keys: RandomState,
-    extents: &Extents<'_, '_, '_, 's, '_>,
+    extents: &Extents<'s, '_, '_, '_, '_>,
     findings: &mut Vec<RuleFinding<'s>>,
     rule: &UniqueRule<'s>,
 ) -> Result<(), AllocError>
@@ -72,7 +72,7 @@ fn add_rule<'s>(
 pub fn check_unique<'s>(
     alloc: Global,
     keys: RandomState,
-    extents: &Extents<'_, '_, '_, 's, '_>,
+    extents: &Extents<'s, '_, '_, '_, '_>,
 ) -> Result<Vec<RuleFinding<'s>>, AllocError>
     requires numbered { AreNumbered
         (schema_of extents.now.population.now.types.now.names.schema.now) extents.now.rules.now }

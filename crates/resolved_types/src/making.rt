@@ -17,10 +17,10 @@ use std::alloc::{AllocError, Global};
 /// all that it leads to.
 pub(crate) fn make_types<'t, 'a>(
     alloc: Global,
-    names: Names<'t, 'a>,
+    names: Names<'a, 't>,
     supertypes: &[Vec<u32>],
     above: Vec<Vec<u32>>,
-) -> Result<ResolvedTypes<'t, 'a>, AllocError>
+) -> Result<ResolvedTypes<'a, 't>, AllocError>
     requires resolved { IsResolved (schema_of names.schema.now) }
     requires drawn { IsGraphOf (schema_of names.schema.now) supertypes_in
         (graph_of supertypes.now) }

@@ -38,7 +38,7 @@ struct Faulty<'a> {
 fn first_fault<'a>(
     alloc: Global,
     keys: RandomState,
-    names: &Names<'_, 'a>,
+    names: &Names<'a, '_>,
     above: &[Vec<u32>],
 ) -> Result<Option<Faulty<'a>>, AllocError>
     requires { AreAbove (schema_of names.now.schema.now) (graph_of above.now) }
@@ -64,8 +64,8 @@ fn first_fault<'a>(
 }
 
 /// What is found of a schema: its types, or a name with what is wrong with it.
-enum Resolution<'t, 'a> {
-    Resolved(ResolvedTypes<'t, 'a>),
+enum Resolution<'a, 't> {
+    Resolved(ResolvedTypes<'a, 't>),
     Faulty(Faulty<'a>),
 }
 
@@ -74,7 +74,7 @@ enum Resolution<'t, 'a> {
 fn above_or_fault<'a>(
     alloc: Global,
     keys: RandomState,
-    names: &Names<'_, 'a>,
+    names: &Names<'a, '_>,
     supertypes: &[Vec<u32>],
 ) -> Result<Result<Vec<Vec<u32>>, Faulty<'a>>, AllocError>
     requires graph { IsGraphOf (schema_of names.now.schema.now) supertypes_in
@@ -96,7 +96,7 @@ fn try_resolve<'t, 'a>(
     alloc: Global,
     keys: RandomState,
     schema: &'t SchemaTree<'a>,
-) -> Result<Resolution<'t, 'a>, AllocError>
+) -> Result<Resolution<'a, 't>, AllocError>
     ensures { IfOk result (IsResolution schema.entry.now) }
 {
     let names = Names::of(alloc, keys, schema)?;
@@ -134,7 +134,7 @@ pub fn resolve_types<'t, 'a>(
     alloc: Global,
     keys: RandomState,
     schema: &'t SchemaTree<'a>,
-) -> Result<ResolvedTypes<'t, 'a>, SchemaFault>
+) -> Result<ResolvedTypes<'a, 't>, SchemaFault>
     ensures resolved { MatchResult result (λ t. IsResolved (schema_of schema.entry.now))
         (IsNameFault (schema_of schema.entry.now)) }
     ensures same { IfOk result (λ t. t.names.schema.now ≡ schema.entry.now) }

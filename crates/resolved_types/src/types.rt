@@ -20,9 +20,9 @@ use step_literals::literal::Word;
 /// A type or an entity has a number, the place of its declaration in the text counted from 0, and
 /// so has an explicit attribute.
 #[derive(Drop)]
-pub struct ResolvedTypes<'t, 'a> {
+pub struct ResolvedTypes<'a, 't> {
     /// The schema, and the numbers of its types and entities.
-    pub names: Names<'t, 'a>,
+    pub names: Names<'a, 't>,
     /// By declaration, for an entity the numbers of its proper supertypes.
     pub above: Vec<Vec<u32>>,
     /// The explicit attributes, and by declaration the numbers of an entity's places.
@@ -38,7 +38,7 @@ pub struct ResolvedTypes<'t, 'a> {
         ≡ length names.schema.now.declarations.items },
 }
 
-impl<'t, 'a> ResolvedTypes<'t, 'a> {
+impl<'a, 't> ResolvedTypes<'a, 't> {
     /// The number of the type or entity of this name; none where there is none.
     pub fn find(&self, name: Word<'_>) -> Option<u32>
         ensures { result ≡ number_of (schema_of self.now.names.schema.now) (capitals name.entry) }

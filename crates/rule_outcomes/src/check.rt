@@ -46,10 +46,10 @@ fn holder_number(holder: RuleHolder) -> u32
 
 /// Adds what a rule says of the instance of a name.
 fn add_outcome<'s>(
+    setting: &Setting<'s, '_, '_, '_, '_, '_>,
     report: &mut RuleReport<'s>,
-    setting: &Setting<'_, '_, '_, '_, 's, '_>,
     name: u64,
-    rule: &DomainRule<'_, 's>,
+    rule: &DomainRule<'s, '_>,
     outcome: Logical,
 ) -> Result<(), AllocError>
     requires numbered { IsNumbered (schema_in setting.now) rule.now }
@@ -90,9 +90,9 @@ struct Tried<'n> {
 /// Adds what rules say at an instance.
 fn add_instance<'p, 'e, 'r, 't, 's: 'r, 'a>(
     alloc: Global,
-    asked: &Asked<'p, 'e, 'r, 't, 's, 'a>,
+    asked: &Asked<'s, 't, 'r, 'a, 'e, 'p>,
     report: &mut RuleReport<'s>,
-    plan: &Plan<'_, 't, 's>,
+    plan: &Plan<'s, 't, '_>,
     tried: &Tried<'_>,
 ) -> Result<(), AllocError>
     requires setting { IsSetting asked.now.setting.now }
@@ -121,7 +121,7 @@ fn add_instance<'p, 'e, 'r, 't, 's: 'r, 'a>(
             table,
             tried.types,
         )?;
-        add_outcome(report, asked.setting, tried.name, rule, outcome)?;
+        add_outcome(asked.setting, report, tried.name, rule, outcome)?;
     }
     Ok(())
 }
@@ -129,8 +129,8 @@ fn add_instance<'p, 'e, 'r, 't, 's: 'r, 'a>(
 /// What rules say at all instances.
 fn planned_report<'p, 'e, 'r, 't, 's: 'r, 'a>(
     alloc: Global,
-    asked: &Asked<'p, 'e, 'r, 't, 's, 'a>,
-    plan: &Plan<'_, 't, 's>,
+    asked: &Asked<'s, 't, 'r, 'a, 'e, 'p>,
+    plan: &Plan<'s, 't, '_>,
 ) -> Result<RuleReport<'s>, AllocError>
     requires setting { IsSetting asked.now.setting.now }
     requires limit { IsLimit asked.now.setting.now.formulas.now asked.now.limit }
@@ -169,8 +169,8 @@ fn planned_report<'p, 'e, 'r, 't, 's: 'r, 'a>(
 /// An error says that memory ran out.
 pub fn check_rules<'p, 'e, 'r, 't, 's: 'r, 'a>(
     alloc: Global,
-    setting: &'p Setting<'p, 'e, 'r, 't, 's, 'a>,
-    rules: &[DomainRule<'t, 's>],
+    setting: &'p Setting<'s, 't, 'r, 'a, 'e, 'p>,
+    rules: &[DomainRule<'s, 't>],
 ) -> Result<RuleReport<'s>, AllocError>
     requires setting { IsSetting setting.now }
     requires numbered { Every (IsNumbered (schema_in setting.now)) rules.now }

@@ -27,16 +27,16 @@ use std::alloc::{AllocError, Global};
 
 /// A setting, and a rank above those of all its derived attributes.
 #[derive(Drop)]
-pub(crate) struct Asked<'p, 'e, 'r, 't, 's, 'a> {
-    pub setting: &'p Setting<'p, 'e, 'r, 't, 's, 'a>,
+pub(crate) struct Asked<'s, 't, 'r, 'a, 'e, 'p> {
+    pub setting: &'p Setting<'s, 't, 'r, 'a, 'e, 'p>,
     pub limit: u64,
 }
 
 /// What a rule says of a value of SELF.
 fn said_of<'p, 'e, 'r, 't, 's: 'r, 'a>(
     alloc: Global,
-    asked: &Asked<'p, 'e, 'r, 't, 's, 'a>,
-    rule: &DomainRule<'t, 's>,
+    asked: &Asked<'s, 't, 'r, 'a, 'e, 'p>,
+    rule: &DomainRule<'s, 't>,
     me: Element<'p, 'r>,
 ) -> Result<Logical, AllocError>
     requires setting { IsSetting asked.now.setting.now }
@@ -50,16 +50,16 @@ fn said_of<'p, 'e, 'r, 't, 's: 'r, 'a>(
         limit: asked.limit,
     };
     let mut variables: Vec<Variable<'p, 'r>> = Vec::new(alloc);
-    evaluate_truth(rule.condition, alloc, &context, &mut variables)
+    evaluate_truth(&context, rule.condition, alloc, &mut variables)
 }
 
 /// What a rule of an entity says at the instance of a row, which has this name.
 fn entity_outcome<'p, 'e, 'r, 't, 's: 'r, 'a>(
     alloc: Global,
-    asked: &Asked<'p, 'e, 'r, 't, 's, 'a>,
+    asked: &Asked<'s, 't, 'r, 'a, 'e, 'p>,
     row: usize,
     name: u64,
-    rule: &DomainRule<'t, 's>,
+    rule: &DomainRule<'s, 't>,
     entity: u32,
 ) -> Result<Logical, AllocError>
     requires setting { IsSetting asked.now.setting.now }
@@ -81,9 +81,9 @@ fn entity_outcome<'p, 'e, 'r, 't, 's: 'r, 'a>(
 /// for none. The table has that type and those defined by it; these are the types of its values.
 fn type_outcome<'p, 'e, 'r, 't, 's: 'r, 'a>(
     alloc: Global,
-    asked: &Asked<'p, 'e, 'r, 't, 's, 'a>,
+    asked: &Asked<'s, 't, 'r, 'a, 'e, 'p>,
     row: usize,
-    rule: &DomainRule<'t, 's>,
+    rule: &DomainRule<'s, 't>,
     declared: u32,
     table: &[bool],
     types: &[u32],
@@ -112,10 +112,10 @@ fn type_outcome<'p, 'e, 'r, 't, 's: 'r, 'a>(
 /// SELF there.
 pub(crate) fn outcome<'p, 'e, 'r, 't, 's: 'r, 'a>(
     alloc: Global,
-    asked: &Asked<'p, 'e, 'r, 't, 's, 'a>,
+    asked: &Asked<'s, 't, 'r, 'a, 'e, 'p>,
     row: usize,
     name: u64,
-    rule: &DomainRule<'t, 's>,
+    rule: &DomainRule<'s, 't>,
     table: &[bool],
     types: &[u32],
 ) -> Result<Logical, AllocError>

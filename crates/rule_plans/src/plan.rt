@@ -16,8 +16,8 @@ use std::alloc::{AllocError, Global};
 
 /// The rules that are tried, and where.
 #[derive(Drop)]
-pub struct Plan<'n, 't, 's> {
-    pub rules: &'n [DomainRule<'t, 's>],
+pub struct Plan<'s, 't, 'n> {
+    pub rules: &'n [DomainRule<'s, 't>],
     /// By form, the numbers of the rules that may have a value of SELF at its instances.
     pub rows: Vec<Vec<usize>>,
     /// By rule, by declaration, whether it is tried for the values of that defined type.
@@ -31,9 +31,9 @@ pub struct Plan<'n, 't, 's> {
 /// The plan of these rules.
 pub fn plan_of<'n, 't, 's>(
     alloc: Global,
-    setting: &Setting<'_, '_, '_, 't, 's, '_>,
-    rules: &'n [DomainRule<'t, 's>],
-) -> Result<Plan<'n, 't, 's>, AllocError>
+    setting: &Setting<'s, 't, '_, '_, '_, '_>,
+    rules: &'n [DomainRule<'s, 't>],
+) -> Result<Plan<'s, 't, 'n>, AllocError>
     requires setting { IsSetting setting.now }
     requires numbered { Every (IsNumbered (schema_in setting.now)) rules.now }
     ensures plan { IfOk result (IsPlan (schema_in setting.now)
@@ -58,7 +58,7 @@ pub fn plan_of<'n, 't, 's>(
 /// The numbers of the defined types of the values at an instance for which rules are tried.
 pub fn types_at<'p, 'e, 'r, 't, 's: 'r, 'a>(
     alloc: Global,
-    setting: &Setting<'p, 'e, 'r, 't, 's, 'a>,
+    setting: &Setting<'s, 't, 'r, 'a, 'e, 'p>,
     plan: &Plan<'_, '_, '_>,
     row: usize,
 ) -> Result<Vec<u32>, AllocError>

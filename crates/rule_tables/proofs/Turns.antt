@@ -7,7 +7,7 @@ use Rattle.express_schemas.specs.Schemas.{Declaration, type, entity, skipped, En
 use Rattle.express_schemas.specs.Profile.{Every}
 use Rattle.type_graphs.specs.Names.{entities_of}
 use Rattle.schema_names.proofs.Rows.{map-joined, take-more}
-use Rattle.data_types.proofs.Single.{mapped-at}
+use Rattle.schema_names.proofs.Items.{mapped-at}
 use Rattle.population_rules.specs.Rules.{InTurn}
 use Rattle.rule_tables.specs.Making.{Adds, of_entity}
 

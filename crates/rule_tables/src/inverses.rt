@@ -59,7 +59,7 @@ fn holder<'a>(inverse: &Inverse<'a>) -> Word<'a>
 }
 
 /// The number of the explicit attribute that an inverse attribute inverts.
-fn inverted_place(sources: &Sources<'_, '_, '_>, inverse: &Inverse<'_>) -> u32
+fn inverted_place<'a>(sources: &Sources<'a, '_, '_>, inverse: &Inverse<'a>) -> u32
     requires sources { AreSources sources.now }
     requires known { IsKnownInverse (schema_at sources.now) (inverse_of inverse.now) }
     ensures { (p : Name) × IsInverted (schema_at sources.now) (inverse_of inverse.now) p
@@ -73,7 +73,7 @@ fn inverted_place(sources: &Sources<'_, '_, '_>, inverse: &Inverse<'_>) -> u32
 
 /// The row of an inverse attribute of this name.
 fn inverse_attribute<'a>(
-    sources: &Sources<'_, '_, 'a>,
+    sources: &Sources<'a, '_, '_>,
     entity: u32,
     name: Word<'a>,
     inverse: &Inverse<'a>,
@@ -96,8 +96,8 @@ fn inverse_attribute<'a>(
 /// Adds an inverse attribute of the entity of this number, unless it is redeclared
 /// (ISO 10303-11, 9.2.3.4).
 fn add_inverse<'a>(
+    sources: &Sources<'a, '_, '_>,
     attributes: &mut Vec<InverseAttribute<'a>>,
-    sources: &Sources<'_, '_, 'a>,
     entity: u32,
     inverse: &Inverse<'a>,
 ) -> Result<(), AllocError>
@@ -117,8 +117,8 @@ fn add_inverse<'a>(
 
 /// Adds those of the entity of this number.
 fn add_inverses<'a>(
+    sources: &Sources<'a, '_, '_>,
     attributes: &mut Vec<InverseAttribute<'a>>,
-    sources: &Sources<'_, '_, 'a>,
     entity: u32,
     inverses: &[Inverse<'a>],
 ) -> Result<(), AllocError>
@@ -130,15 +130,15 @@ fn add_inverses<'a>(
         (map inverse_of inverses.now)) attributes.old.items attributes.new.items) }
 {
     for inverse in inverses {
-        add_inverse(attributes, sources, entity, inverse)?;
+        add_inverse(sources, attributes, entity, inverse)?;
     }
     Ok(())
 }
 
 /// Adds those of the declaration of this number; what is no entity has none.
 fn add_declaration<'a>(
+    sources: &Sources<'a, '_, '_>,
     attributes: &mut Vec<InverseAttribute<'a>>,
-    sources: &Sources<'_, '_, 'a>,
     number: u32,
     declaration: &Declaration<'a>,
 ) -> Result<(), AllocError>
@@ -150,7 +150,7 @@ fn add_declaration<'a>(
 {
     match declaration {
         Declaration::Entity(entity) => {
-            add_inverses(attributes, sources, number, entity.inverse_attributes())
+            add_inverses(sources, attributes, number, entity.inverse_attributes())
         }
         _ => Ok(()),
     }
@@ -158,8 +158,8 @@ fn add_declaration<'a>(
 
 /// Adds those of all declarations, in the order of the text.
 fn add_all<'a>(
+    sources: &Sources<'a, '_, '_>,
     attributes: &mut Vec<InverseAttribute<'a>>,
-    sources: &Sources<'_, '_, 'a>,
     declarations: &[Declaration<'a>],
 ) -> Result<(), AllocError>
     requires sources { AreSources sources.now }
@@ -169,7 +169,7 @@ fn add_all<'a>(
         (declared_inverses (schema_at sources.now)) attributes.old.items attributes.new.items) }
 {
     for i in 0..declarations.len() {
-        add_declaration(attributes, sources, i as u32, &declarations[i])?;
+        add_declaration(sources, attributes, i as u32, &declarations[i])?;
     }
     Ok(())
 }
@@ -181,7 +181,7 @@ fn add_all<'a>(
 /// by the attributes of the one that declares it. An error says that memory ran out.
 pub fn inverse_attributes<'a>(
     alloc: Global,
-    sources: &Sources<'_, '_, 'a>,
+    sources: &Sources<'a, '_, '_>,
 ) -> Result<Vec<InverseAttribute<'a>>, AllocError>
     requires sources { AreSources sources.now }
     ensures seen { IfOk result (λ t. (d : Domain) → IsDomain (schema_at sources.now) d
@@ -193,6 +193,6 @@ pub fn inverse_attributes<'a>(
 {
     let mut attributes = Vec::new(alloc);
     let declarations = sources.known.tables.names.declarations();
-    add_all(&mut attributes, sources, declarations)?;
+    add_all(sources, &mut attributes, declarations)?;
     Ok(attributes)
 }

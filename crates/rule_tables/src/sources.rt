@@ -5,8 +5,8 @@ use taken_attributes::known::Known;
 
 /// What is known of a schema whose names are resolved.
 #[derive(Clone, Copy)]
-pub struct Sources<'r, 't, 'a> {
-    pub known: Known<'r, 't, 'a>,
+pub struct Sources<'a, 't, 'r> {
+    pub known: Known<'a, 't, 'r>,
     /// By declaration, the line of each entity.
     pub lines: &'r [Vec<u32>],
     /// The explicit attributes, in the order of the text.

@@ -25,7 +25,7 @@ pub struct RuleTables<'a> {
 /// out.
 pub fn rule_tables<'a>(
     alloc: Global,
-    sources: &Sources<'_, '_, 'a>,
+    sources: &Sources<'a, '_, '_>,
 ) -> Result<RuleTables<'a>, AllocError>
     requires sources { AreSources sources.now }
     ensures rules { IfOk result (λ t. (d : Domain) → IsDomain (schema_at sources.now) d

@@ -75,8 +75,8 @@ fn add_number(numbers: &mut Vec<u32>, number: Option<u32>) -> Result<(), AllocEr
 
 /// Adds the numbers of the explicit attributes of this name that these entities declare themselves.
 fn add_declared(
-    places: &mut Vec<u32>,
     sources: &Sources<'_, '_, '_>,
+    places: &mut Vec<u32>,
     entities: &[u32],
     name: Word<'_>,
 ) -> Result<(), AllocError>
@@ -96,8 +96,8 @@ fn add_declared(
 /// means.
 fn add_named(
     alloc: Global,
-    places: &mut Vec<u32>,
     sources: &Sources<'_, '_, '_>,
+    places: &mut Vec<u32>,
     entity: u32,
     attribute: Attribute<'_>,
 ) -> Result<(), AllocError>
@@ -111,7 +111,7 @@ fn add_named(
         places.old.items places.new.items) }
 {
     let entities = meant(alloc, &sources.known, entity, attribute)?;
-    add_declared(places, sources, &entities, attribute.name())
+    add_declared(sources, places, &entities, attribute.name())
 }
 
 /// The numbers of the explicit attributes that the names in a rule of the entity of this number
@@ -133,7 +133,7 @@ fn places_of(
 {
     let mut places = Vec::new(alloc);
     for attribute in attributes {
-        add_named(alloc, &mut places, sources, entity, *attribute)?;
+        add_named(alloc, sources, &mut places, entity, *attribute)?;
     }
     Ok(places)
 }
@@ -149,7 +149,7 @@ fn is_checked(naming: Naming) -> bool
 /// The row of a rule, by its number in its clause.
 fn unique_rule<'a>(
     alloc: Global,
-    sources: &Sources<'_, '_, 'a>,
+    sources: &Sources<'a, '_, '_>,
     entity: u32,
     number: u64,
     unique: &Unique<'a>,
@@ -173,8 +173,8 @@ fn unique_rule<'a>(
 /// Adds the rules of the entity of this number.
 fn add_uniques<'a>(
     alloc: Global,
+    sources: &Sources<'a, '_, '_>,
     rules: &mut Vec<UniqueRule<'a>>,
-    sources: &Sources<'_, '_, 'a>,
     entity: u32,
     uniques: &[Unique<'a>],
 ) -> Result<(), AllocError>
@@ -194,8 +194,8 @@ fn add_uniques<'a>(
 /// Adds those of the declaration of this number; what is no entity has none.
 fn add_declaration<'a>(
     alloc: Global,
+    sources: &Sources<'a, '_, '_>,
     rules: &mut Vec<UniqueRule<'a>>,
-    sources: &Sources<'_, '_, 'a>,
     number: u32,
     declaration: &Declaration<'a>,
 ) -> Result<(), AllocError>
@@ -207,7 +207,7 @@ fn add_declaration<'a>(
 {
     match declaration {
         Declaration::Entity(entity) => {
-            add_uniques(alloc, rules, sources, number, entity.uniqueness_rules())
+            add_uniques(alloc, sources, rules, number, entity.uniqueness_rules())
         }
         _ => Ok(()),
     }
@@ -216,8 +216,8 @@ fn add_declaration<'a>(
 /// Adds those of all declarations, in the order of the text.
 fn add_all<'a>(
     alloc: Global,
+    sources: &Sources<'a, '_, '_>,
     rules: &mut Vec<UniqueRule<'a>>,
-    sources: &Sources<'_, '_, 'a>,
     declarations: &[Declaration<'a>],
 ) -> Result<(), AllocError>
     requires sources { AreSources sources.now }
@@ -227,7 +227,7 @@ fn add_all<'a>(
         (statements (schema_at sources.now)) rules.old.items rules.new.items) }
 {
     for i in 0..declarations.len() {
-        add_declaration(alloc, rules, sources, i as u32, &declarations[i])?;
+        add_declaration(alloc, sources, rules, i as u32, &declarations[i])?;
     }
     Ok(())
 }
@@ -239,7 +239,7 @@ fn add_all<'a>(
 /// the attributes of the entities that declare them. An error says that memory ran out.
 pub fn unique_rules<'a>(
     alloc: Global,
-    sources: &Sources<'_, '_, 'a>,
+    sources: &Sources<'a, '_, '_>,
 ) -> Result<Vec<UniqueRule<'a>>, AllocError>
     requires sources { AreSources sources.now }
     ensures seen { IfOk result (λ t. InTurn (IsUniqueRule (schema_at sources.now))
@@ -250,6 +250,6 @@ pub fn unique_rules<'a>(
 {
     let mut rules = Vec::new(alloc);
     let declarations = sources.known.tables.names.declarations();
-    add_all(alloc, &mut rules, sources, declarations)?;
+    add_all(alloc, sources, &mut rules, declarations)?;
     Ok(rules)
 }

@@ -16,7 +16,7 @@ use step_literals::literal::Word;
 
 /// The names of a declaration.
 fn check_declaration<'a>(
-    names: &Names<'_, 'a>,
+    names: &Names<'a, '_>,
     above: &[Vec<u32>],
     declaration: &Declaration<'a>,
 ) -> Result<(), Word<'a>>
@@ -36,7 +36,7 @@ fn check_declaration<'a>(
 ///
 /// The error is the first name in the text that isn't: one that has to be a type or an entity, an
 /// inherited attribute or an inverted one.
-pub fn check_demands<'a>(names: &Names<'_, 'a>, above: &[Vec<u32>]) -> Result<(), Word<'a>>
+pub fn check_demands<'a>(names: &Names<'a, '_>, above: &[Vec<u32>]) -> Result<(), Word<'a>>
     requires { AreAbove (schema_of names.now.schema.now) (graph_of above.now) }
     ensures { Checks (schema_of names.now.schema.now) (demands (schema_of names.now.schema.now))
         result }

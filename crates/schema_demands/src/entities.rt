@@ -35,7 +35,7 @@ use step_literals::literal::Word;
 
 /// A redeclared attribute, of an entity with these names behind SUBTYPE OF (ISO 10303-11, 9.2.3.4).
 fn check_attribute<'a>(
-    names: &Names<'_, 'a>,
+    names: &Names<'a, '_>,
     above: &[Vec<u32>],
     supertypes: &[Word<'a>],
     attribute: &Attribute<'a>,
@@ -56,7 +56,7 @@ fn check_attribute<'a>(
 }
 
 fn check_attributes<'a>(
-    names: &Names<'_, 'a>,
+    names: &Names<'a, '_>,
     above: &[Vec<u32>],
     supertypes: &[Word<'a>],
     attributes: &[Attribute<'a>],
@@ -74,7 +74,7 @@ fn check_attributes<'a>(
 
 /// Explicit attributes, and their data type (ISO 10303-11, 9.2.1.1).
 fn check_explicit<'a>(
-    names: &Names<'_, 'a>,
+    names: &Names<'a, '_>,
     above: &[Vec<u32>],
     supertypes: &[Word<'a>],
     explicit: &Explicit<'a>,
@@ -88,7 +88,7 @@ fn check_explicit<'a>(
 }
 
 fn check_explicits<'a>(
-    names: &Names<'_, 'a>,
+    names: &Names<'a, '_>,
     above: &[Vec<u32>],
     supertypes: &[Word<'a>],
     explicits: &[Explicit<'a>],
@@ -106,7 +106,7 @@ fn check_explicits<'a>(
 
 /// A derived attribute, and its data type (ISO 10303-11, 9.2.1.2).
 fn check_derived<'a>(
-    names: &Names<'_, 'a>,
+    names: &Names<'a, '_>,
     above: &[Vec<u32>],
     supertypes: &[Word<'a>],
     derived: &Derived<'a>,
@@ -120,7 +120,7 @@ fn check_derived<'a>(
 }
 
 fn check_deriveds<'a>(
-    names: &Names<'_, 'a>,
+    names: &Names<'a, '_>,
     above: &[Vec<u32>],
     supertypes: &[Word<'a>],
     deriveds: &[Derived<'a>],
@@ -137,7 +137,7 @@ fn check_deriveds<'a>(
 }
 
 /// The names behind SUBTYPE OF (ISO 10303-11, 9.2.3).
-fn check_subtype_clause<'a>(names: &Names<'_, 'a>, entity: &Entity<'a>) -> Result<(), Word<'a>>
+fn check_subtype_clause<'a>(names: &Names<'a, '_>, entity: &Entity<'a>) -> Result<(), Word<'a>>
     ensures { Checks (schema_of names.now.schema.now)
         (of_subtype_clause (entity_of entity.now)) result }
 {
@@ -146,7 +146,7 @@ fn check_subtype_clause<'a>(names: &Names<'_, 'a>, entity: &Entity<'a>) -> Resul
 
 /// The explicit attributes of an entity (ISO 10303-11, 9.2.1.1).
 fn check_explicit_clauses<'a>(
-    names: &Names<'_, 'a>,
+    names: &Names<'a, '_>,
     above: &[Vec<u32>],
     entity: &Entity<'a>,
 ) -> Result<(), Word<'a>>
@@ -159,7 +159,7 @@ fn check_explicit_clauses<'a>(
 
 /// The derived attributes of an entity (ISO 10303-11, 9.2.1.2).
 fn check_derive_clause<'a>(
-    names: &Names<'_, 'a>,
+    names: &Names<'a, '_>,
     above: &[Vec<u32>],
     entity: &Entity<'a>,
 ) -> Result<(), Word<'a>>
@@ -177,7 +177,7 @@ fn check_derive_clause<'a>(
 
 /// The inverse attributes of an entity (ISO 10303-11, 9.2.1.3).
 fn check_inverse_clause<'a>(
-    names: &Names<'_, 'a>,
+    names: &Names<'a, '_>,
     above: &[Vec<u32>],
     entity: &Entity<'a>,
 ) -> Result<(), Word<'a>>
@@ -190,7 +190,7 @@ fn check_inverse_clause<'a>(
 
 /// The names of an entity (ISO 10303-11, 9.2).
 pub(crate) fn check_entity_declaration<'a>(
-    names: &Names<'_, 'a>,
+    names: &Names<'a, '_>,
     above: &[Vec<u32>],
     entity: &Entity<'a>,
 ) -> Result<(), Word<'a>>

@@ -18,7 +18,7 @@ use step_literals::literal::Word;
 
 /// The attribute that an inverse inverts, asked of an entity (ISO 10303-11, 9.2.1.3).
 fn check_inverted<'a>(
-    names: &Names<'_, 'a>,
+    names: &Names<'a, '_>,
     above: &[Vec<u32>],
     entity: Word<'a>,
     name: Word<'a>,
@@ -37,7 +37,7 @@ fn check_inverted<'a>(
 /// The entity before the name of the inverted attribute, if it is said, and that attribute
 /// (ISO 10303-11, 9.2.1.3).
 fn check_holder<'a>(
-    names: &Names<'_, 'a>,
+    names: &Names<'a, '_>,
     above: &[Vec<u32>],
     inverse: &Inverse<'a>,
 ) -> Result<(), Word<'a>>
@@ -54,7 +54,7 @@ fn check_holder<'a>(
 
 /// An inverse attribute; nothing is asked of a redeclared one (ISO 10303-11, 9.2.1.3).
 fn check_inverse<'a>(
-    names: &Names<'_, 'a>,
+    names: &Names<'a, '_>,
     above: &[Vec<u32>],
     inverse: &Inverse<'a>,
 ) -> Result<(), Word<'a>>
@@ -70,7 +70,7 @@ fn check_inverse<'a>(
 }
 
 pub(crate) fn check_inverses<'a>(
-    names: &Names<'_, 'a>,
+    names: &Names<'a, '_>,
     above: &[Vec<u32>],
     inverses: &[Inverse<'a>],
 ) -> Result<(), Word<'a>>

@@ -13,7 +13,7 @@ use schema_names::names::Names;
 use step_literals::literal::Word;
 
 /// Whether a name is that of a defined type or an entity; else the name.
-pub(crate) fn check_type<'a>(names: &Names<'_, 'a>, word: Word<'a>) -> Result<(), Word<'a>>
+pub(crate) fn check_type<'a>(names: &Names<'a, '_>, word: Word<'a>) -> Result<(), Word<'a>>
     ensures { Checks (schema_of names.now.schema.now) (a_type (capitals word.entry) ∷ []) result }
 {
     match names.find(word) {
@@ -41,7 +41,7 @@ fn is_entity(names: &Names<'_, '_>, word: Word<'_>) -> bool
 }
 
 /// Whether a name is that of an entity; else the name.
-pub(crate) fn check_entity<'a>(names: &Names<'_, 'a>, word: Word<'a>) -> Result<(), Word<'a>>
+pub(crate) fn check_entity<'a>(names: &Names<'a, '_>, word: Word<'a>) -> Result<(), Word<'a>>
     ensures { Checks (schema_of names.now.schema.now) (an_entity (capitals word.entry) ∷ [])
         result }
 {
@@ -53,7 +53,7 @@ pub(crate) fn check_entity<'a>(names: &Names<'_, 'a>, word: Word<'a>) -> Result<
 }
 
 /// Whether each of some names is that of a defined type or an entity; else the first that isn't.
-pub(crate) fn check_types<'a>(names: &Names<'_, 'a>, words: &[Word<'a>]) -> Result<(), Word<'a>>
+pub(crate) fn check_types<'a>(names: &Names<'a, '_>, words: &[Word<'a>]) -> Result<(), Word<'a>>
     ensures { Checks (schema_of names.now.schema.now) (map a_type (names_of words.now)) result }
 {
     for word in words {
@@ -63,7 +63,7 @@ pub(crate) fn check_types<'a>(names: &Names<'_, 'a>, words: &[Word<'a>]) -> Resu
 }
 
 /// Whether each of some names is that of an entity; else the first that isn't.
-pub(crate) fn check_entities<'a>(names: &Names<'_, 'a>, words: &[Word<'a>]) -> Result<(), Word<'a>>
+pub(crate) fn check_entities<'a>(names: &Names<'a, '_>, words: &[Word<'a>]) -> Result<(), Word<'a>>
     ensures { Checks (schema_of names.now.schema.now) (map an_entity (names_of words.now)) result }
 {
     for word in words {

@@ -16,7 +16,7 @@ use step_literals::literal::Word;
 
 /// What a data type names, behind whatever aggregates (ISO 10303-11, 8).
 pub(crate) fn check_data_type<'a>(
-    names: &Names<'_, 'a>,
+    names: &Names<'a, '_>,
     data_type: &DataType<'a>,
 ) -> Result<(), Word<'a>>
     ensures { Checks (schema_of names.now.schema.now)
@@ -35,7 +35,7 @@ pub(crate) fn check_data_type<'a>(
 
 /// What stands behind the `=` of a defined type (ISO 10303-11, 8.3 and 8.4).
 pub(crate) fn check_underlying<'a>(
-    names: &Names<'_, 'a>,
+    names: &Names<'a, '_>,
     underlying: &Underlying<'a>,
 ) -> Result<(), Word<'a>>
     ensures { Checks (schema_of names.now.schema.now)
@@ -50,7 +50,7 @@ pub(crate) fn check_underlying<'a>(
 
 /// The operands of ONEOF (ISO 10303-11, 9.2.5).
 pub(crate) fn check_supertype<'a>(
-    names: &Names<'_, 'a>,
+    names: &Names<'a, '_>,
     supertype: &Supertype<'a>,
 ) -> Result<(), Word<'a>>
     ensures { Checks (schema_of names.now.schema.now)

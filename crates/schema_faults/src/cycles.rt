@@ -19,7 +19,7 @@ use step_literals::literal::Word;
 /// The name of the first declaration on a cycle of a graph.
 fn first_named<'a>(
     alloc: Global,
-    names: &Names<'_, 'a>,
+    names: &Names<'a, '_>,
     edges: &[Vec<u32>],
 ) -> Result<Option<Word<'a>>, AllocError>
     requires graph { IsGraph (graph_of edges.now) }
@@ -40,7 +40,7 @@ fn first_named<'a>(
 /// one.
 pub fn first_own_supertype<'a>(
     alloc: Global,
-    names: &Names<'_, 'a>,
+    names: &Names<'a, '_>,
 ) -> Result<Option<Word<'a>>, AllocError>
     ensures { IfOk result (IsShown (schema_of names.now.schema.now) SupertypeCycle) }
 {
@@ -56,7 +56,7 @@ pub fn first_own_supertype<'a>(
 /// on one.
 pub fn first_own_part<'a>(
     alloc: Global,
-    names: &Names<'_, 'a>,
+    names: &Names<'a, '_>,
 ) -> Result<Option<Word<'a>>, AllocError>
     ensures { IfOk result (IsShown (schema_of names.now.schema.now) TypeCycle) }
 {

@@ -20,7 +20,7 @@ use step_literals::literal::Word;
 pub fn first_duplicate<'a>(
     alloc: Global,
     keys: RandomState,
-    names: &Names<'_, 'a>,
+    names: &Names<'a, '_>,
 ) -> Result<Option<Word<'a>>, AllocError>
     ensures { IfOk result (IsShown (schema_of names.now.schema.now) DuplicateName) }
 {

@@ -69,7 +69,7 @@ fn is_without(graph: &TypeGraph<'_, '_>) -> bool
 fn found_without_rules<'r, 't, 's: 'r>(
     alloc: Global,
     keys: RandomState,
-    graph: &'r TypeGraph<'t, 's>,
+    graph: &'r TypeGraph<'s, 't>,
     tables: &SchemaTables,
     settings: &SettingTables<'r, 's>,
     exchange: &'r Exchange<'_>,
@@ -100,7 +100,7 @@ fn found_without_rules<'r, 't, 's: 'r>(
 fn found_by_population<'r, 't, 's: 'r>(
     alloc: Global,
     keys: RandomState,
-    graph: &'r TypeGraph<'t, 's>,
+    graph: &'r TypeGraph<'s, 't>,
     tables: &SchemaTables,
     settings: &SettingTables<'r, 's>,
     exchange: &'r Exchange<'_>,
@@ -136,7 +136,7 @@ fn found_by_population<'r, 't, 's: 'r>(
 fn found_by_tables<'r, 't, 's: 'r>(
     alloc: Global,
     keys: RandomState,
-    graph: &'r TypeGraph<'t, 's>,
+    graph: &'r TypeGraph<'s, 't>,
     tables: &'r SchemaTables,
     exchange: &'r Exchange<'_>,
 ) -> Result<Found<'s>, AllocError>
@@ -161,7 +161,7 @@ fn found_by_tables<'r, 't, 's: 'r>(
 pub fn file_findings<'s>(
     alloc: Global,
     keys: RandomState,
-    graph: &TypeGraph<'_, 's>,
+    graph: &TypeGraph<'s, '_>,
     exchange: &Exchange<'_>,
 ) -> Result<Found<'s>, AllocError>
     requires made { IsMade graph.now.types }

@@ -48,11 +48,11 @@ pub(crate) fn rules_are_said(
 /// What the domain rules of a schema say of a population.
 fn domain_findings<'e, 'r, 't, 's: 'r, 'a>(
     alloc: Global,
-    domain: &DomainTables<'t, 's>,
+    domain: &DomainTables<'s, 't>,
     firsts: &[u32],
     tables: &SchemaTables,
     settings: &SettingTables<'r, 's>,
-    extents: &Extents<'e, 'r, 't, 's, 'a>,
+    extents: &Extents<'s, 't, 'r, 'a, 'e>,
 ) -> Result<RuleReport<'s>, AllocError>
     requires ready { AreReady extents.now.population.now.types.now extents.now.rules.now domain.now
         firsts.now tables.now settings.now }
@@ -85,10 +85,10 @@ fn domain_findings<'e, 'r, 't, 's: 'r, 'a>(
 pub(crate) fn rule_findings<'r, 't, 's: 'r>(
     alloc: Global,
     keys: RandomState,
-    graph: &TypeGraph<'t, 's>,
+    graph: &TypeGraph<'s, 't>,
     tables: &SchemaTables,
     settings: &SettingTables<'r, 's>,
-    population: &Population<'r, 't, 's, '_>,
+    population: &Population<'s, 't, 'r, '_>,
 ) -> Result<RuleReport<'s>, AllocError>
     requires ready { AreReady population.now.types.now graph.now.rules graph.now.domain
         graph.now.judged.firsts.items tables.now settings.now }

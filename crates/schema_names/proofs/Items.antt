@@ -1,6 +1,10 @@
 -- Rows of numbers, and the items that they stand for.
 use Rattle.std.specs.Prelude.{◌≡◌, ℕ, List, [], ◌∷◌, ◌++◌, Option, Some, map, length, get_or, slice_get}
+use Rattle.std.specs.Option.{option_map}
 use Rattle.std.proofs.Common.{refl, ap, sym, subst, ◌∙◌, zero, suc}
+use Rattle.std.proofs.lemmas.List.{length-map}
+use Rattle.std.proofs.lemmas.Option.{slice_get-map}
+use Rattle.digraph.specs.Graphs.{Graph}
 use Rattle.schema_names.proofs.Rows.{map-joined}
 use Rattle.express_schemas.specs.Schemas.{Declaration}
 use Rattle.schema_names.specs.Numbers.{AreAt, AreRowsOf}
@@ -14,6 +18,11 @@ stays (y ∷ xs) ys (suc k) x h = stays xs ys k x h
 pub at-end : {A : Type 0} (xs : List A) (x : A) → slice_get (xs ++ x ∷ []) (length xs) ≡ Some x
 at-end [] x = refl
 at-end (y ∷ xs) x = at-end xs x
+
+-- what an item is mapped to stands at its number
+pub mapped-at : {A B : Type 0} (f : A → B) (xs : List A) (i : ℕ) (x : A) → slice_get xs i ≡ Some x
+    → slice_get (map f xs) i ≡ Some (f x)
+mapped-at f xs i x e = slice_get-map f xs i ∙ ap (option_map f) e
 
 -- the head and the tail of rows that are told alike
 pub head-is : {A : Type 0} (x y : A) (xs ys : List A) → (x ∷ xs) ≡ (y ∷ ys) → x ≡ y
@@ -51,6 +60,12 @@ joined-at all row rest ps qs h k =
     ∙ ap (λ ys. map Some ps ++ ys) k ∙ sym (map-joined Some ps qs)
 
 -- rows of declarations
+pub rows-same : {A : Type 0} (of : Declaration → List A) (all : List A) (ds : List Declaration) (rows : Graph)
+    → AreRowsOf of all ds rows → length rows ≡ length ds
+rows-same of all ds rows h =
+    sym (length-map rows (map (slice_get all))) ∙ ap length h
+    ∙ length-map ds (λ (d : Declaration). map Some (of d))
+
 pub stay-rows : {A : Type 0} (of : Declaration → List A) (all more : List A) (ds : List Declaration)
     (rows : List (List ℕ)) → AreRowsOf of all ds rows → AreRowsOf of (all ++ more) ds rows
 stay-rows of all more [] [] h = refl

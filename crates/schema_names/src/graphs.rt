@@ -97,7 +97,7 @@ fn add_number(row: &mut Vec<u32>, number: Option<u32>) -> Result<(), AllocError>
 /// The numbers of what these names stand for, in order.
 fn numbers_of<'a>(
     alloc: Global,
-    names: &Names<'_, 'a>,
+    names: &Names<'a, '_>,
     words: &[Word<'a>],
 ) -> Result<Vec<u32>, AllocError>
     ensures { IfOk result (λ row. row.items

@@ -42,7 +42,7 @@ type Numbers<'a> = IndexMap<Word<'a>, u32, RandomState>;
 /// The names of the types and entities of a schema. Each stands for the first declaration that has
 /// it, and has its number, its place in the text counted from 0 (ISO 10303-11, 10.3).
 #[derive(Drop)]
-pub struct Names<'t, 'a> {
+pub struct Names<'a, 't> {
     pub schema: &'t SchemaTree<'a>,
     numbers: Numbers<'a>,
     pub ghost few: { length (schema_of schema.now).declarations < 2 ^ 32 },
@@ -95,7 +95,7 @@ fn numbers_of<'a>(
     Ok(numbers)
 }
 
-impl<'t, 'a> Names<'t, 'a> {
+impl<'a, 't> Names<'a, 't> {
     /// The names of this schema, hashed by these keys.
     ///
     /// Where it has more than 2^32 - 1 declarations there is no memory for it.
@@ -103,7 +103,7 @@ impl<'t, 'a> Names<'t, 'a> {
         alloc: Global,
         keys: RandomState,
         schema: &'t SchemaTree<'a>,
-    ) -> Result<Names<'t, 'a>, AllocError>
+    ) -> Result<Names<'a, 't>, AllocError>
         ensures { IfOk result (λ names. names.schema.now ≡ schema.entry.now) }
     {
         if schema.declarations.len() > MOST_DECLARATIONS {

@@ -65,7 +65,7 @@ impl SchemaTables {
     }
 
     /// What is asked of values.
-    pub fn bases<'r, 't, 'a>(&'r self, types: &'r ResolvedTypes<'t, 'a>) -> Bases<'r, 't, 'a>
+    pub fn bases<'r, 't, 'a>(&'r self, types: &'r ResolvedTypes<'a, 't>) -> Bases<'a, 't, 'r>
         requires made { IsMade types.now }
         requires tables { AreTables types.now self.now }
         ensures bases { AreBases result }
@@ -80,8 +80,8 @@ impl SchemaTables {
     /// What is asked of instances.
     pub fn knowledge<'r, 't, 'a>(
         &'r self,
-        types: &'r ResolvedTypes<'t, 'a>,
-    ) -> Knowledge<'r, 't, 'a>
+        types: &'r ResolvedTypes<'a, 't>,
+    ) -> Knowledge<'a, 't, 'r>
         requires made { IsMade types.now }
         requires tables { AreTables types.now self.now }
         ensures known { AreKnown result }

@@ -23,8 +23,8 @@ pub(crate) struct Sought {
 
 /// A schema, and the defined types whose values are sought.
 #[derive(Drop)]
-pub(crate) struct Seeker<'p, 'n, 'r, 't, 'a> {
-    pub names: &'n Names<'t, 'a>,
+pub(crate) struct Seeker<'a, 't, 'n, 'r, 'p> {
+    pub names: &'n Names<'a, 't>,
     pub types: &'p ValueTypes<'r>,
     /// The data types of the schema.
     pub forms: &'n [Form],
@@ -52,7 +52,7 @@ fn named_at(forms: &[Form], number: u32) -> Option<u32>
     }
 }
 
-impl<'p, 'n, 'r, 't, 'a> Seeker<'p, 'n, 'r, 't, 'a> {
+impl<'a, 't, 'n, 'r, 'p> Seeker<'a, 't, 'n, 'r, 'p> {
     /// The data type of a number.
     pub(crate) fn by_number(&self, number: u32) -> Sought
         ensures { result ≡ coded.by_number self.now number }

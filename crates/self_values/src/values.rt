@@ -109,8 +109,8 @@ fn uses_at(uses: &Uses, number: u32) -> &[AttributeUse]
 
 /// Adds the values that are sought in the value at a position, where there is one.
 fn add_at<'p, 'r>(
+    seeker: &Seeker<'_, '_, '_, 'r, 'p>,
     found: &mut Found<'p, 'r>,
-    seeker: &Seeker<'p, '_, 'r, '_, '_>,
     sought: Sought,
     base: Base,
     values: &Slots<'p, 'r>,
@@ -120,15 +120,15 @@ fn add_at<'p, 'r>(
         found.old found.new) }
 {
     match values.item(position) {
-        Some(value) => add_values(found, seeker, sought, base, value),
+        Some(value) => add_values(seeker, found, sought, base, value),
         None => Ok(()),
     }
 }
 
 /// .. by the data type of a declaration, where it is one of the attribute of a place.
 fn add_use<'p, 'r>(
+    seeker: &Seeker<'_, '_, '_, 'r, 'p>,
     found: &mut Found<'p, 'r>,
-    seeker: &Seeker<'p, '_, 'r, '_, '_>,
     base: Base,
     values: &Slots<'p, 'r>,
     position: usize,
@@ -140,7 +140,7 @@ fn add_use<'p, 'r>(
 {
     if each.place == place {
         let sought = seeker.by_number(each.data_type);
-        add_at(found, seeker, sought, base, values, position)
+        add_at(seeker, found, sought, base, values, position)
     } else {
         Ok(())
     }
@@ -148,8 +148,8 @@ fn add_use<'p, 'r>(
 
 /// .. by those of the declarations by an entity.
 fn add_uses<'p, 'r>(
+    seeker: &Seeker<'_, '_, '_, 'r, 'p>,
     found: &mut Found<'p, 'r>,
-    seeker: &Seeker<'p, '_, 'r, '_, '_>,
     base: Base,
     values: &Slots<'p, 'r>,
     position: usize,
@@ -160,15 +160,15 @@ fn add_uses<'p, 'r>(
         (of_place place uses.now)) found.old found.new) }
 {
     for i in 0..uses.len() {
-        add_use(found, seeker, base, values, position, place, uses[i])?;
+        add_use(seeker, found, base, values, position, place, uses[i])?;
     }
     Ok(())
 }
 
 /// .. by those of the declarations by the types of the instance.
 fn add_place<'p, 'r>(
+    seeker: &Seeker<'_, '_, '_, 'r, 'p>,
     found: &mut Found<'p, 'r>,
-    seeker: &Seeker<'p, '_, 'r, '_, '_>,
     asked: &Asked<'_>,
     values: &Slots<'p, 'r>,
     position: usize,
@@ -181,7 +181,7 @@ fn add_place<'p, 'r>(
     let types = asked.types;
     for i in 0..types.len() {
         let uses = uses_at(asked.uses, types[i]);
-        add_uses(found, seeker, base, values, position, place, uses)?;
+        add_uses(seeker, found, base, values, position, place, uses)?;
     }
     Ok(())
 }
@@ -189,8 +189,8 @@ fn add_place<'p, 'r>(
 /// Adds the values that are sought in the values of an instance, which are those of these
 /// attributes.
 fn add_slots<'p, 'r>(
+    seeker: &Seeker<'_, '_, '_, 'r, 'p>,
     found: &mut Found<'p, 'r>,
-    seeker: &Seeker<'p, '_, 'r, '_, '_>,
     asked: &Asked<'_>,
     slots: &[SlotForm],
     values: &Slots<'p, 'r>,
@@ -199,15 +199,15 @@ fn add_slots<'p, 'r>(
         found.new) }
 {
     for i in 0..slots.len() {
-        add_place(found, seeker, asked, values, i, slots[i].place)?;
+        add_place(seeker, found, asked, values, i, slots[i].place)?;
     }
     Ok(())
 }
 
 /// Adds the values of some defined types that the instance of a row has.
 fn add_values_of<'p, 'e, 'r, 't, 's: 'r, 'a>(
+    setting: &Setting<'s, 't, 'r, 'a, 'e, 'p>,
     found: &mut Found<'p, 'r>,
-    setting: &Setting<'p, 'e, 'r, 't, 's, 'a>,
     row: usize,
     wanted: &[bool],
 ) -> Result<(), AllocError>
@@ -234,7 +234,7 @@ fn add_values_of<'p, 'e, 'r, 't, 's: 'r, 'a>(
         types: types_at(forms, instance.form),
     };
     let slots = slots_at(forms, instance.form);
-    add_slots(found, &seeker, &asked, slots, &instance.values)
+    add_slots(&seeker, found, &asked, slots, &instance.values)
 }
 
 /// Whether the instance of a row is of an entity.
@@ -257,7 +257,7 @@ pub fn is_of_entity(population: &Population<'_, '_, '_, '_>, row: usize, entity:
 /// An error says that memory ran out.
 pub fn self_values<'p, 'e, 'r, 't, 's: 'r, 'a>(
     alloc: Global,
-    setting: &Setting<'p, 'e, 'r, 't, 's, 'a>,
+    setting: &Setting<'s, 't, 'r, 'a, 'e, 'p>,
     row: usize,
     wanted: &[bool],
 ) -> Result<Vec<Element<'p, 'r>>, AllocError>
@@ -273,7 +273,7 @@ pub fn self_values<'p, 'e, 'r, 't, 's: 'r, 'a>(
         values: Vec::new(alloc),
         types: Vec::new(alloc),
     };
-    add_values_of(&mut found, setting, row, wanted)?;
+    add_values_of(setting, &mut found, row, wanted)?;
     let Found { values, .. } = found;
     Ok(values)
 }
@@ -284,7 +284,7 @@ pub fn self_values<'p, 'e, 'r, 't, 's: 'r, 'a>(
 /// An error says that memory ran out.
 pub fn value_types<'p, 'e, 'r, 't, 's: 'r, 'a>(
     alloc: Global,
-    setting: &Setting<'p, 'e, 'r, 't, 's, 'a>,
+    setting: &Setting<'s, 't, 'r, 'a, 'e, 'p>,
     row: usize,
     wanted: &[bool],
 ) -> Result<Vec<u32>, AllocError>
@@ -298,7 +298,7 @@ pub fn value_types<'p, 'e, 'r, 't, 's: 'r, 'a>(
         values: Vec::new(alloc),
         types: Vec::new(alloc),
     };
-    add_values_of(&mut found, setting, row, wanted)?;
+    add_values_of(setting, &mut found, row, wanted)?;
     let Found { types, .. } = found;
     Ok(types)
 }

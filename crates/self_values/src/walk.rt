@@ -33,8 +33,8 @@ fn is_whole(kind: Kind) -> bool
 
 /// Adds the value itself, where it is sought.
 fn add_itself<'p, 'r>(
+    seeker: &Seeker<'_, '_, '_, 'r, 'p>,
     found: &mut Found<'p, 'r>,
-    seeker: &Seeker<'p, '_, 'r, '_, '_>,
     declared: Option<u32>,
     base: Base,
     value: Slot<'p, 'r>,
@@ -54,8 +54,8 @@ fn add_itself<'p, 'r>(
 /// values. It is worth what it is by its base.
 #[cycle(walk)]
 pub(crate) fn add_values<'p, 'r>(
+    seeker: &Seeker<'_, '_, '_, 'r, 'p>,
     found: &mut Found<'p, 'r>,
-    seeker: &Seeker<'p, '_, 'r, '_, '_>,
     sought: Sought,
     base: Base,
     value: Slot<'p, 'r>,
@@ -63,15 +63,15 @@ pub(crate) fn add_values<'p, 'r>(
     ensures { OnOk result (Adds (coded_values seeker.now sought base value.entry) found.old found.new) }
 {
     let node = value.node();
-    add_itself(found, seeker, sought.declared, base, value)?;
-    add_inside(found, seeker, sought, base, node)
+    add_itself(seeker, found, sought.declared, base, value)?;
+    add_inside(seeker, found, sought, base, node)
 }
 
 /// .. those inside its outermost part.
 #[cycle(walk)]
 fn add_inside<'p, 'r>(
+    seeker: &Seeker<'_, '_, '_, 'r, 'p>,
     found: &mut Found<'p, 'r>,
-    seeker: &Seeker<'p, '_, 'r, '_, '_>,
     sought: Sought,
     base: Base,
     node: Node<'p, 'r>,
@@ -83,18 +83,18 @@ fn add_inside<'p, 'r>(
         Node::Bits(_) | Node::Element(_) | Node::Reference(_) => Ok(()),
         Node::Typed(word, inner) => {
             let within = seeker.by_name(word);
-            add_values(found, seeker, within, within.base, inner)
+            add_values(seeker, found, within, within.base, inner)
         }
-        Node::Sequence(values) => add_elements(found, seeker, sought, base, &values),
-        Node::Bag(values) => add_elements(found, seeker, sought, base, &values),
+        Node::Sequence(values) => add_elements(seeker, found, sought, base, &values),
+        Node::Bag(values) => add_elements(seeker, found, sought, base, &values),
     }
 }
 
 /// .. those in the elements of an aggregate.
 #[cycle(walk)]
 fn add_elements<'p, 'r>(
+    seeker: &Seeker<'_, '_, '_, 'r, 'p>,
     found: &mut Found<'p, 'r>,
-    seeker: &Seeker<'p, '_, 'r, '_, '_>,
     sought: Sought,
     base: Base,
     values: &Slots<'p, 'r>,
@@ -103,8 +103,8 @@ fn add_elements<'p, 'r>(
 {
     let within = seeker.elements_of(sought);
     add_each(
-        found,
         seeker,
+        found,
         within,
         seeker.types.of_elements(base),
         values,
@@ -114,8 +114,8 @@ fn add_elements<'p, 'r>(
 /// .. those in each of these values.
 #[cycle(walk)]
 fn add_each<'p, 'r>(
+    seeker: &Seeker<'_, '_, '_, 'r, 'p>,
     found: &mut Found<'p, 'r>,
-    seeker: &Seeker<'p, '_, 'r, '_, '_>,
     sought: Sought,
     base: Base,
     values: &Slots<'p, 'r>,
@@ -123,7 +123,7 @@ fn add_each<'p, 'r>(
     ensures { OnOk result (Adds (coded_each seeker.now sought base values.now) found.old found.new) }
 {
     for i in 0..values.len() {
-        add_values(found, seeker, sought, base, values.at(i))?;
+        add_values(seeker, found, sought, base, values.at(i))?;
     }
     Ok(())
 }

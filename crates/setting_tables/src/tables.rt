@@ -41,7 +41,7 @@ impl<'r, 'a: 'r> SettingTables<'r, 'a> {
     pub fn of<'t>(
         alloc: Global,
         keys: RandomState,
-        types: &'r ResolvedTypes<'t, 'a>,
+        types: &'r ResolvedTypes<'a, 't>,
         tables: &'r SchemaTables,
     ) -> Result<SettingTables<'r, 'a>, AllocError>
         requires made { IsMade types.now }

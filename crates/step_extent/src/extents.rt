@@ -25,8 +25,8 @@ use unchecked_parts::list::Label;
 /// A population by the rules of its schema that speak of all of it: who refers to whom, by each
 /// attribute that an inverse attribute inverts.
 #[derive(Drop)]
-pub struct Extents<'e, 'r, 't, 's, 'a> {
-    pub population: &'e Population<'r, 't, 's, 'a>,
+pub struct Extents<'s, 't, 'r, 'a, 'e> {
+    pub population: &'e Population<'s, 't, 'r, 'a>,
     pub rules: &'e RuleTables<'s>,
     /// For each inverse attribute, those that refer.
     pub(crate) referrers: Vec<Referrers>,
@@ -55,7 +55,7 @@ fn all_referrers(
     Ok(all)
 }
 
-impl<'e, 'r, 't, 's, 'a> Extents<'e, 'r, 't, 's, 'a> {
+impl<'s, 't, 'r, 'a, 'e> Extents<'s, 't, 'r, 'a, 'e> {
     /// A population by these rules, which are those of its schema.
     ///
     /// It goes over the instances once for each inverse attribute, and over the values that are
@@ -63,9 +63,9 @@ impl<'e, 'r, 't, 's, 'a> Extents<'e, 'r, 't, 's, 'a> {
     /// comes where memory runs out.
     pub fn build(
         alloc: Global,
-        population: &'e Population<'r, 't, 's, 'a>,
+        population: &'e Population<'s, 't, 'r, 'a>,
         rules: &'e RuleTables<'s>,
-    ) -> Result<Extents<'e, 'r, 't, 's, 'a>, AllocError>
+    ) -> Result<Extents<'s, 't, 'r, 'a, 'e>, AllocError>
         requires numbered { AreNumbered (schema_of population.now.types.now.names.schema.now)
             rules.now }
         ensures population { IfOk result (λ x. x.population.now ≡ population.entry.now) }

@@ -15,7 +15,7 @@ ghost use Rattle.step_extent.specs.Places.{place_of_inverse, number_from};
 use crate::extents::Extents;
 use step_literals::literal::Word;
 
-impl<'e, 'r, 't, 's, 'a> Extents<'e, 'r, 't, 's, 'a> {
+impl<'s, 't, 'r, 'a, 'e> Extents<'s, 't, 'r, 'a, 'e> {
     /// Whether the inverse attribute of this number is the one of this name that the entity of this
     /// name declares.
     fn is_named(&self, number: usize, entity: Word<'_>, attribute: Word<'_>) -> bool

@@ -65,7 +65,7 @@ impl Pins {
     {
         let classes = Classes::of(alloc, table)?;
         let mut names = self.names.clone()?;
-        pin_elements(alloc, &mut names, population, Elements::Beside(&classes))?;
+        pin_elements(alloc, population, &mut names, Elements::Beside(&classes))?;
         Ok(Pins { names })
     }
 }

@@ -113,8 +113,8 @@ fn pin_row(
 /// Pins what instances pin by their types, by uniqueness rules, and by SETs and BAGs.
 pub(crate) fn pin_by_forms(
     alloc: Global,
-    pinned: &mut BTreeSet<u64>,
     population: &Population<'_, '_, '_, '_>,
+    pinned: &mut BTreeSet<u64>,
     rules: &RuleTables<'_>,
     chosen: &Chosen,
 ) -> Result<(), AllocError>

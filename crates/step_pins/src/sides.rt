@@ -28,8 +28,8 @@ fn pin_side(pinned: &mut BTreeSet<u64>, name: u64, held: &[u64]) -> Result<(), A
 
 /// The same for the inverse attributes of these numbers.
 fn pin_sides_of(
-    pinned: &mut BTreeSet<u64>,
     extents: &Extents<'_, '_, '_, '_, '_>,
+    pinned: &mut BTreeSet<u64>,
     name: u64,
     numbers: &[usize],
 ) -> Result<(), AllocError>
@@ -48,8 +48,8 @@ fn pin_sides_of(
 /// inverse attribute, and those that are referred to so.
 pub(crate) fn pin_sides(
     alloc: Global,
-    pinned: &mut BTreeSet<u64>,
     extents: &Extents<'_, '_, '_, '_, '_>,
+    pinned: &mut BTreeSet<u64>,
 ) -> Result<(), AllocError>
     requires numbered { AreNumbered
         (schema_of extents.now.population.now.types.now.names.schema.now) extents.now.rules.now }
@@ -63,8 +63,8 @@ pub(crate) fn pin_sides(
     for row in 0..population.len() {
         let instance = population.instance(row);
         pin_sides_of(
-            pinned,
             extents,
+            pinned,
             instance.name,
             row_at(&numbers, instance.form),
         )?;

@@ -52,8 +52,8 @@ pub fn pins(
 {
     let population = extents.population;
     let mut names = BTreeSet::new(alloc);
-    pin_by_forms(alloc, &mut names, population, extents.rules, chosen)?;
-    pin_sides(alloc, &mut names, extents)?;
-    pin_elements(alloc, &mut names, population, Elements::Inside)?;
+    pin_by_forms(alloc, population, &mut names, extents.rules, chosen)?;
+    pin_sides(alloc, extents, &mut names)?;
+    pin_elements(alloc, population, &mut names, Elements::Inside)?;
     Ok(Pins { names })
 }

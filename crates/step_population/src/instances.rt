@@ -21,7 +21,7 @@ pub struct InstanceRow<'p, 'r> {
     pub values: Slots<'p, 'r>,
 }
 
-impl<'r, 't, 's, 'a> Population<'r, 't, 's, 'a> {
+impl<'s, 't, 'r, 'a> Population<'s, 't, 'r, 'a> {
     /// The forms that its instances have, each once. It takes no memory.
     pub fn forms(&self) -> &[Form]
         ensures forms { result.now ≡ self.now.rows.forms.items }

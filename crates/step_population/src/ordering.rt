@@ -44,8 +44,8 @@ pub struct Order<'a> {
 
 /// Adds the name of the type of this number.
 fn push_type<'a>(
+    names: &Names<'a, '_>,
     types: &mut Vec<Word<'a>>,
-    names: &Names<'_, 'a>,
     number: u32,
 ) -> Result<(), AllocError>
     requires { HasNumber (schema_of names.now.schema.now)
@@ -62,7 +62,7 @@ fn push_type<'a>(
 /// The names of the types of these numbers.
 fn type_words<'a>(
     alloc: Global,
-    names: &Names<'_, 'a>,
+    names: &Names<'a, '_>,
     types: &[u32],
 ) -> Result<Vec<Word<'a>>, AllocError>
     requires { Every (λ i. HasNumber (schema_of names.now.schema.now)
@@ -72,7 +72,7 @@ fn type_words<'a>(
 {
     let mut words = Vec::with_capacity(alloc, types.len())?;
     for number in types {
-        push_type(&mut words, names, *number)?;
+        push_type(names, &mut words, *number)?;
     }
     Ok(words)
 }
@@ -80,7 +80,7 @@ fn type_words<'a>(
 /// The names of the types of these numbers, in the order of their letters.
 fn ordered_types<'a>(
     alloc: Global,
-    names: &Names<'_, 'a>,
+    names: &Names<'a, '_>,
     types: &[u32],
 ) -> Result<Vec<Word<'a>>, AllocError>
     requires { Every (λ i. HasNumber (schema_of names.now.schema.now)
@@ -149,7 +149,7 @@ fn positions_of(
 /// The order of the values of instances of this form.
 fn order_of<'a>(
     alloc: Global,
-    names: &Names<'_, 'a>,
+    names: &Names<'a, '_>,
     own: &[Vec<u32>],
     form: &Form,
 ) -> Result<Order<'a>, AllocError>
@@ -166,7 +166,7 @@ fn order_of<'a>(
 /// The order of each of these forms.
 pub(crate) fn orders<'a>(
     alloc: Global,
-    names: &Names<'_, 'a>,
+    names: &Names<'a, '_>,
     own: &[Vec<u32>],
     forms: &[Form],
 ) -> Result<Vec<Order<'a>>, AllocError>

@@ -174,7 +174,7 @@ fn heads<'s: 'c, 'c>(
     Ok(heads)
 }
 
-impl<'r, 't, 's: 'r, 'a> Population<'r, 't, 's, 'a> {
+impl<'s: 'r, 't, 'r, 'a> Population<'s, 't, 'r, 'a> {
     /// The population as rows, in the order of the file: of each instance its name, its data
     /// section, its types in the order of their letters, and the values of the attributes that they
     /// declare, type by type, those of each as it declares them. Names are hashed by these keys.

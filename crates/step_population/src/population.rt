@@ -10,8 +10,8 @@ use step_values::rows::ValueRows;
 
 /// The typed population of an exchange structure that conforms to a schema.
 #[derive(Drop)]
-pub struct Population<'r, 't, 's, 'a> {
-    pub types: &'r ResolvedTypes<'t, 's>,
+pub struct Population<'s, 't, 'r, 'a> {
+    pub types: &'r ResolvedTypes<'s, 't>,
     pub exchange: &'r Exchange<'a>,
     /// The forms of its instances.
     pub rows: Rows,

@@ -44,7 +44,7 @@ fn form_number(rows: &Rows, row: usize) -> Option<u32>
     }
 }
 
-impl<'r, 't, 's, 'a> Population<'r, 't, 's, 'a> {
+impl<'s, 't, 'r, 'a> Population<'s, 't, 'r, 'a> {
     /// How many instances there are.
     pub fn len(&self) -> usize
         ensures { result ≡ length (population_seen self.now) }

@@ -5,8 +5,8 @@ use declared_attributes::attributes::Attributes;
 
 /// What is known of a schema whose names are resolved.
 #[derive(Clone, Copy)]
-pub struct Known<'r, 't, 'a> {
-    pub tables: Tables<'r, 't, 'a>,
+pub struct Known<'a, 't, 'r> {
+    pub tables: Tables<'a, 't, 'r>,
     /// By declaration, for an entity the numbers of its proper supertypes.
     pub above: &'r [Vec<u32>],
     /// By declaration, for an entity the numbers of its proper subtypes.

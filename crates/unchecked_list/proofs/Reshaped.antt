@@ -14,11 +14,10 @@ use Rattle.type_graphs.specs.Ranks.{derived_name}
 use Rattle.type_graphs.specs.Parts.{HasOtherShape}
 use Rattle.type_graphs.proofs.Lists.{among-map, every-at}
 use Rattle.schema_names.specs.Numbers.{HasNumber, IsAt, AreAt, AreRowsOf}
-use Rattle.schema_names.proofs.Items.{stays, front-at, back-at, row-at}
+use Rattle.schema_names.proofs.Items.{stays, front-at, back-at, row-at, mapped-at}
 use Rattle.schema_names.proofs.Edges.{within}
 use Rattle.attribute_places.proofs.Distinct.{at-among}
 use Rattle.data_types.specs.Numbered.{whole_types, all_data_types, attribute_types, explicit_types, derived_types, inverse_types}
-use Rattle.data_types.proofs.Single.{mapped-at}
 use Rattle.alike_types.specs.Shaped.{IsKnown}
 use Rattle.alike_types.specs.Laws.{DataTypesAreKnown}
 use Rattle.declared_attributes.specs.Redeclaring.{IsRedeclaredAt}

@@ -10,7 +10,7 @@ use Rattle.type_graphs.specs.Faults.{IsResolved}
 use Rattle.schema_names.specs.Numbers.{HasNumber, IsAt}
 use Rattle.schema_names.proofs.Numbers.{stands-at}
 use Rattle.attribute_places.proofs.OwnNumbers.{own-number-of}
-use Rattle.data_types.proofs.Single.{mapped-at}
+use Rattle.schema_names.proofs.Items.{mapped-at}
 
 pub number-here : (s : Schema) → IsResolved s → (i : ℕ) (d : Declaration) (n : Name) → IsAt s i d
     → declared_name d ≡ Some n → HasNumber s n i

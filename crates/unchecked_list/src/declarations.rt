@@ -25,8 +25,8 @@ use unchecked_parts::list::{Label, Unchecked};
 /// Adds those of the defined type of this number (ISO 10303-11, 9.1).
 fn add_type<'a>(
     alloc: Global,
+    findings: &Findings<'a, '_, '_>,
     list: &mut Vec<Unchecked>,
-    findings: &Findings<'_, '_, 'a>,
     number: u32,
     declared: &TypeDeclaration<'a>,
 ) -> Result<(), AllocError>
@@ -38,15 +38,15 @@ fn add_type<'a>(
     let name = declared.name;
     add_underlying(alloc, list, Label::Of(name), &declared.underlying)?;
     let holder = Holder { number, name };
-    add_type_rules(alloc, list, findings, holder, declared.domain_rules())
+    add_type_rules(alloc, findings, list, holder, declared.domain_rules())
 }
 
 /// Adds those of the uniqueness rules and the domain rules of the entity of this number
 /// (ISO 10303-11, 9.2.2).
 fn add_constraints<'a>(
     alloc: Global,
+    findings: &Findings<'a, '_, '_>,
     list: &mut Vec<Unchecked>,
-    findings: &Findings<'_, '_, 'a>,
     number: u32,
     entity: &Entity<'a>,
 ) -> Result<(), AllocError>
@@ -57,16 +57,16 @@ fn add_constraints<'a>(
 {
     let name = entity.name;
     let holder = Holder { number, name };
-    add_uniques(alloc, list, findings, holder, entity.uniqueness_rules())?;
-    add_entity_rules(alloc, list, findings, holder, entity.domain_rules())
+    add_uniques(alloc, findings, list, holder, entity.uniqueness_rules())?;
+    add_entity_rules(alloc, findings, list, holder, entity.domain_rules())
 }
 
 /// Adds those of the entity of this number, whose first derived attribute has the number `first`
 /// (ISO 10303-11, 9.2).
 fn add_entity<'a>(
     alloc: Global,
+    findings: &Findings<'a, '_, '_>,
     list: &mut Vec<Unchecked>,
-    findings: &Findings<'_, '_, 'a>,
     number: u32,
     first: u32,
     entity: &Entity<'a>,
@@ -78,17 +78,17 @@ fn add_entity<'a>(
         (entity_of entity.now)) (unchecked_in list.old.items) (unchecked_in list.new.items)) }
 {
     add_supertype(alloc, list, entity.name, &entity.supertype)?;
-    add_explicit_attributes(alloc, list, findings, number, entity)?;
-    add_derived_attributes(alloc, list, findings, number, first, entity)?;
+    add_explicit_attributes(alloc, findings, list, number, entity)?;
+    add_derived_attributes(alloc, findings, list, number, first, entity)?;
     add_inverse_clause(alloc, list, entity)?;
-    add_constraints(alloc, list, findings, number, entity)
+    add_constraints(alloc, findings, list, number, entity)
 }
 
 /// Adds those of the declaration of this number, before which so many derived attributes stand.
 pub(crate) fn add_declaration<'a>(
     alloc: Global,
+    findings: &Findings<'a, '_, '_>,
     list: &mut Vec<Unchecked>,
-    findings: &Findings<'_, '_, 'a>,
     number: u32,
     first: u32,
     declaration: &Declaration<'a>,
@@ -101,8 +101,8 @@ pub(crate) fn add_declaration<'a>(
         (unchecked_in list.old.items) (unchecked_in list.new.items)) }
 {
     match declaration {
-        Declaration::Type(declared) => add_type(alloc, list, findings, number, declared),
-        Declaration::Entity(entity) => add_entity(alloc, list, findings, number, first, entity),
+        Declaration::Type(declared) => add_type(alloc, findings, list, number, declared),
+        Declaration::Entity(entity) => add_entity(alloc, findings, list, number, first, entity),
         Declaration::Skipped(skipped) => add_skipped(alloc, list, skipped),
     }
 }

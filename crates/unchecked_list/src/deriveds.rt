@@ -47,13 +47,13 @@ pub(crate) fn first_behind(first: u32, declaration: &Declaration<'_>) -> Result<
 
 /// Adds the derived attribute of this number where there is a reason, and then those of the bounds
 /// of its data type that aren't checked.
-fn add_derived(
+fn add_derived<'a>(
     alloc: Global,
+    findings: &Findings<'a, '_, '_>,
     list: &mut Vec<Unchecked>,
-    findings: &Findings<'_, '_, '_>,
     holder: Word<'_>,
     number: u32,
-    derived: &Derived<'_>,
+    derived: &Derived<'a>,
 ) -> Result<(), AllocError>
     requires found { AreFound findings.now }
     ensures { (n : ℕ)
@@ -71,13 +71,13 @@ fn add_derived(
 }
 
 /// Adds those of some derived attributes, which have numbers from this one on.
-fn add_deriveds(
+fn add_deriveds<'a>(
     alloc: Global,
+    findings: &Findings<'a, '_, '_>,
     list: &mut Vec<Unchecked>,
-    findings: &Findings<'_, '_, '_>,
     holder: Word<'_>,
     first: u32,
-    deriveds: &[Derived<'_>],
+    deriveds: &[Derived<'a>],
 ) -> Result<(), AllocError>
     requires found { AreFound findings.now }
     requires numbered { AreDerivationsFrom (schema_found findings.now) (capitals holder) first
@@ -88,20 +88,20 @@ fn add_deriveds(
 {
     for i in 0..deriveds.len() {
         let number = number_behind(first, i)?;
-        add_derived(alloc, list, findings, holder, number, &deriveds[i])?;
+        add_derived(alloc, findings, list, holder, number, &deriveds[i])?;
     }
     Ok(())
 }
 
 /// Adds those of the derived attributes of the entity of this number, in the order of the text;
 /// the first has the number that is given (ISO 10303-11, 9.2.1.2).
-pub(crate) fn add_derived_attributes(
+pub(crate) fn add_derived_attributes<'a>(
     alloc: Global,
+    findings: &Findings<'a, '_, '_>,
     list: &mut Vec<Unchecked>,
-    findings: &Findings<'_, '_, '_>,
     number: u32,
     first: u32,
-    entity: &Entity<'_>,
+    entity: &Entity<'a>,
 ) -> Result<(), AllocError>
     requires found { AreFound findings.now }
     requires at { IsAt (schema_found findings.now) number (entity_tree (entity_of entity.now)) }
@@ -112,8 +112,8 @@ pub(crate) fn add_derived_attributes(
 {
     add_deriveds(
         alloc,
-        list,
         findings,
+        list,
         entity.name,
         first,
         entity.derived_attributes(),

@@ -60,8 +60,8 @@ fn has_other_shape(
 /// Adds an attribute that redeclares one with another shape (ISO 10303-11, 9.2.3.4).
 fn add_redeclared(
     alloc: Global,
-    list: &mut Vec<Unchecked>,
     findings: &Findings<'_, '_, '_>,
+    list: &mut Vec<Unchecked>,
     holder: Word<'_>,
     attribute: Attribute<'_>,
     data_type: u32,
@@ -85,12 +85,12 @@ fn add_redeclared(
 }
 
 /// Adds those of the attributes of one declaration, each with the bounds of its data type.
-fn add_explicit(
+fn add_explicit<'a>(
     alloc: Global,
+    findings: &Findings<'a, '_, '_>,
     list: &mut Vec<Unchecked>,
-    findings: &Findings<'_, '_, '_>,
     holder: Word<'_>,
-    explicit: &Explicit<'_>,
+    explicit: &Explicit<'a>,
     data_type: u32,
 ) -> Result<(), AllocError>
     requires found { AreFound findings.now }
@@ -101,7 +101,7 @@ fn add_explicit(
         (unchecked_in list.old.items) (unchecked_in list.new.items)) }
 {
     for attribute in &explicit.attributes {
-        add_redeclared(alloc, list, findings, holder, *attribute, data_type)?;
+        add_redeclared(alloc, findings, list, holder, *attribute, data_type)?;
         let label = attribute_label(holder, attribute);
         add_data_type(alloc, list, label, &explicit.data_type)?;
     }
@@ -109,12 +109,12 @@ fn add_explicit(
 }
 
 /// Adds those of some declarations of explicit attributes, whose data types have these numbers.
-fn add_explicits(
+fn add_explicits<'a>(
     alloc: Global,
+    findings: &Findings<'a, '_, '_>,
     list: &mut Vec<Unchecked>,
-    findings: &Findings<'_, '_, '_>,
     holder: Word<'_>,
-    explicits: &[Explicit<'_>],
+    explicits: &[Explicit<'a>],
     row: &[u32],
 ) -> Result<(), AllocError>
     requires found { AreFound findings.now }
@@ -125,19 +125,19 @@ fn add_explicits(
         (unchecked_in list.old.items) (unchecked_in list.new.items)) }
 {
     for i in 0..explicits.len() {
-        add_explicit(alloc, list, findings, holder, &explicits[i], row[i])?;
+        add_explicit(alloc, findings, list, holder, &explicits[i], row[i])?;
     }
     Ok(())
 }
 
 /// Adds those of the explicit attributes of the entity of this number, in the order of the text
 /// (ISO 10303-11, 9.2.1.1).
-pub(crate) fn add_explicit_attributes(
+pub(crate) fn add_explicit_attributes<'a>(
     alloc: Global,
+    findings: &Findings<'a, '_, '_>,
     list: &mut Vec<Unchecked>,
-    findings: &Findings<'_, '_, '_>,
     number: u32,
-    entity: &Entity<'_>,
+    entity: &Entity<'a>,
 ) -> Result<(), AllocError>
     requires found { AreFound findings.now }
     requires at { IsAt (schema_found findings.now) number (entity_tree (entity_of entity.now)) }
@@ -147,5 +147,5 @@ pub(crate) fn add_explicit_attributes(
 {
     data_types_are_known();
     let row = &findings.known.tables.data_types.rows[number as usize];
-    add_explicits(alloc, list, findings, entity.name, &entity.explicits, row)
+    add_explicits(alloc, findings, list, entity.name, &entity.explicits, row)
 }

@@ -7,8 +7,8 @@ use type_shapes::shapes::Shape;
 
 /// What is found of a schema whose names are resolved.
 #[derive(Clone, Copy)]
-pub struct Findings<'r, 't, 'a> {
-    pub known: Known<'r, 't, 'a>,
+pub struct Findings<'a, 't, 'r> {
+    pub known: Known<'a, 't, 'r>,
     pub items: &'r Items<'a>,
     /// By declaration, the line of each entity.
     pub lines: &'r [Vec<u32>],

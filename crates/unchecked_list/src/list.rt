@@ -16,8 +16,8 @@ use unchecked_parts::list::Unchecked;
 /// Adds those of all declarations, in the order of the text.
 fn add_all<'a>(
     alloc: Global,
+    findings: &Findings<'a, '_, '_>,
     list: &mut Vec<Unchecked>,
-    findings: &Findings<'_, '_, 'a>,
     declarations: &[Declaration<'a>],
 ) -> Result<(), AllocError>
     requires found { AreFound findings.now }
@@ -29,7 +29,7 @@ fn add_all<'a>(
     let mut first = 0;
     for i in 0..declarations.len() {
         let declaration = &declarations[i];
-        add_declaration(alloc, list, findings, i as u32, first, declaration)?;
+        add_declaration(alloc, findings, list, i as u32, first, declaration)?;
         first = first_behind(first, declaration)?;
     }
     Ok(())
@@ -47,6 +47,6 @@ pub fn unchecked_parts(
 {
     let mut list = Vec::new(alloc);
     let declarations = findings.known.tables.names.declarations();
-    add_all(alloc, &mut list, findings, declarations)?;
+    add_all(alloc, findings, &mut list, declarations)?;
     Ok(list)
 }

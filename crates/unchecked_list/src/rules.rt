@@ -40,7 +40,7 @@ pub struct Own<'r> {
 /// An error says that memory ran out.
 pub fn reason_of_rule<'a>(
     alloc: Global,
-    findings: &Findings<'_, '_, 'a>,
+    findings: &Findings<'a, '_, '_>,
     own: Own<'_>,
     body: &Body<'a>,
 ) -> Result<Option<Reason>, AllocError>
@@ -66,8 +66,8 @@ pub fn reason_of_rule<'a>(
 /// Adds a rule where there is a reason, by its number in its clause where it has no label.
 fn add_rule<'a>(
     alloc: Global,
+    findings: &Findings<'a, '_, '_>,
     list: &mut Vec<Unchecked>,
-    findings: &Findings<'_, '_, 'a>,
     own: Own<'_>,
     holder: Word<'_>,
     number: u64,
@@ -86,8 +86,8 @@ fn add_rule<'a>(
 /// Adds those of some rules for which there is a reason.
 fn add_rules<'a>(
     alloc: Global,
+    findings: &Findings<'a, '_, '_>,
     list: &mut Vec<Unchecked>,
-    findings: &Findings<'_, '_, 'a>,
     own: Own<'_>,
     holder: Word<'_>,
     rules: &[Rule<'a>],
@@ -98,7 +98,7 @@ fn add_rules<'a>(
         (unchecked_in list.old.items) (unchecked_in list.new.items)) }
 {
     for i in 0..rules.len() {
-        add_rule(alloc, list, findings, own, holder, i as u64 + 1, &rules[i])?;
+        add_rule(alloc, findings, list, own, holder, i as u64 + 1, &rules[i])?;
     }
     Ok(())
 }
@@ -106,8 +106,8 @@ fn add_rules<'a>(
 /// Adds those of the rules of an entity, whose SELF is an instance of it (ISO 10303-11, 9.2.2.2).
 pub(crate) fn add_entity_rules<'a>(
     alloc: Global,
+    findings: &Findings<'a, '_, '_>,
     list: &mut Vec<Unchecked>,
-    findings: &Findings<'_, '_, 'a>,
     holder: Holder<'_>,
     rules: &[Rule<'a>],
 ) -> Result<(), AllocError>
@@ -122,7 +122,7 @@ pub(crate) fn add_entity_rules<'a>(
         atoms: slice::from_ref(&atom),
         is_over_select: false,
     };
-    add_rules(alloc, list, findings, own, holder.name, rules)
+    add_rules(alloc, findings, list, own, holder.name, rules)
 }
 
 /// What the values of a defined type may be, and so SELF in its rules (ISO 10303-11, 9.1).
@@ -156,8 +156,8 @@ pub fn is_type_over_select(findings: &Findings<'_, '_, '_>, holder: Holder<'_>) 
 /// Adds those of the rules of a defined type, whose SELF is a value of it (ISO 10303-11, 9.1).
 pub(crate) fn add_type_rules<'a>(
     alloc: Global,
+    findings: &Findings<'a, '_, '_>,
     list: &mut Vec<Unchecked>,
-    findings: &Findings<'_, '_, 'a>,
     holder: Holder<'_>,
     rules: &[Rule<'a>],
 ) -> Result<(), AllocError>
@@ -172,5 +172,5 @@ pub(crate) fn add_type_rules<'a>(
         atoms: &atoms,
         is_over_select: is_type_over_select(findings, holder),
     };
-    add_rules(alloc, list, findings, own, holder.name, rules)
+    add_rules(alloc, findings, list, own, holder.name, rules)
 }

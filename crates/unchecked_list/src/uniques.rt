@@ -32,13 +32,13 @@ fn reason_by(naming: Naming) -> Option<Reason>
 }
 
 /// Adds a rule where there is a reason, by its number in its clause where it has no label.
-fn add_unique(
+fn add_unique<'a>(
     alloc: Global,
+    findings: &Findings<'a, '_, '_>,
     list: &mut Vec<Unchecked>,
-    findings: &Findings<'_, '_, '_>,
     holder: Holder<'_>,
     number: u64,
-    unique: &Unique<'_>,
+    unique: &Unique<'a>,
 ) -> Result<(), AllocError>
     requires found { AreFound findings.now }
     requires number { HasNumber (schema_found findings.now) (capitals holder.name) holder.number }
@@ -53,12 +53,12 @@ fn add_unique(
 }
 
 /// Adds those of the uniqueness rules of an entity for which there is a reason.
-pub(crate) fn add_uniques(
+pub(crate) fn add_uniques<'a>(
     alloc: Global,
+    findings: &Findings<'a, '_, '_>,
     list: &mut Vec<Unchecked>,
-    findings: &Findings<'_, '_, '_>,
     holder: Holder<'_>,
-    uniques: &[Unique<'_>],
+    uniques: &[Unique<'a>],
 ) -> Result<(), AllocError>
     requires found { AreFound findings.now }
     requires number { HasNumber (schema_found findings.now) (capitals holder.name) holder.number }
@@ -68,7 +68,7 @@ pub(crate) fn add_uniques(
         (unchecked_in list.old.items) (unchecked_in list.new.items)) }
 {
     for i in 0..uniques.len() {
-        add_unique(alloc, list, findings, holder, i as u64 + 1, &uniques[i])?;
+        add_unique(alloc, findings, list, holder, i as u64 + 1, &uniques[i])?;
     }
     Ok(())
 }

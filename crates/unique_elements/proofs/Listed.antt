@@ -1,9 +1,7 @@
 -- Names that are pinned for items of a list in turn.
-use Rattle.std.specs.Prelude.{◌≡◌, ℕ, ◌+◌, ◌≤◌, List, [], ◌∷◌, ◌++◌, drop, length, map, Some, slice_get, ◌⊎◌, ◌↔◌}
+use Rattle.std.specs.Prelude.{◌≡◌, ℕ, ◌+◌, ◌≤◌, List, [], ◌∷◌, ◌++◌, drop, length, Some, slice_get, ◌⊎◌, ◌↔◌}
 use Rattle.std.specs.BTreeSet.{BTreeSet}
-use Rattle.std.specs.Option.{option_map}
-use Rattle.std.proofs.Common.{sym, ap, subst, ◌∙◌, inl, inr}
-use Rattle.std.proofs.lemmas.Option.{slice_get-map}
+use Rattle.std.proofs.Common.{sym, subst, inl, inr}
 use Rattle.type_graphs.specs.Names.{OneOf}
 use Rattle.value_pins.specs.Pinning.{Pins, PinsUpTo}
 use Rattle.value_pins.proofs.Pinning as pinning
@@ -22,10 +20,6 @@ one-left P (x ∷ xs) ys (inr h) = inr (one-left P xs ys h)
 pub one-right : {A : Type 0} (P : A → Type 0) (xs ys : List A) → OneOf P ys → OneOf P (xs ++ ys)
 one-right P [] ys h = h
 one-right P (x ∷ xs) ys h = inr (one-right P xs ys h)
-
-pub mapped-at : {A B : Type 0} (f : A → B) (xs : List A) (i : ℕ) (x : A) → slice_get xs i ≡ Some x
-    → slice_get (map f xs) i ≡ Some (f x)
-mapped-at f xs i x e = slice_get-map f xs i ∙ ap (option_map f) e
 
 module _ {A : Type 0} (R : ℕ → A → Type 0) (xs : List A) (i : ℕ) (old : BTreeSet ℕ) where
   -- one item more

@@ -28,9 +28,9 @@ use value_pins::elements::Elements;
 /// at a position, where there is one.
 fn pin_at(
     alloc: Global,
+    bases: &Bases<'_, '_, '_>,
     pinned: &mut BTreeSet<u64>,
     elements: Elements<'_>,
-    bases: &Bases<'_, '_, '_>,
     slot: UniqueSlot,
     values: &Slots<'_, '_>,
 ) -> Result<(), AllocError>
@@ -41,7 +41,7 @@ fn pin_at(
         (slot_seen (schema_at bases.now) slot)) pinned.old pinned.new) }
 {
     match values.item(slot.position) {
-        Some(value) => pin_in_value(alloc, pinned, elements, bases, slot.base, &value),
+        Some(value) => pin_in_value(alloc, bases, pinned, elements, slot.base, &value),
         None => Ok(()),
     }
 }
@@ -49,9 +49,9 @@ fn pin_at(
 /// .. of an instance with these values.
 fn pin_in_slots(
     alloc: Global,
+    bases: &Bases<'_, '_, '_>,
     pinned: &mut BTreeSet<u64>,
     elements: Elements<'_>,
-    bases: &Bases<'_, '_, '_>,
     slots: &[UniqueSlot],
     values: &Slots<'_, '_>,
 ) -> Result<(), AllocError>
@@ -62,7 +62,7 @@ fn pin_in_slots(
         (map (slot_seen (schema_at bases.now)) slots.now)) pinned.old pinned.new) }
 {
     for i in 0..slots.len() {
-        pin_at(alloc, pinned, elements, bases, slots[i], values)?;
+        pin_at(alloc, bases, pinned, elements, slots[i], values)?;
     }
     Ok(())
 }
@@ -74,8 +74,8 @@ fn pin_in_slots(
 /// collection can stand. `AllocError` comes where memory runs out.
 pub fn pin_elements(
     alloc: Global,
-    pinned: &mut BTreeSet<u64>,
     population: &Population<'_, '_, '_, '_>,
+    pinned: &mut BTreeSet<u64>,
     elements: Elements<'_>,
 ) -> Result<(), AllocError>
     requires made { IsMade population.now.types.now }
@@ -92,7 +92,7 @@ pub fn pin_elements(
     for row in 0..population.len() {
         let instance = population.instance(row);
         let slots = slots_at(&rows, instance.form);
-        pin_in_slots(alloc, pinned, elements, &bases, slots, &instance.values)?;
+        pin_in_slots(alloc, &bases, pinned, elements, slots, &instance.values)?;
     }
     Ok(())
 }

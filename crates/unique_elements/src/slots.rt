@@ -48,8 +48,8 @@ fn uses_at(uses: &Uses, number: u32) -> &[AttributeUse]
 /// Adds what a data type asks of the value at a position, where a LIST or ARRAY OF UNIQUE can stand
 /// in it.
 fn add_slot(
-    slots: &mut Vec<UniqueSlot>,
     bases: &Bases<'_, '_, '_>,
+    slots: &mut Vec<UniqueSlot>,
     position: usize,
     data_type: u32,
 ) -> Result<(), AllocError>
@@ -67,8 +67,8 @@ fn add_slot(
 
 /// .. what a declaration asks of it, where it is one of the attribute of a place.
 fn add_use(
-    slots: &mut Vec<UniqueSlot>,
     bases: &Bases<'_, '_, '_>,
+    slots: &mut Vec<UniqueSlot>,
     position: usize,
     place: u32,
     each: AttributeUse,
@@ -79,7 +79,7 @@ fn add_use(
         (λ d. slots_of d position (asked (schema_at bases.now) (of_place place (each ∷ []))))) }
 {
     if each.place == place {
-        add_slot(slots, bases, position, each.data_type)
+        add_slot(bases, slots, position, each.data_type)
     } else {
         Ok(())
     }
@@ -87,8 +87,8 @@ fn add_use(
 
 /// .. what declarations by an entity ask of it.
 fn add_uses(
-    slots: &mut Vec<UniqueSlot>,
     bases: &Bases<'_, '_, '_>,
+    slots: &mut Vec<UniqueSlot>,
     position: usize,
     place: u32,
     uses: &[AttributeUse],
@@ -100,15 +100,15 @@ fn add_uses(
         (λ d. slots_of d position (asked (schema_at bases.now) (of_place place uses.now)))) }
 {
     for i in 0..uses.len() {
-        add_use(slots, bases, position, place, uses[i])?;
+        add_use(bases, slots, position, place, uses[i])?;
     }
     Ok(())
 }
 
 /// .. what declarations by these types ask of it.
 fn add_place(
-    slots: &mut Vec<UniqueSlot>,
     bases: &Bases<'_, '_, '_>,
+    slots: &mut Vec<UniqueSlot>,
     uses: &Uses,
     types: &[u32],
     position: usize,
@@ -121,7 +121,7 @@ fn add_place(
         (uses_by uses.now types.now place)))) }
 {
     for i in 0..types.len() {
-        add_uses(slots, bases, position, place, uses_at(uses, types[i]))?;
+        add_uses(bases, slots, position, place, uses_at(uses, types[i]))?;
     }
     Ok(())
 }
@@ -139,7 +139,7 @@ fn slots_of_form(
 {
     let mut slots = Vec::new(alloc);
     for i in 0..form.slots.len() {
-        add_place(&mut slots, bases, uses, &form.types, i, form.slots[i].place)?;
+        add_place(bases, &mut slots, uses, &form.types, i, form.slots[i].place)?;
     }
     Ok(slots)
 }

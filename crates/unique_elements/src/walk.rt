@@ -43,9 +43,9 @@ fn pin_if_unique(
 #[cycle(walk)]
 pub(crate) fn pin_in_value(
     alloc: Global,
+    bases: &Bases<'_, '_, '_>,
     pinned: &mut BTreeSet<u64>,
     elements: Elements<'_>,
-    bases: &Bases<'_, '_, '_>,
     base: Base,
     value: &Slot<'_, '_>,
 ) -> Result<(), AllocError>
@@ -57,14 +57,14 @@ pub(crate) fn pin_in_value(
 {
     match value.node() {
         Node::Typed(word, inner) => match item(bases, base, word) {
-            Some(within) => pin_in_value(alloc, pinned, elements, bases, within, &inner),
+            Some(within) => pin_in_value(alloc, bases, pinned, elements, within, &inner),
             None => Ok(()),
         },
         Node::Sequence(values) => {
             pin_if_unique(alloc, pinned, elements, base, &values)?;
-            pin_in_elements(alloc, pinned, elements, bases, base, &values)
+            pin_in_elements(alloc, bases, pinned, elements, base, &values)
         }
-        Node::Bag(values) => pin_in_elements(alloc, pinned, elements, bases, base, &values),
+        Node::Bag(values) => pin_in_elements(alloc, bases, pinned, elements, base, &values),
         _ => Ok(()),
     }
 }
@@ -73,9 +73,9 @@ pub(crate) fn pin_in_value(
 #[cycle(walk)]
 fn pin_in_elements(
     alloc: Global,
+    bases: &Bases<'_, '_, '_>,
     pinned: &mut BTreeSet<u64>,
     elements: Elements<'_>,
-    bases: &Bases<'_, '_, '_>,
     base: Base,
     values: &Slots<'_, '_>,
 ) -> Result<(), AllocError>
@@ -89,16 +89,16 @@ fn pin_in_elements(
         return Ok(());
     };
     let element = bases.of_number(aggregate.element);
-    pin_in_each(alloc, pinned, elements, bases, element, values)
+    pin_in_each(alloc, bases, pinned, elements, element, values)
 }
 
 /// .. that one of these values is or has in it.
 #[cycle(walk)]
 fn pin_in_each(
     alloc: Global,
+    bases: &Bases<'_, '_, '_>,
     pinned: &mut BTreeSet<u64>,
     elements: Elements<'_>,
-    bases: &Bases<'_, '_, '_>,
     base: Base,
     values: &Slots<'_, '_>,
 ) -> Result<(), AllocError>
@@ -112,7 +112,7 @@ fn pin_in_each(
         return Ok(());
     }
     for i in 0..values.len() {
-        pin_in_value(alloc, pinned, elements, bases, base, &values.at(i))?;
+        pin_in_value(alloc, bases, pinned, elements, base, &values.at(i))?;
     }
     Ok(())
 }

@@ -15,8 +15,8 @@ use Rattle.data_types.specs.Numbered.{all_data_types, whole_types}
 use Rattle.type_shapes.specs.declared.shapes.Shape.{Shape}
 use Rattle.alike_types.specs.Shaped.{IsShapeOf}
 use Rattle.alike_types.specs.Making.{shape_in}
-use Rattle.schema_names.proofs.Items.{row-at}
-use Rattle.alike_types.proofs.Along.{rows-same, mapped-at, up, below-so, one-more, all-declared}
+use Rattle.schema_names.proofs.Items.{row-at, mapped-at, rows-same}
+use Rattle.alike_types.proofs.Along.{up, below-so, one-more, all-declared}
 use Rattle.alike_types.proofs.table.declared_shapes.Goals as goal
 
 pub order-requires-clause-graph : goal.order-requires-clause-graph

@@ -3,7 +3,8 @@ use Rattle.digraph.specs.Graphs.{graph_of}
 use Rattle.express_trees.specs.Views.{capitals}
 use Rattle.express_schemas.specs.SchemaViews.{schema_of}
 use Rattle.express_schemas.specs.Views.{declaration_of}
-use Rattle.attribute_sources.proofs.Reading.{mapped-at, tree-within, no-line, line-is}
+use Rattle.schema_names.proofs.Items.{mapped-at}
+use Rattle.attribute_sources.proofs.Reading.{tree-within, no-line, line-is}
 use Rattle.attribute_sources.proofs.derivations.line_of.Goals as goal
 
 pub declaration-requires : goal.declaration-requires

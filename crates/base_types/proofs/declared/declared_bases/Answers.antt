@@ -14,7 +14,7 @@ use Rattle.data_types.specs.Numbered.{all_data_types, whole_types}
 use Rattle.base_types.specs.declared.base.Base.{Base}
 use Rattle.base_types.specs.Making.{named_in, base_at, first_of}
 use Rattle.base_types.proofs.Made.{entry-next, all-made}
-use Rattle.base_types.proofs.Tabled.{rows-same, mapped-at}
+use Rattle.schema_names.proofs.Items.{mapped-at, rows-same}
 use Rattle.base_types.proofs.declared.declared_bases.Goals as goal
 
 pub order-requires-clause-graph : goal.order-requires-clause-graph

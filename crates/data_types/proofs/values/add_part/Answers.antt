@@ -11,7 +11,7 @@ use Rattle.data_types.specs.Values.{AddsAll, schema_at}
 use Rattle.data_types.specs.Leaves.{Gives}
 use Rattle.data_types.proofs.Sets.{adds-atom}
 use Rattle.data_types.proofs.Declared.{type-here, entity-here, gives-instance}
-use Rattle.data_types.proofs.Single.{mapped-at}
+use Rattle.schema_names.proofs.Items.{mapped-at}
 use Rattle.data_types.proofs.values.add_part.Goals as goal
 
 pub declaration-requires : goal.declaration-requires

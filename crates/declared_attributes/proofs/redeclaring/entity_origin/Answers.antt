@@ -1,6 +1,6 @@
 use Rattle.std.proofs.Common.{arith, sym, subst}
 use Rattle.std.proofs.lemmas.List.{length-map}
-use Rattle.data_types.proofs.Single.{mapped-at}
+use Rattle.schema_names.proofs.Items.{mapped-at}
 use Rattle.data_types.proofs.Declared.{entity-here}
 use Rattle.express_trees.specs.Views.{capitals}
 use Rattle.express_schemas.specs.SchemaViews.{schema_of}

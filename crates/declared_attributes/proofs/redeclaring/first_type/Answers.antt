@@ -8,9 +8,8 @@ use Rattle.express_schemas.specs.Views.{declaration_of, entity_of}
 use Rattle.schema_names.specs.Numbers.{IsAt}
 use Rattle.schema_names.proofs.Numbers.{stands-at}
 use Rattle.schema_names.proofs.Edges.{number-within}
-use Rattle.schema_names.proofs.Items.{row-at}
+use Rattle.schema_names.proofs.Items.{row-at, mapped-at}
 use Rattle.data_types.specs.Numbered.{whole_types, all_data_types}
-use Rattle.data_types.proofs.Single.{mapped-at}
 use Rattle.declared_attributes.specs.Searching.{number_where, types_own, typings}
 use Rattle.declared_attributes.proofs.Origins.{not-entity, seen-entity}
 use Rattle.declared_attributes.proofs.FirstTypes.{first-type-at, not-none}

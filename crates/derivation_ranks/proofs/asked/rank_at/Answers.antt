@@ -9,7 +9,8 @@ use Rattle.express_schemas.specs.SchemaViews.{schema_of}
 use Rattle.schema_names.specs.Numbers.{IsAt}
 use Rattle.schema_names.proofs.Edges.{number-within}
 use Rattle.type_graphs.specs.Ranks.{IsRankAt}
-use Rattle.derivation_ranks.proofs.Asking.{none-past, item-seen, asked-within, asked-some, asked-none}
+use Rattle.schema_names.proofs.Items.{mapped-at}
+use Rattle.derivation_ranks.proofs.Asking.{none-past, asked-within, asked-some, asked-none}
 use Rattle.derivation_ranks.proofs.asked.rank_at.Goals as goal
 
 pub returns-in_err-declaration : goal.returns-in_err-declaration
@@ -26,7 +27,7 @@ returns-in_err-place c =
     let d = c.in_ok-declaration.declaration.now in
     let all = c.args.names.now.schema.now.declarations.items in
     let at : IsAt s c.args.entity (declaration_of d) =
-    item-seen declaration_of all c.args.entity d (sym c.in_ok-declaration.ensures) in
+    mapped-at declaration_of all c.args.entity d (sym c.in_ok-declaration.ensures) in
     ∥∥₁_map c.requires.ranks (λ ranks e k.
     subst (IsRankAt s (e, capitals c.args.attribute)) (sym c.from_residual-in_err-place.ensures)
     (asked-none s c.args.ranks.now ranks c.args.entity (capitals c.args.attribute) (declaration_of d) at (sym c.in_err-place.ensures) e k))
@@ -39,7 +40,7 @@ rank_behind-requires c =
     let there = sym c.in_ok-declaration.ensures in
     let lt = slice_get_within all c.args.entity d there in
     let long = length-map all declaration_of in
-    let at : IsAt s c.args.entity (declaration_of d) = item-seen declaration_of all c.args.entity d there in
+    let at : IsAt s c.args.entity (declaration_of d) = mapped-at declaration_of all c.args.entity d there in
     ∥∥₁_elim c.requires.firsts le_prop (λ firsts. ∥∥₁_elim c.requires.ranks le_prop (λ ranks.
     asked-within s c.args.ranks.now ranks c.args.entity
     (get_or c.args.firsts.now c.args.entity 0 + c.in_ok-place.place) c.in_ok-place.place (capitals c.args.attribute)
@@ -54,7 +55,7 @@ returns c =
     let there = sym c.in_ok-declaration.ensures in
     let lt = slice_get_within all c.args.entity d there in
     let long = length-map all declaration_of in
-    let at : IsAt s c.args.entity (declaration_of d) = item-seen declaration_of all c.args.entity d there in
+    let at : IsAt s c.args.entity (declaration_of d) = mapped-at declaration_of all c.args.entity d there in
     ∥∥₁_elim c.requires.firsts ∥∥₁_prop (λ firsts. ∥∥₁_map c.requires.ranks (λ ranks e k.
     asked-some s c.args.ranks.now ranks c.args.entity
     (get_or c.args.firsts.now c.args.entity 0 + c.in_ok-place.place) c.in_ok-place.place (capitals c.args.attribute)

@@ -6,7 +6,7 @@ use Rattle.schema_names.specs.Numbers.{IsAt}
 use Rattle.schema_names.proofs.Numbers.{stands-at}
 use Rattle.schema_names.proofs.Edges.{number-within}
 use Rattle.data_types.proofs.Declared.{entity-here}
-use Rattle.data_types.proofs.Single.{mapped-at}
+use Rattle.schema_names.proofs.Items.{mapped-at}
 use Rattle.expression_surveys.proofs.comparisons.is_entity.Goals as goal
 
 pub declaration-requires : goal.declaration-requires

@@ -7,7 +7,8 @@ use Rattle.base_types.specs.Seen as seen
 use Rattle.base_types.specs.Seen.{name_at, base_seen}
 use Rattle.base_types.specs.Tables.{IsNumbered}
 use Rattle.express_meanings.specs.Meanings.{type_names, items_in}
-use Rattle.attribute_sources.proofs.Reading.{tree-within, mapped-at}
+use Rattle.schema_names.proofs.Items.{mapped-at}
+use Rattle.attribute_sources.proofs.Reading.{tree-within}
 use Rattle.setting_names.proofs.Enumerations.{no_type, type_told, no_items, both_told}
 use Rattle.setting_names.proofs.items.is_item_of.Goals as goal
 

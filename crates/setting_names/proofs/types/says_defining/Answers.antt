@@ -4,7 +4,7 @@ use Rattle.express_schemas.specs.Views.{declaration_of}
 use Rattle.express_schemas.specs.SchemaViews.{schema_of}
 use Rattle.std.specs.Prelude.{slice_get}
 use Rattle.express_logic.specs.Views.{text_of}
-use Rattle.attribute_sources.proofs.Reading.{mapped-at}
+use Rattle.schema_names.proofs.Items.{mapped-at}
 use Rattle.setting_names.proofs.Saying.{isnt_said, is_said, type_number, defined_told}
 use Rattle.setting_names.proofs.types.says_defining.Goals as goal
 

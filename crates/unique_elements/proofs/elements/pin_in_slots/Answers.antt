@@ -4,7 +4,8 @@ use Rattle.std.proofs.lemmas.Option.{slice_get-get_or}
 use Rattle.base_types.specs.Seen.{schema_at}
 use Rattle.value_pins.specs.Elements.{Asks}
 use Rattle.unique_elements.specs.Slots.{slot_seen, HasUniqueAt}
-use Rattle.unique_elements.proofs.Listed.{mapped-at, next, ends}
+use Rattle.schema_names.proofs.Items.{mapped-at}
+use Rattle.unique_elements.proofs.Listed.{next, ends}
 use Rattle.unique_elements.proofs.elements.pin_in_slots.Goals as goal
 
 pub loop-i-preserved : goal.loop-i-preserved
