@@ -21,9 +21,12 @@ fn nearest(names: &Names<'_, '_>, line: &[u32], meant: Meant, name: Word<'_>) ->
     ensures { result ≡ find
         (declares_at (schema_of names.now.schema.now) meant (capitals name.entry)) line.now }
 {
-    line.iter()
-        .find(|number| declares_at(names, **number, meant, name))
-        .copied()
+    for number in line {
+        if declares_at(names, *number, meant, name) {
+            return Some(*number);
+        }
+    }
+    None
 }
 
 /// The number of the entity that declares the attribute which `SELF\entity.attribute` means: the

@@ -5,7 +5,7 @@ ghost use Rattle.digraph.specs.Graphs.{graph_of};
 ghost use Rattle.express_schemas.specs.SchemaViews.{schema_of};
 ghost use Rattle.type_graphs.specs.Faults.{IsResolved};
 ghost use Rattle.schema_names.specs.Edges.{IsGraphOf, supertypes_in};
-ghost use Rattle.attribute_places.specs.Places.{places_of, all_places, HavePlaces};
+ghost use Rattle.attribute_places.specs.Places.{places_of, all_places, HavePlaces, AreRows};
 
 use crate::attributes::{ExplicitAttributes, Place, explicit_attributes};
 use digraph::gathering::tables;
@@ -20,6 +20,8 @@ pub struct AttributePlaces<'a> {
     pub attributes: Vec<Place<'a>>,
     /// By declaration, for an entity the numbers of its places in that list, in order.
     pub rows: Vec<Vec<u32>>,
+    /// By declaration, for an entity the numbers of the explicit attributes that it declares itself.
+    pub own: Vec<Vec<u32>>,
 }
 
 /// The places of each entity of a schema whose names are resolved, over the graph of its SUBTYPE
@@ -41,6 +43,8 @@ pub fn attribute_places<'a>(
         (graph_of p.rows.items)) }
     ensures each { IfOk result (λ p. length p.rows.items
         ≡ length names.now.schema.now.declarations.items) }
+    ensures own { IfOk result (λ p. AreRows (all_places (schema_of names.now.schema.now))
+        (schema_of names.now.schema.now).declarations (graph_of p.own.items)) }
 {
     let ExplicitAttributes { places, own } = explicit_attributes(alloc, names.schema)?;
     let order = order(alloc, supertypes)?;
@@ -48,5 +52,6 @@ pub fn attribute_places<'a>(
     Ok(AttributePlaces {
         attributes: places,
         rows,
+        own,
     })
 }

@@ -14,3 +14,4 @@ pub mod Agreeing
 pub mod Finding
 pub mod Renaming
 pub mod Saying
+pub mod Walking

@@ -26,10 +26,12 @@ pub(crate) fn first_declaring(names: &Names<'_, '_>, numbers: &[u32], name: Word
     ensures { result ≡ find (declares_at (schema_of names.now.schema.now) All (capitals name.entry))
         numbers.now }
 {
-    numbers
-        .iter()
-        .find(|number| declares_at(names, **number, Meant::All, name))
-        .copied()
+    for number in numbers {
+        if declares_at(names, *number, Meant::All, name) {
+            return Some(*number);
+        }
+    }
+    None
 }
 
 /// Whether an entity is another than this one, and declares an attribute of this name.
@@ -49,9 +51,12 @@ fn another_declares(names: &Names<'_, '_>, first: u32, numbers: &[u32], name: Wo
         ≡ list_any (declares_beside (schema_of names.now.schema.now) (capitals name.entry) first)
         numbers.now }
 {
-    numbers
-        .iter()
-        .any(|number| declares_beside(names, first, *number, name))
+    for number in numbers {
+        if declares_beside(names, first, *number, name) {
+            return true;
+        }
+    }
+    false
 }
 
 /// Which of these entities declares an attribute of this name; an entity may stand among them

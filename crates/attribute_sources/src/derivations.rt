@@ -119,24 +119,24 @@ fn deriveds_in<'d, 'a>(declaration: &'d Declaration<'a>) -> &'d [Derived<'a>]
 
 /// The number in DERIVE of the first by which what is declared gives the attribute that is asked for
 /// its value; it has this number.
-fn first_behind(
-    names: &Names<'_, '_>,
+fn first_behind<'a>(
+    names: &Names<'a, '_>,
     lines: &[Vec<u32>],
     entity: u32,
-    declaration: &Declaration<'_>,
+    declaration: &Declaration<'a>,
     asked: Asked<'_>,
 ) -> Option<usize>
     ensures { result ≡ first_behind (schema_of names.now.schema.now) (graph_of lines.now)
         (capitals asked.entry.name) asked.entry.entity entity
         (deriveds_in (declaration_seen declaration.now)) }
 {
-    deriveds_in(declaration).iter().position(|derived| gives(
-        names,
-        lines,
-        entity,
-        derived.attribute,
-        asked,
-    ))
+    let deriveds = deriveds_in(declaration);
+    for n in 0..deriveds.len() {
+        if gives(names, lines, entity, deriveds[n].attribute, asked) {
+            return Some(n);
+        }
+    }
+    None
 }
 
 /// The number in DERIVE of the first by which the entity of this number gives the attribute that is

@@ -93,7 +93,10 @@ pub(crate) fn is_below_all(
         (capitals asked.entry.name) asked.entry.entity) (leads (graph_of schema.now.above.items))
         entity) types.now }
 {
-    types
-        .iter()
-        .all(|number| is_below(schema, lines, asked, entity, *number))
+    for number in types {
+        if !is_below(schema, lines, asked, entity, *number) {
+            return false;
+        }
+    }
+    true
 }

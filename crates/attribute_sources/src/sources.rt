@@ -123,83 +123,83 @@ impl AttributeSources {
         let lines = lines(alloc, &schema.names, &supertypes)?;
         Ok(AttributeSources { lines })
     }
+}
 
-    /// Where instances of these types have the value of their attribute of this name; none where
-    /// no type declares one. It is unclear where two do (ISO 10303-11, 12.7.3).
-    ///
-    /// It takes time for the attributes of these types, and for the lines of the entities by which
-    /// derived attributes of this name are redeclared.
-    pub fn source(
-        &self,
-        schema: &ResolvedTypes<'_, '_>,
-        inverses: &[InverseAttribute<'_>],
-        types: &[u32],
-        name: Word<'_>,
-    ) -> Option<Source>
-        requires known { IsKnown schema.now self.now inverses.now }
-        requires types { AreTypes (schema_in schema.now) types.now }
-        ensures named { IsNamed (schema_in schema.now)
-            (inverses_seen (schema_in schema.now) inverses.now)
-            (types_seen (schema_in schema.now) types.now) (capitals name.entry)
-            (option_map (source_seen (schema_in schema.now)
-            (inverses_seen (schema_in schema.now) inverses.now)) result) }
+/// Where instances of these types have the value of their attribute of this name; none where
+/// no type declares one. It is unclear where two do (ISO 10303-11, 12.7.3).
+///
+/// It takes time for the attributes of these types, and for the lines of the entities by which
+/// derived attributes of this name are redeclared.
+pub fn attribute_source(
+    schema: &ResolvedTypes<'_, '_>,
+    sources: &AttributeSources,
+    inverses: &[InverseAttribute<'_>],
+    types: &[u32],
+    name: Word<'_>,
+) -> Option<Source>
+    requires known { IsKnown schema.now sources.now inverses.now }
+    requires types { AreTypes (schema_in schema.now) types.now }
+    ensures named { IsNamed (schema_in schema.now)
+        (inverses_seen (schema_in schema.now) inverses.now)
+        (types_seen (schema_in schema.now) types.now) (capitals name.entry)
+        (option_map (source_seen (schema_in schema.now)
+        (inverses_seen (schema_in schema.now) inverses.now)) result) }
 
-        // It is what each reading of the schema says.
-        ensures value { (attributes : Attributes) → AreAttributes (schema_in schema.now)
-            (inverses_seen (schema_in schema.now) inverses.now) attributes
-            → option_map (source_seen (schema_in schema.now)
-            (inverses_seen (schema_in schema.now) inverses.now)) result
-            ≡ attributes.source (types_seen (schema_in schema.now) types.now) (capitals name.entry) }
-        ensures numbered { IfSome result (IsNumbered (schema_in schema.now)
-            (inverses_seen (schema_in schema.now) inverses.now)) }
-    {
-        match declaring(&schema.names, types, name) {
-            Declarer::Nobody => None,
-            Declarer::One(entity) => {
-                let asked = Asked { entity, name };
-                Some(source_of(schema, self, inverses, asked, types))
-            }
-            Declarer::Several => Some(Source::Unclear),
+    // It is what each reading of the schema says.
+    ensures value { (attributes : Attributes) → AreAttributes (schema_in schema.now)
+        (inverses_seen (schema_in schema.now) inverses.now) attributes
+        → option_map (source_seen (schema_in schema.now)
+        (inverses_seen (schema_in schema.now) inverses.now)) result
+        ≡ attributes.source (types_seen (schema_in schema.now) types.now) (capitals name.entry) }
+    ensures numbered { IfSome result (IsNumbered (schema_in schema.now)
+        (inverses_seen (schema_in schema.now) inverses.now)) }
+{
+    match declaring(&schema.names, types, name) {
+        Declarer::Nobody => None,
+        Declarer::One(entity) => {
+            let asked = Asked { entity, name };
+            Some(source_of(schema, sources, inverses, asked, types))
         }
+        Declarer::Several => Some(Source::Unclear),
     }
+}
 
-    /// Where instances of these types have the value of the attribute that `\entity.name` means: the
-    /// entity's own, else the only one that it inherits. It is unclear where there is no such one,
-    /// and where the instances aren't of that entity (ISO 10303-11, 12.7.4).
-    ///
-    /// It takes time as `source` does, and for the attributes of the entity's supertypes.
-    pub fn source_in_group(
-        &self,
-        schema: &ResolvedTypes<'_, '_>,
-        inverses: &[InverseAttribute<'_>],
-        types: &[u32],
-        entity: Word<'_>,
-        name: Word<'_>,
-    ) -> Source
-        requires known { IsKnown schema.now self.now inverses.now }
-        requires types { AreTypes (schema_in schema.now) types.now }
-        ensures group { IsInGroup (schema_in schema.now)
-            (inverses_seen (schema_in schema.now) inverses.now)
-            (types_seen (schema_in schema.now) types.now) (capitals entity.entry)
-            (capitals name.entry) (source_seen (schema_in schema.now)
-            (inverses_seen (schema_in schema.now) inverses.now) result) }
+/// Where instances of these types have the value of the attribute that `\entity.name` means: the
+/// entity's own, else the only one that it inherits. It is unclear where there is no such one,
+/// and where the instances aren't of that entity (ISO 10303-11, 12.7.4).
+///
+/// It takes time as `attribute_source` does, and for the attributes of the entity's supertypes.
+pub fn group_source(
+    schema: &ResolvedTypes<'_, '_>,
+    sources: &AttributeSources,
+    inverses: &[InverseAttribute<'_>],
+    types: &[u32],
+    entity: Word<'_>,
+    name: Word<'_>,
+) -> Source
+    requires known { IsKnown schema.now sources.now inverses.now }
+    requires types { AreTypes (schema_in schema.now) types.now }
+    ensures group { IsInGroup (schema_in schema.now)
+        (inverses_seen (schema_in schema.now) inverses.now)
+        (types_seen (schema_in schema.now) types.now) (capitals entity.entry)
+        (capitals name.entry) (source_seen (schema_in schema.now)
+        (inverses_seen (schema_in schema.now) inverses.now) result) }
 
-        // It is what each reading of the schema says.
-        ensures value { (attributes : Attributes) → AreAttributes (schema_in schema.now)
-            (inverses_seen (schema_in schema.now) inverses.now) attributes
-            → source_seen (schema_in schema.now)
-            (inverses_seen (schema_in schema.now) inverses.now) result
-            ≡ attributes.source_of (types_seen (schema_in schema.now) types.now)
-            (capitals entity.entry) (capitals name.entry) }
-        ensures numbered { IsNumbered (schema_in schema.now)
-            (inverses_seen (schema_in schema.now) inverses.now) result }
-    {
-        match group_member(schema, types, entity, name) {
-            Some(entity) => {
-                let asked = Asked { entity, name };
-                source_of(schema, self, inverses, asked, types)
-            }
-            None => Source::Unclear,
+    // It is what each reading of the schema says.
+    ensures value { (attributes : Attributes) → AreAttributes (schema_in schema.now)
+        (inverses_seen (schema_in schema.now) inverses.now) attributes
+        → source_seen (schema_in schema.now)
+        (inverses_seen (schema_in schema.now) inverses.now) result
+        ≡ attributes.source_of (types_seen (schema_in schema.now) types.now)
+        (capitals entity.entry) (capitals name.entry) }
+    ensures numbered { IsNumbered (schema_in schema.now)
+        (inverses_seen (schema_in schema.now) inverses.now) result }
+{
+    match group_member(schema, types, entity, name) {
+        Some(entity) => {
+            let asked = Asked { entity, name };
+            source_of(schema, sources, inverses, asked, types)
         }
+        None => Source::Unclear,
     }
 }

@@ -14,7 +14,7 @@ ghost use Rattle.std.specs.Prelude.{
   slice_get,
   OnOk,
 };
-ghost use Rattle.std.specs.List.{cons_option};
+ghost use Rattle.std.specs.List.{cons_option, list_any};
 ghost use Rattle.digraph.specs.Graphs.{graph_of, has, next};
 ghost use Rattle.express_schemas.specs.Schemas.{DataType as DataTypeTree, named};
 ghost use Rattle.express_schemas.specs.Views.{declaration_of, underlying_of};
@@ -128,16 +128,25 @@ fn is_select_at(tables: &Tables<'_, '_, '_>, part: u32) -> bool
     }
 }
 
+/// Whether a SELECT is declared at one of these numbers.
+fn any_select(tables: &Tables<'_, '_, '_>, parts: &[u32]) -> bool
+    ensures { result ≡ list_any (is_select_at (schema_at tables.now)) parts.now }
+{
+    for part in parts {
+        if is_select_at(tables, *part) {
+            return true;
+        }
+    }
+    false
+}
+
 /// Whether a defined type is a SELECT, or stands for one under whatever names.
 pub fn is_over_select(tables: &Tables<'_, '_, '_>, part: u32) -> bool
     requires { part < length tables.now.parts.now }
     ensures { result ≡ is_over_select (schema_at tables.now) (graph_of tables.now.parts.now)
         part }
 {
-    is_select_at(tables, part)
-        || tables.parts[part as usize]
-            .iter()
-            .any(|each| is_select_at(tables, *each))
+    is_select_at(tables, part) || any_select(tables, &tables.parts[part as usize])
 }
 
 /// The number of the data type behind the `=` of a defined type, where there is one.

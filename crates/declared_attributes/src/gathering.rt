@@ -240,7 +240,7 @@ fn item_at(row: &[u32], place: usize) -> Option<u32>
 
 /// Adds what the n-th declaration of explicit attributes says.
 fn add_explicit<'a>(
-    sources: &Sources<'_, '_, '_>,
+    sources: &Sources<'a, '_, '_>,
     entity: u32,
     row: &[u32],
     n: usize,
@@ -264,7 +264,7 @@ fn add_explicit<'a>(
 
 /// Adds what an entity's explicit attributes say.
 fn add_explicits<'a>(
-    sources: &Sources<'_, '_, '_>,
+    sources: &Sources<'a, '_, '_>,
     entity: u32,
     row: &[u32],
     explicits: &[Explicit<'a>],
@@ -316,7 +316,7 @@ fn add_one<'a>(
 
 /// Adds what the n-th derived attribute says.
 fn add_derived<'a>(
-    sources: &Sources<'_, '_, '_>,
+    sources: &Sources<'a, '_, '_>,
     entity: u32,
     row: &[u32],
     first: usize,
@@ -345,7 +345,7 @@ fn add_derived<'a>(
 
 /// Adds what an entity's derived attributes say, whose numbers come behind so many.
 fn add_deriveds<'a>(
-    sources: &Sources<'_, '_, '_>,
+    sources: &Sources<'a, '_, '_>,
     entity: u32,
     row: &[u32],
     first: usize,
@@ -366,7 +366,7 @@ fn add_deriveds<'a>(
 
 /// Adds what the n-th inverse attribute says.
 fn add_inverse<'a>(
-    sources: &Sources<'_, '_, '_>,
+    sources: &Sources<'a, '_, '_>,
     entity: u32,
     row: &[u32],
     first: usize,
@@ -393,7 +393,7 @@ fn add_inverse<'a>(
 
 /// Adds what an entity's inverse attributes say.
 fn add_inverses<'a>(
-    sources: &Sources<'_, '_, '_>,
+    sources: &Sources<'a, '_, '_>,
     entity: u32,
     row: &[u32],
     first: usize,
@@ -413,7 +413,7 @@ fn add_inverses<'a>(
 
 /// Adds what the attributes of an entity say, the numbers of whose derived ones come behind so many.
 fn add_clauses<'a>(
-    sources: &Sources<'_, '_, '_>,
+    sources: &Sources<'a, '_, '_>,
     number: u32,
     row: &[u32],
     count: usize,
@@ -438,7 +438,7 @@ fn add_clauses<'a>(
 
 /// Adds what an entity says.
 fn add_entity<'a>(
-    sources: &Sources<'_, '_, '_>,
+    sources: &Sources<'a, '_, '_>,
     number: u32,
     row: &[u32],
     count: usize,
@@ -475,7 +475,7 @@ fn row_of(rows: &[Vec<u32>], number: usize) -> &[u32]
 
 /// Adds what the i-th declaration says.
 fn add_declaration<'a>(
-    sources: &Sources<'_, '_, '_>,
+    sources: &Sources<'a, '_, '_>,
     i: usize,
     count: usize,
     declaration: &Declaration<'a>,
@@ -510,7 +510,7 @@ fn derived_count(declaration: &Declaration<'_>) -> usize
 
 /// Adds what the declarations of a schema say.
 fn add_declarations<'a>(
-    sources: &Sources<'_, '_, '_>,
+    sources: &Sources<'a, '_, '_>,
     declarations: &[Declaration<'a>],
     flat: &mut Vec<Named<'a>>,
 ) -> Result<(), AllocError>

@@ -1,6 +1,7 @@
 //! Items by name.
 
 ghost use Rattle.std.specs.Prelude.{◌≡◌, ◌<◌, ◌&&◌, ◌||◌, ◌↔◌, length, not, is_some, IfOk, OnOk, IsTrue};
+ghost use Rattle.std.specs.List.{list_any};
 ghost use Rattle.indexmap.specs.IndexMap.{get};
 ghost use Rattle.digraph.specs.Graphs.{graph_of};
 ghost use Rattle.step_literals.specs.declared.literal.Word.{Word as WordRead};
@@ -120,16 +121,25 @@ fn has_item_at(tables: &Tables<'_, '_, '_>, part: u32, name: Word<'_>) -> bool
     }
 }
 
+/// Whether one of these defined types is an enumeration with an item of this name.
+fn any_has_item(tables: &Tables<'_, '_, '_>, parts: &[u32], name: Word<'_>) -> bool
+    ensures { result ≡ list_any (has_item_at (schema_at tables.now) (capitals name.entry)) parts.now }
+{
+    for part in parts {
+        if has_item_at(tables, *part, name) {
+            return true;
+        }
+    }
+    false
+}
+
 /// Whether a defined type, or one that it is made of, is an enumeration with an item of this name.
 fn has_item_within(tables: &Tables<'_, '_, '_>, part: u32, name: Word<'_>) -> bool
     requires { part < length tables.now.parts.now }
     ensures { result ≡ has_item_within (schema_at tables.now) (graph_of tables.now.parts.now)
         (capitals name.entry) part }
 {
-    has_item_at(tables, part, name)
-        || tables.parts[part as usize]
-            .iter()
-            .any(|each| has_item_at(tables, *each, name))
+    has_item_at(tables, part, name) || any_has_item(tables, &tables.parts[part as usize], name)
 }
 
 /// Whether a defined type is an enumeration with an item of this name, under whatever names.

@@ -30,6 +30,7 @@ ghost use Rattle.express_settings.specs.Worth.{inverse_worth};
 
 use crate::setting::Setting;
 use attribute_sources::source::{Derivation, Source};
+use attribute_sources::sources::{attribute_source, group_source};
 use base_types::base::Base;
 use express_logic::datum::Datum;
 use held_values::part::Part;
@@ -150,8 +151,9 @@ impl<'s: 'r, 't, 'r, 'a, 'e, 'p> Setting<'s, 't, 'r, 'a, 'e, 'p> {
         match self.forms.find(population.form_of(instance), name) {
             Some(source) => Some(source),
             None => {
-                self.tables.sources.source(
+                attribute_source(
                     population.types,
+                    &self.tables.sources,
                     &self.extents.rules.inverses,
                     population.types_of(instance),
                     name,
@@ -184,8 +186,9 @@ impl<'s: 'r, 't, 'r, 'a, 'e, 'p> Setting<'s, 't, 'r, 'a, 'e, 'p> {
         ensures found { IsFound self.now result }
     {
         let population = self.extents.population;
-        let source = self.tables.sources.source_in_group(
+        let source = group_source(
             population.types,
+            &self.tables.sources,
             &self.extents.rules.inverses,
             population.types_of(instance),
             entity,

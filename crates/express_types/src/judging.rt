@@ -6,6 +6,8 @@ ghost use Rattle.digraph.specs.Graphs.{graph_of};
 ghost use Rattle.express_schemas.specs.SchemaViews.{schema_of};
 ghost use Rattle.type_graphs.specs.Faults.{IsResolved};
 ghost use Rattle.own_attributes.specs.Above.{AreAbove};
+ghost use Rattle.attribute_places.specs.Places.{places_of, all_places, AreRows};
+ghost use Rattle.resolved_types.specs.Made.{IsMade};
 ghost use Rattle.taken_attributes.specs.Taking.{IsKnown, schema_in};
 ghost use Rattle.enumeration_items.specs.Items.{AreItems};
 ghost use Rattle.attribute_origins.specs.Lines.{HaveLines};
@@ -22,6 +24,7 @@ use crate::evaluating::domain_by;
 use crate::ruling::rules_by;
 use alike_types::table::shapes;
 use attribute_origins::lines::lines;
+use attribute_places::places::AttributePlaces;
 use body_reasons::derivations::{derivation_ranks, judge_derivations};
 use data_types::forms::{DataTypes, data_types};
 use data_types::values::Tables;
@@ -31,6 +34,7 @@ use derivation_ranks::asked::first_derivations;
 use digraph::closures::{closure, reversal};
 use domain_rules::rule::DomainRule;
 use enumeration_items::items::Items;
+use resolved_types::types::ResolvedTypes;
 use rule_tables::tables::RuleTables;
 use schema_names::graphs::{part_graph, supertype_graph};
 use schema_names::names::Names;
@@ -195,16 +199,20 @@ fn found_by<'r, 't, 'a>(
     items: &'r Items<'a>,
     lines: &'r [Vec<u32>],
     shapes: &'r [Shape],
+    explicit: &'r AttributePlaces<'a>,
 ) -> Result<Found<'a, 't>, AllocError>
     requires known { IsKnown known.now }
     requires items { AreItems (schema_in known.now) items.now }
     requires lines { HaveLines (schema_in known.now) (graph_of lines.now) }
     requires each { length lines.now ≡ length known.now.tables.names.now.schema.now.declarations.items }
     requires shapes { AreShapes (schema_in known.now) shapes.now }
+    requires places { places_of explicit.now.attributes.items ≡ all_places (schema_in known.now) }
+    requires own { AreRows (all_places (schema_in known.now)) (schema_in known.now).declarations
+        (graph_of explicit.now.own.items) }
     ensures { IfOk result (AreFound (schema_in known.now)) }
 {
     let Bodies { judged, domain } = judge_by(alloc, known, items, lines, shapes)?;
-    let rules = rules_by(alloc, known, lines)?;
+    let rules = rules_by(alloc, known, lines, explicit)?;
     Ok(Found {
         judged,
         domain,
@@ -212,18 +220,18 @@ fn found_by<'r, 't, 'a>(
     })
 }
 
-/// What is found of the bodies and the rules of a schema whose names are resolved, over the rows of
-/// all that its SUBTYPE OF leads to. Names are hashed by these keys.
+/// What is found of the bodies and the rules of a schema whose types are these. Names are hashed by
+/// these keys.
 pub(crate) fn judge<'r, 't, 'a>(
     alloc: Global,
     keys: RandomState,
-    names: &'r Names<'a, 't>,
-    above: &'r [Vec<u32>],
+    resolved: &'r ResolvedTypes<'a, 't>,
 ) -> Result<Found<'a, 't>, AllocError>
-    requires resolved { IsResolved (schema_of names.now.schema.now) }
-    requires above { AreAbove (schema_of names.now.schema.now) (graph_of above.now) }
-    ensures { IfOk result (AreFound (schema_of names.now.schema.now)) }
+    requires { IsMade resolved.now }
+    ensures { IfOk result (AreFound (schema_of resolved.now.names.schema.now)) }
 {
+    let names = &resolved.names;
+    let above = resolved.above.as_slice();
     let types = make_types(alloc, names)?;
     let meanings = make_meanings(alloc, keys, names, &types, above)?;
     let known = Known {
@@ -242,5 +250,6 @@ pub(crate) fn judge<'r, 't, 'a>(
         &meanings.items,
         &meanings.lines,
         &types.shapes,
+        &resolved.places,
     )
 }

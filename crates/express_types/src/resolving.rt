@@ -37,7 +37,7 @@ fn type_graph<'t, 'a>(
         judged,
         domain,
         rules,
-    } = judge(alloc, keys, &types.names, &types.above)?;
+    } = judge(alloc, keys, &types)?;
     Ok(TypeGraph {
         types,
         judged,

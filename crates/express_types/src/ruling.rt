@@ -2,11 +2,12 @@
 
 ghost use Rattle.std.specs.Prelude.{◌≡◌, IfOk, length};
 ghost use Rattle.digraph.specs.Graphs.{graph_of};
+ghost use Rattle.attribute_places.specs.Places.{places_of, all_places, AreRows};
 ghost use Rattle.attribute_origins.specs.Lines.{HaveLines};
 ghost use Rattle.taken_attributes.specs.Taking.{IsKnown, schema_in};
 ghost use Rattle.express_types.specs.Judging.{AreRuleTables};
 
-use attribute_places::attributes::explicit_attributes;
+use attribute_places::places::AttributePlaces;
 use rule_tables::sources::Sources;
 use rule_tables::tables::{RuleTables, rule_tables};
 use std::alloc::{AllocError, Global};
@@ -17,19 +18,22 @@ pub(crate) fn rules_by<'r, 't, 'a>(
     alloc: Global,
     known: &Known<'a, 't, 'r>,
     lines: &'r [Vec<u32>],
+    explicit: &'r AttributePlaces<'a>,
 ) -> Result<RuleTables<'a>, AllocError>
     requires known { IsKnown known.now }
     requires lines { HaveLines (schema_in known.now) (graph_of lines.now) }
     requires each { length lines.now ≡ length known.now.tables.names.now.schema.now.declarations.items }
+    requires places { places_of explicit.now.attributes.items ≡ all_places (schema_in known.now) }
+    requires own { AreRows (all_places (schema_in known.now)) (schema_in known.now).declarations
+        (graph_of explicit.now.own.items) }
     ensures { IfOk result (AreRuleTables (schema_in known.now)) }
 {
-    let explicit = explicit_attributes(alloc, known.tables.names.schema)?;
     rule_tables(
         alloc,
         &Sources {
             known: *known,
             lines,
-            places: &explicit.places,
+            places: &explicit.attributes,
             own: &explicit.own,
         },
     )

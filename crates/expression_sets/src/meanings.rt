@@ -54,7 +54,7 @@ fn begin_with_item<'a>(
 
 /// What a name means that is neither a variable nor an attribute.
 fn item_meaning<'a>(
-    scope: &Scope<'a, '_, '_>,
+    scope: &Scope<'a, '_, '_, '_>,
     name: Word<'_>,
     qualifiers: &[Qualifier<'a>],
 ) -> Meaning
@@ -79,7 +79,7 @@ fn item_meaning<'a>(
 /// dot, else an item of any enumeration.
 pub(crate) fn meaning_of<'a>(
     alloc: Global,
-    scope: &Scope<'a, '_, '_>,
+    scope: &Scope<'a, '_, '_, '_>,
     name: Word<'_>,
     qualifiers: &[Qualifier<'a>],
 ) -> Result<Meaning, AllocError>

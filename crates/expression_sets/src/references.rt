@@ -33,7 +33,7 @@ pub struct Reference {
 /// What a reference is that begins with a name.
 fn refer_by_name<'a>(
     alloc: Global,
-    scope: &Scope<'a, '_, '_>,
+    scope: &Scope<'a, '_, '_, '_>,
     name: Word<'_>,
     qualifiers: &[Qualifier<'a>],
 ) -> Result<Reference, AllocError>
@@ -58,7 +58,7 @@ fn refer_by_name<'a>(
 /// an item of the enumeration before the dot, else an item of any enumeration, with its qualifiers.
 pub fn refer<'a>(
     alloc: Global,
-    scope: &Scope<'a, '_, '_>,
+    scope: &Scope<'a, '_, '_, '_>,
     root: Root<'_>,
     qualifiers: &[Qualifier<'a>],
 ) -> Result<Reference, AllocError>

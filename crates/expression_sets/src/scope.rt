@@ -14,11 +14,11 @@ pub struct Variable<'a> {
 
 /// What stands around an expression.
 #[derive(Clone, Copy)]
-pub struct Scope<'a, 't, 'r> {
+pub struct Scope<'a, 't, 'r, 'v> {
     pub known: Known<'a, 't, 'r>,
     pub items: &'r Items<'a>,
     /// What SELF may be.
     pub own: &'r [Atom],
     /// The variables of the QUERYs around it, the innermost last.
-    pub variables: &'r [Variable<'a>],
+    pub variables: &'v [Variable<'a>],
 }

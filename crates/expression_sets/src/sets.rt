@@ -61,7 +61,7 @@ pub fn elements(
 /// Adds what a reference may be.
 fn add_reference<'a>(
     alloc: Global,
-    scope: &Scope<'a, '_, '_>,
+    scope: &Scope<'a, '_, '_, '_>,
     root: Root<'_>,
     qualifiers: &[Qualifier<'a>],
     atoms: &mut Vec<Atom>,
@@ -79,7 +79,7 @@ fn add_reference<'a>(
 /// Adds what an expression may be.
 fn add_possible<'a>(
     alloc: Global,
-    scope: &Scope<'a, '_, '_>,
+    scope: &Scope<'a, '_, '_, '_>,
     expression: &Expr<'a>,
     atoms: &mut Vec<Atom>,
 ) -> Result<(), AllocError>
@@ -117,7 +117,7 @@ fn add_possible<'a>(
 /// What an expression may be.
 pub fn possible<'a>(
     alloc: Global,
-    scope: &Scope<'a, '_, '_>,
+    scope: &Scope<'a, '_, '_, '_>,
     expression: &Expr<'a>,
 ) -> Result<Vec<Atom>, AllocError>
     requires scope { IsScope scope.now }
@@ -132,7 +132,7 @@ pub fn possible<'a>(
 /// What one of some expressions may be.
 fn possible_items<'a>(
     alloc: Global,
-    scope: &Scope<'a, '_, '_>,
+    scope: &Scope<'a, '_, '_, '_>,
     items: &[Expr<'a>],
 ) -> Result<Vec<Atom>, AllocError>
     requires scope { IsScope scope.now }
@@ -150,7 +150,7 @@ fn possible_items<'a>(
 /// What the elements of aggregates may be that an expression may be.
 fn elements_of<'a>(
     alloc: Global,
-    scope: &Scope<'a, '_, '_>,
+    scope: &Scope<'a, '_, '_, '_>,
     expression: &Expr<'a>,
 ) -> Result<Vec<Atom>, AllocError>
     requires scope { IsScope scope.now }
@@ -165,7 +165,7 @@ fn elements_of<'a>(
 /// What the elements of an expression on the right of IN may be (ISO 10303-11, 12.2.3).
 pub fn possible_elements<'a>(
     alloc: Global,
-    scope: &Scope<'a, '_, '_>,
+    scope: &Scope<'a, '_, '_, '_>,
     expression: &Expr<'a>,
 ) -> Result<Vec<Atom>, AllocError>
     requires scope { IsScope scope.now }

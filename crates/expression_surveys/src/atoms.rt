@@ -1,6 +1,7 @@
 //! What some of a list of atoms are.
 
 ghost use Rattle.std.specs.Prelude.{◌≡◌, ◌↔◌, IsTrue, length};
+ghost use Rattle.std.specs.List.{list_any};
 ghost use Rattle.express_schemas.specs.SchemaViews.{schema_of};
 ghost use Rattle.type_graphs.specs.Reasons.{HasBareValue, MayBeDeep, MayBeUnordered};
 ghost use Rattle.data_types.specs.Values.{AreTables, Holds, schema_at};
@@ -39,12 +40,25 @@ fn is_deep_atom(tables: &Tables<'_, '_, '_>, atom: Atom) -> bool
     }
 }
 
+/// Whether one of these atoms is an instance or an aggregate.
+fn any_deep(tables: &Tables<'_, '_, '_>, atoms: &[Atom]) -> bool
+    ensures { result ≡ list_any (is_deep_atom (schema_at tables.now)
+        (length tables.now.data_types.now.forms.items)) atoms.now }
+{
+    for atom in atoms {
+        if is_deep_atom(tables, *atom) {
+            return true;
+        }
+    }
+    false
+}
+
 /// Whether an instance or an aggregate is among these.
 pub(crate) fn is_deep(tables: &Tables<'_, '_, '_>, atoms: &[Atom]) -> bool
     requires tables { AreTables tables.now }
     ensures { IsTrue result ↔ MayBeDeep (Holds (schema_at tables.now) atoms.now) }
 {
-    atoms.iter().any(|atom| is_deep_atom(tables, *atom))
+    any_deep(tables, atoms)
 }
 
 /// Whether an atom is a value of no SELECT.
@@ -60,12 +74,25 @@ fn is_bare_atom(tables: &Tables<'_, '_, '_>, atom: Atom) -> bool
     }
 }
 
+/// Whether one of these atoms is a value of no SELECT.
+fn any_bare(tables: &Tables<'_, '_, '_>, atoms: &[Atom]) -> bool
+    ensures { result ≡ list_any (is_bare_atom (length tables.now.data_types.now.forms.items))
+        atoms.now }
+{
+    for atom in atoms {
+        if is_bare_atom(tables, *atom) {
+            return true;
+        }
+    }
+    false
+}
+
 /// Whether a value of no SELECT is among these.
 pub(crate) fn has_bare_value(tables: &Tables<'_, '_, '_>, atoms: &[Atom]) -> bool
     requires tables { AreTables tables.now }
     ensures { IsTrue result ↔ HasBareValue (Holds (schema_at tables.now) atoms.now) }
 {
-    atoms.iter().any(|atom| is_bare_atom(tables, *atom))
+    any_bare(tables, atoms)
 }
 
 /// Whether an atom is a string, a binary or an item.

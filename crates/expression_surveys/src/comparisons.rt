@@ -42,7 +42,7 @@ use type_tests::said::said_type;
 /// Whether an expression may be an instance or an aggregate.
 fn may_be_deep<'a>(
     alloc: Global,
-    scope: &Scope<'a, '_, '_>,
+    scope: &Scope<'a, '_, '_, '_>,
     expression: &Expr<'a>,
 ) -> Result<bool, AllocError>
     requires scope { IsScope scope.now }
@@ -55,7 +55,7 @@ fn may_be_deep<'a>(
 /// Whether the elements of what stands on the right of IN may be instances or aggregates.
 fn may_have_deep<'a>(
     alloc: Global,
-    scope: &Scope<'a, '_, '_>,
+    scope: &Scope<'a, '_, '_, '_>,
     expression: &Expr<'a>,
 ) -> Result<bool, AllocError>
     requires scope { IsScope scope.now }
@@ -68,7 +68,7 @@ fn may_have_deep<'a>(
 /// Whether an expression may be a string, a binary or an item.
 fn may_be_unordered<'a>(
     alloc: Global,
-    scope: &Scope<'a, '_, '_>,
+    scope: &Scope<'a, '_, '_, '_>,
     expression: &Expr<'a>,
 ) -> Result<bool, AllocError>
     requires scope { IsScope scope.now }
@@ -81,7 +81,7 @@ fn may_be_unordered<'a>(
 /// Whether an expression may be a value of no SELECT.
 fn may_be_bare<'a>(
     alloc: Global,
-    scope: &Scope<'a, '_, '_>,
+    scope: &Scope<'a, '_, '_, '_>,
     expression: &Expr<'a>,
 ) -> Result<bool, AllocError>
     requires scope { IsScope scope.now }
@@ -118,7 +118,7 @@ fn is_over_select(tables: &Tables<'_, '_, '_>, part: u32) -> bool
 /// (ISO 10303-11, 15.25).
 fn tests_type<'a>(
     alloc: Global,
-    scope: &Scope<'a, '_, '_>,
+    scope: &Scope<'a, '_, '_, '_>,
     part: u32,
     expression: &Expr<'a>,
 ) -> Result<bool, AllocError>
@@ -140,7 +140,7 @@ fn tests_type<'a>(
 /// Whether `left IN TYPEOF(expression)` has an answer (ISO 10303-11, 15.25).
 fn is_type_test<'a>(
     alloc: Global,
-    scope: &Scope<'a, '_, '_>,
+    scope: &Scope<'a, '_, '_, '_>,
     left: &Expr<'a>,
     expression: &Expr<'a>,
 ) -> Result<bool, AllocError>
@@ -169,7 +169,7 @@ fn tested<'r, 'a>(expression: &'r Expr<'a>) -> Option<&'r Expr<'a>>
 /// Whether TYPEOF stands on the right of IN without an answer (ISO 10303-11, 15.25).
 fn is_bad_type_test<'a>(
     alloc: Global,
-    scope: &Scope<'a, '_, '_>,
+    scope: &Scope<'a, '_, '_, '_>,
     left: &Expr<'a>,
     right: &Expr<'a>,
 ) -> Result<bool, AllocError>
@@ -186,7 +186,7 @@ fn is_bad_type_test<'a>(
 /// Whether a comparison tests a type without an answer (ISO 10303-11, 15.25).
 pub(crate) fn is_bad_test<'a>(
     alloc: Global,
-    scope: &Scope<'a, '_, '_>,
+    scope: &Scope<'a, '_, '_, '_>,
     left: &Expr<'a>,
     relation: Relation,
     right: &Expr<'a>,
@@ -205,7 +205,7 @@ pub(crate) fn is_bad_test<'a>(
 /// Whether two expressions may both be instances or aggregates.
 fn are_deep<'a>(
     alloc: Global,
-    scope: &Scope<'a, '_, '_>,
+    scope: &Scope<'a, '_, '_, '_>,
     left: &Expr<'a>,
     right: &Expr<'a>,
 ) -> Result<bool, AllocError>
@@ -220,7 +220,7 @@ fn are_deep<'a>(
 /// Whether an expression and the elements of another may both be instances or aggregates.
 fn are_deep_in<'a>(
     alloc: Global,
-    scope: &Scope<'a, '_, '_>,
+    scope: &Scope<'a, '_, '_, '_>,
     left: &Expr<'a>,
     right: &Expr<'a>,
 ) -> Result<bool, AllocError>
@@ -235,7 +235,7 @@ fn are_deep_in<'a>(
 /// Whether one of two expressions may be a string, a binary or an item.
 fn one_is_unordered<'a>(
     alloc: Global,
-    scope: &Scope<'a, '_, '_>,
+    scope: &Scope<'a, '_, '_, '_>,
     left: &Expr<'a>,
     right: &Expr<'a>,
 ) -> Result<bool, AllocError>
@@ -250,7 +250,7 @@ fn one_is_unordered<'a>(
 /// Whether a comparison is of what isn't compared (ISO 10303-11, 12.2).
 pub(crate) fn is_bad_kind<'a>(
     alloc: Global,
-    scope: &Scope<'a, '_, '_>,
+    scope: &Scope<'a, '_, '_, '_>,
     left: &Expr<'a>,
     relation: Relation,
     right: &Expr<'a>,
@@ -270,7 +270,7 @@ pub(crate) fn is_bad_kind<'a>(
 /// Whether an interval is of what isn't ordered (ISO 10303-11, 12.2.4).
 pub(crate) fn is_bad_interval<'a>(
     alloc: Global,
-    scope: &Scope<'a, '_, '_>,
+    scope: &Scope<'a, '_, '_, '_>,
     low: &Expr<'a>,
     item: &Expr<'a>,
     high: &Expr<'a>,

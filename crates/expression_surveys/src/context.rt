@@ -20,7 +20,7 @@ pub(crate) struct Context<'a, 't, 'r> {
 
 impl<'a, 't, 'r> Context<'a, 't, 'r> {
     /// With these variables around.
-    pub(crate) fn with(&self, variables: &'r [Variable<'a>]) -> Scope<'a, 't, 'r>
+    pub(crate) fn with<'v>(&self, variables: &'v [Variable<'a>]) -> Scope<'a, 't, 'r, 'v>
         requires { IsContext self.now }
         ensures scope { IsScope result }
         ensures schema { schema_around result ≡ schema_of_context self.now }

@@ -48,7 +48,7 @@ pub(crate) fn is_in(relation: Relation) -> bool
 /// Notes what a reference is.
 pub(crate) fn note_reference<'a>(
     alloc: Global,
-    scope: &Scope<'a, '_, '_>,
+    scope: &Scope<'a, '_, '_, '_>,
     survey: &mut Survey,
     root: Root<'_>,
     qualifiers: &[Qualifier<'a>],
@@ -68,7 +68,7 @@ pub(crate) fn note_reference<'a>(
 /// Notes what is at fault in a comparison.
 pub(crate) fn note_comparison<'a>(
     alloc: Global,
-    scope: &Scope<'a, '_, '_>,
+    scope: &Scope<'a, '_, '_, '_>,
     survey: &mut Survey,
     left: &Expr<'a>,
     relation: Relation,
@@ -90,7 +90,7 @@ pub(crate) fn note_comparison<'a>(
 /// Notes what is at fault in an interval.
 pub(crate) fn note_interval<'a>(
     alloc: Global,
-    scope: &Scope<'a, '_, '_>,
+    scope: &Scope<'a, '_, '_, '_>,
     survey: &mut Survey,
     low: &Expr<'a>,
     item: &Expr<'a>,

@@ -17,7 +17,7 @@ ghost use Rattle.form_sources.specs.Sources.{
 };
 
 use attribute_sources::source::Source;
-use attribute_sources::sources::AttributeSources;
+use attribute_sources::sources::{AttributeSources, attribute_source};
 use express_schemas::tree::{Declaration, Derived, Inverse};
 use resolved_types::types::ResolvedTypes;
 use row_forms::form::{Form, SlotForm};
@@ -52,7 +52,7 @@ fn named_source<'s>(
     ensures { IfSome result (IsNamedSource (schema_in schema.now)
         (inverses_seen (schema_in schema.now) inverses.now) types.now) }
 {
-    match sources.source(schema, inverses, types, name) {
+    match attribute_source(schema, sources, inverses, types, name) {
         Some(source) => Some(NamedSource { name, source }),
         None => None,
     }

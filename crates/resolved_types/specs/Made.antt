@@ -4,7 +4,7 @@ use Rattle.digraph.specs.Graphs.{graph_of}
 use Rattle.express_schemas.specs.SchemaViews.{schema_of}
 use Rattle.type_graphs.specs.Faults.{IsResolved}
 use Rattle.own_attributes.specs.Above.{AreAbove}
-use Rattle.attribute_places.specs.Places.{places_of, all_places, HavePlaces}
+use Rattle.attribute_places.specs.Places.{places_of, all_places, HavePlaces, AreRows}
 use Rattle.resolved_types.specs.declared.types.ResolvedTypes.{ResolvedTypes}
 
 -- The names of the schema are resolved, and the tables are those of the schema.
@@ -15,3 +15,5 @@ pub record IsMade (t : ResolvedTypes) : Type 0 where
   pub attributes : places_of t.places.attributes.items ≡ all_places (schema_of t.names.schema.now)
   pub places : HavePlaces (schema_of t.names.schema.now) (graph_of t.places.rows.items)
   pub places_each : length t.places.rows.items ≡ length t.names.schema.now.declarations.items
+  pub own : AreRows (all_places (schema_of t.names.schema.now)) (schema_of t.names.schema.now).declarations
+      (graph_of t.places.own.items)

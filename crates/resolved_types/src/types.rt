@@ -7,7 +7,7 @@ ghost use Rattle.express_schemas.specs.SchemaViews.{schema_of};
 ghost use Rattle.type_graphs.specs.Faults.{IsResolved};
 ghost use Rattle.schema_names.specs.Numbers.{number_of};
 ghost use Rattle.own_attributes.specs.Above.{AreAbove};
-ghost use Rattle.attribute_places.specs.Places.{places_of, all_places, HavePlaces};
+ghost use Rattle.attribute_places.specs.Places.{places_of, all_places, HavePlaces, AreRows};
 ghost use Rattle.resolved_types.specs.Graphs.{AreSupers, IsKind, ArePlacesOf, place_of};
 
 use attribute_places::attributes::Place;
@@ -25,7 +25,7 @@ pub struct ResolvedTypes<'a, 't> {
     pub names: Names<'a, 't>,
     /// By declaration, for an entity the numbers of its proper supertypes.
     pub above: Vec<Vec<u32>>,
-    /// The explicit attributes, and by declaration the numbers of an entity's places.
+    /// The explicit attributes, and by declaration the numbers of an entity's places and of its own.
     pub places: AttributePlaces<'a>,
     pub ghost resolved: { ∥ IsResolved (schema_of names.schema.now) ∥₁ },
     pub ghost above_are: { ∥ AreAbove (schema_of names.schema.now) (graph_of above.items) ∥₁ },
@@ -36,6 +36,8 @@ pub struct ResolvedTypes<'a, 't> {
         (graph_of places.rows.items) ∥₁ },
     pub ghost places_each: { length places.rows.items
         ≡ length names.schema.now.declarations.items },
+    pub ghost own_are: { ∥ AreRows (all_places (schema_of names.schema.now))
+        (schema_of names.schema.now).declarations (graph_of places.own.items) ∥₁ },
 }
 
 impl<'a, 't> ResolvedTypes<'a, 't> {

@@ -1,14 +1,28 @@
 //! The attributes that an entity has, its own and those of its supertypes (ISO 10303-11, 9.2.3.3).
 
 ghost use Rattle.std.specs.Prelude.{◌≡◌};
+ghost use Rattle.std.specs.List.{list_any};
 ghost use Rattle.digraph.specs.Graphs.{graph_of};
 ghost use Rattle.express_trees.specs.Views.{capitals};
 ghost use Rattle.express_schemas.specs.SchemaViews.{schema_of};
-ghost use Rattle.own_attributes.specs.Owned.{has_meant};
+ghost use Rattle.own_attributes.specs.Owned.{declares_at, has_meant};
 
 use own_attributes::attributes::{Meant, declares_at};
 use schema_names::names::Names;
 use step_literals::literal::Word;
+
+/// Whether one of these entities declares such an attribute.
+fn any_declares(names: &Names<'_, '_>, numbers: &[u32], meant: Meant, name: Word<'_>) -> bool
+    ensures { result ≡ list_any (declares_at (schema_of names.now.schema.now) meant
+        (capitals name.entry)) numbers.now }
+{
+    for number in numbers {
+        if declares_at(names, *number, meant, name) {
+            return true;
+        }
+    }
+    false
+}
 
 /// Whether it or a supertype of it declares such an attribute.
 pub(crate) fn has(
@@ -27,7 +41,5 @@ pub(crate) fn has(
     let Some(uppers) = above.get(number as usize) else {
         return false;
     };
-    uppers
-        .iter()
-        .any(|upper| declares_at(names, *upper, meant, name))
+    any_declares(names, uppers, meant, name)
 }

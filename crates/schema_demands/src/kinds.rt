@@ -30,9 +30,12 @@ fn any_kind(names: &Names<'_, '_>, above: &[Vec<u32>], lowers: &[Word<'_>], uppe
     ensures { result ≡ list_any (is_kind (schema_of names.now.schema.now) (graph_of above.now)
         upper) (names_of lowers.now) }
 {
-    lowers
-        .iter()
-        .any(|lower| is_kind(names, above, *lower, upper))
+    for lower in lowers {
+        if is_kind(names, above, *lower, upper) {
+            return true;
+        }
+    }
+    false
 }
 
 /// Whether an entity is above one of these supertypes, or one of them, and has such an attribute

@@ -2,7 +2,6 @@
 use Rattle.digraph.specs.Graphs.{graph_of}
 use Rattle.express_schemas.specs.SchemaViews.{schema_of}
 use Rattle.resolved_types.specs.declared.types.ResolvedTypes.{ResolvedTypes}
-use Rattle.attribute_places.specs.Places.{all_places, AreRows}
 use Rattle.base_types.specs.Tables.{AreBaseTypes}
 use Rattle.attribute_uses.specs.Uses.{AreUses}
 use Rattle.instance_forms.specs.Knowing.{AreOperands}
@@ -12,6 +11,4 @@ use Rattle.schema_tables.specs.declared.tables.SchemaTables.{SchemaTables}
 pub record AreTables (x : ResolvedTypes) (t : SchemaTables) : Type 0 where
   pub base_types : AreBaseTypes (schema_of x.names.schema.now) t.base_types
   pub uses : AreUses (schema_of x.names.schema.now) t.uses
-  pub own : AreRows (all_places (schema_of x.names.schema.now)) (schema_of x.names.schema.now).declarations
-      (graph_of t.own.items)
   pub one_ofs : AreOperands (schema_of x.names.schema.now) (graph_of t.one_ofs.items)

@@ -8,7 +8,6 @@ ghost use Rattle.schema_tables.specs.Tables.{AreTables};
 
 use alike_types::table::shapes;
 use attribute_origins::lines::lines;
-use attribute_places::attributes::explicit_attributes;
 use attribute_uses::uses::{Sources, Uses, attribute_uses};
 use base_types::lookup::Bases;
 use base_types::table::{BaseTypes, base_types};
@@ -24,8 +23,6 @@ use std::alloc::{AllocError, Global};
 pub struct SchemaTables {
     pub base_types: BaseTypes,
     pub uses: Uses,
-    /// By declaration, for an entity the numbers of the explicit attributes that it declares itself.
-    pub own: Vec<Vec<u32>>,
     /// The operands of each ONEOF that is checked.
     pub one_ofs: Vec<Vec<u32>>,
 }
@@ -43,7 +40,6 @@ impl SchemaTables {
         let shapes = shapes(alloc, names, &forms, &parts)?;
         let supertypes = supertype_graph(alloc, names)?;
         let lines = lines(alloc, names, &supertypes)?;
-        let explicit = explicit_attributes(alloc, names.schema)?;
         let uses = attribute_uses(
             alloc,
             &Sources {
@@ -51,15 +47,14 @@ impl SchemaTables {
                 data_types: &forms,
                 lines: &lines,
                 shapes: &shapes,
-                places: &explicit.places,
-                own: &explicit.own,
+                places: &types.places.attributes,
+                own: &types.places.own,
             },
         )?;
         let one_ofs = one_ofs(alloc, names)?;
         Ok(SchemaTables {
             base_types,
             uses,
-            own: explicit.own,
             one_ofs,
         })
     }
@@ -92,7 +87,7 @@ impl SchemaTables {
             above: &types.above,
             attributes: &types.places.attributes,
             places: &types.places.rows,
-            own: &self.own,
+            own: &types.places.own,
             uses: &self.uses,
             one_ofs: &self.one_ofs,
         }

@@ -171,7 +171,12 @@ fn any_other(names: &Names<'_, '_>, row: &[u32], name: Word<'_>) -> bool
     ensures { result ≡ list_any
         (is_other_at (schema_of names.now.schema.now) (capitals name.entry)) row.now }
 {
-    row.iter().any(|number| !declares_at(names, *number, Meant::Explicit, name))
+    for number in row {
+        if !declares_at(names, *number, Meant::Explicit, name) {
+            return true;
+        }
+    }
+    false
 }
 
 /// What is found of an attribute in a rule of an entity.

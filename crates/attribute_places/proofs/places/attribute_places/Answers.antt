@@ -36,3 +36,9 @@ returns-clause-rows c =
     (subst (λ rows. AreRows places s.declarations (graph_of rows))
     (sym c.deref-2.ensures.value) c.in_ok-places.ensures.own)
     c.in_ok-rows.ensures.joined
+
+pub returns-clause-own : goal.returns-clause-own
+returns-clause-own c =
+    let s = schema_of c.args.names.now.schema.now in
+    subst (λ all. AreRows all s.declarations (graph_of c.in_ok-places.field-0.own.items)) c.in_ok-places.ensures.places
+    c.in_ok-places.ensures.own

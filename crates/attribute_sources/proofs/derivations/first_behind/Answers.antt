@@ -1,25 +1,45 @@
-use Rattle.std.proofs.Common.{rules, tests, ◌∙◌, ap}
-use Rattle.std.proofs.lemmas.Iterator.Search.{position_from_yields_List}
-use Rattle.std.proofs.lemmas.Iterator.Adapters.{position_from-zero}
-use Rattle.std.proofs.lemmas.Iterator.{YieldsList-from_slice}
+use Rattle.std.specs.Prelude.{◌≡◌, ℕ, ◌+◌, ◌<◌, cond, List, Option, Some, drop, length, get_or}
+use Rattle.std.specs.List.{position_from}
+use Rattle.std.proofs.Common.{rules, refl, ap, sym, ◌∙◌}
 use Rattle.digraph.specs.Graphs.{graph_of}
 use Rattle.express_trees.specs.Views.{capitals}
 use Rattle.express_schemas.specs.Schemas.{Derived}
 use Rattle.express_schemas.specs.SchemaViews.{schema_of}
 use Rattle.express_schemas.specs.Views.{derived_of}
+use Rattle.express_schemas.specs.declared.tree.Derived.{Derived as DerivedTree}
 use Rattle.attribute_sources.specs.Deriving.{gives, first_behind}
 use Rattle.attribute_sources.proofs.Positions.{position-mapped}
+use Rattle.attribute_sources.proofs.Walking.{from-here}
 use Rattle.attribute_sources.proofs.derivations.first_behind.Goals as goal
 
-pub returns : goal.returns
-returns c =
-    let xs = c.deriveds_in.result.now in
+pub loop-n-init : goal.loop-n-init
+loop-n-init c =
     let s = schema_of c.args.names.now.schema.now in
     let lines = graph_of c.args.lines.now in
     let a = capitals c.args.asked.name in
     let p = c.args.asked.entity in
     let test = λ (d : Derived). gives s lines a p c.args.entity d.attribute in
-    let run = position_from_yields_List (λ x. test (derived_of x)) _ _ _ c.position.ensures.ran
-    (YieldsList-from_slice xs cc) (λ x b q k. search (rules, tests)) in
-    run ∙ position_from-zero (λ x. test (derived_of x)) xs ∙ position-mapped derived_of test 0 xs
-    ∙ ap (first_behind s lines a p c.args.entity) c.deriveds_in.ensures
+    position-mapped derived_of test 0 c.deriveds_in-deriveds.result.now
+    ∙ ap (first_behind s lines a p c.args.entity) c.deriveds_in-deriveds.ensures
+
+pub returns-then-gives : goal.returns-then-gives
+returns-then-gives c =
+    let test = λ (d : DerivedTree). gives (schema_of c.args.names.now.schema.now) (graph_of c.args.lines.now)
+    (capitals c.args.asked.name) c.args.asked.entity c.args.entity (derived_of d).attribute in
+    let xs = c.deriveds_in-deriveds.result.now in
+    let n = c.loop-n.n in
+    let rest = position_from test (n + 1) (drop (n + 1) xs) in
+    sym (ap (λ b. cond b (Some n) rest) (sym c.gives.ensures ∙ c.if-gives.true))
+    ∙ from-here (position_from test) (λ k x r. cond (test x) (Some k) r) (λ k x ys. refl) _ xs n
+    c.index-deriveds-n.result c.loop-n-test.true c.loop-n.invariant
+
+pub loop-n-preserved : goal.loop-n-preserved
+loop-n-preserved c =
+    let test = λ (d : DerivedTree). gives (schema_of c.args.names.now.schema.now) (graph_of c.args.lines.now)
+    (capitals c.args.asked.name) c.args.asked.entity c.args.entity (derived_of d).attribute in
+    let xs = c.deriveds_in-deriveds.result.now in
+    let n = c.loop-n.n in
+    let rest = position_from test (n + 1) (drop (n + 1) xs) in
+    sym (ap (λ b. cond b (Some n) rest) (sym c.gives.ensures ∙ c.if-gives.false))
+    ∙ from-here (position_from test) (λ k x r. cond (test x) (Some k) r) (λ k x ys. refl) _ xs n
+    c.index-deriveds-n.result c.loop-n-test.true c.loop-n.invariant

@@ -1,7 +1,5 @@
-use Rattle.std.proofs.Common.{rules, tests, ◌∙◌, ◌||◌, ap, sym}
+use Rattle.std.proofs.Common.{◌∙◌, ◌||◌, ap, sym}
 use Rattle.std.specs.List.{list_any}
-use Rattle.std.proofs.lemmas.Iterator.Search.{any_from_yields_List}
-use Rattle.std.proofs.lemmas.Iterator.{YieldsList-from_slice}
 use Rattle.digraph.specs.Graphs.{next, graph_of}
 use Rattle.digraph.proofs.RowLists.{row-is}
 use Rattle.express_trees.specs.Views.{capitals}
@@ -13,12 +11,9 @@ pub returns-else-has_item_at : goal.returns-else-has_item_at
 returns-else-has_item_at c =
     let test = has_item_at (schema_at c.args.tables.now) (capitals c.args.name) in
     let parts = c.args.tables.now.parts.now in
-    let xs = c.deref.result.now in
-    let run =
-    any_from_yields_List test _ _ _ c.any.ensures.ran (YieldsList-from_slice xs cc) (λ x b q k. search (rules, tests)) in
     let row =
-    row-is (λ v. v.items) parts c.args.part c.index-tables-part.result xs c.requires c.index-tables-part.is
-    (c.deref.ensures.value ∙ ap (λ v. v.items) (sym c.index-tables-part.is)) in
-    run ∙ ap (list_any test) row
+    row-is (λ v. v.items) parts c.args.part c.index-tables-part.result c.deref.result.now c.requires
+    c.index-tables-part.is (c.deref.ensures.value ∙ ap (λ v. v.items) (sym c.index-tables-part.is)) in
+    c.any_has_item.ensures ∙ ap (list_any test) row
     ∙ ap (λ b. b || list_any test (next (graph_of parts) c.args.part))
     (sym c.if-has_item_at.false ∙ c.has_item_at.ensures)

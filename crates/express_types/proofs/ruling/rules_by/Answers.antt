@@ -12,9 +12,8 @@ rule_tables-requires c =
         known = c.requires.known;
         lines = c.requires.lines;
         each = c.requires.each;
-        places = ap places_of c.deref.ensures.value ∙ c.in_ok-explicit.ensures.places;
+        places = ap places_of c.deref.ensures.value ∙ c.requires.places;
         own = subst (λ rows. AreRows (all_places s) s.declarations (graph_of rows)) (sym c.deref-2.ensures.value)
-            (subst (λ all. AreRows all s.declarations (graph_of c.in_ok-explicit.explicit.own.items))
-            c.in_ok-explicit.ensures.places c.in_ok-explicit.ensures.own);
+            c.requires.own;
       };
     }

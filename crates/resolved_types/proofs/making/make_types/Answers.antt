@@ -19,4 +19,5 @@ invariant_of-result c =
       attributes_are = c.in_ok-places.ensures.attributes;
       places_are = ∣ c.in_ok-places.ensures.rows ∣₁;
       places_each = c.in_ok-places.ensures.each;
+      own_are = ∣ c.in_ok-places.ensures.own ∣₁;
     }

@@ -13,11 +13,11 @@ returns-clause-worth c m computed =
     let types = types_seen s c.types_of.result.now in
     let e = capitals c.args.entity in
     let a = capitals c.args.name in
-    let x = c.source_in_group-source.result in
+    let x = c.group_source-source.result in
     let told =
     subst (λ rows. AreAttributes s (inverses_seen s rows) m.attributes
     → source_seen s (inverses_seen s rows) x ≡ m.attributes.source_of types e a) c.deref.ensures.value
-    (c.source_in_group-source.ensures.value m.attributes) m.are_attributes in
+    (c.group_source-source.ensures.value m.attributes) m.are_attributes in
     ap or_nothing
     (is_member s m.domain m.entities m.attributes (population_in S) computed (inverses_in S) m.are_attributes
     c.args.instance types c.types_of.ensures.types a e (source_seen s (inverses_in S) x)

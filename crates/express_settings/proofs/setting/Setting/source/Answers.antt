@@ -27,14 +27,14 @@ returns-in-None-clause-value c m =
     let s = schema_in S in
     let types = types_seen s c.types_of.result.now in
     let a = capitals c.args.name in
-    let x = c.source.result in
+    let x = c.attribute_source.result in
     subst (λ rows. AreAttributes s (inverses_seen s rows) m.attributes
     → option_map (source_seen s (inverses_seen s rows)) x ≡ m.attributes.source types a) c.deref.ensures.value
-    (c.source.ensures.value m.attributes) m.are_attributes
+    (c.attribute_source.ensures.value m.attributes) m.are_attributes
     ∙ ap (λ ts. m.attributes.source ts a) c.types_of.ensures.types
 
 pub returns-in-None-clause-numbered : goal.returns-in-None-clause-numbered
 returns-in-None-clause-numbered c =
     let s = schema_in c.args.self.now in
-    subst (λ rows. IfSome c.source.result (IsNumbered s (inverses_seen s rows))) c.deref.ensures.value
-    c.source.ensures.numbered
+    subst (λ rows. IfSome c.attribute_source.result (IsNumbered s (inverses_seen s rows))) c.deref.ensures.value
+    c.attribute_source.ensures.numbered

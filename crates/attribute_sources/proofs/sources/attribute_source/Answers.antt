@@ -4,7 +4,7 @@ use Rattle.express_meanings.specs.Attributes.{unclear}
 use Rattle.attribute_sources.specs.Seen.{schema_in, types_seen, inverses_seen, source_seen}
 use Rattle.attribute_sources.proofs.Naming.{number-at, declares-alone, named-none, named-one, named-two}
 use Rattle.attribute_sources.proofs.Answering.{source-is}
-use Rattle.attribute_sources.proofs.sources.AttributeSources.source.Goals as goal
+use Rattle.attribute_sources.proofs.sources.attribute_source.Goals as goal
 
 pub source_of-requires-clause-asked : goal.source_of-requires-clause-asked
 source_of-requires-clause-asked c =

@@ -4,7 +4,7 @@ use Rattle.express_meanings.specs.Attributes.{unclear}
 use Rattle.attribute_sources.specs.Seen.{schema_in, types_seen, inverses_seen, source_seen}
 use Rattle.attribute_sources.proofs.Membership.{is-declaring, in-group, not-in-group}
 use Rattle.attribute_sources.proofs.Answering.{source-of-is}
-use Rattle.attribute_sources.proofs.sources.AttributeSources.source_in_group.Goals as goal
+use Rattle.attribute_sources.proofs.sources.group_source.Goals as goal
 
 pub source_of-requires-clause-asked : goal.source_of-requires-clause-asked
 source_of-requires-clause-asked c = c.in-Some.ensures.1
