@@ -49,11 +49,11 @@ pub enum Found<'p, 'r> {
 }
 
 /// What stands at a number.
-fn base_at(bases: &[Base], number: u32) -> Base
+fn base_at(bases: &[Base], number: u32) -> &Base
     requires { number < length bases.now }
-    ensures { slice_get bases.now number ≡ Some result }
+    ensures { slice_get bases.now number ≡ Some result.now }
 {
-    bases[number as usize]
+    &bases[number as usize]
 }
 
 /// The only one of these instances; indeterminate where there are more, or none.

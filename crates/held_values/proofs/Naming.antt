@@ -10,9 +10,7 @@ use Rattle.express_schemas.specs.Schemas.{Declaration}
 use Rattle.type_graphs.specs.Names.{Name, declared_name, is_named}
 use Rattle.schema_names.specs.Numbers.{number_from}
 use Rattle.schema_names.specs.Words.{same_word}
-use Rattle.base_types.specs.declared.base.Base.{Base}
-use Rattle.base_types.specs.Making.{entry}
-use Rattle.held_values.specs.Named.{entry_in, names}
+use Rattle.held_values.specs.Named.{names}
 
 -- a test of names is the same from both sides
 pub turned-test : (m n : Name) → bytes_eq m n ≡ bytes_eq n m
@@ -27,11 +25,11 @@ turned-test m n = by (bytes_eq m n) (bytes_eq n m) refl refl
         let same : bytes_eq m n ≡ true = (bytes_eq-Decides m n).1 (sym ((bytes_eq-Decides n m).0 f)) in absurd (cc)
 
 -- what a name stands for among entries
-abbrev among : Name → List (Word × Base) → Option Base
+abbrev among : Name → List (Word × ℕ) → Option ℕ
 among n es = lookup (λ v. bytes_eq n (word_of v)) es
 
 -- an entry takes the place of one of the same word
-taken : (n : Name) (w v : Word) (b c : Base) (es : List (Word × Base)) (p q : Bool) → bytes_eq n (word_of v) ≡ p
+taken : (n : Name) (w v : Word) (b c : ℕ) (es : List (Word × ℕ)) (p q : Bool) → bytes_eq n (word_of v) ≡ p
     → bytes_eq n (word_of w) ≡ q → same_word w v ≡ true
     → cond p (Some b) (among n es) ≡ cond q (Some b) (cond p (Some c) (among n es))
 taken n w v b c es true true e f same = refl
@@ -44,7 +42,7 @@ taken n w v b c es false true e f same =
     let other : bytes_eq n (word_of w) ≡ false = ap (bytes_eq n) words ∙ e in absurd (cc)
 
 -- an entry of another word stays
-stays : (n : Name) (w v : Word) (b c : Base) (o : Option Base) (p q : Bool) → bytes_eq n (word_of v) ≡ p
+stays : (n : Name) (w v : Word) (b c : ℕ) (o : Option ℕ) (p q : Bool) → bytes_eq n (word_of v) ≡ p
     → bytes_eq n (word_of w) ≡ q → same_word w v ≡ false
     → cond p (Some c) (cond q (Some b) o) ≡ cond q (Some b) (cond p (Some c) o)
 stays n w v b c o true true e f other =
@@ -54,7 +52,7 @@ stays n w v b c o true true e f other =
 stays n w v b c o true false e f other = refl
 stays n w v b c o false q e f other = refl
 
-inserted-by : (n : Name) (w : Word) (b : Base) (e : Word × Base) (es : List (Word × Base)) (same : Bool)
+inserted-by : (n : Name) (w : Word) (b : ℕ) (e : Word × ℕ) (es : List (Word × ℕ)) (same : Bool)
     → same_word w e.0 ≡ same
     → among n (insert_entry same_word es w b) ≡ cond (bytes_eq n (word_of w)) (Some b) (among n es)
     → among n (if same then (e.0, b) ∷ es else e ∷ insert_entry same_word es w b)
@@ -66,7 +64,7 @@ inserted-by n w b e es false other more =
     ∙ stays n w e.0 b e.1 (among n es) (bytes_eq n (word_of e.0)) (bytes_eq n (word_of w)) refl refl other
 
 -- an entry more
-pub found-inserted : (es : List (Word × Base)) (w : Word) (b : Base) (n : Name)
+pub found-inserted : (es : List (Word × ℕ)) (w : Word) (b : ℕ) (n : Name)
     → lookup (λ v. bytes_eq n (word_of v)) (insert_entry same_word es w b)
     ≡ cond (bytes_eq n (word_of w)) (Some b) (lookup (λ v. bytes_eq n (word_of v)) es)
 found-inserted [] w b n = refl
@@ -83,37 +81,32 @@ mapped-length f [] = refl
 mapped-length f (x ∷ xs) = ap suc (mapped-length f xs)
 
 -- one declaration more, from the last one on
-pub from-next : (declared : List Base) (ds : List Declaration) (i : ℕ) (n : Name) → i < length ds
-    → (if names (slice_get ds i) n then Some (entry declared i)
-    else entry_in declared (number_from (i + 1) (drop (i + 1) ds) n))
-    ≡ entry_in declared (number_from i (drop i ds) n)
-from-next declared ds i n l = by (there ds i l)
+pub from-next : (ds : List Declaration) (i : ℕ) (n : Name) → i < length ds
+    → (if names (slice_get ds i) n then Some i else number_from (i + 1) (drop (i + 1) ds) n)
+    ≡ number_from i (drop i ds) n
+from-next ds i n l = by (there ds i l)
   where
     dropped : (ds : List Declaration) (i : ℕ) (d : Declaration) → slice_get ds i ≡ Some d → drop i ds ≡ d ∷ drop (suc i) ds
     dropped [] i d e = absurd (cc)
     dropped (x ∷ xs) zero d e = let same : x ≡ d = cc in ap (λ y. y ∷ xs) same
     dropped (x ∷ xs) (suc i) d e = dropped xs i d e
 
-    chosen : (b : Bool) (o : Option ℕ)
-        → (if b then Some (entry declared i) else entry_in declared o) ≡ entry_in declared (cond b (Some i) o)
+    chosen : (b : Bool) (o : Option ℕ) → (if b then Some i else o) ≡ cond b (Some i) o
     chosen true o = refl
     chosen false o = refl
 
     by : (d : Declaration) × (slice_get ds i ≡ Some d)
-        → (if names (slice_get ds i) n then Some (entry declared i)
-        else entry_in declared (number_from (i + 1) (drop (i + 1) ds) n))
-        ≡ entry_in declared (number_from i (drop i ds) n)
+        → (if names (slice_get ds i) n then Some i else number_from (i + 1) (drop (i + 1) ds) n)
+        ≡ number_from i (drop i ds) n
     by (d, at) =
         let next : i + 1 ≡ suc i = omega arith in
-        ap (λ o. if names o n then Some (entry declared i)
-        else entry_in declared (number_from (i + 1) (drop (i + 1) ds) n)) at
+        ap (λ o. if names o n then Some i else number_from (i + 1) (drop (i + 1) ds) n) at
         ∙ chosen (is_named n (declared_name d)) (number_from (i + 1) (drop (i + 1) ds) n)
-        ∙ ap (λ k. entry_in declared (cond (is_named n (declared_name d)) (Some i) (number_from (i + 1) (drop k ds) n))) next
-        ∙ ap (λ xs. entry_in declared (number_from i xs n)) (sym (dropped ds i d at))
+        ∙ ap (λ k. cond (is_named n (declared_name d)) (Some i) (number_from (i + 1) (drop k ds) n)) next
+        ∙ ap (λ xs. number_from i xs n) (sym (dropped ds i d at))
 
-pub at-end : (declared : List Base) (ds : List Declaration) (i : ℕ) (n : Name) → i ≡ length ds
-    → None ≡ entry_in declared (number_from i (drop i ds) n)
-at-end declared ds i n e = sym (ap (λ xs. entry_in declared (number_from i xs n)) (none-left ds i e))
+pub at-end : (ds : List Declaration) (i : ℕ) (n : Name) → i ≡ length ds → None ≡ number_from i (drop i ds) n
+at-end ds i n e = sym (ap (λ xs. number_from i xs n) (none-left ds i e))
   where
     none-left : (ds : List Declaration) (i : ℕ) → i ≡ length ds → drop i ds ≡ []
     none-left [] i e = ap (λ k. drop k []) e
@@ -121,7 +114,7 @@ at-end declared ds i n e = sym (ap (λ xs. entry_in declared (number_from i xs n
     none-left (d ∷ ds) (suc i) e = none-left ds i (omega (arith, e))
 
 -- the name of a declaration is added
-pub added : (ds : List Declaration) (i : ℕ) (d : Declaration) (w : Word) (b : Base) (es new : List (Word × Base))
+pub added : (ds : List Declaration) (i : ℕ) (d : Declaration) (w : Word) (b : ℕ) (es new : List (Word × ℕ))
     (n : Name) → slice_get ds i ≡ Some d → Some (word_of w) ≡ declared_name d
     → new ≡ insert_entry same_word es w b
     → among n new ≡ (if names (slice_get ds i) n then Some b else among n es)

@@ -96,11 +96,14 @@ module _ (s : Schema) (t : BaseTypes) (are : AreBaseTypes s t) where
       subst (IsNumbered s) (sym (at-get t.by_declaration.items j b Integer at)) (are.declared j b at)
 
   pub are-value-types : (v : ValueTypes) → v.by_number.now ≡ t.by_number.items
-      → ((n : Name) → found v.by_name n ≡ entry_in t.by_declaration.items (number_of s n)) → AreValueTypes s v
-  are-value-types v numbers names = record {
+      → v.by_declaration.now ≡ t.by_declaration.items → ((n : Name) → found v.numbers n ≡ number_of s n)
+      → AreValueTypes s v
+  are-value-types v numbers declared names = record {
     by_number = λ d is i known. ap (λ bs. base_seen s (entry bs i)) numbers ∙ number-says i known d is;
     by_name = λ d is n i k.
-        ap (base_seen s) (ap or_integer (names n ∙ ap (entry_in t.by_declaration.items) k)) ∙ entry-says d is n i k;
+        ap (λ bs. base_seen s (or_integer (entry_in bs (found v.numbers n)))) declared
+        ∙ ap (λ o. base_seen s (or_integer (entry_in t.by_declaration.items o))) (names n ∙ k) ∙ entry-says d is n i k;
     numbered = λ i. subst (IsNumbered s) (sym (ap (λ bs. entry bs i) numbers)) (number-numbered i);
-    named = λ n. subst (IsNumbered s) (sym (ap or_integer (names n))) (entry-numbered n (number_of s n) refl);
+    named = λ n. subst (IsNumbered s) (sym (ap (λ bs. or_integer (entry_in bs (found v.numbers n))) declared
+        ∙ ap (λ o. or_integer (entry_in t.by_declaration.items o)) (names n))) (entry-numbered n (number_of s n) refl);
   }

@@ -17,7 +17,7 @@ use Rattle.express_meanings.specs.Values.{logical_of}
 use Rattle.held_values.specs.declared.types.ValueTypes.{ValueTypes}
 use Rattle.held_values.specs.declared.shape.Shape as coded
 use Rattle.held_values.specs.declared.shape.Shape.TheVariants as shapes
-use Rattle.held_values.specs.Named.{found, or_integer}
+use Rattle.held_values.specs.Named.{found, or_integer, entry_in}
 
 -- what the data type of a number asks
 abbrev pub number_base : ValueTypes → ℕ → Base
@@ -25,7 +25,7 @@ number_base t i = entry t.by_number.now i
 
 -- what a name stands for
 abbrev pub named_base : ValueTypes → Name → Base
-named_base t n = or_integer (found t.by_name n)
+named_base t n = or_integer (entry_in t.by_declaration.now (found t.numbers n))
 
 -- what is asked of the elements of an aggregate
 abbrev pub element_base : ValueTypes → Base → Base
@@ -61,7 +61,7 @@ coded_shape b = list
 abbrev pub shape_seen : coded.Shape → Shape
 shape_seen shapes.List = list
 shape_seen shapes.Bag = bag
-shape_seen (shapes.Array first last) = array first last
+shape_seen (shapes.Array a) = array a.now.lower a.now.upper
 
 module _ (t : ValueTypes) where
   -- what a value of this data type is worth; the value inside a typed one is of the type that is named

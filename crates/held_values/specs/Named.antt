@@ -10,8 +10,8 @@ use Rattle.base_types.specs.declared.base.Base.{Base}
 use Rattle.base_types.specs.declared.base.Base.TheVariants.{Integer}
 use Rattle.base_types.specs.Making.{entry}
 
--- what a name stands for, however the letters of the word are written
-abbrev pub found : {S : Type 0} → HashMap Word Base S → Name → Option Base
+-- the number that a name has, however the letters of the word are written
+abbrev pub found : {S : Type 0} → HashMap Word ℕ S → Name → Option ℕ
 found m n = get_by (λ w. bytes_eq n (word_of w)) m
 
 abbrev pub or_integer : Option Base → Base

@@ -29,7 +29,7 @@ picked (i ∷ is) ds = more (or_indeterminate (element_at i ds)) (picked is ds)
 unfoldable pub element_datum : Element → Datum
 element_datum elements.Nothing = indeterminate
 element_datum (elements.Instance y) = data_of.instance y
-element_datum (elements.Value t b v) = coded_datum t.now b v
+element_datum (elements.Value t b v) = coded_datum t.now b.now v
 
 abbrev pub content_name : Content → Name
 content_name (contents.Typed t w v) = word_of w
@@ -41,7 +41,7 @@ content_inner c = indeterminate
 
 abbrev pub content_elements : Content → Data
 content_elements (contents.Typed t w v) = none
-content_elements (contents.Values t b vs) = coded_each t.now b vs
+content_elements (contents.Values t b vs) = coded_each t.now b.now vs
 content_elements (contents.Instances ys) = instances ys.now
 
 abbrev pub chosen : Option (Vec ℕ) → Data → Data

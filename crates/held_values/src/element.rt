@@ -22,7 +22,7 @@ pub enum Element<'p, 'r> {
     /// A value of this data type.
     Value {
         types: &'p ValueTypes<'r>,
-        base: Base,
+        base: &'p Base,
         value: Slot<'p, 'r>,
     },
 }

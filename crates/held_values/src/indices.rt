@@ -27,13 +27,13 @@ fn whole_number<'p, 'r>(datum: &Datum<'r, Part<'p, 'r>>) -> Option<i64>
 
 /// Whether so many elements have indices: those of a SET or BAG have no order, so there it is one
 /// alone that has.
-fn has_indices(shape: Shape, len: usize) -> bool
-    ensures { result ≡ has_indices (shape_seen shape) len }
+fn has_indices(shape: Shape<'_>, len: usize) -> bool
+    ensures { result ≡ has_indices (shape_seen shape.entry) len }
 {
     match shape {
         Shape::Bag => len == 1,
         Shape::List => true,
-        Shape::Array { .. } => true,
+        Shape::Array(_) => true,
     }
 }
 

@@ -85,7 +85,7 @@ fn last_index<'p, 'r>(part: &Part<'p, 'r>) -> Result<Option<i64>, AllocError>
     ensures { IfOk result (λ n. n ≡ last_index (holding part.now).shape (size_of (holding part.now).elements)) }
 {
     match part.shape() {
-        Shape::Array { last, .. } => Ok(last),
+        Shape::Array(aggregate) => Ok(aggregate.upper),
         Shape::List => Ok(Some(count(part.len())?)),
         Shape::Bag => Ok(Some(count(part.len())?)),
     }

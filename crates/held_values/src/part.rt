@@ -47,7 +47,7 @@ enum Content<'p, 'r> {
     /// Values of this data type.
     Values {
         types: &'p ValueTypes<'r>,
-        base: Base,
+        base: &'p Base,
         values: Slots<'p, 'r>,
     },
     /// Instances, by their names.
@@ -58,7 +58,7 @@ enum Content<'p, 'r> {
 #[derive(Drop)]
 pub struct Part<'p, 'r> {
     content: Content<'p, 'r>,
-    shape: Shape,
+    shape: Shape<'p>,
     /// The indices of the elements, where they aren't all.
     kept: Option<Vec<usize>>,
 }
@@ -66,12 +66,12 @@ pub struct Part<'p, 'r> {
 /// The value of this index, as an element.
 fn value_at<'p, 'r>(
     types: &'p ValueTypes<'r>,
-    base: Base,
+    base: &'p Base,
     values: &Slots<'p, 'r>,
     index: usize,
 ) -> Element<'p, 'r>
     ensures { element_datum result
-        ≡ or_indeterminate (element_at index (coded_each types.entry.now base values.now)) }
+        ≡ or_indeterminate (element_at index (coded_each types.entry.now base.now values.now)) }
 {
     match values.item(index) {
         Some(value) => Element::Value { types, base, value },
@@ -205,11 +205,11 @@ impl<'p, 'r> Part<'p, 'r> {
     /// The values of an aggregate in order.
     pub(crate) fn in_order(
         types: &'p ValueTypes<'r>,
-        base: Base,
+        base: &'p Base,
         values: Slots<'p, 'r>,
     ) -> Part<'p, 'r>
         ensures { Data.aggregate (holding result).shape (holding result).elements
-            ≡ coded_datum types.entry.now base (sequence values.entry) }
+            ≡ coded_datum types.entry.now base.now (sequence values.entry) }
     {
         Part {
             content: Content::Values {
@@ -225,11 +225,11 @@ impl<'p, 'r> Part<'p, 'r> {
     /// The values of a SET or a BAG.
     pub(crate) fn in_no_order(
         types: &'p ValueTypes<'r>,
-        base: Base,
+        base: &'p Base,
         values: Slots<'p, 'r>,
     ) -> Part<'p, 'r>
         ensures { Data.aggregate (holding result).shape (holding result).elements
-            ≡ coded_datum types.entry.now base (bag values.entry) }
+            ≡ coded_datum types.entry.now base.now (bag values.entry) }
     {
         Part {
             content: Content::Values {
@@ -273,7 +273,7 @@ impl<'p, 'r> Part<'p, 'r> {
     }
 
     /// Its shape, where it is an aggregate.
-    pub fn shape(&self) -> Shape
+    pub fn shape(&self) -> Shape<'p>
         ensures { shape_seen result ≡ (holding self.now).shape }
     {
         self.shape

@@ -40,10 +40,10 @@ pub(crate) fn logical_of(word: Word<'_>) -> Logical
 }
 
 /// What an element of the file is compared by.
-fn element_scalar(base: Base, word: Word<'_>) -> Scalar<'_>
-    ensures { scalar_of result ≡ scalar (coded_element base (word_of word.entry)) }
+fn element_scalar<'r>(base: &Base, word: Word<'r>) -> Scalar<'r>
+    ensures { scalar_of result ≡ scalar (coded_element base.now (word_of word.entry)) }
 {
-    if is_logical(base) {
+    if is_logical(*base) {
         Scalar::Logical(logical_of(word))
     } else {
         Scalar::Element(word)
@@ -54,17 +54,17 @@ fn element_scalar(base: Base, word: Word<'_>) -> Scalar<'_>
 #[cycle(scalars)]
 pub(crate) fn value_scalar<'p, 'r>(
     types: &ValueTypes<'r>,
-    base: Base,
+    base: &Base,
     value: &Slot<'p, 'r>,
 ) -> Scalar<'r>
-    ensures { scalar_of result ≡ scalar (coded_datum types.now base value.now) }
+    ensures { scalar_of result ≡ scalar (coded_datum types.now base.now value.now) }
 {
     node_scalar(types, base, &value.node())
 }
 
 #[cycle(scalars)]
-fn node_scalar<'p, 'r>(types: &ValueTypes<'r>, base: Base, node: &Node<'p, 'r>) -> Scalar<'r>
-    ensures { scalar_of result ≡ scalar (coded_datum types.now base (node_value node.now)) }
+fn node_scalar<'p, 'r>(types: &ValueTypes<'r>, base: &Base, node: &Node<'p, 'r>) -> Scalar<'r>
+    ensures { scalar_of result ≡ scalar (coded_datum types.now base.now (node_value node.now)) }
 {
     match node {
         Node::Unset | Node::Derived | Node::Reference(_) => Scalar::Nothing,

@@ -23,10 +23,10 @@ use step_values::slot::{Node, Slot};
 /// enumeration.
 pub fn value_datum<'p, 'r>(
     types: &'p ValueTypes<'r>,
-    base: Base,
+    base: &'p Base,
     value: &Slot<'p, 'r>,
 ) -> Datum<'r, Part<'p, 'r>>
-    ensures { datum_of holding result ≡ coded_datum types.entry.now base value.now }
+    ensures { datum_of holding result ≡ coded_datum types.entry.now base.now value.now }
 {
     node_datum(types, base, value.node())
 }
@@ -34,10 +34,10 @@ pub fn value_datum<'p, 'r>(
 /// What a value of this outermost part is worth.
 fn node_datum<'p, 'r>(
     types: &'p ValueTypes<'r>,
-    base: Base,
+    base: &'p Base,
     node: Node<'p, 'r>,
 ) -> Datum<'r, Part<'p, 'r>>
-    ensures { datum_of holding result ≡ coded_datum types.entry.now base (node_value node.entry) }
+    ensures { datum_of holding result ≡ coded_datum types.entry.now base.now (node_value node.entry) }
 {
     match node {
         Node::Unset | Node::Derived => Datum::Indeterminate,
@@ -53,10 +53,10 @@ fn node_datum<'p, 'r>(
 }
 
 /// What an element of the file is worth.
-fn element_datum<'p, 'r>(base: Base, word: Word<'r>) -> Datum<'r, Part<'p, 'r>>
-    ensures { datum_of holding result ≡ coded_element base (word_of word.entry) }
+fn element_datum<'p, 'r>(base: &Base, word: Word<'r>) -> Datum<'r, Part<'p, 'r>>
+    ensures { datum_of holding result ≡ coded_element base.now (word_of word.entry) }
 {
-    if is_logical(base) {
+    if is_logical(*base) {
         Datum::Logical(logical_of(word))
     } else {
         Datum::Element(word)
@@ -68,10 +68,10 @@ fn element_datum<'p, 'r>(base: Base, word: Word<'r>) -> Datum<'r, Part<'p, 'r>>
 #[cycle(inside)]
 pub(crate) fn bare_value<'p, 'r>(
     types: &'p ValueTypes<'r>,
-    base: Base,
+    base: &'p Base,
     value: &Slot<'p, 'r>,
 ) -> Datum<'r, Part<'p, 'r>>
-    ensures { datum_of holding result ≡ bare (coded_datum types.entry.now base value.now) }
+    ensures { datum_of holding result ≡ bare (coded_datum types.entry.now base.now value.now) }
 {
     bare_node(types, base, value.node())
 }
@@ -79,11 +79,11 @@ pub(crate) fn bare_value<'p, 'r>(
 #[cycle(inside)]
 fn bare_node<'p, 'r>(
     types: &'p ValueTypes<'r>,
-    base: Base,
+    base: &'p Base,
     node: Node<'p, 'r>,
 ) -> Datum<'r, Part<'p, 'r>>
     ensures { datum_of holding result
-        ≡ bare (coded_datum types.entry.now base (node_value node.entry)) }
+        ≡ bare (coded_datum types.entry.now base.now (node_value node.entry)) }
 {
     match node {
         Node::Typed(word, inner) => bare_value(types, types.of_name(word), &inner),

@@ -13,11 +13,13 @@ ghost use Rattle.conformance.specs.Bases.{Domain, IsDomain};
 ghost use Rattle.conformance.specs.Fitting.{among};
 ghost use Rattle.base_types.specs.Seen.{items_of, items_in};
 ghost use Rattle.express_meanings.specs.Meanings.{type_names, items_in as of_base};
+ghost use Rattle.held_values.specs.Coded.{named_base};
 ghost use Rattle.held_values.specs.Tables.{AreValueTypes};
 ghost use Rattle.setting_names.specs.Naming.{is_type};
 
 use base_types::base::Base;
 use express_schemas::tree::{Declaration, Underlying};
+use held_values::types::ValueTypes;
 use schema_names::names::Names;
 use setting_tables::tables::SettingTables;
 use step_literals::literal::Word;
@@ -59,6 +61,13 @@ fn is_among(names: &[Word<'_>], name: Word<'_>) -> bool
     names.iter().any(|each| name == *each)
 }
 
+/// What a name stands for.
+fn base_of(types: &ValueTypes<'_>, name: Word<'_>) -> Base
+    ensures { result ≡ named_base types.now (capitals name.entry) }
+{
+    *types.of_name(name)
+}
+
 /// Whether the defined type of this name stands for an enumeration that has an item of this name.
 pub fn is_item_of(
     names: &Names<'_, '_>,
@@ -78,7 +87,7 @@ pub fn is_item_of(
     if !is_type(names.declaration(number)) {
         return false;
     }
-    match tables.value_types.of_name(declared) {
+    match base_of(&tables.value_types, declared) {
         Base::Enumeration(enumeration) => {
             is_among(items_in(names.declaration(enumeration)), name)
         }

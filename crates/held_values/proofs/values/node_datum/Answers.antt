@@ -5,5 +5,5 @@ use Rattle.held_values.proofs.values.node_datum.Goals as goal
 
 pub returns-in-Typed : goal.returns-in-Typed
 returns-in-Typed c =
-    c.typed.ensures c.args.base
-    ∙ ap (λ n. coded_datum c.args.types.now c.args.base (node_value n)) (sym c.in-Typed.is)
+    c.typed.ensures c.args.base.now
+    ∙ ap (λ n. coded_datum c.args.types.now c.args.base.now (node_value n)) (sym c.in-Typed.is)

@@ -60,8 +60,8 @@ returns-in-Enumeration c d is =
     (ap (base_seen s) c.in-Enumeration.ensures ∙ c.requires.tables.by_name d is t i (sym c.in-Some.ensures)) in
     both_told one two
 
-pub returns-in_default-of_name : goal.returns-in_default-of_name
-returns-in_default-of_name c d is =
+pub returns-in_default-base_of : goal.returns-in_default-base_of
+returns-in_default-base_of c d is =
     let tree = c.args.names.now.schema.now in
     let s = schema_of tree in
     let n = capitals c.args.name in
@@ -72,7 +72,7 @@ returns-in_default-of_name c d is =
     let one : true ≡ among t (type_names s) =
     sym c.if-not-is_type.false ∙ c.is_type.ensures ∙ type_told s c.requires.resolved t i (sym c.in-Some.ensures) x at in
     let two : false ≡ among n (items_in (d.of_name t)) =
-    ap (among n) (no_items s c.of_name.result c.in_default-of_name.not-Enumeration)
+    ap (among n) (no_items s c.base_of.result c.in_default-base_of.not-Enumeration)
     ∙ ap (λ b. among n (items_in b))
-    (ap (base_seen s) c.of_name.ensures ∙ c.requires.tables.by_name d is t i (sym c.in-Some.ensures)) in
+    (ap (base_seen s) c.base_of.ensures ∙ c.requires.tables.by_name d is t i (sym c.in-Some.ensures)) in
     both_told one two

@@ -13,7 +13,7 @@ returns-in-Some c m =
     let is = population_in S in
     let y = c.args.instance in
     let q = c.args.place in
-    let b = c.base_at.result in
+    let b = c.base_at.result.now in
     let so =
     declared_at s S.tables.now.declared.items c.requires.setting.tables.declared q c.requires.place b
     (ap (λ l. slice_get l q) (sym c.deref.ensures.value) ∙ c.base_at.ensures) in

@@ -6,5 +6,5 @@ use Rattle.held_values.proofs.part.Content.len.Goals as goal
 
 pub returns-in-Values : goal.returns-in-Values
 returns-in-Values c =
-    c.len.ensures ∙ sym (size-coded c.in-Values.types.now c.in-Values.base c.in-Values.values)
+    c.len.ensures ∙ sym (size-coded c.in-Values.types.now c.in-Values.base.now c.in-Values.values)
     ∙ ap (λ x. size_of (content_elements x)) (sym c.in-Values.is)
