@@ -1,2 +1,4 @@
 pub mod Saying
+pub mod Letters
+pub mod Spelt
 pub mod Enumerations

@@ -2,5 +2,6 @@
 //! enumerations (ISO 10303-11, 15.25 and 8.4.1).
 #![tactic(auto)]
 
+mod dotted;
 pub mod items;
 pub mod types;

@@ -15,6 +15,7 @@ ghost use Rattle.express_meanings.specs.Meanings.{says_type};
 ghost use Rattle.attribute_sources.specs.Seen.{types_seen, AreTypes};
 ghost use Rattle.setting_names.specs.Naming.{type_name, says_one, says_in};
 
+use crate::dotted::says_name;
 use attribute_sources::defined::is_defined_by;
 use express_logic::strings::AnyString;
 use express_schemas::tree::Declaration;
@@ -29,7 +30,7 @@ fn says_type(names: &Names<'_, '_>, number: u32, text: &AnyString<'_>) -> bool
         (name_at (schema_of names.now.schema.now) number) }
 {
     match names.name(number) {
-        Some(name) => text.is_dotted(names.schema.name, name),
+        Some(name) => says_name(names, name, text),
         None => false,
     }
 }
@@ -74,7 +75,7 @@ fn says_defining(names: &Names<'_, '_>, number: u32, other: u32, text: &AnyStrin
     let Some(name) = type_name(names.declaration(other)) else {
         return false;
     };
-    text.is_dotted(names.schema.name, name) && is_defined_by(names, number, other)
+    says_name(names, name, text) && is_defined_by(names, number, other)
 }
 
 /// Whether a string names a defined type by which that of a number is defined.

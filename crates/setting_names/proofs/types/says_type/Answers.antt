@@ -17,7 +17,7 @@ pub returns-in-Some : goal.returns-in-Some
 returns-in-Some c =
     let s = schema_of c.args.names.now.schema.now in
     let n = capitals c.in-Some.name in
-    c.is_dotted.ensures
+    c.says_name.ensures
     ∙ ap (says_type s (text_of c.args.text.now))
     (one_name n (name_at s c.args.number) (called s c.args.number (Some n) c.requires c.in-Some.ensures))
 
