@@ -97,8 +97,7 @@ fn add_instance<'p, 'e, 'r, 't, 's: 'r, 'a>(
 ) -> Result<(), AllocError>
     requires setting { IsSetting asked.now.setting.now }
     requires limit { IsLimit asked.now.setting.now.formulas.now asked.now.limit }
-    requires plan { IsPlan (schema_in asked.now.setting.now)
-        asked.now.setting.now.extents.now.population.now.rows.forms.items plan.now }
+    requires plan { IsPlan asked.now.setting.now plan.now }
     requires row { tried.now.row < length (population_in asked.now.setting.now) }
     requires within { Every (λ n. n < length plan.now.rules.now) tried.now.numbers.now }
     ensures { OnOk result ((m : Meant asked.now.setting.now) → (x : Instance)
@@ -134,8 +133,7 @@ fn planned_report<'p, 'e, 'r, 't, 's: 'r, 'a>(
 ) -> Result<RuleReport<'s>, AllocError>
     requires setting { IsSetting asked.now.setting.now }
     requires limit { IsLimit asked.now.setting.now.formulas.now asked.now.limit }
-    requires plan { IsPlan (schema_in asked.now.setting.now)
-        asked.now.setting.now.extents.now.population.now.rows.forms.items plan.now }
+    requires plan { IsPlan asked.now.setting.now plan.now }
     ensures { IfOk result (λ r. (m : Meant asked.now.setting.now) → Has
         (flat_map (broken_in asked.now.setting.now m plan.now.rules.now)
         (population_in asked.now.setting.now))

@@ -2,11 +2,9 @@
 use Rattle.std.specs.Prelude.{◌≡◌, ⊤, ℕ, Bool, true, false, List, [], map, length}
 use Rattle.std.specs.List.{list_any}
 use Rattle.digraph.specs.Graphs.{has}
-use Rattle.express_schemas.specs.Schemas.{Schema}
 use Rattle.express_schemas.specs.Profile.{Every}
 use Rattle.base_types.specs.Seen.{name_at}
 use Rattle.conformance.specs.Populations.{Instance}
-use Rattle.row_forms.specs.declared.form.Form.{Form}
 use Rattle.domain_rules.specs.declared.rule.RuleHolder.{RuleHolder}
 use Rattle.domain_rules.specs.declared.rule.RuleHolder.TheVariants as holders
 use Rattle.domain_rules.specs.declared.rule.DomainRule.{DomainRule}
@@ -15,17 +13,19 @@ use Rattle.express_settings.specs.declared.setting.Setting.{Setting}
 use Rattle.express_settings.specs.Settings.{Meant, schema_in}
 use Rattle.self_values.specs.Seeking.{Agrees}
 use Rattle.self_values.specs.Speaking.{is_of, values_of}
+use Rattle.self_values.specs.Unsought.{forms_in, AreTables}
 use Rattle.rule_plans.specs.declared.plan.Plan.{Plan}
 use Rattle.rule_plans.specs.Applying.{numbers_by}
 use Rattle.rule_plans.specs.Wanted.{is_type_rule, AreTablesOf, IsUnion}
 
--- It is made of these rules, for instances of these forms.
-pub record IsPlan (s : Schema) (forms : List Form) (p : Plan) : Type 0 where
-  pub numbered : Every (IsNumbered s) p.rules.now
-  pub rows : map (λ v. v.items) p.rows.items ≡ map (numbers_by p.rules.now 0) forms
-  pub tables : AreTablesOf s p.rules.now (map (λ v. v.items) p.tables.items)
-  pub union : IsUnion (length s.declarations) (map (λ v. v.items) p.tables.items) p.union.items
+-- It is made of its rules, for instances of the forms of a population.
+pub record IsPlan (S : Setting) (p : Plan) : Type 0 where
+  pub numbered : Every (IsNumbered (schema_in S)) p.rules.now
+  pub rows : map (λ v. v.items) p.rows.items ≡ map (numbers_by p.rules.now 0) (forms_in S)
+  pub tables : AreTablesOf (schema_in S) p.rules.now (map (λ v. v.items) p.tables.items)
+  pub union : IsUnion (length (schema_in S).declarations) (map (λ v. v.items) p.tables.items) p.union.items
   pub seeks : p.seeks ≡ list_any is_type_rule p.rules.now
+  pub unsought : p.seeks ≡ true → AreTables S p.union.items (map (λ v. v.items) p.unsought.items)
 
 module _ (S : Setting) (m : Meant S) (x : Instance) (types : List ℕ) where
   -- Where none of these numbers passes a test that tells the defined type which states a rule and those that are

@@ -1,16 +1,18 @@
 //! What is made once, to try rules at the instances of a population.
 
-ghost use Rattle.std.specs.Prelude.{◌≡◌, ◌<◌, Some, length, slice_get, IfOk};
+ghost use Rattle.std.specs.Prelude.{◌≡◌, ◌<◌, true, Some, length, map, slice_get, IfOk};
 ghost use Rattle.express_schemas.specs.Profile.{Every};
 ghost use Rattle.conformance.specs.Populations.{Instance};
 ghost use Rattle.domain_rules.specs.Seen.{IsNumbered};
 ghost use Rattle.express_settings.specs.Settings.{IsSetting, Meant, schema_in, population_in};
+ghost use Rattle.self_values.specs.Unsought.{AreTables};
 ghost use Rattle.rule_plans.specs.Planning.{IsPlan, TellAll};
 
 use crate::applying::numbers_by_form;
 use crate::wanted::{has_type_rule, tables_of, union_of};
 use domain_rules::rule::DomainRule;
 use express_settings::setting::Setting;
+use self_values::unsought::unsought_by_form;
 use self_values::values::value_types;
 use std::alloc::{AllocError, Global};
 
@@ -26,6 +28,27 @@ pub struct Plan<'s, 't, 'n> {
     pub union: Vec<bool>,
     /// A defined type states one of the rules.
     pub seeks: bool,
+    /// By form, by attribute, whether none of its declarations has a data type for whose values or
+    /// elements some rule is tried; empty where no defined type states a rule.
+    pub unsought: Vec<Vec<bool>>,
+}
+
+/// By form, by attribute, whether no values of these types are sought there, where they are sought
+/// at all; else an empty table.
+fn unsought_where(
+    alloc: Global,
+    setting: &Setting<'_, '_, '_, '_, '_, '_>,
+    wanted: &[bool],
+    seeks: bool,
+) -> Result<Vec<Vec<bool>>, AllocError>
+    requires { IsSetting setting.now }
+    ensures { IfOk result (λ t. seeks ≡ true
+        → AreTables setting.now wanted.now (map (λ v. v.items) t.items)) }
+{
+    if seeks {
+        return unsought_by_form(alloc, setting, wanted);
+    }
+    Ok(Vec::new(alloc))
 }
 
 /// The plan of these rules.
@@ -36,8 +59,7 @@ pub fn plan_of<'n, 't, 's>(
 ) -> Result<Plan<'s, 't, 'n>, AllocError>
     requires setting { IsSetting setting.now }
     requires numbered { Every (IsNumbered (schema_in setting.now)) rules.now }
-    ensures plan { IfOk result (IsPlan (schema_in setting.now)
-        setting.now.extents.now.population.now.rows.forms.items) }
+    ensures plan { IfOk result (IsPlan setting.now) }
     ensures rules { IfOk result (λ p. p.rules.now ≡ rules.now) }
 {
     let population = setting.extents.population;
@@ -46,12 +68,14 @@ pub fn plan_of<'n, 't, 's>(
     let union = union_of(alloc, names, &tables)?;
     let rows = numbers_by_form(alloc, rules, population.forms())?;
     let seeks = has_type_rule(rules);
+    let unsought = unsought_where(alloc, setting, &union, seeks)?;
     Ok(Plan {
         rules,
         rows,
         tables,
         union,
         seeks,
+        unsought,
     })
 }
 
@@ -64,14 +88,13 @@ pub fn types_at<'p, 'e, 'r, 't, 's: 'r, 'a>(
 ) -> Result<Vec<u32>, AllocError>
     requires setting { IsSetting setting.now }
     requires within { row < length (population_in setting.now) }
-    requires plan { IsPlan (schema_in setting.now)
-        setting.now.extents.now.population.now.rows.forms.items plan.now }
+    requires plan { IsPlan setting.now plan.now }
     ensures { IfOk result (λ v. (m : Meant setting.now) → (x : Instance)
         → slice_get (population_in setting.now) row ≡ Some x
         → TellAll setting.now m x v.items plan.now.rules.now) }
 {
     if plan.seeks {
-        return value_types(alloc, setting, row, &plan.union);
+        return value_types(alloc, setting, row, &plan.union, &plan.unsought);
     }
     Ok(Vec::new(alloc))
 }

@@ -1,12 +1,10 @@
 -- Values that are found, one behind the other.
 use Rattle.std.specs.Prelude.{◌≡◌, ℕ, Bool, true, false, ◌||◌, List, [], ◌∷◌, ◌++◌, map, eqb}
-use Rattle.std.specs.List.{list_any}
 use Rattle.std.proofs.Common.{refl, sym, ap, subst, ◌∙◌, append_assoc, append-nil, arith}
 use Rattle.std.proofs.lemmas.Bool.Decides.{nat_tests}
 use Rattle.std.proofs.lemmas.List.{map-append}
 use Rattle.std.proofs.lemmas.List.Folds.{list_any-append}
 use Rattle.digraph.specs.Graphs.{has}
-use Rattle.digraph.proofs.Found.{has-more}
 use Rattle.express_logic.specs.Data.{Datum}
 use Rattle.held_values.specs.declared.element.Element.{Element}
 use Rattle.held_values.specs.Parts.{element_datum}

@@ -1,5 +1,5 @@
 -- Steps over the values of an instance.
-use Rattle.std.specs.Prelude.{◌≡◌, ◌≢◌, ℕ, zero, suc, ◌+◌, ◌≤◌, ◌==◌, Bool, true, cond, List, [], ◌∷◌, ◌++◌, length, drop, Option, None, Some, slice_get}
+use Rattle.std.specs.Prelude.{◌≡◌, ◌≢◌, ℕ, zero, suc, ◌+◌, ◌≤◌, ◌==◌, true, cond, List, [], ◌∷◌, ◌++◌, length, drop, Option, None, Some, slice_get}
 use Rattle.std.proofs.Common.{refl, sym, ap, ◌∙◌, append-nil, arith}
 use Rattle.std.proofs.lemmas.Bool.Decides.{nat_tests}
 use Rattle.std.proofs.lemmas.List.Elements.{filter-append}
@@ -90,7 +90,7 @@ module _ (x : Seeker) where
         (append-nil (of_place q (uses_at t j)) ∙ ap (of_place q) (sym at))
 
   -- attributes in turn
-  nothing-there : (b : Base) (us : List AttributeUse) → coded_uses x b None us ≡ []
+  pub nothing-there : (b : Base) (us : List AttributeUse) → coded_uses x b None us ≡ []
   nothing-there b [] = refl
   nothing-there b (u ∷ us) = nothing-there b us
 

@@ -15,7 +15,6 @@ use Rattle.data_types.specs.declared.forms.Form.TheVariants as forms
 use Rattle.base_types.specs.declared.base.Base.{Base}
 use Rattle.base_types.specs.declared.base.Base.TheVariants as bases
 use Rattle.base_types.specs.Making.{entry}
-use Rattle.base_types.specs.Seen.{name_at}
 use Rattle.attribute_uses.specs.declared.uses.AttributeUse.{AttributeUse}
 use Rattle.row_forms.specs.declared.form.Form.{Form as InstanceForm}
 use Rattle.row_forms.specs.declared.form.SlotForm.{SlotForm}

@@ -1,3 +1,5 @@
 pub mod Coded
+pub mod Flat
 pub mod Seeking
 pub mod Speaking
+pub mod Unsought

@@ -39,10 +39,10 @@ pub(crate) fn add<'p, 'r>(
     found: &mut Found<'p, 'r>,
     number: u32,
     types: &'p ValueTypes<'r>,
-    base: Base,
+    base: &'p Base,
     value: Slot<'p, 'r>,
 ) -> Result<(), AllocError>
-    ensures { OnOk result (Adds ((number, coded_datum types.entry.now base value.entry) ∷ []) found.old found.new) }
+    ensures { OnOk result (Adds ((number, coded_datum types.entry.now base.now value.entry) ∷ []) found.old found.new) }
 {
     if found.keeps {
         found.values.push(Element::Value { types, base, value })?;

@@ -58,7 +58,7 @@ impl<'a, 't, 'n, 'r, 'p> Seeker<'a, 't, 'n, 'r, 'p> {
         ensures { result ≡ coded.by_number self.now number }
     {
         let declared = wanted_in(self.wanted, named_at(self.forms, number));
-        let base = self.types.of_number(number);
+        let base = *self.types.of_number(number);
         Sought { declared, base }
     }
 
@@ -67,7 +67,7 @@ impl<'a, 't, 'n, 'r, 'p> Seeker<'a, 't, 'n, 'r, 'p> {
         ensures { result ≡ coded.by_name self.now (word_of name.entry) }
     {
         let declared = wanted_in(self.wanted, self.names.find(name));
-        let base = self.types.of_name(name);
+        let base = *self.types.of_name(name);
         Sought { declared, base }
     }
 

@@ -6,6 +6,8 @@ ghost use Rattle.std.specs.Prelude.{
   ◌<◌,
   [],
   ◌∷◌,
+  ◌&&◌,
+  true,
   List,
   Some,
   length,
@@ -29,17 +31,22 @@ ghost use Rattle.held_values.specs.Parts.{element_datum};
 ghost use Rattle.express_settings.specs.Settings.{IsSetting, Meant, schema_in, population_in};
 ghost use Rattle.self_values.specs.Coded.{
   Told,
+  is_wanted,
   slots_in,
   coded_at,
   coded_uses,
   coded_place,
   coded_slots,
 };
+ghost use Rattle.self_values.specs.Flat.{is_flat_at};
 ghost use Rattle.self_values.specs.Seeking.{Tells, Adds};
 ghost use Rattle.self_values.specs.Speaking.{is_of, values_of, AreFound, TypesTell};
+ghost use Rattle.self_values.specs.Unsought.{is_unsought_place, AreUnsought, AreRight};
 
+use crate::flat::is_flat_at;
 use crate::found::Found;
 use crate::sought::{Seeker, Sought};
+use crate::unsought::table_by;
 use crate::walk::add_values;
 use attribute_uses::uses::{AttributeUse, Uses};
 use base_types::base::Base;
@@ -88,17 +95,17 @@ fn slots_at(forms: &[Form], form: Option<u32>) -> &[SlotForm]
 }
 
 /// What the declaration of an attribute asks of its values.
-fn declared_at(declared: &[Base], place: u32) -> Base
-    ensures { result ≡ entry declared.now place }
+fn declared_at(declared: &[Base], place: u32) -> &Base
+    ensures { result.now ≡ entry declared.now place }
 {
     match declared.get(place as usize) {
-        Some(base) => *base,
-        None => Base::Integer,
+        Some(base) => base,
+        None => &Base::Integer,
     }
 }
 
 /// The declarations of explicit attributes by an entity; none where it is no number of one.
-fn uses_at(uses: &Uses, number: u32) -> &[AttributeUse]
+pub(crate) fn uses_at(uses: &Uses, number: u32) -> &[AttributeUse]
     ensures { result.now ≡ uses_at uses.now number }
 {
     match uses.explicit.get(number as usize) {
@@ -112,11 +119,11 @@ fn add_at<'p, 'r>(
     seeker: &Seeker<'_, '_, '_, 'r, 'p>,
     found: &mut Found<'p, 'r>,
     sought: Sought,
-    base: Base,
+    base: &'p Base,
     values: &Slots<'p, 'r>,
     position: usize,
 ) -> Result<(), AllocError>
-    ensures { OnOk result (Adds (coded_at seeker.now sought base (nth values.now position))
+    ensures { OnOk result (Adds (coded_at seeker.now sought base.now (nth values.now position))
         found.old found.new) }
 {
     match values.item(position) {
@@ -129,13 +136,13 @@ fn add_at<'p, 'r>(
 fn add_use<'p, 'r>(
     seeker: &Seeker<'_, '_, '_, 'r, 'p>,
     found: &mut Found<'p, 'r>,
-    base: Base,
+    base: &'p Base,
     values: &Slots<'p, 'r>,
     position: usize,
     place: u32,
     each: AttributeUse,
 ) -> Result<(), AllocError>
-    ensures { OnOk result (Adds (coded_uses seeker.now base (nth values.now position)
+    ensures { OnOk result (Adds (coded_uses seeker.now base.now (nth values.now position)
         (of_place place (each ∷ []))) found.old found.new) }
 {
     if each.place == place {
@@ -150,13 +157,13 @@ fn add_use<'p, 'r>(
 fn add_uses<'p, 'r>(
     seeker: &Seeker<'_, '_, '_, 'r, 'p>,
     found: &mut Found<'p, 'r>,
-    base: Base,
+    base: &'p Base,
     values: &Slots<'p, 'r>,
     position: usize,
     place: u32,
     uses: &[AttributeUse],
 ) -> Result<(), AllocError>
-    ensures { OnOk result (Adds (coded_uses seeker.now base (nth values.now position)
+    ensures { OnOk result (Adds (coded_uses seeker.now base.now (nth values.now position)
         (of_place place uses.now)) found.old found.new) }
 {
     for i in 0..uses.len() {
@@ -169,7 +176,7 @@ fn add_uses<'p, 'r>(
 fn add_place<'p, 'r>(
     seeker: &Seeker<'_, '_, '_, 'r, 'p>,
     found: &mut Found<'p, 'r>,
-    asked: &Asked<'_>,
+    asked: &Asked<'p>,
     values: &Slots<'p, 'r>,
     position: usize,
     place: u32,
@@ -186,20 +193,55 @@ fn add_place<'p, 'r>(
     Ok(())
 }
 
+/// Whether a table says of the attribute at a position that values of its data types aren't sought,
+/// and nothing deeper stands there.
+fn is_passed(unsought: &[bool], values: &Slots<'_, '_>, position: usize) -> bool
+    ensures { result ≡ (is_wanted unsought.now position && is_flat_at (nth values.now position)) }
+{
+    match unsought.get(position) {
+        Some(is_it) => *is_it && is_flat_at(values, position),
+        None => false,
+    }
+}
+
+/// Adds the values that are sought in the value at a position, which is one of the attribute of a
+/// place.
+fn add_slot<'p, 'r>(
+    seeker: &Seeker<'_, '_, '_, 'r, 'p>,
+    found: &mut Found<'p, 'r>,
+    asked: &Asked<'p>,
+    values: &Slots<'p, 'r>,
+    position: usize,
+    place: u32,
+    unsought: &[bool],
+) -> Result<(), AllocError>
+    requires { is_wanted unsought.now position ≡ true
+        → is_unsought_place seeker.now asked.now.uses.now asked.now.types.now place ≡ true }
+    ensures { OnOk result (Adds (coded_place seeker.now asked.now place (nth values.now position))
+        found.old found.new) }
+{
+    if is_passed(unsought, values, position) {
+        return Ok(());
+    }
+    add_place(seeker, found, asked, values, position, place)
+}
+
 /// Adds the values that are sought in the values of an instance, which are those of these
 /// attributes.
 fn add_slots<'p, 'r>(
     seeker: &Seeker<'_, '_, '_, 'r, 'p>,
     found: &mut Found<'p, 'r>,
-    asked: &Asked<'_>,
+    asked: &Asked<'p>,
     slots: &[SlotForm],
     values: &Slots<'p, 'r>,
+    unsought: &[bool],
 ) -> Result<(), AllocError>
+    requires { AreUnsought seeker.now asked.now.uses.now asked.now.types.now slots.now unsought.now }
     ensures { OnOk result (Adds (coded_slots seeker.now asked.now slots.now values.now) found.old
         found.new) }
 {
     for i in 0..slots.len() {
-        add_place(seeker, found, asked, values, i, slots[i].place)?;
+        add_slot(seeker, found, asked, values, i, slots[i].place, unsought)?;
     }
     Ok(())
 }
@@ -210,9 +252,11 @@ fn add_values_of<'p, 'e, 'r, 't, 's: 'r, 'a>(
     found: &mut Found<'p, 'r>,
     row: usize,
     wanted: &[bool],
+    unsought: &[Vec<bool>],
 ) -> Result<(), AllocError>
     requires setting { IsSetting setting.now }
     requires within { row < length (population_in setting.now) }
+    requires unsought { AreRight setting.now wanted.now (map (λ v. v.items) unsought.now) }
     ensures { OnOk result ((told : List Told) × Adds told found.old found.new
         × ((m : Meant setting.now) → (x : Instance)
         → slice_get (population_in setting.now) row ≡ Some x
@@ -234,7 +278,8 @@ fn add_values_of<'p, 'e, 'r, 't, 's: 'r, 'a>(
         types: types_at(forms, instance.form),
     };
     let slots = slots_at(forms, instance.form);
-    add_slots(&seeker, found, &asked, slots, &instance.values)
+    let table = table_by(unsought, instance.form);
+    add_slots(&seeker, found, &asked, slots, &instance.values, table)
 }
 
 /// Whether the instance of a row is of an entity.
@@ -273,13 +318,14 @@ pub fn self_values<'p, 'e, 'r, 't, 's: 'r, 'a>(
         values: Vec::new(alloc),
         types: Vec::new(alloc),
     };
-    add_values_of(setting, &mut found, row, wanted)?;
+    add_values_of(setting, &mut found, row, wanted, &[])?;
     let Found { values, .. } = found;
     Ok(values)
 }
 
 /// The numbers of the defined types of such values, each once: there is none for the rules of a type
-/// where none of these numbers is that of the type or of one that is defined by it.
+/// where none of these numbers is that of the type or of one that is defined by it. The tables are
+/// those of `unsought_by_form`; without one, all attributes are looked at.
 ///
 /// An error says that memory ran out.
 pub fn value_types<'p, 'e, 'r, 't, 's: 'r, 'a>(
@@ -287,9 +333,11 @@ pub fn value_types<'p, 'e, 'r, 't, 's: 'r, 'a>(
     setting: &Setting<'s, 't, 'r, 'a, 'e, 'p>,
     row: usize,
     wanted: &[bool],
+    unsought: &[Vec<bool>],
 ) -> Result<Vec<u32>, AllocError>
     requires setting { IsSetting setting.now }
     requires within { row < length (population_in setting.now) }
+    requires unsought { AreRight setting.now wanted.now (map (λ v. v.items) unsought.now) }
     ensures { IfOk result (λ v. (m : Meant setting.now) → (x : Instance)
         → slice_get (population_in setting.now) row ≡ Some x → TypesTell setting.now m x wanted.now v.items) }
 {
@@ -298,7 +346,7 @@ pub fn value_types<'p, 'e, 'r, 't, 's: 'r, 'a>(
         values: Vec::new(alloc),
         types: Vec::new(alloc),
     };
-    add_values_of(setting, &mut found, row, wanted)?;
+    add_values_of(setting, &mut found, row, wanted, unsought)?;
     let Found { types, .. } = found;
     Ok(types)
 }

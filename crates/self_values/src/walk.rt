@@ -36,10 +36,10 @@ fn add_itself<'p, 'r>(
     seeker: &Seeker<'_, '_, '_, 'r, 'p>,
     found: &mut Found<'p, 'r>,
     declared: Option<u32>,
-    base: Base,
+    base: &'p Base,
     value: Slot<'p, 'r>,
 ) -> Result<(), AllocError>
-    ensures { OnOk result (Adds (coded_itself seeker.now declared base value.entry) found.old found.new) }
+    ensures { OnOk result (Adds (coded_itself seeker.now declared base.now value.entry) found.old found.new) }
 {
     let Some(number) = declared else {
         return Ok(());
@@ -57,10 +57,10 @@ pub(crate) fn add_values<'p, 'r>(
     seeker: &Seeker<'_, '_, '_, 'r, 'p>,
     found: &mut Found<'p, 'r>,
     sought: Sought,
-    base: Base,
+    base: &'p Base,
     value: Slot<'p, 'r>,
 ) -> Result<(), AllocError>
-    ensures { OnOk result (Adds (coded_values seeker.now sought base value.entry) found.old found.new) }
+    ensures { OnOk result (Adds (coded_values seeker.now sought base.now value.entry) found.old found.new) }
 {
     let node = value.node();
     add_itself(seeker, found, sought.declared, base, value)?;
@@ -73,17 +73,17 @@ fn add_inside<'p, 'r>(
     seeker: &Seeker<'_, '_, '_, 'r, 'p>,
     found: &mut Found<'p, 'r>,
     sought: Sought,
-    base: Base,
+    base: &'p Base,
     node: Node<'p, 'r>,
 ) -> Result<(), AllocError>
-    ensures { OnOk result (Adds (coded_inside seeker.now sought base (node_value node.entry)) found.old found.new) }
+    ensures { OnOk result (Adds (coded_inside seeker.now sought base.now (node_value node.entry)) found.old found.new) }
 {
     match node {
         Node::Unset | Node::Derived | Node::Number(_) | Node::Text(_) => Ok(()),
         Node::Bits(_) | Node::Element(_) | Node::Reference(_) => Ok(()),
         Node::Typed(word, inner) => {
             let within = seeker.by_name(word);
-            add_values(seeker, found, within, within.base, inner)
+            add_values(seeker, found, within, seeker.types.of_name(word), inner)
         }
         Node::Sequence(values) => add_elements(seeker, found, sought, base, &values),
         Node::Bag(values) => add_elements(seeker, found, sought, base, &values),
@@ -96,10 +96,10 @@ fn add_elements<'p, 'r>(
     seeker: &Seeker<'_, '_, '_, 'r, 'p>,
     found: &mut Found<'p, 'r>,
     sought: Sought,
-    base: Base,
+    base: &'p Base,
     values: &Slots<'p, 'r>,
 ) -> Result<(), AllocError>
-    ensures { OnOk result (Adds (coded_elements seeker.now sought base values.now) found.old found.new) }
+    ensures { OnOk result (Adds (coded_elements seeker.now sought base.now values.now) found.old found.new) }
 {
     let within = seeker.elements_of(sought);
     add_each(
@@ -117,10 +117,10 @@ fn add_each<'p, 'r>(
     seeker: &Seeker<'_, '_, '_, 'r, 'p>,
     found: &mut Found<'p, 'r>,
     sought: Sought,
-    base: Base,
+    base: &'p Base,
     values: &Slots<'p, 'r>,
 ) -> Result<(), AllocError>
-    ensures { OnOk result (Adds (coded_each seeker.now sought base values.now) found.old found.new) }
+    ensures { OnOk result (Adds (coded_each seeker.now sought base.now values.now) found.old found.new) }
 {
     for i in 0..values.len() {
         add_values(seeker, found, sought, base, values.at(i))?;

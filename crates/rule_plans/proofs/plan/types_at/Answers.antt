@@ -4,9 +4,19 @@ use Rattle.schema_names.proofs.Edges.{number-within}
 use Rattle.base_types.specs.Seen.{name_at}
 use Rattle.express_settings.specs.Settings.{schema_in}
 use Rattle.self_values.specs.Coded.{is_wanted}
+use Rattle.self_values.specs.Unsought.{AreRight}
+use Rattle.self_values.proofs.Passing.{tables-right}
 use Rattle.rule_plans.specs.Planning.{TellAll}
 use Rattle.rule_plans.proofs.Covering.{tell-none, tell-all}
 use Rattle.rule_plans.proofs.plan.types_at.Goals as goal
+
+pub value_types-requires-clause-unsought : goal.value_types-requires-clause-unsought
+value_types-requires-clause-unsought c =
+    let S = c.args.setting.now in
+    let p = c.args.plan.now in
+    subst (λ ws. AreRight S ws (map (λ v. v.items) c.deref-then-plan.result.now)) (sym c.deref.ensures.value)
+    (subst (λ ts. AreRight S p.union.items (map (λ v. v.items) ts)) (sym c.deref-then-plan.ensures.value)
+    (tables-right S p.union.items (map (λ v. v.items) p.unsought.items) (c.requires.plan.unsought c.if-plan.true)))
 
 pub returns-then-plan : goal.returns-then-plan
 returns-then-plan c =

@@ -8,11 +8,11 @@ use Rattle.self_values.proofs.found.add.Goals as goal
 pub returns-then-found : goal.returns-then-found
 unfolding element_datum
 returns-then-found c =
-    adds-value c.args.number (coded_datum c.args.types.now c.args.base c.args.value) _ c.args.found.now _ refl c.if-found.true
+    adds-value c.args.number (coded_datum c.args.types.now c.args.base.now c.args.value) _ c.args.found.now _ refl c.if-found.true
     c.in_ok-push.ensures.items refl
 
 pub returns : goal.returns
 returns c =
     on_ok_weaker c.note.result
-    (adds-type c.args.number (coded_datum c.args.types.now c.args.base c.args.value) c.args.found.now _ refl c.if-found.false)
+    (adds-type c.args.number (coded_datum c.args.types.now c.args.base.now c.args.value) c.args.found.now _ refl c.if-found.false)
     c.note.ensures

@@ -12,13 +12,13 @@ returns-then-each-place c =
     let o = nth c.args.values.now c.args.position in
     on_ok_weaker c.add_at.result
     (subst (λ ds. Adds ds c.args.found.now c.add_at.new.found)
-    (ap (λ q. coded_at c.args.seeker.now q c.args.base o) c.by_number-sought.ensures
-    ∙ sym (use-there c.args.seeker.now c.args.base o c.args.each c.args.place c.if-each-place.true)))
+    (ap (λ q. coded_at c.args.seeker.now q c.args.base.now o) c.by_number-sought.ensures
+    ∙ sym (use-there c.args.seeker.now c.args.base.now o c.args.each c.args.place c.if-each-place.true)))
     c.add_at.ensures
 
 pub returns-else-each-place : goal.returns-else-each-place
 returns-else-each-place c =
     let o = nth c.args.values.now c.args.position in
     subst (λ ds. Adds ds c.args.found.now c.args.found.now)
-    (sym (use-elsewhere c.args.seeker.now c.args.base o c.args.each c.args.place c.if-each-place.false))
+    (sym (use-elsewhere c.args.seeker.now c.args.base.now o c.args.each c.args.place c.if-each-place.false))
     (adds-nothing c.args.found.now)

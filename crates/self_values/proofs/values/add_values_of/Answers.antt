@@ -6,7 +6,7 @@ use Rattle.express_schemas.specs.Profile.{Every}
 use Rattle.type_graphs.specs.Names.{Name}
 use Rattle.type_graphs.proofs.Lists.{every-at}
 use Rattle.attribute_places.proofs.Distinct.{at-among}
-use Rattle.base_types.specs.Seen.{name_at}
+use Rattle.data_types.specs.declared.forms.Form.{Form}
 use Rattle.conformance.specs.Populations.{Instance}
 use Rattle.conforming_values.specs.Conforming.{Conforms, typing_of}
 use Rattle.step_population.specs.Seen.{instance_seen}
@@ -19,10 +19,32 @@ use Rattle.self_values.specs.declared.sought.Seeker.{Seeker}
 use Rattle.self_values.specs.declared.values.Asked.{Asked}
 use Rattle.self_values.specs.Coded.{wanted_in, Told, told_by, coded_slots, slots_in}
 use Rattle.self_values.specs.Seeking.{IsSeeker, IsDeclared, those, worth}
-use Rattle.self_values.specs.Speaking.{is_of, values_of, AreFound}
+use Rattle.self_values.specs.Speaking.{is_of, values_of}
+use Rattle.self_values.specs.Unsought.{AreUnsought}
+use Rattle.self_values.proofs.Passing.{alike}
 use Rattle.self_values.proofs.Placing.{instance-same, one-instance}
 use Rattle.self_values.proofs.Sifting.{told, those-joined, exactly-one, those-of-one}
 use Rattle.self_values.proofs.values.add_values_of.Goals as goal
+
+pub add_slots-requires : goal.add_slots-requires
+add_slots-requires c =
+    let S = c.args.setting.now in
+    let forms = c.forms-forms.ensures.forms in
+    let o = c.instance-instance.result.form in
+    let seeker : List Form → Seeker = λ l. record {
+      names = record { ref_ptr = (0, 0); now = S.extents.now.population.now.types.now.names };
+      types = record { ref_ptr = (0, 0); now = S.tables.now.value_types };
+      forms = record { ref_ptr = (0, 0); now = l };
+      wanted = c.args.wanted;
+    } in
+    let types = c.types_at.result.now in
+    let slots = c.slots_at-slots.result.now in
+    let table = c.table_by-table.result.now in
+    subst (λ l. AreUnsought (seeker l) S.tables.now.uses.now types slots table) (sym c.deref.ensures.value)
+    (alike (seeker S.tables.now.data_types.forms.items) S.tables.now.uses.now types _ slots _ table _
+    (c.types_at.ensures ∙ ap (λ l. types_by_form (form_among l o)) forms)
+    (c.slots_at-slots.ensures ∙ ap (λ l. slots_in (form_among l o)) forms) c.table_by-table.ensures
+    (c.requires.unsought o))
 
 pub returns : goal.returns
 returns c =

@@ -1,7 +1,11 @@
 use Rattle.std.proofs.Common.{◌++◌, ◌∙◌, ap, map, refl}
 use Rattle.held_values.specs.Parts.{element_datum}
 use Rattle.self_values.specs.Seeking.{worth}
+use Rattle.self_values.proofs.Passing.{none-right}
 use Rattle.self_values.proofs.values.self_values.Goals as goal
+
+pub add_values_of-requires-clause-unsought : goal.add_values_of-requires-clause-unsought
+add_values_of-requires-clause-unsought c = none-right c.args.setting.now c.args.wanted.now
 
 pub returns : goal.returns
 returns c m x at t tells =

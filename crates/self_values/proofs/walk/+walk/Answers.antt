@@ -5,7 +5,7 @@ use Rattle.step_values.proofs.Walks.{after}
 use Rattle.step_values.proofs.Weights.{weight_of, lighter}
 use Rattle.self_values.specs.Coded.{coded_itself, coded_values, coded_each, coded_inside}
 use Rattle.self_values.specs.Seeking.{Adds}
-use Rattle.self_values.proofs.Adding.{adds-nothing, adds-both, starts, next, ends}
+use Rattle.self_values.proofs.Adding.{adds-both, starts, next, ends}
 use Rattle.self_values.proofs.Walking.{whole-value, each-next, each-ends}
 use Rattle.self_values.proofs.walk.+walk.Goals as goal
 
@@ -13,7 +13,7 @@ pub add_values-returns : goal.add_values-returns
 add_values-returns t c =
     let x = c.args.seeker.now in
     let q = c.args.sought in
-    let b = c.args.base in
+    let b = c.args.base.now in
     let v = c.args.value in
     let same : node_value c.node-node.result ≡ v = c.node-node.ensures in
     on_ok_weaker c.add_inside.result
@@ -27,10 +27,10 @@ pub add_inside-returns-in-Typed : goal.add_inside-returns-in-Typed
 add_inside-returns-in-Typed t c =
     let x = c.args.seeker.now in
     let q = c.args.sought in
-    let b = c.args.base in
+    let b = c.args.base.now in
     on_ok_weaker c.add_values.result
     (subst (λ ds. Adds ds c.args.found.now c.add_values.new.found)
-    (ap (λ w. coded_values x w w.base c.in-Typed.inner) c.by_name-within.ensures
+    ((λ i. coded_values x (c.by_name-within.ensures i) (c.of_name.ensures i) c.in-Typed.inner)
     ∙ ap (λ n. coded_inside x q b (node_value n)) (sym c.in-Typed.is)))
     c.add_values.ensures
 
@@ -39,7 +39,7 @@ add_inside-returns-in-Sequence t c =
     let x = c.args.seeker.now in
     on_ok_weaker c.add_elements.result
     (subst (λ ds. Adds ds c.args.found.now c.add_elements.new.found)
-    (ap (λ n. coded_inside x c.args.sought c.args.base (node_value n)) (sym c.in-Sequence.is)))
+    (ap (λ n. coded_inside x c.args.sought c.args.base.now (node_value n)) (sym c.in-Sequence.is)))
     c.add_elements.ensures
 
 pub add_inside-returns-in-Bag : goal.add_inside-returns-in-Bag
@@ -47,7 +47,7 @@ add_inside-returns-in-Bag t c =
     let x = c.args.seeker.now in
     on_ok_weaker c.add_elements-in-Bag.result
     (subst (λ ds. Adds ds c.args.found.now c.add_elements-in-Bag.new.found)
-    (ap (λ n. coded_inside x c.args.sought c.args.base (node_value n)) (sym c.in-Bag.is)))
+    (ap (λ n. coded_inside x c.args.sought c.args.base.now (node_value n)) (sym c.in-Bag.is)))
     c.add_elements-in-Bag.ensures
 
 pub add_elements-returns : goal.add_elements-returns
@@ -67,17 +67,17 @@ add_each-add_values-requires t c =
 
 pub add_each-loop-i-init : goal.add_each-loop-i-init
 add_each-loop-i-init t c =
-    starts (coded_each c.args.seeker.now c.args.sought c.args.base c.args.values.now) c.args.found.now
+    starts (coded_each c.args.seeker.now c.args.sought c.args.base.now c.args.values.now) c.args.found.now
 
 pub add_each-loop-i-preserved : goal.add_each-loop-i-preserved
 add_each-loop-i-preserved t c =
     let x = c.args.seeker.now in
     let vs = c.args.values.now in
     let i = c.loop-i.i in
-    next (coded_each x c.args.sought c.args.base vs) (coded_each x c.args.sought c.args.base (after i vs))
-    (coded_values x c.args.sought c.args.base c.at.result)
-    (coded_each x c.args.sought c.args.base (after (i + 1) vs)) _ _ _
-    (each-next x c.args.sought c.args.base vs i c.at.result c.at.ensures) c.loop-i.invariant c.in_ok-add_values.ensures
+    next (coded_each x c.args.sought c.args.base.now vs) (coded_each x c.args.sought c.args.base.now (after i vs))
+    (coded_values x c.args.sought c.args.base.now c.at.result)
+    (coded_each x c.args.sought c.args.base.now (after (i + 1) vs)) _ _ _
+    (each-next x c.args.sought c.args.base.now vs i c.at.result c.at.ensures) c.loop-i.invariant c.in_ok-add_values.ensures
 
 pub add_each-returns : goal.add_each-returns
 add_each-returns t c =
@@ -86,5 +86,5 @@ add_each-returns t c =
     let i = c.loop-i.i in
     let past = c.loop-i-test.false in
     let end = c.len-i-end.ensures in
-    ends (coded_each x c.args.sought c.args.base vs) (coded_each x c.args.sought c.args.base (after i vs)) _ _
-    (each-ends x c.args.sought c.args.base vs i (omega (arith, past, end))) c.loop-i.invariant
+    ends (coded_each x c.args.sought c.args.base.now vs) (coded_each x c.args.sought c.args.base.now (after i vs)) _ _
+    (each-ends x c.args.sought c.args.base.now vs i (omega (arith, past, end))) c.loop-i.invariant

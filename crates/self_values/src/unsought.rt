@@ -1,0 +1,141 @@
+//! The attributes that can't have a value of a type that is sought, but inside typed values or
+//! deeper ones.
+#![tactic(auto)]
+
+ghost use Rattle.std.specs.Prelude.{◌≡◌, [], ◌∷◌, map, IfOk};
+ghost use Rattle.attribute_uses.specs.Uses.{of_place};
+ghost use Rattle.express_settings.specs.Settings.{IsSetting};
+ghost use Rattle.self_values.specs.Unsought.{
+  is_unsought,
+  all_unsought,
+  is_unsought_place,
+  unsought_of,
+  table_by,
+  AreTables,
+};
+
+use crate::sought::Seeker;
+use crate::values::uses_at;
+use attribute_uses::uses::{AttributeUse, Uses};
+use express_settings::setting::Setting;
+use row_forms::form::Form;
+use std::alloc::{AllocError, Global};
+
+/// Whether neither the data type of a number nor that of its elements is one whose values are
+/// sought.
+fn is_unsought(seeker: &Seeker<'_, '_, '_, '_, '_>, number: u32) -> bool
+    ensures { result ≡ is_unsought seeker.now number }
+{
+    let sought = seeker.by_number(number);
+    sought.declared.is_none() && seeker.elements_of(sought).declared.is_none()
+}
+
+/// .. by a declaration, where it is one of the attribute of a place.
+fn is_unsought_use(seeker: &Seeker<'_, '_, '_, '_, '_>, place: u32, each: AttributeUse) -> bool
+    ensures { result ≡ all_unsought seeker.now (of_place place (each ∷ [])) }
+{
+    if each.place == place {
+        is_unsought(seeker, each.data_type)
+    } else {
+        true
+    }
+}
+
+/// .. by those of the declarations by an entity.
+fn all_unsought(seeker: &Seeker<'_, '_, '_, '_, '_>, place: u32, uses: &[AttributeUse]) -> bool
+    ensures { result ≡ all_unsought seeker.now (of_place place uses.now) }
+{
+    for each in uses {
+        if !is_unsought_use(seeker, place, *each) {
+            return false;
+        }
+    }
+    true
+}
+
+/// .. by those of the declarations by these types.
+fn is_unsought_place(
+    seeker: &Seeker<'_, '_, '_, '_, '_>,
+    uses: &Uses,
+    types: &[u32],
+    place: u32,
+) -> bool
+    ensures { result ≡ is_unsought_place seeker.now uses.now types.now place }
+{
+    for each in types {
+        if !all_unsought(seeker, place, uses_at(uses, *each)) {
+            return false;
+        }
+    }
+    true
+}
+
+/// By attribute of a form, whether it is so.
+fn unsought_of(
+    alloc: Global,
+    seeker: &Seeker<'_, '_, '_, '_, '_>,
+    uses: &Uses,
+    form: &Form,
+) -> Result<Vec<bool>, AllocError>
+    ensures { IfOk result (λ t. t.items ≡ unsought_of seeker.now uses.now form.now) }
+{
+    let mut table = Vec::with_capacity(alloc, form.slots.len())?;
+    for slot in &form.slots {
+        table.push(is_unsought_place(seeker, uses, &form.types, slot.place))?;
+    }
+    Ok(table)
+}
+
+/// .. of each of these forms.
+fn unsought_rows(
+    alloc: Global,
+    seeker: &Seeker<'_, '_, '_, '_, '_>,
+    uses: &Uses,
+    forms: &[Form],
+) -> Result<Vec<Vec<bool>>, AllocError>
+    ensures { IfOk result (λ t. map (λ v. v.items) t.items
+        ≡ map (unsought_of seeker.now uses.now) forms.now) }
+{
+    let mut rows = Vec::with_capacity(alloc, forms.len())?;
+    for form in forms {
+        rows.push(unsought_of(alloc, seeker, uses, form)?)?;
+    }
+    Ok(rows)
+}
+
+/// By form, by attribute, whether none of its declarations by the types of the form has a data type
+/// whose values are sought, or whose elements are: those of the types that are wanted, by number of
+/// a declaration.
+///
+/// An error says that memory ran out.
+pub fn unsought_by_form(
+    alloc: Global,
+    setting: &Setting<'_, '_, '_, '_, '_, '_>,
+    wanted: &[bool],
+) -> Result<Vec<Vec<bool>>, AllocError>
+    requires { IsSetting setting.now }
+    ensures { IfOk result (λ t. AreTables setting.now wanted.now (map (λ v. v.items) t.items)) }
+{
+    let population = setting.extents.population;
+    let tables = setting.tables;
+    let seeker = Seeker {
+        names: &population.types.names,
+        types: &tables.value_types,
+        forms: &tables.data_types.forms,
+        wanted,
+    };
+    unsought_rows(alloc, &seeker, tables.uses, population.forms())
+}
+
+/// The table of a form, by its number; an empty one where there is none.
+pub(crate) fn table_by(tables: &[Vec<bool>], form: Option<u32>) -> &[bool]
+    ensures { result.now ≡ table_by (map (λ v. v.items) tables.now) form }
+{
+    let Some(number) = form else {
+        return &[];
+    };
+    match tables.get(number as usize) {
+        Some(table) => table,
+        None => &[],
+    }
+}
