@@ -4,3 +4,4 @@ pub mod Weighing
 pub mod Arms
 pub mod Unnamed
 pub mod Items
+pub mod Sizes

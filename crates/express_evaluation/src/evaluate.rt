@@ -3,7 +3,7 @@
 //! The functions of the cycle aren't inlined into each other: each clears its locals at its entry, so
 //! that `evaluate` would pay at each node for what all others need.
 
-ghost use Rattle.std.specs.Prelude.{◌≡◌, ◌++◌, ◌∷◌, [], true, IfOk, OnOk, if◌then◌else◌};
+ghost use Rattle.std.specs.Prelude.{◌≡◌, ◌∷◌, [], true, IfOk};
 ghost use Rattle.std.specs.Option.{option_map};
 ghost use Rattle.step_literals.specs.Words.{upper};
 ghost use Rattle.express_trees.specs.Trees.{reference};
@@ -19,7 +19,8 @@ ghost use Rattle.express_trees.specs.Views.{
 ghost use Rattle.express_logic.specs.Comparing.{member};
 ghost use Rattle.express_logic.specs.Data.{Datum as Worth, logical};
 ghost use Rattle.express_logic.specs.Views.{datum_of, text_of};
-ghost use Rattle.express_meanings.specs.Operations.{bare, indexed, or_else};
+ghost use Rattle.express_logic.specs.Holdings.{size_of};
+ghost use Rattle.express_meanings.specs.Operations.{bare, indexed, or_else, size};
 ghost use Rattle.express_meanings.specs.Expressions.{of_call, string_of};
 ghost use Rattle.express_operations.specs.Forms.{is_condition};
 ghost use Rattle.held_values.specs.Parts.{holding, element_datum, picked, whole_elements};
@@ -27,29 +28,14 @@ ghost use Rattle.express_operations.specs.Scopes.{variables_of};
 ghost use Rattle.schema_names.specs.Numbers.{HasNumber};
 ghost use Rattle.base_types.specs.Seen.{name_at};
 ghost use Rattle.express_settings.specs.Settings.{IsSetting, IsFound, schema_in, or_nothing};
-ghost use Rattle.express_evaluation.specs.Contexts.{
-  Gives,
-  MeantBy,
-  worth_in,
-  derived_in,
-  meaning_in,
-  truth_in,
-  selected_in,
-  named_in,
-  unbound_in,
-  between_in,
-  within_in,
-  related_in,
-  and_all_in,
-  or_all_in,
-  among_each_in,
-  item_in,
-  passes_in,
-  filtered_in,
-  queried_in,
-};
+ghost use Rattle.express_evaluation.specs.Contexts.{Gives, MeantBy, worth_in, derived_in, meaning_in};
+ghost use Rattle.express_evaluation.specs.Contexts.{truth_in, selected_in, named_in, unbound_in};
+ghost use Rattle.express_evaluation.specs.Contexts.{between_in, within_in, related_in, and_all_in};
+ghost use Rattle.express_evaluation.specs.Contexts.{or_all_in, among_each_in, item_in, passes_in};
+ghost use Rattle.express_evaluation.specs.Contexts.{filtered_in, queried_in};
 
 use crate::context::Context;
+use crate::passing::{counted_if, keep_if};
 use crate::qualifiers::{
     attribute_behind, attribute_of_self, group_behind, instance_of, item_value, self_instance,
 };
@@ -61,14 +47,15 @@ use express_logic::logical::{Logical, and, not, or};
 use express_logic::strings::AnyString;
 use express_operations::literals::{literal_datum, signed_datum, string_of};
 use express_operations::operations::{
-    called, compared, is_condition, is_in, is_true, is_typed, is_typeof, joined, limited, truth,
+    called, compared, is_condition, is_in, is_sizeof, is_true, is_typed, is_typeof, joined,
+    limited, size_inside, truth,
 };
 use express_operations::variables::{Variable, find};
 use express_settings::attributes::Found;
 use express_trees::tree::{Alternative, Expr, Function, Limit, Qualifier, Relation, Root};
 use held_values::element::Element;
 use held_values::indices::indexed;
-use held_values::operations::{bare, is_known};
+use held_values::operations::{bare, counted, is_known};
 use held_values::part::Part;
 use std::alloc::{AllocError, Global};
 use step_literals::literal::Word;
@@ -201,8 +188,86 @@ fn call<'p, 'e, 'r, 't, 's: 'r, 'a>(
     ensures { IfOk result (λ d. Gives context.now variables.old.items variables.new.items (datum_of holding d)
         (λ m. of_call function (meaning_in context.now m variables.old.items (tree_of argument.now)))) }
 {
+    if is_sizeof(function) {
+        return sized(context, argument, alloc, variables);
+    }
     let value = evaluate(context, argument, alloc, variables)?;
     called(function, value)
+}
+
+/// How many elements the value of an expression has: SIZEOF. Those that a query keeps are counted,
+/// and not kept.
+#[cycle(evaluation)]
+#[inline(never)]
+fn sized<'p, 'e, 'r, 't, 's: 'r, 'a>(
+    context: &Context<'s, 't, 'r, 'a, 'e, 'p>,
+    expression: &Expr<'s>,
+    alloc: Global,
+    variables: &mut Vec<Variable<'p, 'r>>,
+) -> Result<Datum<'r, Part<'p, 'r>>, AllocError>
+    requires setting { IsSetting context.now.setting.now }
+    ensures { IfOk result (λ d. Gives context.now variables.old.items variables.new.items (datum_of holding d)
+        (λ m. size (bare (meaning_in context.now m variables.old.items (tree_of expression.now))))) }
+{
+    match expression {
+        Expr::Query {
+            variable,
+            source,
+            condition,
+        } => sized_query(context, source, condition, alloc, variables, *variable),
+        _ => size_inside(evaluate(context, expression, alloc, variables)?),
+    }
+}
+
+/// .. that a query keeps.
+#[cycle(evaluation)]
+#[inline(never)]
+fn sized_query<'p, 'e, 'r, 't, 's: 'r, 'a>(
+    context: &Context<'s, 't, 'r, 'a, 'e, 'p>,
+    source: &Expr<'s>,
+    condition: &Expr<'s>,
+    alloc: Global,
+    variables: &mut Vec<Variable<'p, 'r>>,
+    name: Word<'s>,
+) -> Result<Datum<'r, Part<'p, 'r>>, AllocError>
+    requires setting { IsSetting context.now.setting.now }
+    ensures { IfOk result (λ d. Gives context.now variables.old.items variables.new.items (datum_of holding d)
+        (λ m. size (queried_in context.now m variables.old.items (capitals name.entry) (tree_of condition.now)
+        (bare (meaning_in context.now m variables.old.items (tree_of source.now)))))) }
+{
+    let source = bare(evaluate(context, source, alloc, variables)?);
+    let Datum::Aggregate(part) = source else {
+        return Ok(Datum::Indeterminate);
+    };
+    counted(count_passing(context, condition, alloc, variables, name, &part)?)
+}
+
+/// How many elements of an aggregate there are at which a condition is TRUE.
+#[cycle(evaluation)]
+#[inline(never)]
+fn count_passing<'p, 'e, 'r, 't, 's: 'r, 'a>(
+    context: &Context<'s, 't, 'r, 'a, 'e, 'p>,
+    condition: &Expr<'s>,
+    alloc: Global,
+    variables: &mut Vec<Variable<'p, 'r>>,
+    name: Word<'s>,
+    source: &Part<'p, 'r>,
+) -> Result<usize, AllocError>
+    requires setting { IsSetting context.now.setting.now }
+    ensures { IfOk result (λ count. Gives context.now variables.old.items variables.new.items count
+        (λ m. size_of (filtered_in context.now m variables.old.items (capitals name.entry)
+        (tree_of condition.now) (holding source.now).elements))) }
+{
+    let mut count = 0;
+    for i in 0..source.len() {
+        let variable = Variable {
+            name,
+            value: source.element_value(i),
+        };
+        let holds = passes(context, condition, alloc, variables, variable)?;
+        count = counted_if(count, holds);
+    }
+    Ok(count)
 }
 
 /// The first of two values, or the second where there is none: NVL.
@@ -675,7 +740,7 @@ fn query<'p, 'e, 'r, 't, 's: 'r, 'a>(
         return Ok(Datum::Indeterminate);
     };
     let kept = passing(context, condition, alloc, variables, name, &part)?;
-    Ok(Datum::Aggregate(part.keep(kept)))
+    Ok(Datum::Aggregate(part.keep(alloc, kept)?))
 }
 
 /// The indices, in the whole of an aggregate, of its elements at which a condition is TRUE.
@@ -726,15 +791,4 @@ fn passes<'p, 'e, 'r, 't, 's: 'r, 'a>(
     let value = evaluate_truth(context, condition, alloc, variables)?;
     variables.pop();
     Ok(is_true(value))
-}
-
-/// One index more, where it is kept.
-fn keep_if(kept: &mut Vec<usize>, holds: bool, index: usize) -> Result<(), AllocError>
-    ensures { OnOk result (kept.new.items
-        ≡ (if holds then kept.old.items ++ index ∷ [] else kept.old.items)) }
-{
-    if holds {
-        kept.push(index)?;
-    }
-    Ok(())
 }

@@ -3,5 +3,6 @@
 
 pub mod context;
 pub mod evaluate;
+mod passing;
 pub mod qualifiers;
 pub mod types;

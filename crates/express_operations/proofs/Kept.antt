@@ -1,5 +1,5 @@
 -- A query keeps the elements that pass.
-use Rattle.std.proofs.Common.{◌≡◌, ◌<◌, ℕ, zero, suc, Bool, true, false, List, [], ◌∷◌, ◌++◌, refl, ap, sym, ◌∙◌, arith}
+use Rattle.std.proofs.Common.{◌≡◌, ◌<◌, ◌≤◌, ◌+◌, ℕ, zero, suc, Bool, true, false, List, [], ◌∷◌, ◌++◌, refl, ap, sym, ◌∙◌, arith}
 use Rattle.std.specs.Prelude.{if◌then◌else◌}
 use Rattle.express_trees.specs.declared.tree.Logical.{Logical}
 use Rattle.express_logic.specs.Data.{Datum, Data, none, more}
@@ -72,3 +72,35 @@ module _ (p : Datum → Logical) where
   keeps_all base es is i e before =
       sym (glue_none (picked is base))
       ∙ ap (λ ds. glue (picked is base) (filtered p ds)) (sym (ap (λ n. behind n es) e ∙ behind_all es)) ∙ before
+
+  -- what is counted and what is left to count are all that pass
+  abbrev pub Counts : Data → ℕ → ℕ → Type 0
+  Counts es n i = n + size_of (filtered p (behind i es)) ≡ size_of (filtered p es)
+
+  pub counts_none : (es : Data) → Counts es 0 0
+  counts_none es = let all = ap (λ ds. size_of (filtered p ds)) (behind_zero es) in omega (arith, all)
+
+  pub counts_next : (es : Data) (n k i : ℕ) (b : Bool) → i < size_of es
+      → b ≡ is_true (p (or_indeterminate (element_at i es))) → k ≡ (if b then suc n else n) → Counts es n i
+      → Counts es k (suc i)
+  counts_next es n k i true l h g before =
+      let one : size_of (filtered p (behind i es)) ≡ suc (size_of (filtered p (behind (suc i) es))) =
+      ap (λ ds. size_of (filtered p ds)) (behind_there i es l)
+      ∙ ap size_of (filtered_if (or_indeterminate (element_at i es)) (behind (suc i) es) true h) in
+      omega (arith, one, g, before)
+  counts_next es n k i false l h g before =
+      let same : size_of (filtered p (behind i es)) ≡ size_of (filtered p (behind (suc i) es)) =
+      ap (λ ds. size_of (filtered p ds)) (behind_there i es l)
+      ∙ ap size_of (filtered_if (or_indeterminate (element_at i es)) (behind (suc i) es) false h) in
+      omega (arith, same, g, before)
+
+  pub counts_all : (es : Data) (n i : ℕ) → i ≡ size_of es → Counts es n i → n ≡ size_of (filtered p es)
+  counts_all es n i e before =
+      let none : size_of (filtered p (behind i es)) ≡ 0 =
+      ap (λ ds. size_of (filtered p ds)) (ap (λ k. behind k es) e ∙ behind_all es) in
+      omega (arith, none, before)
+
+-- a count is no greater than what is counted
+pub counts_within : (n k i : ℕ) (b : Bool) → k ≡ (if b then suc n else n) → n ≤ i → k ≤ i + 1
+counts_within n k i true g l = omega (arith, g, l)
+counts_within n k i false g l = omega (arith, g, l)

@@ -14,6 +14,10 @@ abbrev pub is_typeof : Function → Bool
 is_typeof functions.Typeof = true
 is_typeof f = false
 
+abbrev pub is_sizeof : Function → Bool
+is_sizeof functions.Sizeof = true
+is_sizeof f = false
+
 -- a condition by its form, in parentheses or not
 abbrev pub is_condition : Tree → Bool
 is_condition (parenthesized x) = is_condition x

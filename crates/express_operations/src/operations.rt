@@ -5,7 +5,7 @@ ghost use Rattle.express_trees.specs.Views.{tree_of};
 ghost use Rattle.express_logic.specs.Views.{datum_of};
 ghost use Rattle.express_meanings.specs.Expressions.{of_call, of_junction};
 ghost use Rattle.express_meanings.specs.Operations.{bare, says, size, compared, limited, is_true};
-ghost use Rattle.express_operations.specs.Forms.{is_condition, is_in, is_typeof};
+ghost use Rattle.express_operations.specs.Forms.{is_condition, is_in, is_sizeof, is_typeof};
 ghost use Rattle.held_values.specs.Parts.{holding};
 
 use express_logic::compare::{equal, less, member};
@@ -27,7 +27,7 @@ pub fn is_typed(value: &Datum<'_, Part<'_, '_>>) -> bool
 }
 
 /// What a value says as an operand of a logical operator.
-pub fn truth(value: Datum<'_, Part<'_, '_>>) -> Logical
+pub fn truth<'p, 'r>(value: Datum<'r, Part<'p, 'r>>) -> Logical
     ensures { result ≡ says (datum_of holding value.entry) }
 {
     if is_typed(&value) {
@@ -93,6 +93,13 @@ pub fn is_typeof(function: Function) -> bool
     matches!(function, Function::Typeof)
 }
 
+/// Whether a function is SIZEOF.
+pub fn is_sizeof(function: Function) -> bool
+    ensures { result ≡ is_sizeof function }
+{
+    matches!(function, Function::Sizeof)
+}
+
 /// What a limit of an interval says of two values.
 pub fn limited<'p, 'r>(
     limit: Limit,
@@ -118,7 +125,7 @@ pub fn joined(junction: Junction, p: Logical, q: Logical) -> Logical
 }
 
 /// How many elements there are, in a typed value too: SIZEOF.
-fn size_inside<'p, 'r>(
+pub fn size_inside<'p, 'r>(
     value: Datum<'r, Part<'p, 'r>>,
 ) -> Result<Datum<'r, Part<'p, 'r>>, AllocError>
     ensures { IfOk result (λ d. datum_of holding d ≡ size (bare (datum_of holding value.entry))) }

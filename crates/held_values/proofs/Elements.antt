@@ -1,8 +1,7 @@
 -- Elements of aggregates, by their indices.
-use Rattle.std.proofs.Common.{◌≡◌, ◌<◌, ℕ, zero, suc, true, false, List, [], ◌∷◌, length, get_or, nat_lt, refl, ap, sym, ◌∙◌, arith}
-use Rattle.std.specs.Prelude.{Option, Some, None, slice_index}
+use Rattle.std.proofs.Common.{◌≡◌, ◌<◌, ℕ, zero, suc, true, false, List, [], ◌∷◌, length, get_or, nat_lt, refl, ap, sym, arith}
+use Rattle.std.specs.Prelude.{Some, None, slice_index}
 use Rattle.std.specs.Option.{option_map}
-use Rattle.std.specs.Global.{Vec}
 use Rattle.std.proofs.lemmas.Bool.Decides.{nat_tests}
 use Rattle.step_values.specs.ComputedAgreement.{size}
 use Rattle.step_values.specs.Slots.{nth}
@@ -15,7 +14,7 @@ use Rattle.express_meanings.specs.Meanings.{instances}
 use Rattle.express_meanings.specs.Operations.{only}
 use Rattle.held_values.specs.declared.types.ValueTypes.{ValueTypes}
 use Rattle.held_values.specs.Coded.{coded_datum, coded_each}
-use Rattle.held_values.specs.Parts.{or_indeterminate, picked, chosen}
+use Rattle.held_values.specs.Parts.{or_indeterminate, picked}
 
 -- how many they are
 pub size-coded : (t : ValueTypes) (b : Base) (vs : Values) → size_of (coded_each t b vs) ≡ size vs
@@ -29,10 +28,6 @@ size-instances (y ∷ ys) = ap suc (size-instances ys)
 pub size-picked : (is : List ℕ) (ds : Data) → size_of (picked is ds) ≡ length is
 size-picked [] ds = refl
 size-picked (i ∷ is) ds = ap suc (size-picked is ds)
-
-pub size-chosen : (o : Option (Vec ℕ)) (k : Vec ℕ) (ds : Data) → o ≡ Some k
-    → size_of (chosen o ds) ≡ length k.items
-size-chosen o k ds e = ap (λ o. size_of (chosen o ds)) e ∙ size-picked k.items ds
 
 -- what stands at an index
 pub nth-coded : (t : ValueTypes) (b : Base) (vs : Values) (i : ℕ)
@@ -69,16 +64,11 @@ is-below i n h = grind (arith, nat_tests, h)
 pub not-below : (i n : ℕ) → false ≡ nat_lt i n → i < n → ⊥
 not-below i n h l = grind (arith, nat_tests, h, l)
 
-pub chosen-place : (o : Option (Vec ℕ)) (k : Vec ℕ) (i : ℕ) (ds : Data) → o ≡ Some k → i < length k.items
-    → or_indeterminate (element_at (slice_index k.items i) ds) ≡ or_indeterminate (element_at i (chosen o ds))
-chosen-place o k i ds e l =
-    sym (ap (λ o. or_indeterminate (element_at i (chosen o ds))) e ∙ ap or_indeterminate (there k.items i ds l))
-  where
-    there : (is : List ℕ) (i : ℕ) (ds : Data) → i < length is
-        → element_at i (picked is ds) ≡ Some (or_indeterminate (element_at (slice_index is i) ds))
-    there [] i ds l = absurd (omega (arith, l))
-    there (j ∷ is) zero ds l = refl
-    there (j ∷ is) (suc i) ds l = there is i ds (omega (arith, l))
+pub picked-place : (is : List ℕ) (i : ℕ) (ds : Data) → i < length is
+    → element_at i (picked is ds) ≡ Some (or_indeterminate (element_at (slice_index is i) ds))
+picked-place [] i ds l = absurd (omega (arith, l))
+picked-place (j ∷ is) zero ds l = refl
+picked-place (j ∷ is) (suc i) ds l = picked-place is i ds (omega (arith, l))
 
 -- an element that is there, and one that isn't
 pub element-there : (i : ℕ) (ds : Data) → i < size_of ds → Some (or_indeterminate (element_at i ds)) ≡ element_at i ds

@@ -1,11 +1,10 @@
 -- What typed values and aggregates of the program hold.
-use Rattle.std.specs.Prelude.{ℕ, List, [], ◌∷◌, Option, Some, None}
-use Rattle.std.specs.Global.{Vec}
+use Rattle.std.specs.Prelude.{ℕ, Bool, cond, List, [], ◌∷◌, Option, Some, None}
 use Rattle.step_literals.specs.declared.literal.Word.{Word}
 use Rattle.step_values.specs.Views.{word_of}
 use Rattle.type_graphs.specs.Names.{Name}
 use Rattle.express_logic.specs.Data as data_of
-use Rattle.express_logic.specs.Data.{Datum, indeterminate, Data, none, more}
+use Rattle.express_logic.specs.Data.{Shape, list, bag, Datum, indeterminate, Data, none, more}
 use Rattle.express_logic.specs.Holdings.{Holding, element_at}
 use Rattle.express_meanings.specs.Meanings.{instances}
 use Rattle.express_meanings.specs.Operations.{kept_shape}
@@ -13,8 +12,12 @@ use Rattle.held_values.specs.declared.element.Element.{Element}
 use Rattle.held_values.specs.declared.element.Element.TheVariants as elements
 use Rattle.held_values.specs.declared.part.Content.{Content}
 use Rattle.held_values.specs.declared.part.Content.TheVariants as contents
+use Rattle.held_values.specs.declared.part.Extent.{Extent}
+use Rattle.held_values.specs.declared.part.Extent.TheVariants as extents
+use Rattle.held_values.specs.declared.part.Kept.{Kept}
 use Rattle.held_values.specs.declared.part.Part.{Part}
-use Rattle.held_values.specs.Coded.{named_base, shape_seen, coded_datum, coded_each}
+use Rattle.base_types.specs.declared.base.Base.{Base}
+use Rattle.held_values.specs.Coded.{named_base, element_base, coded_shape, coded_datum, coded_each}
 
 abbrev pub or_indeterminate : Option Datum → Datum
 or_indeterminate None = indeterminate
@@ -41,23 +44,44 @@ content_inner c = indeterminate
 
 abbrev pub content_elements : Content → Data
 content_elements (contents.Typed t w v) = none
-content_elements (contents.Values t b vs) = coded_each t.now b.now vs
+content_elements (contents.Values p t b vs) = coded_each t.now (element_base t.now b.now) vs
 content_elements (contents.Instances ys) = instances ys.now
 
-abbrev pub chosen : Option (Vec ℕ) → Data → Data
-chosen None ds = ds
-chosen (Some is) ds = picked is.items ds
+-- the shape of the values of an aggregate of this data type, in order or in none
+abbrev pub values_shape : Bool → Base → Shape
+values_shape p b = cond p (coded_shape b) bag
+
+abbrev pub content_shape : Content → Shape
+content_shape (contents.Typed t w v) = list
+content_shape (contents.Values p t b vs) = values_shape p b.now
+content_shape (contents.Instances ys) = bag
+
+abbrev pub kept_elements : Kept → Data
+kept_elements k = picked k.indices.items (content_elements k.content)
+
+-- all of a value
+abbrev pub content_in : Extent → Content
+content_in (extents.Whole c) = c
+content_in (extents.Kept k) = k.value.content
+
+abbrev pub elements_in : Extent → Data
+elements_in (extents.Whole c) = content_elements c
+elements_in (extents.Kept k) = kept_elements k.value
+
+abbrev pub shape_in : Extent → Shape
+shape_in (extents.Whole c) = content_shape c
+shape_in (extents.Kept k) = kept_shape (content_shape k.value.content)
 
 -- all elements, of which there may be some that a QUERY didn't keep
 unfoldable pub whole_elements : Part → Data
-whole_elements p = content_elements p.content
+whole_elements p = content_elements (content_in p.extent)
 
 unfoldable pub holding : Part → Holding
 holding p = record {
-  name = content_name p.content;
-  inner = content_inner p.content;
-  shape = shape_seen p.shape;
-  elements = chosen p.kept (whole_elements p);
+  name = content_name (content_in p.extent);
+  inner = content_inner (content_in p.extent);
+  shape = shape_in p.extent;
+  elements = elements_in p.extent;
 }
 
 -- the name that a word spells, where there is one

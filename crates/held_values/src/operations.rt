@@ -2,8 +2,9 @@
 //! (ISO 10303-11, 15).
 
 ghost use Rattle.std.specs.Prelude.{◌≡◌, pos, IfOk};
-ghost use Rattle.express_logic.specs.Data.{is_known};
+ghost use Rattle.express_logic.specs.Data.{is_known, number};
 ghost use Rattle.express_logic.specs.Holdings.{size_of};
+ghost use Rattle.express_logic.specs.Literals.{whole_units};
 ghost use Rattle.express_logic.specs.Views.{datum_of};
 ghost use Rattle.express_meanings.specs.Operations.{bare, whole, size, last_index, high_index, low_index, or_else};
 ghost use Rattle.held_values.specs.Parts.{holding};
@@ -68,6 +69,15 @@ fn count(len: usize) -> Result<i64, AllocError>
     }
 }
 
+/// So many elements, as a number.
+///
+/// Where there are 2^63 or more there is no memory for it.
+pub fn counted<'p, 'r>(len: usize) -> Result<Datum<'r, Part<'p, 'r>>, AllocError>
+    ensures { IfOk result (λ d. datum_of holding d ≡ number (whole_units (pos len))) }
+{
+    Ok(Datum::Count(count(len)?))
+}
+
 /// How many elements there are, unset ones too: SIZEOF (ISO 10303-11, 15.22).
 ///
 /// Where there are 2^63 or more there is no memory for it.
@@ -75,7 +85,7 @@ pub fn size<'p, 'r>(datum: &Datum<'r, Part<'p, 'r>>) -> Result<Datum<'r, Part<'p
     ensures { IfOk result (λ d. datum_of holding d ≡ size (datum_of holding datum.now)) }
 {
     match datum {
-        Datum::Aggregate(part) => Ok(Datum::Count(count(part.len())?)),
+        Datum::Aggregate(part) => counted(part.len()),
         _ => Ok(Datum::Indeterminate),
     }
 }

@@ -1,7 +1,7 @@
 //! Typed values and aggregates of a population, whole or as far as a QUERY keeps their elements.
 #![tactic(auto, unfolding(crate::specs::Parts::element_datum, crate::specs::Parts::holding, crate::specs::Parts::whole_elements))]
 
-ghost use Rattle.std.specs.Prelude.{◌≡◌, ◌<◌, [], length, slice_index};
+ghost use Rattle.std.specs.Prelude.{◌≡◌, ◌<◌, [], length, slice_index, IfOk};
 ghost use Rattle.std.specs.Option.{option_map};
 ghost use Rattle.step_values.specs.Values.{typed, sequence, bag};
 ghost use Rattle.step_values.specs.Views.{word_of};
@@ -10,7 +10,7 @@ ghost use Rattle.express_logic.specs.Comparing.{scalar};
 ghost use Rattle.express_logic.specs.Holdings.{Holding, element_at, size_of};
 ghost use Rattle.express_logic.specs.Views.{datum_of, scalar_of};
 ghost use Rattle.express_meanings.specs.Meanings.{instances};
-ghost use Rattle.express_meanings.specs.Operations.{bare, kept_shape};
+ghost use Rattle.express_meanings.specs.Operations.{bare};
 ghost use Rattle.held_values.specs.Coded.{coded_datum, coded_each, shape_seen};
 ghost use Rattle.held_values.specs.Parts.{
   holding,
@@ -19,6 +19,10 @@ ghost use Rattle.held_values.specs.Parts.{
   whole_elements,
   content_inner,
   content_elements,
+  content_shape,
+  content_in,
+  kept_elements,
+  values_shape,
   capitals_of,
   element_datum,
   or_indeterminate,
@@ -32,6 +36,7 @@ use crate::values::bare_value;
 use base_types::base::Base;
 use express_logic::datum::{Datum, Held};
 use express_logic::scalar::Scalar;
+use std::alloc::{AllocError, Global};
 use step_literals::literal::Word;
 use step_values::slot::{Slot, Slots};
 
@@ -44,8 +49,9 @@ enum Content<'p, 'r> {
         word: Word<'r>,
         inner: Slot<'p, 'r>,
     },
-    /// Values of this data type.
+    /// The values of an aggregate of this data type, in order or in none.
     Values {
+        is_ordered: bool,
         types: &'p ValueTypes<'r>,
         base: &'p Base,
         values: Slots<'p, 'r>,
@@ -54,13 +60,26 @@ enum Content<'p, 'r> {
     Instances(&'p [u64]),
 }
 
+/// Those elements of an aggregate that a QUERY keeps.
+#[derive(Drop)]
+struct Kept<'p, 'r> {
+    /// All of it.
+    content: Content<'p, 'r>,
+    /// The indices of the elements.
+    indices: Vec<usize>,
+}
+
+/// All of a value, or some elements: these are boxed, since they are rare, and values are moved.
+#[derive(Drop)]
+enum Extent<'p, 'r> {
+    Whole(Content<'p, 'r>),
+    Kept(Box<Kept<'p, 'r>>),
+}
+
 /// A typed value or an aggregate.
 #[derive(Drop)]
 pub struct Part<'p, 'r> {
-    content: Content<'p, 'r>,
-    shape: Shape<'p>,
-    /// The indices of the elements, where they aren't all.
-    kept: Option<Vec<usize>>,
+    extent: Extent<'p, 'r>,
 }
 
 /// The value of this index, as an element.
@@ -76,6 +95,17 @@ fn value_at<'p, 'r>(
     match values.item(index) {
         Some(value) => Element::Value { types, base, value },
         None => Element::Nothing,
+    }
+}
+
+/// The shape of the values of an aggregate of this data type.
+fn values_shape(is_ordered: bool, base: &Base) -> Shape<'_>
+    ensures { shape_seen result ≡ values_shape is_ordered base.now }
+{
+    if is_ordered {
+        shape_of(base)
+    } else {
+        Shape::Bag
     }
 }
 
@@ -119,11 +149,27 @@ impl<'p, 'r> Content<'p, 'r> {
                 types,
                 base,
                 values,
-            } => value_at(*types, *base, values, index),
+                ..
+            } => value_at(*types, types.of_elements(*base), values, index),
             Content::Instances(names) => match name_at(*names, index) {
                 Some(name) => Element::Instance(name),
                 None => Element::Nothing,
             },
+        }
+    }
+
+    /// Its shape, where it is an aggregate.
+    fn shape(&self) -> Shape<'p>
+        ensures { shape_seen result ≡ content_shape self.now }
+    {
+        match self {
+            Content::Typed { .. } => Shape::List,
+            Content::Values {
+                is_ordered,
+                base,
+                ..
+            } => values_shape(*is_ordered, *base),
+            Content::Instances(_) => Shape::Bag,
         }
     }
 
@@ -154,17 +200,30 @@ impl<'p, 'r> Content<'p, 'r> {
     }
 }
 
+impl<'p, 'r> Kept<'p, 'r> {
+    /// The element of this index; nothing where there are fewer.
+    fn element(&self, index: usize) -> Element<'p, 'r>
+        ensures { element_datum result
+            ≡ or_indeterminate (element_at index (kept_elements self.now)) }
+    {
+        match self.indices.get(index) {
+            Some(place) => self.content.element(*place),
+            None => Element::Nothing,
+        }
+    }
+}
+
 impl<'r, 'p> Held<'r> for Part<'p, 'r> {
     ghost held = { holding };
 
     fn bare(&self) -> Scalar<'r> {
-        self.content.bare()
+        self.content().bare()
     }
 
     fn len(&self) -> usize {
-        match &self.kept {
-            Some(kept) => kept.len(),
-            None => self.content.len(),
+        match &self.extent {
+            Extent::Whole(content) => content.len(),
+            Extent::Kept(kept) => kept.indices.len(),
         }
     }
 
@@ -196,9 +255,7 @@ impl<'p, 'r> Part<'p, 'r> {
             ≡ coded_datum types.entry.now b (typed (word_of word.entry) inner.entry) }
     {
         Part {
-            content: Content::Typed { types, word, inner },
-            shape: Shape::List,
-            kept: None,
+            extent: Extent::Whole(Content::Typed { types, word, inner }),
         }
     }
 
@@ -212,13 +269,12 @@ impl<'p, 'r> Part<'p, 'r> {
             ≡ coded_datum types.entry.now base.now (sequence values.entry) }
     {
         Part {
-            content: Content::Values {
+            extent: Extent::Whole(Content::Values {
+                is_ordered: true,
                 types,
-                base: types.of_elements(base),
+                base,
                 values,
-            },
-            shape: shape_of(base),
-            kept: None,
+            }),
         }
     }
 
@@ -232,13 +288,12 @@ impl<'p, 'r> Part<'p, 'r> {
             ≡ coded_datum types.entry.now base.now (bag values.entry) }
     {
         Part {
-            content: Content::Values {
+            extent: Extent::Whole(Content::Values {
+                is_ordered: false,
                 types,
-                base: types.of_elements(base),
+                base,
                 values,
-            },
-            shape: Shape::Bag,
-            kept: None,
+            }),
         }
     }
 
@@ -248,9 +303,31 @@ impl<'p, 'r> Part<'p, 'r> {
         ensures elements { (holding result).elements ≡ instances names.entry.now }
     {
         Part {
-            content: Content::Instances(names),
-            shape: Shape::Bag,
-            kept: None,
+            extent: Extent::Whole(Content::Instances(names)),
+        }
+    }
+
+    /// All of it.
+    fn content(&self) -> &Content<'p, 'r>
+        ensures { result.now ≡ content_in self.now.extent }
+    {
+        match &self.extent {
+            Extent::Whole(content) => content,
+            Extent::Kept(kept) => &kept.content,
+        }
+    }
+
+    /// .. without the indices of elements.
+    fn into_content(self) -> Content<'p, 'r>
+        ensures { result ≡ content_in self.entry.extent }
+    {
+        let Part { extent } = self;
+        match extent {
+            Extent::Whole(content) => content,
+            Extent::Kept(kept) => {
+                let Kept { content, .. } = Box::into_inner(kept);
+                content
+            }
         }
     }
 
@@ -258,7 +335,7 @@ impl<'p, 'r> Part<'p, 'r> {
     pub fn type_name(&self) -> Option<Word<'r>>
         ensures { capitals_of result ≡ (holding self.now).name }
     {
-        match &self.content {
+        match self.content() {
             Content::Typed { word, .. } => Some(*word),
             Content::Values { .. } => None,
             Content::Instances(_) => None,
@@ -269,14 +346,17 @@ impl<'p, 'r> Part<'p, 'r> {
     pub(crate) fn inside(&self) -> Datum<'r, Part<'p, 'r>>
         ensures { datum_of holding result ≡ bare (holding self.now).inner }
     {
-        self.content.inside()
+        self.content().inside()
     }
 
     /// Its shape, where it is an aggregate.
     pub fn shape(&self) -> Shape<'p>
         ensures { shape_seen result ≡ (holding self.now).shape }
     {
-        self.shape
+        match &self.extent {
+            Extent::Whole(content) => content.shape(),
+            Extent::Kept(kept) => kept.content.shape().kept(),
+        }
     }
 
     /// The element of this index, counted from 0; nothing where there are fewer.
@@ -284,12 +364,9 @@ impl<'p, 'r> Part<'p, 'r> {
         ensures { element_datum result
             ≡ or_indeterminate (element_at index (holding self.now).elements) }
     {
-        match &self.kept {
-            Some(kept) => match kept.get(index) {
-                Some(place) => self.content.element(*place),
-                None => Element::Nothing,
-            },
-            None => self.content.element(index),
+        match &self.extent {
+            Extent::Whole(content) => content.element(index),
+            Extent::Kept(kept) => kept.element(index),
         }
     }
 
@@ -299,22 +376,27 @@ impl<'p, 'r> Part<'p, 'r> {
         ensures { or_indeterminate (element_at result (whole_elements self.now))
             ≡ or_indeterminate (element_at index (holding self.now).elements) }
     {
-        match &self.kept {
-            Some(kept) => place_at(kept, index),
-            None => index,
+        match &self.extent {
+            Extent::Whole(_) => index,
+            Extent::Kept(kept) => place_at(&kept.indices, index),
         }
     }
 
     /// Of all of the aggregate, the elements at these indices: what a QUERY keeps
     /// (ISO 10303-11, 12.6.7).
-    pub fn keep(self, kept: Vec<usize>) -> Part<'p, 'r>
-        ensures { holding result
-            ≡ kept_of (holding self.entry) (picked kept.items (whole_elements self.entry)) }
+    ///
+    /// An error says that memory ran out.
+    pub fn keep(self, alloc: Global, kept: Vec<usize>) -> Result<Part<'p, 'r>, AllocError>
+        ensures { IfOk result (λ p. holding p
+            ≡ kept_of (holding self.entry) (picked kept.items (whole_elements self.entry))) }
     {
-        Part {
-            content: self.content,
-            shape: self.shape.kept(),
-            kept: Some(kept),
-        }
+        let content = self.into_content();
+        let kept = Kept {
+            content,
+            indices: kept,
+        };
+        Ok(Part {
+            extent: Extent::Kept(Box::new(alloc, kept)?),
+        })
     }
 }

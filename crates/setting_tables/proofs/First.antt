@@ -1,5 +1,5 @@
 -- What the first declaration of an attribute by its own entity asks of its values.
-use Rattle.std.specs.Prelude.{◌≡◌, ℕ, Bool, true, false, cond, List, [], ◌∷◌, Option, None, Some, map, slice_get}
+use Rattle.std.specs.Prelude.{◌≡◌, ℕ, Bool, true, false, cond, List, [], ◌∷◌, None, Some, map, slice_get}
 use Rattle.std.specs.List.{AllZip, find, filter}
 use Rattle.std.proofs.Common.{refl, inl, inr, ap, sym, subst, ◌∙◌, zero, suc}
 use mathlib.Core.List.{map-map}

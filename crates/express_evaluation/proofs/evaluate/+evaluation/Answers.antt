@@ -5,15 +5,17 @@ use Rattle.std.specs.Option.{option_map}
 use Rattle.std.specs.Vec.{vec_len}
 use Rattle.express_trees.specs.declared.tree.Expr.{size-Expr}
 use Rattle.express_trees.specs.declared.tree.Logical.TheVariants.{Unknown}
-use Rattle.std.specs.Prelude.{if◌then◌else◌}
+use Rattle.std.specs.Prelude.{if◌then◌else◌, pos}
 use Rattle.express_trees.specs.Trees.{reference}
 use Rattle.express_trees.specs.Views.{capitals, root_of, tree_of, trees_of, alternatives_of, qualifiers_of, selections_of, selection_of}
-use Rattle.express_logic.specs.Data.{Datum, logical, aggregate, element, indeterminate}
+use Rattle.express_logic.specs.Data.{Datum, logical, aggregate, element, indeterminate, number}
 use Rattle.express_logic.specs.Logic.{both, either, negated}
 use Rattle.express_logic.specs.Comparing.{equal, member}
 use Rattle.express_logic.specs.Views.{datum_of, text_of}
-use Rattle.express_meanings.specs.Expressions.{means, of_junction, of_call, string_of, with_value, first_of_two, attribute_of, instance_attribute, instance_group, variable, is_of_type}
-use Rattle.express_meanings.specs.Operations.{bare, says, is_true, or_else, limited, kept_shape, indexed, compared}
+use Rattle.express_meanings.specs.Expressions.{means, bound, of_junction, of_call, string_of, with_value, first_of_two, attribute_of, instance_attribute, instance_group, variable, is_of_type}
+use Rattle.express_logic.specs.Holdings.{size_of}
+use Rattle.express_logic.specs.Literals.{whole_units}
+use Rattle.express_meanings.specs.Operations.{bare, says, is_true, or_else, limited, kept_shape, indexed, compared, size}
 use Rattle.held_values.specs.declared.element.Element.TheVariants as elements
 use Rattle.held_values.specs.Parts.{holding, element_datum, whole_elements}
 use Rattle.express_operations.specs.Scopes.{variables_of}
@@ -23,8 +25,9 @@ use Rattle.express_settings.specs.Settings.{below_rank, setting_by, derivation_i
 use Rattle.express_evaluation.specs.Contexts.{setting_in, worth_in, derived_in, instance_of, meaning_in, truth_in, between_in, selected_in, item_in, within_in, related_in, and_all_in, or_all_in, among_each_in, condition_in, passes_in, filtered_in, queried_in}
 use Rattle.express_evaluation.proofs.Arms.{part, part-truth, of-tree, or-known, or-unknown, related-is, related-in, related-not, typeof-is, typeof-not, other-is, or-is}
 use Rattle.express_evaluation.proofs.Items.{item-plain, item-attribute, item-other}
-use Rattle.express_operations.proofs.Kept.{Keeps, keeps_none, keeps_next, keeps_all}
+use Rattle.express_operations.proofs.Kept.{Keeps, keeps_none, keeps_next, keeps_all, Counts, counts_none, counts_next, counts_all, counts_within}
 use Rattle.express_trees.proofs.Layers.{reference-seen, aggregate-seen, attribute-selected, group-selected, parenthesized-seen, interval-seen, query-seen, call-seen, nvl-seen, not-seen, conjunction-seen, disjunction-seen, comparison-seen, index-selected}
+use Rattle.express_evaluation.proofs.Sizes.{sizeof-is, queried-bare}
 use Rattle.express_evaluation.proofs.Ranked.{below-none, below-late, below-rank}
 use Rattle.express_operations.proofs.Scopes.{variables_pushed, popped}
 use Rattle.express_evaluation.proofs.Walking.{either_false, either_none, either_groups, next-dropped, none-dropped, or-first, select-first, selected-plain}
@@ -560,6 +563,113 @@ between-returns t c =
       three.1 ∙ two.1 ∙ one.1,
     )
 
+pub call-returns-then-is_sizeof : goal.call-returns-then-is_sizeof
+call-returns-then-is_sizeof t c =
+    let C = c.args.context.now in
+    let vs = c.args.variables.now.items in
+    IfOk-weaker c.sized.result _ _
+    (λ v h. (
+      (λ m. h.0 m ∙ sizeof-is c.args.function (meaning_in C m vs (tree_of c.args.argument.now)) (sym c.is_sizeof.ensures ∙ c.if-is_sizeof.true)),
+      h.1,
+    )) c.sized.ensures
+
+pub sized-returns-in-Query : goal.sized-returns-in-Query
+sized-returns-in-Query t c =
+    let x = c.in-Query in
+    let C = c.args.context.now in
+    let vs = c.args.variables.now.items in
+    let n = capitals x.variable in
+    IfOk-weaker c.sized_query.result _ _
+    (λ v h. (
+      (λ m. h.0 m
+          ∙ ap (λ y. size (queried_in C m vs n (tree_of c.deref-in-Query.result.now) (bare (meaning_in C m vs (tree_of y))))) c.deref.ensures
+          ∙ ap (λ y. size (queried_in C m vs n (tree_of y) (bare (meaning_in C m vs (tree_of x.source.value))))) c.deref-in-Query.ensures
+          ∙ ap size (queried-bare (λ d. means (setting_in C m) (bound n d (variables_of vs)) (element_datum C.me) (tree_of x.condition.value))
+          (bare (meaning_in C m vs (tree_of x.source.value))))
+          ∙ ap (λ y. size (bare (meaning_in C m vs y))) (sym (ap tree_of x.is ∙ query-seen x.variable x.source x.condition))),
+      h.1,
+    )) c.sized_query.ensures
+
+pub sized-returns-in_ok-evaluate-in_default : goal.sized-returns-in_ok-evaluate-in_default
+sized-returns-in_ok-evaluate-in_default t c =
+    let found = c.in_ok-evaluate-in_default.ensures in
+    IfOk-weaker c.size_inside.result _ _ (λ v h. ((λ m. h ∙ ap (λ d. size (bare d)) (found.0 m)), found.1)) c.size_inside.ensures
+
+pub sized_query-returns : goal.sized_query-returns
+sized_query-returns t c =
+    let C = c.args.context.now in
+    let vs = c.args.variables.now.items in
+    let n = capitals c.args.name in
+    let x = tree_of c.args.condition.now in
+    let part = c.in-Aggregate.part in
+    let source = c.in_ok-evaluate.ensures in
+    let found = c.in_ok-count_passing.ensures in
+    IfOk-weaker c.counted.result _ _
+    (λ v h. (
+      (λ m. h
+          ∙ ap (λ k. number (whole_units (pos k)))
+          (found.0 m ∙ ap (λ ws. size_of (filtered_in C m ws n x (holding part).elements)) source.1)
+          ∙ ap (λ d. size (queried_in C m vs n x d)) (ap (datum_of holding) (sym c.in-Aggregate.is) ∙ c.bare-source.ensures ∙ ap bare (source.0 m))),
+      found.1 ∙ source.1,
+    )) c.counted.ensures
+
+pub sized_query-returns-in_default : goal.sized_query-returns-in_default
+sized_query-returns-in_default t c =
+    let C = c.args.context.now in
+    let vs = c.args.variables.now.items in
+    let n = capitals c.args.name in
+    let x = tree_of c.args.condition.now in
+    let source = c.in_ok-evaluate.ensures in (
+      λ m.
+          let none : indeterminate ≡ size (queried_in C m vs n x (datum_of holding c.bare-source.result)) = search rules in
+          none ∙ ap (λ d. size (queried_in C m vs n x d)) (c.bare-source.ensures ∙ ap bare (source.0 m)),
+      source.1,
+    )
+
+pub count_passing-loop-i-init : goal.count_passing-loop-i-init
+count_passing-loop-i-init t c = record {
+  counted = λ m. counts_none (condition_in c.args.context.now m c.args.variables.now.items (capitals c.args.name) (tree_of c.args.condition.now))
+      (holding c.args.source.now).elements;
+  within = omega arith;
+  variables = refl;
+}
+
+pub count_passing-counted_if-count-requires : goal.count_passing-counted_if-count-requires
+count_passing-counted_if-count-requires t c =
+    let within = c.loop-i.invariant.within in
+    let below = c.loop-i-test.true in
+    let end = c.len-i-end.type_inv in
+    omega (arith, within, below, end)
+
+pub count_passing-loop-i-preserved : goal.count_passing-loop-i-preserved
+count_passing-loop-i-preserved t c =
+    let es = (holding c.args.source.now).elements in
+    let i = c.loop-i.i in
+    let k = c.counted_if-count.result in
+    let next : i + 1 ≡ suc i = omega arith in
+    let within = subst (λ n. i < n) c.len-i-end.ensures c.loop-i-test.true in
+    let inv = c.loop-i.invariant in
+    let found = c.in_ok-holds.ensures in record {
+      counted = λ m.
+          let p = condition_in c.args.context.now m c.args.variables.now.items (capitals c.args.name) (tree_of c.args.condition.now) in
+          subst (λ n. Counts p es k n) (sym next)
+          (counts_next p es c.loop-i.count k i c.in_ok-holds.holds
+          within (found.0 m ∙ ap (λ ws. passes_in c.args.context.now m ws (capitals c.args.name) (tree_of c.args.condition.now) (element_datum c.element_value.result)) inv.variables
+          ∙ ap (λ d. is_true (p d)) c.element_value.ensures) c.counted_if-count.ensures (inv.counted m));
+      within = counts_within c.loop-i.count k i c.in_ok-holds.holds c.counted_if-count.ensures inv.within;
+      variables = found.1 ∙ inv.variables;
+    }
+
+pub count_passing-returns : goal.count_passing-returns
+count_passing-returns t c =
+    let es = (holding c.args.source.now).elements in
+    let all : c.loop-i.i ≡ c.len-i-end.result = omega (arith, c.loop-i-test.false, c.loop-i.auto.i-end) in
+    let inv = c.loop-i.invariant in (
+      λ m. counts_all (condition_in c.args.context.now m c.args.variables.now.items (capitals c.args.name) (tree_of c.args.condition.now)) es
+          c.loop-i.count c.loop-i.i (all ∙ c.len-i-end.ensures) (inv.counted m),
+      inv.variables,
+    )
+
 pub call-returns : goal.call-returns
 call-returns t c =
     let found = c.in_ok-value.ensures in
@@ -634,7 +744,7 @@ query-returns t c =
     let source = c.in_ok-evaluate.ensures in
     let found = c.in_ok-kept.ensures in (
       λ m.
-          ap (λ h. aggregate h.shape h.elements) c.keep.ensures
+          ap (λ h. aggregate h.shape h.elements) c.in_ok-keep.ensures
           ∙ ap (λ ds. aggregate (kept_shape (holding part).shape) ds)
           (found.0 m ∙ ap (λ ws. filtered_in C m ws n x (holding part).elements) source.1)
           ∙ ap (λ d. queried_in C m vs n x d) (ap (datum_of holding) (sym c.in-Aggregate.is) ∙ c.bare-source.ensures ∙ ap bare (source.0 m)),

@@ -1,4 +1,4 @@
-use Rattle.std.proofs.Common.{◌≡◌, ◌+◌, ◌*◌, ℕ, max, drop}
+use Rattle.std.proofs.Common.{◌≡◌, ◌≤◌, ◌+◌, ◌*◌, ℕ, max, drop}
 use Rattle.express_trees.specs.declared.tree.Expr.{size-Expr}
 use Rattle.express_trees.specs.Views.{capitals, tree_of, trees_of, alternatives_of, qualifiers_of}
 use Rattle.express_logic.specs.Logic.{either}
@@ -7,7 +7,7 @@ use Rattle.express_evaluation.specs.declared.context.Context.{Context}
 use Rattle.held_values.specs.Parts.{holding, whole_elements}
 use Rattle.express_evaluation.specs.Weights.{weight}
 use Rattle.express_evaluation.specs.Contexts.{MeantBy, selected_in, and_all_in, or_all_in, among_each_in, condition_in}
-use Rattle.express_operations.proofs.Kept.{Keeps}
+use Rattle.express_operations.proofs.Kept.{Keeps, Counts}
 use Rattle.express_evaluation.proofs.evaluate.+evaluation.Given as goal
 
 -- what is left to do below the limit
@@ -52,6 +52,15 @@ decreases-or_all l = 16 * (goal.size-or_all l + left l.context.now) + 3
 
 abbrev pub decreases-query : goal.decreases-query
 decreases-query l = 16 * (max (size-Expr l.source.now) (size-Expr l.condition.now) + left l.context.now) + 5
+
+abbrev pub decreases-sized : goal.decreases-sized
+decreases-sized l = 16 * (goal.size-sized l + left l.context.now) + 2
+
+abbrev pub decreases-sized_query : goal.decreases-sized_query
+decreases-sized_query l = 16 * (max (size-Expr l.source.now) (size-Expr l.condition.now) + left l.context.now) + 5
+
+abbrev pub decreases-count_passing : goal.decreases-count_passing
+decreases-count_passing l = 16 * (goal.size-count_passing l + left l.context.now) + 4
 
 abbrev pub decreases-passing : goal.decreases-passing
 decreases-passing l = 16 * (goal.size-passing l + left l.context.now) + 4
@@ -137,5 +146,14 @@ invariant-passing-loop-i l =
       kept : (m : MeantBy l.context)
           → Keeps (condition_in l.context m vs (capitals l.name) (tree_of l.condition)) (whole_elements l.source)
           (holding l.source).elements l.kept.items l.i;
+      variables : l.variables.items ≡ vs;
+    }
+
+abbrev pub invariant-count_passing-loop-i : goal.invariant-count_passing-loop-i
+invariant-count_passing-loop-i l =
+    let vs = l.initial.variables.items in record {
+      counted : (m : MeantBy l.context)
+          → Counts (condition_in l.context m vs (capitals l.name) (tree_of l.condition)) (holding l.source).elements l.count l.i;
+      within : l.count ≤ l.i;
       variables : l.variables.items ≡ vs;
     }

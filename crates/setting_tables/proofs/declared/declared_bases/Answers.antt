@@ -1,7 +1,6 @@
 use Rattle.std.proofs.Common.{ap, sym, subst, ◌∙◌, map, slice_get, []}
 use Rattle.std.specs.List.{AllZip}
 use Rattle.express_schemas.specs.SchemaViews.{schema_of}
-use Rattle.type_graphs.specs.Attributes.{Place}
 use Rattle.attribute_places.specs.Places.{places_of}
 use Rattle.base_types.specs.declared.base.Base.{Base}
 use Rattle.resolved_types.specs.Graphs.{place_of}

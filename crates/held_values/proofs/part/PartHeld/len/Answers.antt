@@ -1,14 +1,17 @@
-use Rattle.std.proofs.Common.{ap}
+use Rattle.std.proofs.Common.{◌∙◌, ap}
+use Rattle.std.specs.Vec.{vec_len}
 use Rattle.express_logic.specs.Holdings.{size_of}
-use Rattle.held_values.specs.Parts.{chosen, whole_elements, holding}
+use Rattle.held_values.specs.declared.part.Kept.{Kept}
+use Rattle.held_values.specs.Parts.{content_elements, elements_in, holding}
 use Rattle.held_values.proofs.Elements.{size-picked}
 use Rattle.held_values.proofs.part.PartHeld.len.Goals as goal
 
-pub returns-in-Some : goal.returns-in-Some
-unfolding holding whole_elements
-returns-in-Some c =
-    let k = c.in-Some.kept.ok in
-    let p = size-picked c.in-Some.kept.items (whole_elements c.args.self.now) in
-    let q = ap (λ o. size_of (chosen o (whole_elements c.args.self.now))) c.in-Some.is in
-    let r = c.len.ensures in
+pub returns-in-Kept : goal.returns-in-Kept
+unfolding holding
+returns-in-Kept c =
+    let x = c.in-Kept.kept.value in
+    let k = x.indices.ok in
+    let p = size-picked x.indices.items (content_elements x.content) in
+    let q = ap (λ o. size_of (elements_in o)) c.in-Kept.is in
+    let r = c.len-in-Kept.ensures ∙ ap (λ (y : Kept). vec_len y.indices) c.deref.ensures in
     cc
