@@ -38,12 +38,12 @@ adds-joined a b c r s t ps qs h k = record {
 -- an attribute that is added
 pub adds-place : (old new : List Attributed) (row after : List ℕ) (p : Attributed) (k : ℕ) → new ≡ old ++ p ∷ []
     → after ≡ row ++ k ∷ [] → k ≡ length old
-    → Adds (places_of old) row ((capitals p.entity, capitals p.attribute) ∷ []) (places_of new) after
+    → Adds (places_of old) row ((capitals p.entity.now, capitals p.attribute.now) ∷ []) (places_of new) after
 adds-place old new row after p k is behind at =
-    adds-one (places_of old) row (capitals p.entity, capitals p.attribute) (places_of new) after
-    (ap places_of is ∙ map-joined (λ (x : Attributed). (capitals x.entity, capitals x.attribute)) old (p ∷ []))
+    adds-one (places_of old) row (capitals p.entity.now, capitals p.attribute.now) (places_of new) after
+    (ap places_of is ∙ map-joined (λ (x : Attributed). (capitals x.entity.now, capitals x.attribute.now)) old (p ∷ []))
     (behind ∙ ap (λ n. row ++ n ∷ [])
-    (at ∙ sym (length-map old (λ (x : Attributed). (capitals x.entity, capitals x.attribute)))))
+    (at ∙ sym (length-map old (λ (x : Attributed). (capitals x.entity.now, capitals x.attribute.now)))))
 
 -- the places of attributes, one after the other
 abbrev pub of_names : Name → List Attribute → List Place

@@ -40,4 +40,4 @@ below-rows all (d ∷ ds) (r ∷ rows) h (suc a) b k =
     (map (λ (y : Declaration). map Some (places_in y)) ds) h) a b k
 
 pub places-many : (xs : List Attributed) → length (places_of xs) ≡ length xs
-places-many xs = length-map xs (λ (x : Attributed). (capitals x.entity, capitals x.attribute))
+places-many xs = length-map xs (λ (x : Attributed). (capitals x.entity.now, capitals x.attribute.now))

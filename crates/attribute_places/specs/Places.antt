@@ -9,7 +9,7 @@ use Rattle.schema_names.specs.Numbers.{HasNumber, AreAt, AreRowsOf}
 use Rattle.attribute_places.specs.declared.attributes.Place.{Place as Attributed}
 
 abbrev pub places_of : List Attributed → List Place
-places_of xs = map (λ (x : Attributed). (capitals x.entity, capitals x.attribute)) xs
+places_of xs = map (λ (x : Attributed). (capitals x.entity.now, capitals x.attribute.now)) xs
 
 -- those of a declaration; what is no entity has none
 abbrev pub places_in : Declaration → List Place

@@ -15,9 +15,9 @@ use std::alloc::{AllocError, Global};
 
 /// The places of the attributes of each entity (ISO 10303-11, 9.2.3.3).
 #[derive(Drop)]
-pub struct AttributePlaces<'a> {
+pub struct AttributePlaces<'a, 't> {
     /// The explicit attributes of the schema, in the order of the text.
-    pub attributes: Vec<Place<'a>>,
+    pub attributes: Vec<Place<'a, 't>>,
     /// By declaration, for an entity the numbers of its places in that list, in order.
     pub rows: Vec<Vec<u32>>,
     /// By declaration, for an entity the numbers of the explicit attributes that it declares itself.
@@ -29,11 +29,11 @@ pub struct AttributePlaces<'a> {
 ///
 /// It takes time for each place that an entity takes over from a supertype. Where there are more
 /// than 2^32 explicit attributes there is no memory for it.
-pub fn attribute_places<'a>(
+pub fn attribute_places<'a, 't>(
     alloc: Global,
-    names: &Names<'a, '_>,
+    names: &Names<'a, 't>,
     supertypes: &[Vec<u32>],
-) -> Result<AttributePlaces<'a>, AllocError>
+) -> Result<AttributePlaces<'a, 't>, AllocError>
     requires resolved { IsResolved (schema_of names.now.schema.now) }
     requires graph { IsGraphOf (schema_of names.now.schema.now) supertypes_in
         (graph_of supertypes.now) }

@@ -32,18 +32,23 @@ use rule_tables::inverses::InverseAttribute;
 use step_literals::literal::Word;
 
 /// Whether an explicit attribute has this number, this entity and this name.
-fn is_place(places: &[Place<'_>], number: u32, entity: Word<'_>, name: Word<'_>) -> bool
+fn is_place(places: &[Place<'_, '_>], number: u32, entity: Word<'_>, name: Word<'_>) -> bool
     ensures { result ≡ is_place (capitals entity.entry, capitals name.entry)
         (slice_get (places_of places.now) number) }
 {
     match places.get(number as usize) {
-        Some(place) => place.entity == entity && place.attribute == name,
+        Some(place) => *place.entity == entity && *place.attribute == name,
         None => false,
     }
 }
 
 /// The first of these numbers that is the one of the explicit attribute of this entity and name.
-fn place_among(places: &[Place<'_>], row: &[u32], entity: Word<'_>, name: Word<'_>) -> Option<u32>
+fn place_among(
+    places: &[Place<'_, '_>],
+    row: &[u32],
+    entity: Word<'_>,
+    name: Word<'_>,
+) -> Option<u32>
     ensures { result ≡ find (λ (q : ℕ). is_place (capitals entity.entry, capitals name.entry)
         (slice_get (places_of places.now) q)) row.now }
 {

@@ -172,7 +172,14 @@ fn add_explicit<'a>(
     ensures clean { OnOk result (AreMarks marks.new []) }
     ensures length { length marks.new ≡ length marks.old }
 {
-    let spoken = spoken_places(alloc, sources, own, first, &explicit.attributes, data_type)?;
+    let spoken = spoken_places(
+        alloc,
+        sources,
+        own,
+        first,
+        explicit.attributes.as_slice(),
+        data_type,
+    )?;
     let places = distinct(alloc, marks, &spoken)?;
     add_uses(uses, &places, data_type, explicit.is_optional)
 }
@@ -206,7 +213,7 @@ fn explicit_uses<'a>(
         add_explicit(
             alloc, sources, marks, own, first, explicit, row[n], &mut uses,
         )?;
-        first = sum(first, own_count(&explicit.attributes)?)?;
+        first = sum(first, own_count(explicit.attributes.as_slice())?)?;
     }
     Ok(uses)
 }

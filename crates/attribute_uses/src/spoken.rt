@@ -38,11 +38,11 @@ pub(crate) fn row_of(rows: &[Vec<u32>], number: usize) -> &[u32]
 }
 
 /// Whether the place of a number has this name.
-fn has_name(places: &[Place<'_>], number: u32, name: Word<'_>) -> bool
+fn has_name(places: &[Place<'_, '_>], number: u32, name: Word<'_>) -> bool
     ensures { result ≡ has_name (capitals name.entry) (slice_get (places_of places.now) number) }
 {
     match places.get(number as usize) {
-        Some(place) => place.attribute == name,
+        Some(place) => *place.attribute == name,
         None => false,
     }
 }

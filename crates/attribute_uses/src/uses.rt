@@ -50,7 +50,7 @@ pub struct Sources<'a, 't, 'r> {
     /// By data type, its shape.
     pub shapes: &'r [Shape],
     /// The explicit attributes, in the order of the text.
-    pub places: &'r [Place<'a>],
+    pub places: &'r [Place<'a, 't>],
     /// By entity, the numbers of those that it declares itself.
     pub own: &'r [Vec<u32>],
 }

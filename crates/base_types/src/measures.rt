@@ -47,8 +47,8 @@ fn most_of(width: &Width<'_>) -> Option<i64>
 }
 
 /// What a width limits, where it is checked.
-pub(crate) fn limit_of(width: &Option<FixedWidth<'_>>) -> Option<Limit>
-    ensures { result ≡ limit_in (if_some fixed_of width.now) }
+pub(crate) fn limit_of(width: &Option<Box<FixedWidth<'_>>>) -> Option<Limit>
+    ensures { result ≡ limit_in (if_some (λ b. fixed_of b.value) width.now) }
 {
     let Some(fixed) = width else {
         return None;

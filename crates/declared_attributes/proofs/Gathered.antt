@@ -1,80 +1,50 @@
 -- What is added to what is said of attributes.
-use Rattle.std.specs.Prelude.{◌≡◌, ℕ, ◌+◌, ◌<◌, suc, Bool, true, false, eqb, List, [], ◌∷◌, ◌++◌, Option, None, Some, map, flat_map, take, length, slice_get, get_or, ◌⊎◌, ◌↔◌}
+use Rattle.std.specs.Prelude.{◌≡◌, ℕ, ◌+◌, ◌<◌, suc, Bool, true, false, eqb, List, [], ◌∷◌, Option, None, Some, map, flat_map, take, length, slice_get, get_or, ◌⊎◌, ◌↔◌}
 use Rattle.std.proofs.Common.{refl, inl, inr, ap, sym, subst, ◌∙◌, arith, zero}
 use Rattle.std.proofs.lemmas.Bool.Decides.{nat_tests}
-use Rattle.std.proofs.lemmas.List.{length-map, append-nil, length-append}
+use Rattle.std.proofs.lemmas.List.{append-nil, length-append}
 use Rattle.std.proofs.lemmas.Option.{slice_get_within}
-use Rattle.express_trees.specs.Views.{capitals}
 use Rattle.type_graphs.specs.Names.{Name}
+use Rattle.declared_attributes.specs.declared.attributes.Attributes.{Attributes}
 use Rattle.declared_attributes.specs.declared.declaration.AttributeDeclaration.{AttributeDeclaration}
-use Rattle.declared_attributes.specs.declared.gathering.Named.{Named}
-use Rattle.declared_attributes.specs.Gathering.{HoldsNamed, AddsAll, SaysIs, AreNth}
+use Rattle.declared_attributes.specs.Gathering.{Holds, AddsAll, AreNth}
 
 abbrev pub Saying : Type 1
 Saying = Name → AttributeDeclaration → Type 0
 
-holds-left : (ns : List Named) (n : Named) (a : Name) (x : AttributeDeclaration) → HoldsNamed ns a x
-    → HoldsNamed (ns ++ n ∷ []) a x
-holds-left [] n a x h = elim h [ ]
-holds-left (m ∷ ns) n a x (inl h) = inl h
-holds-left (m ∷ ns) n a x (inr h) = inr (holds-left ns n a x h)
-
-holds-last : (ns : List Named) (n : Named) (a : Name) (x : AttributeDeclaration)
-    → (capitals n.name ≡ a) × (n.declaration ≡ x) → HoldsNamed (ns ++ n ∷ []) a x
-holds-last [] n a x h = inl h
-holds-last (m ∷ ns) n a x h = inr (holds-last ns n a x h)
-
-put : {P Q R : Type 0} → Q ⊎ R → (P ⊎ Q) ⊎ R
-put (inl q) = inl (inr q)
-put (inr r) = inr r
-
-holds-either : (ns : List Named) (n : Named) (a : Name) (x : AttributeDeclaration) → HoldsNamed (ns ++ n ∷ []) a x
-    → HoldsNamed ns a x ⊎ ((capitals n.name ≡ a) × (n.declaration ≡ x))
-holds-either [] n a x (inl h) = inr h
-holds-either [] n a x (inr h) = elim h [ ]
-holds-either (m ∷ ns) n a x (inl h) = inl (inl h)
-holds-either (m ∷ ns) n a x (inr h) = put (holds-either ns n a x h)
-
-pub adds-nothing : (old : List Named) (P : Saying) → ((a : Name) (x : AttributeDeclaration) → P a x → ⊥)
+pub adds-nothing : (old : Attributes) (P : Saying) → ((a : Name) (x : AttributeDeclaration) → P a x → ⊥)
     → AddsAll old P old
 adds-nothing old P none a x = (inl, back)
   where
-    back : HoldsNamed old a x ⊎ P a x → HoldsNamed old a x
+    back : Holds old a x ⊎ P a x → Holds old a x
     back (inl h) = h
     back (inr p) = absurd (none a x p)
 
-pub adds-named : (old : List Named) (n : Named) → AddsAll old (SaysIs (capitals n.name) n.declaration) (old ++ n ∷ [])
-adds-named old n a x = (holds-either old n a x, back)
-  where
-    back : HoldsNamed old a x ⊎ SaysIs (capitals n.name) n.declaration a x → HoldsNamed (old ++ n ∷ []) a x
-    back (inl h) = holds-left old n a x h
-    back (inr p) = holds-last old n a x p
-
-pub adds-alike : (old new : List Named) (P Q : Saying) → ((a : Name) (x : AttributeDeclaration) → P a x ↔ Q a x)
+pub adds-alike : (old new : Attributes) (P Q : Saying) → ((a : Name) (x : AttributeDeclaration) → P a x ↔ Q a x)
     → AddsAll old P new → AddsAll old Q new
 adds-alike old new P Q is h a x = (λ k. forth ((h a x).0 k), λ k. (h a x).1 (back k))
   where
-    forth : HoldsNamed old a x ⊎ P a x → HoldsNamed old a x ⊎ Q a x
+    forth : Holds old a x ⊎ P a x → Holds old a x ⊎ Q a x
     forth (inl k) = inl k
     forth (inr p) = inr ((is a x).0 p)
 
-    back : HoldsNamed old a x ⊎ Q a x → HoldsNamed old a x ⊎ P a x
+    back : Holds old a x ⊎ Q a x → Holds old a x ⊎ P a x
     back (inl k) = inl k
     back (inr q) = inr ((is a x).1 q)
 
-pub adds-both : (f g h : List Named) (P Q : Saying) → AddsAll f P g → AddsAll g Q h
+pub adds-both : (f g h : Attributes) (P Q : Saying) → AddsAll f P g → AddsAll g Q h
     → AddsAll f (λ a x. P a x ⊎ Q a x) h
 adds-both f g h P Q j k a x = (λ m. forth ((k a x).0 m), back)
   where
-    first : HoldsNamed f a x ⊎ P a x → HoldsNamed f a x ⊎ (P a x ⊎ Q a x)
+    first : Holds f a x ⊎ P a x → Holds f a x ⊎ (P a x ⊎ Q a x)
     first (inl m) = inl m
     first (inr p) = inr (inl p)
 
-    forth : HoldsNamed g a x ⊎ Q a x → HoldsNamed f a x ⊎ (P a x ⊎ Q a x)
+    forth : Holds g a x ⊎ Q a x → Holds f a x ⊎ (P a x ⊎ Q a x)
     forth (inl m) = first ((j a x).0 m)
     forth (inr q) = inr (inr q)
 
-    back : HoldsNamed f a x ⊎ (P a x ⊎ Q a x) → HoldsNamed h a x
+    back : Holds f a x ⊎ (P a x ⊎ Q a x) → Holds h a x
     back (inl m) = (k a x).1 (inl ((j a x).1 (inl m)))
     back (inr (inl p)) = (k a x).1 (inl ((j a x).1 (inr p)))
     back (inr (inr q)) = (k a x).1 (inr q)
@@ -84,13 +54,13 @@ module _ {X : Type 0} (P : ℕ → X → Saying) (xs : List X) where
   abbrev pub UpTo : ℕ → Saying
   UpTo m a d = (n : ℕ) × (n < m) × (x : X) × (slice_get xs n ≡ Some x) × P n x a d
 
-  pub none-yet : (old : List Named) → AddsAll old (UpTo 0) old
+  pub none-yet : (old : Attributes) → AddsAll old (UpTo 0) old
   none-yet old = adds-nothing old (UpTo 0) none
     where
       none : (a : Name) (d : AttributeDeclaration) → UpTo 0 a d → ⊥
       none a d (n, lt, x, at, p) = absurd (omega (arith, lt))
 
-  pub one-more : (m : ℕ) (x : X) (old mid new : List Named) → slice_get xs m ≡ Some x → AddsAll old (UpTo m) mid
+  pub one-more : (m : ℕ) (x : X) (old mid new : Attributes) → slice_get xs m ≡ Some x → AddsAll old (UpTo m) mid
       → AddsAll mid (P m x) new → AddsAll old (UpTo (m + 1)) new
   one-more m x old mid new here h k =
       adds-alike old new (λ a d. UpTo m a d ⊎ P m x a d) (UpTo (m + 1)) is
@@ -123,7 +93,7 @@ module _ {X : Type 0} (P : ℕ → X → Saying) (xs : List X) where
       is : (a : Name) (d : AttributeDeclaration) → (UpTo m a d ⊎ P m x a d) ↔ UpTo (m + 1) a d
       is a d = (forth a d, back a d)
 
-  pub at-length : (m : ℕ) (old new : List Named) → m ≡ length xs → AddsAll old (UpTo m) new
+  pub at-length : (m : ℕ) (old new : Attributes) → m ≡ length xs → AddsAll old (UpTo m) new
       → AddsAll old (AreNth P xs) new
   at-length m old new e h = adds-alike old new (UpTo m) (AreNth P xs) is h
     where

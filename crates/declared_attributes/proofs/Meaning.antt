@@ -1,29 +1,28 @@
 -- What is gathered is what declarations say.
-use Rattle.std.specs.Prelude.{◌≡◌, ℕ, ◌+◌, suc, List, [], ◌∷◌, ◌++◌, Option, None, Some, map, flat_map, take, length, slice_get, ◌⊎◌, ◌↔◌}
+use Rattle.std.specs.Prelude.{◌≡◌, ℕ, ◌+◌, suc, List, [], ◌∷◌, ◌++◌, Option, None, Some, flat_map, take, length, slice_get, ◌⊎◌, ◌↔◌}
 use Rattle.std.proofs.Common.{refl, inl, inr, ap, sym, subst, ◌∙◌, arith, zero}
 use Rattle.std.proofs.lemmas.List.{length-map, length-append}
 use Rattle.digraph.specs.Graphs.{Graph, next}
 use Rattle.step_literals.specs.declared.literal.Word.{Word}
 use Rattle.express_trees.specs.Views.{capitals}
-use Rattle.express_schemas.specs.Schemas.{Schema, Declaration, type, entity, skipped, Entity, Attribute, own, redeclared, Explicit, Derived, Inverse, DataType}
-use Rattle.type_graphs.specs.Names.{Name, OneOf, Among, listed, entities, IsEntityAt, IsEntity, Declares}
-use Rattle.type_graphs.specs.Faults.{IsResolved, declared, Declared}
-use Rattle.type_graphs.specs.Attributes.{collected, IsRedeclaration, HasFirstShape, MayHaveType, Derivation, IsNth, Derives}
-use Rattle.schema_names.specs.Numbers.{HasNumber, IsAt, AreAt, AreRowsOf}
-use Rattle.schema_names.proofs.Numbers.{stands-at, what-stands, each-number, one-name}
+use Rattle.express_schemas.specs.Schemas.{Schema, type, entity, skipped, Entity, Attribute, own, redeclared, Explicit, Derived, Inverse, DataType}
+use Rattle.type_graphs.specs.Names.{Name, OneOf, Among, listed, entities, IsEntityAt, Declares}
+use Rattle.type_graphs.specs.Faults.{IsResolved}
+use Rattle.type_graphs.specs.Attributes.{collected, HasFirstShape, MayHaveType, Derivation, IsNth, Derives}
+use Rattle.schema_names.specs.Numbers.{HasNumber, IsAt, AreRowsOf}
+use Rattle.schema_names.proofs.Numbers.{stands-at, each-number, one-name}
 use Rattle.type_graphs.proofs.Recursion.{declared-entity}
 use Rattle.attribute_places.proofs.OwnNumbers.{own-number-of}
 use Rattle.data_types.specs.Numbered.{whole_types, all_data_types, explicit_types, derived_types, inverse_types, attribute_types}
+use Rattle.declared_attributes.specs.declared.attributes.Attributes.{Attributes}
 use Rattle.declared_attributes.specs.declared.declaration.AttributeDeclaration.{AttributeDeclaration}
 use Rattle.declared_attributes.specs.declared.gathering.Class.{Class}
 use Rattle.declared_attributes.specs.declared.gathering.Class.TheVariants as classes
-use Rattle.declared_attributes.specs.declared.gathering.Named.{Named}
 use Rattle.declared_attributes.specs.Derivations.{derivations_from, derivations_in, all_derivations, HasDerivation}
-use Rattle.declared_attributes.specs.Declarations.{IsDeclaredBy, GivesType, GivesValue, AreDeclarations}
-use Rattle.declared_attributes.specs.Gathering.{AddsAll, HoldsNamed, Allows, Says, SaysOne, SaysTogether, SaysExplicit, SaysDerived, SaysInverse, SaysEntity, SaysDeclaration, SaysAt, SaysSchema}
-use Rattle.declared_attributes.specs.Grouping.{selected}
+use Rattle.declared_attributes.specs.Declarations.{IsDeclaredBy, GivesType, GivesValue, AreDeclarations, found}
+use Rattle.declared_attributes.specs.Gathering.{AddsAll, Holds, Allows, Says, SaysEntity, SaysSchema}
 use Rattle.declared_attributes.proofs.Rows.{number-at, in-first, in-second, at-map, at-among, among-at, row-of}
-use Rattle.declared_attributes.proofs.ByName.{among-selected}
+use Rattle.declared_attributes.proofs.ByName.{found-held}
 use Rattle.declared_attributes.proofs.Telling.{one-of, of-one, Lets, TellsOf, StandsIn, Tells, origin-declares, told-declares, declares-told, told-type, type-told, told-value, value-told}
 
 -- by number in a list
@@ -335,18 +334,19 @@ entity-stands s r e m =
     let (i, at) = among-at s.declarations (entity e) (declared-entity s.declarations e m) in
     stands-at s e.name i (own-number s r i e at) ∙ at
 
--- what is selected of what is gathered
-pub selected-are : (s : Schema) → IsResolved s → (rows : Graph)
-    → AreRowsOf whole_types (all_data_types s) s.declarations rows → (flat : List Named)
-    → AddsAll [] (SaysSchema s rows) flat → (w : Word) → AreDeclarations s (capitals w) (selected w flat)
-selected-are s r rows h flat adds w =
-    are-declarations s r (own-number s r) rows h (entity-stands s r) (capitals w) (selected w flat)
+-- what is found of what is gathered
+pub found-are : (s : Schema) → IsResolved s → (rows : Graph)
+    → AreRowsOf whole_types (all_data_types s) s.declarations rows → (old new : Attributes)
+    → ((w : Word) → found old w ≡ []) → AddsAll old (SaysSchema s rows) new → (w : Word)
+    → AreDeclarations s (capitals w) (found new w)
+found-are s r rows h old new none adds w =
+    are-declarations s r (own-number s r) rows h (entity-stands s r) (capitals w) (found new w)
     (λ x. (
-      (λ m. which x ((adds (capitals w) x).0 ((among-selected w flat x).0 m))),
-      (λ says. (among-selected w flat x).1 ((adds (capitals w) x).1 (inr says))),
+      (λ m. which x ((adds (capitals w) x).0 ((found-held new w x).0 m))),
+      (λ says. (found-held new w x).1 ((adds (capitals w) x).1 (inr says))),
     ))
   where
-    which : (x : AttributeDeclaration) → HoldsNamed [] (capitals w) x ⊎ SaysSchema s rows (capitals w) x
+    which : (x : AttributeDeclaration) → Holds old (capitals w) x ⊎ SaysSchema s rows (capitals w) x
         → SaysSchema s rows (capitals w) x
-    which x (inl none) = elim none [ ]
+    which x (inl (v, e, m)) = elim (subst (Among x) (none v) m) [ ]
     which x (inr says) = says

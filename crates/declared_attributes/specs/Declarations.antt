@@ -1,5 +1,5 @@
 -- What declares and what redeclares the attributes of a name (ISO 10303-11, 9.2.1 and 9.2.3.4).
-use Rattle.std.specs.Prelude.{◌≡◌, ℕ, List, [], Option, None, Some, map, slice_get, get_or, ◌↔◌}
+use Rattle.std.specs.Prelude.{◌≡◌, ℕ, List, [], ◌∷◌, Option, None, Some, slice_get, ◌↔◌}
 use Rattle.indexmap.specs.IndexMap.{get}
 use Rattle.step_literals.specs.declared.literal.Word.{Word}
 use Rattle.express_trees.specs.Views.{capitals}
@@ -10,6 +10,8 @@ use Rattle.schema_names.specs.Words.{same_word}
 use Rattle.schema_names.specs.Numbers.{HasNumber}
 use Rattle.data_types.specs.Numbered.{all_data_types}
 use Rattle.declared_attributes.specs.declared.declaration.AttributeDeclaration.{AttributeDeclaration}
+use Rattle.declared_attributes.specs.declared.row.Row.{Row}
+use Rattle.declared_attributes.specs.declared.row.Row.TheVariants as rows
 use Rattle.declared_attributes.specs.declared.attributes.Attributes.{Attributes}
 use Rattle.declared_attributes.specs.Derivations.{HasDerivation}
 
@@ -35,14 +37,19 @@ pub record AreDeclarations (s : Schema) (a : Name) (xs : List AttributeDeclarati
   pub derived : (p : Name) (d : Derivation)
       → OneOf (λ (x : AttributeDeclaration). IsDeclaredBy s p x × GivesValue s d x) xs ↔ Derives s p a d
 
--- the row of a number; nothing without one
-abbrev pub row_in : List (List AttributeDeclaration) → Option ℕ → List AttributeDeclaration
-row_in rows None = []
-row_in rows (Some i) = get_or rows i []
+-- the declarations of a row
+abbrev pub items_of : Row → List AttributeDeclaration
+items_of (rows.One x) = x ∷ []
+items_of (rows.Several b) = b.value.items
+
+-- nothing without one
+abbrev pub row_in : Option Row → List AttributeDeclaration
+row_in None = []
+row_in (Some r) = items_of r
 
 -- what is found by a name
 abbrev pub found : Attributes → Word → List AttributeDeclaration
-found t w = row_in (map (λ v. v.items) t.rows.items) (get same_word t.numbers w)
+found t w = row_in (get same_word t.rows w)
 
 -- These are the attributes of a schema, by their names.
 abbrev pub AreAttributes : Schema → Attributes → Type 0

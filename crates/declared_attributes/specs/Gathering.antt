@@ -1,21 +1,23 @@
 -- What the entities of a schema say of attributes, by number (ISO 10303-11, 9.2.1 and 9.2.3.4).
-use Rattle.std.specs.Prelude.{◌≡◌, ℕ, ◌+◌, ◌<◌, List, [], Option, None, Some, map, flat_map, take, length, slice_get, ◌⊎◌, ◌↔◌}
+use Rattle.std.specs.Prelude.{◌≡◌, ℕ, ◌+◌, ◌<◌, List, Option, None, Some, flat_map, take, length, slice_get, ◌⊎◌, ◌↔◌}
 use Rattle.digraph.specs.Graphs.{Graph, graph_of, next}
+use Rattle.step_literals.specs.declared.literal.Word.{Word}
 use Rattle.express_trees.specs.Views.{capitals}
 use Rattle.express_schemas.specs.Schemas.{Schema, Declaration, type, entity, skipped, Entity, Attribute, own, redeclared, Explicit, Derived, Inverse, DataType}
 use Rattle.express_schemas.specs.SchemaViews.{schema_of}
-use Rattle.type_graphs.specs.Names.{Name, OneOf, listed}
+use Rattle.type_graphs.specs.Names.{Name, Among, listed}
 use Rattle.type_graphs.specs.Faults.{IsResolved}
 use Rattle.type_graphs.specs.Attributes.{IsRedeclaration, HasFirstShape}
 use Rattle.schema_names.specs.Numbers.{HasNumber, AreRowsOf}
 use Rattle.data_types.specs.Numbered.{whole_types, all_data_types}
 use Rattle.alike_types.specs.Shaped.{AreShapes, IsKnown}
 use Rattle.attribute_origins.specs.Lines.{HaveLines}
+use Rattle.declared_attributes.specs.declared.attributes.Attributes.{Attributes}
 use Rattle.declared_attributes.specs.declared.declaration.AttributeDeclaration.{AttributeDeclaration}
 use Rattle.declared_attributes.specs.declared.gathering.Class.{Class}
 use Rattle.declared_attributes.specs.declared.gathering.Class.TheVariants as classes
-use Rattle.declared_attributes.specs.declared.gathering.Named.{Named}
 use Rattle.declared_attributes.specs.declared.gathering.Sources.{Sources}
+use Rattle.declared_attributes.specs.Declarations.{found}
 use Rattle.declared_attributes.specs.Derivations.{derivations_in}
 
 abbrev pub schema_in : Sources → Schema
@@ -33,12 +35,12 @@ pub record AreSources (c : Sources) : Type 0 where
   pub shapes : AreShapes (schema_in c) c.shapes.now
 
 -- x is said of a
-abbrev pub HoldsNamed : List Named → Name → AttributeDeclaration → Type 0
-HoldsNamed ns a x = OneOf (λ (n : Named). (capitals n.name ≡ a) × (n.declaration ≡ x)) ns
+abbrev pub Holds : Attributes → Name → AttributeDeclaration → Type 0
+Holds t a x = (w : Word) × (capitals w ≡ a) × Among x (found t w)
 
 -- what P says is added
-abbrev pub AddsAll : List Named → (Name → AttributeDeclaration → Type 0) → List Named → Type 0
-AddsAll old P new = (a : Name) (x : AttributeDeclaration) → HoldsNamed new a x ↔ (HoldsNamed old a x ⊎ P a x)
+abbrev pub AddsAll : Attributes → (Name → AttributeDeclaration → Type 0) → Attributes → Type 0
+AddsAll old P new = (a : Name) (x : AttributeDeclaration) → Holds new a x ↔ (Holds old a x ⊎ P a x)
 
 -- where its data type has to be known, it is
 abbrev pub IsKnownAt : Schema → Class → ℕ → Type 0

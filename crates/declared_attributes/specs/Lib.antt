@@ -1,6 +1,5 @@
 pub mod Derivations
 pub mod Gathering
-pub mod Grouping
 pub mod Declarations
 pub mod Redeclaring
 pub mod Searching

@@ -1,7 +1,16 @@
 //! The attributes of a schema by their names.
 
-ghost use Rattle.std.specs.Prelude.{◌≡◌, [], length, map, get_or, IfOk};
+ghost use Rattle.std.specs.Prelude.{
+  ◌≡◌,
+  [],
+  length,
+  option_map,
+  slice_get,
+  IfOk,
+  OnOk,
+};
 ghost use Rattle.digraph.specs.Graphs.{graph_of};
+ghost use Rattle.express_trees.specs.Views.{capitals};
 ghost use Rattle.express_schemas.specs.SchemaViews.{schema_of};
 ghost use Rattle.type_graphs.specs.Faults.{IsResolved};
 ghost use Rattle.schema_names.specs.Numbers.{AreRowsOf};
@@ -9,12 +18,12 @@ ghost use Rattle.data_types.specs.Numbered.{whole_types, all_data_types};
 ghost use Rattle.alike_types.specs.Shaped.{AreShapes};
 ghost use Rattle.attribute_origins.specs.Lines.{HaveLines};
 ghost use Rattle.step_literals.specs.declared.literal.Word.{Word};
-ghost use Rattle.declared_attributes.specs.Grouping.{selected};
-ghost use Rattle.declared_attributes.specs.Declarations.{AreAttributes, found};
+ghost use Rattle.declared_attributes.specs.Declarations.{AreAttributes, row_in, found};
+ghost use Rattle.declared_attributes.specs.Gathering.{AddsAll, SaysIs};
 
 use crate::declaration::AttributeDeclaration;
-use crate::gathering::{Named, Sources, gathered};
-use crate::grouping::add_named;
+use crate::gathering::{Sources, gathered};
+use crate::row::Row;
 use data_types::forms::DataTypes;
 use indexmap::IndexMap;
 use schema_names::names::Names;
@@ -23,41 +32,55 @@ use std::hash::RandomState;
 use step_literals::literal::Word;
 use type_shapes::shapes::Shape;
 
+/// The rows of attributes, by their names.
+type Rows<'a> = IndexMap<Word<'a>, Row, RandomState>;
+
 /// The attributes of a schema, by name. Names are hashed by keys that the author of a text doesn't
 /// know, so that nobody can choose names that are slow to find.
 #[derive(Drop)]
 pub struct Attributes<'a> {
-    numbers: IndexMap<Word<'a>, u32, RandomState>,
-    rows: Vec<Vec<AttributeDeclaration>>,
+    rows: Rows<'a>,
 }
 
-/// A row by its number; an empty one where there is none.
-fn row_at(rows: &[Vec<AttributeDeclaration>], number: u32) -> &[AttributeDeclaration]
-    ensures { result.now ≡ get_or (map (λ v. v.items) rows.now) number [] }
+/// The row at a place; an empty one where there is none.
+fn row_at<'r>(rows: &'r Rows<'_>, place: usize) -> &'r [AttributeDeclaration]
+    ensures { result.now ≡ row_in (option_map (λ e. e.1) (slice_get rows.now.entries place)) }
 {
-    match rows.get(number as usize) {
-        Some(row) => row,
+    match rows.get_index(place) {
+        Some((_, row)) => row.as_slice(),
         None => &[],
     }
 }
 
-/// What is said of attributes, by their names.
-fn group<'a>(
-    alloc: Global,
-    keys: RandomState,
-    flat: &[Named<'a>],
-) -> Result<Attributes<'a>, AllocError>
-    ensures { IfOk result (λ t. (w : Word) → found t w ≡ selected w flat.now) }
-{
-    let mut numbers = IndexMap::with_hasher(alloc, keys);
-    let mut rows = Vec::new(alloc);
-    for named in flat {
-        add_named(alloc, &mut numbers, &mut rows, named)?;
-    }
-    Ok(Attributes { numbers, rows })
-}
-
 impl<'a> Attributes<'a> {
+    /// None yet, with room for as many names.
+    pub(crate) fn with_room(
+        alloc: Global,
+        keys: RandomState,
+        count: usize,
+    ) -> Result<Attributes<'a>, AllocError>
+        ensures { IfOk result (λ t. (w : Word) → found t w ≡ []) }
+    {
+        let rows = IndexMap::with_capacity_and_hasher(alloc, count, keys)?;
+        Ok(Attributes { rows })
+    }
+
+    /// Adds what is said of an attribute of this name.
+    pub(crate) fn add(
+        &mut self,
+        name: Word<'a>,
+        declaration: AttributeDeclaration,
+    ) -> Result<(), AllocError>
+        ensures { OnOk result (AddsAll self.old (SaysIs (capitals name.entry) declaration) self.new) }
+    {
+        let alloc = *self.rows.allocator();
+        if let Some(row) = self.rows.get_mut(&name) {
+            return row.push(alloc, declaration);
+        }
+        self.rows.insert(name, Row::One(declaration))?;
+        Ok(())
+    }
+
     /// The attributes of a schema whose names are resolved, over its data types with their shapes,
     /// and the line of each entity.
     pub fn of(
@@ -82,8 +105,7 @@ impl<'a> Attributes<'a> {
             lines,
             shapes,
         };
-        let flat = gathered(alloc, &sources)?;
-        group(alloc, keys, &flat)
+        gathered(alloc, keys, &sources)
     }
 
     /// What declares the attributes of this name, and what redeclares them; nothing where there is
@@ -91,8 +113,8 @@ impl<'a> Attributes<'a> {
     pub fn find(&self, name: Word<'_>) -> &[AttributeDeclaration]
         ensures { result.now ≡ found self.now name.entry }
     {
-        match self.numbers.get(&name) {
-            Some(number) => row_at(&self.rows, *number),
+        match self.rows.get_index_of(&name) {
+            Some(place) => row_at(&self.rows, place),
             None => &[],
         }
     }

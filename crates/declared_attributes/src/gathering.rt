@@ -5,7 +5,6 @@ ghost use Rattle.std.specs.Prelude.{
   ℕ,
   ◌+◌,
   ◌↔◌,
-  [],
   Some,
   map,
   length,
@@ -27,6 +26,7 @@ ghost use Rattle.express_schemas.specs.Views.{
 ghost use Rattle.express_schemas.specs.Schemas.{redeclared};
 ghost use Rattle.type_graphs.specs.Names.{Name, IsEntity};
 ghost use Rattle.schema_names.specs.Numbers.{HasNumber, IsAt};
+ghost use Rattle.declared_attributes.specs.Declarations.{AreAttributes};
 ghost use Rattle.declared_attributes.specs.Derivations.{derivations_in};
 ghost use Rattle.declared_attributes.specs.declared.gathering.Class.TheVariants as classes;
 ghost use Rattle.declared_attributes.specs.Gathering.{
@@ -39,7 +39,6 @@ ghost use Rattle.declared_attributes.specs.Gathering.{
   AreKnownFrom,
   Says,
   SaysOne,
-  SaysIs,
   SaysTogether,
   SaysExplicit,
   SaysDerived,
@@ -47,11 +46,12 @@ ghost use Rattle.declared_attributes.specs.Gathering.{
   SaysClauses,
   SaysEntity,
   SaysDeclaration,
-  SaysSchema,
   AreNth,
   SaysAt,
 };
 
+use crate::attributes::Attributes;
+use crate::counting::attribute_count;
 use crate::declaration::AttributeDeclaration;
 use crate::redeclaring::{has_first_shape, redeclared_entity};
 use alike_types::laws::data_types_are_known;
@@ -59,6 +59,7 @@ use data_types::forms::DataTypes;
 use express_schemas::tree::{Attribute, Declaration, Derived, Entity, Explicit, Inverse};
 use schema_names::names::Names;
 use std::alloc::{AllocError, Global};
+use std::hash::RandomState;
 use step_literals::literal::Word;
 use type_shapes::shapes::Shape;
 
@@ -71,13 +72,6 @@ pub struct Sources<'a, 't, 'r> {
     pub lines: &'r [Vec<u32>],
     /// By data type, its shape.
     pub shapes: &'r [Shape],
-}
-
-/// What is said of an attribute of this name.
-#[derive(Clone, Copy)]
-pub struct Named<'a> {
-    pub name: Word<'a>,
-    pub declaration: AttributeDeclaration,
 }
 
 /// The classes of attributes (ISO 10303-11, 9.2.1).
@@ -117,19 +111,6 @@ fn allows(
     }
 }
 
-/// Adds one.
-fn add<'a>(
-    flat: &mut Vec<Named<'a>>,
-    name: Word<'a>,
-    declaration: AttributeDeclaration,
-) -> Result<(), AllocError>
-    ensures { OnOk result (AddsAll flat.old.items (SaysIs (capitals name.entry) declaration)
-        flat.new.items) }
-{
-    flat.push(Named { name, declaration })?;
-    Ok(())
-}
-
 /// Adds what is said of an attribute that is redeclared.
 fn add_redeclared<'a>(
     sources: &Sources<'_, '_, '_>,
@@ -137,21 +118,20 @@ fn add_redeclared<'a>(
     attribute: Attribute<'a>,
     name: Word<'a>,
     declaration: AttributeDeclaration,
-    flat: &mut Vec<Named<'a>>,
+    table: &mut Attributes<'a>,
 ) -> Result<(), AllocError>
     requires sources { AreSources sources.now }
     requires known { IsKnownAt (schema_in sources.now) class declaration.data_type }
     requires named { (q : Name) × (attribute_of attribute ≡ redeclared q (capitals name)) }
-    ensures { OnOk result (AddsAll flat.old.items
+    ensures { OnOk result (AddsAll table.old
         (Says (schema_in sources.now) class declaration (attribute_of attribute.entry))
-        flat.new.items) }
+        table.new) }
 {
     let Some(entity) = redeclared_entity(sources.names, sources.lines, attribute) else {
         return Ok(());
     };
     if allows(sources, class, entity, name, declaration.data_type) {
-        add(
-            flat,
+        table.add(
             name,
             AttributeDeclaration {
                 entity,
@@ -169,18 +149,18 @@ fn add_attribute<'a>(
     class: Class,
     attribute: Attribute<'a>,
     declaration: AttributeDeclaration,
-    flat: &mut Vec<Named<'a>>,
+    table: &mut Attributes<'a>,
 ) -> Result<(), AllocError>
     requires sources { AreSources sources.now }
     requires known { IsKnownAt (schema_in sources.now) class declaration.data_type }
-    ensures { OnOk result (AddsAll flat.old.items
+    ensures { OnOk result (AddsAll table.old
         (Says (schema_in sources.now) class declaration (attribute_of attribute.entry))
-        flat.new.items) }
+        table.new) }
 {
     match attribute {
-        Attribute::Unqualified(name) => add(flat, name, declaration),
+        Attribute::Unqualified(name) => table.add(name, declaration),
         Attribute::Redeclared(_, name) => {
-            add_redeclared(sources, class, attribute, name, declaration, flat)
+            add_redeclared(sources, class, attribute, name, declaration, table)
         }
     }
 }
@@ -192,13 +172,13 @@ fn add_attributes<'a>(
     entity: u32,
     data_type: u32,
     derivation: Option<u32>,
-    flat: &mut Vec<Named<'a>>,
+    table: &mut Attributes<'a>,
 ) -> Result<(), AllocError>
     requires sources { AreSources sources.now }
     requires known { IsKnownAt (schema_in sources.now) classes.Explicit data_type }
-    ensures { OnOk result (AddsAll flat.old.items
+    ensures { OnOk result (AddsAll table.old
         (SaysTogether (schema_in sources.now) entity data_type derivation
-        (map attribute_of attributes.now)) flat.new.items) }
+        (map attribute_of attributes.now)) table.new) }
 {
     let declaration = AttributeDeclaration {
         entity,
@@ -206,7 +186,7 @@ fn add_attributes<'a>(
         derivation,
     };
     for n in 0..attributes.len() {
-        add_attribute(sources, Class::Explicit, attributes[n], declaration, flat)?;
+        add_attribute(sources, Class::Explicit, attributes[n], declaration, table)?;
     }
     Ok(())
 }
@@ -245,18 +225,25 @@ fn add_explicit<'a>(
     row: &[u32],
     n: usize,
     explicit: &Explicit<'a>,
-    flat: &mut Vec<Named<'a>>,
+    table: &mut Attributes<'a>,
 ) -> Result<(), AllocError>
     requires sources { AreSources sources.now }
     requires known { (t : ℕ) → slice_get row.now n ≡ Some t
         → IsKnownAt (schema_in sources.now) classes.Explicit t }
-    ensures { OnOk result (AddsAll flat.old.items
+    ensures { OnOk result (AddsAll table.old
         (SaysExplicit (schema_in sources.now) entity row.now n (explicit_of explicit.now))
-        flat.new.items) }
+        table.new) }
 {
     match item_at(row, n) {
         Some(data_type) => {
-            add_attributes(sources, &explicit.attributes, entity, data_type, None, flat)
+            add_attributes(
+                sources,
+                explicit.attributes.as_slice(),
+                entity,
+                data_type,
+                None,
+                table,
+            )
         }
         None => Ok(()),
     }
@@ -268,16 +255,16 @@ fn add_explicits<'a>(
     entity: u32,
     row: &[u32],
     explicits: &[Explicit<'a>],
-    flat: &mut Vec<Named<'a>>,
+    table: &mut Attributes<'a>,
 ) -> Result<(), AllocError>
     requires sources { AreSources sources.now }
     requires known { AreKnownFrom (schema_in sources.now) (length explicits.now) row.now }
-    ensures { OnOk result (AddsAll flat.old.items
+    ensures { OnOk result (AddsAll table.old
         (AreNth (SaysExplicit (schema_in sources.now) entity row.now)
-        (map explicit_of explicits.now)) flat.new.items) }
+        (map explicit_of explicits.now)) table.new) }
 {
     for n in 0..explicits.len() {
-        add_explicit(sources, entity, row, n, &explicits[n], flat)?;
+        add_explicit(sources, entity, row, n, &explicits[n], table)?;
     }
     Ok(())
 }
@@ -290,13 +277,13 @@ fn add_one<'a>(
     data_type: Option<u32>,
     derivation: Option<u32>,
     attribute: Attribute<'a>,
-    flat: &mut Vec<Named<'a>>,
+    table: &mut Attributes<'a>,
 ) -> Result<(), AllocError>
     requires sources { AreSources sources.now }
     requires known { (t : ℕ) → IsKnownAt (schema_in sources.now) class t }
-    ensures { OnOk result (AddsAll flat.old.items
+    ensures { OnOk result (AddsAll table.old
         (SaysOne (schema_in sources.now) class entity data_type derivation
-        (attribute_of attribute.entry)) flat.new.items) }
+        (attribute_of attribute.entry)) table.new) }
 {
     match data_type {
         Some(data_type) => add_attribute(
@@ -308,7 +295,7 @@ fn add_one<'a>(
                 data_type,
                 derivation,
             },
-            flat,
+            table,
         ),
         None => Ok(()),
     }
@@ -323,12 +310,12 @@ fn add_derived<'a>(
     count: usize,
     n: usize,
     derived: &Derived<'a>,
-    flat: &mut Vec<Named<'a>>,
+    table: &mut Attributes<'a>,
 ) -> Result<(), AllocError>
     requires sources { AreSources sources.now }
-    ensures { OnOk result (AddsAll flat.old.items
+    ensures { OnOk result (AddsAll table.old
         (SaysDerived (schema_in sources.now) entity row.now first count n (derived_of derived.now))
-        flat.new.items) }
+        table.new) }
 {
     let place = sum(first, n)?;
     let derivation = number(count, n)?;
@@ -339,7 +326,7 @@ fn add_derived<'a>(
         item_at(row, place),
         Some(derivation),
         derived.attribute,
-        flat,
+        table,
     )
 }
 
@@ -351,15 +338,15 @@ fn add_deriveds<'a>(
     first: usize,
     count: usize,
     deriveds: &[Derived<'a>],
-    flat: &mut Vec<Named<'a>>,
+    table: &mut Attributes<'a>,
 ) -> Result<(), AllocError>
     requires sources { AreSources sources.now }
-    ensures { OnOk result (AddsAll flat.old.items
+    ensures { OnOk result (AddsAll table.old
         (AreNth (SaysDerived (schema_in sources.now) entity row.now first count)
-        (map derived_of deriveds.now)) flat.new.items) }
+        (map derived_of deriveds.now)) table.new) }
 {
     for n in 0..deriveds.len() {
-        add_derived(sources, entity, row, first, count, n, &deriveds[n], flat)?;
+        add_derived(sources, entity, row, first, count, n, &deriveds[n], table)?;
     }
     Ok(())
 }
@@ -372,12 +359,12 @@ fn add_inverse<'a>(
     first: usize,
     n: usize,
     inverse: &Inverse<'a>,
-    flat: &mut Vec<Named<'a>>,
+    table: &mut Attributes<'a>,
 ) -> Result<(), AllocError>
     requires sources { AreSources sources.now }
-    ensures { OnOk result (AddsAll flat.old.items
+    ensures { OnOk result (AddsAll table.old
         (SaysInverse (schema_in sources.now) entity row.now first n (inverse_of inverse.now))
-        flat.new.items) }
+        table.new) }
 {
     let place = sum(first, n)?;
     add_one(
@@ -387,7 +374,7 @@ fn add_inverse<'a>(
         item_at(row, place),
         None,
         inverse.attribute,
-        flat,
+        table,
     )
 }
 
@@ -398,15 +385,15 @@ fn add_inverses<'a>(
     row: &[u32],
     first: usize,
     inverses: &[Inverse<'a>],
-    flat: &mut Vec<Named<'a>>,
+    table: &mut Attributes<'a>,
 ) -> Result<(), AllocError>
     requires sources { AreSources sources.now }
-    ensures { OnOk result (AddsAll flat.old.items
+    ensures { OnOk result (AddsAll table.old
         (AreNth (SaysInverse (schema_in sources.now) entity row.now first)
-        (map inverse_of inverses.now)) flat.new.items) }
+        (map inverse_of inverses.now)) table.new) }
 {
     for n in 0..inverses.len() {
-        add_inverse(sources, entity, row, first, n, &inverses[n], flat)?;
+        add_inverse(sources, entity, row, first, n, &inverses[n], table)?;
     }
     Ok(())
 }
@@ -420,20 +407,20 @@ fn add_clauses<'a>(
     explicits: &[Explicit<'a>],
     deriveds: &[Derived<'a>],
     inverses: &[Inverse<'a>],
-    flat: &mut Vec<Named<'a>>,
+    table: &mut Attributes<'a>,
 ) -> Result<(), AllocError>
     requires sources { AreSources sources.now }
     requires known { AreKnownFrom (schema_in sources.now) (length explicits.now) row.now }
-    ensures { OnOk result (AddsAll flat.old.items
+    ensures { OnOk result (AddsAll table.old
         (SaysClauses (schema_in sources.now) number row.now count
         (map explicit_of explicits.now) (map derived_of deriveds.now) (map inverse_of inverses.now))
-        flat.new.items) }
+        table.new) }
 {
     let explicit_count = explicits.len();
     let first = sum(explicit_count, deriveds.len())?;
-    add_explicits(sources, number, row, explicits, flat)?;
-    add_deriveds(sources, number, row, explicit_count, count, deriveds, flat)?;
-    add_inverses(sources, number, row, first, inverses, flat)
+    add_explicits(sources, number, row, explicits, table)?;
+    add_deriveds(sources, number, row, explicit_count, count, deriveds, table)?;
+    add_inverses(sources, number, row, first, inverses, table)
 }
 
 /// Adds what an entity says.
@@ -443,13 +430,13 @@ fn add_entity<'a>(
     row: &[u32],
     count: usize,
     entity: &Entity<'a>,
-    flat: &mut Vec<Named<'a>>,
+    table: &mut Attributes<'a>,
 ) -> Result<(), AllocError>
     requires sources { AreSources sources.now }
     requires known { AreKnownFrom (schema_in sources.now) (length entity.now.explicits.items) row.now }
-    ensures { OnOk result (AddsAll flat.old.items
+    ensures { OnOk result (AddsAll table.old
         (SaysEntity (schema_in sources.now) number row.now count (entity_of entity.now))
-        flat.new.items) }
+        table.new) }
 {
     add_clauses(
         sources,
@@ -459,7 +446,7 @@ fn add_entity<'a>(
         &entity.explicits,
         entity.derived_attributes(),
         entity.inverse_attributes(),
-        flat,
+        table,
     )
 }
 
@@ -479,20 +466,20 @@ fn add_declaration<'a>(
     i: usize,
     count: usize,
     declaration: &Declaration<'a>,
-    flat: &mut Vec<Named<'a>>,
+    table: &mut Attributes<'a>,
 ) -> Result<(), AllocError>
     requires sources { AreSources sources.now }
     requires at { IsAt (schema_in sources.now) i (declaration_of declaration.now) }
-    ensures { OnOk result (AddsAll flat.old.items
+    ensures { OnOk result (AddsAll table.old
         (SaysDeclaration (schema_in sources.now) i (next (rows_in sources.now) i) count
-        (declaration_of declaration.now)) flat.new.items) }
+        (declaration_of declaration.now)) table.new) }
 {
     match declaration {
         Declaration::Entity(entity) => {
             data_types_are_known();
             let number = number(0, i)?;
             let row = row_of(&sources.data_types.rows, i);
-            add_entity(sources, number, row, count, entity, flat)
+            add_entity(sources, number, row, count, entity, table)
         }
         _ => Ok(()),
     }
@@ -512,34 +499,35 @@ fn derived_count(declaration: &Declaration<'_>) -> usize
 fn add_declarations<'a>(
     sources: &Sources<'a, '_, '_>,
     declarations: &[Declaration<'a>],
-    flat: &mut Vec<Named<'a>>,
+    table: &mut Attributes<'a>,
 ) -> Result<(), AllocError>
     requires sources { AreSources sources.now }
     requires whole { declarations.now ≡ sources.now.names.now.schema.now.declarations.items }
-    ensures { OnOk result (AddsAll flat.old.items
+    ensures { OnOk result (AddsAll table.old
         (AreNth (SaysAt (schema_in sources.now) (rows_in sources.now)
         (map declaration_of declarations.now)) (map declaration_of declarations.now))
-        flat.new.items) }
+        table.new) }
 {
     let mut count = 0;
     for n in 0..declarations.len() {
         let declaration = &declarations[n];
-        add_declaration(sources, n, count, declaration, flat)?;
+        add_declaration(sources, n, count, declaration, table)?;
         count = sum(count, derived_count(declaration))?;
     }
     Ok(())
 }
 
-/// All that the entities of a schema say of attributes.
+/// All that the entities of a schema say of attributes, by their names.
 pub fn gathered<'a>(
     alloc: Global,
+    keys: RandomState,
     sources: &Sources<'a, '_, '_>,
-) -> Result<Vec<Named<'a>>, AllocError>
+) -> Result<Attributes<'a>, AllocError>
     requires sources { AreSources sources.now }
-    ensures { IfOk result (λ flat. AddsAll []
-        (SaysSchema (schema_in sources.now) (rows_in sources.now)) flat.items) }
+    ensures { IfOk result (λ t. AreAttributes (schema_in sources.now) t) }
 {
-    let mut flat = Vec::new(alloc);
-    add_declarations(sources, sources.names.declarations(), &mut flat)?;
-    Ok(flat)
+    let declarations = sources.names.declarations();
+    let mut table = Attributes::with_room(alloc, keys, attribute_count(declarations))?;
+    add_declarations(sources, declarations, &mut table)?;
+    Ok(table)
 }

@@ -3,7 +3,8 @@
 #![tactic(auto)]
 
 pub mod attributes;
+mod counting;
 pub mod declaration;
 mod gathering;
-mod grouping;
 pub mod redeclaring;
+mod row;

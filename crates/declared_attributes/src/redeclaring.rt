@@ -84,7 +84,7 @@ fn explicit_type(row: &[u32], explicits: &[Explicit<'_>], name: Word<'_>) -> Opt
 {
     let place = explicits
         .iter()
-        .position(|explicit| any_own(&explicit.attributes, name))?;
+        .position(|explicit| any_own(explicit.attributes.as_slice(), name))?;
     number_at(row, place)
 }
 

@@ -31,6 +31,7 @@ fn gather(
     }
     add_new(&mut found, marks, own)?;
     unmark(marks, &found);
+    found.shrink_to_fit();
     Ok(found)
 }
 

@@ -33,5 +33,6 @@ pub(crate) fn reached(
         at += 1;
     }
     unmark(marks, &found);
+    found.shrink_to_fit();
     Ok(found)
 }

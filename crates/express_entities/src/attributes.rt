@@ -71,7 +71,9 @@ use express_parts::rules::body;
 use express_runs::reader::Reader;
 use express_runs::tokens::{Item, is_keyword, is_mark, refuse};
 use express_schemas::fault::SyntaxFault;
-use express_schemas::tree::{Attribute, Collection, DataType, Derived, Explicit, Inverse, Unique};
+use express_schemas::tree::{
+    Attribute, AttributeList, Collection, DataType, Derived, Explicit, Inverse, Unique,
+};
 use express_trees::keyword::Keyword;
 use express_trees::lexeme::Lexeme;
 use step_literals::literal::Word;
@@ -167,7 +169,7 @@ pub fn explicit<'a>(
     }
     let (is_optional, data_type) = optional_data_type(reader)?;
     Ok(Explicit {
-        attributes,
+        attributes: AttributeList::of(attributes),
         is_optional,
         data_type,
     })

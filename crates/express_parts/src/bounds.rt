@@ -291,7 +291,8 @@ fn bound<'a>(reader: &mut Reader<'a>, part: Ends, around: u32) -> Result<Bound<'
     if let Some(bound) = known_bound(&reader.buffer.lexemes) {
         return Ok(bound);
     }
-    Ok(Bound::Other(tokens))
+    let boxed = Box::new(reader.alloc, tokens)?;
+    Ok(Bound::Other(boxed))
 }
 
 /// Reads the bounds of an aggregate type behind their bracket, and OF, with so many brackets and
@@ -332,6 +333,39 @@ pub fn some_bounds<'a>(
     }
     let bounds = bounds(reader, around)?;
     Ok(Some(bounds))
+}
+
+/// Reads the indices of an array behind their bracket, and OF, into a box.
+pub(crate) fn boxed_indices<'a>(
+    reader: &mut Reader<'a>,
+    around: u32,
+) -> Result<Box<Bounds<'a>>, SyntaxFault>
+    requires around { around < 64 }
+    ensures read { ParsesBehind (mark marks.OpenBracket ∷ []) result (bounds_symbols around)
+        (λ b. words_of_bounds (bounds_of b.value) ++ keyword keywords.Of ∷ [])
+        (λ b. FitsBounds depth_limit around (bounds_of b.value)) reader.old reader.new }
+    ensures text { IfOk result (λ b. IsBoundsOf reader.old.text b.value) }
+{
+    let bounds = bounds(reader, around)?;
+    let boxed = Box::new(reader.alloc, bounds)?;
+    Ok(boxed)
+}
+
+/// Reads the bounds of an aggregate type, if there are any, and OF, into a box.
+pub(crate) fn boxed_bounds<'a>(
+    reader: &mut Reader<'a>,
+    around: u32,
+) -> Result<Box<Option<Bounds<'a>>>, SyntaxFault>
+    requires around { around ≤ 64 }
+    ensures read { ParsesWhere result (BoundsOrOf around ∷ [])
+        (λ b. words_of_some_bounds (if_some bounds_of b.value) ++ keyword keywords.Of ∷ [])
+        (λ b. Maybe (FitsBounds depth_limit around) (if_some bounds_of b.value)) reader.old
+        reader.new }
+    ensures text { IfOk result (λ b. Maybe (IsBoundsOf reader.old.text) b.value) }
+{
+    let bounds = some_bounds(reader, around)?;
+    let boxed = Box::new(reader.alloc, bounds)?;
+    Ok(boxed)
 }
 
 /// Reads a width behind its parenthesis, and the closing one.

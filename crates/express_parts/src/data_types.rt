@@ -56,7 +56,7 @@ ghost use Rattle.express_parts.specs.DataTypeParts.{PassesDataType, PassesBehind
 ghost use Rattle.express_parts.specs.Endings.{ending_of};
 ghost use Rattle.express_schemas.specs.Steps.{Passes, Parses, ParsesWhere, ParsesFrom, StopsIn};
 
-use crate::bounds::{bounds, some_bounds, width};
+use crate::bounds::{boxed_bounds, boxed_indices, width};
 use crate::build;
 use express_lexis::marks::Mark;
 use express_runs::reader::Reader;
@@ -191,7 +191,8 @@ fn real<'a>(reader: &mut Reader<'a>, depth: u32, end: Ending) -> Result<DataType
         return Ok(build::real(None));
     };
     expect_end(reader, end)?;
-    Ok(build::real(Some(width)))
+    let boxed = Box::new(reader.alloc(), width)?;
+    Ok(build::real(Some(boxed)))
 }
 
 /// Reads what stands behind STRING or BINARY.
@@ -199,19 +200,21 @@ fn fixed_width<'a>(
     reader: &mut Reader<'a>,
     depth: u32,
     end: Ending,
-) -> Result<Option<FixedWidth<'a>>, SyntaxFault>
+) -> Result<Option<Box<FixedWidth<'a>>>, SyntaxFault>
     requires depth { depth ≤ 64 }
     ensures read { ParsesWhere result (FixedWidthOr depth (ending_of end) ∷ [])
-        (λ f. words_of_fixed (if_some fixed_of f) ++ mark (ending_mark (ending_of end)) ∷ [])
-        (λ f. Maybe (λ p. FitsWidth depth_limit depth p.0) (if_some fixed_of f)) reader.old
-        reader.new }
-    ensures text { IfOk result (λ f. Maybe (IsFixedWidthOf reader.old.text) f) }
+        (λ f. words_of_fixed (if_some (λ b. fixed_of b.value) f)
+        ++ mark (ending_mark (ending_of end)) ∷ [])
+        (λ f. Maybe (λ p. FitsWidth depth_limit depth p.0) (if_some (λ b. fixed_of b.value) f))
+        reader.old reader.new }
+    ensures text { IfOk result (λ f. Maybe (λ b. IsFixedWidthOf reader.old.text b.value) f) }
 {
     let Some(width) = width_or_end(reader, depth, end)? else {
         return Ok(None);
     };
     let is_fixed = fixed(reader, end)?;
-    Ok(Some(FixedWidth { width, is_fixed }))
+    let boxed = Box::new(reader.alloc(), FixedWidth { width, is_fixed })?;
+    Ok(Some(boxed))
 }
 
 /// Reads a data type of which the first token is taken, a word that begins no aggregate type.
@@ -334,9 +337,9 @@ fn array<'a>(reader: &mut Reader<'a>, depth: u32, end: Ending) -> Result<DataTyp
     ensures text { IfOk result (λ k. IsDataTypeOf reader.old.text k) }
 {
     reader.expect(Mark::OpenBracket)?;
-    let bounds = bounds(reader, depth)?;
+    let bounds = boxed_indices(reader, depth)?;
     let (is_optional, is_unique, element) = optional_element(reader, depth + 1, end)?;
-    Ok(build::array(bounds, is_optional, is_unique, element))
+    Ok(build::array(is_optional, is_unique, bounds, element))
 }
 
 /// Reads a list behind LIST.
@@ -351,9 +354,9 @@ fn list<'a>(reader: &mut Reader<'a>, depth: u32, end: Ending) -> Result<DataType
         reader.old) }
     ensures text { IfOk result (λ k. IsDataTypeOf reader.old.text k) }
 {
-    let bounds = some_bounds(reader, depth)?;
+    let bounds = boxed_bounds(reader, depth)?;
     let (is_unique, element) = element(reader, depth + 1, end)?;
-    Ok(build::list(bounds, is_unique, element))
+    Ok(build::list(is_unique, bounds, element))
 }
 
 /// Reads what stands behind BAG or SET.
@@ -362,20 +365,20 @@ fn collection<'a>(
     reader: &mut Reader<'a>,
     depth: u32,
     end: Ending,
-) -> Result<(Option<Bounds<'a>>, Box<DataType<'a>>), SyntaxFault>
+) -> Result<(Box<Option<Bounds<'a>>>, Box<DataType<'a>>), SyntaxFault>
     requires depth { depth < 64 }
     ensures read { MatchResult result
-        (λ x. Maybe (FitsBounds depth_limit depth) (if_some bounds_of x.0)
+        (λ x. Maybe (FitsBounds depth_limit depth) (if_some bounds_of x.0.value)
         × PassesDataType (BoundsOrOf depth ∷ DataTypeThen (depth + 1) (ending_of end) ∷ []) []
-        (words_of_some_bounds (if_some bounds_of x.0)
+        (words_of_some_bounds (if_some bounds_of x.0.value)
         ++ keyword keywords.Of ∷ []) (depth + 1) (ending_of end) (data_type_of x.1.value) reader.old
         reader.new)
         (λ e. StopsIn e (BoundsOrOf depth ∷ DataTypeThen (depth + 1) (ending_of end) ∷ []) []
         reader.old) }
-    ensures text { IfOk result (λ x. Maybe (IsBoundsOf reader.old.text) x.0
+    ensures text { IfOk result (λ x. Maybe (IsBoundsOf reader.old.text) x.0.value
         × IsDataTypeOf reader.old.text x.1.value) }
 {
-    let bounds = some_bounds(reader, depth)?;
+    let bounds = boxed_bounds(reader, depth)?;
     let element = data_type(reader, depth + 1, end)?;
     let boxed = Box::new(reader.alloc(), element)?;
     Ok((bounds, boxed))

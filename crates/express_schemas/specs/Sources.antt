@@ -70,7 +70,7 @@ abbrev pub IsRuleOf : List ℕ → Rule → Type 0
 IsRuleOf text r = IsBodyOf text r.body
 
 abbrev pub IsBoundOf : List ℕ → Bound → Type 0
-IsBoundOf text (bounds.Other r) = IsRunOf text r
+IsBoundOf text (bounds.Other r) = IsRunOf text r.value
 IsBoundOf text _ = Unit {0}
 
 abbrev pub IsBoundsOf : List ℕ → Bounds → Type 0
@@ -85,13 +85,13 @@ IsFixedWidthOf text w = IsWidthOf text w.width
 
 -- one layer of a data type, without those of its elements
 abbrev pub IsLayerOf : List ℕ → DataType-F DataType → Type 0
-IsLayerOf text (layer.Real w) = Maybe (IsWidthOf text) w
-IsLayerOf text (layer.String w) = Maybe (IsFixedWidthOf text) w
-IsLayerOf text (layer.Binary w) = Maybe (IsFixedWidthOf text) w
-IsLayerOf text (layer.Array b o u k) = IsBoundsOf text b
-IsLayerOf text (layer.List b u k) = Maybe (IsBoundsOf text) b
-IsLayerOf text (layer.Bag b k) = Maybe (IsBoundsOf text) b
-IsLayerOf text (layer.Set b k) = Maybe (IsBoundsOf text) b
+IsLayerOf text (layer.Real w) = Maybe (λ b. IsWidthOf text b.value) w
+IsLayerOf text (layer.String w) = Maybe (λ b. IsFixedWidthOf text b.value) w
+IsLayerOf text (layer.Binary w) = Maybe (λ b. IsFixedWidthOf text b.value) w
+IsLayerOf text (layer.Array o u b k) = IsBoundsOf text b.value
+IsLayerOf text (layer.List u b k) = Maybe (IsBoundsOf text) b.value
+IsLayerOf text (layer.Bag b k) = Maybe (IsBoundsOf text) b.value
+IsLayerOf text (layer.Set b k) = Maybe (IsBoundsOf text) b.value
 IsLayerOf text _ = Unit {0}
 
 abbrev pub IsDataTypeOf : List ℕ → DataType → Type 0

@@ -1,5 +1,5 @@
 -- The trees that the program's values are; letters of names have no case.
-use Rattle.std.specs.Prelude.{ℕ, Bool, List, map, Option, None, Some}
+use Rattle.std.specs.Prelude.{ℕ, Bool, List, [], ◌∷◌, map, Option, None, Some}
 use Rattle.step_literals.specs.declared.literal.Word.{Word}
 use Rattle.express_trees.specs.Words as words
 use Rattle.express_trees.specs.Views.{capitals, tree_of}
@@ -26,6 +26,8 @@ use Rattle.express_schemas.specs.declared.tree.Supertype.{Supertype}
 use Rattle.express_schemas.specs.declared.tree.Supertype.TheVariants as supertypes
 use Rattle.express_schemas.specs.declared.tree.Attribute.{Attribute}
 use Rattle.express_schemas.specs.declared.tree.Attribute.TheVariants as attributes
+use Rattle.express_schemas.specs.declared.tree.AttributeList.{AttributeList}
+use Rattle.express_schemas.specs.declared.tree.AttributeList.TheVariants as lists
 use Rattle.express_schemas.specs.declared.tree.Explicit.{Explicit}
 use Rattle.express_schemas.specs.declared.tree.Derived.{Derived}
 use Rattle.express_schemas.specs.declared.tree.Collection.{Collection}
@@ -69,7 +71,7 @@ rule_of r = record { label = if_some capitals r.label; body = body_of r.body }
 abbrev pub bound_of : Bound → trees.Bound
 bound_of (bounds.Value s d) = trees.value s d.text.now
 bound_of bounds.Unlimited = trees.unlimited
-bound_of (bounds.Other r) = trees.other_bound (run_of r)
+bound_of (bounds.Other r) = trees.other_bound (run_of r.value)
 
 abbrev pub bounds_of : Bounds → trees.Bounds
 bounds_of b = record { lower = bound_of b.lower; upper = bound_of b.upper }
@@ -87,14 +89,14 @@ data_type_step layer.Integer = trees.integer
 data_type_step layer.Number = trees.number
 data_type_step layer.Boolean = trees.boolean
 data_type_step layer.Logical = trees.logical
-data_type_step (layer.Real w) = trees.real (if_some width_of w)
-data_type_step (layer.String w) = trees.string (if_some fixed_of w)
-data_type_step (layer.Binary w) = trees.binary (if_some fixed_of w)
+data_type_step (layer.Real w) = trees.real (if_some (λ b. width_of b.value) w)
+data_type_step (layer.String w) = trees.string (if_some (λ b. fixed_of b.value) w)
+data_type_step (layer.Binary w) = trees.binary (if_some (λ b. fixed_of b.value) w)
 data_type_step (layer.Named w) = trees.named (capitals w)
-data_type_step (layer.Array b o u k) = trees.array (bounds_of b) o u k.value
-data_type_step (layer.List b u k) = trees.list (if_some bounds_of b) u k.value
-data_type_step (layer.Bag b k) = trees.bag (if_some bounds_of b) k.value
-data_type_step (layer.Set b k) = trees.set (if_some bounds_of b) k.value
+data_type_step (layer.Array o u b k) = trees.array (bounds_of b.value) o u k.value
+data_type_step (layer.List u b k) = trees.list (if_some bounds_of b.value) u k.value
+data_type_step (layer.Bag b k) = trees.bag (if_some bounds_of b.value) k.value
+data_type_step (layer.Set b k) = trees.set (if_some bounds_of b.value) k.value
 
 abbrev pub data_type_of : DataType → trees.DataType
 data_type_of = fold-DataType trees.DataType data_type_step
@@ -125,9 +127,13 @@ abbrev pub attribute_of : Attribute → trees.Attribute
 attribute_of (attributes.Unqualified w) = trees.own (capitals w)
 attribute_of (attributes.Redeclared e w) = trees.redeclared (capitals e) (capitals w)
 
+abbrev pub attributes_of : AttributeList → List trees.Attribute
+attributes_of (lists.One a) = attribute_of a ∷ []
+attributes_of (lists.Several xs) = map attribute_of xs.items
+
 abbrev pub explicit_of : Explicit → trees.Explicit
 explicit_of a = record {
-  attributes = map attribute_of a.attributes.items;
+  attributes = attributes_of a.attributes;
   optional = a.is_optional;
   data_type = data_type_of a.data_type;
 }

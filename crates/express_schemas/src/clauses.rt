@@ -1,13 +1,16 @@
 //! What stands in the clauses of declarations, of which some may be absent, the names of
 //! attributes, and the integers that bounds are.
 
-ghost use Rattle.std.specs.Prelude.{◌≡◌, ℤ, [], FitsSigned, MatchOption};
+ghost use Rattle.std.specs.Prelude.{◌≡◌, ℤ, [], map, FitsSigned, MatchOption};
 ghost use Rattle.std.specs.Int.{w64};
 ghost use Rattle.express_schemas.specs.Clauses.{name_of, is_minus, IsInteger};
-ghost use Rattle.express_schemas.specs.Views.{bound_of};
+ghost use Rattle.express_schemas.specs.Views.{bound_of, attribute_of, attributes_of};
 
-use crate::tree::{Attribute, Bound, Derived, Entity, Inverse, Rule, TypeDeclaration, Unique};
+use crate::tree::{
+    Attribute, AttributeList, Bound, Derived, Entity, Inverse, Rule, TypeDeclaration, Unique,
+};
 use express_trees::tree::Sign;
+use std::slice;
 use step_literals::literal::Word;
 
 impl<'a> TypeDeclaration<'a> {
@@ -86,6 +89,28 @@ impl<'a> Attribute<'a> {
         match *self {
             Attribute::Unqualified(name) => name,
             Attribute::Redeclared(_, name) => name,
+        }
+    }
+}
+
+impl<'a> AttributeList<'a> {
+    /// The list of these.
+    pub fn of(attributes: Vec<Attribute<'a>>) -> AttributeList<'a>
+        ensures { attributes_of result ≡ map attribute_of attributes.entry.items }
+    {
+        match attributes.as_slice() {
+            [attribute] => AttributeList::One(*attribute),
+            _ => AttributeList::Several(attributes),
+        }
+    }
+
+    /// Its attributes.
+    pub fn as_slice(&self) -> &[Attribute<'a>]
+        ensures { map attribute_of result.now ≡ attributes_of self.now }
+    {
+        match self {
+            AttributeList::One(attribute) => slice::from_ref(attribute),
+            AttributeList::Several(attributes) => attributes,
         }
     }
 }

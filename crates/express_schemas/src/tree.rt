@@ -24,18 +24,18 @@ pub struct Rule<'a> {
 }
 
 /// A bound of an aggregate type (ISO 10303-11, 8.2).
-#[derive(Clone, Copy)]
+#[derive(Drop)]
 pub enum Bound<'a> {
     /// An integer, with its sign if it has one.
     Value(Option<Sign>, Decimal<'a>),
     /// `?`
     Unlimited,
     /// Tokens that are neither.
-    Other(Run<'a>),
+    Other(Box<Run<'a>>),
 }
 
 /// The bounds of an aggregate type, or the indices of an array (ISO 10303-11, 8.2).
-#[derive(Clone, Copy)]
+#[derive(Drop)]
 pub struct Bounds<'a> {
     pub lower: Bound<'a>,
     pub upper: Bound<'a>,
@@ -57,39 +57,40 @@ pub struct FixedWidth<'a> {
     pub is_fixed: bool,
 }
 
-/// The data type of an attribute's values, or of a defined type (ISO 10303-11, 8).
+/// The data type of an attribute's values, or of a defined type (ISO 10303-11, 8). What few data
+/// types have stands in boxes, so that the others are small.
 #[derive(Drop)]
 pub enum DataType<'a> {
     Integer,
     Number,
     Boolean,
     Logical,
-    Real(Option<Width<'a>>),
-    String(Option<FixedWidth<'a>>),
-    Binary(Option<FixedWidth<'a>>),
+    Real(Option<Box<Width<'a>>>),
+    String(Option<Box<FixedWidth<'a>>>),
+    Binary(Option<Box<FixedWidth<'a>>>),
     /// A defined type or an entity.
     Named(Word<'a>),
     /// An array (ISO 10303-11, 8.2.1).
     Array {
-        bounds: Bounds<'a>,
         is_optional: bool,
         is_unique: bool,
+        bounds: Box<Bounds<'a>>,
         element: Box<DataType<'a>>,
     },
     /// A list (ISO 10303-11, 8.2.2).
     List {
-        bounds: Option<Bounds<'a>>,
         is_unique: bool,
+        bounds: Box<Option<Bounds<'a>>>,
         element: Box<DataType<'a>>,
     },
     /// A bag (ISO 10303-11, 8.2.3).
     Bag {
-        bounds: Option<Bounds<'a>>,
+        bounds: Box<Option<Bounds<'a>>>,
         element: Box<DataType<'a>>,
     },
     /// A set (ISO 10303-11, 8.2.4).
     Set {
-        bounds: Option<Bounds<'a>>,
+        bounds: Box<Option<Bounds<'a>>>,
         element: Box<DataType<'a>>,
     },
 }
@@ -136,11 +137,18 @@ pub enum Attribute<'a> {
     Redeclared(Word<'a>, Word<'a>),
 }
 
+/// Attributes that are declared together: mostly one, which takes no memory of its own.
+#[derive(Drop)]
+pub enum AttributeList<'a> {
+    One(Attribute<'a>),
+    Several(Vec<Attribute<'a>>),
+}
+
 /// Explicit attributes of one data type (ISO 10303-11, 9.2.1.1).
 #[derive(Drop)]
 pub struct Explicit<'a> {
     /// One at least.
-    pub attributes: Vec<Attribute<'a>>,
+    pub attributes: AttributeList<'a>,
     pub is_optional: bool,
     pub data_type: DataType<'a>,
 }
@@ -154,7 +162,7 @@ pub struct Derived<'a> {
 }
 
 /// How many entities an inverse attribute may have (ISO 10303-11, 9.2.1.3).
-#[derive(Clone, Copy)]
+#[derive(Drop)]
 pub enum Collection<'a> {
     One,
     Set(Option<Bounds<'a>>),
@@ -162,7 +170,7 @@ pub enum Collection<'a> {
 }
 
 /// An inverse attribute (ISO 10303-11, 9.2.1.3).
-#[derive(Clone, Copy)]
+#[derive(Drop)]
 pub struct Inverse<'a> {
     pub attribute: Attribute<'a>,
     pub collection: Collection<'a>,

@@ -76,7 +76,7 @@ impl<'a, 't> TypeGraph<'a, 't> {
     }
 
     /// The explicit attribute of a number, with the entity that declares it.
-    pub fn place(&self, number: u32) -> Place<'a>
+    pub fn place(&self, number: u32) -> Place<'a, 't>
         requires { number < length (all_places (schema_of self.now.types.names.schema.now)) }
         ensures { slice_get (all_places (schema_of self.now.types.names.schema.now)) number
             ≡ Some (place_of result) }

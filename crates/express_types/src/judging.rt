@@ -199,7 +199,7 @@ fn found_by<'r, 't, 'a>(
     items: &'r Items<'a>,
     lines: &'r [Vec<u32>],
     shapes: &'r [Shape],
-    explicit: &'r AttributePlaces<'a>,
+    explicit: &'r AttributePlaces<'a, 't>,
 ) -> Result<Found<'a, 't>, AllocError>
     requires known { IsKnown known.now }
     requires items { AreItems (schema_in known.now) items.now }

@@ -18,7 +18,7 @@ pub(crate) fn rules_by<'r, 't, 'a>(
     alloc: Global,
     known: &Known<'a, 't, 'r>,
     lines: &'r [Vec<u32>],
-    explicit: &'r AttributePlaces<'a>,
+    explicit: &'r AttributePlaces<'a, 't>,
 ) -> Result<RuleTables<'a>, AllocError>
     requires known { IsKnown known.now }
     requires lines { HaveLines (schema_in known.now) (graph_of lines.now) }

@@ -98,7 +98,7 @@ fn add_place<'s>(
         (inverses_seen (schema_in schema.now) inverses.now) types.now row.new.items) }
 {
     match schema.places.attributes.get(number as usize) {
-        Some(place) => add_named(schema, row, sources, inverses, types, place.attribute),
+        Some(place) => add_named(schema, row, sources, inverses, types, *place.attribute),
         None => Ok(()),
     }
 }

@@ -11,7 +11,7 @@ pub struct Knowledge<'a, 't, 'r> {
     /// By declaration, for an entity the numbers of its proper supertypes.
     pub above: &'r [Vec<u32>],
     /// The explicit attributes, in the order of the text.
-    pub attributes: &'r [Place<'a>],
+    pub attributes: &'r [Place<'a, 't>],
     /// By declaration, for an entity the numbers of its places.
     pub places: &'r [Vec<u32>],
     /// By declaration, for an entity the numbers of the places of the attributes that it declares

@@ -1,10 +1,11 @@
 -- Names of entities.
-use Rattle.std.specs.Prelude.{◌≡◌, ℕ, Bool, true, false, ◌||◌, List, [], ◌∷◌, map, None, Some, bytes_eq, slice_get}
+use Rattle.std.specs.Prelude.{◌≡◌, ℕ, Bool, true, false, ◌||◌, List, [], ◌∷◌, map, None, Some, option_map, bytes_eq, slice_get}
 use Rattle.std.specs.List.{list_any}
 use Rattle.std.proofs.Common.{refl, sym, ap, subst, ◌∙◌, inl, inr, zero, suc}
 use Rattle.std.proofs.Math.Bool.{Bool-set}
 use Rattle.std.proofs.Math.Logic.{∥∥₁_elim}
 use Rattle.std.proofs.lemmas.Slice.Eq.{bytes_eq-Decides}
+use Rattle.std.proofs.lemmas.Option.{slice_get-map}
 use Rattle.step_literals.specs.Words.{upper}
 use Rattle.step_literals.specs.Tokens.{IsKeyword}
 use Rattle.step_literals.specs.declared.literal.Word.{Word}
@@ -14,6 +15,7 @@ use Rattle.express_schemas.specs.declared.tree.SchemaTree.{SchemaTree}
 use Rattle.express_schemas.specs.declared.tree.Declaration as code
 use Rattle.express_schemas.specs.declared.tree.Declaration.TheVariants as codes
 use Rattle.express_schemas.specs.Views.{declaration_of as declaration_seen}
+use Rattle.express_trees.specs.Views.{capitals}
 use Rattle.type_graphs.specs.Names.{Name, Among, entities, entities_of, declaration_of, IsEntity, IsEntityAt}
 use Rattle.type_graphs.specs.Faults.{declared, IsResolved}
 use Rattle.type_graphs.proofs.Lists.{among-map, are-fresh}
@@ -21,6 +23,7 @@ use Rattle.type_graphs.proofs.Supertypes.{entity-name, stands}
 use Rattle.type_graphs.proofs.Recursion.{declared-entity, to-any}
 use Rattle.schema_names.specs.Numbers.{number_of, HasNumber}
 use Rattle.schema_names.proofs.Numbers.{each-number, stands-at}
+use Rattle.attribute_places.proofs.OwnNumbers.{own-number-of}
 use Rattle.conformance.specs.Fitting.{entity_names, is_entity}
 use Rattle.instance_rows.specs.Keywords.{IsEntityOf}
 
@@ -93,6 +96,15 @@ module _ (t : SchemaTree) (n : Name) (i : ℕ) (d : code.Declaration) (number : 
     where
       by : IsEntity (schema_of t) n → ⊥
       by (y, same) = other-kind d f y (let h = sym is-seen ∙ same in cc)
+
+-- the declaration of a number is an entity of this name
+pub entity-at : (t : SchemaTree) → IsResolved (schema_of t) → (n : Name) (i : ℕ) (e : _)
+    → slice_get t.declarations.items i ≡ Some (codes.Entity e) → capitals e.name ≡ n → IsEntityOf (schema_of t) n (Some i)
+entity-at t r n i e at same =
+    found-entity t n i (codes.Entity e)
+    (own-number-of (schema_of t) i (declaration_seen (codes.Entity e)) n r.once
+    (slice_get-map declaration_seen t.declarations.items i ∙ ap (option_map declaration_seen) at) (ap Some same))
+    at e refl
 
 -- no entity's name is empty
 no-letters : (w : Word) → bytes_eq [] (upper w.text.now) ≡ false

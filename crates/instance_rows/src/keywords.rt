@@ -1,6 +1,6 @@
 //! The entities that the records of an instance name.
 
-ghost use Rattle.std.specs.Prelude.{◌≡◌, ◌≤◌, [], ◌∷◌, map, IfOk};
+ghost use Rattle.std.specs.Prelude.{◌≡◌, ◌≤◌, [], ◌∷◌, Some, map, IfOk, IsTrue};
 ghost use Rattle.express_schemas.specs.SchemaViews.{schema_of};
 ghost use Rattle.express_trees.specs.Views.{capitals};
 ghost use Rattle.type_graphs.specs.Faults.{IsResolved};
@@ -10,9 +10,46 @@ ghost use Rattle.instance_rows.specs.Keywords.{BeginsWith, IsEntityOf, NumberAll
 
 use express_schemas::tree::Declaration;
 use schema_names::names::Names;
-use std::alloc::AllocError;
+use std::alloc::{AllocError, Global};
 use step_literals::literal::Word;
 use step_parameters::param::{Node, Params};
+
+/// How many entities are remembered.
+const REMEMBERED: usize = 256;
+
+/// Entities that keywords named, by a few letters of these. A file names few entities, so a keyword
+/// is mostly compared with the name of one, and not hashed.
+#[derive(Drop)]
+pub struct Recent {
+    entities: Vec<u32>,
+}
+
+impl Recent {
+    /// None that is told by a keyword yet.
+    pub fn new(alloc: Global) -> Result<Recent, AllocError> {
+        Ok(Recent {
+            entities: vec![in alloc; 0; REMEMBERED]?,
+        })
+    }
+
+    /// Where the entity of a keyword stands.
+    fn place(name: &[u8]) -> usize {
+        let (Some(first), Some(last)) = (name.first(), name.last()) else {
+            return 0;
+        };
+        let letters = (*first as usize)
+            .wrapping_mul(31)
+            .wrapping_add(*last as usize);
+        letters.wrapping_mul(7).wrapping_add(name.len()) % REMEMBERED
+    }
+
+    /// Remembers an entity.
+    fn note(&mut self, place: usize, entity: u32) {
+        if let Some(noted) = self.entities.get_mut(place) {
+            *noted = entity;
+        }
+    }
+}
 
 /// The keyword that stands first.
 fn keyword<'t>(parts: &Params<'t>) -> Option<Word<'t>>
@@ -48,8 +85,55 @@ fn find_entity(names: &Names<'_, '_>, name: Word<'_>) -> Option<u32>
     }
 }
 
+/// Whether the declaration of a number is an entity of this name.
+fn is_entity_at(names: &Names<'_, '_>, number: u32, name: Word<'_>) -> bool
+    requires { IsResolved (schema_of names.now.schema.now) }
+    ensures { IsTrue result
+        → IsEntityOf (schema_of names.now.schema.now) (capitals name.entry) (Some number) }
+{
+    match names.at(number) {
+        Some(Declaration::Entity(entity)) => entity.name == name,
+        _ => false,
+    }
+}
+
+/// The number of the entity of this name, which is remembered; none where no entity has it.
+fn find_recent(names: &Names<'_, '_>, recent: &mut Recent, name: Word<'_>) -> Option<u32>
+    requires { IsResolved (schema_of names.now.schema.now) }
+    ensures { IsEntityOf (schema_of names.now.schema.now) (capitals name.entry) result }
+{
+    let place = Recent::place(name.spelling());
+    if let Some(entity) = recent.entities.get(place).copied() {
+        if is_entity_at(names, entity, name) {
+            return Some(entity);
+        }
+    }
+    let Some(entity) = find_entity(names, name) else {
+        return None;
+    };
+    recent.note(place, entity);
+    Some(entity)
+}
+
+/// The number of the entity that a record names, which is remembered; none where its keyword is no
+/// entity.
+pub fn recent_entity_of(
+    names: &Names<'_, '_>,
+    recent: &mut Recent,
+    record: &Params<'_>,
+) -> Option<u32>
+    requires { IsResolved (schema_of names.now.schema.now) }
+    ensures { IsEntityOf (schema_of names.now.schema.now)
+        (named_entity (record_of record.now)) result }
+{
+    match keyword(record) {
+        Some(word) => find_recent(names, recent, word),
+        None => None,
+    }
+}
+
 /// The number of the entity that a record names; none where its keyword is no entity.
-pub fn entity_of(names: &Names<'_, '_>, record: &Params<'_>) -> Option<u32>
+fn entity_of(names: &Names<'_, '_>, record: &Params<'_>) -> Option<u32>
     requires { IsResolved (schema_of names.now.schema.now) }
     ensures { IsEntityOf (schema_of names.now.schema.now)
         (named_entity (record_of record.now)) result }
@@ -64,6 +148,7 @@ pub fn entity_of(names: &Names<'_, '_>, record: &Params<'_>) -> Option<u32>
 /// the first keyword that is no entity, and tells whether there is none such.
 pub fn number_all(
     names: &Names<'_, '_>,
+    recent: &mut Recent,
     entities: &mut Vec<u32>,
     partials: &Params<'_>,
 ) -> Result<bool, AllocError>
@@ -73,7 +158,7 @@ pub fn number_all(
 {
     entities.clear();
     for i in 0..partials.len() {
-        let Some(entity) = entity_of(names, &partials.at(i).parts()) else {
+        let Some(entity) = recent_entity_of(names, recent, &partials.at(i).parts()) else {
             return Ok(false);
         };
         entities.push(entity)?;

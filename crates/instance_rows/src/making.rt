@@ -16,7 +16,7 @@ ghost use Rattle.instance_rows.specs.Making.{
   number_in,
 };
 
-use crate::keywords::{entity_of, is_internal, number_all};
+use crate::keywords::{Recent, is_internal, number_all, recent_entity_of};
 use indexmap::IndexMap;
 use instance_forms::knowledge::Knowledge;
 use instance_forms::making::{external_form, internal_form};
@@ -151,6 +151,7 @@ impl Made {
         &mut self,
         alloc: Global,
         known: &Knowledge<'_, '_, '_>,
+        recent: &mut Recent,
         entities: &mut Vec<u32>,
         parts: &Params<'_>,
     ) -> Result<Option<u32>, AllocError>
@@ -160,12 +161,12 @@ impl Made {
             self.old self.new) }
     {
         if is_internal(parts) {
-            let Some(entity) = entity_of(known.names, parts) else {
+            let Some(entity) = recent_entity_of(known.names, recent, parts) else {
                 return Ok(None);
             };
             return Ok(Some(self.internal(alloc, known, entity)?));
         }
-        if !number_all(known.names, entities, parts)? {
+        if !number_all(known.names, recent, entities, parts)? {
             return Ok(None);
         }
         Ok(Some(self.external(alloc, known, entities)?))

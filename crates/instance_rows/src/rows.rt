@@ -6,6 +6,7 @@ ghost use Rattle.instance_forms.specs.Knowing.{AreKnown, schema_in};
 ghost use Rattle.instance_rows.specs.Rows.{AreRowsOf, rows_in};
 ghost use Rattle.instance_rows.specs.Making.{AreMade, MakeForms};
 
+use crate::keywords::Recent;
 use crate::making::Made;
 use instance_forms::knowledge::Knowledge;
 use row_forms::rows::Rows;
@@ -30,9 +31,16 @@ fn forms_of(
     ensures { IfOk result (λ v. MakeForms (schema_in known.now) instances.now made.new v.items) }
 {
     let mut form_of = Vec::with_capacity(alloc, instances.len())?;
+    let mut recent = Recent::new(alloc)?;
     let mut entities = Vec::new(alloc);
     for i in 0..instances.len() {
-        form_of.push(made.form(alloc, known, &mut entities, &instances.at(i).parts())?)?;
+        form_of.push(made.form(
+            alloc,
+            known,
+            &mut recent,
+            &mut entities,
+            &instances.at(i).parts(),
+        )?)?;
     }
     Ok(form_of)
 }

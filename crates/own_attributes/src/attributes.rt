@@ -47,7 +47,7 @@ fn any_explicit(entity: &Entity<'_>, name: Word<'_>) -> bool
     entity
         .explicits
         .iter()
-        .any(|explicit| any_own(&explicit.attributes, name))
+        .any(|explicit| any_own(explicit.attributes.as_slice(), name))
 }
 
 /// Whether a derived attribute of an entity has this name.

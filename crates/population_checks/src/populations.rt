@@ -171,7 +171,7 @@ fn place_of(types: &ResolvedTypes<'_, '_>, entity: &[u8], attribute: &[u8]) -> O
     let attributes = &types.places.attributes;
     for i in 0..attributes.len() {
         let place = attributes[i];
-        if is_word(place.entity, entity) && is_word(place.attribute, attribute) {
+        if is_word(*place.entity, entity) && is_word(*place.attribute, attribute) {
             return u32::try_from(i).ok();
         }
     }

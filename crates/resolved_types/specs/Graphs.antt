@@ -26,4 +26,4 @@ ArePlacesOf s i row =
     (n : Name) → IsEntity s n → HasNumber s n i → (ps : List Place) × IsPlaces s n ps × AreAt (all_places s) row ps
 
 abbrev pub place_of : Attributed → Place
-place_of x = (capitals x.entity, capitals x.attribute)
+place_of x = (capitals x.entity.now, capitals x.attribute.now)

@@ -26,7 +26,7 @@ pub struct ResolvedTypes<'a, 't> {
     /// By declaration, for an entity the numbers of its proper supertypes.
     pub above: Vec<Vec<u32>>,
     /// The explicit attributes, and by declaration the numbers of an entity's places and of its own.
-    pub places: AttributePlaces<'a>,
+    pub places: AttributePlaces<'a, 't>,
     pub ghost resolved: { ∥ IsResolved (schema_of names.schema.now) ∥₁ },
     pub ghost above_are: { ∥ AreAbove (schema_of names.schema.now) (graph_of above.items) ∥₁ },
     pub ghost above_each: { length above.items ≡ length names.schema.now.declarations.items },
@@ -75,7 +75,7 @@ impl<'a, 't> ResolvedTypes<'a, 't> {
     }
 
     /// The explicit attribute of a number, with the entity that declares it.
-    pub fn place(&self, number: u32) -> Place<'a>
+    pub fn place(&self, number: u32) -> Place<'a, 't>
         requires { number < length (all_places (schema_of self.now.names.schema.now)) }
         ensures { slice_get (all_places (schema_of self.now.names.schema.now)) number
             ≡ Some (place_of result) }

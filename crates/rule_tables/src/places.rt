@@ -36,17 +36,17 @@ fn row_of(rows: &[Vec<u32>], number: u32) -> &[u32]
 }
 
 /// Whether the explicit attribute of a number has this name.
-fn has_name(places: &[Place<'_>], number: u32, name: Word<'_>) -> bool
+fn has_name(places: &[Place<'_, '_>], number: u32, name: Word<'_>) -> bool
     ensures { result ≡ has_name (capitals name.entry) (slice_get (places_of places.now) number) }
 {
     match places.get(number as usize) {
-        Some(place) => place.attribute == name,
+        Some(place) => *place.attribute == name,
         None => false,
     }
 }
 
 /// The first of some explicit attributes that has this name.
-fn first_named(places: &[Place<'_>], row: &[u32], name: Word<'_>) -> Option<u32>
+fn first_named(places: &[Place<'_, '_>], row: &[u32], name: Word<'_>) -> Option<u32>
     ensures { result
         ≡ find (λ q. has_name (capitals name.entry) (slice_get (places_of places.now) q)) row.now }
 {

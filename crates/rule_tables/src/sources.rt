@@ -10,7 +10,7 @@ pub struct Sources<'a, 't, 'r> {
     /// By declaration, the line of each entity.
     pub lines: &'r [Vec<u32>],
     /// The explicit attributes, in the order of the text.
-    pub places: &'r [Place<'a>],
+    pub places: &'r [Place<'a, 't>],
     /// By declaration, the numbers of those that an entity declares itself.
     pub own: &'r [Vec<u32>],
 }

@@ -97,14 +97,14 @@ fn number(types: &ResolvedTypes<'_, '_>, name: &[u8]) -> Option<u32> {
     types.find(word)
 }
 
-fn is_place(place: &Place<'_>, entity: &[u8], attribute: &[u8]) -> bool {
+fn is_place(place: &Place<'_, '_>, entity: &[u8], attribute: &[u8]) -> bool {
     place.entity.spelling().eq_ignore_ascii_case(entity)
         && place.attribute.spelling().eq_ignore_ascii_case(attribute)
 }
 
 // Whether these are the places that have these numbers.
 fn are_places(
-    places: &[Place<'_>],
+    places: &[Place<'_, '_>],
     numbers: &[u32],
     wanted: &[(&'static [u8], &'static [u8])],
 ) -> bool {

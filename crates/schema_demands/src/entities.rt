@@ -83,7 +83,7 @@ fn check_explicit<'a>(
     ensures { Checks (schema_of names.now.schema.now)
         (demands_of_explicit (names_of supertypes.now) (explicit_of explicit.now)) result }
 {
-    check_attributes(names, above, supertypes, &explicit.attributes)?;
+    check_attributes(names, above, supertypes, explicit.attributes.as_slice())?;
     check_data_type(names, &explicit.data_type)
 }
 

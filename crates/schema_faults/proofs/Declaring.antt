@@ -5,7 +5,7 @@ use Rattle.std.proofs.lemmas.List.{append_assoc, append-nil, flat_map_more, leng
 use Rattle.step_literals.specs.declared.literal.Word.{Word}
 use Rattle.express_trees.specs.Views.{capitals}
 use Rattle.express_schemas.specs.Schemas as trees
-use Rattle.express_schemas.specs.Views.{names_of, attribute_of, explicit_of, derived_of, inverse_of, entity_of}
+use Rattle.express_schemas.specs.Views.{names_of, attribute_of, attributes_of, explicit_of, derived_of, inverse_of, entity_of}
 use Rattle.express_schemas.specs.declared.fault.NameFault.TheVariants.{DuplicateName}
 use Rattle.express_schemas.specs.declared.tree.Attribute.{Attribute}
 use Rattle.express_schemas.specs.declared.tree.Attribute.TheVariants.{Unqualified, Redeclared}
@@ -93,7 +93,7 @@ own-first : (k : ℕ) (a : Attribute) (more : List trees.Attribute)
 own-first k (Unqualified w) more = refl
 own-first k (Redeclared e w) more = refl
 
-attributes-are : (k : ℕ) (more : List Attribute)
+pub attributes-are : (k : ℕ) (more : List Attribute)
     → flat_map (own_in k) more ≡ in_scope k (own_names (map attribute_of more))
 attributes-are k [] = refl
 attributes-are k (a ∷ more) =
@@ -105,9 +105,7 @@ explicits-are : (k : ℕ) (xs : List Explicit)
 explicits-are k [] = refl
 explicits-are k (x ∷ xs) =
     ap (λ ds. explicit_in k x ++ ds) (explicits-are k xs)
-    ∙ ap (λ ds. ds ++ in_scope k (flat_map (λ (y : trees.Explicit). own_names y.attributes) (map explicit_of xs)))
-    (attributes-are k x.attributes.items)
-    ∙ sym (map-joined (λ (m : Name). (k, m)) (own_names (map attribute_of x.attributes.items))
+    ∙ sym (map-joined (λ (m : Name). (k, m)) (own_names (attributes_of x.attributes))
     (flat_map (λ (y : trees.Explicit). own_names y.attributes) (map explicit_of xs)))
 
 derived-are : (k : ℕ) (xs : List Derived)

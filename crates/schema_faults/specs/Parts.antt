@@ -1,9 +1,9 @@
 -- What each part of a schema declares, by the scope.
-use Rattle.std.specs.Prelude.{ℕ, List, [], ◌∷◌, flat_map}
+use Rattle.std.specs.Prelude.{ℕ, List, [], ◌∷◌}
 use Rattle.step_literals.specs.declared.literal.Word.{Word}
 use Rattle.express_trees.specs.Views.{capitals}
 use Rattle.express_schemas.specs.Schemas as trees
-use Rattle.express_schemas.specs.Views.{attribute_of}
+use Rattle.express_schemas.specs.Views.{attribute_of, attributes_of}
 use Rattle.express_schemas.specs.declared.tree.Attribute.{Attribute}
 use Rattle.express_schemas.specs.declared.tree.Explicit.{Explicit}
 use Rattle.express_schemas.specs.declared.tree.Derived.{Derived}
@@ -19,7 +19,7 @@ abbrev pub own_in : ℕ → Attribute → List Declared
 own_in k a = in_scope k (own_names (attribute_of a ∷ []))
 
 abbrev pub explicit_in : ℕ → Explicit → List Declared
-explicit_in k x = flat_map (own_in k) x.attributes.items
+explicit_in k x = in_scope k (own_names (attributes_of x.attributes))
 
 abbrev pub derived_in : ℕ → Derived → List Declared
 derived_in k d = own_in k d.attribute

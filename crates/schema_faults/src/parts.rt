@@ -68,7 +68,7 @@ fn see_explicits<'a>(
     ensures { OnOk result (Sees seen.old seen.new (flat_map (explicit_in scope) explicits.now)) }
 {
     for explicit in explicits {
-        see_each_own(seen, scope, &explicit.attributes)?;
+        see_each_own(seen, scope, explicit.attributes.as_slice())?;
     }
     Ok(())
 }

@@ -40,7 +40,7 @@ fn first_use(uses: &[AttributeUse], place: usize) -> Option<AttributeUse>
 fn declared_base(
     types: &ResolvedTypes<'_, '_>,
     tables: &SchemaTables,
-    place: Place<'_>,
+    place: Place<'_, '_>,
     number: usize,
 ) -> Base
     requires made { IsMade types.now }
@@ -48,7 +48,7 @@ fn declared_base(
     requires place { HasPlace (schema_of types.now.names.schema.now) (place_of place) number }
     ensures { IsDeclaredAs (schema_of types.now.names.schema.now) (place_of place.entry) result }
 {
-    let Some(entity) = types.names.find(place.entity) else {
+    let Some(entity) = types.names.find(*place.entity) else {
         return Base::Integer;
     };
     match first_use(uses_at(&tables.uses, entity), number) {

@@ -100,7 +100,7 @@ fn add_explicit<'a>(
         (capitals holder.entry) (explicit_of explicit.now))
         (unchecked_in list.old.items) (unchecked_in list.new.items)) }
 {
-    for attribute in &explicit.attributes {
+    for attribute in explicit.attributes.as_slice() {
         add_redeclared(alloc, findings, list, holder, *attribute, data_type)?;
         let label = attribute_label(holder, attribute);
         add_data_type(alloc, list, label, &explicit.data_type)?;

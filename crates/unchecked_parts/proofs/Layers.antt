@@ -13,40 +13,40 @@ use Rattle.type_graphs.specs.Parts.{Unchecked, Candidate, parts_of_bounds, parts
 use Rattle.unchecked_parts.specs.Adding.{Adds}
 use Rattle.unchecked_parts.proofs.Joining.{adds-joined}
 
-array-seen : (b : Bounds) (o u : Bool) (k : Box DataType Global)
-    → data_type_of (kinds.Array b o u k) ≡ trees.array (bounds_of b) o u (data_type_of k.value)
-array-seen b o u k =
-    ap data_type_of (sym (kinds.rolls-Array b o u k))
-    ∙ fold-roll-DataType trees.DataType data_type_step (layer.Array b o u k)
+array-seen : (o u : Bool) (b : Box Bounds Global) (k : Box DataType Global)
+    → data_type_of (kinds.Array o u b k) ≡ trees.array (bounds_of b.value) o u (data_type_of k.value)
+array-seen o u b k =
+    ap data_type_of (sym (kinds.rolls-Array o u b k))
+    ∙ fold-roll-DataType trees.DataType data_type_step (layer.Array o u b k)
 
-list-seen : (b : Option Bounds) (u : Bool) (k : Box DataType Global)
-    → data_type_of (kinds.List b u k) ≡ trees.list (if_some bounds_of b) u (data_type_of k.value)
-list-seen b u k =
-    ap data_type_of (sym (kinds.rolls-List b u k))
-    ∙ fold-roll-DataType trees.DataType data_type_step (layer.List b u k)
+list-seen : (u : Bool) (b : Box (Option Bounds) Global) (k : Box DataType Global)
+    → data_type_of (kinds.List u b k) ≡ trees.list (if_some bounds_of b.value) u (data_type_of k.value)
+list-seen u b k =
+    ap data_type_of (sym (kinds.rolls-List u b k))
+    ∙ fold-roll-DataType trees.DataType data_type_step (layer.List u b k)
 
-bag-seen : (b : Option Bounds) (k : Box DataType Global)
-    → data_type_of (kinds.Bag b k) ≡ trees.bag (if_some bounds_of b) (data_type_of k.value)
+bag-seen : (b : Box (Option Bounds) Global) (k : Box DataType Global)
+    → data_type_of (kinds.Bag b k) ≡ trees.bag (if_some bounds_of b.value) (data_type_of k.value)
 bag-seen b k =
     ap data_type_of (sym (kinds.rolls-Bag b k)) ∙ fold-roll-DataType trees.DataType data_type_step (layer.Bag b k)
 
-set-seen : (b : Option Bounds) (k : Box DataType Global)
-    → data_type_of (kinds.Set b k) ≡ trees.set (if_some bounds_of b) (data_type_of k.value)
+set-seen : (b : Box (Option Bounds) Global) (k : Box DataType Global)
+    → data_type_of (kinds.Set b k) ≡ trees.set (if_some bounds_of b.value) (data_type_of k.value)
 set-seen b k =
     ap data_type_of (sym (kinds.rolls-Set b k)) ∙ fold-roll-DataType trees.DataType data_type_step (layer.Set b k)
 
 -- the parts of an array, and of what has bounds or none
-pub parts-of-array : (n : Name) (x : DataType) (b : Bounds) (o u : Bool) (k : Box DataType Global)
-    → x ≡ kinds.Array b o u k
+pub parts-of-array : (n : Name) (x : DataType) (o u : Bool) (b : Box Bounds Global) (k : Box DataType Global)
+    → x ≡ kinds.Array o u b k
     → parts_of_data_type n (data_type_of x)
-    ≡ parts_of_bounds n (bounds_of b) ++ parts_of_data_type n (data_type_of k.value)
-parts-of-array n x b o u k e = ap (parts_of_data_type n) (ap data_type_of e ∙ array-seen b o u k)
+    ≡ parts_of_bounds n (bounds_of b.value) ++ parts_of_data_type n (data_type_of k.value)
+parts-of-array n x o u b k e = ap (parts_of_data_type n) (ap data_type_of e ∙ array-seen o u b k)
 
-pub parts-of-others : (n : Name) (x : DataType) (b : Option Bounds) (k : Box DataType Global)
-    → ((u : Bool) × (x ≡ kinds.List b u k)) ⊎ ((x ≡ kinds.Bag b k) ⊎ (x ≡ kinds.Set b k))
+pub parts-of-others : (n : Name) (x : DataType) (b : Box (Option Bounds) Global) (k : Box DataType Global)
+    → ((u : Bool) × (x ≡ kinds.List u b k)) ⊎ ((x ≡ kinds.Bag b k) ⊎ (x ≡ kinds.Set b k))
     → parts_of_data_type n (data_type_of x)
-    ≡ parts_of_some_bounds n (if_some bounds_of b) ++ parts_of_data_type n (data_type_of k.value)
-parts-of-others n x b k (inl (u, e)) = ap (parts_of_data_type n) (ap data_type_of e ∙ list-seen b u k)
+    ≡ parts_of_some_bounds n (if_some bounds_of b.value) ++ parts_of_data_type n (data_type_of k.value)
+parts-of-others n x b k (inl (u, e)) = ap (parts_of_data_type n) (ap data_type_of e ∙ list-seen u b k)
 parts-of-others n x b k (inr (inl e)) = ap (parts_of_data_type n) (ap data_type_of e ∙ bag-seen b k)
 parts-of-others n x b k (inr (inr e)) = ap (parts_of_data_type n) (ap data_type_of e ∙ set-seen b k)
 

@@ -105,10 +105,10 @@ fn add_some_width(
     alloc: Global,
     list: &mut Vec<Unchecked>,
     label: Label<'_>,
-    width: &Option<FixedWidth<'_>>,
+    width: &Option<Box<FixedWidth<'_>>>,
 ) -> Result<(), AllocError>
     ensures { OnOk result (Adds
-        (parts_of_some_width (said label.entry) (if_some fixed_of width.now))
+        (parts_of_some_width (said label.entry) (if_some (λ b. fixed_of b.value) width.now))
         (unchecked_in list.old.items) (unchecked_in list.new.items)) }
 {
     match width {
@@ -122,10 +122,10 @@ fn add_precision(
     alloc: Global,
     list: &mut Vec<Unchecked>,
     label: Label<'_>,
-    precision: &Option<Width<'_>>,
+    precision: &Option<Box<Width<'_>>>,
 ) -> Result<(), AllocError>
     ensures { OnOk result (Adds
-        (parts_of_precision (said label.entry) (if_some width_of precision.now))
+        (parts_of_precision (said label.entry) (if_some (λ b. width_of b.value) precision.now))
         (unchecked_in list.old.items) (unchecked_in list.new.items)) }
 {
     match precision {

@@ -8,8 +8,8 @@ use Rattle.attribute_places.proofs.attributes.add_attribute.Goals as goal
 pub returns : goal.returns
 returns c =
     subst (λ x. Adds (places_of c.args.places.now.items) c.args.row.now.items
-    (of_attribute (capitals c.args.entity) (attribute_of x)) (places_of c.push.new.self.items) c.push-2.new.self.items)
+    (of_attribute (capitals c.args.entity.now) (attribute_of x)) (places_of c.push.new.self.items) c.push-2.new.self.items)
     (sym c.in-Unqualified.is)
     (adds-place c.args.places.now.items c.push.new.self.items c.args.row.now.items c.push-2.new.self.items
-    record { entity = c.args.entity; attribute = c.in-Unqualified.name } c.in-Ok.number c.in_ok-push.ensures.items
+    _ c.in-Ok.number c.in_ok-push.ensures.items
     c.in_ok-push-2.ensures.items (search rules))

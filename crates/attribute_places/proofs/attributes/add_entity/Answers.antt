@@ -30,9 +30,10 @@ loop-explicit-preserved c =
 pub returns : goal.returns
 returns c =
     let whole = take_all c.loop-explicit.explicit-index c.deref-explicit-items.result.now c.loop-explicit-test.false in
-    subst (λ ps. Adds (places_of c.args.places.now.items) [] ps (places_of c.loop-explicit.places.items)
+    rw c.shrink_to_fit.ensures.items
+    (subst (λ ps. Adds (places_of c.args.places.now.items) [] ps (places_of c.loop-explicit.places.items)
     c.loop-explicit.row.items)
     (ap (λ xs. explicits_of (capitals c.args.entity.now.name) (map explicit_of xs))
     (whole ∙ c.deref-explicit-items.ensures.value)
     ∙ explicits-own (capitals c.args.entity.now.name) (map explicit_of c.args.entity.now.explicits.items))
-    c.loop-explicit.invariant
+    c.loop-explicit.invariant)

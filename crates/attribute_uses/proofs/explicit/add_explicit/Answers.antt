@@ -2,7 +2,7 @@ use Rattle.std.proofs.Common.{◌∙◌, ap, sym, subst, map, [], ◌++◌, arit
 use Rattle.std.proofs.lemmas.Result.{on_ok_weaker}
 use Rattle.digraph.specs.Graphs.{has}
 use Rattle.digraph.specs.Rounds.{added}
-use Rattle.express_schemas.specs.Views.{attribute_of, explicit_of}
+use Rattle.express_schemas.specs.Views.{explicit_of}
 use Rattle.type_graphs.specs.Names.{own_names}
 use Rattle.attribute_uses.specs.Speaking.{schema_in, ArePlacesOf, SpeakTogether, AreOwnAt, use_of}
 use Rattle.attribute_uses.proofs.OfDeclarations.{uses-of-one}
@@ -14,9 +14,8 @@ distinct-requires-clause-within c q h =
     let x = explicit_of c.args.explicit.now in
     let (n, owned) = c.requires.owned in
     let are = c.in_ok-spoken.ensures n x.data_type c.requires.typed
-    (subst (λ ys. AreOwnAt s n c.args.own.now c.args.first (own_names (map attribute_of ys)))
-    (sym c.deref.ensures.value) owned) in
-    let low = are.within q (sym (ap (λ xs. has xs q) c.deref-2.ensures.value) ∙ h) in
+    (subst (λ ys. AreOwnAt s n c.args.own.now c.args.first (own_names ys)) (sym c.as_slice.ensures) owned) in
+    let low = are.within q (sym (ap (λ xs. has xs q) c.deref.ensures.value) ∙ h) in
     let many = c.requires.many in
     omega (arith, low, many)
 
@@ -28,11 +27,9 @@ returns-clause-uses c =
     let spoken = c.in_ok-spoken.spoken.items in
     on_ok_weaker c.add_uses.result (λ added-all n owned.
     let are = c.in_ok-spoken.ensures n x.data_type c.requires.typed
-    (subst (λ ys. AreOwnAt s n c.args.own.now c.args.first (own_names (map attribute_of ys)))
-    (sym c.deref.ensures.value) owned) in
-    let here = subst (λ ys. ArePlacesOf s (SpeakTogether s n x.data_type (map attribute_of ys)) spoken)
-    c.deref.ensures.value are in
-    let is = c.deref-3.ensures.value ∙ c.in_ok-places.ensures.distinct ∙ ap (added []) c.deref-2.ensures.value in (
+    (subst (λ ys. AreOwnAt s n c.args.own.now c.args.first (own_names ys)) (sym c.as_slice.ensures) owned) in
+    let here = subst (λ ys. ArePlacesOf s (SpeakTogether s n x.data_type ys) spoken) c.as_slice.ensures are in
+    let is = c.deref-2.ensures.value ∙ c.in_ok-places.ensures.distinct ∙ ap (added []) c.deref.ensures.value in (
       map (use_of t x.optional) (added [] spoken),
       added-all ∙ ap (λ ps. c.args.uses.now.items ++ map (use_of t x.optional) ps) is,
       uses-of-one s n x t spoken c.requires.typed here,

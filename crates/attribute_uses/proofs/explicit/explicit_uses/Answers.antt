@@ -1,7 +1,7 @@
 use Rattle.std.proofs.Common.{◌+◌, ◌∙◌, refl, ap, sym, subst, map, take, length, []}
 use Rattle.std.proofs.lemmas.Option.{slice_get_within, get_or_from_slice_get}
 use Rattle.express_schemas.specs.Schemas.{Explicit}
-use Rattle.express_schemas.specs.Views.{attribute_of, explicit_of}
+use Rattle.express_schemas.specs.Views.{explicit_of}
 use Rattle.type_graphs.specs.Names.{own_names}
 use Rattle.declared_attributes.proofs.Gathered.{seen, count-more}
 use Rattle.attribute_uses.specs.Speaking.{schema_in, IsTypeAt, AreUsesOf}
@@ -58,7 +58,7 @@ loop-n-preserved c =
     let x = c.index-explicits-n.result in
     let at = seen explicit_of xs m x c.loop-n-test.true c.index-explicits-n.is in
     let first = c.loop-n.invariant.2 in
-    let count = ap (λ zs. length (own_names (map attribute_of zs))) c.deref.ensures.value in (
+    let count = ap (λ zs. length (own_names zs)) c.as_slice.ensures in (
       c.in_ok-add_explicit.ensures.clean,
       c.in_ok-add_explicit.ensures.length ∙ c.loop-n.invariant.1,
       c.in_ok-first.ensures

@@ -11,6 +11,6 @@ add_redeclared-requires-clause-named c = (capitals c.in-Redeclared.field-0, ap a
 pub returns-in-Unqualified : goal.returns-in-Unqualified
 returns-in-Unqualified c =
     on_ok_weaker c.add.result
-    (λ h. subst (λ y. AddsAll c.args.flat.now.items
-    (Says (schema_in c.args.sources.now) c.args.class c.args.declaration (attribute_of y)) c.add.new.flat.items)
+    (λ h. subst (λ y. AddsAll c.args.table.now
+    (Says (schema_in c.args.sources.now) c.args.class c.args.declaration (attribute_of y)) c.add.new.self)
     (sym c.in-Unqualified.is) h) c.add.ensures

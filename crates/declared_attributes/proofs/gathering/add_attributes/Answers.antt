@@ -9,7 +9,7 @@ use Rattle.declared_attributes.proofs.gathering.add_attributes.Goals as goal
 pub loop-n-init : goal.loop-n-init
 loop-n-init c =
     none-yet (λ (m : ℕ). Says (schema_in c.args.sources.now) classes.Explicit (record { entity = c.args.entity; data_type = c.args.data_type; derivation = c.args.derivation })) (map attribute_of c.args.attributes.now)
-    c.args.flat.now.items
+    c.args.table.now
 
 pub loop-n-preserved : goal.loop-n-preserved
 loop-n-preserved c =
@@ -17,7 +17,7 @@ loop-n-preserved c =
     let n = c.loop-n.n in
     let x = c.index-attributes-n.result in
     one-more (λ (m : ℕ). Says (schema_in c.args.sources.now) classes.Explicit (record { entity = c.args.entity; data_type = c.args.data_type; derivation = c.args.derivation })) (map attribute_of xs) n (attribute_of x)
-    c.args.flat.now.items c.loop-n.flat.items c.add_attribute.new.flat.items
+    c.args.table.now c.loop-n.table c.add_attribute.new.table
     (seen attribute_of xs n x c.loop-n-test.true c.index-attributes-n.is) c.loop-n.invariant c.in_ok-add_attribute.ensures
 
 pub returns : goal.returns
@@ -28,4 +28,4 @@ returns c =
     let after = c.loop-n-test.false in
     let end : n ≡ length xs = omega (arith, before, after) in
     at-length (λ (m : ℕ). Says (schema_in c.args.sources.now) classes.Explicit (record { entity = c.args.entity; data_type = c.args.data_type; derivation = c.args.derivation })) (map attribute_of xs) n
-    c.args.flat.now.items c.loop-n.flat.items (end ∙ sym (length-map xs attribute_of)) c.loop-n.invariant
+    c.args.table.now c.loop-n.table (end ∙ sym (length-map xs attribute_of)) c.loop-n.invariant

@@ -7,4 +7,4 @@ use Rattle.declared_attributes.proofs.gathering.add_attributes.Given as goal
 
 abbrev pub invariant-loop-n : goal.invariant-loop-n
 invariant-loop-n l =
-    AddsAll l.initial.flat.items (UpTo (λ (m : ℕ). Says (schema_in l.sources) classes.Explicit l.declaration) (map attribute_of l.attributes) l.n) l.flat.items
+    AddsAll l.initial.table (UpTo (λ (m : ℕ). Says (schema_in l.sources) classes.Explicit l.declaration) (map attribute_of l.attributes) l.n) l.table

@@ -1,4 +1,4 @@
-use Rattle.std.proofs.Common.{◌≡◌, ◌∙◌, ◌+◌, ◌⊎◌, ap, sym, subst, map, length}
+use Rattle.std.proofs.Common.{◌∙◌, ◌+◌, ◌⊎◌, ap, sym, subst, map, length}
 use Rattle.std.proofs.lemmas.List.{length-map}
 use Rattle.std.proofs.lemmas.Result.{on_ok_weaker}
 use Rattle.express_schemas.specs.Views.{explicit_of, derived_of, inverse_of}
@@ -14,10 +14,10 @@ returns c =
     let xs = map explicit_of c.args.explicits.now in
     let ds = map derived_of c.args.deriveds.now in
     let is = map inverse_of c.args.inverses.now in
-    let old = c.args.flat.now.items in
-    let one = c.add_explicits.new.flat.items in
-    let two = c.add_deriveds.new.flat.items in
-    let new = c.add_inverses.new.flat.items in
+    let old = c.args.table.now in
+    let one = c.add_explicits.new.table in
+    let two = c.add_deriveds.new.table in
+    let new = c.add_inverses.new.table in
     let many = sym (length-map c.args.explicits.now explicit_of) in
     let more = sym (length-map c.args.deriveds.now derived_of) in
     let first = c.in_ok-first.ensures ∙ ap (λ m. m + length c.args.deriveds.now) many

@@ -24,8 +24,8 @@ pub returns-in_ok-number-in-Entity : goal.returns-in_ok-number-in-Entity
 returns-in_ok-number-in-Entity c =
     let s = schema_in c.args.sources.now in
     let rows = rows_in c.args.sources.now in
-    let old = c.args.flat.now.items in
-    let new = c.add_entity.new.flat.items in
+    let old = c.args.table.now in
+    let new = c.add_entity.new.table in
     let e = entity_of c.in-Entity.entity in
     let none : 0 + c.args.i ≡ c.args.i = omega arith in
     on_ok_weaker c.add_entity.result (λ h.
@@ -38,7 +38,7 @@ returns-in_ok-number-in-Entity c =
 pub returns-in_default : goal.returns-in_default
 returns-in_default c =
     let s = schema_in c.args.sources.now in
-    adds-nothing c.args.flat.now.items
+    adds-nothing c.args.table.now
     (SaysDeclaration s c.args.i (next (rows_in c.args.sources.now) c.args.i) c.args.count
     (declaration_of c.args.declaration.now))
     (only-entities s c.args.i (next (rows_in c.args.sources.now) c.args.i) c.args.count c.args.declaration.now

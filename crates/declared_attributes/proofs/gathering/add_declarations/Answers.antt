@@ -17,7 +17,7 @@ add_declaration-requires-clause-at c =
 pub loop-n-init : goal.loop-n-init
 loop-n-init c =
     let ds = map declaration_of c.args.declarations.now in
-    (refl, none-yet (SaysAt (schema_in c.args.sources.now) (rows_in c.args.sources.now) ds) ds c.args.flat.now.items)
+    (refl, none-yet (SaysAt (schema_in c.args.sources.now) (rows_in c.args.sources.now) ds) ds c.args.table.now)
 
 pub loop-n-preserved : goal.loop-n-preserved
 loop-n-preserved c =
@@ -31,10 +31,10 @@ loop-n-preserved c =
       c.in_ok-count.ensures ∙ ap (λ m. c.loop-n.count + m) c.derived_count.ensures
           ∙ ap (λ m. m + length (derivations_in (declaration_of x))) c.loop-n.invariant.0
           ∙ sym (count-more derivations_in ds n (declaration_of x) here),
-      one-more (SaysAt s rows ds) ds n (declaration_of x) c.args.flat.now.items c.loop-n.flat.items
-          c.add_declaration.new.flat.items here c.loop-n.invariant.1
-          (subst (λ m. AddsAll c.loop-n.flat.items (SaysDeclaration s n (next rows n) m (declaration_of x))
-          c.add_declaration.new.flat.items) c.loop-n.invariant.0 c.in_ok-add_declaration.ensures),
+      one-more (SaysAt s rows ds) ds n (declaration_of x) c.args.table.now c.loop-n.table
+          c.add_declaration.new.table here c.loop-n.invariant.1
+          (subst (λ m. AddsAll c.loop-n.table (SaysDeclaration s n (next rows n) m (declaration_of x))
+          c.add_declaration.new.table) c.loop-n.invariant.0 c.in_ok-add_declaration.ensures),
     )
 
 pub returns : goal.returns
@@ -46,4 +46,4 @@ returns c =
     let after = c.loop-n-test.false in
     let end : n ≡ length xs = omega (arith, before, after) in
     at-length (SaysAt (schema_in c.args.sources.now) (rows_in c.args.sources.now) ds) ds n
-    c.args.flat.now.items c.loop-n.flat.items (end ∙ sym (length-map xs declaration_of)) c.loop-n.invariant.1
+    c.args.table.now c.loop-n.table (end ∙ sym (length-map xs declaration_of)) c.loop-n.invariant.1

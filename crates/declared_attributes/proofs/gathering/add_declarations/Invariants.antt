@@ -8,6 +8,6 @@ use Rattle.declared_attributes.proofs.gathering.add_declarations.Given as goal
 abbrev pub invariant-loop-n : goal.invariant-loop-n
 invariant-loop-n l =
     (l.count ≡ length (flat_map derivations_in (take l.n (map declaration_of l.declarations))))
-    × AddsAll l.initial.flat.items
+    × AddsAll l.initial.table
     (UpTo (SaysAt (schema_in l.sources) (rows_in l.sources) (map declaration_of l.declarations))
-    (map declaration_of l.declarations) l.n) l.flat.items
+    (map declaration_of l.declarations) l.n) l.table

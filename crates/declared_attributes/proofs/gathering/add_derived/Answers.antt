@@ -1,4 +1,4 @@
-use Rattle.std.proofs.Common.{◌≡◌, ◌∙◌, ℕ, ◌+◌, Option, Some, ap, subst, slice_get}
+use Rattle.std.proofs.Common.{◌∙◌, ℕ, ◌+◌, Some, ap, subst, slice_get}
 use Rattle.std.proofs.lemmas.Result.{on_ok_weaker}
 use Rattle.express_schemas.specs.Views.{attribute_of}
 use Rattle.declared_attributes.specs.declared.gathering.Class.TheVariants as classes
@@ -11,8 +11,8 @@ returns c =
     let i = c.args.entity in
     let y = attribute_of c.args.derived.now.attribute in
     let row = c.args.row.now in
-    let old = c.args.flat.now.items in
-    let new = c.add_one.new.flat.items in
+    let old = c.args.table.now in
+    let new = c.add_one.new.table in
     let at = c.item_at.ensures ∙ ap (slice_get row) c.in_ok-place.ensures in
     on_ok_weaker c.add_one.result (λ h.
     subst (λ o. AddsAll old (SaysOne s classes.Derived i o (Some (c.args.count + c.args.n)) y) new) at

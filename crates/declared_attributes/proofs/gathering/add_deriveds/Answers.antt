@@ -8,7 +8,7 @@ use Rattle.declared_attributes.proofs.gathering.add_deriveds.Goals as goal
 pub loop-n-init : goal.loop-n-init
 loop-n-init c =
     none-yet (SaysDerived (schema_in c.args.sources.now) c.args.entity c.args.row.now c.args.first c.args.count) (map derived_of c.args.deriveds.now)
-    c.args.flat.now.items
+    c.args.table.now
 
 pub loop-n-preserved : goal.loop-n-preserved
 loop-n-preserved c =
@@ -16,7 +16,7 @@ loop-n-preserved c =
     let n = c.loop-n.n in
     let x = c.index-deriveds-n.result in
     one-more (SaysDerived (schema_in c.args.sources.now) c.args.entity c.args.row.now c.args.first c.args.count) (map derived_of xs) n (derived_of x)
-    c.args.flat.now.items c.loop-n.flat.items c.add_derived.new.flat.items
+    c.args.table.now c.loop-n.table c.add_derived.new.table
     (seen derived_of xs n x c.loop-n-test.true c.index-deriveds-n.is) c.loop-n.invariant c.in_ok-add_derived.ensures
 
 pub returns : goal.returns
@@ -27,4 +27,4 @@ returns c =
     let after = c.loop-n-test.false in
     let end : n ≡ length xs = omega (arith, before, after) in
     at-length (SaysDerived (schema_in c.args.sources.now) c.args.entity c.args.row.now c.args.first c.args.count) (map derived_of xs) n
-    c.args.flat.now.items c.loop-n.flat.items (end ∙ sym (length-map xs derived_of)) c.loop-n.invariant
+    c.args.table.now c.loop-n.table (end ∙ sym (length-map xs derived_of)) c.loop-n.invariant

@@ -6,4 +6,4 @@ use Rattle.declared_attributes.proofs.gathering.add_deriveds.Given as goal
 
 abbrev pub invariant-loop-n : goal.invariant-loop-n
 invariant-loop-n l =
-    AddsAll l.initial.flat.items (UpTo (SaysDerived (schema_in l.sources) l.entity l.row l.first l.count) (map derived_of l.deriveds) l.n) l.flat.items
+    AddsAll l.initial.table (UpTo (SaysDerived (schema_in l.sources) l.entity l.row l.first l.count) (map derived_of l.deriveds) l.n) l.table

@@ -1,4 +1,4 @@
-use Rattle.std.proofs.Common.{◌≡◌, ap, sym, subst, map, length}
+use Rattle.std.proofs.Common.{ap, sym, subst, map, length}
 use Rattle.std.proofs.lemmas.Result.{on_ok_weaker}
 use Rattle.express_schemas.specs.Views.{explicit_of, derived_of, inverse_of}
 use Rattle.schema_names.proofs.Clauses.{clause-listed}
@@ -15,7 +15,7 @@ returns c =
     let s = schema_in c.args.sources.now in
     let e = c.args.entity.now in
     on_ok_weaker c.add_clauses.result (λ h.
-    subst (λ says. AddsAll c.args.flat.now.items says c.add_clauses.new.flat.items)
+    subst (λ says. AddsAll c.args.table.now says c.add_clauses.new.table)
     (λ i. SaysClauses s c.args.number c.args.row.now c.args.count
     (map explicit_of (c.deref.ensures.value i))
     (clause-listed derived_of e.derived c.derived_attributes.result.now c.derived_attributes.ensures i)

@@ -1,6 +1,6 @@
-use Rattle.std.proofs.Common.{ℕ, ◌∙◌, sym, subst, map, slice_get, None}
+use Rattle.std.proofs.Common.{ℕ, ◌∙◌, sym, subst, slice_get, None}
 use Rattle.std.proofs.lemmas.Result.{on_ok_weaker}
-use Rattle.express_schemas.specs.Views.{attribute_of, explicit_of}
+use Rattle.express_schemas.specs.Views.{explicit_of}
 use Rattle.declared_attributes.specs.Gathering.{AddsAll, schema_in, SaysTogether, SaysExplicit}
 use Rattle.declared_attributes.proofs.Gathered.{Saying, adds-nothing, adds-alike, with-number, without-number}
 use Rattle.declared_attributes.proofs.gathering.add_explicit.Goals as goal
@@ -14,18 +14,18 @@ returns-in-Some c =
     let s = schema_in c.args.sources.now in
     let x = explicit_of c.args.explicit.now in
     let said : ℕ → Saying = λ k. SaysTogether s c.args.entity k None x.attributes in
-    on_ok_weaker c.add_attributes.result (λ h. adds-alike c.args.flat.now.items c.add_attributes.new.flat.items
+    on_ok_weaker c.add_attributes.result (λ h. adds-alike c.args.table.now c.add_attributes.new.table
     (said c.in-Some.data_type) (SaysExplicit s c.args.entity c.args.row.now c.args.n x)
     (with-number said (slice_get c.args.row.now c.args.n) c.in-Some.data_type
     (sym c.item_at.ensures ∙ c.in-Some.is))
-    (subst (λ ys. AddsAll c.args.flat.now.items
-    (SaysTogether s c.args.entity c.in-Some.data_type None (map attribute_of ys)) c.add_attributes.new.flat.items)
-    c.deref.ensures.value h)) c.add_attributes.ensures
+    (subst (λ ys. AddsAll c.args.table.now
+    (SaysTogether s c.args.entity c.in-Some.data_type None ys) c.add_attributes.new.table)
+    c.as_slice.ensures h)) c.add_attributes.ensures
 
 pub returns-in-None : goal.returns-in-None
 returns-in-None c =
     let s = schema_in c.args.sources.now in
     let x = explicit_of c.args.explicit.now in
-    adds-nothing c.args.flat.now.items (SaysExplicit s c.args.entity c.args.row.now c.args.n x)
+    adds-nothing c.args.table.now (SaysExplicit s c.args.entity c.args.row.now c.args.n x)
     (without-number (λ k. SaysTogether s c.args.entity k None x.attributes)
     (slice_get c.args.row.now c.args.n) (sym c.item_at.ensures ∙ c.in-None.is))

@@ -11,7 +11,7 @@ add_explicit-requires-clause-known c t at = c.requires.known c.loop-n.n t c.loop
 pub loop-n-init : goal.loop-n-init
 loop-n-init c =
     none-yet (SaysExplicit (schema_in c.args.sources.now) c.args.entity c.args.row.now) (map explicit_of c.args.explicits.now)
-    c.args.flat.now.items
+    c.args.table.now
 
 pub loop-n-preserved : goal.loop-n-preserved
 loop-n-preserved c =
@@ -19,7 +19,7 @@ loop-n-preserved c =
     let n = c.loop-n.n in
     let x = c.index-explicits-n.result in
     one-more (SaysExplicit (schema_in c.args.sources.now) c.args.entity c.args.row.now) (map explicit_of xs) n (explicit_of x)
-    c.args.flat.now.items c.loop-n.flat.items c.add_explicit.new.flat.items
+    c.args.table.now c.loop-n.table c.add_explicit.new.table
     (seen explicit_of xs n x c.loop-n-test.true c.index-explicits-n.is) c.loop-n.invariant c.in_ok-add_explicit.ensures
 
 pub returns : goal.returns
@@ -30,4 +30,4 @@ returns c =
     let after = c.loop-n-test.false in
     let end : n ≡ length xs = omega (arith, before, after) in
     at-length (SaysExplicit (schema_in c.args.sources.now) c.args.entity c.args.row.now) (map explicit_of xs) n
-    c.args.flat.now.items c.loop-n.flat.items (end ∙ sym (length-map xs explicit_of)) c.loop-n.invariant
+    c.args.table.now c.loop-n.table (end ∙ sym (length-map xs explicit_of)) c.loop-n.invariant

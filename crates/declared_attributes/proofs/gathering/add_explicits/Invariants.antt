@@ -6,4 +6,4 @@ use Rattle.declared_attributes.proofs.gathering.add_explicits.Given as goal
 
 abbrev pub invariant-loop-n : goal.invariant-loop-n
 invariant-loop-n l =
-    AddsAll l.initial.flat.items (UpTo (SaysExplicit (schema_in l.sources) l.entity l.row) (map explicit_of l.explicits) l.n) l.flat.items
+    AddsAll l.initial.table (UpTo (SaysExplicit (schema_in l.sources) l.entity l.row) (map explicit_of l.explicits) l.n) l.table

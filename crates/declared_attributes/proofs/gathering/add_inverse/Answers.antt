@@ -1,4 +1,4 @@
-use Rattle.std.proofs.Common.{◌≡◌, ◌∙◌, None, ap, subst, slice_get}
+use Rattle.std.proofs.Common.{◌∙◌, None, ap, subst, slice_get}
 use Rattle.std.proofs.lemmas.Result.{on_ok_weaker}
 use Rattle.express_schemas.specs.Views.{attribute_of}
 use Rattle.declared_attributes.specs.declared.gathering.Class.TheVariants as classes
@@ -14,5 +14,5 @@ returns c =
     let y = attribute_of c.args.inverse.now.attribute in
     let at = c.item_at.ensures ∙ ap (slice_get c.args.row.now) c.in_ok-place.ensures in
     on_ok_weaker c.add_one.result (λ h.
-    subst (λ o. AddsAll c.args.flat.now.items (SaysOne s classes.Inverse c.args.entity o None y)
-    c.add_one.new.flat.items) at h) c.add_one.ensures
+    subst (λ o. AddsAll c.args.table.now (SaysOne s classes.Inverse c.args.entity o None y)
+    c.add_one.new.table) at h) c.add_one.ensures

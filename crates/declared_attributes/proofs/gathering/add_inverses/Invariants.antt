@@ -6,4 +6,4 @@ use Rattle.declared_attributes.proofs.gathering.add_inverses.Given as goal
 
 abbrev pub invariant-loop-n : goal.invariant-loop-n
 invariant-loop-n l =
-    AddsAll l.initial.flat.items (UpTo (SaysInverse (schema_in l.sources) l.entity l.row l.first) (map inverse_of l.inverses) l.n) l.flat.items
+    AddsAll l.initial.table (UpTo (SaysInverse (schema_in l.sources) l.entity l.row l.first) (map inverse_of l.inverses) l.n) l.table

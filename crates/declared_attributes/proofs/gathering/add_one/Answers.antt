@@ -14,7 +14,7 @@ returns-in-Some c =
     let y = attribute_of c.args.attribute in
     let said : ℕ → Saying =
     λ k. Says s c.args.class (record { entity = c.args.entity; data_type = k; derivation = c.args.derivation }) y in
-    on_ok_weaker c.add_attribute.result (adds-alike c.args.flat.now.items c.add_attribute.new.flat.items
+    on_ok_weaker c.add_attribute.result (adds-alike c.args.table.now c.add_attribute.new.table
     (said c.in-Some.data_type) (SaysOne s c.args.class c.args.entity c.args.data_type c.args.derivation y)
     (with-number said c.args.data_type c.in-Some.data_type c.in-Some.is)) c.add_attribute.ensures
 
@@ -22,6 +22,6 @@ pub returns-in-None : goal.returns-in-None
 returns-in-None c =
     let s = schema_in c.args.sources.now in
     let y = attribute_of c.args.attribute in
-    adds-nothing c.args.flat.now.items (SaysOne s c.args.class c.args.entity c.args.data_type c.args.derivation y)
+    adds-nothing c.args.table.now (SaysOne s c.args.class c.args.entity c.args.data_type c.args.derivation y)
     (without-number (λ k. Says s c.args.class
     (record { entity = c.args.entity; data_type = k; derivation = c.args.derivation }) y) c.args.data_type c.in-None.is)

@@ -1,4 +1,4 @@
-use Rattle.std.proofs.Common.{◌≡◌, Some, None, sym, subst}
+use Rattle.std.proofs.Common.{Some, None, sym, subst}
 use Rattle.express_trees.specs.Views.{capitals}
 use Rattle.express_schemas.specs.Schemas.{redeclared}
 use Rattle.declared_attributes.specs.Redeclaring.{IsRedeclaredAt}
@@ -11,7 +11,7 @@ pub returns-in_default : goal.returns-in_default
 returns-in_default c =
     let s = schema_in c.args.sources.now in
     let d = c.args.declaration in
-    let old = c.args.flat.now.items in
+    let old = c.args.table.now in
     let n = capitals c.args.name in
     let (q, e) = c.requires.named in
     subst (λ y. AddsAll old (Says s c.args.class d y) old) (sym e)
@@ -23,8 +23,8 @@ returns-in_ok-add c =
     let s = schema_in c.args.sources.now in
     let d = c.args.declaration in
     let i = c.in-Some.entity in
-    let old = c.args.flat.now.items in
-    let new = c.add.new.flat.items in
+    let old = c.args.table.now in
+    let new = c.add.new.self in
     let n = capitals c.args.name in
     let (q, e) = c.requires.named in
     let h = subst (λ y. IsRedeclaredAt s y (Some i)) e c.in-Some.ensures in
@@ -39,7 +39,7 @@ returns-else-allows c =
     let s = schema_in c.args.sources.now in
     let d = c.args.declaration in
     let i = c.in-Some.entity in
-    let old = c.args.flat.now.items in
+    let old = c.args.table.now in
     let n = capitals c.args.name in
     let (q, e) = c.requires.named in
     let h = subst (λ y. IsRedeclaredAt s y (Some i)) e c.in-Some.ensures in

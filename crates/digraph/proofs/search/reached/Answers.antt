@@ -78,6 +78,7 @@ returns-clause-reached c =
     let over = c.loop-at-test.false in
     let within = c.loop-at.invariant.within in
     let last : c.loop-at.at ≡ length c.loop-at.found.items = omega (arith, over, within) in
-    searched-all (map (λ v. v.items) c.args.edges.now) c.args.from c.loop-at.found.items
+    rw c.shrink_to_fit.ensures.items
+    (searched-all (map (λ v. v.items) c.args.edges.now) c.args.from c.loop-at.found.items
     (subst (λ (n : ℕ). IsSearched (map (λ v. v.items) c.args.edges.now) c.args.from c.loop-at.found.items n) last
-    c.loop-at.invariant.searched)
+    c.loop-at.invariant.searched))

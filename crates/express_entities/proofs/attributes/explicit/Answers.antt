@@ -37,12 +37,12 @@ returns-in_err-is_optional-clause-read c =
 
 pub returns-clause-read : goal.returns-clause-read
 returns-clause-read c = (
-  ((c.in_ok-attributes.ensures Explicits refl).0.filled, c.in_ok-is_optional.ensures.read.0),
+  rw c.of.ensures ((c.in_ok-attributes.ensures Explicits refl).0.filled, c.in_ok-is_optional.ensures.read.0),
   _,
-  explicit_words (attribute_of c.args.first) (map attribute_of c.in_ok-attributes.attributes.items)
+  rw c.of.ensures (explicit_words (attribute_of c.args.first) (map attribute_of c.in_ok-attributes.attributes.items)
       (c.in_ok-attributes.ensures Explicits refl).0.further (said keywords.Optional c.in_ok-is_optional.is_optional
       ++ words_of_data_type (data_type_of c.in_ok-is_optional.data_type) ++ mark marks.Semicolon ∷ [])
-      (c.in_ok-attributes.ensures Explicits refl).0.words,
+      (c.in_ok-attributes.ensures Explicits refl).0.words),
   explicit_passes (attribute_of c.args.first)
       (located_of c.in_ok-next.next) c.args.reader.now c.take.new.self
       (map attribute_of c.in_ok-attributes.attributes.items) (located_of c.in_ok-attributes.end)

@@ -18,12 +18,12 @@ returns-in-Some-clause-read c =
 pub returns-clause-read : goal.returns-clause-read
 returns-clause-read c =
     let P : List Word → Type 0 = λ l. IsBoundText l → ⊥ in
-    rw (← c.reader.view_is) (bound_other (part_of c.args.part) c.args.around c.next_run.new.buffer.lexemes.items
+    rw (← c.reader.view_is, c.in_ok-boxed.ensures.ok) (bound_other (part_of c.args.part) c.args.around c.next_run.new.buffer.lexemes.items
     (run_of c.in_ok-tokens.tokens) c.reader.inside.lexer c.next_run.new.lexer c.in_ok-tokens.ensures.read
     (subst P (ap words_of c.deref.ensures.value) c.in_default.ensures.known))
 
 pub returns-clause-text : goal.returns-clause-text
-returns-clause-text c = rw (← c.reader.view_is) c.in_ok-tokens.ensures.text
+returns-clause-text c = rw (← c.reader.view_is, c.in_ok-boxed.ensures.ok) c.in_ok-tokens.ensures.text
 
 pub returns-in-Some-clause-text : goal.returns-in-Some-clause-text
 returns-in-Some-clause-text c = c.in-Some.ensures.text _

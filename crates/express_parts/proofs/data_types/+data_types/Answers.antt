@@ -56,7 +56,7 @@ aggregate-returns-in_ok-bounds-in-Bag-clause-read t c =
     let h : c.args.depth < depth_limit = search rules in
     let x = c.in_ok-bounds-in-Bag.ensures.read in
     rw c.bag.ensures.data_type
-    (bag_done c.args.depth (ending_of c.args.end) (if_some bounds_of c.in_ok-bounds-in-Bag.bounds)
+    (bag_done c.args.depth (ending_of c.args.end) (if_some bounds_of c.in_ok-bounds-in-Bag.bounds.value)
     (data_type_of c.in_ok-bounds-in-Bag.element.value) (located_of c.args.first) c.args.reader.now
     c.collection.new.reader (c.requires.first ∙ ap (λ k. token (keyword k)) c.in-Bag.is) h x.0 x.1)
 
@@ -65,7 +65,7 @@ aggregate-returns-in_ok-bounds-in_default-clause-read t c =
     let h : c.args.depth < depth_limit = search rules in
     let x = c.in_ok-bounds-in_default.ensures.read in
     rw c.set.ensures.data_type
-    (set_done c.args.depth (ending_of c.args.end) (if_some bounds_of c.in_ok-bounds-in_default.bounds)
+    (set_done c.args.depth (ending_of c.args.end) (if_some bounds_of c.in_ok-bounds-in_default.bounds.value)
     (data_type_of c.in_ok-bounds-in_default.element.value) (located_of c.args.first) c.args.reader.now
     c.collection-in_default.new.reader (c.requires.first ∙ ap (λ k. token (keyword k))
     (last_aggregate c.args.found c.requires.found c.in_default.not-Array c.in_default.not-List
@@ -83,28 +83,28 @@ array-returns-in_err-is_optional-clause-read t c =
     let p = err_from_is_err_and c.from_residual-in_err-is_optional.result c.from_residual-in_err-is_optional.ensures.1
     in
     rw (p.1, p.2) (array_stopped _ c.args.depth (ending_of c.args.end) x.1 c.args.reader.now c.expect.new.self
-    c.bounds.new.reader c.in_ok-expect.ensures x.3 c.in_err-is_optional.ensures.read)
+    c.boxed_indices.new.reader c.in_ok-expect.ensures x.3 c.in_err-is_optional.ensures.read)
 
 pub array-returns-clause-read : goal.array-returns-clause-read
 array-returns-clause-read t c =
     let x = c.in_ok-bounds.ensures.read in
-    rw c.array.ensures.data_type (array_done c.args.depth (ending_of c.args.end) (bounds_of c.in_ok-bounds.bounds)
+    rw c.array.ensures.data_type (array_done c.args.depth (ending_of c.args.end) (bounds_of c.in_ok-bounds.bounds.value)
     c.in_ok-is_optional.is_optional c.in_ok-is_optional.is_unique (data_type_of c.in_ok-is_optional.element.value)
-    x.1 c.args.reader.now c.expect.new.self c.bounds.new.reader c.optional_element.new.reader c.requires.depth
+    x.1 c.args.reader.now c.expect.new.self c.boxed_indices.new.reader c.optional_element.new.reader c.requires.depth
     c.in_ok-expect.ensures x.0 x.2 x.3 c.in_ok-is_optional.ensures.read)
 
 pub collection-returns-in_err-element-clause-read : goal.collection-returns-in_err-element-clause-read
 collection-returns-in_err-element-clause-read t c =
     let p = err_from_is_err_and c.from_residual-in_err-element.result c.from_residual-in_err-element.ensures.1 in
     rw (p.1, p.2) (bounded_stopped _ c.args.depth (DataTypeThen (c.args.depth + 1) (ending_of c.args.end))
-    (words_of_some_bounds (if_some bounds_of c.in_ok-bounds.bounds) ++ keyword keywords.Of ∷ []) c.args.reader.now
-    c.some_bounds.new.reader c.in_ok-bounds.ensures.read.1 c.in_err-element.ensures.read)
+    (words_of_some_bounds (if_some bounds_of c.in_ok-bounds.bounds.value) ++ keyword keywords.Of ∷ []) c.args.reader.now
+    c.boxed_bounds.new.reader c.in_ok-bounds.ensures.read.1 c.in_err-element.ensures.read)
 
 pub collection-returns-clause-read : goal.collection-returns-clause-read
 collection-returns-clause-read t c =
     rw c.in_ok-boxed.ensures.ok (collection_done c.args.depth (ending_of c.args.end)
-    (if_some bounds_of c.in_ok-bounds.bounds) (data_type_of c.in_ok-element.element) c.args.reader.now
-    c.some_bounds.new.reader c.data_type.new.reader c.in_ok-bounds.ensures.read.0 c.in_ok-bounds.ensures.read.1
+    (if_some bounds_of c.in_ok-bounds.bounds.value) (data_type_of c.in_ok-element.element) c.args.reader.now
+    c.boxed_bounds.new.reader c.data_type.new.reader c.in_ok-bounds.ensures.read.0 c.in_ok-bounds.ensures.read.1
     c.in_ok-element.ensures.read)
 
 pub element-returns-clause-read : goal.element-returns-clause-read
@@ -136,14 +136,14 @@ pub list-returns-in_err-is_unique-clause-read : goal.list-returns-in_err-is_uniq
 list-returns-in_err-is_unique-clause-read t c =
     let p = err_from_is_err_and c.from_residual-in_err-is_unique.result c.from_residual-in_err-is_unique.ensures.1 in
     rw (p.1, p.2) (bounded_stopped _ c.args.depth (UniqueOr (c.args.depth + 1) (ending_of c.args.end))
-    (words_of_some_bounds (if_some bounds_of c.in_ok-bounds.bounds) ++ keyword keywords.Of ∷ []) c.args.reader.now
-    c.some_bounds.new.reader c.in_ok-bounds.ensures.read.1 c.in_err-is_unique.ensures.read)
+    (words_of_some_bounds (if_some bounds_of c.in_ok-bounds.bounds.value) ++ keyword keywords.Of ∷ []) c.args.reader.now
+    c.boxed_bounds.new.reader c.in_ok-bounds.ensures.read.1 c.in_err-is_unique.ensures.read)
 
 pub list-returns-clause-read : goal.list-returns-clause-read
 list-returns-clause-read t c =
-    rw c.list.ensures.data_type (list_done c.args.depth (ending_of c.args.end) (if_some bounds_of c.in_ok-bounds.bounds)
+    rw c.list.ensures.data_type (list_done c.args.depth (ending_of c.args.end) (if_some bounds_of c.in_ok-bounds.bounds.value)
     c.in_ok-is_unique.is_unique (data_type_of c.in_ok-is_unique.element.value) c.args.reader.now
-    c.some_bounds.new.reader c.element.new.reader c.requires.depth c.in_ok-bounds.ensures.read.0
+    c.boxed_bounds.new.reader c.element.new.reader c.requires.depth c.in_ok-bounds.ensures.read.0
     c.in_ok-bounds.ensures.read.1
     c.in_ok-is_unique.ensures.read)
 
@@ -184,7 +184,7 @@ aggregate-returns-in_ok-bounds-in_default-clause-text t c =
 pub array-returns-clause-text : goal.array-returns-clause-text
 array-returns-clause-text t c =
     let e = passes_text c.in_ok-expect.ensures in
-    c.array.ensures.text _ (kept IsBoundsOf c.in_ok-bounds.bounds e c.in_ok-bounds.ensures.text)
+    c.array.ensures.text _ (kept IsBoundsOf c.in_ok-bounds.bounds.value e c.in_ok-bounds.ensures.text)
     (kept IsDataTypeOf c.in_ok-is_optional.element.value (passes_text c.in_ok-bounds.ensures.read.3 ∙ e)
     c.in_ok-is_optional.ensures.text)
 

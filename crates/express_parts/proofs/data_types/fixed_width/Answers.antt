@@ -31,11 +31,11 @@ returns-in_err-is_fixed-clause-read c =
 pub returns-clause-read : goal.returns-clause-read
 returns-clause-read c =
     let h = rw c.in-Some.is at (c.in_ok-width.ensures.read (FixedWidthOr c.args.depth (ending_of c.args.end))
-    (FixedOr (ending_of c.args.end) ∷ []) (λ s. refl)) in (
+    (FixedOr (ending_of c.args.end) ∷ []) (λ s. refl)) in rw c.in_ok-boxed.ensures.ok (
       h.0,
       fixed_some c.args.depth (ending_of c.args.end) (width_of c.in-Some.width) c.in_ok-is_fixed.is_fixed
           c.args.reader.now c.width_or_end.new.reader c.fixed.new.reader h.1 c.in_ok-is_fixed.ensures,
     )
 
 pub returns-clause-text : goal.returns-clause-text
-returns-clause-text c = rw c.in-Some.is at c.in_ok-width.ensures.text
+returns-clause-text c = rw c.in_ok-boxed.ensures.ok (rw c.in-Some.is at c.in_ok-width.ensures.text)

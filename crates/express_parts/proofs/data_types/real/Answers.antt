@@ -30,7 +30,7 @@ pub returns-clause-read : goal.returns-clause-read
 returns-clause-read c =
     let h = rw c.in-Some.is at (c.in_ok-width.ensures.read (WidthOr c.args.depth (ending_of c.args.end))
     (Just (ending_mark (ending_of c.args.end)) ∷ []) (λ s. refl)) in
-    rw c.real-2.ensures.data_type
+    rw (c.real-2.ensures.data_type, c.in_ok-boxed.ensures.ok)
     (real_some c.args.depth (ending_of c.args.end) (width_of c.in-Some.width) c.args.reader.now
     c.width_or_end.new.reader c.expect_end.new.reader h.0 h.1 c.in_ok-expect_end.ensures)
 
@@ -38,4 +38,5 @@ pub returns-in_default-clause-text : goal.returns-in_default-clause-text
 returns-in_default-clause-text c = c.real.ensures.text _ tt
 
 pub returns-clause-text : goal.returns-clause-text
-returns-clause-text c = c.real-2.ensures.text _ (rw c.in-Some.is at c.in_ok-width.ensures.text)
+returns-clause-text c =
+    c.real-2.ensures.text _ (rw c.in_ok-boxed.ensures.ok (rw c.in-Some.is at c.in_ok-width.ensures.text))

@@ -1,8 +1,8 @@
-use Rattle.std.proofs.Common.{flat_map, map, subst}
+use Rattle.std.proofs.Common.{flat_map, subst}
 use Rattle.std.proofs.lemmas.Result.{err_from_is_err_and}
 use Rattle.express_trees.specs.Views.{capitals}
 use Rattle.express_schemas.specs.Profile.{Every}
-use Rattle.express_schemas.specs.Views.{attribute_of, data_type_of, names_of}
+use Rattle.express_schemas.specs.Views.{attributes_of, data_type_of, names_of}
 use Rattle.express_schemas.specs.SchemaViews.{schema_of}
 use Rattle.type_graphs.specs.Faults.{IsMet, demands_of_attribute, demands_of_data_type}
 use Rattle.schema_demands.specs.Checks.{IsFirstUnmet}
@@ -15,16 +15,16 @@ returns-in_err-check_attributes c =
     let f = demands_of_attribute (names_of c.args.supertypes.now) in
     let n = capitals c.in_err-check_attributes.field-0.0 in
     let p = err_from_is_err_and c.from_residual.result c.from_residual.ensures.1 in
-    rw (p.1, p.2) (unmet-left s (flat_map f (map attribute_of c.args.explicit.now.attributes.items))
+    rw (p.1, p.2) (unmet-left s (flat_map f (attributes_of c.args.explicit.now.attributes))
     (demands_of_data_type (data_type_of c.args.explicit.now.data_type)) n
-    (subst (λ xs. IsFirstUnmet s (flat_map f (map attribute_of xs)) n) c.deref.ensures.value
+    (subst (λ xs. IsFirstUnmet s (flat_map f xs) n) c.as_slice.ensures
     c.in_err-check_attributes.ensures))
 
 pub returns : goal.returns
 returns c =
     let s = schema_of c.args.names.now.schema.now in
     let f = demands_of_attribute (names_of c.args.supertypes.now) in
-    checks-on s (flat_map f (map attribute_of c.args.explicit.now.attributes.items))
+    checks-on s (flat_map f (attributes_of c.args.explicit.now.attributes))
     (demands_of_data_type (data_type_of c.args.explicit.now.data_type)) c.check_data_type.result
-    (subst (λ xs. Every (IsMet s) (flat_map f (map attribute_of xs))) c.deref.ensures.value
+    (subst (λ xs. Every (IsMet s) (flat_map f xs)) c.as_slice.ensures
     c.in_ok-check_attributes.ensures) c.check_data_type.ensures

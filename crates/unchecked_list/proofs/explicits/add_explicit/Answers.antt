@@ -1,4 +1,4 @@
-use Rattle.std.proofs.Common.{◌<◌, ◌++◌, length, arith, map, subst, sym, ◌∙◌}
+use Rattle.std.proofs.Common.{◌<◌, ◌++◌, length, arith, map, ap, subst, sym, ◌∙◌}
 use Rattle.std.proofs.lemmas.List.{take_all}
 use Rattle.express_trees.specs.Views.{capitals}
 use Rattle.express_schemas.specs.Schemas.{Attribute}
@@ -15,7 +15,7 @@ loop-attribute-preserved c =
     let s = schema_found c.args.findings.now in
     let h = capitals c.args.holder in
     let k = data_type_of c.args.explicit.now.data_type in
-    let xs = c.deref-attribute-items.result.now in
+    let xs = c.as_slice-attribute-items.result.now in
     let i = c.loop-attribute.attribute-index in
     let x = c.attribute-item.result in
     let a = attribute_of x in
@@ -36,8 +36,8 @@ returns c =
     let s = schema_found c.args.findings.now in
     let h = capitals c.args.holder in
     let k = data_type_of c.args.explicit.now.data_type in
-    subst (λ xs. Adds (for_each
-    (λ (y : Attribute). parts_of_redeclared s h k y ++ parts_of_data_type (attribute_label h y) k) (map attribute_of xs))
+    subst (λ ys. Adds (for_each
+    (λ (y : Attribute). parts_of_redeclared s h k y ++ parts_of_data_type (attribute_label h y) k) ys)
     (unchecked_in c.args.list.now.items) (unchecked_in c.loop-attribute.list.items))
-    (take_all c.loop-attribute.attribute-index c.deref-attribute-items.result.now c.loop-attribute-test.false
-    ∙ c.deref-attribute-items.ensures.value) c.loop-attribute.invariant
+    (ap (map attribute_of) (take_all c.loop-attribute.attribute-index c.as_slice-attribute-items.result.now
+    c.loop-attribute-test.false) ∙ c.as_slice-attribute-items.ensures) c.loop-attribute.invariant

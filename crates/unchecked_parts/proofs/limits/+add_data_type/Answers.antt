@@ -10,11 +10,11 @@ returns-in_ok-add_bounds-in-Array t c =
     let x = c.args.data_type.now in
     let b = c.in-Array.bounds in
     let k = c.in-Array.element in
-    elements-joined c.add_data_type.result n x (parts_of_bounds n (bounds_of b)) c.deref.result.now k.value
+    elements-joined c.add_data_type.result n x (parts_of_bounds n (bounds_of b.value)) c.deref-in-Array.result.now k.value
     (unchecked_in c.args.list.now.items) (unchecked_in c.add_bounds.new.list.items)
     (unchecked_in c.add_data_type.new.list.items)
-    (parts-of-array n x b c.in-Array.is_optional c.in-Array.is_unique k c.in-Array.is)
-    c.in_ok-add_bounds-in-Array.ensures c.deref.ensures c.add_data_type.ensures
+    (parts-of-array n x c.in-Array.is_optional c.in-Array.is_unique b k c.in-Array.is)
+    (rw c.deref.ensures at c.in_ok-add_bounds-in-Array.ensures) c.deref-in-Array.ensures c.add_data_type.ensures
 
 pub returns-in_ok-add_some_bounds-in-List : goal.returns-in_ok-add_some_bounds-in-List
 returns-in_ok-add_some_bounds-in-List t c =
@@ -22,8 +22,9 @@ returns-in_ok-add_some_bounds-in-List t c =
     let x = c.args.data_type.now in
     let b = c.in-List.bounds in
     let k = c.in-List.element in
-    elements-joined c.add_data_type-in-List.result n x (parts_of_some_bounds n (if_some bounds_of b))
-    c.deref-in-List.result.now k.value (unchecked_in c.args.list.now.items)
+    elements-joined c.add_data_type-in-List.result n x (parts_of_some_bounds n (if_some bounds_of b.value))
+    c.deref-in-List-2.result.now k.value (unchecked_in c.args.list.now.items)
     (unchecked_in c.add_some_bounds.new.list.items) (unchecked_in c.add_data_type-in-List.new.list.items)
-    (parts-of-others n x b k c.in-List.is) c.in_ok-add_some_bounds-in-List.ensures c.deref-in-List.ensures
+    (parts-of-others n x b k c.in-List.is) (rw c.deref-in-List.ensures at c.in_ok-add_some_bounds-in-List.ensures)
+    c.deref-in-List-2.ensures
     c.add_data_type-in-List.ensures

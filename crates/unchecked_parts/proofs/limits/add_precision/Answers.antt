@@ -13,5 +13,6 @@ returns-in-Some c =
     let n = said c.args.label in
     let old = unchecked_in c.args.list.now.items in
     let new = unchecked_in c.add_part.new.list.items in
-    subst (λ w. OnOk c.add_part.result (Adds (parts_of_precision n (if_some width_of w)) old new)) (sym c.in-Some.is)
+    subst (λ w. OnOk c.add_part.result (Adds (parts_of_precision n (if_some (λ b. width_of b.value) w)) old new))
+    (sym c.in-Some.is)
     (on_ok_weaker c.add_part.result (adds-part parts.Width n reasons.Profile (Unit {0}) old new tt) c.add_part.ensures)
