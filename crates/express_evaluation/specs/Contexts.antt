@@ -26,9 +26,9 @@ MeantBy c = Meant c.setting.now
 abbrev pub setting_in : (c : Context) → MeantBy c → expressions.Setting
 setting_in c m = setting_by c.setting.now m (below_rank c.setting.now m c.limit)
 
--- what is found of an instance is worth this, derived attributes by their ranks below the limit
-abbrev pub worth_in : (c : Context) → MeantBy c → ℕ → Found → Option Datum
-worth_in c m y x = worth_of c.setting.now (below_rank c.setting.now m c.limit y) x
+-- what is found of an instance is worth this, where this value is put, derived attributes by their ranks below the limit
+abbrev pub worth_in : (c : Context) → MeantBy c → ℕ → Datum → Found → Option Datum
+worth_in c m y d x = worth_of c.setting.now (below_rank c.setting.now m c.limit y) d x
 
 abbrev pub derived_in : (c : Context) → MeantBy c → ℕ → Derivation → Datum
 derived_in c m y e = below_rank c.setting.now m c.limit y (derivation_in c.setting.now e)

@@ -1,9 +1,11 @@
 //! Expressions are evaluated (ISO 10303-11, 12).
 //!
-//! The functions of the cycle aren't inlined into each other: each clears its locals at its entry, so
-//! that `evaluate` would pay at each node for what all others need.
+//! A value is put where the caller wants it, and not answered: it has 72 bytes, that would be cleared
+//! and copied at each node on the way. Functions of the cycle that have values as locals aren't inlined
+//! into each other: each clears its locals at its entry, so that `evaluate` would pay at each node for
+//! what all others need.
 
-ghost use Rattle.std.specs.Prelude.{◌≡◌, ◌∷◌, [], true, IfOk};
+ghost use Rattle.std.specs.Prelude.{◌≡◌, ◌∷◌, [], true, IfOk, OnOk};
 ghost use Rattle.std.specs.Option.{option_map};
 ghost use Rattle.step_literals.specs.Words.{upper};
 ghost use Rattle.express_trees.specs.Trees.{reference};
@@ -47,20 +49,23 @@ use express_logic::logical::{Logical, and, not, or};
 use express_logic::strings::AnyString;
 use express_operations::literals::{literal_datum, signed_datum, string_of};
 use express_operations::operations::{
-    called, compared, is_condition, is_in, is_sizeof, is_true, is_typed, is_typeof, joined,
-    limited, size_inside, truth,
+    apply, compared, is_condition, is_in, is_sizeof, is_true, is_typeof, joined, limited,
+    replace_by_size, strip_type, truth,
 };
 use express_operations::variables::{Variable, find};
 use express_settings::attributes::Found;
 use express_trees::tree::{Alternative, Expr, Function, Limit, Qualifier, Relation, Root};
 use held_values::element::Element;
 use held_values::indices::indexed;
-use held_values::operations::{bare, counted, is_known};
+use held_values::operations::{counted, is_known};
 use held_values::part::Part;
 use std::alloc::{AllocError, Global};
+use std::mem;
 use step_literals::literal::Word;
 
-/// What an expression is worth.
+/// Puts what an expression is worth there.
+///
+/// An error says that memory ran out.
 #[cycle(evaluation)]
 #[inline(never)]
 pub fn evaluate<'p, 'e, 'r, 't, 's: 'r, 'a>(
@@ -68,27 +73,44 @@ pub fn evaluate<'p, 'e, 'r, 't, 's: 'r, 'a>(
     expression: &Expr<'s>,
     alloc: Global,
     variables: &mut Vec<Variable<'p, 'r>>,
-) -> Result<Datum<'r, Part<'p, 'r>>, AllocError>
+    value: &mut Datum<'r, Part<'p, 'r>>,
+) -> Result<(), AllocError>
     requires setting { IsSetting context.now.setting.now }
-    ensures { IfOk result (λ d. Gives context.now variables.old.items variables.new.items (datum_of holding d)
+    ensures { OnOk result (Gives context.now variables.old.items variables.new.items (datum_of holding value.new)
         (λ m. meaning_in context.now m variables.old.items (tree_of expression.now))) }
 {
     match expression {
-        Expr::Literal(literal) => Ok(literal_datum(*literal)),
-        Expr::Signed(sign, number) => Ok(signed_datum(*sign, *number)),
-        Expr::Reference(root, qualifiers) => {
-            referred(context, qualifiers, alloc, variables, *root)
+        Expr::Literal(literal) => {
+            *value = literal_datum(*literal);
+            Ok(())
         }
-        Expr::Parenthesized(inner) => evaluate(context, inner, alloc, variables),
-        Expr::Aggregate(_) => Ok(Datum::Indeterminate),
+        Expr::Signed(sign, number) => {
+            *value = signed_datum(*sign, *number);
+            Ok(())
+        }
+        Expr::Reference(root, qualifiers) => {
+            referred(context, qualifiers, alloc, variables, *root, value)
+        }
+        Expr::Parenthesized(inner) => evaluate(context, inner, alloc, variables, value),
+        Expr::Aggregate(_) => {
+            *value = Datum::Indeterminate;
+            Ok(())
+        }
         Expr::Query {
             variable,
             source,
             condition,
-        } => query(context, source, condition, alloc, variables, *variable),
-        Expr::Call(function, argument) => call(context, argument, alloc, variables, *function),
-        Expr::Nvl(first, second) => first_known(context, first, second, alloc, variables),
-        _ => Ok(Datum::Logical(condition(context, expression, alloc, variables)?)),
+        } => query(
+            context, source, condition, alloc, variables, *variable, value,
+        ),
+        Expr::Call(function, argument) => {
+            call(context, argument, alloc, variables, *function, value)
+        }
+        Expr::Nvl(first, second) => first_known(context, first, second, alloc, variables, value),
+        _ => {
+            *value = Datum::Logical(condition(context, expression, alloc, variables)?);
+            Ok(())
+        }
     }
 }
 
@@ -108,7 +130,9 @@ pub fn evaluate_truth<'p, 'e, 'r, 't, 's: 'r, 'a>(
     if is_condition(expression) {
         return condition(context, expression, alloc, variables);
     }
-    Ok(truth(evaluate(context, expression, alloc, variables)?))
+    let mut value = Datum::Indeterminate;
+    evaluate(context, expression, alloc, variables, &mut value)?;
+    Ok(truth(&mut value))
 }
 
 /// The logical that a condition is worth.
@@ -168,45 +192,51 @@ fn between<'p, 'e, 'r, 't, 's: 'r, 'a>(
         (λ m. between_in context.now m variables.old.items above below (tree_of low.now)
         (tree_of item.now) (tree_of high.now))) }
 {
-    let low = evaluate(context, low, alloc, variables)?;
-    let item = evaluate(context, item, alloc, variables)?;
-    let high = evaluate(context, high, alloc, variables)?;
-    Ok(and(limited(above, &low, &item), limited(below, &item, &high)))
+    let mut left = Datum::Indeterminate;
+    evaluate(context, low, alloc, variables, &mut left)?;
+    let mut middle = Datum::Indeterminate;
+    evaluate(context, item, alloc, variables, &mut middle)?;
+    let mut right = Datum::Indeterminate;
+    evaluate(context, high, alloc, variables, &mut right)?;
+    Ok(and(
+        limited(above, &left, &middle),
+        limited(below, &middle, &right),
+    ))
 }
 
-/// The value of a function of the language.
+/// Puts the value of a function of the language there.
 #[cycle(evaluation)]
-#[inline(never)]
 fn call<'p, 'e, 'r, 't, 's: 'r, 'a>(
     context: &Context<'s, 't, 'r, 'a, 'e, 'p>,
     argument: &Expr<'s>,
     alloc: Global,
     variables: &mut Vec<Variable<'p, 'r>>,
     function: Function,
-) -> Result<Datum<'r, Part<'p, 'r>>, AllocError>
+    value: &mut Datum<'r, Part<'p, 'r>>,
+) -> Result<(), AllocError>
     requires setting { IsSetting context.now.setting.now }
-    ensures { IfOk result (λ d. Gives context.now variables.old.items variables.new.items (datum_of holding d)
+    ensures { OnOk result (Gives context.now variables.old.items variables.new.items (datum_of holding value.new)
         (λ m. of_call function (meaning_in context.now m variables.old.items (tree_of argument.now)))) }
 {
     if is_sizeof(function) {
-        return sized(context, argument, alloc, variables);
+        return sized(context, argument, alloc, variables, value);
     }
-    let value = evaluate(context, argument, alloc, variables)?;
-    called(function, value)
+    evaluate(context, argument, alloc, variables, value)?;
+    apply(function, value)
 }
 
-/// How many elements the value of an expression has: SIZEOF. Those that a query keeps are counted,
-/// and not kept.
+/// Puts there how many elements the value of an expression has: SIZEOF. Those that a query keeps are
+/// counted, and not kept.
 #[cycle(evaluation)]
-#[inline(never)]
 fn sized<'p, 'e, 'r, 't, 's: 'r, 'a>(
     context: &Context<'s, 't, 'r, 'a, 'e, 'p>,
     expression: &Expr<'s>,
     alloc: Global,
     variables: &mut Vec<Variable<'p, 'r>>,
-) -> Result<Datum<'r, Part<'p, 'r>>, AllocError>
+    value: &mut Datum<'r, Part<'p, 'r>>,
+) -> Result<(), AllocError>
     requires setting { IsSetting context.now.setting.now }
-    ensures { IfOk result (λ d. Gives context.now variables.old.items variables.new.items (datum_of holding d)
+    ensures { OnOk result (Gives context.now variables.old.items variables.new.items (datum_of holding value.new)
         (λ m. size (bare (meaning_in context.now m variables.old.items (tree_of expression.now))))) }
 {
     match expression {
@@ -214,8 +244,13 @@ fn sized<'p, 'e, 'r, 't, 's: 'r, 'a>(
             variable,
             source,
             condition,
-        } => sized_query(context, source, condition, alloc, variables, *variable),
-        _ => size_inside(evaluate(context, expression, alloc, variables)?),
+        } => sized_query(
+            context, source, condition, alloc, variables, *variable, value,
+        ),
+        _ => {
+            evaluate(context, expression, alloc, variables, value)?;
+            replace_by_size(value)
+        }
     }
 }
 
@@ -229,17 +264,22 @@ fn sized_query<'p, 'e, 'r, 't, 's: 'r, 'a>(
     alloc: Global,
     variables: &mut Vec<Variable<'p, 'r>>,
     name: Word<'s>,
-) -> Result<Datum<'r, Part<'p, 'r>>, AllocError>
+    value: &mut Datum<'r, Part<'p, 'r>>,
+) -> Result<(), AllocError>
     requires setting { IsSetting context.now.setting.now }
-    ensures { IfOk result (λ d. Gives context.now variables.old.items variables.new.items (datum_of holding d)
+    ensures { OnOk result (Gives context.now variables.old.items variables.new.items (datum_of holding value.new)
         (λ m. size (queried_in context.now m variables.old.items (capitals name.entry) (tree_of condition.now)
         (bare (meaning_in context.now m variables.old.items (tree_of source.now)))))) }
 {
-    let source = bare(evaluate(context, source, alloc, variables)?);
-    let Datum::Aggregate(part) = source else {
-        return Ok(Datum::Indeterminate);
+    evaluate(context, source, alloc, variables, value)?;
+    strip_type(value);
+    let Datum::Aggregate(part) = &*value else {
+        *value = Datum::Indeterminate;
+        return Ok(());
     };
-    counted(count_passing(context, condition, alloc, variables, name, &part)?)
+    let count = count_passing(context, condition, alloc, variables, name, part)?;
+    *value = counted(count)?;
+    Ok(())
 }
 
 /// How many elements of an aggregate there are at which a condition is TRUE.
@@ -270,50 +310,50 @@ fn count_passing<'p, 'e, 'r, 't, 's: 'r, 'a>(
     Ok(count)
 }
 
-/// The first of two values, or the second where there is none: NVL.
+/// Puts the first of two values there, or the second where there is none: NVL.
 #[cycle(evaluation)]
-#[inline(never)]
 fn first_known<'p, 'e, 'r, 't, 's: 'r, 'a>(
     context: &Context<'s, 't, 'r, 'a, 'e, 'p>,
     first: &Expr<'s>,
     second: &Expr<'s>,
     alloc: Global,
     variables: &mut Vec<Variable<'p, 'r>>,
-) -> Result<Datum<'r, Part<'p, 'r>>, AllocError>
+    value: &mut Datum<'r, Part<'p, 'r>>,
+) -> Result<(), AllocError>
     requires setting { IsSetting context.now.setting.now }
-    ensures { IfOk result (λ d. Gives context.now variables.old.items variables.new.items (datum_of holding d)
+    ensures { OnOk result (Gives context.now variables.old.items variables.new.items (datum_of holding value.new)
         (λ m. or_else (meaning_in context.now m variables.old.items (tree_of first.now))
         (meaning_in context.now m variables.old.items (tree_of second.now)))) }
 {
-    let value = evaluate(context, first, alloc, variables)?;
-    if is_known(&value) {
-        return Ok(value);
+    evaluate(context, first, alloc, variables, value)?;
+    if is_known(value) {
+        return Ok(());
     }
-    evaluate(context, second, alloc, variables)
+    evaluate(context, second, alloc, variables, value)
 }
 
-/// What a reference means: SELF or a name, with its qualifiers.
+/// Puts there what a reference means: SELF or a name, with its qualifiers.
 #[cycle(evaluation)]
-#[inline(never)]
 fn referred<'p, 'e, 'r, 't, 's: 'r, 'a>(
     context: &Context<'s, 't, 'r, 'a, 'e, 'p>,
     qualifiers: &[Qualifier<'s>],
     alloc: Global,
     variables: &mut Vec<Variable<'p, 'r>>,
     root: Root<'s>,
-) -> Result<Datum<'r, Part<'p, 'r>>, AllocError>
+    value: &mut Datum<'r, Part<'p, 'r>>,
+) -> Result<(), AllocError>
     requires setting { IsSetting context.now.setting.now }
-    ensures { IfOk result (λ d. Gives context.now variables.old.items variables.new.items (datum_of holding d)
+    ensures { OnOk result (Gives context.now variables.old.items variables.new.items (datum_of holding value.new)
         (λ m. meaning_in context.now m variables.old.items (reference (root_of root.entry)
         (qualifiers_of qualifiers.now)))) }
 {
     match root {
-        Root::SelfInstance => own(context, qualifiers, alloc, variables),
-        Root::Name(name) => named(context, qualifiers, alloc, variables, name),
+        Root::SelfInstance => own(context, qualifiers, alloc, variables, value),
+        Root::Name(name) => named(context, qualifiers, alloc, variables, name, value),
     }
 }
 
-/// What qualifiers select of SELF.
+/// Puts there what qualifiers select of SELF.
 #[cycle(evaluation)]
 #[inline(never)]
 fn own<'p, 'e, 'r, 't, 's: 'r, 'a>(
@@ -321,13 +361,15 @@ fn own<'p, 'e, 'r, 't, 's: 'r, 'a>(
     qualifiers: &[Qualifier<'s>],
     alloc: Global,
     variables: &mut Vec<Variable<'p, 'r>>,
-) -> Result<Datum<'r, Part<'p, 'r>>, AllocError>
+    value: &mut Datum<'r, Part<'p, 'r>>,
+) -> Result<(), AllocError>
     requires setting { IsSetting context.now.setting.now }
-    ensures { IfOk result (λ d. Gives context.now variables.old.items variables.new.items (datum_of holding d)
+    ensures { OnOk result (Gives context.now variables.old.items variables.new.items (datum_of holding value.new)
         (λ m. selected_in context.now m variables.old.items (qualifiers_of qualifiers.now)
         (element_datum context.now.me))) }
 {
-    selected(context, qualifiers, alloc, variables, context.me.datum())
+    *value = context.me.datum();
+    selected(context, qualifiers, alloc, variables, value)
 }
 
 /// What a relation says of two expressions.
@@ -346,11 +388,13 @@ fn related<'p, 'e, 'r, 't, 's: 'r, 'a>(
         (λ m. related_in context.now m variables.old.items relation (string_of (tree_of left.now))
         (meaning_in context.now m variables.old.items (tree_of left.now)) (tree_of right.now))) }
 {
-    let value = evaluate(context, left, alloc, variables)?;
+    let mut value = Datum::Indeterminate;
+    evaluate(context, left, alloc, variables, &mut value)?;
     if is_in(relation) {
         return within(context, right, alloc, variables, string_of(left), &value);
     }
-    let other = evaluate(context, right, alloc, variables)?;
+    let mut other = Datum::Indeterminate;
+    evaluate(context, right, alloc, variables, &mut other)?;
     Ok(compared(relation, &value, &other))
 }
 
@@ -369,7 +413,9 @@ fn is_member<'p, 'e, 'r, 't, 's: 'r, 'a>(
         (λ m. member (datum_of holding value.now)
         (bare (meaning_in context.now m variables.old.items (tree_of expression.now))))) }
 {
-    let right = bare(evaluate(context, expression, alloc, variables)?);
+    let mut right = Datum::Indeterminate;
+    evaluate(context, expression, alloc, variables, &mut right)?;
+    strip_type(&mut right);
     Ok(member(value, &right))
 }
 
@@ -448,8 +494,9 @@ fn within<'p, 'e, 'r, 't, 's: 'r, 'a>(
             if !is_typeof(*function) {
                 return is_member(context, expression, alloc, variables, value);
             }
-            let argument = evaluate(context, argument, alloc, variables)?;
-            Ok(is_of_type(context, text, argument))
+            let mut found = Datum::Indeterminate;
+            evaluate(context, argument, alloc, variables, &mut found)?;
+            Ok(is_of_type(context, text, &found))
         }
         _ => is_member(context, expression, alloc, variables, value),
     }
@@ -472,72 +519,50 @@ fn among_each<'p, 'e, 'r, 't, 's: 'r, 'a>(
 {
     let mut result = Logical::False;
     for expression in expressions {
-        let other = evaluate(context, expression, alloc, variables)?;
+        let mut other = Datum::Indeterminate;
+        evaluate(context, expression, alloc, variables, &mut other)?;
         result = or(result, equal(value, &other));
     }
     Ok(result)
 }
 
-/// What qualifiers select of a value; without any it is answered at once.
+/// Replaces a value by what qualifiers select of it, one after another.
 #[cycle(evaluation)]
+#[inline(never)]
 fn selected<'p, 'e, 'r, 't, 's: 'r, 'a>(
     context: &Context<'s, 't, 'r, 'a, 'e, 'p>,
     qualifiers: &[Qualifier<'s>],
     alloc: Global,
     variables: &mut Vec<Variable<'p, 'r>>,
-    value: Datum<'r, Part<'p, 'r>>,
-) -> Result<Datum<'r, Part<'p, 'r>>, AllocError>
+    value: &mut Datum<'r, Part<'p, 'r>>,
+) -> Result<(), AllocError>
     requires setting { IsSetting context.now.setting.now }
-    ensures { IfOk result (λ d. Gives context.now variables.old.items variables.new.items (datum_of holding d)
+    ensures { OnOk result (Gives context.now variables.old.items variables.new.items (datum_of holding value.new)
         (λ m. selected_in context.now m variables.old.items (qualifiers_of qualifiers.now)
-        (datum_of holding value.entry))) }
+        (datum_of holding value.old))) }
 {
-    if qualifiers.is_empty() {
-        return Ok(value);
-    }
-    select_each(context, qualifiers, alloc, variables, value)
-}
-
-/// .. one after another.
-#[cycle(evaluation)]
-#[inline(never)]
-fn select_each<'p, 'e, 'r, 't, 's: 'r, 'a>(
-    context: &Context<'s, 't, 'r, 'a, 'e, 'p>,
-    qualifiers: &[Qualifier<'s>],
-    alloc: Global,
-    variables: &mut Vec<Variable<'p, 'r>>,
-    value: Datum<'r, Part<'p, 'r>>,
-) -> Result<Datum<'r, Part<'p, 'r>>, AllocError>
-    requires setting { IsSetting context.now.setting.now }
-    ensures { IfOk result (λ d. Gives context.now variables.old.items variables.new.items (datum_of holding d)
-        (λ m. selected_in context.now m variables.old.items (qualifiers_of qualifiers.now)
-        (datum_of holding value.entry))) }
-{
-    let mut value = value;
     for qualifier in qualifiers {
-        value = select(context, qualifier, alloc, variables, value)?;
+        select(context, qualifier, alloc, variables, value)?;
     }
-    Ok(value)
+    Ok(())
 }
 
-/// What one qualifier selects of a value.
+/// Replaces a value by what one qualifier selects of it.
 #[cycle(evaluation)]
 fn select<'p, 'e, 'r, 't, 's: 'r, 'a>(
     context: &Context<'s, 't, 'r, 'a, 'e, 'p>,
     qualifier: &Qualifier<'s>,
     alloc: Global,
     variables: &mut Vec<Variable<'p, 'r>>,
-    value: Datum<'r, Part<'p, 'r>>,
-) -> Result<Datum<'r, Part<'p, 'r>>, AllocError>
+    value: &mut Datum<'r, Part<'p, 'r>>,
+) -> Result<(), AllocError>
     requires setting { IsSetting context.now.setting.now }
-    ensures { IfOk result (λ d. Gives context.now variables.old.items variables.new.items (datum_of holding d)
+    ensures { OnOk result (Gives context.now variables.old.items variables.new.items (datum_of holding value.new)
         (λ m. selected_in context.now m variables.old.items (qualifiers_of (qualifier.now ∷ []))
-        (datum_of holding value.entry))) }
+        (datum_of holding value.old))) }
 {
-    if is_typed(&value) {
-        return select_inside(context, qualifier, alloc, variables, &bare(value));
-    }
-    select_inside(context, qualifier, alloc, variables, &value)
+    strip_type(value);
+    select_inside(context, qualifier, alloc, variables, value)
 }
 
 /// .. inside which there is this one.
@@ -548,27 +573,28 @@ fn select_inside<'p, 'e, 'r, 't, 's: 'r, 'a>(
     qualifier: &Qualifier<'s>,
     alloc: Global,
     variables: &mut Vec<Variable<'p, 'r>>,
-    value: &Datum<'r, Part<'p, 'r>>,
-) -> Result<Datum<'r, Part<'p, 'r>>, AllocError>
+    value: &mut Datum<'r, Part<'p, 'r>>,
+) -> Result<(), AllocError>
     requires setting { IsSetting context.now.setting.now }
-    ensures { IfOk result (λ v. (d : Worth) → datum_of holding value.now ≡ bare d
-        → Gives context.now variables.old.items variables.new.items (datum_of holding v)
+    ensures { OnOk result ((d : Worth) → datum_of holding value.old ≡ bare d
+        → Gives context.now variables.old.items variables.new.items (datum_of holding value.new)
         (λ m. selected_in context.now m variables.old.items (qualifiers_of (qualifier.now ∷ [])) d)) }
 {
+    let instance = instance_of(value);
     match qualifier {
         Qualifier::Attribute(name) => {
-            let found = attribute_behind(context, value, *name);
-            found_value(context, found, alloc, instance_of(value))
+            let found = attribute_behind(context, *name, value);
+            found_value(context, found, alloc, instance, value)
         }
         Qualifier::Group(entity, name) => {
-            let found = group_behind(context, value, *entity, *name);
-            found_value(context, found, alloc, instance_of(value))
+            let found = group_behind(context, *entity, *name, value);
+            found_value(context, found, alloc, instance, value)
         }
         Qualifier::Index(index) => element(context, index, alloc, variables, value),
     }
 }
 
-/// The element of a value at the index that an expression is worth.
+/// Replaces a value by its element at the index that an expression is worth.
 #[cycle(evaluation)]
 #[inline(never)]
 fn element<'p, 'e, 'r, 't, 's: 'r, 'a>(
@@ -576,40 +602,47 @@ fn element<'p, 'e, 'r, 't, 's: 'r, 'a>(
     index: &Expr<'s>,
     alloc: Global,
     variables: &mut Vec<Variable<'p, 'r>>,
-    value: &Datum<'r, Part<'p, 'r>>,
-) -> Result<Datum<'r, Part<'p, 'r>>, AllocError>
+    value: &mut Datum<'r, Part<'p, 'r>>,
+) -> Result<(), AllocError>
     requires setting { IsSetting context.now.setting.now }
-    ensures { IfOk result (λ d. Gives context.now variables.old.items variables.new.items (datum_of holding d)
-        (λ m. indexed (datum_of holding value.now)
+    ensures { OnOk result (Gives context.now variables.old.items variables.new.items (datum_of holding value.new)
+        (λ m. indexed (datum_of holding value.old)
         (bare (meaning_in context.now m variables.old.items (tree_of index.now))))) }
 {
-    let index = bare(evaluate(context, index, alloc, variables)?);
-    Ok(indexed(value, &index))
+    let mut place = Datum::Indeterminate;
+    evaluate(context, index, alloc, variables, &mut place)?;
+    strip_type(&mut place);
+    *value = indexed(value, &place);
+    Ok(())
 }
 
-/// The value of an attribute of an instance; indeterminate where there is none.
+/// Puts the value of an attribute of an instance there, if it isn't there yet; indeterminate where
+/// there is none.
 #[cycle(evaluation)]
-#[inline(never)]
 fn found_value<'p, 'e, 'r, 't, 's: 'r, 'a>(
     context: &Context<'s, 't, 'r, 'a, 'e, 'p>,
-    found: Found<'p, 'r>,
+    found: Found,
     alloc: Global,
     instance: u64,
-) -> Result<Datum<'r, Part<'p, 'r>>, AllocError>
+    value: &mut Datum<'r, Part<'p, 'r>>,
+) -> Result<(), AllocError>
     requires setting { IsSetting context.now.setting.now }
     requires found { IsFound context.now.setting.now found }
-    ensures { IfOk result (λ d. (m : MeantBy context.now) → datum_of holding d
-        ≡ or_nothing (worth_in context.now m instance found.entry)) }
+    ensures { OnOk result ((m : MeantBy context.now) → datum_of holding value.new
+        ≡ or_nothing (worth_in context.now m instance (datum_of holding value.old) found)) }
 {
     match found {
-        Found::Missing => Ok(Datum::Indeterminate),
-        Found::Value(value) => Ok(value),
-        Found::Derived(derivation) => derived(alloc, context, instance, derivation),
+        Found::Missing => {
+            *value = Datum::Indeterminate;
+            Ok(())
+        }
+        Found::Value => Ok(()),
+        Found::Derived(derivation) => derived(alloc, context, instance, derivation, value),
     }
 }
 
-/// The value of a derived attribute of an instance; indeterminate where its rank isn't below the
-/// limit, or it is set aside.
+/// Puts the value of a derived attribute of an instance there; indeterminate where its rank isn't
+/// below the limit, or it is set aside.
 #[cycle(evaluation)]
 #[inline(never)]
 fn derived<'p, 'e, 'r, 't, 's: 'r, 'a>(
@@ -617,18 +650,21 @@ fn derived<'p, 'e, 'r, 't, 's: 'r, 'a>(
     context: &Context<'s, 't, 'r, 'a, 'e, 'p>,
     instance: u64,
     derivation: Derivation,
-) -> Result<Datum<'r, Part<'p, 'r>>, AllocError>
+    value: &mut Datum<'r, Part<'p, 'r>>,
+) -> Result<(), AllocError>
     requires setting { IsSetting context.now.setting.now }
     requires number { HasNumber (schema_in context.now.setting.now)
         (name_at (schema_in context.now.setting.now) derivation.entity) derivation.entity }
-    ensures { IfOk result (λ d. (m : MeantBy context.now) → datum_of holding d
+    ensures { OnOk result ((m : MeantBy context.now) → datum_of holding value.new
         ≡ derived_in context.now m instance derivation) }
 {
     let Some(formula) = context.setting.formula(derivation) else {
-        return Ok(Datum::Indeterminate);
+        *value = Datum::Indeterminate;
+        return Ok(());
     };
     if formula.rank as u64 >= context.limit {
-        return Ok(Datum::Indeterminate);
+        *value = Datum::Indeterminate;
+        return Ok(());
     }
     let me: Element<'p, 'r> = Element::Instance(instance);
     let inner = Context {
@@ -637,59 +673,59 @@ fn derived<'p, 'e, 'r, 't, 's: 'r, 'a>(
         limit: formula.rank as u64,
     };
     let mut variables: Vec<Variable<'p, 'r>> = Vec::new(alloc);
-    evaluate(&inner, formula.expression, alloc, &mut variables)
+    evaluate(&inner, formula.expression, alloc, &mut variables, value)
 }
 
-/// What a name with qualifiers means: a variable, else an attribute of SELF, else an item.
+/// Puts there what a name with qualifiers means: a variable, else an attribute of SELF, else an item.
 #[cycle(evaluation)]
-#[inline(never)]
 fn named<'p, 'e, 'r, 't, 's: 'r, 'a>(
     context: &Context<'s, 't, 'r, 'a, 'e, 'p>,
     qualifiers: &[Qualifier<'s>],
     alloc: Global,
     variables: &mut Vec<Variable<'p, 'r>>,
     name: Word<'s>,
-) -> Result<Datum<'r, Part<'p, 'r>>, AllocError>
+    value: &mut Datum<'r, Part<'p, 'r>>,
+) -> Result<(), AllocError>
     requires setting { IsSetting context.now.setting.now }
-    ensures { IfOk result (λ d. Gives context.now variables.old.items variables.new.items (datum_of holding d)
+    ensures { OnOk result (Gives context.now variables.old.items variables.new.items (datum_of holding value.new)
         (λ m. named_in context.now m variables.old.items (capitals name.entry)
         (qualifiers_of qualifiers.now))) }
 {
     match find(variables, name) {
-        Some(value) => {
-            let value = value.datum();
+        Some(element) => {
+            *value = element.datum();
             selected(context, qualifiers, alloc, variables, value)
         }
-        None => unbound(context, qualifiers, alloc, variables, name),
+        None => unbound(context, qualifiers, alloc, variables, name, value),
     }
 }
 
-/// What a name that is no variable means: an attribute of SELF, else an item.
+/// Puts there what a name that is no variable means: an attribute of SELF, else an item.
 #[cycle(evaluation)]
-#[inline(never)]
 fn unbound<'p, 'e, 'r, 't, 's: 'r, 'a>(
     context: &Context<'s, 't, 'r, 'a, 'e, 'p>,
     qualifiers: &[Qualifier<'s>],
     alloc: Global,
     variables: &mut Vec<Variable<'p, 'r>>,
     name: Word<'s>,
-) -> Result<Datum<'r, Part<'p, 'r>>, AllocError>
+    value: &mut Datum<'r, Part<'p, 'r>>,
+) -> Result<(), AllocError>
     requires setting { IsSetting context.now.setting.now }
-    ensures { IfOk result (λ d. Gives context.now variables.old.items variables.new.items (datum_of holding d)
+    ensures { OnOk result (Gives context.now variables.old.items variables.new.items (datum_of holding value.new)
         (λ m. unbound_in context.now m variables.old.items (capitals name.entry)
         (qualifiers_of qualifiers.now))) }
 {
-    match attribute_of_self(context, name) {
-        Found::Missing => item_behind(context, qualifiers, alloc, variables, name),
-        Found::Value(value) => selected(context, qualifiers, alloc, variables, value),
+    match attribute_of_self(context, name, value) {
+        Found::Missing => item_behind(context, qualifiers, alloc, variables, name, value),
+        Found::Value => selected(context, qualifiers, alloc, variables, value),
         Found::Derived(derivation) => {
-            let value = derived(alloc, context, self_instance(context), derivation)?;
+            derived(alloc, context, self_instance(context), derivation, value)?;
             selected(context, qualifiers, alloc, variables, value)
         }
     }
 }
 
-/// An item of an enumeration, or of one that is named before it.
+/// Puts an item of an enumeration there, or of one that is named before it.
 #[cycle(evaluation)]
 #[inline(never)]
 fn item_behind<'p, 'e, 'r, 't, 's: 'r, 'a>(
@@ -698,28 +734,35 @@ fn item_behind<'p, 'e, 'r, 't, 's: 'r, 'a>(
     alloc: Global,
     variables: &mut Vec<Variable<'p, 'r>>,
     name: Word<'s>,
-) -> Result<Datum<'r, Part<'p, 'r>>, AllocError>
+    value: &mut Datum<'r, Part<'p, 'r>>,
+) -> Result<(), AllocError>
     requires setting { IsSetting context.now.setting.now }
-    ensures { IfOk result (λ d. Gives context.now variables.old.items variables.new.items (datum_of holding d)
+    ensures { OnOk result (Gives context.now variables.old.items variables.new.items (datum_of holding value.new)
         (λ m. item_in context.now m variables.old.items (capitals name.entry)
         (qualifiers_of qualifiers.now))) }
 {
     let Some((first, others)) = qualifiers.split_first() else {
-        return Ok(item_value(context, name));
+        *value = item_value(context, name);
+        return Ok(());
     };
     match first {
         Qualifier::Attribute(item) => {
             if context.setting.is_item_of(name, *item) {
-                selected(context, others, alloc, variables, Datum::Element(*item))
+                *value = Datum::Element(*item);
+                selected(context, others, alloc, variables, value)
             } else {
-                Ok(Datum::Indeterminate)
+                *value = Datum::Indeterminate;
+                Ok(())
             }
         }
-        _ => Ok(Datum::Indeterminate),
+        _ => {
+            *value = Datum::Indeterminate;
+            Ok(())
+        }
     }
 }
 
-/// Those elements of a value at which a condition is TRUE, where it is an aggregate.
+/// Puts there those elements of a value at which a condition is TRUE, where it is an aggregate.
 #[cycle(evaluation)]
 #[inline(never)]
 fn query<'p, 'e, 'r, 't, 's: 'r, 'a>(
@@ -729,18 +772,21 @@ fn query<'p, 'e, 'r, 't, 's: 'r, 'a>(
     alloc: Global,
     variables: &mut Vec<Variable<'p, 'r>>,
     name: Word<'s>,
-) -> Result<Datum<'r, Part<'p, 'r>>, AllocError>
+    value: &mut Datum<'r, Part<'p, 'r>>,
+) -> Result<(), AllocError>
     requires setting { IsSetting context.now.setting.now }
-    ensures { IfOk result (λ d. Gives context.now variables.old.items variables.new.items (datum_of holding d)
+    ensures { OnOk result (Gives context.now variables.old.items variables.new.items (datum_of holding value.new)
         (λ m. queried_in context.now m variables.old.items (capitals name.entry) (tree_of condition.now)
         (bare (meaning_in context.now m variables.old.items (tree_of source.now))))) }
 {
-    let source = bare(evaluate(context, source, alloc, variables)?);
-    let Datum::Aggregate(part) = source else {
-        return Ok(Datum::Indeterminate);
+    evaluate(context, source, alloc, variables, value)?;
+    strip_type(value);
+    let Datum::Aggregate(part) = mem::replace(value, Datum::Indeterminate) else {
+        return Ok(());
     };
     let kept = passing(context, condition, alloc, variables, name, &part)?;
-    Ok(Datum::Aggregate(part.keep(alloc, kept)?))
+    *value = Datum::Aggregate(part.keep(alloc, kept)?);
+    Ok(())
 }
 
 /// The indices, in the whole of an aggregate, of its elements at which a condition is TRUE.

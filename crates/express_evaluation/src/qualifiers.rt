@@ -18,20 +18,25 @@ use held_values::operations::bare;
 use held_values::part::Part;
 use step_literals::literal::Word;
 
-/// Where the value of an attribute of an instance comes from; nothing of what is no instance.
+/// Replaces a value by that of an attribute of it, where it isn't derived; what is no instance has
+/// none.
 pub(crate) fn attribute_behind<'p, 'r>(
     context: &Context<'_, '_, 'r, '_, '_, 'p>,
-    value: &Datum<'r, Part<'p, 'r>>,
     name: Word<'_>,
-) -> Found<'p, 'r>
+    value: &mut Datum<'r, Part<'p, 'r>>,
+) -> Found
     requires setting { IsSetting context.now.setting.now }
     ensures worth { (m : MeantBy context.now)
-        → worth_in context.now m (instance_of (datum_of holding value.now)) result
-        ≡ instance_attribute (setting_in context.now m) (datum_of holding value.now) (capitals name.entry) }
+        → worth_in context.now m (instance_of (datum_of holding value.old)) (datum_of holding value.new)
+        result ≡ instance_attribute (setting_in context.now m) (datum_of holding value.old)
+        (capitals name.entry) }
     ensures found { IsFound context.now.setting.now result }
 {
     match value {
-        Datum::Instance(instance) => context.setting.attribute(*instance, name),
+        Datum::Instance(instance) => {
+            let instance = *instance;
+            context.setting.attribute(instance, name, value)
+        }
         _ => Found::Missing,
     }
 }
@@ -41,30 +46,35 @@ pub(crate) fn attribute_behind<'p, 'r>(
 fn attribute_of_value<'p, 'r>(
     context: &Context<'_, '_, 'r, '_, '_, 'p>,
     name: Word<'_>,
-) -> Found<'p, 'r>
+    value: &mut Datum<'r, Part<'p, 'r>>,
+) -> Found
     requires setting { IsSetting context.now.setting.now }
     ensures worth { (m : MeantBy context.now)
-        → worth_in context.now m (instance_of (bare (element_datum context.now.me))) result
+        → worth_in context.now m (instance_of (bare (element_datum context.now.me)))
+        (datum_of holding value.new) result
         ≡ attribute_of (setting_in context.now m) (element_datum context.now.me) (capitals name.entry) }
     ensures found { IsFound context.now.setting.now result }
 {
-    attribute_behind(context, &bare(context.me.datum()), name)
+    *value = bare(context.me.datum());
+    attribute_behind(context, name, value)
 }
 
 /// .. of an attribute of SELF.
 pub(crate) fn attribute_of_self<'p, 'r>(
     context: &Context<'_, '_, 'r, '_, '_, 'p>,
     name: Word<'_>,
-) -> Found<'p, 'r>
+    value: &mut Datum<'r, Part<'p, 'r>>,
+) -> Found
     requires setting { IsSetting context.now.setting.now }
     ensures worth { (m : MeantBy context.now)
-        → worth_in context.now m (instance_of (bare (element_datum context.now.me))) result
+        → worth_in context.now m (instance_of (bare (element_datum context.now.me)))
+        (datum_of holding value.new) result
         ≡ attribute_of (setting_in context.now m) (element_datum context.now.me) (capitals name.entry) }
     ensures found { IsFound context.now.setting.now result }
 {
     match context.me {
-        Element::Instance(instance) => context.setting.attribute(instance, name),
-        _ => attribute_of_value(context, name),
+        Element::Instance(instance) => context.setting.attribute(instance, name, value),
+        _ => attribute_of_value(context, name, value),
     }
 }
 
@@ -72,19 +82,23 @@ pub(crate) fn attribute_of_self<'p, 'r>(
 #[inline(never)]
 pub(crate) fn group_behind<'p, 'r>(
     context: &Context<'_, '_, 'r, '_, '_, 'p>,
-    value: &Datum<'r, Part<'p, 'r>>,
     entity: Word<'_>,
     name: Word<'_>,
-) -> Found<'p, 'r>
+    value: &mut Datum<'r, Part<'p, 'r>>,
+) -> Found
     requires setting { IsSetting context.now.setting.now }
     ensures worth { (m : MeantBy context.now)
-        → or_nothing (worth_in context.now m (instance_of (datum_of holding value.now)) result)
-        ≡ instance_group (setting_in context.now m) (datum_of holding value.now)
+        → or_nothing (worth_in context.now m (instance_of (datum_of holding value.old))
+        (datum_of holding value.new) result)
+        ≡ instance_group (setting_in context.now m) (datum_of holding value.old)
         (capitals entity.entry) (capitals name.entry) }
     ensures found { IsFound context.now.setting.now result }
 {
     match value {
-        Datum::Instance(instance) => context.setting.attribute_of(*instance, entity, name),
+        Datum::Instance(instance) => {
+            let instance = *instance;
+            context.setting.attribute_of(instance, entity, name, value)
+        }
         _ => Found::Missing,
     }
 }
@@ -99,12 +113,22 @@ pub(crate) fn instance_of(value: &Datum<'_, Part<'_, '_>>) -> u64
     }
 }
 
-/// The instance that SELF is; 0 where it is none.
+/// The instance that SELF is as a value; 0 where it is none.
 #[inline(never)]
-pub(crate) fn self_instance(context: &Context<'_, '_, '_, '_, '_, '_>) -> u64
+fn instance_inside(context: &Context<'_, '_, '_, '_, '_, '_>) -> u64
     ensures { result ≡ instance_of (bare (element_datum context.now.me)) }
 {
     instance_of(&bare(context.me.datum()))
+}
+
+/// The instance that SELF is; 0 where it is none.
+pub(crate) fn self_instance(context: &Context<'_, '_, '_, '_, '_, '_>) -> u64
+    ensures { result ≡ instance_of (bare (element_datum context.now.me)) }
+{
+    match context.me {
+        Element::Instance(instance) => instance,
+        _ => instance_inside(context),
+    }
 }
 
 /// An item of an enumeration of this name.

@@ -20,17 +20,17 @@ use step_literals::literal::Word;
 pub(crate) fn is_of_type<'p, 'r>(
     context: &Context<'_, '_, 'r, '_, '_, 'p>,
     text: Option<AnyString<'_>>,
-    value: Datum<'r, Part<'p, 'r>>,
+    value: &Datum<'r, Part<'p, 'r>>,
 ) -> Logical
     requires setting { IsSetting context.now.setting.now }
     ensures { (m : MeantBy context.now) → result ≡ is_of_type (setting_in context.now m)
-        (option_map text_of text.entry) (datum_of holding value.entry) }
+        (option_map text_of text.entry) (datum_of holding value.now) }
 {
     let Some(text) = text else {
         return Logical::Unknown;
     };
     match value {
-        Datum::Instance(instance) => known(context.setting.has_type(instance, &text)),
+        Datum::Instance(instance) => known(context.setting.has_type(*instance, &text)),
         Datum::Typed(part) => is_defined_by(context, part.type_name(), &text),
         _ => Logical::False,
     }

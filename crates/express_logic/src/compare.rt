@@ -8,7 +8,7 @@ ghost use Rattle.express_logic.specs.Views.{scalar_of, datum_of};
 
 use crate::binaries::AnyBinary;
 use crate::datum::{Datum, Held};
-use crate::logical::{Logical, or};
+use crate::logical::{Logical, known, or};
 use crate::numbers::AnyNumber;
 use crate::scalar::Scalar;
 use crate::strings::AnyString;
@@ -16,19 +16,29 @@ use crate::strings::AnyString;
 /// Whether two values are equal (ISO 10303-11, 12.2.1): numbers by what they are worth, strings by
 /// their characters, binaries by their bits, elements of enumerations by their names without case,
 /// typed values by what is inside. UNKNOWN where a side is indeterminate, an instance or an
-/// aggregate, or where the kinds differ.
+/// aggregate, or where the kinds differ. Numbers, which are compared most, are compared at once.
 pub fn equal<'a, V: Held<'a>>(a: &Datum<'a, V>, b: &Datum<'a, V>) -> Logical
     ensures { result ≡ equal (datum_of V.held a.now) (datum_of V.held b.now) }
 {
-    bare(a).equal(&bare(b))
+    match (a, b) {
+        (Datum::Number(x), Datum::Number(y)) => known(x == y),
+        (Datum::Count(x), Datum::Number(y)) => known(y.compare_whole(*x).is_eq()),
+        (Datum::Number(x), Datum::Count(y)) => known(x.compare_whole(*y).is_eq()),
+        _ => bare(a).equal(&bare(b)),
+    }
 }
 
 /// Whether the first value is less than the second (ISO 10303-11, 12.2.1): of numbers, and of
-/// logicals, FALSE < UNKNOWN < TRUE. UNKNOWN of anything else.
+/// logicals, FALSE < UNKNOWN < TRUE. UNKNOWN of anything else. Numbers are compared at once here too.
 pub fn less<'a, V: Held<'a>>(a: &Datum<'a, V>, b: &Datum<'a, V>) -> Logical
     ensures { result ≡ less (datum_of V.held a.now) (datum_of V.held b.now) }
 {
-    bare(a).less(&bare(b))
+    match (a, b) {
+        (Datum::Number(x), Datum::Number(y)) => known(x < y),
+        (Datum::Count(x), Datum::Number(y)) => known(y.compare_whole(*x).is_gt()),
+        (Datum::Number(x), Datum::Count(y)) => known(x.compare_whole(*y).is_lt()),
+        _ => bare(a).less(&bare(b)),
+    }
 }
 
 /// Whether the second value, an aggregate, has an element that is equal to the first

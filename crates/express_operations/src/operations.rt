@@ -1,10 +1,10 @@
 //! What is made of values (ISO 10303-11, 12 and 15).
 
-ghost use Rattle.std.specs.Prelude.{◌≡◌, false, IfOk};
+ghost use Rattle.std.specs.Prelude.{◌≡◌, false, OnOk};
 ghost use Rattle.express_trees.specs.Views.{tree_of};
 ghost use Rattle.express_logic.specs.Views.{datum_of};
 ghost use Rattle.express_meanings.specs.Expressions.{of_call, of_junction};
-ghost use Rattle.express_meanings.specs.Operations.{bare, says, size, compared, limited, is_true};
+ghost use Rattle.express_meanings.specs.Operations.{bare, says, size, high_index, low_index, compared, limited, is_true};
 ghost use Rattle.express_operations.specs.Forms.{is_condition, is_in, is_sizeof, is_typeof};
 ghost use Rattle.held_values.specs.Parts.{holding};
 
@@ -15,6 +15,7 @@ use express_trees::tree::{Expr, Function, Junction, Limit, Relation};
 use held_values::operations::{bare, high_index, is_known, low_index, size};
 use held_values::part::Part;
 use std::alloc::AllocError;
+use std::mem;
 
 /// Whether a value has the name of its type. One that hasn't is bare, and needn't be copied.
 pub fn is_typed(value: &Datum<'_, Part<'_, '_>>) -> bool
@@ -26,13 +27,22 @@ pub fn is_typed(value: &Datum<'_, Part<'_, '_>>) -> bool
     }
 }
 
-/// What a value says as an operand of a logical operator.
-pub fn truth<'p, 'r>(value: Datum<'r, Part<'p, 'r>>) -> Logical
-    ensures { result ≡ says (datum_of holding value.entry) }
+/// Replaces a typed value by what is inside it.
+pub fn strip_type<'p, 'r>(value: &mut Datum<'r, Part<'p, 'r>>)
+    ensures { datum_of holding value.new ≡ bare (datum_of holding value.old) }
 {
-    if is_typed(&value) {
-        return bare(value).truth();
+    if is_typed(value) {
+        let typed = mem::replace(value, Datum::Indeterminate);
+        *value = bare(typed);
     }
+}
+
+/// What a value says as an operand of a logical operator. A typed value is replaced by what is inside
+/// it.
+pub fn truth<'p, 'r>(value: &mut Datum<'r, Part<'p, 'r>>) -> Logical
+    ensures { result ≡ says (datum_of holding value.old) }
+{
+    strip_type(value);
     value.truth()
 }
 
@@ -124,32 +134,55 @@ pub fn joined(junction: Junction, p: Logical, q: Logical) -> Logical
     }
 }
 
-/// How many elements there are, in a typed value too: SIZEOF.
-pub fn size_inside<'p, 'r>(
-    value: Datum<'r, Part<'p, 'r>>,
-) -> Result<Datum<'r, Part<'p, 'r>>, AllocError>
-    ensures { IfOk result (λ d. datum_of holding d ≡ size (bare (datum_of holding value.entry))) }
+/// Replaces a value by how many elements it has, in a typed value too: SIZEOF.
+///
+/// Where there are 2^63 or more there is no memory for it.
+pub fn replace_by_size<'p, 'r>(value: &mut Datum<'r, Part<'p, 'r>>) -> Result<(), AllocError>
+    ensures { OnOk result (datum_of holding value.new ≡ size (bare (datum_of holding value.old))) }
 {
-    if is_typed(&value) {
-        return size(&bare(value));
-    }
-    size(&value)
+    strip_type(value);
+    *value = size(value)?;
+    Ok(())
 }
 
-/// The value of a function of the language; that of TYPEOF is none but on the right of IN.
+/// .. by its last index: HIINDEX.
+///
+/// Where there are 2^63 elements or more there is no memory for it.
+fn replace_by_high_index<'p, 'r>(value: &mut Datum<'r, Part<'p, 'r>>) -> Result<(), AllocError>
+    ensures { OnOk result (datum_of holding value.new
+        ≡ high_index (bare (datum_of holding value.old))) }
+{
+    strip_type(value);
+    *value = high_index(value)?;
+    Ok(())
+}
+
+/// .. by its first index: LOINDEX.
+fn replace_by_low_index<'p, 'r>(value: &mut Datum<'r, Part<'p, 'r>>)
+    ensures { datum_of holding value.new ≡ low_index (bare (datum_of holding value.old)) }
+{
+    strip_type(value);
+    *value = low_index(value);
+}
+
+/// Replaces a value by that of a function of the language; that of TYPEOF is none but on the right
+/// of IN.
+///
+/// Where there are 2^63 elements or more there is no memory for their number.
 #[inline(never)]
-pub fn called<'p, 'r>(
+pub fn apply<'p, 'r>(
     function: Function,
-    value: Datum<'r, Part<'p, 'r>>,
-) -> Result<Datum<'r, Part<'p, 'r>>, AllocError>
-    ensures { IfOk result (λ d. datum_of holding d
-        ≡ of_call function (datum_of holding value.entry)) }
+    value: &mut Datum<'r, Part<'p, 'r>>,
+) -> Result<(), AllocError>
+    ensures { OnOk result (datum_of holding value.new
+        ≡ of_call function (datum_of holding value.old)) }
 {
     match function {
-        Function::Exists => Ok(Datum::Logical(known(is_known(&value)))),
-        Function::Sizeof => size_inside(value),
-        Function::Hiindex => high_index(&bare(value)),
-        Function::Loindex => Ok(low_index(&bare(value))),
-        Function::Typeof => Ok(Datum::Indeterminate),
+        Function::Exists => *value = Datum::Logical(known(is_known(value))),
+        Function::Sizeof => replace_by_size(value)?,
+        Function::Hiindex => replace_by_high_index(value)?,
+        Function::Loindex => replace_by_low_index(value),
+        Function::Typeof => *value = Datum::Indeterminate,
     }
+    Ok(())
 }

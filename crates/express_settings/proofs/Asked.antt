@@ -3,15 +3,16 @@ use Rattle.std.specs.Prelude.{◌≡◌, ℕ, List, [], Option, Some, None}
 use Rattle.std.proofs.Common.{refl, sym, ap, subst, ◌∙◌, inl, inr}
 use Rattle.express_schemas.specs.Schemas.{Schema}
 use Rattle.type_graphs.specs.Names.{Name}
-use Rattle.type_graphs.specs.Attributes.{Derivation}
+use Rattle.type_graphs.specs.Attributes.{Place, Derivation}
 use Rattle.conformance.specs.Bases.{Domain}
 use Rattle.conformance.specs.Entities.{Entities}
-use Rattle.conformance.specs.Populations.{Instance, instance_at, types_in, types_at}
+use Rattle.conformance.specs.Populations.{Instance, instance_at, types_in, types_at, value_in, value_of}
 use Rattle.population_rules.specs.Rules.{InverseAttribute}
 use Rattle.population_rules.specs.Referring.{inverse_value}
 use Rattle.express_logic.specs.Data.{Datum}
-use Rattle.express_meanings.specs.Attributes.{Source, derived, unclear, Attributes, AreAttributes, IsNamed, IsInGroup}
+use Rattle.express_meanings.specs.Attributes.{Source, explicit, derived, unclear, Attributes, AreAttributes, IsNamed, IsInGroup}
 use Rattle.express_meanings.specs.Meanings.{referring, found, value_from, attribute_in, group_in}
+use Rattle.express_meanings.specs.Values.{datum_at, first_declared}
 use Rattle.express_meanings.proofs.Led.{at_name}
 use Rattle.attribute_sources.specs.Seen.{or_unclear}
 use Rattle.express_settings.specs.Worth.{inverse_worth, IsWorth}
@@ -25,6 +26,16 @@ module _ (s : Schema) (d : Domain) (en : Entities) (attributes : Attributes) (is
           → IsWorth s d en attributes is computed o (derived e) (Some (computed y e))
       by None at = λ u. absurd (cc)
       by (Some x) at = ap (λ n. Some (computed n e)) (sym (at_name y is x at).1)
+
+  pub explicit_found : (y : ℕ) (p : Place) (w : Datum)
+      → w ≡ datum_at s d (first_declared s d en p) (value_of is y p)
+      → IsWorth s d en attributes is computed (instance_at is y) (explicit p) (Some w)
+  explicit_found y p w e = by (instance_at is y) e
+    where
+      by : (o : Option Instance) → w ≡ datum_at s d (first_declared s d en p) (value_in o p)
+          → IsWorth s d en attributes is computed o (explicit p) (Some w)
+      by None e = λ u. absurd (cc)
+      by (Some i) e = ap Some e
 
   pub inverse_found : (y : ℕ) (q : Option InverseAttribute) (w : Datum) → w ≡ inverse_worth is y q
       → IsWorth s d en attributes is computed (instance_at is y) (or_unclear q) (Some w)

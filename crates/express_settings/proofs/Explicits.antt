@@ -1,7 +1,7 @@
 -- Values of explicit attributes, by what these are declared as.
 use Rattle.std.specs.Prelude.{◌≡◌, ℕ, ◌<◌, Bool, true, false, List, [], ◌∷◌, length, map, Option, Some, None, slice_get}
 use Rattle.std.proofs.Common.{refl, sym, ap, subst, ◌∙◌, inl, inr, get_or}
-use Rattle.std.proofs.lemmas.Option.{slice_get-get_or}
+use Rattle.std.proofs.lemmas.Option.{slice_get-get_or, slice_get_within}
 use Rattle.step_values.specs.Values.{Value}
 use Rattle.express_schemas.specs.Schemas.{Schema, Explicit, DataType}
 use Rattle.type_graphs.specs.Names.{Among, DeclaresExplicit}
@@ -31,6 +31,13 @@ use Rattle.setting_tables.specs.Tables.{AreDeclared, IsDeclaredAs}
 -- the place of a number
 pub there : (s : Schema) (q : ℕ) → q < length (all_places s) → (p : Place) × (slice_get (all_places s) q ≡ Some p)
 there s q lt = (get_or (all_places s) q ([], []), slice_get-get_or (all_places s) q ([], []) lt)
+
+pub declared_within : (s : Schema) (bases : List Base) → AreDeclared s bases → (q : ℕ) → q < length (all_places s)
+    → q < length bases
+declared_within s bases are q lt =
+    let (p, at) = there s q lt in
+    let (b, here, so) = are p q at in
+    slice_get_within bases q b here
 
 pub declared_at : (s : Schema) (bases : List Base) → AreDeclared s bases → (q : ℕ) → q < length (all_places s)
     → (b : Base) → slice_get bases q ≡ Some b → IsDeclaredAs s (place_at s q) b

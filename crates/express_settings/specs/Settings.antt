@@ -14,11 +14,9 @@ use Rattle.conforming_values.specs.Conforming.{PopulationConforms}
 use Rattle.population_rules.specs.Rules.{InverseAttribute}
 use Rattle.step_population.specs.Seen.{population_seen}
 use Rattle.express_logic.specs.Data.{Datum, indeterminate}
-use Rattle.express_logic.specs.Views.{datum_of}
 use Rattle.express_meanings.specs.Attributes.{Attributes, AreAttributes}
 use Rattle.express_meanings.specs.Expressions as expressions
 use Rattle.express_meanings.specs.Meanings.{setting, below}
-use Rattle.held_values.specs.Parts.{holding}
 use Rattle.attribute_sources.specs.declared.source.Derivation.{Derivation as NumberedDerivation}
 use Rattle.attribute_sources.specs.Seen.{inverses_seen, derivation_seen}
 use Rattle.attribute_sources.specs.Tables.{IsKnown}
@@ -60,11 +58,11 @@ pub record Meant (S : Setting) : Type 0 where
   pub are_attributes : AreAttributes (schema_in S) (inverses_in S) attributes
   pub conforms : PopulationConforms (schema_in S) domain entities (population_in S)
 
--- what is found, where derived attributes are worth this
-abbrev pub worth_of : Setting → (Derivation → Datum) → Found → Option Datum
-worth_of S computed found.Missing = None
-worth_of S computed (found.Value d) = Some (datum_of holding d)
-worth_of S computed (found.Derived e) = Some (computed (derivation_in S e))
+-- what is found, where derived attributes are worth this, and this value is put where it was asked for
+abbrev pub worth_of : Setting → (Derivation → Datum) → Datum → Found → Option Datum
+worth_of S computed d found.Missing = None
+worth_of S computed d found.Value = Some d
+worth_of S computed d (found.Derived e) = Some (computed (derivation_in S e))
 
 abbrev pub or_nothing : Option Datum → Datum
 or_nothing None = indeterminate

@@ -1,8 +1,12 @@
 -- What is found of an instance, by where the tables say.
-use Rattle.std.specs.Prelude.{ℕ}
+use Rattle.std.specs.Prelude.{ℕ, List, Option}
 use Rattle.type_graphs.specs.Attributes.{Derivation}
+use Rattle.row_index.specs.Index.{found}
+use Rattle.row_forms.specs.declared.form.SlotForm.{SlotForm}
+use Rattle.row_forms.specs.Rows.{form_at}
 use Rattle.rule_tables.specs.Seen.{place_at}
 use Rattle.conformance.specs.Populations.{instance_at, value_of}
+use Rattle.step_population.specs.Whole.{slots_by_form}
 use Rattle.express_logic.specs.Data.{Datum}
 use Rattle.express_meanings.specs.Values.{datum_at, first_declared}
 use Rattle.attribute_sources.specs.declared.source.Source.{Source}
@@ -12,6 +16,14 @@ use Rattle.express_settings.specs.declared.setting.Setting.{Setting}
 use Rattle.express_settings.specs.Settings.{Meant, schema_in, population_in, inverses_in, worth_of}
 use Rattle.express_settings.specs.Worth.{IsWorth}
 
+-- the row of an instance
+abbrev pub row_in : Setting → ℕ → Option ℕ
+row_in S y = found S.extents.now.population.now.rows.index y
+
+-- the explicit attributes of the instance of a row
+abbrev pub slots_in : Setting → ℕ → List SlotForm
+slots_in S row = slots_by_form (form_at S.extents.now.population.now.rows row)
+
 module _ (S : Setting) (m : Meant S) where
   -- the value of the explicit attribute of a number, by its declaration
   abbrev pub explicit_worth : ℕ → ℕ → Datum
@@ -19,8 +31,8 @@ module _ (S : Setting) (m : Meant S) where
       datum_at (schema_in S) m.domain (first_declared (schema_in S) m.domain m.entities (place_at (schema_in S) q))
       (value_of (population_in S) y (place_at (schema_in S) q))
 
-  -- this is found there
-  abbrev pub IsFoundAt : (ℕ → Derivation → Datum) → ℕ → Source → Found → Type 0
-  IsFoundAt computed y x found =
+  -- this is found there, where this value is put
+  abbrev pub IsFoundAt : (ℕ → Derivation → Datum) → ℕ → Source → Datum → Found → Type 0
+  IsFoundAt computed y x d found =
       IsWorth (schema_in S) m.domain m.entities m.attributes (population_in S) computed
-      (instance_at (population_in S) y) (source_seen (schema_in S) (inverses_in S) x) (worth_of S (computed y) found)
+      (instance_at (population_in S) y) (source_seen (schema_in S) (inverses_in S) x) (worth_of S (computed y) d found)

@@ -1,18 +1,19 @@
 //! The values of attributes of instances (ISO 10303-11, 12.7.3 and 12.7.4).
 
-ghost use Rattle.std.specs.Prelude.{◌≡◌, ◌<◌, ℕ, Some, length, slice_get, IfSome};
-ghost use Rattle.std.specs.Option.{option_map};
+ghost use Rattle.std.specs.Prelude.{◌≡◌, ◌<◌, ℕ, Some, length, slice_get};
 ghost use Rattle.express_trees.specs.Views.{capitals};
 ghost use Rattle.type_graphs.specs.Attributes as attributes;
 ghost use Rattle.attribute_places.specs.Places.{all_places};
-ghost use Rattle.rule_tables.specs.Seen.{gathering_seen};
+ghost use Rattle.step_population.specs.Ordering.{position_among};
+ghost use Rattle.rule_tables.specs.Seen.{gathering_seen, place_at};
 ghost use Rattle.express_logic.specs.Data.{Datum as Worth, aggregate, bag};
 ghost use Rattle.express_logic.specs.Views.{datum_of};
 ghost use Rattle.express_meanings.specs.Meanings.{instances, referring};
 ghost use Rattle.express_meanings.specs.Operations.{only};
 ghost use Rattle.held_values.specs.Parts.{holding};
-ghost use Rattle.attribute_sources.specs.Seen.{IsNumbered, source_seen};
-ghost use Rattle.conformance.specs.Populations.{types_at};
+ghost use Rattle.attribute_sources.specs.Seen.{IsNumbered};
+ghost use Rattle.form_sources.specs.Sources.{source_in, form_source};
+ghost use Rattle.conformance.specs.Populations.{value_of};
 ghost use Rattle.express_settings.specs.Settings.{
   IsSetting,
   Meant,
@@ -25,7 +26,7 @@ ghost use Rattle.express_settings.specs.Settings.{
   or_nothing,
   IsFound,
 };
-ghost use Rattle.express_settings.specs.Sources.{explicit_worth, IsFoundAt};
+ghost use Rattle.express_settings.specs.Sources.{explicit_worth, row_in, slots_in, IsFoundAt};
 ghost use Rattle.express_settings.specs.Worth.{inverse_worth};
 
 use crate::setting::Setting;
@@ -33,17 +34,20 @@ use attribute_sources::source::{Derivation, Source};
 use attribute_sources::sources::{attribute_source, group_source};
 use base_types::base::Base;
 use express_logic::datum::Datum;
+use form_sources::table::FormSource;
 use held_values::part::Part;
 use held_values::values::{only_instance, value_datum};
 use rule_tables::gathering::Gathering;
 use step_literals::literal::Word;
+use step_values::slot::Slot;
 
-/// Where the value of an attribute of an instance comes from.
-#[derive(Drop)]
-pub enum Found<'p, 'r> {
+/// Where the value of an attribute of an instance is found.
+#[derive(Clone, Copy)]
+pub enum Found {
     /// The instance has no such attribute.
     Missing,
-    Value(Datum<'r, Part<'p, 'r>>),
+    /// It is put where it was asked for.
+    Value,
     /// It is derived.
     Derived(Derivation),
 }
@@ -83,15 +87,17 @@ fn referring<'p, 'r>(gathering: Gathering, names: &'p [u64]) -> Datum<'r, Part<'
 }
 
 impl<'s: 'r, 't, 'r, 'a, 'e, 'p> Setting<'s, 't, 'r, 'a, 'e, 'p> {
-    /// The value that an instance has of the explicit attribute of a number, as its declaration asks.
-    fn explicit_value(&self, instance: u64, place: u32) -> Datum<'r, Part<'p, 'r>>
+    /// What this value of the explicit attribute of a number is worth, as its declaration asks.
+    fn declared_value(&self, place: u32, value: Option<Slot<'p, 'r>>) -> Datum<'r, Part<'p, 'r>>
         requires setting { IsSetting self.now }
         requires place { place < length (all_places (schema_in self.now)) }
-        ensures { (m : Meant self.now)
+        ensures { (m : Meant self.now) → (instance : ℕ)
+            → value.entry ≡ value_of (population_in self.now) instance
+            (place_at (schema_in self.now) place)
             → datum_of holding result ≡ explicit_worth self.now m instance place }
     {
         let tables = self.tables;
-        match self.extents.population.value(instance, place) {
+        match value {
             Some(value) => {
                 value_datum(
                     &tables.value_types,
@@ -101,6 +107,28 @@ impl<'s: 'r, 't, 'r, 'a, 'e, 'p> Setting<'s, 't, 'r, 'a, 'e, 'p> {
             }
             None => Datum::Indeterminate,
         }
+    }
+
+    /// The value that an instance has of the explicit attribute of a number.
+    fn explicit_value(&self, instance: u64, place: u32) -> Datum<'r, Part<'p, 'r>>
+        requires setting { IsSetting self.now }
+        requires place { place < length (all_places (schema_in self.now)) }
+        ensures { (m : Meant self.now)
+            → datum_of holding result ≡ explicit_worth self.now m instance place }
+    {
+        self.declared_value(place, self.extents.population.value(instance, place))
+    }
+
+    /// .. that the instance of a row has of it, where it stands at this position of its form.
+    fn value_at(&self, row: u32, position: usize, place: u32) -> Datum<'r, Part<'p, 'r>>
+        requires setting { IsSetting self.now }
+        requires row { row < length (population_in self.now) }
+        requires place { place < length (all_places (schema_in self.now)) }
+        requires position { position_among (slots_in self.now row) place ≡ Some position }
+        ensures { (m : Meant self.now) → (instance : ℕ) → row_in self.now instance ≡ Some row
+            → datum_of holding result ≡ explicit_worth self.now m instance place }
+    {
+        self.declared_value(place, self.extents.population.value_at(row, position))
     }
 
     /// The value that an instance has of the inverse attribute of a number.
@@ -121,67 +149,123 @@ impl<'s: 'r, 't, 'r, 'a, 'e, 'p> Setting<'s, 't, 'r, 'a, 'e, 'p> {
         }
     }
 
-    /// What an instance has there.
-    fn found(&self, instance: u64, source: Source) -> Found<'p, 'r>
+    /// Puts what an instance has in a source there.
+    fn found(&self, instance: u64, source: &Source, value: &mut Datum<'r, Part<'p, 'r>>) -> Found
         requires setting { IsSetting self.now }
-        requires numbered { IsNumbered (schema_in self.now) (inverses_in self.now) source }
+        requires numbered { IsNumbered (schema_in self.now) (inverses_in self.now) source.now }
         ensures worth { (m : Meant self.now) → (computed : ℕ → attributes.Derivation → Worth)
-            → IsFoundAt self.now m computed instance source result }
+            → IsFoundAt self.now m computed instance source.now (datum_of holding value.new) result }
         ensures found { IsFound self.now result }
     {
         match source {
-            Source::Explicit(place) => Found::Value(self.explicit_value(instance, place)),
-            Source::Derived(derivation) => Found::Derived(derivation),
-            Source::Inverse(number) => Found::Value(self.inverse_value(instance, number)),
-            Source::Unclear => Found::Value(Datum::Indeterminate),
-        }
-    }
-
-    /// Where an instance has the value of its attribute of this name; none where it has none.
-    fn source(&self, instance: u64, name: Word<'_>) -> Option<Source>
-        requires setting { IsSetting self.now }
-        ensures value { (m : Meant self.now)
-            → option_map (source_seen (schema_in self.now) (inverses_in self.now)) result
-            ≡ m.attributes.source (types_at (population_in self.now) instance)
-            (capitals name.entry) }
-        ensures numbered { IfSome result (IsNumbered (schema_in self.now)
-            (inverses_in self.now)) }
-    {
-        let population = self.extents.population;
-        match self.forms.find(population.form_of(instance), name) {
-            Some(source) => Some(source),
-            None => {
-                attribute_source(
-                    population.types,
-                    &self.tables.sources,
-                    &self.extents.rules.inverses,
-                    population.types_of(instance),
-                    name,
-                )
+            Source::Explicit(place) => {
+                *value = self.explicit_value(instance, *place);
+                Found::Value
+            }
+            Source::Derived(derivation) => Found::Derived(*derivation),
+            Source::Inverse(number) => {
+                *value = self.inverse_value(instance, *number);
+                Found::Value
+            }
+            Source::Unclear => {
+                *value = Datum::Indeterminate;
+                Found::Value
             }
         }
     }
 
-    /// The value that an instance has of its attribute of this name, where it isn't derived
-    /// (ISO 10303-11, 12.7.3). It takes no memory.
-    pub fn attribute(&self, instance: u64, name: Word<'_>) -> Found<'p, 'r>
+    /// .. in a source of the form of its row.
+    fn found_in_row(
+        &self,
+        instance: u64,
+        row: u32,
+        source: &FormSource,
+        value: &mut Datum<'r, Part<'p, 'r>>,
+    ) -> Found
+        requires setting { IsSetting self.now }
+        requires row { row_in self.now instance ≡ Some row }
+        requires numbered { IsNumbered (schema_in self.now) (inverses_in self.now)
+            (source_in source.now) }
+        requires position { source.now ≡ form_source (slots_in self.now row)
+            (source_in source.now) }
+        ensures worth { (m : Meant self.now) → (computed : ℕ → attributes.Derivation → Worth)
+            → IsFoundAt self.now m computed instance (source_in source.now)
+            (datum_of holding value.new) result }
+        ensures found { IsFound self.now result }
+    {
+        match source {
+            FormSource::Explicit { place, position } => {
+                *value = self.value_at(row, *position, *place);
+                Found::Value
+            }
+            FormSource::Other(source) => self.found(instance, source, value),
+        }
+    }
+
+    /// .. in that of the attribute of this name, by the types of the instance.
+    #[inline(never)]
+    fn declared_attribute(
+        &self,
+        instance: u64,
+        name: Word<'_>,
+        value: &mut Datum<'r, Part<'p, 'r>>,
+    ) -> Found
         requires setting { IsSetting self.now }
         ensures worth { (m : Meant self.now) → (computed : ℕ → attributes.Derivation → Worth)
-            → worth_of self.now (computed instance) result
+            → worth_of self.now (computed instance) (datum_of holding value.new) result
             ≡ attribute_by self.now m computed instance (capitals name.entry) }
         ensures found { IsFound self.now result }
     {
-        match self.source(instance, name) {
-            Some(source) => self.found(instance, source),
+        let population = self.extents.population;
+        let source = attribute_source(
+            population.types,
+            &self.tables.sources,
+            &self.extents.rules.inverses,
+            population.types_of(instance),
+            name,
+        );
+        match source {
+            Some(source) => self.found(instance, &source, value),
             None => Found::Missing,
         }
     }
 
-    /// .. of the attribute that `\entity.name` means (ISO 10303-11, 12.7.4). It takes no memory.
-    pub fn attribute_of(&self, instance: u64, entity: Word<'_>, name: Word<'_>) -> Found<'p, 'r>
+    /// Puts there the value that an instance has of its attribute of this name, where it has it and
+    /// it isn't derived (ISO 10303-11, 12.7.3). It takes no memory.
+    pub fn attribute(
+        &self,
+        instance: u64,
+        name: Word<'_>,
+        value: &mut Datum<'r, Part<'p, 'r>>,
+    ) -> Found
         requires setting { IsSetting self.now }
         ensures worth { (m : Meant self.now) → (computed : ℕ → attributes.Derivation → Worth)
-            → or_nothing (worth_of self.now (computed instance) result)
+            → worth_of self.now (computed instance) (datum_of holding value.new) result
+            ≡ attribute_by self.now m computed instance (capitals name.entry) }
+        ensures found { IsFound self.now result }
+    {
+        let population = self.extents.population;
+        let Some(row) = population.row_of(instance) else {
+            return Found::Missing;
+        };
+        match self.forms.find(population.form_of_row(row), name) {
+            Some(named) => self.found_in_row(instance, row, &named.source, value),
+            None => self.declared_attribute(instance, name, value),
+        }
+    }
+
+    /// .. of the attribute that `\entity.name` means (ISO 10303-11, 12.7.4). It takes no memory.
+    pub fn attribute_of(
+        &self,
+        instance: u64,
+        entity: Word<'_>,
+        name: Word<'_>,
+        value: &mut Datum<'r, Part<'p, 'r>>,
+    ) -> Found
+        requires setting { IsSetting self.now }
+        ensures worth { (m : Meant self.now) → (computed : ℕ → attributes.Derivation → Worth)
+            → or_nothing (worth_of self.now (computed instance) (datum_of holding value.new)
+            result)
             ≡ group_by self.now m computed instance (capitals entity.entry) (capitals name.entry) }
         ensures found { IsFound self.now result }
     {
@@ -194,6 +278,6 @@ impl<'s: 'r, 't, 'r, 'a, 'e, 'p> Setting<'s, 't, 'r, 'a, 'e, 'p> {
             entity,
             name,
         );
-        self.found(instance, source)
+        self.found(instance, &source, value)
     }
 }

@@ -60,7 +60,7 @@ fn first_misfit(
 {
     for number in data_types {
         let base = judge.bases.of_number(*number);
-        let found = misfit(judge.alloc, &judge.bases, &judge.targets, base, param)?;
+        let found = misfit(judge.alloc, &judge.bases, &judge.targets, &base, param)?;
         if found.is_some() {
             return Ok(found);
         }

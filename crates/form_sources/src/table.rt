@@ -1,16 +1,17 @@
 //! The table of sources, made once for all instances of a form.
 
-ghost use Rattle.std.specs.Prelude.{◌≡◌, ℕ, List, map, IfOk, OnOk, IfSome};
+ghost use Rattle.std.specs.Prelude.{◌≡◌, List, Some, IfOk, OnOk, IfSome};
 ghost use Rattle.express_schemas.specs.Schemas.{Schema};
 ghost use Rattle.express_schemas.specs.Profile.{Every};
 ghost use Rattle.express_trees.specs.Views.{capitals};
 ghost use Rattle.row_forms.specs.declared.form.Form.{Form};
 ghost use Rattle.population_rules.specs.Rules.{InverseAttribute as InverseTree};
-ghost use Rattle.step_population.specs.Whole.{form_among, types_by_form, AreNumbered};
-ghost use Rattle.attribute_sources.specs.Seen.{schema_in, AreTypes, inverses_seen};
+ghost use Rattle.step_population.specs.Whole.{form_among, AreNumbered};
+ghost use Rattle.attribute_sources.specs.Seen.{schema_in, inverses_seen};
 ghost use Rattle.attribute_sources.specs.Tables.{IsKnown};
 ghost use Rattle.form_sources.specs.Sources.{
-  IsSourceOf,
+  form_source,
+  IsFormSource,
   IsNamedSource,
   AreNamedSources,
   AreFormSources,
@@ -24,12 +25,21 @@ use row_forms::form::{Form, SlotForm};
 use rule_tables::inverses::InverseAttribute;
 use std::alloc::{AllocError, Global};
 use step_literals::literal::Word;
+use step_population::reading::position_of;
+
+/// Where instances of a form have the value of an attribute.
+#[derive(Clone, Copy)]
+pub enum FormSource {
+    /// That of the explicit attribute of a place, at its position among their values.
+    Explicit { place: u32, position: usize },
+    Other(Source),
+}
 
 /// Where instances of a form have the value of the attribute of a name.
 #[derive(Clone, Copy)]
 pub struct NamedSource<'s> {
     pub name: Word<'s>,
-    pub source: Source,
+    pub source: FormSource,
 }
 
 /// By form, where its instances have the values of its explicit attributes, and of the derived and
@@ -39,42 +49,58 @@ pub struct FormSources<'s> {
     pub rows: Vec<Vec<NamedSource<'s>>>,
 }
 
-/// Where instances of these types have the value of the attribute of a name.
+/// Where instances with these explicit attributes have the value of a source.
+fn form_source(slots: &[SlotForm], source: Source) -> FormSource
+    ensures { result ≡ form_source slots.now source }
+{
+    let Source::Explicit(place) = source else {
+        return FormSource::Other(source);
+    };
+    match position_of(slots, place) {
+        Some(position) => FormSource::Explicit { place, position },
+        None => FormSource::Other(source),
+    }
+}
+
+/// Where instances of a form have the value of the attribute of a name.
 fn named_source<'s>(
     schema: &ResolvedTypes<'s, '_>,
     sources: &AttributeSources,
     inverses: &[InverseAttribute<'_>],
-    types: &[u32],
+    form: &Form,
     name: Word<'s>,
 ) -> Option<NamedSource<'s>>
     requires known { IsKnown schema.now sources.now inverses.now }
-    requires types { AreTypes (schema_in schema.now) types.now }
+    requires numbered { AreNumbered (schema_in schema.now) form.now }
     ensures { IfSome result (IsNamedSource (schema_in schema.now)
-        (inverses_seen (schema_in schema.now) inverses.now) types.now) }
+        (inverses_seen (schema_in schema.now) inverses.now) form.now) }
 {
-    match attribute_source(schema, sources, inverses, types, name) {
-        Some(source) => Some(NamedSource { name, source }),
+    match attribute_source(schema, sources, inverses, &form.types, name) {
+        Some(source) => Some(NamedSource {
+            name,
+            source: form_source(&form.slots, source),
+        }),
         None => None,
     }
 }
 
-/// Adds where instances of these types have the value of the attribute of a name.
+/// Adds where instances of a form have the value of the attribute of a name.
 fn add_named<'s>(
     schema: &ResolvedTypes<'s, '_>,
     row: &mut Vec<NamedSource<'s>>,
     sources: &AttributeSources,
     inverses: &[InverseAttribute<'_>],
-    types: &[u32],
+    form: &Form,
     name: Word<'s>,
 ) -> Result<(), AllocError>
     requires known { IsKnown schema.now sources.now inverses.now }
-    requires types { AreTypes (schema_in schema.now) types.now }
+    requires numbered { AreNumbered (schema_in schema.now) form.now }
     requires row { AreNamedSources (schema_in schema.now)
-        (inverses_seen (schema_in schema.now) inverses.now) types.now row.old.items }
+        (inverses_seen (schema_in schema.now) inverses.now) form.now row.old.items }
     ensures { OnOk result (AreNamedSources (schema_in schema.now)
-        (inverses_seen (schema_in schema.now) inverses.now) types.now row.new.items) }
+        (inverses_seen (schema_in schema.now) inverses.now) form.now row.new.items) }
 {
-    let Some(named) = named_source(schema, sources, inverses, types, name) else {
+    let Some(named) = named_source(schema, sources, inverses, form, name) else {
         return Ok(());
     };
     row.push(named)?;
@@ -87,40 +113,39 @@ fn add_place<'s>(
     row: &mut Vec<NamedSource<'s>>,
     sources: &AttributeSources,
     inverses: &[InverseAttribute<'_>],
-    types: &[u32],
+    form: &Form,
     number: u32,
 ) -> Result<(), AllocError>
     requires known { IsKnown schema.now sources.now inverses.now }
-    requires types { AreTypes (schema_in schema.now) types.now }
+    requires numbered { AreNumbered (schema_in schema.now) form.now }
     requires row { AreNamedSources (schema_in schema.now)
-        (inverses_seen (schema_in schema.now) inverses.now) types.now row.old.items }
+        (inverses_seen (schema_in schema.now) inverses.now) form.now row.old.items }
     ensures { OnOk result (AreNamedSources (schema_in schema.now)
-        (inverses_seen (schema_in schema.now) inverses.now) types.now row.new.items) }
+        (inverses_seen (schema_in schema.now) inverses.now) form.now row.new.items) }
 {
     match schema.places.attributes.get(number as usize) {
-        Some(place) => add_named(schema, row, sources, inverses, types, *place.attribute),
+        Some(place) => add_named(schema, row, sources, inverses, form, *place.attribute),
         None => Ok(()),
     }
 }
 
-/// .. of these explicit attributes.
+/// .. of its explicit attributes.
 fn add_slots<'s>(
     schema: &ResolvedTypes<'s, '_>,
     row: &mut Vec<NamedSource<'s>>,
     sources: &AttributeSources,
     inverses: &[InverseAttribute<'_>],
-    types: &[u32],
-    slots: &[SlotForm],
+    form: &Form,
 ) -> Result<(), AllocError>
     requires known { IsKnown schema.now sources.now inverses.now }
-    requires types { AreTypes (schema_in schema.now) types.now }
+    requires numbered { AreNumbered (schema_in schema.now) form.now }
     requires row { AreNamedSources (schema_in schema.now)
-        (inverses_seen (schema_in schema.now) inverses.now) types.now row.old.items }
+        (inverses_seen (schema_in schema.now) inverses.now) form.now row.old.items }
     ensures { OnOk result (AreNamedSources (schema_in schema.now)
-        (inverses_seen (schema_in schema.now) inverses.now) types.now row.new.items) }
+        (inverses_seen (schema_in schema.now) inverses.now) form.now row.new.items) }
 {
-    for i in 0..slots.len() {
-        add_place(schema, row, sources, inverses, types, slots[i].place)?;
+    for slot in &form.slots {
+        add_place(schema, row, sources, inverses, form, slot.place)?;
     }
     Ok(())
 }
@@ -131,18 +156,18 @@ fn add_derived<'s>(
     row: &mut Vec<NamedSource<'s>>,
     sources: &AttributeSources,
     inverses: &[InverseAttribute<'_>],
-    types: &[u32],
+    form: &Form,
     attributes: &[Derived<'s>],
 ) -> Result<(), AllocError>
     requires known { IsKnown schema.now sources.now inverses.now }
-    requires types { AreTypes (schema_in schema.now) types.now }
+    requires numbered { AreNumbered (schema_in schema.now) form.now }
     requires row { AreNamedSources (schema_in schema.now)
-        (inverses_seen (schema_in schema.now) inverses.now) types.now row.old.items }
+        (inverses_seen (schema_in schema.now) inverses.now) form.now row.old.items }
     ensures { OnOk result (AreNamedSources (schema_in schema.now)
-        (inverses_seen (schema_in schema.now) inverses.now) types.now row.new.items) }
+        (inverses_seen (schema_in schema.now) inverses.now) form.now row.new.items) }
 {
     for each in attributes {
-        add_named(schema, row, sources, inverses, types, each.attribute.name())?;
+        add_named(schema, row, sources, inverses, form, each.attribute.name())?;
     }
     Ok(())
 }
@@ -153,18 +178,18 @@ fn add_inverse<'s>(
     row: &mut Vec<NamedSource<'s>>,
     sources: &AttributeSources,
     inverses: &[InverseAttribute<'_>],
-    types: &[u32],
+    form: &Form,
     attributes: &[Inverse<'s>],
 ) -> Result<(), AllocError>
     requires known { IsKnown schema.now sources.now inverses.now }
-    requires types { AreTypes (schema_in schema.now) types.now }
+    requires numbered { AreNumbered (schema_in schema.now) form.now }
     requires row { AreNamedSources (schema_in schema.now)
-        (inverses_seen (schema_in schema.now) inverses.now) types.now row.old.items }
+        (inverses_seen (schema_in schema.now) inverses.now) form.now row.old.items }
     ensures { OnOk result (AreNamedSources (schema_in schema.now)
-        (inverses_seen (schema_in schema.now) inverses.now) types.now row.new.items) }
+        (inverses_seen (schema_in schema.now) inverses.now) form.now row.new.items) }
 {
     for each in attributes {
-        add_named(schema, row, sources, inverses, types, each.attribute.name())?;
+        add_named(schema, row, sources, inverses, form, each.attribute.name())?;
     }
     Ok(())
 }
@@ -175,23 +200,23 @@ fn add_declared<'s>(
     row: &mut Vec<NamedSource<'s>>,
     sources: &AttributeSources,
     inverses: &[InverseAttribute<'_>],
-    types: &[u32],
+    form: &Form,
     declaration: &Declaration<'s>,
 ) -> Result<(), AllocError>
     requires known { IsKnown schema.now sources.now inverses.now }
-    requires types { AreTypes (schema_in schema.now) types.now }
+    requires numbered { AreNumbered (schema_in schema.now) form.now }
     requires row { AreNamedSources (schema_in schema.now)
-        (inverses_seen (schema_in schema.now) inverses.now) types.now row.old.items }
+        (inverses_seen (schema_in schema.now) inverses.now) form.now row.old.items }
     ensures { OnOk result (AreNamedSources (schema_in schema.now)
-        (inverses_seen (schema_in schema.now) inverses.now) types.now row.new.items) }
+        (inverses_seen (schema_in schema.now) inverses.now) form.now row.new.items) }
 {
     let Declaration::Entity(entity) = declaration else {
         return Ok(());
     };
     let derived = entity.derived_attributes();
-    add_derived(schema, row, sources, inverses, types, derived)?;
+    add_derived(schema, row, sources, inverses, form, derived)?;
     let inverse = entity.inverse_attributes();
-    add_inverse(schema, row, sources, inverses, types, inverse)
+    add_inverse(schema, row, sources, inverses, form, inverse)
 }
 
 /// .. of those of the declaration of a number.
@@ -200,39 +225,39 @@ fn add_type<'s>(
     row: &mut Vec<NamedSource<'s>>,
     sources: &AttributeSources,
     inverses: &[InverseAttribute<'_>],
-    types: &[u32],
+    form: &Form,
     number: u32,
 ) -> Result<(), AllocError>
     requires known { IsKnown schema.now sources.now inverses.now }
-    requires types { AreTypes (schema_in schema.now) types.now }
+    requires numbered { AreNumbered (schema_in schema.now) form.now }
     requires row { AreNamedSources (schema_in schema.now)
-        (inverses_seen (schema_in schema.now) inverses.now) types.now row.old.items }
+        (inverses_seen (schema_in schema.now) inverses.now) form.now row.old.items }
     ensures { OnOk result (AreNamedSources (schema_in schema.now)
-        (inverses_seen (schema_in schema.now) inverses.now) types.now row.new.items) }
+        (inverses_seen (schema_in schema.now) inverses.now) form.now row.new.items) }
 {
     match schema.names.at(number) {
-        Some(declaration) => add_declared(schema, row, sources, inverses, types, declaration),
+        Some(declaration) => add_declared(schema, row, sources, inverses, form, declaration),
         None => Ok(()),
     }
 }
 
-/// .. of those of each of the types.
+/// .. of those of each of its types.
 fn add_types<'s>(
     schema: &ResolvedTypes<'s, '_>,
     row: &mut Vec<NamedSource<'s>>,
     sources: &AttributeSources,
     inverses: &[InverseAttribute<'_>],
-    types: &[u32],
+    form: &Form,
 ) -> Result<(), AllocError>
     requires known { IsKnown schema.now sources.now inverses.now }
-    requires types { AreTypes (schema_in schema.now) types.now }
+    requires numbered { AreNumbered (schema_in schema.now) form.now }
     requires row { AreNamedSources (schema_in schema.now)
-        (inverses_seen (schema_in schema.now) inverses.now) types.now row.old.items }
+        (inverses_seen (schema_in schema.now) inverses.now) form.now row.old.items }
     ensures { OnOk result (AreNamedSources (schema_in schema.now)
-        (inverses_seen (schema_in schema.now) inverses.now) types.now row.new.items) }
+        (inverses_seen (schema_in schema.now) inverses.now) form.now row.new.items) }
 {
-    for i in 0..types.len() {
-        add_type(schema, row, sources, inverses, types, types[i])?;
+    for number in &form.types {
+        add_type(schema, row, sources, inverses, form, *number)?;
     }
     Ok(())
 }
@@ -248,28 +273,56 @@ fn form_row<'s>(
     requires known { IsKnown schema.now sources.now inverses.now }
     requires numbered { AreNumbered (schema_in schema.now) form.now }
     ensures { IfOk result (λ t. AreNamedSources (schema_in schema.now)
-        (inverses_seen (schema_in schema.now) inverses.now) form.now.types.items t.items) }
+        (inverses_seen (schema_in schema.now) inverses.now) form.now t.items) }
 {
     let mut row: Vec<NamedSource<'s>> = Vec::new(alloc);
-    let types = form.types.as_slice();
-    add_slots(schema, &mut row, sources, inverses, types, &form.slots)?;
-    add_types(schema, &mut row, sources, inverses, types)?;
+    add_slots(schema, &mut row, sources, inverses, form)?;
+    add_types(schema, &mut row, sources, inverses, form)?;
     Ok(row)
 }
 
-/// Where the attribute of a name is, by the first row of it.
-fn find_in(row: &[NamedSource<'_>], name: Word<'_>) -> Option<Source>
-    ensures { (s : Schema) (inverses : List InverseTree) (types : List ℕ)
-        → AreNamedSources s inverses types row.now
-        → IfSome result (IsSourceOf s inverses types (capitals name.entry)) }
+/// The first of these sources whose name is spelt so, in the case of each letter too. None says
+/// nothing.
+fn find_spelt<'n, 's>(row: &'n [NamedSource<'s>], name: Word<'_>) -> Option<&'n NamedSource<'s>>
+    ensures { (s : Schema) (inverses : List InverseTree) (form : Form)
+        → AreNamedSources s inverses form row.entry.now
+        → IfSome result (λ x. IsFormSource s inverses (Some form) (capitals name.entry) x.now.source) }
 {
-    for i in 0..row.len() {
-        let each = row[i];
-        if each.name == name {
-            return Some(each.source);
+    for each in row {
+        if each.name.spelling() == name.spelling() {
+            return Some(each);
         }
     }
     None
+}
+
+/// .. is spelt so in any case.
+fn find_in_any_case<'n, 's>(
+    row: &'n [NamedSource<'s>],
+    name: Word<'_>,
+) -> Option<&'n NamedSource<'s>>
+    ensures { (s : Schema) (inverses : List InverseTree) (form : Form)
+        → AreNamedSources s inverses form row.entry.now
+        → IfSome result (λ x. IsFormSource s inverses (Some form) (capitals name.entry) x.now.source) }
+{
+    for each in row {
+        if each.name == name {
+            return Some(each);
+        }
+    }
+    None
+}
+
+/// The first of these sources of a name: an expression mostly spells names as they are declared.
+fn find_in<'n, 's>(row: &'n [NamedSource<'s>], name: Word<'_>) -> Option<&'n NamedSource<'s>>
+    ensures { (s : Schema) (inverses : List InverseTree) (form : Form)
+        → AreNamedSources s inverses form row.entry.now
+        → IfSome result (λ x. IsFormSource s inverses (Some form) (capitals name.entry) x.now.source) }
+{
+    match find_spelt(row, name) {
+        Some(named) => Some(named),
+        None => find_in_any_case(row, name),
+    }
 }
 
 impl<'s> FormSources<'s> {
@@ -298,11 +351,11 @@ impl<'s> FormSources<'s> {
 
     /// Where instances of a form have the value of their attribute of this name. None says nothing.
     /// It takes no memory.
-    pub fn find(&self, form: Option<u32>, name: Word<'_>) -> Option<Source>
+    pub fn find(&self, form: Option<u32>, name: Word<'_>) -> Option<&NamedSource<'s>>
         ensures { (s : Schema) (inverses : List InverseTree) (forms : List Form)
             → AreFormSources s inverses forms self.now
-            → IfSome result (IsSourceOf s inverses (types_by_form (form_among forms form))
-            (capitals name.entry)) }
+            → IfSome result (λ x. IsFormSource s inverses (form_among forms form)
+            (capitals name.entry) x.now.source) }
     {
         let Some(number) = form else {
             return None;

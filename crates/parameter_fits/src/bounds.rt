@@ -41,6 +41,7 @@ fn count_to(text: &Text<'_>, most: usize) -> usize
 
 /// Whether a string has as many characters as a width says. It goes no further than one character
 /// past the width.
+#[inline(never)]
 pub fn text_has_width(width: Limit, text: &Text<'_>) -> bool
     ensures { result ≡ has_width (limit_seen width) (length (string_items text.now.text.now)) }
 {

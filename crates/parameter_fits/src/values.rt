@@ -3,7 +3,7 @@
 ghost use Rattle.std.specs.Prelude.{◌≡◌, MatchResult};
 ghost use Rattle.step_parameters.specs.Cells.{all_of};
 ghost use Rattle.step_parameters.specs.Params.{node_value};
-ghost use Rattle.step_structures.specs.Trees.{group};
+ghost use Rattle.step_structures.specs.Trees.{typed, group};
 ghost use Rattle.step_values.specs.Values.{reference};
 ghost use Rattle.row_index.specs.Index.{found};
 ghost use Rattle.conformance.specs.Bases.{Domain, IsDomain};
@@ -18,6 +18,7 @@ use base_types::base::Base;
 use base_types::lookup::Bases;
 use row_index::index::RowIndex;
 use std::alloc::AllocError;
+use step_literals::literal::Word;
 use step_parameters::param::{Node, Param, Params};
 use step_values::row_builder::RowBuilder;
 
@@ -74,13 +75,36 @@ fn push_node<'t: 'a, 'a>(
         Node::Bits(bits) => builder.push_bits(bits),
         Node::Element(word) => builder.push_element(word),
         Node::Reference(name, _) => push_reference(builder, index, name),
-        Node::Typed(word, inner) => {
-            let within = item(bases, *base, word).unwrap_or(*base);
-            push_value(bases, builder, &within, index, &inner)?;
-            builder.close_typed(word)
-        }
+        Node::Typed(word, inner) => push_typed(bases, builder, base, index, word, &inner),
         Node::List(params) => push_list(bases, builder, base, index, &params),
     }
+}
+
+/// Pushes the value of a typed parameter, which has this keyword and this parameter inside.
+#[cycle(values)]
+#[inline(never)]
+fn push_typed<'t: 'a, 'a>(
+    bases: &Bases<'_, '_, '_>,
+    builder: &mut RowBuilder<'_, 'a>,
+    base: &Base,
+    index: &RowIndex,
+    word: Word<'t>,
+    inner: &Param<'t>,
+) -> Result<(), AllocError>
+    requires bases { AreBases bases.now }
+    requires numbered { IsNumbered (schema_at bases.now) base.now }
+    requires indexed { AreFound builder.old.names (found index.now) }
+    requires within { RefersWithin (found index.now) inner.now }
+    ensures { MatchResult result
+        (λ _. (d : Domain) → IsDomain (schema_at bases.now) d
+        → Pushes builder.old builder.new
+        (value_as (schema_at bases.now) d (base_seen (schema_at bases.now) base.now)
+        (typed word.entry.text.now inner.now)))
+        (λ _. builder.new.names ≡ builder.old.names) }
+{
+    let within = item(bases, *base, word).unwrap_or(*base);
+    push_value(bases, builder, &within, index, inner)?;
+    builder.close_typed(word)
 }
 
 /// Pushes a reference, with the row that has its name.

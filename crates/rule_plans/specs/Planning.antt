@@ -25,7 +25,7 @@ pub record IsPlan (S : Setting) (p : Plan) : Type 0 where
   pub tables : AreTablesOf (schema_in S) p.rules.now (map (λ v. v.items) p.tables.items)
   pub union : IsUnion (length (schema_in S).declarations) (map (λ v. v.items) p.tables.items) p.union.items
   pub seeks : p.seeks ≡ list_any is_type_rule p.rules.now
-  pub unsought : p.seeks ≡ true → AreTables S p.union.items (map (λ v. v.items) p.unsought.items)
+  pub unsought : p.seeks ≡ true → AreTables S p.union.items p.unsought
 
 module _ (S : Setting) (m : Meant S) (x : Instance) (types : List ℕ) where
   -- Where none of these numbers passes a test that tells the defined type which states a rule and those that are

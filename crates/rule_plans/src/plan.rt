@@ -1,6 +1,6 @@
 //! What is made once, to try rules at the instances of a population.
 
-ghost use Rattle.std.specs.Prelude.{◌≡◌, ◌<◌, true, Some, length, map, slice_get, IfOk};
+ghost use Rattle.std.specs.Prelude.{◌≡◌, ◌<◌, true, Some, length, slice_get, IfOk};
 ghost use Rattle.express_schemas.specs.Profile.{Every};
 ghost use Rattle.conformance.specs.Populations.{Instance};
 ghost use Rattle.domain_rules.specs.Seen.{IsNumbered};
@@ -12,7 +12,7 @@ use crate::applying::numbers_by_form;
 use crate::wanted::{has_type_rule, tables_of, union_of};
 use domain_rules::rule::DomainRule;
 use express_settings::setting::Setting;
-use self_values::unsought::unsought_by_form;
+use self_values::unsought::{Unsought, unsought_by_form};
 use self_values::values::value_types;
 use std::alloc::{AllocError, Global};
 
@@ -28,27 +28,28 @@ pub struct Plan<'s, 't, 'n> {
     pub union: Vec<bool>,
     /// A defined type states one of the rules.
     pub seeks: bool,
-    /// By form, by attribute, whether none of its declarations has a data type for whose values or
-    /// elements some rule is tried; empty where no defined type states a rule.
-    pub unsought: Vec<Vec<bool>>,
+    /// Where no values can stand for which the rule of a defined type is tried; empty where no
+    /// defined type states a rule.
+    pub unsought: Unsought,
 }
 
-/// By form, by attribute, whether no values of these types are sought there, where they are sought
-/// at all; else an empty table.
+/// Where no values of these types can stand, where they are sought at all; else empty tables.
 fn unsought_where(
     alloc: Global,
     setting: &Setting<'_, '_, '_, '_, '_, '_>,
     wanted: &[bool],
     seeks: bool,
-) -> Result<Vec<Vec<bool>>, AllocError>
+) -> Result<Unsought, AllocError>
     requires { IsSetting setting.now }
-    ensures { IfOk result (λ t. seeks ≡ true
-        → AreTables setting.now wanted.now (map (λ v. v.items) t.items)) }
+    ensures { IfOk result (λ t. seeks ≡ true → AreTables setting.now wanted.now t) }
 {
     if seeks {
         return unsought_by_form(alloc, setting, wanted);
     }
-    Ok(Vec::new(alloc))
+    Ok(Unsought {
+        attributes: Vec::new(alloc),
+        forms: Vec::new(alloc),
+    })
 }
 
 /// The plan of these rules.

@@ -1,4 +1,5 @@
 pub mod Adding
+pub mod Forms
 pub mod Fitting
 pub mod Meaning
 pub mod Passing

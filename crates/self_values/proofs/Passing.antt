@@ -21,7 +21,7 @@ use Rattle.self_values.specs.declared.sought.Seeker.{Seeker}
 use Rattle.self_values.specs.declared.values.Asked.{Asked}
 use Rattle.self_values.specs.Coded.{is_whole, told_by, by_number, elements_of, coded_itself, coded_values, coded_each, coded_uses, coded_place, slots_in}
 use Rattle.self_values.specs.Flat.{is_plain, are_plain, is_flat, is_flat_at}
-use Rattle.self_values.specs.Unsought.{is_unsought, all_unsought, is_unsought_place, unsought_of, AreUnsought, table_by, seeker_in, forms_in, AreTables, AreRight}
+use Rattle.self_values.specs.Unsought.{is_unsought, all_unsought, is_unsought_place, unsought_of, AreUnsought, all_wholly_unsought, is_unsought_form, says_form, table_by, seeker_in, forms_in, unsought_in, unsought_forms_in, AreRight, IsRight}
 use Rattle.self_values.proofs.Walking.{nothing-there}
 
 pub first-of : (a b : Bool) → (a && b) ≡ true → a ≡ true
@@ -109,6 +109,14 @@ module _ (x : Seeker) where
   tables-say t (f ∷ forms) (Some zero) = said t f.types.items f.slots.items
   tables-say t (f ∷ forms) (Some (suc n)) = tables-say t forms (Some n)
 
+  pub table-says : (t : Uses) (declared : List Base) (forms : List Form) (o : Option ℕ)
+      → says_form (map (is_unsought_form x t declared) forms) o ≡ true
+      → all_wholly_unsought x t declared (types_by_form (form_among forms o)) (slots_in (form_among forms o)) ≡ true
+  table-says t declared forms None e = refl
+  table-says t declared [] (Some n) e = refl
+  table-says t declared (f ∷ forms) (Some zero) e = e
+  table-says t declared (f ∷ forms) (Some (suc n)) e = table-says t declared forms (Some n) e
+
   -- the same, of lists that are the same
   pub alike : (t : Uses) (types types2 : List ℕ) (slots slots2 : List SlotForm) (table table2 : List Bool)
       → types ≡ types2 → slots ≡ slots2 → table ≡ table2 → AreUnsought x t types2 slots2 table2
@@ -124,6 +132,10 @@ module _ (S : Setting) (wanted : List Bool) where
   none-right (Some n) = says-nothing (seeker_in S wanted) S.tables.now.uses.now
       (types_by_form (form_among (forms_in S) (Some n))) (slots_in (form_among (forms_in S) (Some n)))
 
-  pub tables-right : (tables : List (List Bool)) → AreTables S wanted tables → AreRight S wanted tables
+  pub tables-right : (tables : List (List Bool)) → tables ≡ unsought_in S wanted → AreRight S wanted tables
   tables-right tables are = subst (AreRight S wanted) (sym are)
       (tables-say (seeker_in S wanted) S.tables.now.uses.now (forms_in S))
+
+  pub table-right : (table : List Bool) → table ≡ unsought_forms_in S wanted → IsRight S wanted table
+  table-right table is = subst (IsRight S wanted) (sym is)
+      (table-says (seeker_in S wanted) S.tables.now.uses.now S.tables.now.declared.items (forms_in S))

@@ -52,12 +52,12 @@ use Rattle.self_values.proofs.Sifting.{told}
 some-is : {A : Type 0} (x y : A) → Some x ≡ Some y → x ≡ y
 some-is x y e = cc
 
-got : {A : Type 0} (xs : List A) (i : ℕ) (x d : A) → slice_get xs i ≡ Some x → get_or xs i d ≡ x
+pub got : {A : Type 0} (xs : List A) (i : ℕ) (x d : A) → slice_get xs i ≡ Some x → get_or xs i d ≡ x
 got [] i x d e = absurd (cc)
 got (y ∷ ys) zero x d e = cc
 got (y ∷ ys) (suc i) x d e = got ys i x d e
 
-place-there : (ps : List Place) (q : ℕ) → q < length ps → slice_get ps q ≡ Some (or_nowhere (slice_get ps q))
+pub place-there : (ps : List Place) (q : ℕ) → q < length ps → slice_get ps q ≡ Some (or_nowhere (slice_get ps q))
 place-there [] q lt = absurd (omega (arith, lt))
 place-there (p ∷ ps) zero lt = refl
 place-there (p ∷ ps) (suc q) lt = place-there ps q (omega (arith, lt))

@@ -1,9 +1,13 @@
--- Values that no value stands inside of but elements without parts.
+-- Values that no value stands inside of but elements without parts, and the data types that have no others.
 use Rattle.std.specs.Prelude.{Bool, true, false, ◌&&◌, Option, None, Some}
 use Rattle.step_values.specs.declared.slot.Kind.{Kind}
 use Rattle.step_values.specs.declared.slot.Kind.TheVariants as kinds
 use Rattle.step_values.specs.Slots.{kind_of}
 use Rattle.step_values.specs.Values.{Value, typed, sequence, bag, Values, none, more}
+use Rattle.base_types.specs.declared.base.Base.{Base}
+use Rattle.base_types.specs.declared.base.Base.TheVariants as bases
+use Rattle.held_values.specs.declared.types.ValueTypes.{ValueTypes}
+use Rattle.held_values.specs.Coded.{element_base}
 
 -- a value of this kind has no parts
 abbrev pub is_plain : Kind → Bool
@@ -27,3 +31,13 @@ is_flat v = true
 abbrev pub is_flat_at : Option Value → Bool
 is_flat_at None = true
 is_flat_at (Some v) = is_flat v
+
+-- the values that fit a data type have no parts
+abbrev pub has_plain_values : Base → Bool
+has_plain_values (bases.Select i) = false
+has_plain_values (bases.Aggregate a) = false
+has_plain_values b = true
+
+-- .. or are aggregates whose elements have none
+abbrev pub has_flat_values : ValueTypes → Base → Bool
+has_flat_values t b = has_plain_values (element_base t b)

@@ -1,6 +1,9 @@
--- The attributes that can't have a value of a type that is sought, but inside typed values or deeper ones.
-use Rattle.std.specs.Prelude.{◌≡◌, ℕ, Bool, true, ◌&&◌, List, [], map, Option, None, Some, slice_get, is_none}
+-- The attributes that can't have a value of a type that is sought, but inside typed values or deeper ones; and the forms
+-- whose instances can't have one at all.
+use Rattle.std.specs.Prelude.{◌≡◌, ℕ, Bool, true, false, ◌&&◌, List, [], map, Option, None, Some, slice_get, is_none}
 use Rattle.std.specs.List.{list_all}
+use Rattle.base_types.specs.declared.base.Base.{Base}
+use Rattle.base_types.specs.Making.{entry}
 use Rattle.attribute_uses.specs.declared.uses.AttributeUse.{AttributeUse}
 use Rattle.attribute_uses.specs.declared.uses.Uses.{Uses}
 use Rattle.row_forms.specs.declared.form.Form.{Form}
@@ -9,7 +12,9 @@ use Rattle.instance_forms.specs.Slots.{uses_by}
 use Rattle.step_population.specs.Whole.{form_among, types_by_form}
 use Rattle.express_settings.specs.declared.setting.Setting.{Setting}
 use Rattle.self_values.specs.declared.sought.Seeker.{Seeker}
+use Rattle.self_values.specs.declared.unsought.Unsought.{Unsought}
 use Rattle.self_values.specs.Coded.{by_number, elements_of, is_wanted, slots_in}
+use Rattle.self_values.specs.Flat.{has_flat_values}
 
 module _ (x : Seeker) where
   -- neither the data type of a number nor that of its elements is one whose values are sought
@@ -34,6 +39,18 @@ module _ (x : Seeker) where
         (i : ℕ) (y : SlotForm) → slice_get slots i ≡ Some y → is_wanted table i ≡ true
         → is_unsought_place types y.place ≡ true
 
+    module _ (declared : List Base) where
+      -- .. and the values that the attribute of a place is declared for are flat: none that is sought is among them
+      abbrev pub is_wholly_unsought : List ℕ → ℕ → Bool
+      is_wholly_unsought types q = is_unsought_place types q && has_flat_values x.types.now (entry declared q)
+
+      -- .. of each of these attributes
+      abbrev pub all_wholly_unsought : List ℕ → List SlotForm → Bool
+      all_wholly_unsought types slots = list_all (λ (y : SlotForm). is_wholly_unsought types y.place) slots
+
+      abbrev pub is_unsought_form : Form → Bool
+      is_unsought_form f = all_wholly_unsought f.types.items f.slots.items
+
 -- the table of a form, by its number; an empty one where there is none
 abbrev pub or_empty : Option (List Bool) → List Bool
 or_empty None = []
@@ -42,6 +59,11 @@ or_empty (Some table) = table
 abbrev pub table_by : List (List Bool) → Option ℕ → List Bool
 table_by tables None = []
 table_by tables (Some n) = or_empty (slice_get tables n)
+
+-- what a table says of the form of a number
+abbrev pub says_form : List Bool → Option ℕ → Bool
+says_form table None = false
+says_form table (Some n) = is_wanted table n
 
 -- the forms of the instances of a population
 abbrev pub forms_in : Setting → List Form
@@ -57,9 +79,17 @@ module _ (S : Setting) (wanted : List Bool) where
     wanted = record { ref_ptr = (0, 0); now = wanted };
   }
 
+  -- By attribute of the form of an instance, by form; and by form.
+  abbrev pub unsought_in : List (List Bool)
+  unsought_in = map (unsought_of seeker_in S.tables.now.uses.now) (forms_in S)
+
+  abbrev pub unsought_forms_in : List Bool
+  unsought_forms_in = map (is_unsought_form seeker_in S.tables.now.uses.now S.tables.now.declared.items) (forms_in S)
+
   -- The tables are those of the forms of instances.
-  abbrev pub AreTables : List (List Bool) → Type 0
-  AreTables tables = tables ≡ map (unsought_of seeker_in S.tables.now.uses.now) (forms_in S)
+  pub record AreTables (u : Unsought) : Type 0 where
+    pub attributes : map (λ v. v.items) u.attributes.items ≡ unsought_in
+    pub forms : u.forms.items ≡ unsought_forms_in
 
   -- What they say of the attributes of a form is so.
   abbrev pub AreRight : List (List Bool) → Type 0
@@ -67,3 +97,10 @@ module _ (S : Setting) (wanted : List Bool) where
       (o : Option ℕ)
       → AreUnsought seeker_in S.tables.now.uses.now (types_by_form (form_among (forms_in S) o))
       (slots_in (form_among (forms_in S) o)) (table_by tables o)
+
+  -- What one says of a form is so.
+  abbrev pub IsRight : List Bool → Type 0
+  IsRight table =
+      (o : Option ℕ) → says_form table o ≡ true
+      → all_wholly_unsought seeker_in S.tables.now.uses.now S.tables.now.declared.items
+      (types_by_form (form_among (forms_in S) o)) (slots_in (form_among (forms_in S) o)) ≡ true

@@ -3,8 +3,17 @@
 
 ghost use Rattle.std.specs.Prelude.{◌≡◌};
 ghost use Rattle.step_values.specs.Slots.{nth};
-ghost use Rattle.self_values.specs.Flat.{is_plain, are_plain, is_flat, is_flat_at};
+ghost use Rattle.self_values.specs.Flat.{
+  is_plain,
+  are_plain,
+  is_flat,
+  is_flat_at,
+  has_plain_values,
+  has_flat_values,
+};
 
+use base_types::base::Base;
+use held_values::types::ValueTypes;
 use step_values::slot::{Kind, Node, Slot, Slots};
 
 /// Whether a value of this kind has no parts.
@@ -51,4 +60,22 @@ pub(crate) fn is_flat_at(values: &Slots<'_, '_>, position: usize) -> bool
         Some(value) => is_flat(&value),
         None => true,
     }
+}
+
+/// Whether the values that fit a data type have no parts. Typed values fit SELECTs alone.
+fn has_plain_values(base: Base) -> bool
+    ensures { result ≡ has_plain_values base }
+{
+    match base {
+        Base::Select(_) | Base::Aggregate(_) => false,
+        Base::Integer | Base::Number | Base::Boolean | Base::Logical => true,
+        Base::String(_) | Base::Binary(_) | Base::Enumeration(_) | Base::Entity(_) => true,
+    }
+}
+
+/// Whether they are no typed ones, and have no elements with parts.
+pub(crate) fn has_flat_values(types: &ValueTypes<'_>, base: &Base) -> bool
+    ensures { result ≡ has_flat_values types.now base.now }
+{
+    has_plain_values(*types.of_elements(base))
 }

@@ -41,12 +41,12 @@ ghost use Rattle.self_values.specs.Coded.{
 ghost use Rattle.self_values.specs.Flat.{is_flat_at};
 ghost use Rattle.self_values.specs.Seeking.{Tells, Adds};
 ghost use Rattle.self_values.specs.Speaking.{is_of, values_of, AreFound, TypesTell};
-ghost use Rattle.self_values.specs.Unsought.{is_unsought_place, AreUnsought, AreRight};
+ghost use Rattle.self_values.specs.Unsought.{is_unsought_place, AreUnsought, AreRight, IsRight};
 
 use crate::flat::is_flat_at;
 use crate::found::Found;
 use crate::sought::{Seeker, Sought};
-use crate::unsought::table_by;
+use crate::unsought::{Unsought, says_form, table_by};
 use crate::walk::add_values;
 use attribute_uses::uses::{AttributeUse, Uses};
 use base_types::base::Base;
@@ -59,7 +59,7 @@ use step_values::slot::Slots;
 
 /// What the data types of an instance's values are told by.
 #[derive(Drop)]
-struct Asked<'n> {
+pub(crate) struct Asked<'n> {
     /// What the entities of the schema say of attributes.
     pub uses: &'n Uses,
     /// By number of an explicit attribute, what its declaration asks of its values.
@@ -95,7 +95,7 @@ fn slots_at(forms: &[Form], form: Option<u32>) -> &[SlotForm]
 }
 
 /// What the declaration of an attribute asks of its values.
-fn declared_at(declared: &[Base], place: u32) -> &Base
+pub(crate) fn declared_at(declared: &[Base], place: u32) -> &Base
     ensures { result.now ≡ entry declared.now place }
 {
     match declared.get(place as usize) {
@@ -323,12 +323,9 @@ pub fn self_values<'p, 'e, 'r, 't, 's: 'r, 'a>(
     Ok(values)
 }
 
-/// The numbers of the defined types of such values, each once: there is none for the rules of a type
-/// where none of these numbers is that of the type or of one that is defined by it. The tables are
-/// those of `unsought_by_form`; without one, all attributes are looked at.
-///
-/// An error says that memory ran out.
-pub fn value_types<'p, 'e, 'r, 't, 's: 'r, 'a>(
+/// The numbers of the defined types of the values that are found at the instance of a row, attribute
+/// by attribute.
+fn types_found<'p, 'e, 'r, 't, 's: 'r, 'a>(
     alloc: Global,
     setting: &Setting<'s, 't, 'r, 'a, 'e, 'p>,
     row: usize,
@@ -349,4 +346,30 @@ pub fn value_types<'p, 'e, 'r, 't, 's: 'r, 'a>(
     add_values_of(setting, &mut found, row, wanted, unsought)?;
     let Found { types, .. } = found;
     Ok(types)
+}
+
+/// The numbers of the defined types of such values, each once: there is none for the rules of a type
+/// where none of these numbers is that of the type or of one that is defined by it. The tables are
+/// those of `unsought_by_form`; without them, all attributes are looked at.
+///
+/// An error says that memory ran out.
+pub fn value_types<'p, 'e, 'r, 't, 's: 'r, 'a>(
+    alloc: Global,
+    setting: &Setting<'s, 't, 'r, 'a, 'e, 'p>,
+    row: usize,
+    wanted: &[bool],
+    unsought: &Unsought,
+) -> Result<Vec<u32>, AllocError>
+    requires setting { IsSetting setting.now }
+    requires within { row < length (population_in setting.now) }
+    requires unsought { AreRight setting.now wanted.now (map (λ v. v.items) unsought.now.attributes.items) }
+    requires forms { IsRight setting.now wanted.now unsought.now.forms.items }
+    ensures { IfOk result (λ v. (m : Meant setting.now) → (x : Instance)
+        → slice_get (population_in setting.now) row ≡ Some x → TypesTell setting.now m x wanted.now v.items) }
+{
+    let instance = setting.extents.population.instance(row);
+    if says_form(&unsought.forms, instance.form) {
+        return Ok(Vec::new(alloc));
+    }
+    types_found(alloc, setting, row, wanted, &unsought.attributes)
 }

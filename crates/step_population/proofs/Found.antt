@@ -1,5 +1,5 @@
 -- Instances by name, and their values by the numbers of places.
-use Rattle.std.specs.Prelude.{◌≡◌, ℕ, zero, suc, ◌==◌, ◌<◌, ◌≤◌, ◌+◌, ◌-◌, Bool, true, false, cond, is_some, List, [], ◌∷◌, length, map, Option, None, Some, slice_get}
+use Rattle.std.specs.Prelude.{◌≡◌, ℕ, zero, suc, ◌==◌, ◌<◌, ◌≤◌, ◌+◌, ◌-◌, Bool, true, false, cond, is_some, List, [], ◌∷◌, length, map, Option, None, Some, IfSome, slice_get}
 use Rattle.std.specs.List.{repeat, sum_by}
 use Rattle.std.specs.Option.{option_map}
 use Rattle.std.proofs.Common.{refl, sym, ap, subst, ◌∙◌, arith, eqb-true, length-append}
@@ -20,6 +20,7 @@ use Rattle.step_exchange.specs.declared.section.Section.{Section}
 use Rattle.step_exchange.specs.Sections.{CountsTo}
 use Rattle.step_values.specs.ComputedAgreement.{size}
 use Rattle.step_values.specs.NodeCounts.{nodes_of, nodes_in}
+use Rattle.step_values.specs.Slots.{nth}
 use Rattle.step_values.specs.References.{EachReference, EachReferenceOf}
 use Rattle.step_values.specs.Targets.{ReferTo}
 use Rattle.step_values.specs.Values.{Value, leaf, reference, typed, sequence, bag, Values, none, more}
@@ -34,7 +35,7 @@ use Rattle.row_forms.specs.declared.form.SlotForm.{SlotForm}
 use Rattle.row_forms.specs.declared.form.Form.{Form}
 use Rattle.conformance.specs.Populations.{Slot, Instance, instance_at, slot_at, value_in, value_of, types_in, types_at}
 use Rattle.step_population.specs.Seen.{or_nowhere, place_at, slots_seen, instance_seen, instances_seen, section_numbers, population_seen, nodes_seen}
-use Rattle.step_population.specs.Whole.{form_among, types_by_form, slot_count, ArePlaced, HaveEntities, AreNumbered, HaveSlots}
+use Rattle.step_population.specs.Whole.{form_among, types_by_form, slots_by_form, slot_count, ArePlaced, HaveEntities, AreNumbered, HaveSlots}
 use Rattle.step_population.specs.Ordering.{picked_at, position_among}
 use Rattle.step_population.specs.declared.population.Population.{Population}
 use Rattle.step_population.proofs.Turns.{got, form-of-row}
@@ -299,6 +300,12 @@ module _ (s : Schema) where
   value_by_form None vs q = None
   value_by_form (Some x) vs q = picked_at vs (position_among x.slots.items q)
 
+  -- .. by its position
+  pub value-at-position : (o : Option Form) (vs : Values) (q i : ℕ) → position_among (slots_by_form o) q ≡ Some i
+      → value_by_form o vs q ≡ nth vs i
+  value-at-position None vs q i e = absurd (cc)
+  value-at-position (Some x) vs q i e = ap (picked_at vs) e
+
   module _ (one : AreOne (all_places s)) (q : ℕ) (lt : q < length (all_places s)) where
     pub value-at-number : (xs : List SlotForm) (vs : Values)
         → Every (λ (y : SlotForm). y.place < length (all_places s)) xs
@@ -332,9 +339,9 @@ module _ (s : Schema) (q : ℕ) (le : length (all_places s) ≤ q) where
       ap (λ (b : Bool). cond b (Some 0) (option_map suc (position_among xs q))) other
       ∙ ap (option_map suc) (beyond-slots xs h.1)
 
-  pub beyond-form : (o : Option Form) (vs : Values) → ArePlaced s o → value_by_form s o vs q ≡ None
-  beyond-form None vs h = refl
-  beyond-form (Some x) vs h = ap (picked_at vs) (beyond-slots x.slots.items h)
+  pub beyond-form : (o : Option Form) → ArePlaced s o → position_among (slots_by_form o) q ≡ None
+  beyond-form None h = refl
+  beyond-form (Some x) h = beyond-slots x.slots.items h
 
 pub types-of-form : (s : Schema) (y k : ℕ) (o : Option Form) (vs : Values)
     → types_in (Some (instance_seen s y k o vs)) ≡ map (name_at s) (types_by_form o)
@@ -419,15 +426,20 @@ module _ (p : Population) where
           by true g rest = let same : 0 ≡ j = cc in omega (arith, same)
           by false g rest = behind (place_of ns y) rest g
 
+  pub row-of-name : (y : ℕ) (o : Option ℕ) → o ≡ found p.rows.index y → IfSome o (λ i. i < length (population_seen p))
+  row-of-name y None e = tt
+  row-of-name y (Some i) e = subst (λ n. i < n) (sym population-length) (row-within y i (sym e))
+
+  pub no-instance : (y : ℕ) → found p.rows.index y ≡ None → instance_at (population_seen p) y ≡ None
+  no-instance y e =
+      seen-none schema_seen p.rows.forms.items p.exchange.now.names _ p.rows.form_of.items p.values.rows y
+      (sym (is-kept.index y) ∙ e)
+
   pub no-value : (y : ℕ) (at : Place) → found p.rows.index y ≡ None → value_of (population_seen p) y at ≡ None
-  no-value y at e =
-      ap (λ o. value_in o at) (seen-none schema_seen p.rows.forms.items p.exchange.now.names _ p.rows.form_of.items
-      p.values.rows y (sym (is-kept.index y) ∙ e))
+  no-value y at e = ap (λ o. value_in o at) (no-instance y e)
 
   pub no-types : (y : ℕ) → found p.rows.index y ≡ None → types_at (population_seen p) y ≡ []
-  no-types y e =
-      ap types_in (seen-none schema_seen p.rows.forms.items p.exchange.now.names _ p.rows.form_of.items
-      p.values.rows y (sym (is-kept.index y) ∙ e))
+  no-types y e = ap types_in (no-instance y e)
 
   module _ (y i : ℕ) (e : found p.rows.index y ≡ Some i) where
     pub instance-there : IsSeen schema_seen p.rows.forms.items p.exchange.now.names
@@ -445,10 +457,12 @@ module _ (p : Population) where
         (form_among p.rows.forms.items instance-there.form) instance-there.values
         (every-at _ p.rows.form_of.items i instance-there.form is-kept.placed instance-there.at_form)
 
-    pub value-beyond : (q : ℕ) → length (all_places schema_seen) ≤ q
-        → value_by_form schema_seen (form_among p.rows.forms.items instance-there.form) instance-there.values q ≡ None
-    value-beyond q le =
-        beyond-form schema_seen q le (form_among p.rows.forms.items instance-there.form) instance-there.values
+    pub position-beyond : (q : ℕ) → length (all_places schema_seen) ≤ q
+        → position_among (slots_by_form (form_in_rows p.rows i)) q ≡ None
+    position-beyond q le =
+        ap (λ o. position_among (slots_by_form o) q)
+        (form-of-row schema_seen p.rows i instance-there.form instance-there.at_form)
+        ∙ beyond-form schema_seen q le (form_among p.rows.forms.items instance-there.form)
         (every-at _ p.rows.form_of.items i instance-there.form is-kept.placed instance-there.at_form)
 
     pub types-there : types_at (population_seen p) y
@@ -467,11 +481,6 @@ module _ (p : Population) where
           → value_of (population_seen p) y (place_at schema_seen q) ≡ value_by_form schema_seen f instance-there.values q
       value-of-row q lt =
           value-there q lt ∙ ap (λ g. value_by_form schema_seen g instance-there.values q) (sym form-is)
-
-      pub beyond-of-row : (q : ℕ) → length (all_places schema_seen) ≤ q
-          → value_by_form schema_seen f instance-there.values q ≡ None
-      beyond-of-row q le =
-          ap (λ g. value_by_form schema_seen g instance-there.values q) form-is ∙ value-beyond q le
 
       pub types-of-row : types_at (population_seen p) y ≡ map (name_at schema_seen) (types_by_form f)
       types-of-row = types-there ∙ ap (λ g. map (name_at schema_seen) (types_by_form g)) (sym form-is)

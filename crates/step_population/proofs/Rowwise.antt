@@ -1,6 +1,7 @@
 -- The instance of a row.
-use Rattle.std.specs.Prelude.{◌≡◌, ℕ, zero, suc, ◌<◌, List, [], ◌∷◌, length, Option, None, Some, slice_get}
-use Rattle.std.proofs.Common.{sym, subst, ◌∙◌}
+use Rattle.std.specs.Prelude.{◌≡◌, ℕ, zero, suc, ◌<◌, List, [], ◌∷◌, length, Option, None, Some, slice_get, get_or}
+use Rattle.std.proofs.Common.{sym, ap, subst, ◌∙◌}
+use Rattle.std.proofs.lemmas.Option.{slice_get-get_or}
 use Rattle.express_schemas.specs.Schemas.{Schema}
 use Rattle.express_schemas.specs.Profile.{Every}
 use Rattle.step_values.specs.Values.{Values}
@@ -40,6 +41,13 @@ module _ (p : Population) (i : ℕ) where
   pub entities-row : (f : Option ℕ) → slice_get p.rows.form_of.items i ≡ Some f
       → HaveEntities (schema_seen p) (form_among p.rows.forms.items f)
   entities-row f at = every-at _ p.rows.form_of.items i f (kept p).entities at
+
+  pub form-here : i < length (population_seen p) → (f d : Option ℕ) → f ≡ get_or p.rows.form_of.items i d
+      → slice_get p.rows.form_of.items i ≡ Some f
+  form-here lt f d e = slice_get-get_or p.rows.form_of.items i d within ∙ ap Some (sym e)
+    where
+      within : i < length p.rows.form_of.items
+      within = subst (λ n. i < n) (sym (kept p).forms) (row-of lt)
 
   pub instance-row : (lt : i < length (population_seen p)) (n : ℕ) (f : Option ℕ) (vs : Values)
       → slice_get p.exchange.now.names i ≡ Some n → slice_get p.rows.form_of.items i ≡ Some f

@@ -25,6 +25,11 @@ abbrev pub types_by_form : Option Form → List ℕ
 types_by_form None = []
 types_by_form (Some x) = x.types.items
 
+-- the attributes of an instance of this form
+abbrev pub slots_by_form : Option Form → List SlotForm
+slots_by_form None = []
+slots_by_form (Some x) = x.slots.items
+
 -- the attributes of a form are numbered
 abbrev pub ArePlaced : Schema → Option Form → Type 0
 ArePlaced s None = ⊤

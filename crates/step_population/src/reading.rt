@@ -1,7 +1,6 @@
 //! What a typed population says of its instances.
 
-ghost use Rattle.std.specs.Prelude.{◌≡◌, ◌<◌, ◌≤◌, None, length, map, slice_get};
-ghost use Rattle.std.specs.Option.{option_flatten};
+ghost use Rattle.std.specs.Prelude.{◌≡◌, ◌<◌, ◌≤◌, ℕ, None, Some, length, map, IfSome};
 ghost use Rattle.columns.specs.Nodes.{IsColumn};
 ghost use Rattle.step_values.specs.Cells.{value_nodes};
 ghost use Rattle.step_values.specs.Targets.{LeadTo, targets_of};
@@ -10,15 +9,17 @@ ghost use Rattle.express_schemas.specs.SchemaViews.{schema_of};
 ghost use Rattle.schema_names.specs.Numbers.{HasNumber};
 ghost use Rattle.attribute_places.specs.Places.{all_places};
 ghost use Rattle.row_forms.specs.declared.form.SlotForm.{SlotForm};
-ghost use Rattle.row_index.specs.Index.{place_of};
+ghost use Rattle.row_forms.specs.Rows.{form_at as form_in_rows};
+ghost use Rattle.row_index.specs.Index.{found, place_of};
 ghost use Rattle.base_types.specs.Seen.{name_at};
 ghost use Rattle.conformance.specs.Populations.{value_of, types_at};
 ghost use Rattle.step_population.specs.Seen.{place_at, population_seen, nodes_seen};
-ghost use Rattle.step_population.specs.Whole.{form_among, types_by_form};
+ghost use Rattle.step_population.specs.Ordering.{position_among};
+ghost use Rattle.step_population.specs.Whole.{form_among, slots_by_form, types_by_form};
 
 use crate::population::Population;
 use row_forms::form::SlotForm;
-use row_forms::rows::{Rows, form_at};
+use row_forms::rows::form_at;
 use step_values::cell::Cell;
 use step_values::slot::Slot;
 
@@ -34,22 +35,47 @@ pub fn position_of(slots: &[SlotForm], place: u32) -> Option<usize>
     None
 }
 
-/// The number of the form of a row; none where one of its keywords is no entity.
-fn form_number(rows: &Rows, row: usize) -> Option<u32>
-    ensures { result ≡ option_flatten (slice_get rows.now.form_of.items row) }
-{
-    match rows.form_of.get(row) {
-        Some(number) => *number,
-        None => None,
-    }
-}
-
 impl<'s, 't, 'r, 'a> Population<'s, 't, 'r, 'a> {
     /// How many instances there are.
     pub fn len(&self) -> usize
         ensures { result ≡ length (population_seen self.now) }
     {
         self.exchange.names.len()
+    }
+
+    /// The row of the instance of a name, counted from 0 in the order of the file; none where there
+    /// is no such instance. It takes no memory.
+    pub fn row_of(&self, name: u64) -> Option<u32>
+        ensures found { result ≡ found self.now.rows.index name }
+        ensures within { IfSome result (λ row. row < length (population_seen self.now)) }
+    {
+        self.rows.index.find(name)
+    }
+
+    /// The number of the form of the instance of a row, among those of the population. It takes no
+    /// memory.
+    pub fn form_of_row(&self, row: u32) -> Option<u32>
+        requires { row < length (population_seen self.now) }
+        ensures form { form_among self.now.rows.forms.items result ≡ form_in_rows self.now.rows row }
+        ensures types { (name : ℕ) → found self.now.rows.index name ≡ Some row
+            → types_at (population_seen self.now) name
+            ≡ map (name_at (schema_of self.now.types.now.names.schema.now))
+            (types_by_form (form_among self.now.rows.forms.items result)) }
+    {
+        self.rows.form_of[row as usize]
+    }
+
+    /// The value that the instance of a row has of the attribute that stands at a position among those
+    /// of its form; none where it has no value of it. It takes no memory.
+    pub fn value_at(&self, row: u32, position: usize) -> Option<Slot<'_, 'r>>
+        requires { row < length (population_seen self.now) }
+        ensures { (name place : ℕ) → found self.now.rows.index name ≡ Some row
+            → place < length (all_places (schema_of self.now.types.now.names.schema.now))
+            → position_among (slots_by_form (form_in_rows self.now.rows row)) place ≡ Some position
+            → result ≡ value_of (population_seen self.now) name
+            (place_at (schema_of self.now.types.now.names.schema.now) place) }
+    {
+        self.values.row(row as usize).item(position)
     }
 
     /// The value that the instance of a name has of the attribute of this number; none where there
@@ -61,7 +87,7 @@ impl<'s, 't, 'r, 'a> Population<'s, 't, 'r, 'a> {
         ensures beyond { length (all_places (schema_of self.now.types.now.names.schema.now)) ≤ place
             → result ≡ None }
     {
-        let Some(row) = self.rows.index.find(name) else {
+        let Some(row) = self.row_of(name) else {
             return None;
         };
         let Some(form) = form_at(&self.rows, row as usize) else {
@@ -70,7 +96,7 @@ impl<'s, 't, 'r, 'a> Population<'s, 't, 'r, 'a> {
         let Some(position) = position_of(&form.slots, place) else {
             return None;
         };
-        self.values.row(row as usize).item(position)
+        self.value_at(row, position)
     }
 
     /// The numbers of the types of the instance of a name, in the order of the schema; none where
@@ -81,26 +107,13 @@ impl<'s, 't, 'r, 'a> Population<'s, 't, 'r, 'a> {
         ensures numbered { Every (λ i. HasNumber (schema_of self.now.types.now.names.schema.now)
             (name_at (schema_of self.now.types.now.names.schema.now) i) i) result.now }
     {
-        let Some(row) = self.rows.index.find(name) else {
+        let Some(row) = self.row_of(name) else {
             return &[];
         };
         match form_at(&self.rows, row as usize) {
             Some(form) => &form.types,
             None => &[],
         }
-    }
-
-    /// The number of the form of the instance of a name, among those of the population; none where
-    /// there is no such instance. It takes no memory.
-    pub fn form_of(&self, name: u64) -> Option<u32>
-        ensures { types_at (population_seen self.now) name
-            ≡ map (name_at (schema_of self.now.types.now.names.schema.now))
-            (types_by_form (form_among self.now.rows.forms.items result)) }
-    {
-        let Some(row) = self.rows.index.find(name) else {
-            return None;
-        };
-        form_number(&self.rows, row as usize)
     }
 
     /// The whole column of cells, one for each node of a value, what is inside each before it, and

@@ -1,5 +1,5 @@
 use Rattle.std.proofs.Common.{◌≡◌, ◌<◌, ◌+◌, ◌*◌, ◌∷◌, [], suc, length, drop, ap, sym, subst, refl, ◌∙◌, Some, arith, rules}
-use Rattle.std.proofs.lemmas.Result.{IfOk-weaker}
+use Rattle.std.proofs.lemmas.Result.{IfOk-weaker, on_ok_weaker}
 use Rattle.std.proofs.lemmas.Bool.Decides.{nat_tests}
 use Rattle.std.specs.Option.{option_map}
 use Rattle.std.specs.Vec.{vec_len}
@@ -48,13 +48,13 @@ among_each-loop-expression-preserved t c =
     let inv = c.loop-expression.invariant in record {
       value = λ m.
           ap (λ p. either p (among_each_in c.args.context.now m c.args.variables.now.items d (trees_of (drop (i + 1) xs))))
-          (c.or-result.ensures ∙ ap (either r) (c.equal.ensures ∙ ap (equal d) (c.in_ok-other.ensures.0 m
+          (c.or-result.ensures ∙ ap (either r) (c.equal.ensures ∙ ap (equal d) (c.in_ok-evaluate.ensures.0 m
           ∙ ap (λ ws. meaning_in c.args.context.now m ws (tree_of x)) inv.variables)))
           ∙ either_groups r (equal d (meaning_in c.args.context.now m c.args.variables.now.items (tree_of x)))
           (among_each_in c.args.context.now m c.args.variables.now.items d (trees_of (drop (i + 1) xs)))
           ∙ ap (λ ys. either r (among_each_in c.args.context.now m c.args.variables.now.items d (trees_of ys)))
           (sym (next-dropped xs i x lt c.expression-item.is)) ∙ inv.value m;
-      variables = c.in_ok-other.ensures.1 ∙ inv.variables;
+      variables = c.in_ok-evaluate.ensures.1 ∙ inv.variables;
     }
 
 pub among_each-returns : goal.among_each-returns
@@ -127,8 +127,8 @@ unfolding element_datum
 derived-returns t c =
     let S = c.args.context.now.setting.now in
     let f = c.in-Some.formula in
-    IfOk-weaker c.evaluate.result _ _
-    (λ d g m. g.0 m
+    on_ok_weaker c.evaluate.result
+    (λ g m. g.0 m
     ∙ ap (λ vs. means (setting_by S m (below_rank S m f.rank)) vs (element_datum (elements.Instance c.args.instance)) (tree_of f.expression.now))
     (ap variables_of c.new-variables.ensures.items)
     ∙ sym (below-rank S m c.args.context.now.limit c.args.instance (derivation_in S c.args.derivation) (formula_seen f)
@@ -137,11 +137,11 @@ derived-returns t c =
 pub evaluate-returns-in-Parenthesized : goal.evaluate-returns-in-Parenthesized
 evaluate-returns-in-Parenthesized t c =
     let x = c.in-Parenthesized in
-    IfOk-weaker c.evaluate.result _ _
-    (λ v h. (
+    on_ok_weaker c.evaluate.result
+    (λ h. (
       (λ m.
-          of-tree c.args.context.now m c.args.variables.now.items (datum_of holding v) _ _ (ap tree_of x.is ∙ parenthesized-seen x.inner)
-          (part c.args.context.now m c.args.variables.now.items c.args.variables.now.items c.deref-in-Parenthesized.result.now x.inner.value (datum_of holding v) c.deref-in-Parenthesized.ensures
+          of-tree c.args.context.now m c.args.variables.now.items (datum_of holding c.evaluate.new.value) _ _ (ap tree_of x.is ∙ parenthesized-seen x.inner)
+          (part c.args.context.now m c.args.variables.now.items c.args.variables.now.items c.deref-in-Parenthesized.result.now x.inner.value (datum_of holding c.evaluate.new.value) c.deref-in-Parenthesized.ensures
           refl (h.0 m))),
       h.1,
     )) c.evaluate.ensures
@@ -155,9 +155,9 @@ named-returns-in-Some t c =
     let n = capitals c.args.name in
     let qs = qualifiers_of c.args.qualifiers.now in
     let found = ap (λ ws. variable (variables_of ws) n) (sym c.deref.ensures.value) ∙ sym c.find.ensures ∙ ap (option_map (λ v. element_datum v.now)) c.in-Some.is in
-    IfOk-weaker c.selected.result _ _
-    (λ v h. (
-      (λ m. h.0 m ∙ ap (λ d. selected_in c.args.context.now m c.args.variables.now.items qs d) c.datum-value.ensures
+    on_ok_weaker c.selected.result
+    (λ h. (
+      (λ m. h.0 m ∙ ap (λ d. selected_in c.args.context.now m c.args.variables.now.items qs d) c.datum.ensures
           ∙ sym (ap (λ o. with_value (first_of_two o (attribute_of (setting_in c.args.context.now m) (element_datum c.args.context.now.me) n))
           (item_in c.args.context.now m c.args.variables.now.items n qs) (λ d. selected_in c.args.context.now m c.args.variables.now.items qs d)) found)),
       h.1,
@@ -247,10 +247,10 @@ pub select_inside-returns-in-Attribute : goal.select_inside-returns-in-Attribute
 select_inside-returns-in-Attribute t c =
     let S = c.args.context.now.setting.now in
     let x = c.in-Attribute in
-    IfOk-weaker c.found_value.result _ _
-    (λ v h d inside. (
+    on_ok_weaker c.found_value.result
+    (λ h d inside. (
       (λ m. h m
-          ∙ ap (λ i. or_nothing (worth_in c.args.context.now m i c.attribute_behind-found.result)) c.instance_of.ensures
+          ∙ ap (λ i. or_nothing (worth_in c.args.context.now m i (datum_of holding c.attribute_behind-found.new.value) c.attribute_behind-found.result)) c.instance_of-instance.ensures
           ∙ ap or_nothing (c.attribute_behind-found.ensures.worth m
           ∙ ap (λ e. instance_attribute (setting_in c.args.context.now m) e (capitals x.name)) inside) ∙ or-is (attribute_of (setting_in c.args.context.now m) d (capitals x.name))
           ∙ ap (λ s. selected_in c.args.context.now m c.args.variables.now.items (selections_of (s ∷ [])) d) (sym (ap selection_of x.is ∙ attribute-selected x.name))),
@@ -261,25 +261,25 @@ pub select_inside-returns-in-Group : goal.select_inside-returns-in-Group
 select_inside-returns-in-Group t c =
     let S = c.args.context.now.setting.now in
     let x = c.in-Group in
-    IfOk-weaker c.found_value-in-Group.result _ _
-    (λ v h d inside. (
+    on_ok_weaker c.found_value-in-Group.result
+    (λ h d inside. (
       (λ m. h m
-          ∙ ap (λ i. or_nothing (worth_in c.args.context.now m i c.group_behind-found.result)) c.instance_of-in-Group.ensures
+          ∙ ap (λ i. or_nothing (worth_in c.args.context.now m i (datum_of holding c.group_behind-found.new.value) c.group_behind-found.result)) c.instance_of-instance.ensures
           ∙ c.group_behind-found.ensures.worth m
           ∙ ap (λ e. instance_group (setting_in c.args.context.now m) e (capitals x.entity) (capitals x.name)) inside
           ∙ ap (λ s. selected_in c.args.context.now m c.args.variables.now.items (selections_of (s ∷ [])) d) (sym (ap selection_of x.is ∙ group-selected x.entity x.name))),
       refl,
     )) c.found_value-in-Group.ensures
 
-pub select_each-loop-qualifier-preserved : goal.select_each-loop-qualifier-preserved
-select_each-loop-qualifier-preserved t c =
+pub selected-loop-qualifier-preserved : goal.selected-loop-qualifier-preserved
+selected-loop-qualifier-preserved t c =
     let xs = c.args.qualifiers.now in
     let i = c.loop-qualifier.qualifier-index in
     let x = c.qualifier-item.result in
     let d = datum_of holding c.loop-qualifier.value in
     let lt : i < length xs = omega (arith, c.loop-qualifier-test.true) in
     let inv = c.loop-qualifier.invariant in
-    let found = c.in_ok-value.ensures in record {
+    let found = c.in_ok-select.ensures in record {
       value = λ m.
           ap (λ e. selected_in c.args.context.now m c.args.variables.now.items (qualifiers_of (drop (i + 1) xs)) e)
           (found.0 m ∙ ap (λ ws. selected_in c.args.context.now m ws (qualifiers_of (x ∷ [])) d) inv.variables)
@@ -289,8 +289,8 @@ select_each-loop-qualifier-preserved t c =
       variables = found.1 ∙ inv.variables;
     }
 
-pub select_each-returns : goal.select_each-returns
-select_each-returns t c =
+pub selected-returns : goal.selected-returns
+selected-returns t c =
     let xs = c.args.qualifiers.now in
     let i = c.loop-qualifier.qualifier-index in
     let d = datum_of holding c.loop-qualifier.value in
@@ -330,7 +330,7 @@ pub is_member-returns : goal.is_member-returns
 is_member-returns t c =
     let found = c.in_ok-evaluate.ensures in (
       λ m. c.member.ensures
-          ∙ ap (member (datum_of holding c.args.value.now)) (c.bare-right.ensures ∙ ap bare (found.0 m)),
+          ∙ ap (member (datum_of holding c.args.value.now)) (c.strip_type.ensures ∙ ap bare (found.0 m)),
       found.1,
     )
 
@@ -348,14 +348,14 @@ within-returns-then-not-is_typeof t c =
       h.1,
     )) c.is_member.ensures
 
-pub within-returns-in_ok-argument-in-Call : goal.within-returns-in_ok-argument-in-Call
-within-returns-in_ok-argument-in-Call t c =
+pub within-returns-in_ok-evaluate-in-Call : goal.within-returns-in_ok-evaluate-in-Call
+within-returns-in_ok-evaluate-in-Call t c =
     let x = c.in-Call in
     let s = option_map text_of c.args.text in
     let d = datum_of holding c.args.value.now in
-    let e = datum_of holding c.in_ok-argument-in-Call.argument in
+    let e = datum_of holding c.evaluate.new.value in
     let seen = ap tree_of x.is ∙ call-seen x.function x.argument in
-    let found = c.in_ok-argument-in-Call.ensures in (
+    let found = c.in_ok-evaluate-in-Call.ensures in (
       λ m. c.is_of_type.ensures m
           ∙ ap (is_of_type (setting_in c.args.context.now m) s) (part c.args.context.now m c.args.variables.now.items c.args.variables.now.items c.deref-in-Call.result.now x.argument.value e
           c.deref-in-Call.ensures refl (found.0 m))
@@ -416,10 +416,10 @@ evaluate-returns-in-Query t c =
     let C = c.args.context.now in
     let vs = c.args.variables.now.items in
     let n = capitals x.variable in
-    IfOk-weaker c.query.result _ _
-    (λ v h. (
+    on_ok_weaker c.query.result
+    (λ h. (
       (λ m.
-          of-tree C m vs (datum_of holding v) _ _ (ap tree_of x.is ∙ query-seen x.variable x.source x.condition)
+          of-tree C m vs (datum_of holding c.query.new.value) _ _ (ap tree_of x.is ∙ query-seen x.variable x.source x.condition)
           (h.0 m
           ∙ ap (λ y. queried_in C m vs n (tree_of c.deref-in-Query-2.result.now) (bare (meaning_in C m vs (tree_of y)))) c.deref-in-Query.ensures
           ∙ ap (λ y. queried_in C m vs n (tree_of y) (bare (meaning_in C m vs (tree_of x.source.value)))) c.deref-in-Query-2.ensures)),
@@ -431,9 +431,9 @@ evaluate-returns-in-Call t c =
     let x = c.in-Call in
     let C = c.args.context.now in
     let vs = c.args.variables.now.items in
-    IfOk-weaker c.call.result _ _
-    (λ v h. (
-      (λ m. of-tree C m vs (datum_of holding v) _ _ (ap tree_of x.is ∙ call-seen x.function x.argument)
+    on_ok_weaker c.call.result
+    (λ h. (
+      (λ m. of-tree C m vs (datum_of holding c.call.new.value) _ _ (ap tree_of x.is ∙ call-seen x.function x.argument)
           (h.0 m ∙ ap (λ y. of_call x.function (meaning_in C m vs (tree_of y))) c.deref-in-Call.ensures)),
       h.1,
     )) c.call.ensures
@@ -443,9 +443,9 @@ evaluate-returns-in-Nvl t c =
     let x = c.in-Nvl in
     let C = c.args.context.now in
     let vs = c.args.variables.now.items in
-    IfOk-weaker c.first_known.result _ _
-    (λ v h. (
-      (λ m. of-tree C m vs (datum_of holding v) _ _ (ap tree_of x.is ∙ nvl-seen x.first x.second)
+    on_ok_weaker c.first_known.result
+    (λ h. (
+      (λ m. of-tree C m vs (datum_of holding c.first_known.new.value) _ _ (ap tree_of x.is ∙ nvl-seen x.first x.second)
           (h.0 m ∙ ap (λ y. or_else (meaning_in C m vs (tree_of y)) (meaning_in C m vs (tree_of c.deref-in-Nvl-2.result.now))) c.deref-in-Nvl.ensures
           ∙ ap (λ y. or_else (meaning_in C m vs (tree_of x.first.value)) (meaning_in C m vs (tree_of y))) c.deref-in-Nvl-2.ensures)),
       h.1,
@@ -547,17 +547,17 @@ pub between-returns : goal.between-returns
 between-returns t c =
     let C = c.args.context.now in
     let vs = c.args.variables.now.items in
-    let one = c.in_ok-low.ensures in
-    let two = c.in_ok-item.ensures in
-    let three = c.in_ok-high.ensures in
-    let e = datum_of holding c.in_ok-item.item in
-    let f = datum_of holding c.in_ok-high.high in (
+    let one = c.in_ok-evaluate.ensures in
+    let two = c.in_ok-evaluate-2.ensures in
+    let three = c.in_ok-evaluate-3.ensures in
+    let e = datum_of holding c.evaluate-2.new.value in
+    let f = datum_of holding c.evaluate-3.new.value in (
       λ m.
           let at = λ (l : Datum) (i : Datum) (h : Datum). both (limited c.args.above l i) (limited c.args.below i h) in
           let low = meaning_in C m vs (tree_of c.args.low.now) in
           let item = meaning_in C m vs (tree_of c.args.item.now) in
           c.and.ensures ∙ ap (λ p. both p c.limited-2.result) c.limited.ensures
-          ∙ ap (both (limited c.args.above (datum_of holding c.in_ok-low.low) e)) c.limited-2.ensures
+          ∙ ap (both (limited c.args.above (datum_of holding c.evaluate.new.value) e)) c.limited-2.ensures
           ∙ ap (λ l. at l e f) (one.0 m) ∙ ap (λ i. at low i f) (two.0 m ∙ ap (λ ws. meaning_in C m ws (tree_of c.args.item.now)) one.1)
           ∙ ap (λ h. at low item h) (three.0 m ∙ ap (λ ws. meaning_in C m ws (tree_of c.args.high.now)) (two.1 ∙ one.1)),
       three.1 ∙ two.1 ∙ one.1,
@@ -567,8 +567,8 @@ pub call-returns-then-is_sizeof : goal.call-returns-then-is_sizeof
 call-returns-then-is_sizeof t c =
     let C = c.args.context.now in
     let vs = c.args.variables.now.items in
-    IfOk-weaker c.sized.result _ _
-    (λ v h. (
+    on_ok_weaker c.sized.result
+    (λ h. (
       (λ m. h.0 m ∙ sizeof-is c.args.function (meaning_in C m vs (tree_of c.args.argument.now)) (sym c.is_sizeof.ensures ∙ c.if-is_sizeof.true)),
       h.1,
     )) c.sized.ensures
@@ -579,8 +579,8 @@ sized-returns-in-Query t c =
     let C = c.args.context.now in
     let vs = c.args.variables.now.items in
     let n = capitals x.variable in
-    IfOk-weaker c.sized_query.result _ _
-    (λ v h. (
+    on_ok_weaker c.sized_query.result
+    (λ h. (
       (λ m. h.0 m
           ∙ ap (λ y. size (queried_in C m vs n (tree_of c.deref-in-Query.result.now) (bare (meaning_in C m vs (tree_of y))))) c.deref.ensures
           ∙ ap (λ y. size (queried_in C m vs n (tree_of y) (bare (meaning_in C m vs (tree_of x.source.value))))) c.deref-in-Query.ensures
@@ -593,7 +593,7 @@ sized-returns-in-Query t c =
 pub sized-returns-in_ok-evaluate-in_default : goal.sized-returns-in_ok-evaluate-in_default
 sized-returns-in_ok-evaluate-in_default t c =
     let found = c.in_ok-evaluate-in_default.ensures in
-    IfOk-weaker c.size_inside.result _ _ (λ v h. ((λ m. h ∙ ap (λ d. size (bare d)) (found.0 m)), found.1)) c.size_inside.ensures
+    on_ok_weaker c.replace_by_size.result (λ h. ((λ m. h ∙ ap (λ d. size (bare d)) (found.0 m)), found.1)) c.replace_by_size.ensures
 
 pub sized_query-returns : goal.sized_query-returns
 sized_query-returns t c =
@@ -603,15 +603,13 @@ sized_query-returns t c =
     let x = tree_of c.args.condition.now in
     let part = c.in-Aggregate.part in
     let source = c.in_ok-evaluate.ensures in
-    let found = c.in_ok-count_passing.ensures in
-    IfOk-weaker c.counted.result _ _
-    (λ v h. (
-      (λ m. h
+    let found = c.in_ok-count.ensures in (
+      λ m. c.in_ok-value.ensures
           ∙ ap (λ k. number (whole_units (pos k)))
           (found.0 m ∙ ap (λ ws. size_of (filtered_in C m ws n x (holding part).elements)) source.1)
-          ∙ ap (λ d. size (queried_in C m vs n x d)) (ap (datum_of holding) (sym c.in-Aggregate.is) ∙ c.bare-source.ensures ∙ ap bare (source.0 m))),
+          ∙ ap (λ d. size (queried_in C m vs n x d)) (ap (datum_of holding) (sym c.in-Aggregate.is) ∙ c.strip_type.ensures ∙ ap bare (source.0 m)),
       found.1 ∙ source.1,
-    )) c.counted.ensures
+    )
 
 pub sized_query-returns-in_default : goal.sized_query-returns-in_default
 sized_query-returns-in_default t c =
@@ -621,8 +619,8 @@ sized_query-returns-in_default t c =
     let x = tree_of c.args.condition.now in
     let source = c.in_ok-evaluate.ensures in (
       λ m.
-          let none : indeterminate ≡ size (queried_in C m vs n x (datum_of holding c.bare-source.result)) = search rules in
-          none ∙ ap (λ d. size (queried_in C m vs n x d)) (c.bare-source.ensures ∙ ap bare (source.0 m)),
+          let none : indeterminate ≡ size (queried_in C m vs n x (datum_of holding c.strip_type.new.value)) = search rules in
+          none ∙ ap (λ d. size (queried_in C m vs n x d)) (c.strip_type.ensures ∙ ap bare (source.0 m)),
       source.1,
     )
 
@@ -672,15 +670,15 @@ count_passing-returns t c =
 
 pub call-returns : goal.call-returns
 call-returns t c =
-    let found = c.in_ok-value.ensures in
-    IfOk-weaker c.called.result _ _ (λ v h. ((λ m. h ∙ ap (of_call c.args.function) (found.0 m)), found.1)) c.called.ensures
+    let found = c.in_ok-evaluate.ensures in
+    on_ok_weaker c.apply.result (λ h. ((λ m. h ∙ ap (of_call c.args.function) (found.0 m)), found.1)) c.apply.ensures
 
 pub first_known-returns-then-is_known : goal.first_known-returns-then-is_known
 first_known-returns-then-is_known t c =
     let C = c.args.context.now in
     let vs = c.args.variables.now.items in
-    let found = c.in_ok-value.ensures in
-    let d = datum_of holding c.in_ok-value.value in (
+    let found = c.in_ok-evaluate.ensures in
+    let d = datum_of holding c.evaluate.new.value in (
       λ m.
           let other = meaning_in C m vs (tree_of c.args.second.now) in
           sym (or-known d other (sym c.is_known.ensures ∙ c.if-is_known.true)) ∙ ap (λ e. or_else e other) (found.0 m),
@@ -691,11 +689,11 @@ pub first_known-returns : goal.first_known-returns
 first_known-returns t c =
     let C = c.args.context.now in
     let vs = c.args.variables.now.items in
-    let found = c.in_ok-value.ensures in
-    let d = datum_of holding c.in_ok-value.value in
+    let found = c.in_ok-evaluate.ensures in
+    let d = datum_of holding c.evaluate.new.value in
     let y = tree_of c.args.second.now in
-    IfOk-weaker c.evaluate-2.result _ _
-    (λ v h. (
+    on_ok_weaker c.evaluate-2.result
+    (λ h. (
       (λ m.
           let other = meaning_in C m vs y in
           h.0 m ∙ ap (λ ws. meaning_in C m ws y) found.1
@@ -707,9 +705,9 @@ pub related-returns-then-is_in : goal.related-returns-then-is_in
 related-returns-then-is_in t c =
     let C = c.args.context.now in
     let vs = c.args.variables.now.items in
-    let found = c.in_ok-value.ensures in
+    let found = c.in_ok-evaluate.ensures in
     let s = string_of (tree_of c.args.left.now) in
-    let d = datum_of holding c.in_ok-value.value in
+    let d = datum_of holding c.evaluate.new.value in
     let y = tree_of c.args.right.now in
     IfOk-weaker c.within.result _ _
     (λ p h. (
@@ -723,12 +721,12 @@ pub related-returns : goal.related-returns
 related-returns t c =
     let C = c.args.context.now in
     let vs = c.args.variables.now.items in
-    let found = c.in_ok-value.ensures in
-    let other = c.in_ok-other.ensures in
+    let found = c.in_ok-evaluate.ensures in
+    let other = c.in_ok-evaluate-2.ensures in
     let r = c.args.relation in
     let x = tree_of c.args.left.now in
     let y = tree_of c.args.right.now in (
-      λ m. c.compared.ensures ∙ ap (λ e. compared r e (datum_of holding c.in_ok-other.other)) (found.0 m)
+      λ m. c.compared.ensures ∙ ap (λ e. compared r e (datum_of holding c.evaluate-2.new.value)) (found.0 m)
           ∙ ap (compared r (meaning_in C m vs x)) (other.0 m ∙ ap (λ ws. meaning_in C m ws y) found.1)
           ∙ sym (related-not C m vs (string_of x) (meaning_in C m vs x) y r (sym c.is_in.ensures ∙ c.if-is_in.false)),
       other.1 ∙ found.1,
@@ -747,7 +745,8 @@ query-returns t c =
           ap (λ h. aggregate h.shape h.elements) c.in_ok-keep.ensures
           ∙ ap (λ ds. aggregate (kept_shape (holding part).shape) ds)
           (found.0 m ∙ ap (λ ws. filtered_in C m ws n x (holding part).elements) source.1)
-          ∙ ap (λ d. queried_in C m vs n x d) (ap (datum_of holding) (sym c.in-Aggregate.is) ∙ c.bare-source.ensures ∙ ap bare (source.0 m)),
+          ∙ ap (λ d. queried_in C m vs n x d) (ap (datum_of holding) (sym c.in-Aggregate.is ∙ c.replace.ensures.value) ∙ c.strip_type.ensures
+          ∙ ap bare (source.0 m)),
       found.1 ∙ source.1,
     )
 
@@ -759,15 +758,16 @@ query-returns-in_default t c =
     let x = tree_of c.args.condition.now in
     let source = c.in_ok-evaluate.ensures in (
       λ m.
-          let none : indeterminate ≡ queried_in C m vs n x (datum_of holding c.bare-source.result) = search rules in
-          none ∙ ap (λ d. queried_in C m vs n x d) (c.bare-source.ensures ∙ ap bare (source.0 m)),
+          let none : indeterminate ≡ queried_in C m vs n x (datum_of holding c.replace.result) = search rules in
+          ap (datum_of holding) c.replace.ensures.after ∙ none
+          ∙ ap (λ d. queried_in C m vs n x d) (ap (datum_of holding) c.replace.ensures.value ∙ c.strip_type.ensures ∙ ap bare (source.0 m)),
       source.1,
     )
 
 pub element-returns : goal.element-returns
 element-returns t c =
     let found = c.in_ok-evaluate.ensures in (
-      λ m. c.indexed.ensures ∙ ap (indexed (datum_of holding c.args.value.now)) (c.bare-index.ensures ∙ ap bare (found.0 m)),
+      λ m. c.indexed.ensures ∙ ap (indexed (datum_of holding c.args.value.now)) (c.strip_type.ensures ∙ ap bare (found.0 m)),
       found.1,
     )
 
@@ -776,18 +776,13 @@ select_inside-returns-in-Index t c =
     let x = c.in-Index in
     let C = c.args.context.now in
     let vs = c.args.variables.now.items in
-    IfOk-weaker c.element.result _ _
-    (λ v h d inside. (
+    on_ok_weaker c.element.result
+    (λ h d inside. (
       (λ m. h.0 m ∙ ap (λ b. indexed b (bare (meaning_in C m vs (tree_of c.deref.result.now)))) inside
           ∙ ap (λ y. indexed (bare d) (bare (meaning_in C m vs (tree_of y)))) c.deref.ensures
           ∙ ap (λ s. selected_in C m vs (selections_of (s ∷ [])) d) (sym (ap selection_of x.is ∙ index-selected x.index))),
       h.1,
     )) c.element.ensures
-
-pub selected-returns-then-is_empty : goal.selected-returns-then-is_empty
-selected-returns-then-is_empty t c =
-    let none : length c.args.qualifiers.now ≡ 0 = grind (arith, nat_tests) in
-    ((λ m. selected-plain c.args.context.now m c.args.variables.now.items c.args.qualifiers.now (datum_of holding c.args.value) none), refl)
 
 pub unbound-returns-in-Missing : goal.unbound-returns-in-Missing
 unbound-returns-in-Missing t c =
@@ -796,11 +791,11 @@ unbound-returns-in-Missing t c =
     let n = capitals c.args.name in
     let qs = qualifiers_of c.args.qualifiers.now in
     let i = instance_of (bare (element_datum C.me)) in
-    IfOk-weaker c.item_behind.result _ _
-    (λ v h. (
+    on_ok_weaker c.item_behind.result
+    (λ h. (
       (λ m. h.0 m
           ∙ ap (λ o. with_value o (item_in C m vs n qs) (λ d. selected_in C m vs qs d))
-          (ap (λ x. worth_in C m i x) (sym c.in-Missing.is) ∙ c.attribute_of_self.ensures.worth m)),
+          (ap (λ x. worth_in C m i (datum_of holding c.attribute_of_self.new.value) x) (sym c.in-Missing.is) ∙ c.attribute_of_self.ensures.worth m)),
       h.1,
     )) c.item_behind.ensures
 
@@ -811,28 +806,28 @@ unbound-returns-in-Value t c =
     let n = capitals c.args.name in
     let qs = qualifiers_of c.args.qualifiers.now in
     let i = instance_of (bare (element_datum C.me)) in
-    IfOk-weaker c.selected.result _ _
-    (λ v h. (
+    on_ok_weaker c.selected.result
+    (λ h. (
       (λ m. h.0 m
           ∙ ap (λ o. with_value o (item_in C m vs n qs) (λ d. selected_in C m vs qs d))
-          (ap (λ x. worth_in C m i x) (sym c.in-Value.is) ∙ c.attribute_of_self.ensures.worth m)),
+          (ap (λ x. worth_in C m i (datum_of holding c.attribute_of_self.new.value) x) (sym c.in-Value.is) ∙ c.attribute_of_self.ensures.worth m)),
       h.1,
     )) c.selected.ensures
 
-pub unbound-returns-in_ok-value-in-Derived : goal.unbound-returns-in_ok-value-in-Derived
-unbound-returns-in_ok-value-in-Derived t c =
+pub unbound-returns-in_ok-derived-in-Derived : goal.unbound-returns-in_ok-derived-in-Derived
+unbound-returns-in_ok-derived-in-Derived t c =
     let C = c.args.context.now in
     let vs = c.args.variables.now.items in
     let n = capitals c.args.name in
     let qs = qualifiers_of c.args.qualifiers.now in
     let i = instance_of (bare (element_datum C.me)) in
     let e = c.in-Derived.derivation in
-    IfOk-weaker c.selected-in-Derived.result _ _
-    (λ v h. (
+    on_ok_weaker c.selected-in-Derived.result
+    (λ h. (
       (λ m. h.0 m
           ∙ ap (λ o. with_value o (item_in C m vs n qs) (λ d. selected_in C m vs qs d))
-          (ap Some (c.in_ok-value-in-Derived.ensures m ∙ ap (λ k. derived_in C m k e) c.self_instance.ensures)
-          ∙ ap (λ x. worth_in C m i x) (sym c.in-Derived.is) ∙ c.attribute_of_self.ensures.worth m)),
+          (ap Some (c.in_ok-derived-in-Derived.ensures m ∙ ap (λ k. derived_in C m k e) c.self_instance.ensures)
+          ∙ ap (λ x. worth_in C m i (datum_of holding c.attribute_of_self.new.value) x) (sym c.in-Derived.is) ∙ c.attribute_of_self.ensures.worth m)),
       h.1,
     )) c.selected-in-Derived.ensures
 
@@ -843,8 +838,8 @@ named-returns-in-None t c =
     let n = capitals c.args.name in
     let qs = qualifiers_of c.args.qualifiers.now in
     let found = ap (λ ws. variable (variables_of ws) n) (sym c.deref.ensures.value) ∙ sym c.find.ensures ∙ ap (option_map (λ v. element_datum v.now)) c.in-None.is in
-    IfOk-weaker c.unbound.result _ _
-    (λ v h. (
+    on_ok_weaker c.unbound.result
+    (λ h. (
       (λ m. h.0 m
           ∙ sym (ap (λ o. with_value (first_of_two o (attribute_of (setting_in C m) (element_datum C.me) n))
           (item_in C m vs n qs) (λ d. selected_in C m vs qs d)) found)),
@@ -855,28 +850,23 @@ pub evaluate_truth-returns-then-is_condition : goal.evaluate_truth-returns-then-
 evaluate_truth-returns-then-is_condition t c =
     IfOk-weaker c.condition.result _ _ (λ p h. ((λ m. ap says (h.0 m)), h.1)) c.condition.ensures
 
-pub select-returns-then-is_typed : goal.select-returns-then-is_typed
-select-returns-then-is_typed t c =
-    let d = datum_of holding c.args.value in
-    IfOk-weaker c.select_inside.result _ _ (λ v h. h d c.bare.ensures) c.select_inside.ensures
-
 pub select-returns : goal.select-returns
 select-returns t c =
-    let d = datum_of holding c.args.value in
-    IfOk-weaker c.select_inside-2.result _ _ (λ v h. h d (sym (c.is_typed.ensures c.if-is_typed.false))) c.select_inside-2.ensures
+    let d = datum_of holding c.args.value.now in
+    on_ok_weaker c.select_inside.result (λ h. h d c.strip_type.ensures) c.select_inside.ensures
 
 pub own-returns : goal.own-returns
 own-returns t c =
     let qs = qualifiers_of c.args.qualifiers.now in
-    IfOk-weaker c.selected.result _ _
-    (λ v h. ((λ m. h.0 m ∙ ap (λ d. selected_in c.args.context.now m c.args.variables.now.items qs d) c.datum.ensures), h.1)) c.selected.ensures
+    on_ok_weaker c.selected.result
+    (λ h. ((λ m. h.0 m ∙ ap (λ d. selected_in c.args.context.now m c.args.variables.now.items qs d) c.datum.ensures), h.1)) c.selected.ensures
 
 pub evaluate-returns-in-Reference : goal.evaluate-returns-in-Reference
 evaluate-returns-in-Reference t c =
     let x = c.in-Reference in
-    IfOk-weaker c.referred.result _ _
-    (λ v h. (
-      (λ m. of-tree c.args.context.now m c.args.variables.now.items (datum_of holding v) _ _ (ap tree_of x.is ∙ reference-seen x.root x.qualifiers)
+    on_ok_weaker c.referred.result
+    (λ h. (
+      (λ m. of-tree c.args.context.now m c.args.variables.now.items (datum_of holding c.referred.new.value) _ _ (ap tree_of x.is ∙ reference-seen x.root x.qualifiers)
           (h.0 m ∙ ap (λ ks. meaning_in c.args.context.now m c.args.variables.now.items (reference (root_of x.root) (qualifiers_of ks))) c.deref.ensures.value)),
       h.1,
     )) c.referred.ensures
@@ -884,8 +874,8 @@ evaluate-returns-in-Reference t c =
 pub referred-returns-in-Name : goal.referred-returns-in-Name
 referred-returns-in-Name t c =
     let qs = qualifiers_of c.args.qualifiers.now in
-    IfOk-weaker c.named.result _ _
-    (λ v h. (
+    on_ok_weaker c.named.result
+    (λ h. (
       (λ m. h.0 m ∙ ap (λ r. meaning_in c.args.context.now m c.args.variables.now.items (reference (root_of r) qs)) (sym c.in-Name.is)),
       h.1,
     )) c.named.ensures
@@ -893,8 +883,8 @@ referred-returns-in-Name t c =
 pub referred-returns-in-SelfInstance : goal.referred-returns-in-SelfInstance
 referred-returns-in-SelfInstance t c =
     let qs = qualifiers_of c.args.qualifiers.now in
-    IfOk-weaker c.own.result _ _
-    (λ v h. (
+    on_ok_weaker c.own.result
+    (λ h. (
       (λ m. h.0 m
           ∙ ap (λ r. meaning_in c.args.context.now m c.args.variables.now.items (reference (root_of r) qs)) (sym c.in-SelfInstance.is)),
       h.1,

@@ -83,9 +83,6 @@ decreases-select_inside l = 16 * (goal.size-select_inside l + left l.context.now
 abbrev pub decreases-select : goal.decreases-select
 decreases-select l = 16 * (goal.size-select l + left l.context.now) + 5
 
-abbrev pub decreases-select_each : goal.decreases-select_each
-decreases-select_each l = 16 * (goal.size-select_each l + left l.context.now) + 6
-
 abbrev pub decreases-selected : goal.decreases-selected
 decreases-selected l = 16 * (goal.size-selected l + left l.context.now) + 7
 
@@ -131,8 +128,8 @@ invariant-among_each-loop-expression l =
       variables : l.variables.items ≡ vs;
     }
 
-abbrev pub invariant-select_each-loop-qualifier : goal.invariant-select_each-loop-qualifier
-invariant-select_each-loop-qualifier l =
+abbrev pub invariant-selected-loop-qualifier : goal.invariant-selected-loop-qualifier
+invariant-selected-loop-qualifier l =
     let vs = l.initial.variables.items in record {
       value : (m : MeantBy l.context)
           → selected_in l.context m vs (qualifiers_of (drop l.qualifier-index l.qualifiers)) (datum_of holding l.value)

@@ -2,7 +2,8 @@ use Rattle.std.proofs.Common.{ap, sym, ◌∙◌}
 use Rattle.express_trees.specs.Views.{capitals}
 use Rattle.express_meanings.specs.Expressions.{attribute_of}
 use Rattle.express_meanings.specs.Operations.{bare}
-use Rattle.held_values.specs.Parts.{element_datum}
+use Rattle.express_logic.specs.Views.{datum_of}
+use Rattle.held_values.specs.Parts.{holding, element_datum}
 use Rattle.express_settings.specs.Settings.{below_rank}
 use Rattle.express_evaluation.specs.Contexts.{setting_in, worth_in, instance_of}
 use Rattle.express_evaluation.proofs.qualifiers.attribute_of_self.Goals as goal
@@ -11,6 +12,6 @@ pub returns-in-Instance-clause-worth : goal.returns-in-Instance-clause-worth
 unfolding element_datum
 returns-in-Instance-clause-worth c m =
     let C = c.args.context.now in
-    ap (λ e. worth_in C m (instance_of (bare (element_datum e))) c.attribute.result) c.in-Instance.is
+    ap (λ e. worth_in C m (instance_of (bare (element_datum e))) (datum_of holding c.attribute.new.value) c.attribute.result) c.in-Instance.is
     ∙ c.attribute.ensures.worth m (below_rank C.setting.now m C.limit)
     ∙ ap (λ e. attribute_of (setting_in C m) (element_datum e) (capitals c.args.name)) (sym c.in-Instance.is)

@@ -12,5 +12,5 @@ pub returns-in-Instance : goal.returns-in-Instance
 returns-in-Instance c m =
     let S = setting_in c.args.context.now m in
     c.known.ensures ∙ ap known (c.has_type.ensures m)
-    ∙ sym (ap (λ o. is_of_type S (option_map text_of o) (datum_of holding c.args.value)) c.in-Some.is
+    ∙ sym (ap (λ o. is_of_type S (option_map text_of o) (datum_of holding c.args.value.now)) c.in-Some.is
     ∙ ap (λ v. is_of_type S (Some (text_of c.in-Some.text)) (datum_of holding v)) c.in-Instance.is)

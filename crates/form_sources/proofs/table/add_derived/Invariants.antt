@@ -4,4 +4,4 @@ use Rattle.form_sources.proofs.table.add_derived.Given as goal
 
 abbrev pub invariant-loop-each : goal.invariant-loop-each
 invariant-loop-each l =
-    AreNamedSources (schema_in l.schema) (inverses_seen (schema_in l.schema) l.inverses) l.types l.row.items
+    AreNamedSources (schema_in l.schema) (inverses_seen (schema_in l.schema) l.inverses) l.form l.row.items

@@ -8,7 +8,7 @@ pub returns : goal.returns
 returns c =
     let s = schema_in c.args.schema.now in
     let inverses = inverses_seen s c.args.inverses.now in
-    let types = c.args.types.now in
-    subst (AreNamedSources s inverses types) (sym c.in_ok-push.ensures.items)
-    (every_push (IsNamedSource s inverses types) c.args.row.now.items c.in-Some.named c.requires.row
+    let form = c.args.form.now in
+    subst (AreNamedSources s inverses form) (sym c.in_ok-push.ensures.items)
+    (every_push (IsNamedSource s inverses form) c.args.row.now.items c.in-Some.named c.requires.row
     c.in-Some.ensures)

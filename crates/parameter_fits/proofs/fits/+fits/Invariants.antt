@@ -20,7 +20,10 @@ abbrev pub decreases-misfit : goal.decreases-misfit
 decreases-misfit a = 4 * weight a.param.now + 1
 
 abbrev pub decreases-misfit_node : goal.decreases-misfit_node
-decreases-misfit_node a = 4 * weight (node_value a.node.now)
+decreases-misfit_node a = 4 * weight (node_value a.node)
+
+abbrev pub decreases-misfit_typed : goal.decreases-misfit_typed
+decreases-misfit_typed a = 4 * weight a.inner.now + 2
 
 abbrev pub decreases-misfit_list : goal.decreases-misfit_list
 decreases-misfit_list a = 4 * weights a.params.now + 2

@@ -1,7 +1,5 @@
-use Rattle.std.proofs.Common.{rules, ◌≡◌, ◌∙◌, sym, ap, subst, arith}
-use Rattle.std.specs.Prelude.{MatchResult}
-use Rattle.conformance.specs.Bases.{Domain, IsDomain}
-use Rattle.conformance.specs.Fitting.{value_as, or_this}
+use Rattle.std.proofs.Common.{◌∙◌, sym, ap, subst, arith}
+use Rattle.conformance.specs.Fitting.{or_this}
 use Rattle.step_parameters.specs.Params.{node_value}
 use Rattle.step_parameters.proofs.Weights.{weight, lighter}
 use Rattle.step_values.specs.Building.{Building}
@@ -9,7 +7,6 @@ use Rattle.step_values.specs.Values.{sequence, bag}
 use Rattle.base_types.specs.Seen.{base_seen, schema_at}
 use Rattle.row_index.specs.Index.{found}
 use Rattle.parameter_fits.specs.References.{AreFound, RefersWithin}
-use Rattle.parameter_fits.specs.Pushing.{Pushes}
 use Rattle.parameter_fits.proofs.Pushed.{reached, bag_gathered, sequence_gathered, some_pending, or_itself, refers_at, pushed_next, typed_closed, list_closed}
 use Rattle.parameter_fits.proofs.values.+values.Goals as goal
 
@@ -87,14 +84,14 @@ push_list-returns-else-has_no_order t c =
     (λ vs. sequence_gathered (base_seen s c.args.base.now) vs (sym (c.has_no_order.ensures s) ∙ c.if-has_no_order.false))
     some c.element-inside.ensures.says c.in_ok-push_each.ensures c.close_sequence.result c.close_sequence.ensures
 
-pub push_node-push_value-requires : goal.push_node-push_value-requires
-push_node-push_value-requires t c =
+pub push_node-push_typed-requires : goal.push_node-push_typed-requires
+push_node-push_typed-requires t c =
     let w = ap (λ n. weight (node_value n)) c.in-Typed.is in (
       omega (arith, c.decreases, w),
       (
         c.requires.bases,
         (
-          search rules,
+          c.requires.numbered,
           (
             c.requires.indexed,
             subst (λ n. RefersWithin (found c.args.index.now) (node_value n)) c.in-Typed.is c.requires.within,
@@ -103,21 +100,18 @@ push_node-push_value-requires t c =
       ),
     )
 
-pub push_node-close_typed-requires : goal.push_node-close_typed-requires
-push_node-close_typed-requires t c =
+pub push_typed-close_typed-requires : goal.push_typed-close_typed-requires
+push_typed-close_typed-requires t c =
     let some = c.requires.bases.1.exists in
-    some_pending c.args.builder.now c.push_value.new.builder _ (c.in_ok-push_value-in-Typed.ensures some.0 some.1)
+    some_pending c.args.builder.now c.push_value.new.builder _ (c.in_ok-push_value.ensures some.0 some.1)
 
-pub push_node-returns-in_ok-push_value-in-Typed : goal.push_node-returns-in_ok-push_value-in-Typed
-push_node-returns-in_ok-push_value-in-Typed t c =
+pub push_typed-returns : goal.push_typed-returns
+push_typed-returns t c =
     let s = schema_at c.args.bases.now in
     let some = c.requires.bases.1.exists in
-    subst (λ x. MatchResult c.close_typed.result (λ _. (d : Domain) → IsDomain s d
-    → Pushes c.args.builder.now c.close_typed.new.self (value_as s d (base_seen s c.args.base.now) x))
-    (λ _. c.close_typed.new.self.names ≡ c.args.builder.now.names)) (ap node_value (sym c.in-Typed.is))
-    (typed_closed s c.args.builder.now c.push_value.new.builder c.close_typed.new.self
-    (base_seen s c.args.base.now) (base_seen s c.unwrap_or-within.result) c.in-Typed.word.text.now c.in-Typed.inner some
+    typed_closed s c.args.builder.now c.push_value.new.builder c.close_typed.new.self
+    (base_seen s c.args.base.now) (base_seen s c.unwrap_or-within.result) c.args.word.text.now c.args.inner.now some
     (λ d h. ap (base_seen s) c.unwrap_or-within.ensures
     ∙ or_itself s d (base_seen s) c.item.result c.args.base.now
     ∙ ap (or_this s d (base_seen s c.args.base.now)) (c.item.ensures.says d h))
-    c.in_ok-push_value-in-Typed.ensures c.close_typed.result c.close_typed.ensures.names c.close_typed.ensures.typed)
+    c.in_ok-push_value.ensures c.close_typed.result c.close_typed.ensures.names c.close_typed.ensures.typed

@@ -21,6 +21,9 @@ decreases-push_value a = 4 * weight a.param.now + 1
 abbrev pub decreases-push_node : goal.decreases-push_node
 decreases-push_node a = 4 * weight (node_value a.node)
 
+abbrev pub decreases-push_typed : goal.decreases-push_typed
+decreases-push_typed a = 4 * weight a.inner.now + 2
+
 abbrev pub decreases-push_list : goal.decreases-push_list
 decreases-push_list a = 4 * weights a.params.now + 2
 

@@ -16,6 +16,5 @@ returns-clause-plan c =
       union = subst (λ ts. IsUnion (length s.declarations) (map (λ v. v.items) ts) c.in_ok-union.union.items) c.deref.ensures.value
           c.in_ok-union.ensures;
       seeks = c.has_type_rule-seeks.ensures;
-      unsought = λ e. subst (λ ws. AreTables S ws (map (λ v. v.items) c.in_ok-unsought.unsought.items)) c.deref-2.ensures.value
-          (c.in_ok-unsought.ensures e);
+      unsought = λ e. subst (λ ws. AreTables S ws c.in_ok-unsought.unsought) c.deref-2.ensures.value (c.in_ok-unsought.ensures e);
     }

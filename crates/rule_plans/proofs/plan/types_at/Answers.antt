@@ -4,8 +4,8 @@ use Rattle.schema_names.proofs.Edges.{number-within}
 use Rattle.base_types.specs.Seen.{name_at}
 use Rattle.express_settings.specs.Settings.{schema_in}
 use Rattle.self_values.specs.Coded.{is_wanted}
-use Rattle.self_values.specs.Unsought.{AreRight}
-use Rattle.self_values.proofs.Passing.{tables-right}
+use Rattle.self_values.specs.Unsought.{AreRight, IsRight}
+use Rattle.self_values.proofs.Passing.{tables-right, table-right}
 use Rattle.rule_plans.specs.Planning.{TellAll}
 use Rattle.rule_plans.proofs.Covering.{tell-none, tell-all}
 use Rattle.rule_plans.proofs.plan.types_at.Goals as goal
@@ -14,9 +14,16 @@ pub value_types-requires-clause-unsought : goal.value_types-requires-clause-unso
 value_types-requires-clause-unsought c =
     let S = c.args.setting.now in
     let p = c.args.plan.now in
-    subst (λ ws. AreRight S ws (map (λ v. v.items) c.deref-then-plan.result.now)) (sym c.deref.ensures.value)
-    (subst (λ ts. AreRight S p.union.items (map (λ v. v.items) ts)) (sym c.deref-then-plan.ensures.value)
-    (tables-right S p.union.items (map (λ v. v.items) p.unsought.items) (c.requires.plan.unsought c.if-plan.true)))
+    let tables = map (λ v. v.items) p.unsought.attributes.items in
+    subst (λ ws. AreRight S ws tables) (sym c.deref.ensures.value)
+    (tables-right S p.union.items tables (c.requires.plan.unsought c.if-plan.true).attributes)
+
+pub value_types-requires-clause-forms : goal.value_types-requires-clause-forms
+value_types-requires-clause-forms c =
+    let S = c.args.setting.now in
+    let p = c.args.plan.now in
+    subst (λ ws. IsRight S ws p.unsought.forms.items) (sym c.deref.ensures.value)
+    (table-right S p.union.items p.unsought.forms.items (c.requires.plan.unsought c.if-plan.true).forms)
 
 pub returns-then-plan : goal.returns-then-plan
 returns-then-plan c =

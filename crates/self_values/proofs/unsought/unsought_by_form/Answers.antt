@@ -1,8 +1,7 @@
 use Rattle.std.proofs.Common.{◌∙◌, List, map}
-use Rattle.std.proofs.lemmas.Result.{IfOk-weaker}
 use Rattle.data_types.specs.declared.forms.Form.{Form}
 use Rattle.self_values.specs.declared.sought.Seeker.{Seeker}
-use Rattle.self_values.specs.Unsought.{unsought_of}
+use Rattle.self_values.specs.Unsought.{unsought_of, is_unsought_form}
 use Rattle.self_values.proofs.unsought.unsought_by_form.Goals as goal
 
 pub returns : goal.returns
@@ -14,7 +13,10 @@ returns c =
       forms = record { ref_ptr = (0, 0); now = l };
       wanted = c.args.wanted;
     } in
-    IfOk-weaker c.unsought_rows.result _ _
-    (λ v rows. rows
-    ∙ (λ i. map (unsought_of (seeker (c.deref.ensures.value i)) S.tables.now.uses.now) (c.forms.ensures.forms i)))
-    c.unsought_rows.ensures
+    record {
+      attributes = c.in_ok-attributes.ensures
+          ∙ (λ i. map (unsought_of (seeker (c.deref.ensures.value i)) S.tables.now.uses.now) (c.forms-forms.ensures.forms i));
+      forms = c.in_ok-whole.ensures
+          ∙ (λ i. map (is_unsought_form (seeker (c.deref.ensures.value i)) S.tables.now.uses.now (c.deref-2.ensures.value i))
+          (c.forms-forms.ensures.forms i));
+    }

@@ -1,12 +1,12 @@
-use Rattle.std.proofs.Common.{◌||◌, ◌∙◌, ap, sym, map, refl}
-use Rattle.digraph.specs.Graphs.{has}
-use Rattle.self_values.specs.Seeking.{number}
-use Rattle.self_values.proofs.Sifting.{none-pass}
+use Rattle.std.proofs.Common.{◌∙◌, ap, sym}
+use Rattle.self_values.specs.Unsought.{says_form}
+use Rattle.self_values.proofs.Forms.{no-value-there}
 use Rattle.self_values.proofs.values.value_types.Goals as goal
 
-pub returns : goal.returns
-returns c m x at t p agrees covers none =
-    let (told, adds, found) = c.in_ok-add_values_of.ensures in
-    sym ((found m x at).those_of t p agrees covers)
-    ∙ none-pass p told
-    (λ i there. none i (adds.types refl i ∙ ap (λ l. has l i || has (map number told) i) c.new-2.ensures.items ∙ there))
+pub returns-then-says_form : goal.returns-then-says_form
+returns-then-says_form c m x at t p agrees covers none =
+    let instance = c.instance-instance.result in
+    no-value-there c.args.setting.now c.requires.setting m c.args.wanted.now c.args.row instance c.instance-instance.ensures
+    (c.requires.forms instance.form
+    (sym (c.says_form.ensures ∙ ap (λ l. says_form l instance.form) c.deref.ensures.value) ∙ c.if-says_form.true)) x
+    at t p agrees covers

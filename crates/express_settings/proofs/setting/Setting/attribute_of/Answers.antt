@@ -1,6 +1,8 @@
 use Rattle.std.proofs.Common.{◌≡◌, ap, subst}
 use Rattle.express_trees.specs.Views.{capitals}
+use Rattle.express_logic.specs.Views.{datum_of}
 use Rattle.express_meanings.specs.Attributes.{AreAttributes}
+use Rattle.held_values.specs.Parts.{holding}
 use Rattle.attribute_sources.specs.Seen.{types_seen, inverses_seen, source_seen}
 use Rattle.express_settings.specs.Settings.{schema_in, population_in, inverses_in, worth_of, or_nothing}
 use Rattle.express_settings.proofs.Asked.{is_member}
@@ -21,4 +23,4 @@ returns-clause-worth c m computed =
     ap or_nothing
     (is_member s m.domain m.entities m.attributes (population_in S) computed (inverses_in S) m.are_attributes
     c.args.instance types c.types_of.ensures.types a e (source_seen s (inverses_in S) x)
-    (worth_of S (computed c.args.instance) c.found.result) told (c.found.ensures.worth m computed))
+    (worth_of S (computed c.args.instance) (datum_of holding c.found.new.value) c.found.result) told (c.found.ensures.worth m computed))

@@ -11,14 +11,15 @@ pub returns-in-Derived-clause-worth : goal.returns-in-Derived-clause-worth
 returns-in-Derived-clause-worth c m computed =
     let S = c.args.self.now in
     let e = c.in-Derived.derivation in
-    subst (λ x. IsFoundAt S m computed c.args.instance x (Derived e)) (sym c.in-Derived.is)
+    subst (λ x. IsFoundAt S m computed c.args.instance x (datum_of holding c.args.value.now) (Derived e))
+    (sym c.in-Derived.is)
     (derived_found (schema_in S) m.domain m.entities m.attributes (population_in S) computed c.args.instance
     (derivation_in S e))
 
 pub returns-in-Inverse-clause-worth : goal.returns-in-Inverse-clause-worth
 returns-in-Inverse-clause-worth c m computed =
     let S = c.args.self.now in
-    let d = c.inverse_value.result in
-    subst (λ x. IsFoundAt S m computed c.args.instance x (Value d)) (sym c.in-Inverse.is)
+    let d = datum_of holding c.inverse_value.result in
+    subst (λ x. IsFoundAt S m computed c.args.instance x d Value) (sym c.in-Inverse.is)
     (inverse_found (schema_in S) m.domain m.entities m.attributes (population_in S) computed c.args.instance
-    (slice_get (inverses_in S) c.in-Inverse.number) (datum_of holding d) c.inverse_value.ensures)
+    (slice_get (inverses_in S) c.in-Inverse.number) d c.inverse_value.ensures)

@@ -3,9 +3,9 @@ use Rattle.std.specs.Prelude.{IfSome}
 use Rattle.std.specs.Option.{option_map}
 use Rattle.std.proofs.lemmas.Option.{slice_get-map, slice_get-get_or}
 use Rattle.express_trees.specs.Views.{capitals}
-use Rattle.step_population.specs.Whole.{form_among, types_by_form}
-use Rattle.form_sources.specs.Sources.{IsSourceOf, AreNamedSources}
-use Rattle.form_sources.proofs.Rows.{row-of-form}
+use Rattle.step_population.specs.Whole.{form_among}
+use Rattle.form_sources.specs.Sources.{IsFormSource, AreNamedSources}
+use Rattle.form_sources.proofs.Rows.{form-of-number}
 use Rattle.form_sources.proofs.table.FormSources.find.Goals as goal
 
 pub returns-in-Some-get : goal.returns-in-Some-get
@@ -19,9 +19,9 @@ returns-in-Some-get c s inverses forms all =
     ∙ slice_get-get_or c.deref.result.now n r got.3.0 ∙ ap Some (sym got.1) in
     let there : slice_get (map (λ v. v.items) x.rows.items) n ≡ Some r.items =
     slice_get-map (λ v. v.items) x.rows.items n ∙ ap (option_map (λ v. v.items)) at in
-    let types = types_by_form (form_among forms (Some n)) in
-    subst (λ o. IfSome c.find_in.result (IsSourceOf s inverses (types_by_form (form_among forms o)) (capitals c.args.name)))
-    (sym c.in-Some.is)
-    (c.find_in.ensures s inverses types
-    (subst (AreNamedSources s inverses types) (sym c.deref-in-Some-get.ensures.value)
-    (row-of-form s inverses forms (map (λ v. v.items) x.rows.items) all n r.items there)))
+    let (form, is, row) = form-of-number s inverses forms (map (λ v. v.items) x.rows.items) all n r.items there in
+    let a = capitals c.args.name in
+    subst (λ o. IfSome c.find_in.result (λ y. IsFormSource s inverses (form_among forms o) a y.now.source)) (sym c.in-Some.is)
+    (subst (λ o. IfSome c.find_in.result (λ y. IsFormSource s inverses o a y.now.source)) (sym is)
+    (c.find_in.ensures s inverses form
+    (subst (AreNamedSources s inverses form) (sym c.deref-in-Some-get.ensures.value) row)))

@@ -7,6 +7,7 @@ use Rattle.attribute_sources.specs.Seen.{schema_in, inverses_seen}
 use Rattle.step_population.specs.Whole.{AreNumbered}
 use Rattle.step_population.proofs.Found.{every-at}
 use Rattle.form_sources.specs.Sources.{AreNamedSources}
+use Rattle.form_sources.proofs.Rows.{same-forms}
 use Rattle.form_sources.proofs.table.FormSources.of.Goals as goal
 
 pub loop-n-init : goal.loop-n-init
@@ -26,7 +27,7 @@ form_row-requires-clause-numbered c =
 pub loop-n-preserved : goal.loop-n-preserved
 loop-n-preserved c =
     let s = schema_in c.args.schema.now in
-    zip-next (AreNamedSources s (inverses_seen s c.args.inverses.now)) (λ (x : Form). x.types.items) (λ v. v.items)
+    zip-next (AreNamedSources s (inverses_seen s c.args.inverses.now)) (λ (x : Form). x) (λ v. v.items)
     c.args.forms.now c.loop-n.n c.index-forms-n.result c.loop-n.rows.items c.push.new.self.items c.in_ok-row.row
     c.loop-n-test.true c.index-forms-n.is c.loop-n.invariant c.in_ok-row.ensures c.in_ok-push.ensures.items
 
@@ -34,4 +35,5 @@ pub returns : goal.returns
 returns c =
     let s = schema_in c.args.schema.now in
     subst (λ ts. AllZip (AreNamedSources s (inverses_seen s c.args.inverses.now)) ts (map (λ v. v.items) c.loop-n.rows.items))
-    (all-taken (λ (x : Form). x.types.items) c.args.forms.now c.loop-n.n c.loop-n-test.false) c.loop-n.invariant
+    (all-taken (λ (x : Form). x) c.args.forms.now c.loop-n.n c.loop-n-test.false ∙ same-forms c.args.forms.now)
+    c.loop-n.invariant

@@ -8,4 +8,4 @@ use Rattle.form_sources.proofs.table.FormSources.of.Given as goal
 abbrev pub invariant-loop-n : goal.invariant-loop-n
 invariant-loop-n l =
     AllZip (AreNamedSources (schema_in l.schema) (inverses_seen (schema_in l.schema) l.inverses))
-    (take l.n (map (λ (x : Form). x.types.items) l.forms)) (map (λ v. v.items) l.rows.items)
+    (take l.n (map (λ (x : Form). x) l.forms)) (map (λ v. v.items) l.rows.items)
