@@ -7,17 +7,9 @@
 
 ghost use Rattle.std.specs.Prelude.{◌≡◌, ◌∷◌, [], true, IfOk, OnOk};
 ghost use Rattle.std.specs.Option.{option_map};
-ghost use Rattle.step_literals.specs.Words.{upper};
 ghost use Rattle.express_trees.specs.Trees.{reference};
-ghost use Rattle.express_trees.specs.Views.{
-  capitals,
-  root_of,
-  tree_of,
-  trees_of,
-  alternatives_of,
-  qualifiers_of,
-  selection_of,
-};
+ghost use Rattle.express_trees.specs.Views.{capitals, root_of, tree_of, trees_of};
+ghost use Rattle.express_trees.specs.Views.{alternatives_of, qualifiers_of};
 ghost use Rattle.express_logic.specs.Comparing.{member};
 ghost use Rattle.express_logic.specs.Data.{Datum as Worth, logical};
 ghost use Rattle.express_logic.specs.Views.{datum_of, text_of};
@@ -26,7 +18,6 @@ ghost use Rattle.express_meanings.specs.Operations.{bare, indexed, or_else, size
 ghost use Rattle.express_meanings.specs.Expressions.{of_call, string_of};
 ghost use Rattle.express_operations.specs.Forms.{is_condition};
 ghost use Rattle.held_values.specs.Parts.{holding, element_datum, picked, whole_elements};
-ghost use Rattle.express_operations.specs.Scopes.{variables_of};
 ghost use Rattle.schema_names.specs.Numbers.{HasNumber};
 ghost use Rattle.base_types.specs.Seen.{name_at};
 ghost use Rattle.express_settings.specs.Settings.{IsSetting, IsFound, schema_in, or_nothing};
@@ -348,28 +339,12 @@ fn referred<'p, 'e, 'r, 't, 's: 'r, 'a>(
         (qualifiers_of qualifiers.now)))) }
 {
     match root {
-        Root::SelfInstance => own(context, qualifiers, alloc, variables, value),
+        Root::SelfInstance => {
+            *value = context.me.datum();
+            selected(context, qualifiers, alloc, variables, value)
+        }
         Root::Name(name) => named(context, qualifiers, alloc, variables, name, value),
     }
-}
-
-/// Puts there what qualifiers select of SELF.
-#[cycle(evaluation)]
-#[inline(never)]
-fn own<'p, 'e, 'r, 't, 's: 'r, 'a>(
-    context: &Context<'s, 't, 'r, 'a, 'e, 'p>,
-    qualifiers: &[Qualifier<'s>],
-    alloc: Global,
-    variables: &mut Vec<Variable<'p, 'r>>,
-    value: &mut Datum<'r, Part<'p, 'r>>,
-) -> Result<(), AllocError>
-    requires setting { IsSetting context.now.setting.now }
-    ensures { OnOk result (Gives context.now variables.old.items variables.new.items (datum_of holding value.new)
-        (λ m. selected_in context.now m variables.old.items (qualifiers_of qualifiers.now)
-        (element_datum context.now.me))) }
-{
-    *value = context.me.datum();
-    selected(context, qualifiers, alloc, variables, value)
 }
 
 /// What a relation says of two expressions.
@@ -542,33 +517,16 @@ fn selected<'p, 'e, 'r, 't, 's: 'r, 'a>(
         (datum_of holding value.old))) }
 {
     for qualifier in qualifiers {
+        strip_type(value);
         select(context, qualifier, alloc, variables, value)?;
     }
     Ok(())
 }
 
-/// Replaces a value by what one qualifier selects of it.
-#[cycle(evaluation)]
-fn select<'p, 'e, 'r, 't, 's: 'r, 'a>(
-    context: &Context<'s, 't, 'r, 'a, 'e, 'p>,
-    qualifier: &Qualifier<'s>,
-    alloc: Global,
-    variables: &mut Vec<Variable<'p, 'r>>,
-    value: &mut Datum<'r, Part<'p, 'r>>,
-) -> Result<(), AllocError>
-    requires setting { IsSetting context.now.setting.now }
-    ensures { OnOk result (Gives context.now variables.old.items variables.new.items (datum_of holding value.new)
-        (λ m. selected_in context.now m variables.old.items (qualifiers_of (qualifier.now ∷ []))
-        (datum_of holding value.old))) }
-{
-    strip_type(value);
-    select_inside(context, qualifier, alloc, variables, value)
-}
-
-/// .. inside which there is this one.
+/// Replaces a value, which is no typed one, by what one qualifier selects of it.
 #[cycle(evaluation)]
 #[inline(never)]
-fn select_inside<'p, 'e, 'r, 't, 's: 'r, 'a>(
+fn select<'p, 'e, 'r, 't, 's: 'r, 'a>(
     context: &Context<'s, 't, 'r, 'a, 'e, 'p>,
     qualifier: &Qualifier<'s>,
     alloc: Global,

@@ -243,8 +243,8 @@ passing-returns t c =
       inv.variables,
     )
 
-pub select_inside-returns-in-Attribute : goal.select_inside-returns-in-Attribute
-select_inside-returns-in-Attribute t c =
+pub select-returns-in-Attribute : goal.select-returns-in-Attribute
+select-returns-in-Attribute t c =
     let S = c.args.context.now.setting.now in
     let x = c.in-Attribute in
     on_ok_weaker c.found_value.result
@@ -257,8 +257,8 @@ select_inside-returns-in-Attribute t c =
       refl,
     )) c.found_value.ensures
 
-pub select_inside-returns-in-Group : goal.select_inside-returns-in-Group
-select_inside-returns-in-Group t c =
+pub select-returns-in-Group : goal.select-returns-in-Group
+select-returns-in-Group t c =
     let S = c.args.context.now.setting.now in
     let x = c.in-Group in
     on_ok_weaker c.found_value-in-Group.result
@@ -279,7 +279,7 @@ selected-loop-qualifier-preserved t c =
     let d = datum_of holding c.loop-qualifier.value in
     let lt : i < length xs = omega (arith, c.loop-qualifier-test.true) in
     let inv = c.loop-qualifier.invariant in
-    let found = c.in_ok-select.ensures in record {
+    let found = c.in_ok-select.ensures d c.strip_type.ensures in record {
       value = λ m.
           ap (λ e. selected_in c.args.context.now m c.args.variables.now.items (qualifiers_of (drop (i + 1) xs)) e)
           (found.0 m ∙ ap (λ ws. selected_in c.args.context.now m ws (qualifiers_of (x ∷ [])) d) inv.variables)
@@ -771,8 +771,8 @@ element-returns t c =
       found.1,
     )
 
-pub select_inside-returns-in-Index : goal.select_inside-returns-in-Index
-select_inside-returns-in-Index t c =
+pub select-returns-in-Index : goal.select-returns-in-Index
+select-returns-in-Index t c =
     let x = c.in-Index in
     let C = c.args.context.now in
     let vs = c.args.variables.now.items in
@@ -850,17 +850,6 @@ pub evaluate_truth-returns-then-is_condition : goal.evaluate_truth-returns-then-
 evaluate_truth-returns-then-is_condition t c =
     IfOk-weaker c.condition.result _ _ (λ p h. ((λ m. ap says (h.0 m)), h.1)) c.condition.ensures
 
-pub select-returns : goal.select-returns
-select-returns t c =
-    let d = datum_of holding c.args.value.now in
-    on_ok_weaker c.select_inside.result (λ h. h d c.strip_type.ensures) c.select_inside.ensures
-
-pub own-returns : goal.own-returns
-own-returns t c =
-    let qs = qualifiers_of c.args.qualifiers.now in
-    on_ok_weaker c.selected.result
-    (λ h. ((λ m. h.0 m ∙ ap (λ d. selected_in c.args.context.now m c.args.variables.now.items qs d) c.datum.ensures), h.1)) c.selected.ensures
-
 pub evaluate-returns-in-Reference : goal.evaluate-returns-in-Reference
 evaluate-returns-in-Reference t c =
     let x = c.in-Reference in
@@ -883,9 +872,9 @@ referred-returns-in-Name t c =
 pub referred-returns-in-SelfInstance : goal.referred-returns-in-SelfInstance
 referred-returns-in-SelfInstance t c =
     let qs = qualifiers_of c.args.qualifiers.now in
-    on_ok_weaker c.own.result
+    on_ok_weaker c.selected.result
     (λ h. (
-      (λ m. h.0 m
+      (λ m. h.0 m ∙ ap (λ d. selected_in c.args.context.now m c.args.variables.now.items qs d) c.datum.ensures
           ∙ ap (λ r. meaning_in c.args.context.now m c.args.variables.now.items (reference (root_of r) qs)) (sym c.in-SelfInstance.is)),
       h.1,
-    )) c.own.ensures
+    )) c.selected.ensures

@@ -77,11 +77,8 @@ decreases-found_value l = 16 * left l.context.now + 1
 abbrev pub decreases-element : goal.decreases-element
 decreases-element l = 16 * (goal.size-element l + left l.context.now) + 3
 
-abbrev pub decreases-select_inside : goal.decreases-select_inside
-decreases-select_inside l = 16 * (goal.size-select_inside l + left l.context.now) + 4
-
 abbrev pub decreases-select : goal.decreases-select
-decreases-select l = 16 * (goal.size-select l + left l.context.now) + 5
+decreases-select l = 16 * (goal.size-select l + left l.context.now) + 4
 
 abbrev pub decreases-selected : goal.decreases-selected
 decreases-selected l = 16 * (goal.size-selected l + left l.context.now) + 7
@@ -97,9 +94,6 @@ decreases-named l = 16 * (goal.size-named l + left l.context.now) + 10
 
 abbrev pub decreases-referred : goal.decreases-referred
 decreases-referred l = 16 * (goal.size-referred l + left l.context.now) + 11
-
-abbrev pub decreases-own : goal.decreases-own
-decreases-own l = 16 * (goal.size-own l + left l.context.now) + 8
 
 abbrev pub invariant-and_all-loop-expression : goal.invariant-and_all-loop-expression
 invariant-and_all-loop-expression l =
