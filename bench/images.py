@@ -135,7 +135,7 @@ def main():
     parser.add_argument("--bag", action=argparse.BooleanOptionalAction, default=True)
     arguments = parser.parse_args()
     with tempfile.TemporaryDirectory() as folder:
-        program = build(folder, "images", ["step_equal", "step_values", "columns", "step_literals", "indexmap", "anyhow"])
+        program = build(folder, "images", ["step_equal", "step_values", "parsing", "step_literals", "indexmap", "anyhow"])
         report(program, folder, "rows", tens, ROWS)
         if arguments.bag:
             print()

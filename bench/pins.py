@@ -17,8 +17,8 @@ from building import build
 from check import FILES, RULED_FILES, RULES, SCHEMA, write
 
 SIZE = 60_000_000
-DEPENDENCIES = ["step_pins", "chosen_types", "step_extent", "populating", "step_population", "step_exchange", "express_types",
-                "resolved_types", "express_text", "express_schemas", "anyhow"]
+DEPENDENCIES = ["step_pins", "pin_choices", "step_extent", "step_population", "population_typed", "step_exchange",
+                "express_types", "schema_types", "express_text", "express_syntax", "anyhow"]
 RUNS = 5
 
 

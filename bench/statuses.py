@@ -16,12 +16,12 @@ import sys
 import tempfile
 from typing import NamedTuple, Optional
 
-from building import CRATES, build_crate
+from building import ROOT, build_crate
 
 
-def example(name):
-    """The text of an example file."""
-    with open(os.path.join(CRATES, "stepmin", "data", name), encoding="ascii") as file:
+def text_of(*path):
+    """The text of a file of the repository."""
+    with open(os.path.join(ROOT, *path), encoding="ascii") as file:
         return file.read()
 
 
@@ -35,18 +35,17 @@ DATA;
 %sENDSEC;
 END-ISO-10303-21;
 """
-SPELT = example("bracket.stp")
+SPELT = text_of("examples", "spelling.stp")
 NORMAL = FRAME % """#1=POINT((0.,1.));
 #2=POINT((0.0,1.E0));
 #3=PLACEMENT(#1,$);
 #4=(MARKED(.ROUGH.)SHAPE('it''s a
  bracket')SOLID(LEN_M(1.)));
 """
-CUT = example("cut.stp")
+CUT = text_of("crates", "stepmin", "data", "cut.stp")
 SMALL = FRAME % "#1=POINT((0.,1.));\n"
 BROKEN = FRAME % "#1=POINT();\n"
-with open(os.path.join(os.path.dirname(CRATES), "examples", "geo.exp"), encoding="ascii") as geo:
-    SCHEMA = geo.read()
+SCHEMA = text_of("examples", "geo.exp")
 LARGE = FRAME % "".join(f"#{name}=POINT((0.,1.));\n" for name in range(1, 1_000_000))
 
 STATUSES = """Exit status:

@@ -1,26 +1,26 @@
 -- What is answered to bytes is answered to a source that gave them to its end.
 use Rattle.std.specs.Prelude.{◌≡◌, ◌≤◌, ◌^◌, ℕ, List, length, Option, IfSome, Some, Result, Ok, Err, false}
-use Rattle.std.proofs.Common.{refl, sym, ap, ◌∙◌, subst, inr}
+use Rattle.std.proofs.Common.{refl, sym, ap, ◌∙◌, subst}
 use Rattle.std.proofs.lemmas.List.{length-map}
 use Rattle.std.proofs.KnownBytes.{Consumes-whole}
 use Rattle.std.specs.Io.KnownBytes.{Consumes, IsAtEnd}
-use Rattle.express_schemas.specs.Schemas.{Schema}
-use Rattle.express_schemas.specs.Texts.{ReadsAs, IsFaultOf}
-use Rattle.express_schemas.specs.declared.fault.SchemaFault.{SchemaFault}
-use Rattle.express_schemas.specs.declared.fault.SchemaFault.TheVariants as schemas
-use Rattle.resolved_types.specs.Resolving.{IsNameFault}
+use Rattle.express_syntax.specs.Schemas.{Schema}
+use Rattle.express_syntax.specs.Texts.{ReadsAs}
+use Rattle.express_syntax.specs.declared.fault.SchemaFault.{SchemaFault}
+use Rattle.express_syntax.specs.declared.fault.SchemaFault.TheVariants as schemas
+use Rattle.schema_types.specs.Resolving.{IsNameFault}
 use Rattle.step_structures.specs.Trees.{Row, rows_of}
 use Rattle.step_exchange.specs.Exchanges.{structure}
 use Rattle.step_exchange.specs.declared.structure.Exchange.{Exchange}
-use Rattle.instance_rows.proofs.Placing.{names-are}
-use Rattle.command_line.specs.declared.fault.Role.TheVariants as roles
-use Rattle.command_line.specs.declared.fault.Fault.{Fault}
-use Rattle.command_line.specs.declared.fault.Fault.TheVariants as faults
+use Rattle.step_exchange.proofs.Named.{names-are}
+use Rattle.files.specs.declared.fault.Role.TheVariants as roles
+use Rattle.files.specs.declared.fault.Fault.{Fault}
+use Rattle.files.specs.declared.fault.Fault.TheVariants as faults
 use Rattle.reports.specs.declared.report.Report.{Report}
 use Rattle.checking.specs.declared.fault.CheckFault.{CheckFault}
 use Rattle.checking.specs.declared.fault.CheckFault.TheVariants as check_faults
 use Rattle.checking.specs.Faults.{schema_fault}
-use Rattle.checking.specs.Checks.{HasSchema, HasSchemaFault, HasFile, HasFileFault, FileAnswers, SourceAnswers, Checks, is_device_fault, is_schema_device, is_file_device}
+use Rattle.checking.specs.Checks.{HasSchema, HasSchemaFault, HasFile, HasFileFault, FileAnswers, SourceAnswers, Checks, is_device_fault}
 
 -- as many instances as names
 pub as-many : (x : Exchange) (n : ℕ) → n ≡ length x.names → n ≡ length (rows_of (structure x).sections)
@@ -55,39 +55,6 @@ abbrev other : Result Report Fault → Result Report CheckFault
 other (Ok r) = Ok r
 other (Err f) = Err (check_faults.Other f)
 
--- the file's part of a check, by a schema that was read
-pub by-schema : (s : Schema) (schema file : Option (List ℕ)) → IfSome schema (HasSchema s) → (r : Result Report Fault)
-    → SourceAnswers s file r → Checks schema file (other r)
-by-schema s schema file has (Ok r) h = (s, h.0, has, h.1, h.2)
-by-schema s schema file has (Err (faults.Text roles.File kind place)) h = ((s, has), h)
-by-schema s schema file has (Err (faults.Text roles.Schema kind place)) h = absurd h
-by-schema s schema file has (Err (faults.Text roles.Output kind place)) h = absurd h
-by-schema s schema file has (Err (faults.Text roles.Certificate kind place)) h = absurd h
-by-schema s schema file has (Err (faults.Device roles.File written)) h = ((s, has), h)
-by-schema s schema file has (Err (faults.Device roles.Schema written)) h = absurd h
-by-schema s schema file has (Err (faults.Device roles.Output written)) h = absurd h
-by-schema s schema file has (Err (faults.Device roles.Certificate written)) h = absurd h
-by-schema s schema file has (Err faults.Memory) h = tt
-
-pub no-schema-device : (s : Schema) (file : Option (List ℕ)) (r : Result Report Fault) → SourceAnswers s file r
-    → is_schema_device (other r) ≡ false
-no-schema-device s file (Ok r) h = refl
-no-schema-device s file (Err (faults.Text role kind place)) h = refl
-no-schema-device s file (Err (faults.Device roles.File written)) h = refl
-no-schema-device s file (Err (faults.Device roles.Schema written)) h = absurd h
-no-schema-device s file (Err (faults.Device roles.Output written)) h = refl
-no-schema-device s file (Err (faults.Device roles.Certificate written)) h = refl
-no-schema-device s file (Err faults.Memory) h = refl
-
-pub file-device : (r : Result Report Fault) → is_device_fault r ≡ is_file_device (other r)
-file-device (Ok r) = refl
-file-device (Err (faults.Text role kind place)) = refl
-file-device (Err (faults.Device roles.File written)) = refl
-file-device (Err (faults.Device roles.Schema written)) = refl
-file-device (Err (faults.Device roles.Output written)) = refl
-file-device (Err (faults.Device roles.Certificate written)) = refl
-file-device (Err faults.Memory) = refl
-
 -- the schema's bytes are those of a source that gave them
 pub of-schema-source : (coming file : Option (List ℕ)) (bytes : List ℕ) → Gives coming bytes
     → (r : Result Report CheckFault) → Checks (Some bytes) file r → Checks coming file r
@@ -115,15 +82,4 @@ of-names file bytes s fault r is within reads h =
     by : (fault : SchemaFault) → IsNameFault s fault → Checks (Some bytes) file (Err (schema_fault fault))
     by (schemas.Text kind place) h = absurd h
     by (schemas.Name kind name) h = (within, (s, reads, h))
-    by schemas.Memory h = tt
-
--- a fault of the schema's text
-pub of-text : (file : Option (List ℕ)) (bytes : List ℕ) (fault : SchemaFault) (r : CheckFault)
-    → r ≡ schema_fault fault → length bytes ≤ 2 ^ 40 → IsFaultOf bytes fault → Checks (Some bytes) file (Err r)
-of-text file bytes fault r is within h =
-    subst (λ (x : CheckFault). Checks (Some bytes) file (Err x)) (sym is) (by fault h)
-  where
-    by : (fault : SchemaFault) → IsFaultOf bytes fault → Checks (Some bytes) file (Err (schema_fault fault))
-    by (schemas.Text kind place) h = inr (within, h)
-    by (schemas.Name kind name) h = absurd h
     by schemas.Memory h = tt

@@ -1,11 +1,11 @@
 -- Whether a source fails, by what is answered once it was read to its end.
 use Rattle.std.specs.Prelude.{◌≡◌, Option, None, Some, IfSome, Bool, false, Result, Ok, Err}
 use Rattle.std.proofs.Common.{◌∙◌, sym, subst}
-use Rattle.express_schemas.specs.declared.fault.SchemaFault.{SchemaFault}
-use Rattle.express_schemas.specs.declared.fault.SchemaFault.TheVariants as schemas
-use Rattle.command_line.specs.declared.fault.Role.TheVariants as roles
-use Rattle.command_line.specs.declared.fault.Fault.{Fault}
-use Rattle.command_line.specs.declared.fault.Fault.TheVariants as faults
+use Rattle.express_syntax.specs.declared.fault.SchemaFault.{SchemaFault}
+use Rattle.express_syntax.specs.declared.fault.SchemaFault.TheVariants as schemas
+use Rattle.files.specs.declared.fault.Role.TheVariants as roles
+use Rattle.files.specs.declared.fault.Fault.{Fault}
+use Rattle.files.specs.declared.fault.Fault.TheVariants as faults
 use Rattle.reports.specs.declared.report.Report.{Report}
 use Rattle.checking.specs.declared.fault.CheckFault.{CheckFault}
 use Rattle.checking.specs.declared.fault.CheckFault.TheVariants as check_faults

@@ -1,2 +1,3 @@
 mod Answering
 mod Failing
+pub mod Once

@@ -1,21 +1,21 @@
 -- What `check` answers.
 use Rattle.std.specs.Prelude.{◌≡◌, ◌≤◌, ◌<◌, ◌^◌, ◌⊎◌, ℕ, List, length, Option, IfSome, Bool, true, false, Result, Ok, Err}
-use Rattle.express_schemas.specs.Schemas.{Schema}
-use Rattle.express_schemas.specs.Texts as schema_texts
-use Rattle.express_schemas.specs.declared.fault.FaultKind.TheVariants as schema_kinds
-use Rattle.express_schemas.specs.declared.fault.LeftOut.TheVariants as schema_left_out
-use Rattle.express_schemas.specs.declared.fault.SchemaFault.{SchemaFault}
-use Rattle.express_schemas.specs.declared.fault.SchemaFault.TheVariants as schemas
+use Rattle.express_syntax.specs.Schemas.{Schema}
+use Rattle.express_syntax.specs.Texts as schema_texts
+use Rattle.express_syntax.specs.declared.fault.FaultKind.TheVariants as schema_kinds
+use Rattle.express_syntax.specs.declared.fault.LeftOut.TheVariants as schema_left_out
+use Rattle.express_syntax.specs.declared.fault.SchemaFault.{SchemaFault}
+use Rattle.express_syntax.specs.declared.fault.SchemaFault.TheVariants as schemas
 use Rattle.step_structures.specs.declared.fault.FaultKind.{FaultKind}
 use Rattle.step_structures.specs.declared.fault.FaultKind.TheVariants.{LeftOut}
 use Rattle.step_structures.specs.declared.fault.LeftOut.TheVariants.{TooLarge}
 use Rattle.step_structures.specs.Texts.{ReadsAs, IsFirstFault}
 use Rattle.step_structures.specs.Trees.{File}
-use Rattle.type_graphs.specs.Faults.{IsResolved}
-use Rattle.resolved_types.specs.Resolving.{IsNameFault}
-use Rattle.command_line.specs.declared.fault.Role.TheVariants as roles
-use Rattle.command_line.specs.declared.fault.Fault.{Fault}
-use Rattle.command_line.specs.declared.fault.Fault.TheVariants as faults
+use Rattle.schema_semantics.specs.Faults.{IsResolved}
+use Rattle.schema_types.specs.Resolving.{IsNameFault}
+use Rattle.files.specs.declared.fault.Role.TheVariants as roles
+use Rattle.files.specs.declared.fault.Fault.{Fault}
+use Rattle.files.specs.declared.fault.Fault.TheVariants as faults
 use Rattle.reports.specs.declared.report.Report.{Report}
 use Rattle.checking.specs.declared.fault.CheckFault.{CheckFault}
 use Rattle.checking.specs.declared.fault.CheckFault.TheVariants as check_faults

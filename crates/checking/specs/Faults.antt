@@ -1,13 +1,13 @@
 -- The fault of a check for each fault below it.
 use Rattle.std.specs.Prelude.{◌^◌}
-use Rattle.express_schemas.specs.declared.fault.FaultKind.TheVariants.{LeftOut}
-use Rattle.express_schemas.specs.declared.fault.LeftOut.TheVariants.{TooLarge}
-use Rattle.express_schemas.specs.declared.fault.SchemaFault.{SchemaFault}
-use Rattle.express_schemas.specs.declared.fault.SchemaFault.TheVariants as schemas
-use Rattle.command_line.specs.declared.read.ReadFault.{ReadFault}
-use Rattle.command_line.specs.declared.read.ReadFault.TheVariants as reads
-use Rattle.command_line.specs.declared.fault.Role.TheVariants as roles
-use Rattle.command_line.specs.declared.fault.Fault.TheVariants as faults
+use Rattle.express_syntax.specs.declared.fault.FaultKind.TheVariants.{LeftOut}
+use Rattle.express_syntax.specs.declared.fault.LeftOut.TheVariants.{TooLarge}
+use Rattle.express_syntax.specs.declared.fault.SchemaFault.{SchemaFault}
+use Rattle.express_syntax.specs.declared.fault.SchemaFault.TheVariants as schemas
+use Rattle.files.specs.declared.read.ReadFault.{ReadFault}
+use Rattle.files.specs.declared.read.ReadFault.TheVariants as reads
+use Rattle.files.specs.declared.fault.Role.TheVariants as roles
+use Rattle.files.specs.declared.fault.Fault.TheVariants as faults
 use Rattle.checking.specs.declared.fault.CheckFault.{CheckFault}
 use Rattle.checking.specs.declared.fault.CheckFault.TheVariants.{Schema, Other}
 

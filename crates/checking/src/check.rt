@@ -1,10 +1,11 @@
 //! Checking a file against a schema.
 
 ghost use Rattle.std.specs.Prelude.{◌≡◌, ◌≤◌, ◌^◌, IfSome, Some, false, length};
-ghost use Rattle.express_schemas.specs.SchemaViews.{schema_of};
-ghost use Rattle.express_types.specs.Judging.{AreDomainTables, AreRuleTables};
-ghost use Rattle.derivation_ranks.specs.Firsts.{AreFirsts};
-ghost use Rattle.resolved_types.specs.Made.{IsMade};
+ghost use Rattle.express_syntax.specs.SchemaViews.{schema_of};
+ghost use Rattle.express_types.specs.Judging.{AreDomainTables};
+ghost use Rattle.schema_rules.specs.Ruled.{AreRuleTables};
+ghost use Rattle.schema_derivations.specs.Firsts.{AreFirsts};
+ghost use Rattle.schema_types.specs.Made.{IsMade};
 ghost use Rattle.checking.specs.Checks.{
   Checks,
   FileAnswers,
@@ -18,15 +19,15 @@ ghost use Rattle.checking.specs.Checks.{
 };
 
 use crate::fault::{CheckFault, of_schema, of_schema_source};
-use command_line::fault::{Fault, LIMIT, Role};
-use command_line::read::read_whole;
+use check_findings::findings::{Found, file_findings};
 use devices::device::Source;
+use express_rules::report::RuleReport;
 use express_text::read_schema;
 use express_types::graph::TypeGraph;
 use express_types::resolving::resolve;
+use files::fault::{Fault, LIMIT, Role};
+use files::read::read_whole;
 use reports::report::Report;
-use rule_outcomes::report::RuleReport;
-use schema_findings::findings::{Found, file_findings};
 use std::alloc::Global;
 use std::hash::RandomState;
 use step_exchange::exchange::read_exchange;

@@ -3,9 +3,9 @@
 ghost use Rattle.std.specs.Prelude.{◌≡◌};
 ghost use Rattle.checking.specs.Faults.{schema_fault, schema_read_fault};
 
-use command_line::fault::{Fault, LIMIT, Role};
-use command_line::read::ReadFault;
-use express_schemas::fault::{FaultKind, LeftOut, SchemaFault};
+use express_syntax::fault::{FaultKind, LeftOut, SchemaFault};
+use files::fault::{Fault, LIMIT, Role};
+use files::read::ReadFault;
 
 /// Why a file isn't checked.
 #[derive(Debug, PartialEq, Eq, Drop)]

@@ -476,12 +476,6 @@ file_among (Some p) path rows found is =
     let of : Option (List Row) → Option Text = λ o. option_and_then (first_of (codes "FILE")) o in
     sym (ap of is) ∙ ap file found
 
-pub name_among : {Z : Type 0} (o : Option (Box SubCommand Z)) (path : Text) → file_in (subcommand_rows o) ≡ Some
-    (codes "plain", Some path)
-    → option_map (λ b. (out-SubCommand (box_value b)).name.now) o ≡ Some (codes "plain")
-name_among None path found = absurd (true≢false (sym (ap is_some found)))
-name_among (Some b) path found = ap (option_map (λ q. q.0)) found
-
 -- the name of the subcommand is that of its rows
 pub same_name : {Z : Type 0} (o : Option (Box SubCommand Z))
     → option_map (λ b. (out-SubCommand (box_value b)).name.now) o ≡ name_in (subcommand_rows o)

@@ -1,8 +1,5 @@
-//! What the words of a command line ask for, why a command ends before it is done and the line that
-//! says so, and the files that a command reads.
+//! What the words of a command line ask for, and the file system as the store of its files.
 #![tactic(auto)]
 
-pub mod fault;
-pub mod read;
-pub mod store;
+pub mod folder;
 pub mod usage;

@@ -7,9 +7,9 @@ use Rattle.devices.specs.Emits.{EmitsFront}
 use Rattle.step_structures.specs.Normal.{plain_text}
 use Rattle.step_structures.specs.Texts.{ReadsAs}
 use Rattle.step_structures.specs.Trees.{File}
-use Rattle.command_line.specs.declared.fault.Role.TheVariants as roles
-use Rattle.command_line.specs.declared.fault.Fault.{Fault}
-use Rattle.command_line.specs.Faults.{write_fault}
+use Rattle.files.specs.declared.fault.Role.TheVariants as roles
+use Rattle.files.specs.declared.fault.Fault.{Fault}
+use Rattle.files.specs.Faults.{write_fault}
 use Rattle.commands.specs.Plain.{HasPlain, Plain}
 
 -- they read as a structure

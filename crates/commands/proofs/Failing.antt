@@ -1,9 +1,9 @@
 -- Whether a source fails, by what `plain` answers.
 use Rattle.std.proofs.Common.{◌≡◌, Bool, false, Option, None, Some, IfSome, Err, sym, subst}
 use Rattle.devices.specs.declared.device.WriteFault.{WriteFault}
-use Rattle.command_line.specs.declared.fault.Role.TheVariants as roles
-use Rattle.command_line.specs.declared.fault.Fault.{Fault}
-use Rattle.command_line.specs.Faults.{write_fault}
+use Rattle.files.specs.declared.fault.Role.TheVariants as roles
+use Rattle.files.specs.declared.fault.Fault.{Fault}
+use Rattle.files.specs.Faults.{write_fault}
 use Rattle.commands.specs.Plain.{FailsAs}
 
 -- all was read, and the output fails

@@ -2,23 +2,23 @@
 use Rattle.std.proofs.Common.{◌≡◌, Bool, true, false, List, [], ◌∷◌, ℕ, Option, None, Some, Result, Ok, Err, IfSome, inl, inr, refl, sym, ap, subst, ◌∙◌, true≢false, arith}
 use Rattle.std.specs.Prelude.{◌⊎◌, MatchBool, MatchResult, is_err, string_bytes}
 use Rattle.std.specs.Io.KnownBytes.{Appends, Keeps}
-use Rattle.express_schemas.specs.declared.fault.SchemaFault.{SchemaFault}
-use Rattle.express_schemas.specs.declared.fault.SchemaFault.TheVariants as schemas
+use Rattle.express_syntax.specs.declared.fault.SchemaFault.{SchemaFault}
+use Rattle.express_syntax.specs.declared.fault.SchemaFault.TheVariants as schemas
 use Rattle.devices.specs.declared.device.WriteFault.{WriteFault}
 use Rattle.conformance.specs.declared.finding.Finding.{Finding}
-use Rattle.rule_findings.specs.declared.finding.RuleFinding.{RuleFinding}
+use Rattle.schema_rules.specs.declared.finding.RuleFinding.{RuleFinding}
 use Rattle.reports.specs.declared.report.Report.{Report}
 use Rattle.checking.specs.Checks.{Checks, FileFailsAs, SchemaFailsAs, is_file_device, is_schema_device}
 use Rattle.checking.specs.declared.fault.CheckFault.{CheckFault}
 use Rattle.checking.specs.declared.fault.CheckFault.TheVariants as check_faults
 use Rattle.command_line.specs.Commands.{AsksCheck, AsksNothing, AsksPlain}
-use Rattle.command_line.specs.Faults.{write_fault}
-use Rattle.command_line.specs.Lines.{line_of}
+use Rattle.files.specs.Faults.{write_fault}
+use Rattle.files.specs.Lines.{line_of}
 use Rattle.command_line.specs.Requests.{AskFor}
-use Rattle.command_line.specs.Stores.{Stored}
-use Rattle.command_line.specs.declared.fault.Role.TheVariants as roles
-use Rattle.command_line.specs.declared.fault.Fault.{Fault}
-use Rattle.command_line.specs.declared.fault.Fault.TheVariants as faults
+use Rattle.files.specs.Stores.{Stored}
+use Rattle.files.specs.declared.fault.Role.TheVariants as roles
+use Rattle.files.specs.declared.fault.Fault.{Fault}
+use Rattle.files.specs.declared.fault.Fault.TheVariants as faults
 use Rattle.command_line.specs.declared.usage.Request.{Request}
 use Rattle.command_line.specs.declared.usage.Request.TheVariants as requests
 use Rattle.command_line.specs.declared.usage.Refusal.{Refusal}
@@ -302,23 +302,6 @@ check_devices schema file (Err (check_faults.Other (faults.Device roles.Certific
     h e is fresh clean = absurd h
 check_devices schema file (Err (check_faults.Other faults.Memory)) out out' err err' status h e is fresh clean =
     inr (inr (inr (device_printed err err' (line_of faults.Memory) 5 status e.1 (λ no. omega (arith, no)) is clean)))
-
--- a fault of a source is told as that
-pub source_met : (outcome : Result Report CheckFault) (out out' err err' : Output) (status : ℕ)
-    → (is_schema_device outcome ≡ true) ⊎ (is_file_device outcome ≡ true)
-    → EndsCheck outcome out out' err err' status → status ≡ 4
-source_met (Ok report) out out' err err' status (inl is) e = absurd (true≢false (sym is))
-source_met (Ok report) out out' err err' status (inr is) e = absurd (true≢false (sym is))
-source_met (Err (check_faults.Schema fault)) out out' err err' status (inl is) e = absurd (true≢false (sym is))
-source_met (Err (check_faults.Schema fault)) out out' err err' status (inr is) e = absurd (true≢false (sym is))
-source_met (Err (check_faults.Other (faults.Text role kind place))) out out' err err' status (inl is) e =
-    absurd (true≢false (sym is))
-source_met (Err (check_faults.Other (faults.Text role kind place))) out out' err err' status (inr is) e =
-    absurd (true≢false (sym is))
-source_met (Err (check_faults.Other (faults.Device role written))) out out' err err' status is e =
-    four status (status_printed err err' (line_of (faults.Device role written)) 4 status e.1)
-source_met (Err (check_faults.Other faults.Memory)) out out' err err' status (inl is) e = absurd (true≢false (sym is))
-source_met (Err (check_faults.Other faults.Memory)) out out' err err' status (inr is) e = absurd (true≢false (sym is))
 
 -- it is none of a source that can't fail
 schema_can : (outcome : Result Report CheckFault) → is_schema_device outcome ≡ true → SchemaFailsAs outcome false → ⊥

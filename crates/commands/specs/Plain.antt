@@ -8,9 +8,9 @@ use Rattle.devices.specs.Emits.{EmitsFront}
 use Rattle.step_structures.specs.Normal.{plain_text}
 use Rattle.step_structures.specs.Texts.{ReadsAs, IsFirstFault}
 use Rattle.step_structures.specs.Trees as trees
-use Rattle.command_line.specs.declared.fault.Role.TheVariants.{File, Output}
-use Rattle.command_line.specs.declared.fault.Fault.{Fault}
-use Rattle.command_line.specs.declared.fault.Fault.TheVariants.{Text, Device, Memory}
+use Rattle.files.specs.declared.fault.Role.TheVariants.{File, Output}
+use Rattle.files.specs.declared.fault.Fault.{Fault}
+use Rattle.files.specs.declared.fault.Fault.TheVariants.{Text, Device, Memory}
 
 -- The bytes are at most 2^40 and read as some structure, and this is its normal text.
 pub record HasPlain (text bytes : List ℕ) : Type 0 where

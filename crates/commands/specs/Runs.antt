@@ -4,13 +4,13 @@ use Rattle.std.specs.Io.KnownBytes.{Appends}
 use Rattle.devices.specs.Emits.{Emits}
 use Rattle.devices.specs.declared.device.WriteFault.{WriteFault}
 use Rattle.command_line.specs.Commands.{AsksCheck, AsksNothing, AsksPlain}
-use Rattle.command_line.specs.Faults.{write_fault}
-use Rattle.command_line.specs.Lines.{line_of}
+use Rattle.files.specs.Faults.{write_fault}
+use Rattle.files.specs.Lines.{line_of}
 use Rattle.command_line.specs.Requests.{CallFor}
-use Rattle.command_line.specs.Stores.{Stored}
-use Rattle.command_line.specs.declared.fault.Role.TheVariants as roles
-use Rattle.command_line.specs.declared.fault.Fault.{Fault}
-use Rattle.command_line.specs.declared.fault.Fault.TheVariants as faults
+use Rattle.files.specs.Stores.{Stored}
+use Rattle.files.specs.declared.fault.Role.TheVariants as roles
+use Rattle.files.specs.declared.fault.Fault.{Fault}
+use Rattle.files.specs.declared.fault.Fault.TheVariants as faults
 use Rattle.command_line.specs.declared.usage.Request.{Request}
 use Rattle.command_line.specs.declared.usage.Request.TheVariants as requests
 use Rattle.command_line.specs.declared.usage.Refusal.{Refusal}

@@ -1,11 +1,11 @@
 -- The exit statuses.
-use Rattle.std.specs.Prelude.{◌≡◌, ◌⊎◌, ℕ, List, [], ◌∷◌, Result, Ok, Err}
-use Rattle.express_schemas.specs.declared.fault.SchemaFault.{SchemaFault}
-use Rattle.express_schemas.specs.declared.fault.SchemaFault.TheVariants as schemas
-use Rattle.command_line.specs.declared.fault.Fault.{Fault}
-use Rattle.command_line.specs.declared.fault.Fault.TheVariants.{Text, Device, Memory}
+use Rattle.std.specs.Prelude.{◌≡◌, ◌⊎◌, ℕ, List, [], ◌∷◌}
+use Rattle.express_syntax.specs.declared.fault.SchemaFault.{SchemaFault}
+use Rattle.express_syntax.specs.declared.fault.SchemaFault.TheVariants as schemas
+use Rattle.files.specs.declared.fault.Fault.{Fault}
+use Rattle.files.specs.declared.fault.Fault.TheVariants.{Text, Device, Memory}
 use Rattle.conformance.specs.declared.finding.Finding.{Finding}
-use Rattle.rule_findings.specs.declared.finding.RuleFinding.{RuleFinding}
+use Rattle.schema_rules.specs.declared.finding.RuleFinding.{RuleFinding}
 use Rattle.reports.specs.declared.report.Report.{Report}
 use Rattle.checking.specs.declared.fault.CheckFault.{CheckFault}
 use Rattle.checking.specs.declared.fault.CheckFault.TheVariants.{Schema, Other}
@@ -15,11 +15,6 @@ abbrev pub fault_status : Fault → ℕ
 fault_status (Text role kind place) = 2
 fault_status (Device role written) = 4
 fault_status Memory = 5
-
--- the status for what a command came to
-abbrev pub outcome_status : Result Unit Fault → ℕ
-outcome_status (Ok _) = 0
-outcome_status (Err fault) = fault_status fault
 
 -- the status for a fault of a schema
 abbrev pub schema_status : SchemaFault → ℕ

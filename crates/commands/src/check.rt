@@ -8,9 +8,9 @@ ghost use Rattle.commands.specs.Statuses.{check_status, report_status, schema_st
 use crate::ending::{BROKEN, DEVICE, DONE, MEMORY, TEXT, report};
 use checking::check::check;
 use checking::fault::CheckFault;
-use command_line::fault::{Fault, Role};
 use devices::device::{Sink, Source};
-use express_schemas::fault::SchemaFault;
+use express_syntax::fault::SchemaFault;
+use files::fault::{Fault, Role};
 use reports::print::print_report;
 use reports::report::Report;
 use reports::schema_fault::print_schema_fault;

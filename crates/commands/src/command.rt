@@ -3,10 +3,10 @@
 ghost use Rattle.std.specs.Prelude.{◌≡◌, ◌⊎◌, ℕ, List, Some, false, true};
 ghost use Rattle.std.specs.Io.KnownBytes.{Keeps};
 ghost use Rattle.command_line.specs.Commands.{AsksCheck, AsksNothing, AsksPlain, texts};
-ghost use Rattle.command_line.specs.Lines.{line_of};
-ghost use Rattle.command_line.specs.Stores.{stored};
-ghost use Rattle.command_line.specs.declared.fault.Fault.TheVariants.{Device};
-ghost use Rattle.command_line.specs.declared.fault.Role.TheVariants.{File};
+ghost use Rattle.files.specs.Lines.{line_of};
+ghost use Rattle.files.specs.Stores.{stored};
+ghost use Rattle.files.specs.declared.fault.Fault.TheVariants.{Device};
+ghost use Rattle.files.specs.declared.fault.Role.TheVariants.{File};
 ghost use Rattle.commands.specs.Runs.{
   Does,
   IsDevices,
@@ -22,10 +22,10 @@ ghost use Rattle.commands.specs.Statuses.{IsStatus};
 use crate::check::run_check;
 use crate::ending::{DONE, USAGE, finish, print, report};
 use crate::plain::plain;
-use command_line::fault::{Fault, Role};
-use command_line::store::Store;
 use command_line::usage::{Refusal, Request, read_words};
 use devices::device::Sink;
+use files::fault::{Fault, Role};
+use files::store::Store;
 use std::alloc::Global;
 use std::hash::RandomState;
 

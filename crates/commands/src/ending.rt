@@ -2,12 +2,12 @@
 
 ghost use Rattle.std.specs.Prelude.{◌≡◌, false, OnOk, is_err, MatchResult};
 ghost use Rattle.std.specs.Io.KnownBytes.{Appends};
-ghost use Rattle.command_line.specs.Lines.{line_of};
+ghost use Rattle.files.specs.Lines.{line_of};
 ghost use Rattle.commands.specs.Runs.{AppendsFront, Ends, Prints, output};
 ghost use Rattle.commands.specs.Statuses.{fault_status};
 
-use command_line::fault::{Fault, print_line};
 use devices::device::{Failed, Sink};
+use files::fault::{Fault, print_line};
 
 /// The status where all is done.
 pub const DONE: u8 = 0;

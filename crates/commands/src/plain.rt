@@ -3,9 +3,9 @@
 ghost use Rattle.std.specs.Prelude.{◌≡◌, false, IfSome};
 ghost use Rattle.commands.specs.Plain.{FailsAs, Plain, is_file_fault, is_output_fault};
 
-use command_line::fault::{Fault, LIMIT, Role};
-use command_line::read::read_whole;
 use devices::device::{Sink, Source};
+use files::fault::{Fault, LIMIT, Role};
+use files::read::read_whole;
 use std::alloc::Global;
 use std::hash::RandomState;
 use step_exchange::exchange::read_exchange;

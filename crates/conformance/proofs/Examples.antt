@@ -9,8 +9,8 @@ use Rattle.step_structures.specs.Trees.{Tree, Row}
 use Rattle.step_values.specs.Leaves as leaves
 use Rattle.step_values.specs.Values as values
 use Rattle.step_values.specs.Values.{leaf, reference, none, more}
-use Rattle.express_schemas.specs.Schemas.{Schema}
-use Rattle.type_graphs.proofs.Geo.{geo}
+use Rattle.express_syntax.specs.Schemas.{Schema}
+use Rattle.schema_semantics.proofs.Geo.{geo}
 use Rattle.conformance.specs.declared.finding.FindingKind.{FindingKind}
 use Rattle.conformance.specs.declared.finding.FindingKind.TheVariants.{UnknownEntity, AbstractInstance, MissingSupertype, OneOfBroken, ParameterCount, WrongKind, MissingValue, MisplacedStar, DanglingReference, WrongEntity, UnknownElement, OutOfBounds, TooWide, NotDistinct, NoSelectItem, SchemaName}
 use Rattle.conformance.specs.declared.finding.Spot.TheVariants.{Place, Nothing}

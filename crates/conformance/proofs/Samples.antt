@@ -5,9 +5,9 @@ use Rattle.step_lexis.specs.declared.token.Mark.TheVariants.{Dollar, Asterisk}
 use Rattle.step_structures.specs.Words.{name, number, element, string, binary, mark}
 use Rattle.step_structures.specs.Trees as trees
 use Rattle.step_structures.specs.Trees.{Tree, Trees, Record, Row, internal, external, File}
-use Rattle.express_schemas.specs.Schemas.{Schema, Entity, DataType, Underlying, Explicit, Declaration, Bounds, Bound}
-use Rattle.express_schemas.specs.Schemas as schemas
-use Rattle.type_graphs.proofs.Geo.{bare, having, having_optional, real_type}
+use Rattle.express_syntax.specs.Schemas.{Schema, Entity, DataType, Underlying, Explicit, Declaration, Bounds, Bound}
+use Rattle.express_syntax.specs.Schemas as schemas
+use Rattle.schema_semantics.proofs.Geo.{bare, having, having_optional, real_type}
 
 abbrev pub num : String → Tree
 num t = trees.leaf (number (codes t))

@@ -3,9 +3,9 @@
 use Rattle.std.specs.Prelude.{ℕ, zero, suc, ◌||◌, nat_lt, ℤ, pos, Bool, true, false, cond, List, [], ◌++◌, length, flat_map, Option, Some, None, bytes_eq}
 use Rattle.std.specs.List.{list_any, filter}
 use Rattle.std.specs.Str.Parse.{digits_value}
-use Rattle.express_schemas.specs.Schemas.{Schema, Declaration, type, entity, Attribute, own, redeclared, Explicit, Derived, Bound, value, Width, width, Underlying, select, data_type, named}
-use Rattle.type_graphs.specs.Names.{Name, listed, declaration_of, supertypes_of}
-use Rattle.type_graphs.specs.Attributes.{Place, once, own_places, same_place}
+use Rattle.express_syntax.specs.Schemas.{Schema, Declaration, type, entity, Attribute, own, redeclared, Explicit, Derived, Bound, value, Width, width, Underlying, select, data_type, named}
+use Rattle.schema_semantics.specs.Names.{Name, listed, declaration_of, supertypes_of}
+use Rattle.schema_semantics.specs.Attributes.{Place, once, own_places, same_place}
 use Rattle.conformance.specs.Bases.{Base, Domain, base_of_underlying}
 use Rattle.conformance.specs.Bases as bases
 use Rattle.conformance.specs.Entities.{Entities}

@@ -4,12 +4,12 @@ use Rattle.std.specs.Option.{option_map}
 use Rattle.std.specs.Int.{w64}
 use Rattle.digraph.specs.Graphs.{Leads}
 use Rattle.step_literals.specs.Decimals.{IsWorth}
-use Rattle.express_schemas.specs.Schemas.{Schema, TypeDeclaration, Entity, Bound, Bounds, Width, width, Underlying, DataType}
-use Rattle.express_schemas.specs.Schemas as schemas
-use Rattle.express_schemas.specs.Clauses.{IsInteger}
-use Rattle.express_schemas.specs.Profile.{Every}
-use Rattle.type_graphs.specs.Names.{Name, entities, types, IsMadeOf}
-use Rattle.type_graphs.specs.Shapes.{IsOverSelect}
+use Rattle.express_syntax.specs.Schemas.{Schema, TypeDeclaration, Entity, Bound, Bounds, Width, width, Underlying, DataType}
+use Rattle.express_syntax.specs.Schemas as schemas
+use Rattle.express_syntax.specs.Clauses.{IsInteger}
+use Rattle.express_syntax.specs.Profile.{Every}
+use Rattle.schema_semantics.specs.Names.{Name, entities, types, IsMadeOf}
+use Rattle.schema_semantics.specs.Shapes.{IsOverSelect}
 
 pub data Collection : Type 0 where
   array : Collection

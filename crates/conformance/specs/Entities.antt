@@ -5,9 +5,9 @@ use Rattle.std.specs.List.{list_any, list_all, filter}
 use Rattle.step_literals.specs.Words.{upper}
 use Rattle.step_structures.specs.Trees as trees
 use Rattle.step_structures.specs.Trees.{Trees, Record, Form, internal, external}
-use Rattle.express_schemas.specs.Schemas.{Schema, Declaration, entity, Entity, own, Attribute, Explicit, Derived, DataType, Supertype, of_one_of}
-use Rattle.type_graphs.specs.Names.{Name, OneOf, Among, listed, entities, declaration_of, IsEntityAt, IsKindOf}
-use Rattle.type_graphs.specs.Attributes.{Place, own_places, ArePlaces, IsRedeclaration, HasFirstShape}
+use Rattle.express_syntax.specs.Schemas.{Schema, Declaration, entity, Entity, own, Attribute, Explicit, Derived, DataType, Supertype, of_one_of}
+use Rattle.schema_semantics.specs.Names.{Name, OneOf, Among, listed, entities, declaration_of, IsEntityAt, IsKindOf}
+use Rattle.schema_semantics.specs.Attributes.{Place, own_places, ArePlaces, IsRedeclaration, HasFirstShape}
 use Rattle.conformance.specs.Fitting.{entity_names, among, is_entity, count}
 
 -- What the entities of a schema say, as functions.

@@ -8,9 +8,9 @@ use Rattle.step_literals.specs.declared.literal.items.Item.TheVariants.{Code}
 use Rattle.step_structures.specs.Words.{string}
 use Rattle.step_structures.specs.Trees as trees
 use Rattle.step_structures.specs.Trees.{Tree, Trees, Record, Form, Row, Section, File, rows_of}
-use Rattle.express_schemas.specs.Schemas.{Schema, DataType}
-use Rattle.type_graphs.specs.Names.{Name}
-use Rattle.type_graphs.specs.Attributes.{Place}
+use Rattle.express_syntax.specs.Schemas.{Schema, DataType}
+use Rattle.schema_semantics.specs.Names.{Name}
+use Rattle.schema_semantics.specs.Attributes.{Place}
 use Rattle.conformance.specs.declared.finding.FindingKind.{FindingKind}
 use Rattle.conformance.specs.declared.finding.FindingKind.TheVariants.{UnknownEntity, AbstractInstance, MissingSupertype, OneOfBroken, ParameterCount, MisplacedStar, SchemaName}
 use Rattle.conformance.specs.declared.finding.Spot.TheVariants.{Place as At, Nothing}

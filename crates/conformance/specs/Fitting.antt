@@ -15,8 +15,8 @@ use Rattle.step_values.specs.Leaves as leaves
 use Rattle.step_values.specs.Values as values
 use Rattle.step_values.specs.Values.{Value, leaf, reference, typed, sequence, Values, none, more}
 use Rattle.step_values.specs.ComputedAgreement.{same_test}
-use Rattle.express_schemas.specs.Schemas.{Schema, Entity, named}
-use Rattle.type_graphs.specs.Names.{Name, entities}
+use Rattle.express_syntax.specs.Schemas.{Schema, Entity, named}
+use Rattle.schema_semantics.specs.Names.{Name, entities}
 use Rattle.conformance.specs.declared.finding.FindingKind.{FindingKind}
 use Rattle.conformance.specs.declared.finding.FindingKind.TheVariants.{WrongKind, MissingValue, MisplacedStar, DanglingReference, WrongEntity, UnknownElement, OutOfBounds, TooWide, NotDistinct, NoSelectItem}
 use Rattle.conformance.specs.Bases.{Collection, array, bag, set, Limit, Aggregate, Base, integer, number, boolean, logical, string, binary, enumeration, entity, select, aggregate, Domain, base}

@@ -4,9 +4,9 @@ use Rattle.step_structures.specs.Trees as trees
 use Rattle.step_structures.specs.Trees.{Tree, Trees, Row, Section, File}
 use Rattle.step_values.specs.Leaves as leaves
 use Rattle.step_values.specs.Values.{Value, leaf}
-use Rattle.express_schemas.specs.Schemas.{Schema, DataType}
-use Rattle.type_graphs.specs.Names.{Name}
-use Rattle.type_graphs.specs.Attributes.{Place, same_place}
+use Rattle.express_syntax.specs.Schemas.{Schema, DataType}
+use Rattle.schema_semantics.specs.Names.{Name}
+use Rattle.schema_semantics.specs.Attributes.{Place, same_place}
 use Rattle.conformance.specs.Bases.{Base, integer, Domain, base}
 use Rattle.conformance.specs.Fitting.{value_as}
 use Rattle.conformance.specs.Entities.{Entities, records, parameters, types_of, places_of, is_derived, data_types}

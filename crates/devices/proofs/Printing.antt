@@ -66,24 +66,6 @@ prints_nothing held failed a p = record {
   agrees = (λ e. e);
 }
 
--- the text waits
-pub prints_kept : {S : Type 0} (held : S → Option (List ℕ)) (failed : S → Bool) (a : S) (p q : Printing) (t : List ℕ)
-    → p.stopped ≡ false → q ≡ record p { waiting = p.waiting ++ t } → Prints held failed a a p q t
-prints_kept held failed a p q t runs e = rw e (record {
-  idle = (λ s. let bad : true ≡ false = sym s ∙ runs in absurd cc);
-  runs = (λ s. rw s (sends_kept (held a) p.waiting p.written t));
-  agrees = (λ s. s);
-})
-
--- nothing happens once stopped
-pub prints_idle : {S : Type 0} (held : S → Option (List ℕ)) (failed : S → Bool) (a : S) (p : Printing) (t : List ℕ)
-    → p.stopped ≡ true → Prints held failed a a p p t
-prints_idle held failed a p t stopped = record {
-  idle = (λ e. (refl, refl));
-  runs = (λ e. let bad : true ≡ false = sym stopped ∙ e in absurd cc);
-  agrees = (λ e. e);
-}
-
 sent_all : (a b : Option (List ℕ)) (n m : ℕ) (text : List ℕ) → Sends a b [] n m (text ++ []) [] → Appends a b text
 sent_all a b n m text s = let e : s.sent ≡ text = sym (append-nil s.sent) ∙ sym s.whole ∙ append-nil text in
     subst (Appends a b) e s.told

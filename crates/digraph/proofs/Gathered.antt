@@ -126,9 +126,6 @@ elsewhere-next t u d order i x lt at bare others b out =
     none-of : eqb b x ≡ true → ⊥
     none-of here = let other = right-out (has (take i order) b) (eqb b x) split in cc
 
-pub solves-none : {X : Type 0} (g : Graph) (F : ℕ → List X → X) (t : ℕ → X) → Solves g [] F t
-solves-none g F t a m = absurd (cc)
-
 -- what is gathered is of where it is gathered from
 pub has-concat : (n : ℕ) (t : Graph) (bs : List ℕ) → StaysBelow n t → (b : ℕ) → has (concat (map (next t) bs)) b ≡ true
     → b < n

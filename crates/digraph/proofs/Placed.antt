@@ -46,16 +46,6 @@ passed-at g marks passed v at lt old now a = case (eqb a v) refl
         (sym (set-elsewhere passed v at a 0
         (λ (same : a ≡ v). (let is : eqb a v ≡ true = grind (arith, nat_tests) in absurd (cc))))) (old a)
 
--- a vertex that leads to one that isn't marked stays
-pub placing-stays : (g : Graph) (order : List ℕ) (marks : List Bool) (passed : List ℕ) (v at : ℕ)
-    → IsPlacing g order marks passed → v < length passed → AreMarkedUpTo marks (next g v) at
-    → IsPlacing g order marks (set passed v at)
-placing-stays g order marks passed v at p lt now = record {
-  ordered = p.ordered;
-  marked = p.marked;
-  passes = passed-at g marks passed v at lt p.passes now;
-}
-
 marks-more : (order : List ℕ) (marks : List Bool) (v : ℕ) → v < length marks → AreMarks marks order
     → AreMarks (set marks v true) (order ++ v ∷ [])
 marks-more order marks v lt h b below = case (eqb b v) refl
@@ -143,13 +133,6 @@ awaits-longer g old new n a x le (inl m) =
 awaits-longer g old new n a x le (inr (b, e, free)) =
     inr (b, e, ap (λ (ys : List ℕ). has ys b) (ap (take n) x.1 ∙ take-more old x.0 n le) ∙ free)
 
-pub extends-self : (xs : List ℕ) → Extends xs xs
-extends-self xs = ([], sym (append-none xs))
-  where
-    append-none : (ys : List ℕ) → ys ++ [] ≡ ys
-    append-none [] = refl
-    append-none (y ∷ ys) = ap (λ (zs : List ℕ). y ∷ zs) (append-none ys)
-
 pub extends-on : (xs ys zs : List ℕ) → Extends xs ys → Extends ys zs → Extends xs zs
 extends-on xs ys zs a b = (a.0 ++ b.0, b.1 ∙ ap (λ (l : List ℕ). l ++ b.0) a.1 ∙ append_assoc xs a.0 b.0)
 
@@ -208,13 +191,6 @@ module _ {X : Type 0} (f : X → List ℕ) where
   pub marked-is : (edges : List X) (order : List ℕ) (marks : List Bool) (passed : List ℕ) (v : ℕ) (d c : Bool)
       → IsPlacing (map f edges) order marks passed → v < length marks → get_or marks v d ≡ c → has order v ≡ c
   marked-is edges order marks passed v d c p lt is = sym (p.marked v lt) ∙ get_or_default marks v false d lt ∙ is
-
-  pub stays-row : (edges : List X) (order : List ℕ) (marks : List Bool) (passed row : List ℕ) (v at : ℕ)
-      → IsPlacing (map f edges) order marks passed → length passed ≡ length edges → v < length edges
-      → row ≡ next (map f edges) v → AreMarkedUpTo marks row at → IsPlacing (map f edges) order marks (set passed v at)
-  stays-row edges order marks passed row v at p counts lt same now =
-      placing-stays (map f edges) order marks passed v at p (omega (arith, lt, counts))
-      (subst (λ (r : List ℕ). AreMarkedUpTo marks r at) same now)
 
   pub grows-row : (edges : List X) (order : List ℕ) (marks : List Bool) (passed row : List ℕ) (v at : ℕ)
       → IsGraph (map f edges) → length marks ≡ length edges → length passed ≡ length edges

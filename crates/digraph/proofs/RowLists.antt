@@ -8,7 +8,7 @@ use Rattle.digraph.specs.Graphs.{IsGraph, StaysBelow, has, next, Step, Chain, Re
 use Rattle.digraph.specs.Closures.{IsClosure}
 use Rattle.digraph.specs.Rounds.{added, IsSearched}
 use Rattle.std.proofs.lemmas.Bool.Decides.{nat_tests}
-use Rattle.digraph.proofs.Found.{at-member, member-at, has-more, has-added, taken}
+use Rattle.digraph.proofs.Found.{at-member, member-at, has-more, has-added}
 use Rattle.digraph.proofs.Searching.{nothing, either, searched-first, searched-next, found-within, found-few}
 
 module _ {X : Type 0} (f : X → List ℕ) where
@@ -195,16 +195,6 @@ module _ {X : Type 0} (f : X → List ℕ) where
           (next-unwritten f rows row v b
           (λ (same : b ≡ row). (let is : eqb b row ≡ true = grind (arith, nat_tests) in absurd (cc))))
           ∙ sym (or-none (has (next (map f rows) b) c))
-
--- the rows of what was gone through have one number more
-pub spread-next : (which : List ℕ) (i b : ℕ) (o m now new : Bool) → i < length which
-    → now ≡ (o || (has (take i which) b && m)) → new ≡ (now || (eqb b (get_or which i 0) && m))
-    → new ≡ (o || (has (take (i + 1) which) b && m))
-spread-next which i b o m now new lt h is =
-    let more : has (take (i + 1) which) b ≡ (has (take i which) b || eqb b (get_or which i 0)) =
-    ap (λ (xs : List ℕ). has xs b) (taken which i lt) ∙ has-more (take i which) (get_or which i 0) b in
-    is ∙ ap (λ (p : Bool). p || (eqb b (get_or which i 0) && m)) h
-    ∙ spread o (has (take i which) b) (eqb b (get_or which i 0)) m ∙ ap (λ (p : Bool). o || (p && m)) (sym more)
 
 -- what is added stays below a bound
 pub added-within : (found row new : List ℕ) (n m : ℕ) → ((y : ℕ) → has found y ≡ true → y < n) → All (λ y. y < n) row

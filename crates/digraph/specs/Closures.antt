@@ -14,11 +14,6 @@ pub record IsReversal (g t : Graph) : Type 0 where
   pub same : length t ≡ length g
   pub turned : (a b : ℕ) → has (next t b) a ≡ has (next g a) b
 
--- the first vertex with an edge to itself, if there is one
-abbrev pub IsFirstLoop : Graph → Option ℕ → Type 0
-IsFirstLoop g None = (a : ℕ) → Step g a a → ⊥
-IsFirstLoop g (Some a) = Step g a a × ((b : ℕ) → b < a → Step g b b → ⊥)
-
 -- the first vertex on a cycle, if there is one
 abbrev pub IsFirstCyclic : Graph → Option ℕ → Type 0
 IsFirstCyclic g None = IsAcyclic g

@@ -1,7 +1,7 @@
-//! What is reached from each vertex, edges turned round, and the first vertex on a cycle.
-ghost use Rattle.std.specs.Prelude.{◌≡◌, ℕ, ◌<◌, ◌^◌, length, IfOk};
+//! What is reached from each vertex, and edges turned round.
+ghost use Rattle.std.specs.Prelude.{◌<◌, ◌^◌, length, IfOk};
 ghost use Rattle.digraph.specs.Graphs.{IsGraph, graph_of};
-ghost use Rattle.digraph.specs.Closures.{IsClosure, IsReversal, IsFirstLoop};
+ghost use Rattle.digraph.specs.Closures.{IsClosure, IsReversal};
 
 use crate::rows::{add_to_rows, empty_rows};
 use crate::search::reached;
@@ -36,18 +36,4 @@ pub fn reversal(alloc: Global, edges: &[Vec<u32>]) -> Result<Vec<Vec<u32>>, Allo
         add_to_rows(&mut rows, &edges[from], from as u32)?;
     }
     Ok(rows)
-}
-
-/// The first vertex with an edge to itself. In a closure that is the first on a cycle.
-pub fn first_loop(edges: &[Vec<u32>]) -> Option<u32>
-    requires few { length edges.now < 2 ^ 32 }
-    ensures { IsFirstLoop (graph_of edges.now) result }
-{
-    for a in 0..edges.len() {
-        let row = &edges[a];
-        if row.contains(&(a as u32)) {
-            return Some(a as u32);
-        }
-    }
-    None
 }

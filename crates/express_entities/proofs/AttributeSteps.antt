@@ -2,27 +2,27 @@
 use Rattle.std.proofs.Common.{◌≡◌, ℕ, true, false, Some, None, List, [], ◌∷◌, ◌++◌, map, Result, Ok, Err, MatchResult, length, ◌<◌, refl, sym, ap, ◌∙◌, append_assoc, arith}
 use Rattle.express_lexis.specs.declared.marks.Mark.TheVariants as marks
 use Rattle.express_lexis.specs.Reading.{Reading, left}
-use Rattle.express_trees.specs.declared.keyword.Keyword.{Keyword}
-use Rattle.express_trees.specs.declared.keyword.Keyword.TheVariants as keywords
-use Rattle.express_trees.specs.declared.lexeme.Lexeme.{Lexeme}
-use Rattle.express_trees.specs.declared.lexeme.Lexeme.TheVariants as lexemes
-use Rattle.express_trees.specs.Words.{Word, keyword, name, mark, word_of}
-use Rattle.express_trees.specs.Grammar.{depth_limit}
-use Rattle.express_schemas.specs.declared.fault.SyntaxFault.{SyntaxFault}
-use Rattle.express_schemas.specs.declared.fault.SyntaxFault.TheVariants as faults
-use Rattle.express_schemas.specs.declared.tree.Attribute as code
-use Rattle.express_schemas.specs.Schemas.{Attribute, own}
-use Rattle.express_schemas.specs.Written.{with_commas, words_of_attribute, words_of_unique}
-use Rattle.express_schemas.specs.Profile.{IsFilled}
-use Rattle.express_schemas.specs.Views.{attribute_of}
-use Rattle.express_schemas.specs.Texts.{Lookahead, token, LocatedToken, Shows}
-use Rattle.express_schemas.specs.Predict.{Symbol, AnAttribute, Explicits, OptionalDataType, Uniques, UniqueNamed, DataTypeThen, semicolon, BoundsOrOf, Id, Just, Inverted, Holder, redeclared_symbols, is_mark, is_keyword, next, refused}
-use Rattle.express_schemas.specs.Predict as predict
-use Rattle.express_schemas.specs.Steps.{Passes, StopsIn}
+use Rattle.express_syntax.specs.declared.keyword.Keyword.{Keyword}
+use Rattle.express_syntax.specs.declared.keyword.Keyword.TheVariants as keywords
+use Rattle.express_syntax.specs.declared.lexeme.Lexeme.{Lexeme}
+use Rattle.express_syntax.specs.declared.lexeme.Lexeme.TheVariants as lexemes
+use Rattle.express_syntax.specs.Words.{Word, keyword, name, mark, word_of}
+use Rattle.express_syntax.specs.Grammar.{depth_limit}
+use Rattle.express_syntax.specs.declared.fault.SyntaxFault.{SyntaxFault}
+use Rattle.express_syntax.specs.declared.fault.SyntaxFault.TheVariants as faults
+use Rattle.express_syntax.specs.declared.tree.Attribute as code
+use Rattle.express_syntax.specs.Schemas.{Attribute, own}
+use Rattle.express_syntax.specs.Written.{with_commas, words_of_attribute, words_of_unique}
+use Rattle.express_syntax.specs.Profile.{IsFilled}
+use Rattle.express_syntax.specs.Views.{attribute_of}
+use Rattle.express_syntax.specs.Texts.{Lookahead, token, LocatedToken, Shows}
+use Rattle.express_syntax.specs.Predict.{Symbol, AnAttribute, Explicits, OptionalDataType, Uniques, UniqueNamed, DataTypeThen, semicolon, BoundsOrOf, Id, Just, Inverted, Holder, redeclared_symbols, is_mark, is_keyword, next, refused}
+use Rattle.express_syntax.specs.Predict as predict
+use Rattle.express_syntax.specs.Steps.{Passes, StopsIn}
 use Rattle.express_entities.specs.Lists.{IsListed, Continues, ListsOn, UniqueOn}
-use Rattle.express_schemas.proofs.Looking.{mark_met, keyword_met, stops_refused, shown_less, tokens_less}
-use Rattle.express_schemas.proofs.Taking.{passes_as, passes_join, passes_more, passes_token, passes_taken, passes_then, passes_first, passes_other, stops_behind, stops_first, stops_here, stops_as}
-use Rattle.express_schemas.proofs.Lists.{commas_push, filled_push}
+use Rattle.express_syntax.proofs.Looking.{mark_met, keyword_met, stops_refused, shown_less, tokens_less}
+use Rattle.express_syntax.proofs.Taking.{passes_as, passes_join, passes_more, passes_token, passes_taken, passes_then, passes_first, passes_other, stops_behind, stops_first, stops_here, stops_as}
+use Rattle.express_syntax.proofs.Lists.{commas_push, filled_push}
 
 -- an attribute that is redeclared, behind SELF
 pub own_attribute : (r : Result code.Attribute SyntaxFault) (s : LocatedToken) (old mid new : Reading) → Shows old s mid

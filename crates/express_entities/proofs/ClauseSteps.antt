@@ -1,36 +1,36 @@
 -- The clauses of an entity, item by item and keyword by keyword.
 use Rattle.std.proofs.Common.{◌≡◌, ◌<◌, true, false, List, [], ◌∷◌, ◌++◌, length, map, Option, Ok, Err, refl, sym, ap, ◌∙◌, subst, append_assoc, append-nil, arith}
 use Rattle.std.proofs.lemmas.Bool.{false≢true}
-use Rattle.predictive.specs.Tables.{lookaheads}
+use Rattle.parsing.specs.Tables.{lookaheads}
 use Rattle.express_lexis.specs.declared.marks.Mark.TheVariants as marks
 use Rattle.step_literals.specs.declared.literal.Word as literal
 use Rattle.express_lexis.specs.Reading.{Reading, left}
-use Rattle.express_trees.specs.declared.keyword.Keyword.{Keyword}
-use Rattle.express_trees.specs.declared.keyword.Keyword.TheVariants as keywords
-use Rattle.express_trees.specs.declared.lexeme.Lexeme.{Lexeme}
-use Rattle.express_trees.specs.declared.lexeme.Lexeme.TheVariants as lexemes
-use Rattle.express_trees.specs.Words.{Word, keyword, name, mark, word_of}
-use Rattle.express_trees.specs.Views.{capitals}
-use Rattle.express_trees.specs.Grammar.{depth_limit}
-use Rattle.express_schemas.specs.declared.fault.SyntaxFault.{SyntaxFault}
-use Rattle.express_schemas.specs.declared.fault.SyntaxFault.TheVariants as faults
+use Rattle.express_syntax.specs.declared.keyword.Keyword.{Keyword}
+use Rattle.express_syntax.specs.declared.keyword.Keyword.TheVariants as keywords
+use Rattle.express_syntax.specs.declared.lexeme.Lexeme.{Lexeme}
+use Rattle.express_syntax.specs.declared.lexeme.Lexeme.TheVariants as lexemes
+use Rattle.express_syntax.specs.Words.{Word, keyword, name, mark, word_of}
+use Rattle.express_syntax.specs.ExpressionViews.{capitals}
+use Rattle.express_syntax.specs.Grammar.{depth_limit}
+use Rattle.express_syntax.specs.declared.fault.SyntaxFault.{SyntaxFault}
+use Rattle.express_syntax.specs.declared.fault.SyntaxFault.TheVariants as faults
 use Rattle.express_entities.specs.declared.clauses.Boundary.{Boundary}
 use Rattle.express_entities.specs.declared.clauses.Boundary.TheVariants as boundaries
 use Rattle.express_entities.specs.declared.clauses.ClauseStart.{ClauseStart}
 use Rattle.express_entities.specs.declared.clauses.ClauseStart.TheVariants as starts
-use Rattle.express_schemas.specs.declared.tree.Attribute as code
-use Rattle.express_schemas.specs.declared.tree.Attribute.TheVariants as attributes
-use Rattle.express_schemas.specs.Schemas.{Attribute, own, redeclared, Explicit, Derived, Inverse, Unique, Rule}
-use Rattle.express_schemas.specs.Views.{attribute_of}
-use Rattle.express_schemas.specs.Written.{joined, words_of_attribute, words_of_clause, words_of_explicit, words_of_derived, words_of_inverse, words_of_unique, words_of_rule}
-use Rattle.express_schemas.specs.Profile.{FitsExplicit, FitsDerived, FitsInverse, FitsUnique}
-use Rattle.express_schemas.specs.Texts.{Lookahead, token, LocatedToken, Shows, ShowsAll}
-use Rattle.express_schemas.specs.Predict.{Symbol, Body, Clause, explicits, derived, inverses, uniques, behind_name, behind_attribute, redeclared_symbols, next, refused, is_keyword}
+use Rattle.express_syntax.specs.declared.tree.Attribute as code
+use Rattle.express_syntax.specs.declared.tree.Attribute.TheVariants as attributes
+use Rattle.express_syntax.specs.Schemas.{Attribute, own, redeclared, Explicit, Derived, Inverse, Unique, Rule}
+use Rattle.express_syntax.specs.Views.{attribute_of}
+use Rattle.express_syntax.specs.Written.{joined, words_of_attribute, words_of_clause, words_of_explicit, words_of_derived, words_of_inverse, words_of_unique, words_of_rule}
+use Rattle.express_syntax.specs.Profile.{FitsExplicit, FitsDerived, FitsInverse, FitsUnique}
+use Rattle.express_syntax.specs.Texts.{Lookahead, token, LocatedToken, Shows, ShowsAll}
+use Rattle.express_syntax.specs.Predict.{Symbol, Body, Clause, explicits, derived, inverses, uniques, behind_name, behind_attribute, redeclared_symbols, next, refused, is_keyword}
 use Rattle.express_entities.specs.EntityParts.{may_end, keyword_of, symbols_behind, behind_first, Begins, Stand, Ended, Clausal}
-use Rattle.express_schemas.specs.Steps.{StopsIn, Passes}
-use Rattle.express_schemas.proofs.Looking.{keyword_met, stops_refused, shown_less, tokens_less, passes_within}
-use Rattle.express_schemas.proofs.Taking.{passes_as, passes_join, passes_more, passes_token, stops_behind}
-use Rattle.express_schemas.proofs.Lists.{every_push, joined_push, map_push}
+use Rattle.express_syntax.specs.Steps.{StopsIn, Passes}
+use Rattle.express_syntax.proofs.Looking.{keyword_met, stops_refused, shown_less, tokens_less, passes_within}
+use Rattle.express_syntax.proofs.Taking.{passes_as, passes_join, passes_more, passes_token, stops_behind}
+use Rattle.express_syntax.proofs.Lists.{every_push, joined_push, map_push}
 
 -- a keyword that ends the clause
 boundary_next : (c : Clause) (b : Boundary) → may_end c b ≡ true → next depth_limit (Body c)

@@ -2,22 +2,22 @@
 use Rattle.std.proofs.Common.{◌≡◌, ℕ, true, false, List, [], ◌∷◌, ◌++◌, map, Some, Result, Ok, Err, MatchResult, refl, sym, ap, ◌∙◌, append_assoc}
 use Rattle.express_lexis.specs.declared.marks.Mark.TheVariants as marks
 use Rattle.express_lexis.specs.Reading.{Reading}
-use Rattle.express_trees.specs.declared.keyword.Keyword.TheVariants as keywords
-use Rattle.express_trees.specs.Words.{Word, keyword, name, mark}
-use Rattle.express_trees.specs.Grammar.{depth_limit}
-use Rattle.express_schemas.specs.declared.fault.SyntaxFault.{SyntaxFault}
+use Rattle.express_syntax.specs.declared.keyword.Keyword.TheVariants as keywords
+use Rattle.express_syntax.specs.Words.{Word, keyword, name, mark}
+use Rattle.express_syntax.specs.Grammar.{depth_limit}
+use Rattle.express_syntax.specs.declared.fault.SyntaxFault.{SyntaxFault}
 use Rattle.express_entities.specs.declared.entities.Head as code
 use Rattle.express_entities.specs.declared.clauses.Clauses.{Clauses}
-use Rattle.express_schemas.specs.Schemas.{Supertype, Entity}
-use Rattle.express_schemas.specs.Views.{if_some, names_of, supertype_of, explicit_of, derived_of, inverse_of, unique_of, rules_of}
-use Rattle.express_schemas.specs.Profile.{FitsEntity}
-use Rattle.express_schemas.specs.Written.{joined, words_of_names, words_of_clause, words_of_supertype, words_of_subtype, words_of_explicit, words_of_derived, words_of_inverse, words_of_unique, words_of_rule, words_of_entity}
-use Rattle.express_schemas.specs.Texts.{Lookahead, token, LocatedToken, Shows}
-use Rattle.express_schemas.specs.Predict.{Symbol, Just, Say, Id, Running, in_parentheses, Head, Super, SuperOf, Sub, Body, explicits, names_symbols, next_sub, next_super, next_super_of, next_head, is_keyword}
+use Rattle.express_syntax.specs.Schemas.{Supertype, Entity}
+use Rattle.express_syntax.specs.Views.{if_some, names_of, supertype_of, explicit_of, derived_of, inverse_of, unique_of, rules_of}
+use Rattle.express_syntax.specs.Profile.{FitsEntity}
+use Rattle.express_syntax.specs.Written.{joined, words_of_names, words_of_clause, words_of_supertype, words_of_subtype, words_of_explicit, words_of_derived, words_of_inverse, words_of_unique, words_of_rule, words_of_entity}
+use Rattle.express_syntax.specs.Texts.{Lookahead, token, LocatedToken, Shows}
+use Rattle.express_syntax.specs.Predict.{Symbol, Just, Say, Id, Running, in_parentheses, Head, Super, SuperOf, Sub, Body, explicits, names_symbols, next_sub, next_super, next_super_of, next_head, is_keyword}
 use Rattle.express_entities.specs.EntityParts.{FitsHead, words_of_types, words_of_beginning, FitsClauses, words_of_clauses}
-use Rattle.express_schemas.specs.Steps.{StopsIn, Passes}
-use Rattle.express_schemas.proofs.Looking.{keyword_met}
-use Rattle.express_schemas.proofs.Taking.{passes_as, passes_join, passes_more, passes_then, passes_token, passes_taken, passes_first, stops_behind, stops_first, passes_other, stops_as}
+use Rattle.express_syntax.specs.Steps.{StopsIn, Passes}
+use Rattle.express_syntax.proofs.Looking.{keyword_met}
+use Rattle.express_syntax.proofs.Taking.{passes_as, passes_join, passes_more, passes_then, passes_token, passes_taken, passes_first, stops_behind, stops_first, passes_other, stops_as}
 
 super_of_next : (s : Lookahead) → is_keyword keywords.Of s ≡ false → next_super_of s ≡ next_sub s
 super_of_next (token (keyword keywords.Of)) a = absurd cc

@@ -2,10 +2,10 @@
 use Rattle.std.specs.Prelude.{◌≡◌, ℕ, Bool, true, List, [], ◌∷◌, ◌++◌, map, Option, None, Some}
 use Rattle.express_lexis.specs.declared.marks.Mark.TheVariants as marks
 use Rattle.express_lexis.specs.Reading.{Reading}
-use Rattle.express_trees.specs.declared.keyword.Keyword.{Keyword}
-use Rattle.express_trees.specs.declared.keyword.Keyword.TheVariants as keywords
-use Rattle.express_trees.specs.Words.{Word, keyword, mark}
-use Rattle.express_trees.specs.Grammar.{depth_limit}
+use Rattle.express_syntax.specs.declared.keyword.Keyword.{Keyword}
+use Rattle.express_syntax.specs.declared.keyword.Keyword.TheVariants as keywords
+use Rattle.express_syntax.specs.Words.{Word, keyword, mark}
+use Rattle.express_syntax.specs.Grammar.{depth_limit}
 use Rattle.express_entities.specs.declared.entities.Head.{Head}
 use Rattle.express_entities.specs.declared.clauses.Boundary.{Boundary}
 use Rattle.express_entities.specs.declared.clauses.Boundary.TheVariants as boundaries
@@ -14,13 +14,13 @@ use Rattle.express_entities.specs.declared.clauses.Clause.TheVariants as clauses
 use Rattle.express_entities.specs.declared.clauses.ClauseStart.{ClauseStart}
 use Rattle.express_entities.specs.declared.clauses.ClauseStart.TheVariants as starts
 use Rattle.express_entities.specs.declared.clauses.Clauses.{Clauses}
-use Rattle.express_schemas.specs.Schemas.{Attribute, own, redeclared}
-use Rattle.express_schemas.specs.Views.{if_some, names_of, supertype_of, attribute_of, explicit_of, derived_of, inverse_of, unique_of, rules_of}
-use Rattle.express_schemas.specs.Written.{joined, said, words_of_attribute, words_of_clause, words_of_supertype, words_of_subtype, words_of_explicit, words_of_derived, words_of_inverse, words_of_unique, words_of_rule}
-use Rattle.express_schemas.specs.Profile.{Every, Maybe, IsFilled, FitsSupertype, FitsExplicit, FitsDerived, FitsInverse, FitsUnique, FitsRules}
-use Rattle.express_schemas.specs.Sources.{IsExplicitOf, IsDerivedOf, IsInverseOf, IsRuleOf}
-use Rattle.express_schemas.specs.Predict.{Clause, explicits, derived, inverses, uniques, follows, behind_name, behind_attribute, Symbol, Just, Body, Rules}
-use Rattle.express_schemas.specs.Steps.{Passes}
+use Rattle.express_syntax.specs.Schemas.{Attribute, own, redeclared}
+use Rattle.express_syntax.specs.Views.{if_some, names_of, supertype_of, attribute_of, explicit_of, derived_of, inverse_of, unique_of, rules_of}
+use Rattle.express_syntax.specs.Written.{joined, said, words_of_attribute, words_of_clause, words_of_supertype, words_of_subtype, words_of_explicit, words_of_derived, words_of_inverse, words_of_unique, words_of_rule}
+use Rattle.express_syntax.specs.Profile.{Every, Maybe, IsFilled, FitsSupertype, FitsExplicit, FitsDerived, FitsInverse, FitsUnique, FitsRules}
+use Rattle.express_syntax.specs.Sources.{IsExplicitOf, IsDerivedOf, IsInverseOf, IsRuleOf}
+use Rattle.express_syntax.specs.Predict.{Clause, explicits, derived, inverses, uniques, follows, behind_name, behind_attribute, Symbol, Just, Body, Rules}
+use Rattle.express_syntax.specs.Steps.{Passes}
 
 pub record FitsHead (h : Head) : Type 0 where
   pub supertype : FitsSupertype depth_limit (supertype_of h.supertype)

@@ -2,15 +2,15 @@
 use Rattle.std.specs.Prelude.{◌≡◌, List, [], ◌∷◌, ◌++◌, map, Ok}
 use Rattle.express_lexis.specs.declared.marks.Mark.TheVariants as marks
 use Rattle.express_lexis.specs.Reading.{Reading}
-use Rattle.express_trees.specs.Words.{Word, mark}
-use Rattle.express_trees.specs.Grammar.{depth_limit}
-use Rattle.express_schemas.specs.declared.fault.SyntaxFault.{SyntaxFault}
-use Rattle.express_schemas.specs.Schemas.{Attribute}
-use Rattle.express_schemas.specs.Written.{with_commas, words_of_attribute}
-use Rattle.express_schemas.specs.Profile.{IsFilled}
-use Rattle.express_schemas.specs.Texts.{token, LocatedToken}
-use Rattle.express_schemas.specs.Predict.{Symbol, AnAttribute, Uniques, next}
-use Rattle.express_schemas.specs.Steps.{Passes, StopsIn}
+use Rattle.express_syntax.specs.Words.{Word, mark}
+use Rattle.express_syntax.specs.Grammar.{depth_limit}
+use Rattle.express_syntax.specs.declared.fault.SyntaxFault.{SyntaxFault}
+use Rattle.express_syntax.specs.Schemas.{Attribute}
+use Rattle.express_syntax.specs.Written.{with_commas, words_of_attribute}
+use Rattle.express_syntax.specs.Profile.{IsFilled}
+use Rattle.express_syntax.specs.Texts.{token, LocatedToken}
+use Rattle.express_syntax.specs.Predict.{Symbol, AnAttribute, Uniques, next}
+use Rattle.express_syntax.specs.Steps.{Passes, StopsIn}
 
 -- behind a comma an attribute is to come, and then this again
 abbrev pub IsListed : Symbol → Type 0

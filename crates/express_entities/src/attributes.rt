@@ -2,13 +2,13 @@
 
 ghost use Rattle.std.specs.Prelude.{◌≡◌, false, [], ◌∷◌, ◌++◌, List, map, IfOk, MatchResult};
 ghost use Rattle.express_lexis.specs.declared.marks.Mark.TheVariants as marks;
-ghost use Rattle.express_trees.specs.declared.keyword.Keyword.TheVariants as keywords;
-ghost use Rattle.express_trees.specs.Words;
-ghost use Rattle.express_trees.specs.Words.{keyword, name, mark};
-ghost use Rattle.express_trees.specs.Views.{capitals};
-ghost use Rattle.express_trees.specs.Grammar.{depth_limit};
+ghost use Rattle.express_syntax.specs.declared.keyword.Keyword.TheVariants as keywords;
+ghost use Rattle.express_syntax.specs.Words;
+ghost use Rattle.express_syntax.specs.Words.{keyword, name, mark};
+ghost use Rattle.express_syntax.specs.ExpressionViews.{capitals};
+ghost use Rattle.express_syntax.specs.Grammar.{depth_limit};
 ghost use Rattle.express_runs.specs.Items.{located_of};
-ghost use Rattle.express_schemas.specs.Views.{
+ghost use Rattle.express_syntax.specs.Views.{
   if_some,
   data_type_of,
   attribute_of,
@@ -18,7 +18,7 @@ ghost use Rattle.express_schemas.specs.Views.{
   inverse_of,
   unique_of,
 };
-ghost use Rattle.express_schemas.specs.Written.{
+ghost use Rattle.express_syntax.specs.Written.{
   said,
   with_commas,
   words_of_data_type,
@@ -30,7 +30,7 @@ ghost use Rattle.express_schemas.specs.Written.{
   words_of_inverse,
   words_of_unique,
 };
-ghost use Rattle.express_schemas.specs.Profile.{
+ghost use Rattle.express_syntax.specs.Profile.{
   IsFilled,
   FitsDataType,
   FitsExplicit,
@@ -39,14 +39,14 @@ ghost use Rattle.express_schemas.specs.Profile.{
   FitsInverse,
   FitsUnique,
 };
-ghost use Rattle.express_schemas.specs.Sources.{
+ghost use Rattle.express_syntax.specs.Sources.{
   IsDataTypeOf,
   IsExplicitOf,
   IsDerivedOf,
   IsCollectionOf,
   IsInverseOf,
 };
-ghost use Rattle.express_schemas.specs.Predict.{
+ghost use Rattle.express_syntax.specs.Predict.{
   Symbol,
   derived,
   inverses,
@@ -61,7 +61,7 @@ ghost use Rattle.express_schemas.specs.Predict.{
   behind_attribute,
   is_mark,
 };
-ghost use Rattle.express_schemas.specs.Steps.{Passes, Parses, ParsesWhere, ParsesBehind, StopsIn};
+ghost use Rattle.express_syntax.specs.Steps.{Passes, Parses, ParsesWhere, ParsesBehind, StopsIn};
 ghost use Rattle.express_entities.specs.Lists.{IsListed, ListsOn, UniqueOn};
 
 use express_lexis::marks::Mark;
@@ -70,12 +70,12 @@ use express_parts::data_types::{Ending, data_type, data_type_from};
 use express_parts::rules::body;
 use express_runs::reader::Reader;
 use express_runs::tokens::{Item, is_keyword, is_mark, refuse};
-use express_schemas::fault::SyntaxFault;
-use express_schemas::tree::{
+use express_syntax::fault::SyntaxFault;
+use express_syntax::keyword::Keyword;
+use express_syntax::lexeme::Lexeme;
+use express_syntax::tree::{
     Attribute, AttributeList, Collection, DataType, Derived, Explicit, Inverse, Unique,
 };
-use express_trees::keyword::Keyword;
-use express_trees::lexeme::Lexeme;
 use step_literals::literal::Word;
 
 /// Reads the attribute that is redeclared, behind SELF.

@@ -14,11 +14,11 @@ ghost use Rattle.std.specs.Prelude.{
   Err,
 };
 ghost use Rattle.express_lexis.specs.declared.marks.Mark.TheVariants as marks;
-ghost use Rattle.express_trees.specs.declared.keyword.Keyword.TheVariants as keywords;
-ghost use Rattle.express_trees.specs.Words.{Word, keyword, mark};
-ghost use Rattle.express_trees.specs.Grammar.{depth_limit};
-ghost use Rattle.express_schemas.specs.Texts.{token};
-ghost use Rattle.express_schemas.specs.Views.{
+ghost use Rattle.express_syntax.specs.declared.keyword.Keyword.TheVariants as keywords;
+ghost use Rattle.express_syntax.specs.Words.{Word, keyword, mark};
+ghost use Rattle.express_syntax.specs.Grammar.{depth_limit};
+ghost use Rattle.express_syntax.specs.Texts.{token};
+ghost use Rattle.express_syntax.specs.Views.{
   if_some,
   attribute_of,
   explicit_of,
@@ -27,7 +27,7 @@ ghost use Rattle.express_schemas.specs.Views.{
   unique_of,
   rules_of,
 };
-ghost use Rattle.express_schemas.specs.Written.{
+ghost use Rattle.express_syntax.specs.Written.{
   words_of_attribute,
   words_of_clause,
   words_of_explicit,
@@ -36,7 +36,7 @@ ghost use Rattle.express_schemas.specs.Written.{
   words_of_unique,
   words_of_rule,
 };
-ghost use Rattle.express_schemas.specs.Profile.{
+ghost use Rattle.express_syntax.specs.Profile.{
   Every,
   Maybe,
   FitsExplicit,
@@ -45,9 +45,9 @@ ghost use Rattle.express_schemas.specs.Profile.{
   FitsUnique,
   FitsRules,
 };
-ghost use Rattle.express_schemas.specs.Sources.{IsExplicitOf, IsDerivedOf, IsInverseOf, IsRuleOf};
-ghost use Rattle.express_schemas.specs.Predict;
-ghost use Rattle.express_schemas.specs.Predict.{explicits, derived, inverses, uniques, refused};
+ghost use Rattle.express_syntax.specs.Sources.{IsExplicitOf, IsDerivedOf, IsInverseOf, IsRuleOf};
+ghost use Rattle.express_syntax.specs.Predict;
+ghost use Rattle.express_syntax.specs.Predict.{explicits, derived, inverses, uniques, refused};
 ghost use Rattle.express_entities.specs.EntityParts;
 ghost use Rattle.express_entities.specs.EntityParts.{
   clause_of,
@@ -62,17 +62,17 @@ ghost use Rattle.express_entities.specs.EntityParts.{
   FitsClauses,
   words_of_clauses,
 };
-ghost use Rattle.express_schemas.specs.Steps.{Passes, ParsesWhere, ParsesBehind, StopsIn};
+ghost use Rattle.express_syntax.specs.Steps.{Passes, ParsesWhere, ParsesBehind, StopsIn};
 
 use crate::attributes::{derived, explicit, inverse, redeclared, unique, unique_named};
 use express_lexis::marks::Mark;
 use express_parts::rules::rules;
 use express_runs::reader::Reader;
 use express_runs::tokens::{is_keyword, refuse};
-use express_schemas::fault::SyntaxFault;
-use express_schemas::tree::{Attribute, Derived, Explicit, Inverse, Rule, Unique};
-use express_trees::keyword::Keyword;
-use express_trees::lexeme::Lexeme;
+use express_syntax::fault::SyntaxFault;
+use express_syntax::keyword::Keyword;
+use express_syntax::lexeme::Lexeme;
+use express_syntax::tree::{Attribute, Derived, Explicit, Inverse, Rule, Unique};
 
 /// A clause of attributes or of uniqueness rules.
 #[derive(Clone, Copy, Debug, PartialEq, Eq)]

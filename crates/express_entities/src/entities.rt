@@ -2,19 +2,19 @@
 
 ghost use Rattle.std.specs.Prelude.{◌≡◌, [], ◌∷◌, ◌++◌, List, IfOk, MatchResult};
 ghost use Rattle.express_lexis.specs.declared.marks.Mark.TheVariants as marks;
-ghost use Rattle.express_trees.specs.declared.keyword.Keyword.TheVariants as keywords;
-ghost use Rattle.express_trees.specs.Words;
-ghost use Rattle.express_trees.specs.Words.{keyword, mark};
-ghost use Rattle.express_trees.specs.Grammar.{depth_limit};
-ghost use Rattle.express_schemas.specs.Views.{if_some, names_of, entity_of};
-ghost use Rattle.express_schemas.specs.Written.{words_of_subtype, words_of_entity};
-ghost use Rattle.express_schemas.specs.Profile.{Maybe, IsFilled, FitsEntity};
-ghost use Rattle.express_schemas.specs.Sources.{IsSupertypeOf, IsEntityOf};
-ghost use Rattle.express_schemas.specs.Predict;
-ghost use Rattle.express_schemas.specs.Predict.{Id, Super, Sub, explicits};
+ghost use Rattle.express_syntax.specs.declared.keyword.Keyword.TheVariants as keywords;
+ghost use Rattle.express_syntax.specs.Words;
+ghost use Rattle.express_syntax.specs.Words.{keyword, mark};
+ghost use Rattle.express_syntax.specs.Grammar.{depth_limit};
+ghost use Rattle.express_syntax.specs.Views.{if_some, names_of, entity_of};
+ghost use Rattle.express_syntax.specs.Written.{words_of_subtype, words_of_entity};
+ghost use Rattle.express_syntax.specs.Profile.{Maybe, IsFilled, FitsEntity};
+ghost use Rattle.express_syntax.specs.Sources.{IsSupertypeOf, IsEntityOf};
+ghost use Rattle.express_syntax.specs.Predict;
+ghost use Rattle.express_syntax.specs.Predict.{Id, Super, Sub, explicits};
 ghost use Rattle.express_runs.specs.Items.{located_of};
 ghost use Rattle.express_entities.specs.EntityParts.{FitsHead, words_of_types, words_of_beginning};
-ghost use Rattle.express_schemas.specs.Steps.{
+ghost use Rattle.express_syntax.specs.Steps.{
   Passes,
   ParsesWhere,
   ParsesFrom,
@@ -28,9 +28,9 @@ use express_parts::bounds::supertype;
 use express_runs::names::names;
 use express_runs::reader::Reader;
 use express_runs::tokens::{Item, is_keyword, is_mark, refuse};
-use express_schemas::fault::SyntaxFault;
-use express_schemas::tree::{Entity, Supertype};
-use express_trees::keyword::Keyword;
+use express_syntax::fault::SyntaxFault;
+use express_syntax::keyword::Keyword;
+use express_syntax::tree::{Entity, Supertype};
 use step_literals::literal::Word;
 
 /// What stands between the name of an entity and its first clause.

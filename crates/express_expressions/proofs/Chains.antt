@@ -2,17 +2,17 @@
 use Rattle.std.proofs.Common.{◌≡◌, ℕ, ◌+◌, ◌<◌, ◌≤◌, ◌⊎◌, inl, inr, false, List, [], ◌∷◌, ◌++◌, length, refl, sym, ap, ◌∙◌, subst, append_assoc, append-nil, arith}
 use Rattle.std.proofs.lemmas.Grind.{common_steps}
 use Rattle.express_lexis.specs.declared.marks.Mark.TheVariants as marks
-use Rattle.express_trees.specs.declared.keyword.Keyword.TheVariants as keywords
-use Rattle.express_trees.specs.declared.tree.Junction.{Junction}
-use Rattle.express_trees.specs.declared.tree.Junction.TheVariants as junctions
-use Rattle.express_trees.specs.Words.{Word, keyword, name, mark}
-use Rattle.express_trees.specs.Trees.{Tree, Trees, none, one, Alternatives, finish, another, Qualifiers, plain, attribute, group, index, words, words_of_trees, words_of_others, words_of_alternatives, words_of_qualifiers, word_of_junction}
-use Rattle.express_trees.specs.Grammar.{Level, primary, unary, term, simple, expression, depth_limit, FitsEach}
-use Rattle.express_trees.specs.Reads.{goes_on, Stops, Stands, StandsNone}
-use Rattle.express_trees.specs.Views.{Selection, of_attribute, of_group, of_element}
-use Rattle.express_expressions.specs.Pieces.{Lacks, Others, OthersNone, More, MoreNone, Selects, SelectsNone, Elements, ElementsNone, Before, BeforeNone, Attribute, AttributeNone, Qualifies, QualifierNone}
+use Rattle.express_syntax.specs.declared.keyword.Keyword.TheVariants as keywords
+use Rattle.express_syntax.specs.declared.expression.Junction.{Junction}
+use Rattle.express_syntax.specs.declared.expression.Junction.TheVariants as junctions
+use Rattle.express_syntax.specs.Words.{Word, keyword, name, mark}
+use Rattle.express_syntax.specs.Trees.{Tree, Trees, none, one, Alternatives, finish, another, Qualifiers, plain, attribute, group, index, words, words_of_trees, words_of_others, words_of_alternatives, words_of_qualifiers, word_of_junction}
+use Rattle.express_syntax.specs.Grammar.{Level, primary, unary, term, simple, expression, depth_limit, FitsEach}
+use Rattle.express_syntax.specs.Reads.{goes_on, Stops, Stands, StandsNone}
+use Rattle.express_syntax.specs.ExpressionViews.{Selection, of_attribute, of_group, of_element}
+use Rattle.express_expressions.specs.Pieces.{Lacks, Others, OthersNone, More, MoreNone, Selects, SelectsNone, Elements, ElementsNone, Before, BeforeNone, AttributeNone, Qualifies, QualifierNone}
 use Rattle.express_expressions.proofs.ViewLemmas.{joined, joined_alternatives, joined_qualifiers, selected, joined_none, joined_joined, joined_alternatives_finish, joined_joined_alternatives, joined_qualifiers_plain, joined_joined_qualifiers}
-use Rattle.express_trees.proofs.Stopping.{conjuncts_behind, alternatives_behind, elements_behind}
+use Rattle.express_syntax.proofs.Stopping.{conjuncts_behind, alternatives_behind, elements_behind}
 use Rattle.express_expressions.proofs.Parts.{stands_same, stands_along, stands_behind, unary_stops, term_stops}
 
 -- with less behind a word, less is left
@@ -25,9 +25,6 @@ pub record OthersSoFar (n : ℕ) (ws : List Word) (xs : Trees) (here : List Word
   pub gives : (zs : Trees) (rest : List Word) → Others n here zs rest → Others n ws (joined xs zs) rest
   pub takes : (ys : Trees) (rest : List Word) → Others n ws ys rest → (zs : Trees) × Others n here zs rest
   pub whole : Stops unary here
-
-pub others_first : (n : ℕ) (ws : List Word) → Stops unary ws → OthersSoFar n ws none ws
-others_first n ws s = record { gives = λ zs rest h. h; takes = λ ys rest h. (ys, h); whole = s }
 
 others_inner : (n : ℕ) (more : List Word) (ys : Trees) (rest : List Word) → Others n (keyword keywords.And ∷ more) ys
     rest → (y : Tree) × (zs : Trees) × (middle : List Word) × Stands n unary more y middle × Others n middle zs rest
@@ -88,9 +85,6 @@ pub record MoreSoFar (n : ℕ) (ws : List Word) (xs : Alternatives) (here : List
   pub gives : (zs : Alternatives) (rest : List Word) → More n here zs rest → More n ws (joined_alternatives xs zs) rest
   pub takes : (ys : Alternatives) (rest : List Word) → More n ws ys rest → (zs : Alternatives) × More n here zs rest
   pub whole : Stops term here
-
-pub more_first : (n : ℕ) (ws : List Word) → Stops term ws → MoreSoFar n ws finish ws
-more_first n ws s = record { gives = λ zs rest h. h; takes = λ ys rest h. (ys, h); whole = s }
 
 joins : (j : Junction) → goes_on simple (word_of_junction j) ≡ false → ⊥
 joins junctions.Or h = cc
@@ -153,9 +147,6 @@ pub record SelectsSoFar (n : ℕ) (ws : List Word) (xs : Qualifiers) (here : Lis
   pub gives : (zs : Qualifiers) (rest : List Word) → Selects n here zs rest → Selects n ws (joined_qualifiers xs zs)
       rest
   pub takes : (ys : Qualifiers) (rest : List Word) → Selects n ws ys rest → (zs : Qualifiers) × Selects n here zs rest
-
-pub selects_first : (n : ℕ) (ws : List Word) → SelectsSoFar n ws plain ws
-selects_first n ws = record { gives = λ zs rest h. h; takes = λ ys rest h. (ys, h) }
 
 -- one qualifier, and those behind it
 record Qualified (n : ℕ) (ws rest : List Word) : Type 0 where
@@ -279,13 +270,6 @@ qualifies_shorter n ws (of_element x) rest q = shorter ws (mark marks.OpenBracke
     (words x ++ mark marks.CloseBracket ∷ []) q.1 (q.2.stands.spelled
     ∙ sym (append_assoc (words x) (mark marks.CloseBracket ∷ []) rest))
 
--- one qualifier
-pub attribute_qualifies : (n : ℕ) (ws : List Word) (s : Selection) (rest : List Word) → Attribute ws s rest
-    → Qualifies n ws s rest
-attribute_qualifies n ws (of_attribute a) rest h = h
-attribute_qualifies n ws (of_group e a) rest h = h
-attribute_qualifies n ws (of_element x) rest h = absurd h
-
 pub no_attribute : (n : ℕ) (ws : List Word) → Lacks (mark marks.OpenBracket) ws → AttributeNone ws → QualifierNone n ws
 no_attribute n ws l f (of_attribute a) rest h = f (of_attribute a) rest h
 no_attribute n ws l f (of_group e a) rest h = f (of_group e a) rest h
@@ -297,10 +281,6 @@ no_element n ws more e f (of_attribute a) rest h = cc
 no_element n ws more e f (of_group i a) rest h = cc
 no_element n ws more e f (of_element x) rest h = let i : h.0 ≡ more = (let a = h.1 in cc) in
     f x rest (before_along i h.2)
-
-pub element_qualifies : (n : ℕ) (ws more : List Word) (x : Tree) (rest : List Word) → ws ≡ mark marks.OpenBracket ∷ more
-    → Before n simple (mark marks.CloseBracket) more x rest → Qualifies n ws (of_element x) rest
-element_qualifies n ws more x rest e h = (more, e, h)
 
 -- elements of an aggregate, of which there is one at least
 pub record Listed (n : ℕ) (ws : List Word) (x : Tree) (xs : Trees) (rest : List Word) : Type 0 where
@@ -398,14 +378,3 @@ elements_done n ws xs here x middle rest so a e = so.gives x none rest (record {
   spelled = a.spelled ∙ ap (λ t. words x ++ t) e ∙ ap (λ t. t ++ mark marks.CloseBracket ∷ rest)
       (sym (append-nil (words x)));
 })
-
-pub elements_empty : (n : ℕ) (ws rest : List Word) → n < depth_limit → ws ≡ mark marks.CloseBracket ∷ rest
-    → Elements n ws none rest
-elements_empty n ws rest d e = record { shallow = d; fits = tt; spelled = e }
-
-pub elements_deep : (n : ℕ) (ws : List Word) → depth_limit ≤ n → ElementsNone n ws
-elements_deep n ws d ys rest h = let a = h.shallow in omega arith
-
-pub elements_shorter : (here : List Word) (n : ℕ) (l : Level) (x : Tree) (w : Word) (more : List Word)
-    → Stands n l here x (w ∷ more) → length more < length here
-elements_shorter here n l x w more a = let e = a.spelled in grind (arith, common_steps)

@@ -1,18 +1,18 @@
 -- What stands at a level of the grammar, by what stands at the level below.
 use Rattle.std.proofs.Common.{◌≡◌, ℕ, ◌<◌, inl, inr, Bool, false, ◌==◌, List, [], ◌∷◌, ◌++◌, length, refl, sym, ap, ◌∙◌, subst, append_assoc, append-nil, map, drop, length-drop, arith}
 use Rattle.std.proofs.lemmas.Bool.Decides.{nat_tests}
-use Rattle.express_trees.specs.declared.keyword.Keyword.TheVariants as keywords
-use Rattle.express_trees.specs.declared.tree.Sign.{Sign}
-use Rattle.express_trees.specs.declared.tree.Relation.{Relation}
-use Rattle.express_trees.specs.Words.{Word, word_of, keyword}
-use Rattle.express_trees.specs.Trees.{Tree, negation, conjunction, disjunction, comparison, Trees, none, one, Alternatives, finish, another, words, words_of_others, words_of_alternatives, word_of_sign, word_of_relation}
-use Rattle.express_trees.specs.Grammar.{primary, unary, term, simple, expression, IsExpression, IsNone}
-use Rattle.express_trees.specs.Reads.{Stops, Stands, StandsNone}
+use Rattle.express_syntax.specs.declared.keyword.Keyword.TheVariants as keywords
+use Rattle.express_syntax.specs.declared.expression.Sign.{Sign}
+use Rattle.express_syntax.specs.declared.expression.Relation.{Relation}
+use Rattle.express_syntax.specs.Words.{Word, word_of, keyword}
+use Rattle.express_syntax.specs.Trees.{Tree, negation, conjunction, disjunction, comparison, Trees, none, one, Alternatives, finish, another, words, words_of_others, words_of_alternatives, word_of_sign, word_of_relation}
+use Rattle.express_syntax.specs.Grammar.{primary, unary, term, simple, expression, IsNone}
+use Rattle.express_syntax.specs.Reads.{Stops, Stands, StandsNone}
 use Rattle.express_expressions.specs.Pieces.{words_from, Lacks, Others, OthersNone, More, MoreNone, conjoined, disjoined}
-use Rattle.express_trees.specs.declared.lexeme.Lexeme.{Lexeme}
-use Rattle.express_trees.specs.declared.tree.Expr.{Expr}
-use Rattle.express_trees.specs.declared.tree.Alternative.{Alternative}
-use Rattle.express_trees.specs.Views.{Choice, choice, choice_of, choices_of, trees_of, alternatives_of}
+use Rattle.express_syntax.specs.declared.lexeme.Lexeme.{Lexeme}
+use Rattle.express_syntax.specs.declared.expression.Expr.{Expr}
+use Rattle.express_syntax.specs.declared.expression.Alternative.{Alternative}
+use Rattle.express_syntax.specs.ExpressionViews.{Choice, choice, choice_of, choices_of, trees_of, alternatives_of}
 use Rattle.std.proofs.lemmas.List.{length-map}
 use Rattle.express_expressions.proofs.Parts.{expression_parts, fits_up, primary_stops, related, simple_parts, simple_stops, stands_along, stands_behind, stands_same, term_parts, unary_parts}
 
@@ -136,13 +136,6 @@ whole_more n ws x rest a f y h = f (stands_same {y = y} a (record {
   spelled = h.spelled ∙ sym (append-nil (words y));
   whole = tt;
 })).1
-
-pub whole_done : (n : ℕ) (ws : List Word) (x : Tree) (rest : List Word) → Stands n expression ws x rest → rest ≡ []
-    → IsExpression n ws x
-whole_done n ws x rest a e = record {
-  fits = a.fits;
-  spelled = a.spelled ∙ ap (λ t. words x ++ t) e ∙ append-nil (words x);
-}
 
 -- a unary
 pub unary_done : (n : ℕ) (ws : List Word) (x : Tree) (rest : List Word) → Stands n primary ws x rest

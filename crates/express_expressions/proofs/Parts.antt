@@ -1,19 +1,19 @@
 -- What a tree that stands at a level of the grammar has at the level below.
 use Rattle.std.proofs.Common.{◌≡◌, ℕ, ◌≤◌, ◌⊎◌, inl, inr, false, List, [], ◌∷◌, ◌++◌, refl, sym, ◌∙◌, subst, append_assoc, arith}
 use Rattle.express_lexis.specs.declared.marks.Mark.TheVariants as marks
-use Rattle.express_trees.specs.declared.keyword.Keyword.TheVariants as keywords
-use Rattle.express_trees.specs.declared.tree.Sign.{Sign}
-use Rattle.express_trees.specs.declared.tree.Relation.{Relation}
-use Rattle.express_trees.specs.declared.tree.Relation.TheVariants as relations
-use Rattle.express_trees.specs.declared.tree.Junction.{Junction}
-use Rattle.express_trees.specs.declared.tree.Junction.TheVariants as junctions
-use Rattle.express_trees.specs.Words.{Word, keyword, mark}
-use Rattle.express_trees.specs.Trees.{Number, Tree, literal, signed, reference, parenthesized, aggregate, interval, query, call, nvl, negation, conjunction, disjunction, comparison, Trees, none, one, Alternatives, finish, another, words, words_of_others, words_of_alternatives, word_of_number, word_of_sign, word_of_relation, word_of_junction}
-use Rattle.express_trees.specs.Grammar.{Level, primary, unary, term, simple, expression, rank, Fits}
-use Rattle.express_trees.specs.Reads.{goes_on, Stops, Stands}
+use Rattle.express_syntax.specs.declared.keyword.Keyword.TheVariants as keywords
+use Rattle.express_syntax.specs.declared.expression.Sign.{Sign}
+use Rattle.express_syntax.specs.declared.expression.Relation.{Relation}
+use Rattle.express_syntax.specs.declared.expression.Relation.TheVariants as relations
+use Rattle.express_syntax.specs.declared.expression.Junction.{Junction}
+use Rattle.express_syntax.specs.declared.expression.Junction.TheVariants as junctions
+use Rattle.express_syntax.specs.Words.{Word, keyword, mark}
+use Rattle.express_syntax.specs.Trees.{Number, Tree, literal, signed, reference, parenthesized, aggregate, interval, query, call, nvl, negation, conjunction, disjunction, comparison, Trees, none, one, Alternatives, finish, another, words, words_of_others, words_of_alternatives, word_of_number, word_of_sign, word_of_relation, word_of_junction}
+use Rattle.express_syntax.specs.Grammar.{Level, primary, unary, term, simple, expression, rank, Fits}
+use Rattle.express_syntax.specs.Reads.{goes_on, Stops, Stands}
 use Rattle.express_expressions.specs.Pieces.{Lacks, Others, More}
-use Rattle.express_trees.proofs.Stopping.{stops_primary, stops_unary, stops_term, stops_simple, conjuncts_behind, alternatives_behind, relation_behind}
-use Rattle.express_trees.proofs.Unique.{one_front}
+use Rattle.express_syntax.proofs.Stopping.{stops_primary, stops_unary, stops_term, stops_simple, conjuncts_behind, alternatives_behind, relation_behind}
+use Rattle.express_syntax.proofs.UniqueExpressions.{one_front}
 
 pub stands_same : {n : ℕ} {l : Level} {ws r s : List Word} {x y : Tree} → Stands n l ws x r → Stands n l ws y s
     → (x ≡ y) × (r ≡ s)

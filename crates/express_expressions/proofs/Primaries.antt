@@ -1,21 +1,21 @@
 -- Primaries by their first word.
 use Rattle.std.proofs.Common.{◌≡◌, ℕ, ◌+◌, ◌<◌, ◌≤◌, inl, inr, List, [], ◌∷◌, ◌++◌, None, Some, refl, sym, ap, ◌∙◌, subst, append_assoc, arith}
 use Rattle.express_lexis.specs.declared.marks.Mark.TheVariants as marks
-use Rattle.express_trees.specs.declared.keyword.Keyword.TheVariants as keywords
-use Rattle.express_trees.specs.declared.tree.Logical.TheVariants as logicals
-use Rattle.express_trees.specs.declared.tree.Limit.{Limit}
-use Rattle.express_trees.specs.declared.tree.Sign.{Sign}
-use Rattle.express_trees.specs.declared.tree.Sign.TheVariants as signs
-use Rattle.express_trees.specs.declared.tree.Function.{Function}
-use Rattle.express_trees.specs.declared.tree.Function.TheVariants as functions
-use Rattle.express_trees.specs.Words.{Word, keyword, name, mark}
-use Rattle.express_trees.specs.Trees.{Number, whole, decimal, Literal, number, text, codes_of_text, bits, constant, indeterminate, Root, own, named, Tree, literal, signed, reference, parenthesized, aggregate, interval, query, call, nvl, negation, conjunction, disjunction, comparison, Trees, Qualifiers, words, words_of_trees, words_of_qualifiers, word_of_number, word_of_sign, word_of_literal, word_of_limit, word_of_function, word_of_root}
-use Rattle.express_trees.specs.Grammar.{Level, primary, unary, simple, expression, depth_limit, Fits}
-use Rattle.express_trees.specs.Reads.{Stops, Stands, StandsNone}
+use Rattle.express_syntax.specs.declared.keyword.Keyword.TheVariants as keywords
+use Rattle.express_syntax.specs.declared.expression.Logical.TheVariants as logicals
+use Rattle.express_syntax.specs.declared.expression.Limit.{Limit}
+use Rattle.express_syntax.specs.declared.expression.Sign.{Sign}
+use Rattle.express_syntax.specs.declared.expression.Sign.TheVariants as signs
+use Rattle.express_syntax.specs.declared.expression.Function.{Function}
+use Rattle.express_syntax.specs.declared.expression.Function.TheVariants as functions
+use Rattle.express_syntax.specs.Words.{Word, keyword, name, mark}
+use Rattle.express_syntax.specs.Trees.{Number, whole, decimal, Literal, number, text, codes_of_text, bits, constant, indeterminate, Root, own, named, Tree, literal, signed, reference, parenthesized, aggregate, interval, query, call, nvl, negation, conjunction, disjunction, comparison, Trees, Qualifiers, words, words_of_trees, words_of_qualifiers, word_of_number, word_of_sign, word_of_literal, word_of_limit, word_of_function, word_of_root}
+use Rattle.express_syntax.specs.Grammar.{Level, primary, unary, simple, expression, depth_limit, Fits}
+use Rattle.express_syntax.specs.Reads.{Stops, Stands, StandsNone}
 use Rattle.express_expressions.specs.Pieces.{Lacks, Before, BeforeNone, BoundNone, Elements, ElementsNone, Selects, SelectsNone, VariableNone, Beginning, value, parenthesis, bracket, brace, querying, calling, either, referring, beginning_word, beginning_of, NoBeginning, Heads}
-use Rattle.express_trees.proofs.Stopping.{stops_primary, limit_behind}
-use Rattle.express_trees.proofs.Unique.{one_elements, one_qualifiers}
-use Rattle.express_expressions.proofs.Parts.{stands_same, stands_along, stands_behind, primary_stops, unary_parts}
+use Rattle.express_syntax.proofs.Stopping.{stops_primary, limit_behind}
+use Rattle.express_syntax.proofs.UniqueExpressions.{one_elements, one_qualifiers}
+use Rattle.express_expressions.proofs.Parts.{stands_same, stands_along, primary_stops, unary_parts}
 use Rattle.express_expressions.proofs.Chains.{before_same, before_along}
 
 -- the parts of an interval, behind its brace
@@ -215,18 +215,6 @@ shape_of n b ws y rest h =
 pub primary_none : (n : ℕ) (ws : List Word) → NoBeginning ws → StandsNone n primary ws
 primary_none n ws f y rest h = let s = shaped n ws y rest h in f s.beginning s.more s.begun
 
-pub stands_none_along : (n : ℕ) (l : Level) (ws vs : List Word) → ws ≡ vs → StandsNone n l vs → StandsNone n l ws
-stands_none_along n l ws vs e f y rest h = f y rest (stands_along e h)
-
-pub primary_cut : (n : ℕ) (ws vs : List Word) (x : Tree) (rest : List Word) → ws ≡ vs → Heads n vs x rest
-    → (Stops primary rest → ⊥) → StandsNone n primary ws
-primary_cut n ws vs x rest e a f y s h = f (let P : List Word → Type 0 = Stops primary in
-    subst P (sym (a.alone y s (stands_along e h))) h.whole)
-
-pub primary_done : (n : ℕ) (ws vs : List Word) (x : Tree) (rest : List Word) → ws ≡ vs → Heads n vs x rest
-    → Stops primary rest → Stands n primary ws x rest
-primary_done n ws vs x rest e a s = record { fits = a.fits; spelled = e ∙ a.spelled; whole = s }
-
 -- no primary begins with NOT or a sign
 pub not_begins : (n : ℕ) (ws more : List Word) (y : Tree) (rest : List Word) → ws ≡ keyword keywords.Not ∷ more
     → Stands n primary ws y rest → ⊥
@@ -300,20 +288,9 @@ signed_done n s more v rest e h = record {
   whole = primary_stops rest h;
 }
 
--- what stands inside a bracket
-pub before_deep : (n : ℕ) (l : Level) (w : Word) (ws : List Word) → depth_limit ≤ n → BeforeNone n l w ws
-before_deep n l w ws d x rest h = let a = h.shallow in omega arith
-
-pub before_none : (n : ℕ) (l : Level) (w : Word) (ws : List Word) → StandsNone (n + 1) l ws → BeforeNone n l w ws
-before_none n l w ws f x rest h = f x _ h.stands
-
 pub before_lacks : (n : ℕ) (l : Level) (w : Word) (ws : List Word) (x : Tree) (middle : List Word)
     → Stands (n + 1) l ws x middle → Lacks w middle → BeforeNone n l w ws
 before_lacks n l w ws x middle a f y rest h = f rest (stands_same a h.stands).1
-
-pub before_done : (n : ℕ) (l : Level) (w : Word) (ws : List Word) (x : Tree) (middle rest : List Word) → n < depth_limit
-    → Stands (n + 1) l ws x middle → middle ≡ w ∷ rest → Before n l w ws x rest
-before_done n l w ws x middle rest d a e = record { shallow = d; stands = stands_behind e a }
 
 -- the kinds
 pub literal_heads : (n : ℕ) (v : Literal) (ws : List Word) → Heads n (word_of_literal v ∷ ws) (literal v) ws
@@ -447,12 +424,6 @@ bound_same : {n : ℕ} (k j : Limit) {ws r s : List Word} {x y : Tree} → Befor
     → Before n simple (word_of_limit j) ws y s → r ≡ s
 bound_same {n} k j {ws} {r} {s} {x} {y} a b = let e : word_of_limit k ∷ r ≡ word_of_limit j ∷ s =
     (stands_same a.stands b.stands).1 in cc
-
-pub bound_deep : (n : ℕ) (ws : List Word) → depth_limit ≤ n → BoundNone n ws
-bound_deep n ws d k = before_deep n simple (word_of_limit k) ws d
-
-pub bound_none : (n : ℕ) (ws : List Word) → StandsNone (n + 1) simple ws → BoundNone n ws
-bound_none n ws f k = before_none n simple (word_of_limit k) ws f
 
 pub bound_lacks : (n : ℕ) (ws : List Word) (x : Tree) (middle : List Word) → Stands (n + 1) simple ws x middle
     → ((k : Limit) → Lacks (word_of_limit k) middle) → BoundNone n ws

@@ -1,10 +1,10 @@
 -- What is read, and what is read of it further on.
 use Rattle.std.proofs.Common.{◌≡◌, ℕ, List, Result, Ok, Err, sym, ◌∙◌, subst}
 use Rattle.std.specs.Global.{Box}
-use Rattle.express_trees.specs.declared.lexeme.Lexeme.{Lexeme}
-use Rattle.express_trees.specs.declared.tree.Expr.{Expr}
-use Rattle.express_trees.specs.Words.{Word}
-use Rattle.express_trees.specs.Trees.{Tree}
+use Rattle.express_syntax.specs.declared.lexeme.Lexeme.{Lexeme}
+use Rattle.express_syntax.specs.declared.expression.Expr.{Expr}
+use Rattle.express_syntax.specs.Words.{Word}
+use Rattle.express_syntax.specs.Trees.{Tree}
 use Rattle.express_expressions.specs.declared.not_read.NotRead.{NotRead}
 use Rattle.express_expressions.specs.declared.not_read.NotRead.TheVariants as failures
 use Rattle.express_expressions.specs.Pieces.{words_from, boxed_tree, Unless, MatchRead, Builds}

@@ -1,14 +1,14 @@
 -- Trees of lists that grow at their end: what the words and the limits of the whole are.
 use Rattle.std.proofs.Common.{◌≡◌, ℕ, List, [], ◌∷◌, ◌++◌, map, refl, sym, ap, ◌∙◌}
 use Rattle.std.proofs.lemmas.List.{append_assoc}
-use Rattle.express_trees.specs.declared.tree.Expr.{Expr}
-use Rattle.express_trees.specs.declared.tree.Qualifier.{Qualifier}
-use Rattle.express_trees.specs.declared.tree.Alternative.{Alternative}
+use Rattle.express_syntax.specs.declared.expression.Expr.{Expr}
+use Rattle.express_syntax.specs.declared.expression.Qualifier.{Qualifier}
+use Rattle.express_syntax.specs.declared.expression.Alternative.{Alternative}
 use Rattle.express_lexis.specs.declared.marks.Mark.TheVariants as marks
-use Rattle.express_trees.specs.Words.{Word, name, mark}
-use Rattle.express_trees.specs.Trees.{Trees, none, one, Alternatives, finish, another, Qualifiers, plain, attribute, group, index, words, word_of_junction, words_of_others, words_of_alternatives, words_of_qualifiers}
-use Rattle.express_trees.specs.Grammar.{Level, FitsEach, FitsMore, FitsQualifiers}
-use Rattle.express_trees.specs.Views.{Choice, choice, Selection, of_attribute, of_group, of_element, choices_of, selections_of, tree_of, choice_of, selection_of, trees_of, alternatives_of, qualifiers_of}
+use Rattle.express_syntax.specs.Words.{Word, name, mark}
+use Rattle.express_syntax.specs.Trees.{Trees, none, one, Alternatives, finish, another, Qualifiers, plain, attribute, group, index, words, word_of_junction, words_of_others, words_of_alternatives, words_of_qualifiers}
+use Rattle.express_syntax.specs.Grammar.{Level, FitsEach, FitsMore, FitsQualifiers}
+use Rattle.express_syntax.specs.ExpressionViews.{Choice, choice, Selection, of_attribute, of_group, of_element, choices_of, selections_of, tree_of, choice_of, selection_of, trees_of, alternatives_of, qualifiers_of}
 
 -- one behind the other
 abbrev pub joined : Trees → Trees → Trees

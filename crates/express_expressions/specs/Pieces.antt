@@ -2,27 +2,27 @@
 use Rattle.std.specs.Prelude.{◌≡◌, ℕ, ◌+◌, ◌<◌, List, ◌∷◌, ◌++◌, Option, None, Some, drop, MatchOption, Result, MatchResult}
 use Rattle.express_lexis.specs.declared.marks.Mark.{Mark}
 use Rattle.express_lexis.specs.declared.marks.Mark.TheVariants as marks
-use Rattle.express_trees.specs.declared.keyword.Keyword.{Keyword}
-use Rattle.express_trees.specs.declared.keyword.Keyword.TheVariants as keywords
-use Rattle.express_trees.specs.declared.tree.Logical.TheVariants as logicals
+use Rattle.express_syntax.specs.declared.keyword.Keyword.{Keyword}
+use Rattle.express_syntax.specs.declared.keyword.Keyword.TheVariants as keywords
+use Rattle.express_syntax.specs.declared.expression.Logical.TheVariants as logicals
 use Rattle.std.specs.Global.{Box}
-use Rattle.express_trees.specs.declared.tree.Expr.{Expr}
-use Rattle.express_trees.specs.declared.tree.Sign.{Sign}
-use Rattle.express_trees.specs.declared.tree.Limit.{Limit}
+use Rattle.express_syntax.specs.declared.expression.Expr.{Expr}
+use Rattle.express_syntax.specs.declared.expression.Sign.{Sign}
+use Rattle.express_syntax.specs.declared.expression.Limit.{Limit}
 use Rattle.express_expressions.specs.declared.not_read.NotRead.{NotRead}
 use Rattle.express_expressions.specs.declared.not_read.NotRead.TheVariants as failures
-use Rattle.express_trees.specs.declared.tree.Function.{Function}
-use Rattle.express_trees.specs.declared.tree.Function.TheVariants as functions
-use Rattle.express_trees.specs.declared.lexeme.Lexeme.{Lexeme}
+use Rattle.express_syntax.specs.declared.expression.Function.{Function}
+use Rattle.express_syntax.specs.declared.expression.Function.TheVariants as functions
+use Rattle.express_syntax.specs.declared.lexeme.Lexeme.{Lexeme}
 use Rattle.express_expressions.specs.declared.start.Start.{Start}
 use Rattle.express_expressions.specs.declared.start.Start.TheVariants as starts
 use Rattle.express_expressions.specs.declared.start.Inner.{Inner}
 use Rattle.express_expressions.specs.declared.start.Inner.TheVariants as inners
-use Rattle.express_trees.specs.Words.{Word, word_of, words_of, keyword, name, integer, real, string, encoded, binary, mark}
-use Rattle.express_trees.specs.Trees.{Tree, conjunction, disjunction, Trees, none, one, Alternatives, finish, another, Qualifiers, Literal, number, text, codes_of_text, bits, constant, indeterminate, whole, decimal, Root, own, named, words, words_of_trees, words_of_others, words_of_alternatives, words_of_qualifiers, word_of_literal, word_of_function, word_of_root, word_of_limit, word_of_sign}
-use Rattle.express_trees.specs.Grammar.{Level, primary, unary, term, simple, expression, depth_limit, Fits, FitsEach, FitsMore, FitsQualifiers}
-use Rattle.express_trees.specs.Reads.{Stops, Stands, StandsNone}
-use Rattle.express_trees.specs.Views.{tree_of, literal_of, root_of, Selection, of_attribute, of_group, of_element}
+use Rattle.express_syntax.specs.Words.{Word, word_of, words_of, keyword, name, integer, real, string, encoded, binary, mark}
+use Rattle.express_syntax.specs.Trees.{Tree, conjunction, disjunction, Trees, none, one, Alternatives, finish, another, Qualifiers, Literal, number, text, codes_of_text, bits, constant, indeterminate, whole, decimal, Root, own, named, words, words_of_trees, words_of_others, words_of_alternatives, words_of_qualifiers, word_of_literal, word_of_function, word_of_root, word_of_limit, word_of_sign}
+use Rattle.express_syntax.specs.Grammar.{Level, primary, unary, term, simple, expression, depth_limit, Fits, FitsEach, FitsMore, FitsQualifiers}
+use Rattle.express_syntax.specs.Reads.{Stops, Stands, StandsNone}
+use Rattle.express_syntax.specs.ExpressionViews.{tree_of, literal_of, root_of, Selection, of_attribute, of_group, of_element}
 
 -- the words from this index on
 abbrev pub words_from : ℕ → List Lexeme → List Word

@@ -1,11 +1,11 @@
 //! Trees that are put on the heap.
 
-ghost use Rattle.express_trees.specs.Views.{tree_of, trees_of, alternatives_of};
+ghost use Rattle.express_syntax.specs.ExpressionViews.{tree_of, trees_of, alternatives_of};
 ghost use Rattle.express_expressions.specs.Pieces.{Builds, conjoined, disjoined};
 
 use crate::build;
 use crate::not_read::NotRead;
-use express_trees::tree::{Alternative, Expr};
+use express_syntax::expression::{Alternative, Expr};
 use std::alloc::Global;
 
 /// The tree on the heap, and the index behind it.

@@ -1,8 +1,8 @@
 //! Trees built from their parts.
 
 ghost use Rattle.std.specs.Prelude.{◌≡◌};
-ghost use Rattle.express_trees.specs.Trees;
-ghost use Rattle.express_trees.specs.Views.{
+ghost use Rattle.express_syntax.specs.Trees;
+ghost use Rattle.express_syntax.specs.ExpressionViews.{
   choice,
   of_attribute,
   of_group,
@@ -19,7 +19,7 @@ ghost use Rattle.express_trees.specs.Views.{
   alternatives_of,
 };
 
-use express_trees::tree::{
+use express_syntax::expression::{
     Alternative, Expr, Function, Junction, Limit, Literal, Number, Qualifier, Relation, Root, Sign,
 };
 use step_literals::literal::Word;

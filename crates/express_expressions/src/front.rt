@@ -13,17 +13,17 @@ ghost use Rattle.std.specs.Prelude.{
   MatchOption,
   MatchBool,
 };
-ghost use Rattle.express_trees.specs.declared.tree.Relation.{Relation};
-ghost use Rattle.express_trees.specs.Words.{word_of, name, keyword, mark};
-ghost use Rattle.express_trees.specs.Trees.{
+ghost use Rattle.express_syntax.specs.declared.expression.Relation.{Relation};
+ghost use Rattle.express_syntax.specs.Words.{word_of, name, keyword, mark};
+ghost use Rattle.express_syntax.specs.Trees.{
   word_of_number,
   word_of_sign,
   word_of_relation,
   word_of_limit,
   word_of_junction,
 };
-ghost use Rattle.express_trees.specs.Grammar.{primary, depth_limit};
-ghost use Rattle.express_trees.specs.Reads.{Stops};
+ghost use Rattle.express_syntax.specs.Grammar.{primary, depth_limit};
+ghost use Rattle.express_syntax.specs.Reads.{Stops};
 ghost use Rattle.express_expressions.specs.Pieces.{
   words_from,
   Lacks,
@@ -32,14 +32,14 @@ ghost use Rattle.express_expressions.specs.Pieces.{
   begun,
   beginning_word,
 };
-ghost use Rattle.express_trees.specs.Views.{capitals, number_of};
+ghost use Rattle.express_syntax.specs.ExpressionViews.{capitals, number_of};
 
 use crate::literals::{junction_at, limit_at, name_at, number_at, relation_at, sign_at};
 use crate::start::{Start, start_of};
 use express_lexis::marks::Mark;
-use express_trees::keyword::Keyword;
-use express_trees::lexeme::{Lexeme, is_keyword, is_mark};
-use express_trees::tree::{Junction, LEVELS, Limit, Number, Relation, Sign};
+use express_syntax::expression::{Junction, LEVELS, Limit, Number, Relation, Sign};
+use express_syntax::keyword::Keyword;
+use express_syntax::lexeme::{Lexeme, is_keyword, is_mark};
 use step_literals::literal::Word;
 
 /// The lexeme at this index, if there are more.

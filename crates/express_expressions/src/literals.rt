@@ -1,20 +1,20 @@
 //! Which lexemes are names, numbers, signs and relations (ISO 10303-11, 7.5 and 12).
 
-ghost use Rattle.express_trees.specs.Words.{name};
-ghost use Rattle.express_trees.specs.Trees.{
+ghost use Rattle.express_syntax.specs.Words.{name};
+ghost use Rattle.express_syntax.specs.Trees.{
   word_of_number,
   word_of_sign,
   word_of_relation,
   word_of_limit,
   word_of_junction,
 };
-ghost use Rattle.express_trees.specs.Views.{capitals, number_of};
+ghost use Rattle.express_syntax.specs.ExpressionViews.{capitals, number_of};
 ghost use Rattle.express_expressions.specs.Pieces.{Spells};
 
 use express_lexis::marks::Mark;
-use express_trees::keyword::Keyword;
-use express_trees::lexeme::Lexeme;
-use express_trees::tree::{Junction, Limit, Number, Relation, Sign};
+use express_syntax::expression::{Junction, Limit, Number, Relation, Sign};
+use express_syntax::keyword::Keyword;
+use express_syntax::lexeme::Lexeme;
 use step_literals::literal::Word;
 
 /// The number that it is, if it is one.

@@ -2,10 +2,10 @@
 
 ghost use Rattle.std.specs.Prelude.{◌≡◌, ◌∷◌, ℕ, List, MatchOption, IfOk};
 ghost use Rattle.express_lexis.specs.declared.marks.Mark.TheVariants as marks;
-ghost use Rattle.express_trees.specs.declared.keyword.Keyword.TheVariants as keywords;
-ghost use Rattle.express_trees.specs.Words.{words_of, keyword, mark, name};
-ghost use Rattle.express_trees.specs.Trees.{word_of_function};
-ghost use Rattle.express_trees.specs.Grammar.{
+ghost use Rattle.express_syntax.specs.declared.keyword.Keyword.TheVariants as keywords;
+ghost use Rattle.express_syntax.specs.Words.{words_of, keyword, mark, name};
+ghost use Rattle.express_syntax.specs.Trees.{word_of_function};
+ghost use Rattle.express_syntax.specs.Grammar.{
   primary,
   unary,
   term,
@@ -14,7 +14,7 @@ ghost use Rattle.express_trees.specs.Grammar.{
   IsExpression,
   IsNone,
 };
-ghost use Rattle.express_trees.specs.Reads.{Stops, Stands};
+ghost use Rattle.express_syntax.specs.Reads.{Stops, Stands};
 ghost use Rattle.express_expressions.specs.Pieces.{
   words_from,
   begun,
@@ -35,7 +35,7 @@ ghost use Rattle.express_expressions.specs.Pieces.{
   FindsBound,
   FindsSigned,
 };
-ghost use Rattle.express_trees.specs.Views.{
+ghost use Rattle.express_syntax.specs.ExpressionViews.{
   capitals,
   tree_of,
   trees_of,
@@ -53,9 +53,9 @@ use crate::front::{
 use crate::not_read::NotRead;
 use crate::start::{Inner, Start};
 use express_lexis::marks::Mark;
-use express_trees::keyword::Keyword;
-use express_trees::lexeme::Lexeme;
-use express_trees::tree::{Alternative, Expr, Function, Limit, Qualifier, Sign};
+use express_syntax::expression::{Alternative, Expr, Function, Limit, Qualifier, Sign};
+use express_syntax::keyword::Keyword;
+use express_syntax::lexeme::Lexeme;
 use std::alloc::{AllocError, Global};
 use step_literals::literal::Word;
 

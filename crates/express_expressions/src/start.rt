@@ -1,7 +1,7 @@
 //! What a primary begins with.
 
 ghost use Rattle.std.specs.Prelude.{◌≡◌};
-ghost use Rattle.express_trees.specs.Words.{word_of};
+ghost use Rattle.express_syntax.specs.Words.{word_of};
 ghost use Rattle.express_expressions.specs.Pieces.{
   begins,
   beginning_of,
@@ -10,9 +10,9 @@ ghost use Rattle.express_expressions.specs.Pieces.{
 };
 
 use express_lexis::marks::Mark;
-use express_trees::keyword::Keyword;
-use express_trees::lexeme::Lexeme;
-use express_trees::tree::{Function, Literal, Logical, Number, Root};
+use express_syntax::expression::{Function, Literal, Logical, Number, Root};
+use express_syntax::keyword::Keyword;
+use express_syntax::lexeme::Lexeme;
 
 /// What stands inside brackets.
 #[derive(Clone, Copy)]

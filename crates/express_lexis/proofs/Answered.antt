@@ -7,7 +7,7 @@ use Rattle.express_lexis.specs.Reading.{lexis}
 use Rattle.express_lexis.specs.Laws.{EachReadingHasAnAnswer}
 use Rattle.express_lexis.proofs.LayoutFound.{layout_found}
 use Rattle.express_lexis.proofs.FrontFound.{FrontAt, front_found}
-use Rattle.lexing.proofs.Answered as lexing
+use Rattle.parsing.proofs.Answered as lexing
 
 abbrev token_at : ℕ → Sort → List ℕ → Token
 token_at place sort t = record { sort = sort; text = record { ref_ptr = (0, 0); now = t }; place = place }

@@ -2,7 +2,7 @@
 use Rattle.std.proofs.Common.{◌≡◌, ℕ, suc, ◌+◌, ◌*◌, ◌^◌, ◌≤◌, ◌<◌, true, List, [], ◌∷◌, length, take, drop, min, refl, sym, ap, ◌∙◌, ◌-◌, arith}
 use mathlib.Core.Bool.{Bool-set}
 use Rattle.std.proofs.Math.Logic.{∥∥₁_elim}
-use Rattle.std.proofs.lemmas.List.{take_min, drop_min, length-take}
+use Rattle.std.proofs.lemmas.List.{take_min, drop_min}
 use Rattle.std.specs.List.{list_all}
 use Rattle.std.specs.Str.Parse.{digits_value}
 use Rattle.std.proofs.Math.Nat.{pow-suc, pow-le-pow_right}
@@ -31,9 +31,6 @@ group_given ds group rest n number some hn hg hr e =
     let r : rest ≡ drop 8 ds = hr ∙ ap (λ k. drop k ds) hn ∙ drop_min 8 ds in
     let value = sym (e ∙ ap (digits_value 16) g) in
     group_step 8 ds (omega arith) some ∙ (λ i. Code (value i) ∷ group_items 8 (sym r i))
-
-pub group_short : (ds group : List ℕ) (n : ℕ) → n ≡ min 8 (length ds) → group ≡ take n ds → length group ≤ 8
-group_short ds group n hn hg = omega (arith, hn, ap length hg, length-take n ds)
 
 pub none_left : (ds : List ℕ) → length ds ≡ 0 → group_items 8 ds ≡ []
 none_left [] h = refl

@@ -9,8 +9,8 @@ use Rattle.express_lexis.specs.Front.{kind_of, HasValue, IsFront, IsFlawed}
 use Rattle.express_lexis.specs.Layout.{SkipsLayout, joined}
 use Rattle.express_lexis.specs.Reading.{lexis, Reading, Reaches, SameSort}
 use Rattle.express_lexis.specs.Laws.{AnswersAreDetermined, EndIsAnsweredAgain, FaultIsAnsweredAgain, PlacesRise}
-use Rattle.lexing.proofs.Determined as lexing
-use Rattle.lexing.proofs.Determined.{IsUnambiguous}
+use Rattle.parsing.proofs.Determined as lexing
+use Rattle.parsing.proofs.Determined.{IsUnambiguous}
 use Rattle.express_lexis.proofs.MarkLemmas.{one_mark}
 use Rattle.express_lexis.proofs.Unique.{one_next}
 use Rattle.express_lexis.proofs.LayoutLemmas.{one_rest}

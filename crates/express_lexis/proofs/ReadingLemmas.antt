@@ -5,7 +5,7 @@ use Rattle.express_lexis.specs.declared.token.Token.{Token}
 use Rattle.express_lexis.specs.Front.{IsFront, kind_of}
 use Rattle.express_lexis.specs.Reading.{Reading, Takes}
 use Rattle.express_lexis.proofs.Groups.{no_empty}
-pub use Rattle.lexing.proofs.Readings.{start_within}
+pub use Rattle.parsing.proofs.Readings.{start_within}
 
 pub some_bytes : (left : List ℕ) (sort : Sort) (n : ℕ) → IsFront left sort n → 0 < n
 some_bytes left sort zero h = absurd (no_empty (kind_of sort) (drop 0 left) h.next.allowed)

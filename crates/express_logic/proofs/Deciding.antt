@@ -9,8 +9,8 @@ use Rattle.std.proofs.lemmas.Bool.{and_parts, and_from}
 use Rattle.std.proofs.lemmas.Slice.Eq.{bytes_eq-Decides}
 use Rattle.step_literals.specs.declared.literal.items.Item.{Item}
 use Rattle.step_literals.specs.declared.literal.items.Item.TheVariants.{Code, Page, Raw}
-use Rattle.express_trees.specs.declared.tree.Logical.{Logical}
-use Rattle.express_trees.specs.declared.tree.Logical.TheVariants.{False, Unknown, True}
+use Rattle.express_syntax.specs.declared.expression.Logical.{Logical}
+use Rattle.express_syntax.specs.declared.expression.Logical.TheVariants.{False, Unknown, True}
 use Rattle.express_logic.specs.Logic.{either, known, rank}
 use Rattle.express_logic.specs.Data.{Datum, aggregate, Data, none, more}
 use Rattle.express_logic.specs.Comparing.{Scalar, a_number, a_text, some_bits, an_element, a_logical, scalar, same_item, same_text, same_bits, equal_scalars, less_scalars, equal, among, member}

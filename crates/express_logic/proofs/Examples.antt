@@ -3,7 +3,7 @@ use Rattle.std.proofs.Common.{◌≡◌, ℕ, List, true, false, [], ◌∷◌, 
 use Rattle.std.specs.Cmp.{signed_Decides}
 use Rattle.step_literals.specs.declared.literal.items.Item.TheVariants.{Code}
 use Rattle.step_literals.specs.Decimals.{units, mantissa, exponent, ten_to, finest}
-use Rattle.express_trees.specs.declared.tree.Logical.TheVariants.{False, Unknown, True}
+use Rattle.express_syntax.specs.declared.expression.Logical.TheVariants.{False, Unknown, True}
 use Rattle.express_logic.specs.Logic.{negated, both, either, exclusive, known}
 use Rattle.express_logic.specs.Literals.{encoded_characters, binary_bits, whole_units}
 use Rattle.express_logic.specs.Data.{indeterminate, number, text, element, logical, instance, typed, aggregate, list, bag, none, more, truth}

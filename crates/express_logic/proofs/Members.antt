@@ -1,7 +1,7 @@
 -- The first side of a membership.
 use Rattle.std.proofs.Common.{◌≡◌, true, cond, refl, ap, sym, ◌∙◌}
-use Rattle.express_trees.specs.declared.tree.Logical.{Logical}
-use Rattle.express_trees.specs.declared.tree.Logical.TheVariants.{Unknown}
+use Rattle.express_syntax.specs.declared.expression.Logical.{Logical}
+use Rattle.express_syntax.specs.declared.expression.Logical.TheVariants.{Unknown}
 use Rattle.express_logic.specs.declared.datum.Datum.{Datum}
 use Rattle.express_logic.specs.declared.datum.Datum.TheVariants.{Indeterminate}
 use Rattle.express_logic.specs.Comparing.{Scalar, scalar, among, member}

@@ -1,5 +1,5 @@
 -- Numbers compared in units.
-use Rattle.std.proofs.Common.{◌≡◌, ℕ, zero, suc, ◌*◌, ◌^◌, ◌<◌, Bool, true, false, cond, ℤ, pos, negsuc, neg_ℤ, ◌+ℤ◌, ◌*ℤ◌, ◌<ℤ◌, int_lt, codes, refl, sym, ap, ◌∙◌, arith, inl, lit<, lit≤, zero-add, Ordering, Less, Equal, Greater, int_cmp, is_lt}
+use Rattle.std.proofs.Common.{◌≡◌, ℕ, suc, ◌*◌, ◌^◌, ◌<◌, Bool, true, false, cond, ℤ, pos, negsuc, ◌+ℤ◌, ◌*ℤ◌, ◌<ℤ◌, int_lt, codes, refl, sym, ap, ◌∙◌, arith, inl, lit<, lit≤, zero-add, Ordering, Less, Equal, Greater, int_cmp, is_lt}
 use Rattle.std.specs.Ordering.{MatchOrdering, ordering_reverse}
 use Rattle.std.specs.Cmp.{int_ranked, int_cmp_is}
 use Rattle.std.proofs.lemmas.Int.{ints}
@@ -37,25 +37,6 @@ turned_rank Greater s x y h e = rw e h
 -- the other way round
 pub reversed : (x y : ℤ) (r s : Ordering) → r ≡ int_cmp x y → s ≡ ordering_reverse r → s ≡ int_cmp y x
 reversed x y r s h e = int_cmp_is y x s (turned_rank r s x y (int_ranked x y r h) e)
-
-times_neg : (n : ℤ) (p : ℕ) → neg_ℤ n *ℤ pos p ≡ neg_ℤ (n *ℤ pos p)
-times_neg (pos zero) p = omega (arith, ints)
-times_neg (pos (suc k)) p = omega (arith, ints)
-times_neg (negsuc k) p = omega (arith, ints)
-
-neg_rank : (r s : Ordering) (u w : ℤ) → MatchOrdering r (u <ℤ neg_ℤ w) (u ≡ neg_ℤ w) (neg_ℤ w <ℤ u)
-    → s ≡ ordering_reverse r → MatchOrdering s (neg_ℤ u <ℤ w) (neg_ℤ u ≡ w) (w <ℤ neg_ℤ u)
-neg_rank Less s u w h e = let k : w <ℤ neg_ℤ u = omega (arith, ints, h) in rw e k
-neg_rank Equal s u w h e = let k : neg_ℤ u ≡ w = omega (arith, ints, h) in rw e k
-neg_rank Greater s u w h e = let k : neg_ℤ u <ℤ w = omega (arith, ints, h) in rw e k
-
--- a number and a whole one compare as their negatives do, the other way round
-pub negatives : (u m n : ℤ) (r s : Ordering) → m ≡ neg_ℤ n → r ≡ int_cmp u (whole_units m) → s ≡ ordering_reverse r
-    → s ≡ int_cmp (neg_ℤ u) (whole_units n)
-negatives u m n r s hm h e =
-    let same : whole_units m ≡ neg_ℤ (whole_units n) = ap whole_units hm ∙ times_neg n (10 ^ finest) in
-    let known : r ≡ int_cmp u (neg_ℤ (whole_units n)) = h ∙ ap (int_cmp u) same in
-    int_cmp_is _ _ s (neg_rank r s u (whole_units n) (int_ranked u (neg_ℤ (whole_units n)) r known) e)
 
 -- the least number of 64 bits
 pub least_spelt : IsDecimal (codes "-9223372036854775808")

@@ -2,7 +2,6 @@
 use Rattle.std.proofs.Common.{◌≡◌, ◌≤◌, ℕ, ◌-◌, ◌==◌, Bool, true, false, cond, List, [], ◌∷◌, ◌++◌, length, take, drop, refl, sym, ap, ◌∙◌, arith, length-append}
 use Rattle.std.proofs.lemmas.Bool.Decides.{nat_tests}
 use mathlib.Core.List.{is_set}
-use Rattle.std.proofs.Math.Bridge.{le_prop}
 use Rattle.std.proofs.Math.Nat.{ℕ_set}
 use Rattle.std.proofs.Math.Logic.{∥∥₁_elim}
 use Rattle.std.proofs.Math.Seq.{take-append_seam}
@@ -66,9 +65,3 @@ binary_is t s = ∥∥₁_elim s (is_set ℕ_set _ _) by
   where
     by : Spells binary t → t ≡ 37 ∷ drop 1 t
     by (bits, some, are, e) = e ∙ ap (λ l. 37 ∷ drop 1 l) (sym e)
-
-pub has_percent : (t : List ℕ) → ∥ Spells binary t ∥₁ → 1 ≤ length t
-has_percent t s = ∥∥₁_elim s le_prop by
-  where
-    by : Spells binary t → 1 ≤ length t
-    by (bits, some, are, e) = omega (arith, ap length e)

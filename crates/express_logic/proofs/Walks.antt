@@ -1,7 +1,7 @@
 -- Walks through the elements of an aggregate.
 use Rattle.std.proofs.Common.{◌≡◌, ℕ, zero, suc, refl, ap, sym, ◌∙◌}
-use Rattle.express_trees.specs.declared.tree.Logical.{Logical}
-use Rattle.express_trees.specs.declared.tree.Logical.TheVariants.{False, Unknown, True}
+use Rattle.express_syntax.specs.declared.expression.Logical.{Logical}
+use Rattle.express_syntax.specs.declared.expression.Logical.TheVariants.{False, Unknown, True}
 use Rattle.express_logic.specs.Logic.{either}
 use Rattle.express_logic.specs.Data.{Datum, Data, none, more}
 use Rattle.express_logic.specs.Comparing.{Scalar, scalar, equal_scalars, among}

@@ -7,8 +7,8 @@ use Rattle.std.specs.Str.{bytes_eq}
 use Rattle.std.specs.Cmp.Lexicographic.{pointwise}
 use Rattle.step_literals.specs.declared.literal.items.Item.{Item}
 use Rattle.step_literals.specs.declared.literal.items.Item.TheVariants.{Code, Page, Raw}
-use Rattle.express_trees.specs.declared.tree.Logical.{Logical}
-use Rattle.express_trees.specs.declared.tree.Logical.TheVariants.{False, Unknown}
+use Rattle.express_syntax.specs.declared.expression.Logical.{Logical}
+use Rattle.express_syntax.specs.declared.expression.Logical.TheVariants.{False, Unknown}
 use Rattle.express_logic.specs.Logic.{either, known, rank}
 use Rattle.express_logic.specs.Data.{Datum, number, text, bits, element, logical, typed, aggregate, Data, none, more, is_known}
 

@@ -1,8 +1,8 @@
 -- What an expression may be worth (ISO 10303-11, 8 and 12): literals by their values, instances by their names.
 use Rattle.std.specs.Prelude.{ℕ, ℤ, Bool, true, false, List, Option}
 use Rattle.step_literals.specs.declared.literal.items.Item.{Item}
-use Rattle.express_trees.specs.declared.tree.Logical.{Logical}
-use Rattle.express_trees.specs.declared.tree.Logical.TheVariants.{Unknown}
+use Rattle.express_syntax.specs.declared.expression.Logical.{Logical}
+use Rattle.express_syntax.specs.declared.expression.Logical.TheVariants.{Unknown}
 
 -- a LIST; a SET or a BAG; an ARRAY of these declared indices, none where an index isn't known
 pub data Shape : Type 0 where

@@ -1,8 +1,8 @@
 -- Laws of logic, comparison and membership, over the definitions alone.
 use Rattle.std.specs.Prelude.{◌≡◌, ◌↔◌, ◌⊎◌, ⊤, ℕ, ◌+◌, ◌<◌, ◌<ℤ◌, min, max, true, List, ◌∷◌}
 use Rattle.express_lexis.specs.Meanings.{simple_text, characters_of, encoded_text, codes_of, bits_of}
-use Rattle.express_trees.specs.declared.tree.Logical.{Logical}
-use Rattle.express_trees.specs.declared.tree.Logical.TheVariants.{False, Unknown, True}
+use Rattle.express_syntax.specs.declared.expression.Logical.{Logical}
+use Rattle.express_syntax.specs.declared.expression.Logical.TheVariants.{False, Unknown, True}
 use Rattle.express_logic.specs.Logic.{negated, both, either, exclusive, rank}
 use Rattle.express_logic.specs.Literals.{simple_characters, encoded_characters, binary_bits}
 use Rattle.express_logic.specs.Data.{Datum, aggregate, Shape, Data, none, more, is_known}

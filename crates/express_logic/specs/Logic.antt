@@ -1,7 +1,7 @@
 -- Three-valued logic (ISO 10303-11, 8.1.4 and 12.4).
 use Rattle.std.specs.Prelude.{ℕ, Bool, if◌then◌else◌}
-use Rattle.express_trees.specs.declared.tree.Logical.{Logical}
-use Rattle.express_trees.specs.declared.tree.Logical.TheVariants.{False, Unknown, True}
+use Rattle.express_syntax.specs.declared.expression.Logical.{Logical}
+use Rattle.express_syntax.specs.declared.expression.Logical.TheVariants.{False, Unknown, True}
 
 -- NOT (12.4.1)
 abbrev pub negated : Logical → Logical

@@ -1,7 +1,7 @@
 -- In what steps the code looks for an element; no promise stands here.
 use Rattle.std.specs.Prelude.{Option, Some, None}
-use Rattle.express_trees.specs.declared.tree.Logical.{Logical}
-use Rattle.express_trees.specs.declared.tree.Logical.TheVariants.{False}
+use Rattle.express_syntax.specs.declared.expression.Logical.{Logical}
+use Rattle.express_syntax.specs.declared.expression.Logical.TheVariants.{False}
 use Rattle.express_logic.specs.Logic.{either}
 use Rattle.express_logic.specs.Data.{Datum, Data, none, more}
 use Rattle.express_logic.specs.Comparing.{Scalar, scalar, equal_scalars}

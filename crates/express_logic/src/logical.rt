@@ -3,7 +3,7 @@
 ghost use Rattle.std.specs.Prelude.{◌≡◌};
 ghost use Rattle.express_logic.specs.Logic.{negated, both, either, exclusive, known, rank};
 
-pub use express_trees::tree::Logical;
+pub use express_syntax::expression::Logical;
 
 /// NOT (ISO 10303-11, 12.4.1).
 pub fn not(p: Logical) -> Logical

@@ -11,29 +11,29 @@ use Rattle.step_literals.specs.Words.{upper}
 use Rattle.step_literals.proofs.CaseLemmas.{same_without_case}
 use Rattle.express_lexis.specs.declared.marks.Mark.TheVariants as marks
 use Rattle.express_lexis.specs.Reading.{Reading}
-use Rattle.express_trees.specs.declared.keyword.Keyword.TheVariants as keywords
-use Rattle.express_trees.specs.declared.lexeme.Lexeme.{Lexeme}
-use Rattle.express_trees.specs.Words.{Word, keyword, name, integer, mark, word_of, words_of}
-use Rattle.express_trees.specs.Grammar.{depth_limit}
-use Rattle.express_schemas.specs.declared.fault.FaultKind.TheVariants as fault_kinds
-use Rattle.express_schemas.specs.declared.fault.SyntaxFault.{SyntaxFault}
-use Rattle.express_schemas.specs.declared.fault.SyntaxFault.TheVariants as faults
+use Rattle.express_syntax.specs.declared.keyword.Keyword.TheVariants as keywords
+use Rattle.express_syntax.specs.declared.lexeme.Lexeme.{Lexeme}
+use Rattle.express_syntax.specs.Words.{Word, keyword, name, integer, mark, word_of, words_of}
+use Rattle.express_syntax.specs.Grammar.{depth_limit}
+use Rattle.express_syntax.specs.declared.fault.FaultKind.TheVariants as fault_kinds
+use Rattle.express_syntax.specs.declared.fault.SyntaxFault.{SyntaxFault}
+use Rattle.express_syntax.specs.declared.fault.SyntaxFault.TheVariants as faults
 use Rattle.express_runs.specs.declared.runs.Buffer.{Buffer}
-use Rattle.express_schemas.specs.Runs.{Run, words_of_run, FitsRun, IsSome}
-use Rattle.express_schemas.specs.Schemas.{Bound, other_bound, Bounds, Width, width, other_width, Supertype, of_other}
-use Rattle.express_schemas.specs.declared.tree.Supertype as code
-use Rattle.express_schemas.specs.Views.{supertype_of}
-use Rattle.express_schemas.specs.Written.{with_commas, words_of_name, words_of_names, words_of_bound, words_of_bounds, words_of_width, words_of_expression, words_of_supertype}
-use Rattle.express_schemas.specs.Profile.{IsFilled, IsBoundText, IsSupertypeText, FitsBound, FitsBounds, FitsWidth, FitsSupertype}
-use Rattle.express_schemas.specs.Texts.{Lookahead, token, LocatedToken, Shows}
-use Rattle.express_schemas.specs.Predict.{RunEnd, in_lower, in_upper, in_parentheses, Symbol, Running, Say, BoundsOrOf, bounds_symbols, next, refused, is_mark, is_keyword}
-use Rattle.express_schemas.specs.Steps.{Passes, StopsIn}
+use Rattle.express_syntax.specs.Runs.{Run, words_of_run, FitsRun, IsSome}
+use Rattle.express_syntax.specs.Schemas.{Bound, other_bound, Bounds, Width, width, other_width, Supertype, of_other}
+use Rattle.express_syntax.specs.declared.tree.Supertype as code
+use Rattle.express_syntax.specs.Views.{supertype_of}
+use Rattle.express_syntax.specs.Written.{with_commas, words_of_name, words_of_names, words_of_bound, words_of_bounds, words_of_width, words_of_expression, words_of_supertype}
+use Rattle.express_syntax.specs.Profile.{IsFilled, IsBoundText, IsSupertypeText, FitsBound, FitsBounds, FitsWidth, FitsSupertype}
+use Rattle.express_syntax.specs.Texts.{Lookahead, token, LocatedToken, Shows}
+use Rattle.express_syntax.specs.Predict.{RunEnd, in_lower, in_upper, in_parentheses, Symbol, Running, Say, BoundsOrOf, bounds_symbols, next, refused, is_mark, is_keyword}
+use Rattle.express_syntax.specs.Steps.{Passes, StopsIn}
 use Rattle.express_runs.specs.OpenRuns.{brackets_of, may_of, end_of, Gathered}
-use Rattle.express_schemas.specs.Runs.{has_some}
-use Rattle.express_schemas.proofs.Turning.{stops_shown}
-use Rattle.express_schemas.proofs.Taking.{passes_as, passes_join, passes_more, passes_then, passes_token, passes_first, stops_behind, stops_first}
-use Rattle.express_schemas.proofs.Looking.{keyword_met, mark_met, stops_refused}
-use Rattle.express_schemas.proofs.Lists.{filled_push}
+use Rattle.express_syntax.specs.Runs.{has_some}
+use Rattle.express_syntax.proofs.Turning.{stops_shown}
+use Rattle.express_syntax.proofs.Taking.{passes_as, passes_join, passes_more, passes_then, passes_token, passes_first, stops_behind, stops_first}
+use Rattle.express_syntax.proofs.Looking.{keyword_met, mark_met, stops_refused}
+use Rattle.express_syntax.proofs.Lists.{filled_push}
 
 -- a buffer without tokens
 abbrev IsEmpty : Buffer → Type 0

@@ -1,16 +1,16 @@
 -- A data type's passages are of a text where those of its parts are.
 use Rattle.std.proofs.Common.{ℕ, List, Option, Bool, Box, Global, refl, subst}
 use Rattle.step_literals.specs.declared.literal.Word.{Word}
-use Rattle.express_schemas.specs.declared.tree.Bounds.{Bounds}
-use Rattle.express_schemas.specs.declared.tree.Width.{Width}
-use Rattle.express_schemas.specs.declared.tree.FixedWidth.{FixedWidth}
-use Rattle.express_schemas.specs.declared.tree.DataType.{DataType}
-use Rattle.express_schemas.specs.declared.tree.DataType.TheVariants as kinds
-use Rattle.express_schemas.specs.declared.tree.DataType.TheOpen.{DataType-F}
-use Rattle.express_schemas.specs.declared.tree.DataType.TheOpen as layer
-use Rattle.express_schemas.specs.declared.tree.DataType.TheFolds.{every_made-DataType}
-use Rattle.express_schemas.specs.Profile.{Maybe}
-use Rattle.express_schemas.specs.Sources.{IsBoundsOf, IsWidthOf, IsFixedWidthOf, IsLayerOf, IsDataTypeOf}
+use Rattle.express_syntax.specs.declared.tree.Bounds.{Bounds}
+use Rattle.express_syntax.specs.declared.tree.Width.{Width}
+use Rattle.express_syntax.specs.declared.tree.FixedWidth.{FixedWidth}
+use Rattle.express_syntax.specs.declared.tree.DataType.{DataType}
+use Rattle.express_syntax.specs.declared.tree.DataType.TheVariants as kinds
+use Rattle.express_syntax.specs.declared.tree.DataType.TheOpen.{DataType-F}
+use Rattle.express_syntax.specs.declared.tree.DataType.TheOpen as layer
+use Rattle.express_syntax.specs.declared.tree.DataType.TheFolds.{every_made-DataType}
+use Rattle.express_syntax.specs.Profile.{Maybe}
+use Rattle.express_syntax.specs.Sources.{IsBoundsOf, IsWidthOf, IsFixedWidthOf, IsLayerOf, IsDataTypeOf}
 
 -- a data type, with what is known of it
 abbrev Known : List ℕ → Type 0

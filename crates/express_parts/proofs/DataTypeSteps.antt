@@ -4,24 +4,24 @@ use Rattle.std.proofs.lemmas.Bool.{false≢true}
 use Rattle.std.proofs.lemmas.Bool.Decides.{nat_tests}
 use Rattle.express_lexis.specs.declared.marks.Mark.TheVariants as marks
 use Rattle.express_lexis.specs.Reading.{Reading}
-use Rattle.express_trees.specs.declared.keyword.Keyword.{Keyword}
-use Rattle.express_trees.specs.declared.keyword.Keyword.TheVariants as keywords
-use Rattle.express_trees.specs.Words.{Word, keyword, mark}
-use Rattle.express_trees.specs.Grammar.{depth_limit}
-use Rattle.express_schemas.specs.declared.fault.FaultKind.TheVariants as fault_kinds
-use Rattle.express_schemas.specs.declared.fault.SyntaxFault.{SyntaxFault}
-use Rattle.express_schemas.specs.declared.fault.SyntaxFault.TheVariants as faults
-use Rattle.express_schemas.specs.Texts.{Lookahead, token, end_of_text, LocatedToken, Shows}
-use Rattle.express_schemas.specs.Schemas.{Bounds, Width, DataType, real, array, list, bag, set}
-use Rattle.express_schemas.specs.Written.{said, words_of_bounds, words_of_some_bounds, words_of_width, words_of_fixed, words_of_data_type}
-use Rattle.express_schemas.specs.Profile.{Maybe, FitsBounds, FitsWidth}
-use Rattle.express_schemas.specs.Predict.{Symbol, Just, EndOfText, Ending, ending_mark, semicolon, assignment, DataTypeThen, WidthOr, FixedWidthOr, FixedOr, BoundsOrOf, OptionalOr, UniqueOr, Running, in_parentheses, bounds_symbols, next, next_mark_or, refused, is_mark, is_keyword}
+use Rattle.express_syntax.specs.declared.keyword.Keyword.{Keyword}
+use Rattle.express_syntax.specs.declared.keyword.Keyword.TheVariants as keywords
+use Rattle.express_syntax.specs.Words.{Word, keyword, mark}
+use Rattle.express_syntax.specs.Grammar.{depth_limit}
+use Rattle.express_syntax.specs.declared.fault.FaultKind.TheVariants as fault_kinds
+use Rattle.express_syntax.specs.declared.fault.SyntaxFault.{SyntaxFault}
+use Rattle.express_syntax.specs.declared.fault.SyntaxFault.TheVariants as faults
+use Rattle.express_syntax.specs.Texts.{Lookahead, token, end_of_text, LocatedToken, Shows}
+use Rattle.express_syntax.specs.Schemas.{Bounds, Width, DataType, real, array, list, bag, set}
+use Rattle.express_syntax.specs.Written.{said, words_of_bounds, words_of_some_bounds, words_of_width, words_of_fixed, words_of_data_type}
+use Rattle.express_syntax.specs.Profile.{Maybe, FitsBounds, FitsWidth}
+use Rattle.express_syntax.specs.Predict.{Symbol, Just, EndOfText, Ending, ending_mark, semicolon, assignment, DataTypeThen, WidthOr, FixedWidthOr, FixedOr, BoundsOrOf, OptionalOr, UniqueOr, Running, in_parentheses, bounds_symbols, next, next_mark_or, refused, is_mark, is_keyword}
 use Rattle.express_parts.specs.DataTypeParts.{PassesDataType, PassesBehind, TakesWidth, is_aggregate}
-use Rattle.express_schemas.specs.Steps.{StopsIn, Passes}
-use Rattle.express_schemas.proofs.PassingRuns.{shallow}
-use Rattle.express_schemas.proofs.Turning.{stops_shown}
-use Rattle.express_schemas.proofs.Taking.{passes_as, passes_join, passes_more, passes_then, passes_token, passes_taken, passes_first, stops_behind, stops_first, passes_other, stops_as}
-use Rattle.express_schemas.proofs.Looking.{mark_met, keyword_met, stops_refused}
+use Rattle.express_syntax.specs.Steps.{StopsIn, Passes}
+use Rattle.express_syntax.proofs.PassingRuns.{shallow}
+use Rattle.express_syntax.proofs.Turning.{stops_shown}
+use Rattle.express_syntax.proofs.Taking.{passes_as, passes_join, passes_more, passes_then, passes_token, passes_taken, passes_first, stops_behind, stops_first, passes_other, stops_as}
+use Rattle.express_syntax.proofs.Looking.{mark_met, keyword_met, stops_refused}
 
 -- what stops what a token leaves to come stops it all
 pub stops_left : {ys : List Symbol} {before : List LocatedToken} {ws : List Word} {old mid : Reading} (e : SyntaxFault)

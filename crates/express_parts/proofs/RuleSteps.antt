@@ -1,39 +1,39 @@
 -- Rules, and what they say, token by token.
 use Rattle.std.proofs.Common.{◌≡◌, ℕ, ◌≤◌, ◌<◌, Bool, true, false, List, [], ◌∷◌, ◌++◌, map, length, Some, None, Result, Ok, Err, MatchResult, refl, sym, ap, ◌∙◌, subst, append_assoc, arith}
 use Rattle.std.proofs.lemmas.Bool.{false≢true}
-use Rattle.predictive.specs.Tables.{step_on, lookaheads}
+use Rattle.parsing.specs.Tables.{step_on, lookaheads}
 use Rattle.step_literals.specs.declared.literal.Word as literal
 use Rattle.express_lexis.specs.declared.marks.Mark.TheVariants as marks
 use Rattle.express_lexis.specs.Reading.{Reading, left}
-use Rattle.express_trees.specs.declared.keyword.Keyword.{Keyword}
-use Rattle.express_trees.specs.declared.lexeme.Lexeme.{Lexeme}
-use Rattle.express_trees.specs.declared.lexeme.Lexeme.TheVariants as lexemes
-use Rattle.express_trees.specs.Keywords.{keyword_text}
-use Rattle.express_trees.specs.Words.{Word, words_of, word_of, keyword, name, mark}
-use Rattle.express_trees.specs.Views.{capitals}
-use Rattle.express_trees.specs.Grammar.{depth_limit}
-use Rattle.express_schemas.specs.declared.fault.SyntaxFault.{SyntaxFault}
-use Rattle.express_schemas.specs.declared.fault.SyntaxFault.TheVariants as faults
+use Rattle.express_syntax.specs.declared.keyword.Keyword.{Keyword}
+use Rattle.express_syntax.specs.declared.lexeme.Lexeme.{Lexeme}
+use Rattle.express_syntax.specs.declared.lexeme.Lexeme.TheVariants as lexemes
+use Rattle.express_syntax.specs.Keywords.{keyword_text}
+use Rattle.express_syntax.specs.Words.{Word, words_of, word_of, keyword, name, mark}
+use Rattle.express_syntax.specs.ExpressionViews.{capitals}
+use Rattle.express_syntax.specs.Grammar.{depth_limit}
+use Rattle.express_syntax.specs.declared.fault.SyntaxFault.{SyntaxFault}
+use Rattle.express_syntax.specs.declared.fault.SyntaxFault.TheVariants as faults
 use Rattle.express_runs.specs.declared.runs.Buffer.{Buffer}
 use Rattle.express_runs.specs.declared.runs.Bracket as code
-use Rattle.express_schemas.specs.declared.tree.Body as tree
-use Rattle.express_schemas.specs.declared.tree.Rule as tree_rule
+use Rattle.express_syntax.specs.declared.tree.Body as tree
+use Rattle.express_syntax.specs.declared.tree.Rule as tree_rule
 use Rattle.express_runs.specs.Items.{named}
-use Rattle.express_schemas.specs.Views.{body_of, rule_of}
-use Rattle.express_schemas.specs.Schemas.{Body, Rule}
-use Rattle.express_schemas.specs.Written.{joined, words_of_body, words_of_rule}
-use Rattle.express_schemas.specs.Profile.{FitsBody, Begins, BeginsRule, FitsRules}
+use Rattle.express_syntax.specs.Views.{body_of, rule_of}
+use Rattle.express_syntax.specs.Schemas.{Body, Rule}
+use Rattle.express_syntax.specs.Written.{joined, words_of_body, words_of_rule}
+use Rattle.express_syntax.specs.Profile.{FitsBody, Begins, BeginsRule, FitsRules}
 use Rattle.express_runs.specs.OpenRuns.{brackets_of}
-use Rattle.express_schemas.specs.Runs.{has_some}
-use Rattle.express_schemas.specs.Texts.{token, LocatedToken, Shows, ShowsAll}
-use Rattle.express_schemas.specs.Predict.{Symbol, Just, Running, in_rule, Rules, Labelled, Next, then_rules, next, run, is_mark, is_keyword, same_keyword}
-use Rattle.express_schemas.specs.Steps.{StopsIn, Passes}
+use Rattle.express_syntax.specs.Runs.{has_some}
+use Rattle.express_syntax.specs.Texts.{token, LocatedToken, Shows, ShowsAll}
+use Rattle.express_syntax.specs.Predict.{Symbol, Just, Running, in_rule, Rules, Labelled, Next, then_rules, next, run, is_mark, is_keyword, same_keyword}
+use Rattle.express_syntax.specs.Steps.{StopsIn, Passes}
 use Rattle.express_parts.specs.RuleReading.{BodyRead, RuleRead}
-use Rattle.express_schemas.proofs.Passing.{same_bytes}
-use Rattle.express_schemas.proofs.PassingRules.{next_rules_keyword, next_labelled_word, next_rules_end}
-use Rattle.express_schemas.proofs.Looking.{mark_met, keyword_met, shown_less, tokens_less}
-use Rattle.express_schemas.proofs.Taking.{passes_as, passes_join, passes_more, passes_token, passes_taken, passes_first, stops_behind, stops_behind_taken, stops_first}
-use Rattle.express_schemas.proofs.Lists.{every_push, joined_push}
+use Rattle.express_syntax.proofs.Passing.{same_bytes}
+use Rattle.express_syntax.proofs.PassingRules.{next_rules_keyword, next_labelled_word, next_rules_end}
+use Rattle.express_syntax.proofs.Looking.{mark_met, keyword_met, shown_less, tokens_less}
+use Rattle.express_syntax.proofs.Taking.{passes_as, passes_join, passes_more, passes_token, passes_taken, passes_first, stops_behind, stops_behind_taken, stops_first}
+use Rattle.express_syntax.proofs.Lists.{every_push, joined_push}
 
 -- what a symbol says of a token is what a rule's body says, with the other rules behind it
 GoesOn : Keyword → Symbol → Bool → Word → Type 0

@@ -1,16 +1,16 @@
 -- Kinds as they are read, and the mark behind them.
 use Rattle.std.specs.Prelude.{◌≡◌, ℕ, Bool, true, false, List, [], ◌∷◌, ◌++◌}
 use Rattle.express_lexis.specs.Reading.{Reading}
-use Rattle.express_trees.specs.declared.keyword.Keyword.{Keyword}
-use Rattle.express_trees.specs.declared.keyword.Keyword.TheVariants as keywords
-use Rattle.express_trees.specs.Words.{Word, mark}
-use Rattle.express_trees.specs.Grammar.{depth_limit}
-use Rattle.express_schemas.specs.Texts.{Lookahead, LocatedToken}
-use Rattle.express_schemas.specs.Schemas.{DataType}
-use Rattle.express_schemas.specs.Written.{words_of_data_type}
-use Rattle.express_schemas.specs.Profile.{FitsDataType}
-use Rattle.express_schemas.specs.Predict.{Symbol, Ending, ending_mark, next, next_mark_or}
-use Rattle.express_schemas.specs.Steps.{Passes}
+use Rattle.express_syntax.specs.declared.keyword.Keyword.{Keyword}
+use Rattle.express_syntax.specs.declared.keyword.Keyword.TheVariants as keywords
+use Rattle.express_syntax.specs.Words.{Word, mark}
+use Rattle.express_syntax.specs.Grammar.{depth_limit}
+use Rattle.express_syntax.specs.Texts.{Lookahead, LocatedToken}
+use Rattle.express_syntax.specs.Schemas.{DataType}
+use Rattle.express_syntax.specs.Written.{words_of_data_type}
+use Rattle.express_syntax.specs.Profile.{FitsDataType}
+use Rattle.express_syntax.specs.Predict.{Symbol, Ending, ending_mark, next, next_mark_or}
+use Rattle.express_syntax.specs.Steps.{Passes}
 
 -- a data type with so many aggregate types around it, behind these words, and the mark behind it, take these symbols
 abbrev pub PassesDataType : List Symbol → List LocatedToken → List Word → ℕ → Ending → DataType → Reading → Reading

@@ -2,17 +2,17 @@
 use Rattle.std.specs.Prelude.{◌≡◌, List, [], ◌∷◌, ◌++◌}
 use Rattle.express_lexis.specs.declared.marks.Mark.TheVariants as marks
 use Rattle.express_lexis.specs.Reading.{Reading}
-use Rattle.express_trees.specs.declared.keyword.Keyword.{Keyword}
-use Rattle.express_trees.specs.Words.{Word, words_of, mark}
-use Rattle.express_trees.specs.Grammar.{depth_limit}
+use Rattle.express_syntax.specs.declared.keyword.Keyword.{Keyword}
+use Rattle.express_syntax.specs.Words.{Word, words_of, mark}
+use Rattle.express_syntax.specs.Grammar.{depth_limit}
 use Rattle.express_runs.specs.declared.runs.Buffer.{Buffer}
-use Rattle.express_schemas.specs.Schemas.{Body, Rule}
-use Rattle.express_schemas.specs.Written.{words_of_body, words_of_rule}
-use Rattle.express_schemas.specs.Profile.{FitsBody, BeginsRule}
+use Rattle.express_syntax.specs.Schemas.{Body, Rule}
+use Rattle.express_syntax.specs.Written.{words_of_body, words_of_rule}
+use Rattle.express_syntax.specs.Profile.{FitsBody, BeginsRule}
 use Rattle.express_runs.specs.OpenRuns.{more_of}
-use Rattle.express_schemas.specs.Predict.{in_rule, Rules}
-use Rattle.express_schemas.specs.Texts.{LocatedToken}
-use Rattle.express_schemas.specs.Steps.{Passes}
+use Rattle.express_syntax.specs.Predict.{in_rule, Rules}
+use Rattle.express_syntax.specs.Texts.{LocatedToken}
+use Rattle.express_syntax.specs.Steps.{Passes}
 
 -- Behind the tokens of a buffer, of the next of which this is taken, stands the rest of a body, and its semicolon.
 pub record BodyRead (before : Buffer) (first : LocatedToken) (b : Body) (old new : Reading) : Type 0 where

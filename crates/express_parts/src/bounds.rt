@@ -22,14 +22,14 @@ ghost use Rattle.std.specs.Prelude.{
   MatchResult,
 };
 ghost use Rattle.express_lexis.specs.declared.marks.Mark.TheVariants as marks;
-ghost use Rattle.express_trees.specs.declared.keyword.Keyword.TheVariants as keywords;
-ghost use Rattle.express_trees.specs.declared.tree.Sign as signs;
-ghost use Rattle.express_trees.specs.Trees.{word_of_sign};
-ghost use Rattle.express_trees.specs.Words;
-ghost use Rattle.express_trees.specs.Words.{word_of, words_of, integer, mark, keyword, name};
-ghost use Rattle.express_trees.specs.Views.{capitals};
-ghost use Rattle.express_trees.specs.Grammar.{depth_limit};
-ghost use Rattle.express_schemas.specs.Views.{
+ghost use Rattle.express_syntax.specs.declared.keyword.Keyword.TheVariants as keywords;
+ghost use Rattle.express_syntax.specs.declared.expression.Sign as signs;
+ghost use Rattle.express_syntax.specs.Trees.{word_of_sign};
+ghost use Rattle.express_syntax.specs.Words;
+ghost use Rattle.express_syntax.specs.Words.{word_of, words_of, integer, mark, keyword, name};
+ghost use Rattle.express_syntax.specs.ExpressionViews.{capitals};
+ghost use Rattle.express_syntax.specs.Grammar.{depth_limit};
+ghost use Rattle.express_syntax.specs.Views.{
   if_some,
   run_of,
   names_of,
@@ -38,7 +38,7 @@ ghost use Rattle.express_schemas.specs.Views.{
   width_of,
   supertype_of,
 };
-ghost use Rattle.express_schemas.specs.Written.{
+ghost use Rattle.express_syntax.specs.Written.{
   words_of_names,
   words_of_bound,
   words_of_bounds,
@@ -47,7 +47,7 @@ ghost use Rattle.express_schemas.specs.Written.{
   words_of_expression,
   words_of_supertype,
 };
-ghost use Rattle.express_schemas.specs.Profile.{
+ghost use Rattle.express_syntax.specs.Profile.{
   Maybe,
   IsFilled,
   IsBoundText,
@@ -57,34 +57,34 @@ ghost use Rattle.express_schemas.specs.Profile.{
   FitsWidth,
   FitsSupertype,
 };
-ghost use Rattle.express_schemas.specs.Sources.{
+ghost use Rattle.express_syntax.specs.Sources.{
   IsRunOf,
   IsBoundOf,
   IsBoundsOf,
   IsWidthOf,
   IsSupertypeOf,
 };
-ghost use Rattle.express_schemas.specs.Runs.{words_of_run, FitsRun, IsSome};
+ghost use Rattle.express_syntax.specs.Runs.{words_of_run, FitsRun, IsSome};
 ghost use Rattle.express_runs.specs.OpenRuns.{part_of, may_of, end_of};
-ghost use Rattle.express_schemas.specs.Predict.{
+ghost use Rattle.express_syntax.specs.Predict.{
   BoundsOrOf,
   Running,
   in_parentheses,
   bounds_symbols,
 };
-ghost use Rattle.express_schemas.specs.Steps.{Passes, ParsesWhere, ParsesBehind, StopsIn};
+ghost use Rattle.express_syntax.specs.Steps.{Passes, ParsesWhere, ParsesBehind, StopsIn};
 
 use express_lexis::lexer::Lexer;
 use express_lexis::marks::Mark;
 use express_runs::reader::Reader;
 use express_runs::runs::{Buffer, Ends, gather};
 use express_runs::tokens::{fault_at, is_keyword, is_mark, next_item, refuse};
-use express_schemas::fault::{FaultKind, SyntaxFault};
-use express_schemas::passage::Run;
-use express_schemas::tree::{Bound, Bounds, Supertype, Width};
-use express_trees::keyword::Keyword;
-use express_trees::lexeme::Lexeme;
-use express_trees::tree::{LEVELS, Sign};
+use express_syntax::expression::{LEVELS, Sign};
+use express_syntax::fault::{FaultKind, SyntaxFault};
+use express_syntax::keyword::Keyword;
+use express_syntax::lexeme::Lexeme;
+use express_syntax::passage::Run;
+use express_syntax::tree::{Bound, Bounds, Supertype, Width};
 use std::alloc::{AllocError, Global};
 use step_literals::literal::{Decimal, Word};
 

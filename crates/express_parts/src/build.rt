@@ -1,12 +1,12 @@
 //! Kinds built from their parts.
 
 ghost use Rattle.std.specs.Prelude.{◌≡◌, ℕ, List};
-ghost use Rattle.express_schemas.specs.Schemas;
-ghost use Rattle.express_schemas.specs.Views.{data_type_of, width_of, bounds_of, if_some};
-ghost use Rattle.express_schemas.specs.Profile.{Maybe};
-ghost use Rattle.express_schemas.specs.Sources.{IsBoundsOf, IsWidthOf, IsDataTypeOf};
+ghost use Rattle.express_syntax.specs.Schemas;
+ghost use Rattle.express_syntax.specs.Views.{data_type_of, width_of, bounds_of, if_some};
+ghost use Rattle.express_syntax.specs.Profile.{Maybe};
+ghost use Rattle.express_syntax.specs.Sources.{IsBoundsOf, IsWidthOf, IsDataTypeOf};
 
-use express_schemas::tree::{Bounds, DataType, Width};
+use express_syntax::tree::{Bounds, DataType, Width};
 
 /// A REAL, with its precision if it has one.
 pub fn real(width: Option<Box<Width<'_>>>) -> DataType<'_>

@@ -17,28 +17,28 @@ ghost use Rattle.std.specs.Prelude.{
   MatchOption,
 };
 ghost use Rattle.express_lexis.specs.declared.marks.Mark.TheVariants as marks;
-ghost use Rattle.express_trees.specs.declared.keyword.Keyword.TheVariants as keywords;
-ghost use Rattle.express_trees.specs.Words.{mark, keyword};
-ghost use Rattle.express_trees.specs.Grammar.{depth_limit};
+ghost use Rattle.express_syntax.specs.declared.keyword.Keyword.TheVariants as keywords;
+ghost use Rattle.express_syntax.specs.Words.{mark, keyword};
+ghost use Rattle.express_syntax.specs.Grammar.{depth_limit};
 ghost use Rattle.express_runs.specs.Items.{located_of};
-ghost use Rattle.express_schemas.specs.Texts.{token};
-ghost use Rattle.express_schemas.specs.Views.{data_type_of, width_of, fixed_of, bounds_of, if_some};
-ghost use Rattle.express_schemas.specs.Written.{
+ghost use Rattle.express_syntax.specs.Texts.{token};
+ghost use Rattle.express_syntax.specs.Views.{data_type_of, width_of, fixed_of, bounds_of, if_some};
+ghost use Rattle.express_syntax.specs.Written.{
   said,
   words_of_data_type,
   words_of_width,
   words_of_fixed,
   words_of_some_bounds,
 };
-ghost use Rattle.express_schemas.specs.Profile.{FitsDataType, FitsWidth, FitsBounds, Maybe};
-ghost use Rattle.express_schemas.specs.Sources.{
+ghost use Rattle.express_syntax.specs.Profile.{FitsDataType, FitsWidth, FitsBounds, Maybe};
+ghost use Rattle.express_syntax.specs.Sources.{
   IsBoundsOf,
   IsWidthOf,
   IsFixedWidthOf,
   IsDataTypeOf,
 };
-ghost use Rattle.express_schemas.specs.Predict;
-ghost use Rattle.express_schemas.specs.Predict.{
+ghost use Rattle.express_syntax.specs.Predict;
+ghost use Rattle.express_syntax.specs.Predict.{
   Symbol,
   Just,
   DataTypeThen,
@@ -54,18 +54,18 @@ ghost use Rattle.express_schemas.specs.Predict.{
 ghost use Rattle.express_parts.specs.DataTypeParts;
 ghost use Rattle.express_parts.specs.DataTypeParts.{PassesDataType, PassesBehind, TakesWidth};
 ghost use Rattle.express_parts.specs.Endings.{ending_of};
-ghost use Rattle.express_schemas.specs.Steps.{Passes, Parses, ParsesWhere, ParsesFrom, StopsIn};
+ghost use Rattle.express_syntax.specs.Steps.{Passes, Parses, ParsesWhere, ParsesFrom, StopsIn};
 
 use crate::bounds::{boxed_bounds, boxed_indices, width};
 use crate::build;
 use express_lexis::marks::Mark;
 use express_runs::reader::Reader;
 use express_runs::tokens::{Item, fault_at, is_keyword, is_mark, refuse};
-use express_schemas::fault::{self, SyntaxFault};
-use express_schemas::tree::{Bounds, DataType, FixedWidth, Width};
-use express_trees::keyword::Keyword;
-use express_trees::lexeme::Lexeme;
-use express_trees::tree::LEVELS;
+use express_syntax::expression::LEVELS;
+use express_syntax::fault::{self, SyntaxFault};
+use express_syntax::keyword::Keyword;
+use express_syntax::lexeme::Lexeme;
+use express_syntax::tree::{Bounds, DataType, FixedWidth, Width};
 
 /// The mark that stands behind a data type.
 #[derive(Clone, Copy, Debug, PartialEq, Eq)]

@@ -3,18 +3,18 @@ use Rattle.std.proofs.Common.{◌≡◌, ℕ, ◌<◌, true, false, List, [], �
 use Rattle.std.proofs.lemmas.Bool.{false≢true}
 use Rattle.express_lexis.specs.declared.marks.Mark.TheVariants as marks
 use Rattle.express_lexis.specs.Reading.{Reading, left}
-use Rattle.express_trees.specs.Words.{name, mark}
-use Rattle.express_trees.specs.Grammar.{depth_limit}
-use Rattle.express_schemas.specs.declared.fault.SyntaxFault.{SyntaxFault}
-use Rattle.express_schemas.specs.declared.fault.SyntaxFault.TheVariants as faults
-use Rattle.express_schemas.specs.Texts.{Lookahead, token, LocatedToken, Shows}
-use Rattle.express_schemas.specs.Written.{joined, with_commas, words_of_name, words_of_names}
-use Rattle.express_schemas.specs.Profile.{IsFilled}
-use Rattle.express_schemas.specs.Predict.{Just, Id, Names, names_symbols, next, refused, is_mark}
-use Rattle.express_schemas.specs.Steps.{StopsIn, Passes}
-use Rattle.express_schemas.proofs.Taking.{passes_as, passes_join, passes_more, passes_then, passes_token, stops_behind}
-use Rattle.express_schemas.proofs.Looking.{mark_met, stops_refused, shown_less, passes_within}
-use Rattle.express_schemas.proofs.Lists.{filled_push}
+use Rattle.express_syntax.specs.Words.{name, mark}
+use Rattle.express_syntax.specs.Grammar.{depth_limit}
+use Rattle.express_syntax.specs.declared.fault.SyntaxFault.{SyntaxFault}
+use Rattle.express_syntax.specs.declared.fault.SyntaxFault.TheVariants as faults
+use Rattle.express_syntax.specs.Texts.{Lookahead, token, LocatedToken, Shows}
+use Rattle.express_syntax.specs.Written.{joined, with_commas, words_of_name, words_of_names}
+use Rattle.express_syntax.specs.Profile.{IsFilled}
+use Rattle.express_syntax.specs.Predict.{Just, Id, Names, names_symbols, next, refused, is_mark}
+use Rattle.express_syntax.specs.Steps.{StopsIn, Passes}
+use Rattle.express_syntax.proofs.Taking.{passes_as, passes_join, passes_more, passes_then, passes_token, stops_behind}
+use Rattle.express_syntax.proofs.Looking.{mark_met, stops_refused, shown_less, passes_within}
+use Rattle.express_syntax.proofs.Lists.{filled_push}
 
 -- names as far as they are read, where others or the closing parenthesis come next
 pub record NamesSoFar (names : List (List ℕ)) (old here : Reading) : Type 0 where

@@ -4,11 +4,11 @@ use Rattle.std.proofs.lemmas.Bool.{false≢true}
 use Rattle.std.proofs.lemmas.Bool.Decides.{nat_tests}
 use Rattle.express_lexis.specs.declared.marks.Mark.{Mark}
 use Rattle.express_lexis.specs.declared.marks.Mark.TheVariants as marks
-use Rattle.express_trees.specs.Words.{Word, mark}
-use Rattle.express_trees.specs.Grammar.{depth_limit}
-use Rattle.express_schemas.specs.Runs.{Bracket, parenthesis, square, brace, opening, closing, Run, ended, word, bracketed, words_of_run, inside, FitsRun}
-use Rattle.express_schemas.specs.Texts.{token}
-use Rattle.express_schemas.specs.Predict.{RunEnd, in_rule, in_lower, in_upper, in_parentheses, Running, Next, ends_part, next_outside, next_mark, next_running, if_shallow}
+use Rattle.express_syntax.specs.Words.{Word, mark}
+use Rattle.express_syntax.specs.Grammar.{depth_limit}
+use Rattle.express_syntax.specs.Runs.{Bracket, parenthesis, square, brace, opening, closing, Run, ended, word, bracketed, words_of_run, inside, FitsRun}
+use Rattle.express_syntax.specs.Texts.{token}
+use Rattle.express_syntax.specs.Predict.{RunEnd, in_rule, in_lower, in_upper, in_parentheses, Running, Next, ends_part, next_outside, next_mark, next_running, if_shallow}
 use Rattle.express_runs.specs.OpenRuns.{may_of, end_of, level, IsOpenRun}
 
 -- one run behind another

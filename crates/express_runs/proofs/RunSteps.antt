@@ -2,31 +2,31 @@
 use Rattle.std.proofs.Common.{◌≡◌, ℕ, ◌+◌, ◌<◌, ◌≤◌, Bool, true, false, not, ◌==◌, List, [], ◌∷◌, ◌++◌, length, nat_lt, Result, Ok, Err, ◌⊎◌, inl, inr, if◌then◌else◌, refl, sym, ap, ap₂, ◌∙◌, subst, append_assoc, append-nil, arith}
 use Rattle.std.proofs.lemmas.Bool.{false≢true}
 use Rattle.std.proofs.lemmas.Bool.Decides.{nat_tests}
-use Rattle.predictive.proofs.Turning as turning
+use Rattle.parsing.proofs.Turning as turning
 use Rattle.express_lexis.specs.declared.marks.Mark.{Mark}
 use Rattle.express_lexis.specs.declared.marks.Mark.TheVariants as marks
 use Rattle.express_lexis.specs.Reading.{Reading}
-use Rattle.express_trees.specs.declared.lexeme.Lexeme.{Lexeme}
-use Rattle.express_trees.specs.Words.{Word, mark, name, word_of, words_of}
-use Rattle.express_trees.specs.Grammar.{depth_limit}
-use Rattle.express_schemas.specs.declared.fault.FaultKind.{FaultKind}
-use Rattle.express_schemas.specs.declared.fault.FaultKind.TheVariants as fault_kinds
-use Rattle.express_schemas.specs.declared.fault.SyntaxFault.{SyntaxFault}
-use Rattle.express_schemas.specs.declared.fault.SyntaxFault.TheVariants as faults
+use Rattle.express_syntax.specs.declared.lexeme.Lexeme.{Lexeme}
+use Rattle.express_syntax.specs.Words.{Word, mark, name, word_of, words_of}
+use Rattle.express_syntax.specs.Grammar.{depth_limit}
+use Rattle.express_syntax.specs.declared.fault.FaultKind.{FaultKind}
+use Rattle.express_syntax.specs.declared.fault.FaultKind.TheVariants as fault_kinds
+use Rattle.express_syntax.specs.declared.fault.SyntaxFault.{SyntaxFault}
+use Rattle.express_syntax.specs.declared.fault.SyntaxFault.TheVariants as faults
 use Rattle.express_runs.specs.declared.runs.Bracket as code
 use Rattle.express_runs.specs.declared.runs.Buffer.{Buffer}
 use Rattle.express_runs.specs.declared.tokens.Item.{Item}
 use Rattle.express_runs.specs.Items.{located_of}
-use Rattle.express_schemas.specs.Runs.{Bracket, Run, ended, word, bracketed, words_of_run, FitsRun, IsSome}
-use Rattle.express_schemas.specs.Texts.{token, LocatedToken, Shows}
-use Rattle.express_schemas.specs.Predict.{RunEnd, in_rule, in_lower, in_upper, in_parentheses, Symbol, Running, EndOfText, Next, next, opened, closed, next_outside, next_mark, next_running, same_bracket}
-use Rattle.express_schemas.specs.Passages.{Stands, IsRun}
-use Rattle.express_schemas.specs.Steps.{table, Passes, StopsIn}
+use Rattle.express_syntax.specs.Runs.{Bracket, Run, ended, word, bracketed, words_of_run, FitsRun, IsSome}
+use Rattle.express_syntax.specs.Texts.{token, LocatedToken, Shows}
+use Rattle.express_syntax.specs.Predict.{RunEnd, in_rule, in_lower, in_upper, in_parentheses, Symbol, Running, EndOfText, Next, next, opened, closed, next_outside, next_mark, next_running, same_bracket}
+use Rattle.express_syntax.specs.Passages.{Stands, IsRun}
+use Rattle.express_syntax.specs.Steps.{table, Passes, StopsIn}
 use Rattle.express_runs.specs.OpenRuns.{bracket_of, stacked, brackets_of, may_of, end_of, level, IsOpenRun, going_on, Agrees, IsBegun, IsPushed, Gathered, begin_of}
-use Rattle.express_schemas.specs.Runs.{has_some}
-use Rattle.express_schemas.proofs.Taking.{passes_as, passes_join, passes_taken, passes_first, stops_behind, stops_behind_taken}
+use Rattle.express_syntax.specs.Runs.{has_some}
+use Rattle.express_syntax.proofs.Taking.{passes_as, passes_join, passes_taken, passes_first, stops_behind, stops_behind_taken}
 use Rattle.express_runs.proofs.OpenRunLemmas.{Grown, grown, level_is}
-use Rattle.express_schemas.proofs.StandLemmas.{stands_own, shown_text, stands_more, fits_is_run}
+use Rattle.express_syntax.proofs.StandLemmas.{stands_own, shown_text, stands_more, fits_is_run}
 
 pub stacked_push : (xs : List code.Bracket) (x : code.Bracket) (inner : List Bracket)
     → stacked (xs ++ x ∷ []) inner ≡ bracket_of x ∷ stacked xs inner

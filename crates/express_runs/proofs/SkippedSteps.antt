@@ -14,33 +14,33 @@ use Rattle.express_lexis.specs.Layout as blanks
 use Rattle.express_lexis.specs.Reading.{Reading, Takes}
 use Rattle.express_lexis.proofs.Determined.{places_rise}
 use Rattle.express_lexis.proofs.ReadingLemmas.{some_bytes}
-use Rattle.express_trees.specs.declared.lexeme.Lexeme.{Lexeme}
-use Rattle.express_trees.specs.declared.lexeme.Lexeme.TheVariants as lexemes
-use Rattle.express_trees.specs.Words as words
-use Rattle.express_trees.specs.Words.{Word, name, mark, word_of}
-use Rattle.express_trees.specs.Grammar.{depth_limit}
-use Rattle.express_schemas.specs.declared.fault.FaultKind.TheVariants as fault_kinds
-use Rattle.express_schemas.specs.declared.fault.SyntaxFault.{SyntaxFault}
-use Rattle.express_schemas.specs.declared.fault.SyntaxFault.TheVariants as faults
-use Rattle.predictive.specs.Tables.{lookaheads}
-use Rattle.express_schemas.specs.Texts.{token, LocatedToken, Shows, ShowsAll}
-use Rattle.express_schemas.specs.Passages.{at_place, BeginsBehind, BeginsNext, Stands, StandsBehind}
-use Rattle.express_schemas.specs.PassageLemmas.{stands_within, stands_some}
-use Rattle.express_schemas.specs.declared.passage.Passage.{Passage}
-use Rattle.express_schemas.specs.Sources.{IsPassageAt}
-use Rattle.express_schemas.specs.Runs.{Routine, ending, further, nested, words_of_routine, BeginsRoutine, EndsRoutine, FitsRoutine}
-use Rattle.express_schemas.specs.Written.{joined}
-use Rattle.express_schemas.specs.Profile.{Every, IsWithout}
+use Rattle.express_syntax.specs.declared.lexeme.Lexeme.{Lexeme}
+use Rattle.express_syntax.specs.declared.lexeme.Lexeme.TheVariants as lexemes
+use Rattle.express_syntax.specs.Words as words
+use Rattle.express_syntax.specs.Words.{Word, name, mark, word_of}
+use Rattle.express_syntax.specs.Grammar.{depth_limit}
+use Rattle.express_syntax.specs.declared.fault.FaultKind.TheVariants as fault_kinds
+use Rattle.express_syntax.specs.declared.fault.SyntaxFault.{SyntaxFault}
+use Rattle.express_syntax.specs.declared.fault.SyntaxFault.TheVariants as faults
+use Rattle.parsing.specs.Tables.{lookaheads}
+use Rattle.express_syntax.specs.Texts.{token, LocatedToken, Shows, ShowsAll}
+use Rattle.express_syntax.specs.Passages.{at_place, BeginsBehind, BeginsNext, Stands, StandsBehind}
+use Rattle.express_syntax.specs.PassageLemmas.{stands_within, stands_some}
+use Rattle.express_syntax.specs.declared.passage.Passage.{Passage}
+use Rattle.express_syntax.specs.Sources.{IsPassageAt}
+use Rattle.express_syntax.specs.Runs.{Routine, ending, further, nested, words_of_routine, BeginsRoutine, EndsRoutine, FitsRoutine}
+use Rattle.express_syntax.specs.Written.{joined}
+use Rattle.express_syntax.specs.Profile.{Every, IsWithout}
 use Rattle.express_runs.specs.Skips.{is_name, still_open}
-use Rattle.express_schemas.specs.Predict.{Symbol, Next, Declarations, SkippedName, SkippedEnd, Until, is_mark, opens_routine, closes_routine, left_routine, next, next_routine}
-use Rattle.express_schemas.specs.Predict as predict
-use Rattle.express_schemas.specs.Steps.{StopsIn, Passes}
-use Rattle.express_schemas.proofs.Passing.{same_bytes}
-use Rattle.express_schemas.proofs.Turning.{stops_shown}
-use Rattle.express_schemas.proofs.Looking.{shown_token, reads_shown}
-use Rattle.express_schemas.proofs.SameText.{passes_text}
-use Rattle.express_schemas.proofs.StandLemmas.{reads_stands, stands_join, stands_own, shown_text}
-use Rattle.express_schemas.proofs.Taking.{passes_here, passes_join, passes_more, passes_token, passes_taken, stops_behind}
+use Rattle.express_syntax.specs.Predict.{Symbol, Next, Declarations, SkippedName, SkippedEnd, Until, is_mark, opens_routine, closes_routine, left_routine, next, next_routine}
+use Rattle.express_syntax.specs.Predict as predict
+use Rattle.express_syntax.specs.Steps.{StopsIn, Passes}
+use Rattle.express_syntax.proofs.Passing.{same_bytes}
+use Rattle.express_syntax.proofs.Turning.{stops_shown}
+use Rattle.express_syntax.proofs.Looking.{shown_token, reads_shown}
+use Rattle.express_syntax.proofs.SameText.{passes_text}
+use Rattle.express_syntax.proofs.StandLemmas.{reads_stands, stands_join, stands_own, shown_text}
+use Rattle.express_syntax.proofs.Taking.{passes_here, passes_join, passes_more, passes_token, passes_taken, stops_behind}
 
 -- a name is a word in capitals where both are the same but for the case of letters
 pub spelled : (text wanted : List ℕ) (r : Bool) → upper wanted ≡ wanted

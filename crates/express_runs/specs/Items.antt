@@ -1,10 +1,10 @@
 -- What the reader's tokens show.
 use Rattle.std.specs.Prelude.{ℕ}
 use Rattle.step_literals.specs.declared.literal.Word as literal
-use Rattle.express_trees.specs.Words.{word_of, name}
-use Rattle.express_trees.specs.Views.{capitals}
+use Rattle.express_syntax.specs.Words.{word_of, name}
+use Rattle.express_syntax.specs.ExpressionViews.{capitals}
 use Rattle.express_runs.specs.declared.tokens.Item.{Item}
-use Rattle.express_schemas.specs.Texts.{token, LocatedToken}
+use Rattle.express_syntax.specs.Texts.{token, LocatedToken}
 
 abbrev pub located_of : Item → LocatedToken
 located_of i = record { lookahead = token (word_of i.lexeme); place = i.place }

@@ -3,23 +3,23 @@ use Rattle.std.specs.Prelude.{◌≡◌, ℕ, ◌+◌, ◌<◌, Bool, true, fals
 use Rattle.express_lexis.specs.declared.marks.Mark.{Mark}
 use Rattle.express_lexis.specs.declared.marks.Mark.TheVariants as marks
 use Rattle.express_lexis.specs.Reading.{Reading}
-use Rattle.express_trees.specs.Words.{Word, word_of, words_of, mark}
-use Rattle.express_trees.specs.Grammar.{depth_limit}
+use Rattle.express_syntax.specs.Words.{Word, word_of, words_of, mark}
+use Rattle.express_syntax.specs.Grammar.{depth_limit}
 use Rattle.express_runs.specs.declared.runs.Ends.{Ends}
 use Rattle.express_runs.specs.declared.runs.Ends.TheVariants as ends
 use Rattle.express_runs.specs.declared.runs.Buffer.{Buffer}
 use Rattle.express_runs.specs.declared.runs.Bracket as code
 use Rattle.express_runs.specs.declared.runs.Bracket.TheVariants as brackets
 use Rattle.express_runs.specs.declared.tokens.Item.{Item}
-use Rattle.express_schemas.specs.declared.fault.SyntaxFault.{SyntaxFault}
-use Rattle.express_schemas.specs.declared.fault.SyntaxFault.TheVariants as faults
-use Rattle.express_schemas.specs.Runs.{Bracket, parenthesis, square, brace, opening, Run, words_of_run, inside, FitsRun, IsSome, in_brackets}
-use Rattle.express_schemas.specs.Runs.{has_some}
-use Rattle.express_schemas.specs.Runs as runs
-use Rattle.express_schemas.specs.Predict.{RunEnd, in_rule, in_lower, in_upper, in_parentheses, Symbol, Running, Next}
-use Rattle.express_schemas.specs.Texts.{LocatedToken}
-use Rattle.express_schemas.specs.Passages.{Stands}
-use Rattle.express_schemas.specs.Steps.{Passes}
+use Rattle.express_syntax.specs.declared.fault.SyntaxFault.{SyntaxFault}
+use Rattle.express_syntax.specs.declared.fault.SyntaxFault.TheVariants as faults
+use Rattle.express_syntax.specs.Runs.{Bracket, parenthesis, square, brace, opening, Run, words_of_run, inside, FitsRun, IsSome, in_brackets}
+use Rattle.express_syntax.specs.Runs.{has_some}
+use Rattle.express_syntax.specs.Runs as runs
+use Rattle.express_syntax.specs.Predict.{RunEnd, in_rule, in_lower, in_upper, in_parentheses, Symbol, Running, Next}
+use Rattle.express_syntax.specs.Texts.{LocatedToken}
+use Rattle.express_syntax.specs.Passages.{Stands}
+use Rattle.express_syntax.specs.Steps.{Passes}
 
 abbrev pub part_of : Ends → RunEnd
 part_of ends.Rule = in_rule

@@ -1,9 +1,9 @@
 -- What a token means where declarations are skipped.
 use Rattle.std.specs.Prelude.{ℕ, Bool, false, List, [], ◌∷◌, Option, None, Some}
 use Rattle.std.specs.Str.{bytes_eq}
-use Rattle.express_trees.specs.Words.{name}
-use Rattle.express_schemas.specs.Texts.{Lookahead, token}
-use Rattle.express_schemas.specs.Predict.{Symbol, Routine}
+use Rattle.express_syntax.specs.Words.{name}
+use Rattle.express_syntax.specs.Texts.{Lookahead, token}
+use Rattle.express_syntax.specs.Predict.{Symbol, Routine}
 
 -- the token is this name
 abbrev pub is_name : List ℕ → Lookahead → Bool

@@ -1,16 +1,16 @@
 //! Names in parentheses.
 
 ghost use Rattle.std.specs.Prelude.{[]};
-ghost use Rattle.express_schemas.specs.Views.{names_of};
-ghost use Rattle.express_schemas.specs.Written.{words_of_names};
-ghost use Rattle.express_schemas.specs.Profile.{IsFilled};
-ghost use Rattle.express_schemas.specs.Predict.{names_symbols};
-ghost use Rattle.express_schemas.specs.Steps.{ParsesWhere};
+ghost use Rattle.express_syntax.specs.Views.{names_of};
+ghost use Rattle.express_syntax.specs.Written.{words_of_names};
+ghost use Rattle.express_syntax.specs.Profile.{IsFilled};
+ghost use Rattle.express_syntax.specs.Predict.{names_symbols};
+ghost use Rattle.express_syntax.specs.Steps.{ParsesWhere};
 
 use crate::reader::Reader;
 use crate::tokens::{is_mark, refuse};
 use express_lexis::marks::Mark;
-use express_schemas::fault::SyntaxFault;
+use express_syntax::fault::SyntaxFault;
 use step_literals::literal::Word;
 
 /// Reads names in parentheses, of which there is one at least.

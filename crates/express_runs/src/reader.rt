@@ -2,20 +2,20 @@
 
 ghost use Rattle.std.specs.Prelude.{◌≡◌, [], ◌∷◌, MatchResult};
 ghost use Rattle.express_lexis.specs.Reading.{start};
-ghost use Rattle.express_trees.specs.Words.{keyword, mark, name};
-ghost use Rattle.express_trees.specs.Views.{capitals};
-ghost use Rattle.express_schemas.specs.Texts.{Shows};
-ghost use Rattle.express_schemas.specs.Predict.{Symbol, Just, Say, Id, EndOfText};
-ghost use Rattle.express_schemas.specs.Steps.{Parses, StopsIn};
+ghost use Rattle.express_syntax.specs.Words.{keyword, mark, name};
+ghost use Rattle.express_syntax.specs.ExpressionViews.{capitals};
+ghost use Rattle.express_syntax.specs.Texts.{Shows};
+ghost use Rattle.express_syntax.specs.Predict.{Symbol, Just, Say, Id, EndOfText};
+ghost use Rattle.express_syntax.specs.Steps.{Parses, StopsIn};
 ghost use Rattle.express_runs.specs.Items.{located_of};
 
 use crate::runs::Buffer;
 use crate::tokens::{Item, is_keyword, is_mark, next_item, refuse};
 use express_lexis::lexer::Lexer;
 use express_lexis::marks::Mark;
-use express_schemas::fault::SyntaxFault;
-use express_trees::keyword::Keyword;
-use express_trees::lexeme::Lexeme;
+use express_syntax::fault::SyntaxFault;
+use express_syntax::keyword::Keyword;
+use express_syntax::lexeme::Lexeme;
 use std::alloc::Global;
 use std::marker::Model;
 use step_literals::literal::Word;

@@ -2,19 +2,19 @@
 
 ghost use Rattle.std.specs.Prelude.{◌≡◌, ℕ, ◌≤◌, true, false, [], ◌∷◌, length, IfOk, MatchResult};
 ghost use Rattle.express_lexis.specs.Reading.{Reading};
-ghost use Rattle.express_trees.specs.Words.{words_of, mark, name};
-ghost use Rattle.express_trees.specs.Views.{capitals};
-ghost use Rattle.express_trees.specs.Grammar.{depth_limit};
-ghost use Rattle.express_schemas.specs.declared.fault.SyntaxFault.TheVariants.{Fault};
+ghost use Rattle.express_syntax.specs.Words.{words_of, mark, name};
+ghost use Rattle.express_syntax.specs.ExpressionViews.{capitals};
+ghost use Rattle.express_syntax.specs.Grammar.{depth_limit};
+ghost use Rattle.express_syntax.specs.declared.fault.SyntaxFault.TheVariants.{Fault};
 ghost use Rattle.express_runs.specs.Items.{located_of, named};
-ghost use Rattle.express_schemas.specs.Texts.{Shows};
-ghost use Rattle.express_schemas.specs.Views.{run_of};
-ghost use Rattle.express_schemas.specs.Sources.{IsRunOf, place_of_run};
-ghost use Rattle.express_schemas.specs.Runs;
-ghost use Rattle.express_schemas.specs.Runs.{words_of_run};
-ghost use Rattle.express_schemas.specs.Predict;
-ghost use Rattle.express_schemas.specs.Predict.{RunEnd};
-ghost use Rattle.express_schemas.specs.Steps.{StopsIn};
+ghost use Rattle.express_syntax.specs.Texts.{Shows};
+ghost use Rattle.express_syntax.specs.Views.{run_of};
+ghost use Rattle.express_syntax.specs.Sources.{IsRunOf, place_of_run};
+ghost use Rattle.express_syntax.specs.Runs;
+ghost use Rattle.express_syntax.specs.Runs.{words_of_run};
+ghost use Rattle.express_syntax.specs.Predict;
+ghost use Rattle.express_syntax.specs.Predict.{RunEnd};
+ghost use Rattle.express_syntax.specs.Steps.{StopsIn};
 ghost use Rattle.express_runs.specs.OpenRuns.{
   part_of,
   bracket_of,
@@ -26,15 +26,15 @@ ghost use Rattle.express_runs.specs.OpenRuns.{
   begin_of,
   more_of,
 };
-ghost use Rattle.express_schemas.specs.Passages.{Stands, IsRun};
+ghost use Rattle.express_syntax.specs.Passages.{Stands, IsRun};
 
 use crate::tokens::{Item, next_item};
 use express_lexis::lexer::Lexer;
 use express_lexis::marks::Mark;
-use express_schemas::fault::{FaultKind, SyntaxFault};
-use express_schemas::passage::{Passage, Run};
-use express_trees::lexeme::Lexeme;
-use express_trees::tree::LEVELS;
+use express_syntax::expression::LEVELS;
+use express_syntax::fault::{FaultKind, SyntaxFault};
+use express_syntax::lexeme::Lexeme;
+use express_syntax::passage::{Passage, Run};
 use std::alloc::{AllocError, Global};
 use step_literals::literal::Word;
 

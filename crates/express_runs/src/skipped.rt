@@ -19,14 +19,14 @@ ghost use Rattle.std.specs.Str.{bytes_eq};
 ghost use Rattle.step_literals.specs.Words.{upper};
 ghost use Rattle.express_lexis.specs.declared.marks.Mark.TheVariants as marks;
 ghost use Rattle.express_lexis.specs.Reading.{Reading};
-ghost use Rattle.express_trees.specs.Words;
-ghost use Rattle.express_trees.specs.Words.{name, mark, word_of};
-ghost use Rattle.express_trees.specs.Views.{capitals};
-ghost use Rattle.express_schemas.specs.Texts.{Shows};
-ghost use Rattle.express_schemas.specs.Passages.{Stands};
-ghost use Rattle.express_schemas.specs.Runs.{words_of_routine, FitsRoutine};
-ghost use Rattle.express_schemas.specs.Views.{routine_of, words_of_passage, skipped_of};
-ghost use Rattle.express_schemas.specs.Sources.{
+ghost use Rattle.express_syntax.specs.Words;
+ghost use Rattle.express_syntax.specs.Words.{name, mark, word_of};
+ghost use Rattle.express_syntax.specs.ExpressionViews.{capitals};
+ghost use Rattle.express_syntax.specs.Texts.{Shows};
+ghost use Rattle.express_syntax.specs.Passages.{Stands};
+ghost use Rattle.express_syntax.specs.Runs.{words_of_routine, FitsRoutine};
+ghost use Rattle.express_syntax.specs.Views.{routine_of, words_of_passage, skipped_of};
+ghost use Rattle.express_syntax.specs.Sources.{
   BehindName,
   IsPassageAt,
   IsPassageOf,
@@ -35,10 +35,10 @@ ghost use Rattle.express_schemas.specs.Sources.{
   IsSkippedAt,
   IsSkippedOf,
 };
-ghost use Rattle.express_schemas.specs.Written.{words_of_skipped};
-ghost use Rattle.express_schemas.specs.Profile.{IsWithout, FitsSkipped};
-ghost use Rattle.express_schemas.specs.Predict;
-ghost use Rattle.express_schemas.specs.Predict.{
+ghost use Rattle.express_syntax.specs.Written.{words_of_skipped};
+ghost use Rattle.express_syntax.specs.Profile.{IsWithout, FitsSkipped};
+ghost use Rattle.express_syntax.specs.Predict;
+ghost use Rattle.express_syntax.specs.Predict.{
   Declarations,
   SkippedName,
   SkippedEnd,
@@ -49,15 +49,15 @@ ghost use Rattle.express_schemas.specs.Predict.{
 };
 ghost use Rattle.express_runs.specs.Skips.{is_name, still_open};
 ghost use Rattle.express_runs.specs.Items.{located_of, named};
-ghost use Rattle.express_schemas.specs.Steps.{Passes, Parses, ParsesWhere, StopsIn};
+ghost use Rattle.express_syntax.specs.Steps.{Passes, Parses, ParsesWhere, StopsIn};
 
 use crate::reader::Reader;
 use crate::tokens::{Item, fault_at, is_mark};
 use express_lexis::marks::Mark;
-use express_schemas::fault::{FaultKind, SyntaxFault};
-use express_schemas::passage::{Passage, Routine};
-use express_schemas::tree::Skipped;
-use express_trees::lexeme::Lexeme;
+use express_syntax::fault::{FaultKind, SyntaxFault};
+use express_syntax::lexeme::Lexeme;
+use express_syntax::passage::{Passage, Routine};
+use express_syntax::tree::Skipped;
 use step_literals::literal::Word;
 
 /// Whether a name is this word, which is in capitals.

@@ -1,20 +1,20 @@
 //! The tokens of a text, one at a time.
 
 ghost use Rattle.std.specs.Prelude.{◌≡◌, [], ◌∷◌, MatchResult};
-ghost use Rattle.express_trees.specs.Words.{keyword, mark, name};
-ghost use Rattle.express_trees.specs.Views.{capitals};
-ghost use Rattle.express_schemas.specs.declared.fault.SyntaxFault.TheVariants.{Fault};
-ghost use Rattle.express_schemas.specs.Texts.{Shows, token};
-ghost use Rattle.express_schemas.specs.Predict;
-ghost use Rattle.express_schemas.specs.Predict.{Symbol, Just, Say, Id, EndOfText, refused};
-ghost use Rattle.express_schemas.specs.Steps.{Passes, StopsIn};
+ghost use Rattle.express_syntax.specs.Words.{keyword, mark, name};
+ghost use Rattle.express_syntax.specs.ExpressionViews.{capitals};
+ghost use Rattle.express_syntax.specs.declared.fault.SyntaxFault.TheVariants.{Fault};
+ghost use Rattle.express_syntax.specs.Texts.{Shows, token};
+ghost use Rattle.express_syntax.specs.Predict;
+ghost use Rattle.express_syntax.specs.Predict.{Symbol, Just, Say, Id, EndOfText, refused};
+ghost use Rattle.express_syntax.specs.Steps.{Passes, StopsIn};
 ghost use Rattle.express_runs.specs.Items.{located_of};
 
 use express_lexis::lexer::Lexer;
 use express_lexis::marks::Mark;
-use express_schemas::fault::{FaultKind, LeftOut, SyntaxFault};
-use express_trees::keyword::Keyword;
-use express_trees::lexeme::Lexeme;
+use express_syntax::fault::{FaultKind, LeftOut, SyntaxFault};
+use express_syntax::keyword::Keyword;
+use express_syntax::lexeme::Lexeme;
 use step_literals::literal::Word;
 
 /// A token as the grammar sees it, and how many bytes come before it.

@@ -1,39 +1,39 @@
 -- A schema, token by token.
 use Rattle.std.proofs.Common.{◌≡◌, ℕ, ◌<◌, ◌≤◌, true, List, [], ◌∷◌, ◌++◌, length, map, Option, Some, Ok, Err, refl, sym, ap, ◌∙◌, subst, append_assoc, length-drop, le_of_eq, arith}
-use Rattle.predictive.specs.Tables.{lookaheads}
-use Rattle.predictive.proofs.Lists.{lookaheads_append}
-use Rattle.predictive.proofs.Shown as shown
+use Rattle.parsing.specs.Tables.{lookaheads}
+use Rattle.parsing.proofs.Lists.{lookaheads_append}
+use Rattle.parsing.proofs.Shown as shown
 use Rattle.express_lexis.specs.declared.marks.Mark.TheVariants as marks
 use Rattle.express_lexis.specs.declared.token.Token.{Token}
 use Rattle.express_lexis.specs.Reading.{Reading, start, left, Takes, IsAtEnd, Answers}
-use Rattle.express_trees.specs.declared.keyword.Keyword.{Keyword}
-use Rattle.express_trees.specs.declared.keyword.Keyword.TheVariants as keywords
-use Rattle.express_trees.specs.declared.lexeme.Lexeme.{Lexeme}
-use Rattle.express_trees.specs.Words.{Word, keyword, name, mark, word_of, word_of_sort}
-use Rattle.express_trees.specs.Grammar.{depth_limit}
-use Rattle.express_schemas.specs.declared.fault.FaultKind.{FaultKind}
-use Rattle.express_schemas.specs.declared.fault.SyntaxFault.{SyntaxFault}
-use Rattle.express_schemas.specs.declared.fault.SyntaxFault.TheVariants as faults
-use Rattle.express_schemas.specs.declared.tree.Version.{Version}
-use Rattle.express_schemas.specs.declared.tree.Version.TheVariants as versions
-use Rattle.express_schemas.specs.declared.tree.Declaration as code
-use Rattle.express_schemas.specs.Schemas.{Declaration, Schema}
-use Rattle.express_schemas.specs.Views.{version_of, declaration_of}
-use Rattle.express_schemas.specs.Written.{joined, words_of_declaration, words_of_version, words_of_opening, words_of_schema}
-use Rattle.express_schemas.specs.Profile.{Every, IsVersion, FitsDeclaration, FitsSchema}
-use Rattle.express_schemas.specs.Texts.{token, end_of_text, LocatedToken, Shows, shows_token, shows_fault, shows_end, ShowsAll, lookaheads_of, ReadsAs}
-use Rattle.express_schemas.specs.Predict.{Symbol, Just, Say, Id, Declarations, EndOfText, refused, is_mark, is_keyword, next, next_version, schema_symbols}
-use Rattle.express_schemas.specs.Predict as predict
-use Rattle.express_schemas.specs.Steps.{StopsIn, Passes}
-use Rattle.express_schemas.proofs.Turning.{stops_shown}
-use Rattle.express_schemas.proofs.Looking.{mark_met, keyword_met, reads_shown, shows_lexeme, shown_less, takes_less}
-use Rattle.express_schemas.proofs.Taking.{passes_as, passes_join, passes_more, passes_token, passes_taken, passes_first, stops_behind, stops_behind_taken}
+use Rattle.express_syntax.specs.declared.keyword.Keyword.{Keyword}
+use Rattle.express_syntax.specs.declared.keyword.Keyword.TheVariants as keywords
+use Rattle.express_syntax.specs.declared.lexeme.Lexeme.{Lexeme}
+use Rattle.express_syntax.specs.Words.{Word, keyword, name, mark, word_of, word_of_sort}
+use Rattle.express_syntax.specs.Grammar.{depth_limit}
+use Rattle.express_syntax.specs.declared.fault.FaultKind.{FaultKind}
+use Rattle.express_syntax.specs.declared.fault.SyntaxFault.{SyntaxFault}
+use Rattle.express_syntax.specs.declared.fault.SyntaxFault.TheVariants as faults
+use Rattle.express_syntax.specs.declared.tree.Version.{Version}
+use Rattle.express_syntax.specs.declared.tree.Version.TheVariants as versions
+use Rattle.express_syntax.specs.declared.tree.Declaration as code
+use Rattle.express_syntax.specs.Schemas.{Declaration, Schema}
+use Rattle.express_syntax.specs.Views.{version_of, declaration_of}
+use Rattle.express_syntax.specs.Written.{joined, words_of_declaration, words_of_version, words_of_opening, words_of_schema}
+use Rattle.express_syntax.specs.Profile.{Every, IsVersion, FitsDeclaration, FitsSchema}
+use Rattle.express_syntax.specs.Texts.{token, end_of_text, LocatedToken, Shows, shows_token, shows_fault, shows_end, ShowsAll, lookaheads_of, ReadsAs}
+use Rattle.express_syntax.specs.Predict.{Symbol, Just, Say, Id, Declarations, EndOfText, refused, is_mark, is_keyword, next, next_version, schema_symbols}
+use Rattle.express_syntax.specs.Predict as predict
+use Rattle.express_syntax.specs.Steps.{StopsIn, Passes}
+use Rattle.express_syntax.proofs.Turning.{stops_shown}
+use Rattle.express_syntax.proofs.Looking.{mark_met, keyword_met, reads_shown, shows_lexeme, shown_less, takes_less}
+use Rattle.express_syntax.proofs.Taking.{passes_as, passes_join, passes_more, passes_token, passes_taken, passes_first, stops_behind, stops_behind_taken}
 use Rattle.express_runs.proofs.SkippedSteps.{passes_both, shown_within}
-use Rattle.express_schemas.proofs.Lists.{every_push, joined_push, map_push}
-use Rattle.express_schemas.proofs.SameText.{shows_text}
-use Rattle.express_schemas.proofs.StandLemmas.{reads_stands}
-use Rattle.express_schemas.specs.Passages.{StandsBehind}
-use Rattle.express_schemas.specs.Places.{IsDeclarationAt, AreDeclarationsAt}
+use Rattle.express_syntax.proofs.Lists.{every_push, joined_push, map_push}
+use Rattle.express_syntax.proofs.SameText.{shows_text}
+use Rattle.express_syntax.proofs.StandLemmas.{reads_stands}
+use Rattle.express_syntax.specs.Passages.{StandsBehind}
+use Rattle.express_syntax.specs.Places.{IsDeclarationAt, AreDeclarationsAt}
 
 -- a fault at a token
 pub stops_at : (e : SyntaxFault) (k : FaultKind) (y : Symbol) (s : LocatedToken) (old new : Reading) → Shows old s new

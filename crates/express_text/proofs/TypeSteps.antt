@@ -3,21 +3,21 @@ use Rattle.std.proofs.Common.{◌≡◌, ℕ, true, false, List, [], ◌∷◌, 
 use Rattle.std.proofs.lemmas.Bool.{false≢true}
 use Rattle.express_lexis.specs.declared.marks.Mark.TheVariants as marks
 use Rattle.express_lexis.specs.Reading.{Reading}
-use Rattle.express_trees.specs.declared.keyword.Keyword.TheVariants as keywords
-use Rattle.express_trees.specs.Words.{Word, keyword, name, mark}
-use Rattle.express_trees.specs.Grammar.{depth_limit}
-use Rattle.express_schemas.specs.declared.fault.SyntaxFault.{SyntaxFault}
-use Rattle.express_schemas.specs.declared.fault.SyntaxFault.TheVariants as faults
-use Rattle.express_schemas.specs.Texts.{Lookahead, token, LocatedToken, Shows}
-use Rattle.express_schemas.specs.Schemas.{Rule, DataType, data_type, enumeration, select, TypeDeclaration}
-use Rattle.express_schemas.specs.Written.{joined, words_of_names, words_of_underlying, words_of_rule, words_of_clause, words_of_type}
-use Rattle.express_schemas.specs.Profile.{Maybe, FitsRules, FitsUnderlying, FitsType}
-use Rattle.express_schemas.specs.Predict.{Symbol, Just, Say, Id, TypeEnd, Rules, DataTypeThen, semicolon, names_symbols, next, refused, is_keyword}
-use Rattle.express_schemas.specs.Predict as table
+use Rattle.express_syntax.specs.declared.keyword.Keyword.TheVariants as keywords
+use Rattle.express_syntax.specs.Words.{Word, keyword, name, mark}
+use Rattle.express_syntax.specs.Grammar.{depth_limit}
+use Rattle.express_syntax.specs.declared.fault.SyntaxFault.{SyntaxFault}
+use Rattle.express_syntax.specs.declared.fault.SyntaxFault.TheVariants as faults
+use Rattle.express_syntax.specs.Texts.{Lookahead, token, LocatedToken, Shows}
+use Rattle.express_syntax.specs.Schemas.{Rule, DataType, data_type, enumeration, select, TypeDeclaration}
+use Rattle.express_syntax.specs.Written.{joined, words_of_names, words_of_underlying, words_of_rule, words_of_clause, words_of_type}
+use Rattle.express_syntax.specs.Profile.{Maybe, FitsRules, FitsUnderlying, FitsType}
+use Rattle.express_syntax.specs.Predict.{Symbol, Just, Say, Id, TypeEnd, Rules, DataTypeThen, semicolon, names_symbols, next, refused, is_keyword}
+use Rattle.express_syntax.specs.Predict as table
 use Rattle.express_parts.specs.DataTypeParts.{PassesDataType}
-use Rattle.express_schemas.specs.Steps.{StopsIn, Passes}
-use Rattle.express_schemas.proofs.Taking.{passes_as, passes_join, passes_more, passes_then, passes_token, passes_first, stops_behind, stops_first, passes_other, stops_as}
-use Rattle.express_schemas.proofs.Looking.{keyword_met, stops_refused}
+use Rattle.express_syntax.specs.Steps.{StopsIn, Passes}
+use Rattle.express_syntax.proofs.Taking.{passes_as, passes_join, passes_more, passes_then, passes_token, passes_first, stops_behind, stops_first, passes_other, stops_as}
+use Rattle.express_syntax.proofs.Looking.{keyword_met, stops_refused}
 
 -- names without a semicolon behind them
 pub last_names_open : (e : SyntaxFault) (names : List (List ℕ)) (old a : Reading) → Passes names_symbols [] []

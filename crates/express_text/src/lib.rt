@@ -8,7 +8,6 @@ mod schema;
 mod types;
 
 pub use express_lexis::literal;
-pub use express_schemas::{fault, passage, tree};
-pub use express_trees::tree as expression;
+pub use express_syntax::{expression, fault, passage, tree};
 pub use schema::read_schema;
 pub use step_literals::literal::{Decimal, Word};

@@ -15,24 +15,24 @@ ghost use Rattle.std.specs.Prelude.{
   MatchOption,
   MatchResult,
 };
-ghost use Rattle.predictive.specs.Tables.{lookaheads};
+ghost use Rattle.parsing.specs.Tables.{lookaheads};
 ghost use Rattle.express_lexis.specs.declared.marks.Mark.TheVariants as marks;
 ghost use Rattle.express_lexis.specs.Reading.{start, IsAtEnd};
-ghost use Rattle.express_trees.specs.declared.keyword.Keyword.TheVariants as keywords;
-ghost use Rattle.express_trees.specs.Words.{keyword, mark};
-ghost use Rattle.express_trees.specs.Grammar.{depth_limit};
-ghost use Rattle.express_schemas.specs.Schemas.{Schema};
-ghost use Rattle.express_schemas.specs.Views.{if_some, version_of, declaration_of};
-ghost use Rattle.express_schemas.specs.SchemaViews.{schema_of};
-ghost use Rattle.express_schemas.specs.Written.{joined, words_of_declaration, words_of_version};
-ghost use Rattle.express_schemas.specs.Profile.{
+ghost use Rattle.express_syntax.specs.declared.keyword.Keyword.TheVariants as keywords;
+ghost use Rattle.express_syntax.specs.Words.{keyword, mark};
+ghost use Rattle.express_syntax.specs.Grammar.{depth_limit};
+ghost use Rattle.express_syntax.specs.Schemas.{Schema};
+ghost use Rattle.express_syntax.specs.Views.{if_some, version_of, declaration_of};
+ghost use Rattle.express_syntax.specs.SchemaViews.{schema_of};
+ghost use Rattle.express_syntax.specs.Written.{joined, words_of_declaration, words_of_version};
+ghost use Rattle.express_syntax.specs.Profile.{
   Every,
   Maybe,
   IsVersion,
   FitsDeclaration,
   FitsSchema,
 };
-ghost use Rattle.express_schemas.specs.Texts.{
+ghost use Rattle.express_syntax.specs.Texts.{
   token,
   LocatedToken,
   ShowsAll,
@@ -41,10 +41,10 @@ ghost use Rattle.express_schemas.specs.Texts.{
   IsFaultOf,
   IsMemory,
 };
-ghost use Rattle.express_schemas.specs.Sources.{IsDeclarationOf, IsSchemaOf};
-ghost use Rattle.express_schemas.specs.Places.{IsDeclarationAt, AreDeclarationsAt, IsSchemaAt};
-ghost use Rattle.express_schemas.specs.Predict;
-ghost use Rattle.express_schemas.specs.Predict.{
+ghost use Rattle.express_syntax.specs.Sources.{IsDeclarationOf, IsSchemaOf};
+ghost use Rattle.express_syntax.specs.Places.{IsDeclarationAt, AreDeclarationsAt, IsSchemaAt};
+ghost use Rattle.express_syntax.specs.Predict;
+ghost use Rattle.express_syntax.specs.Predict.{
   Declarations,
   EndOfText,
   refused,
@@ -52,7 +52,7 @@ ghost use Rattle.express_schemas.specs.Predict.{
   schema_symbols,
 };
 ghost use Rattle.express_runs.specs.Items.{located_of};
-ghost use Rattle.express_schemas.specs.Steps.{Passes, ParsesWhere, StopsIn};
+ghost use Rattle.express_syntax.specs.Steps.{Passes, ParsesWhere, StopsIn};
 
 use crate::types::type_declaration;
 use express_entities::entities::entity;
@@ -61,10 +61,10 @@ use express_lexis::marks::Mark;
 use express_runs::reader::Reader;
 use express_runs::skipped::skipped;
 use express_runs::tokens::{Item, is_keyword, is_mark, refuse};
-use express_schemas::fault::{FaultKind, SchemaFault, SyntaxFault};
-use express_schemas::tree::{Declaration, SchemaTree, Version};
-use express_trees::keyword::Keyword;
-use express_trees::lexeme::Lexeme;
+use express_syntax::fault::{FaultKind, SchemaFault, SyntaxFault};
+use express_syntax::keyword::Keyword;
+use express_syntax::lexeme::Lexeme;
+use express_syntax::tree::{Declaration, SchemaTree, Version};
 use std::alloc::Global;
 
 /// The version that a token is.

@@ -2,19 +2,19 @@
 
 ghost use Rattle.std.specs.Prelude.{◌≡◌, [], ◌∷◌, ◌++◌, List, IfOk};
 ghost use Rattle.express_lexis.specs.declared.marks.Mark.TheVariants as marks;
-ghost use Rattle.express_trees.specs.declared.keyword.Keyword.TheVariants as keywords;
-ghost use Rattle.express_trees.specs.Words;
-ghost use Rattle.express_trees.specs.Words.{keyword, mark};
-ghost use Rattle.express_trees.specs.Grammar.{depth_limit};
-ghost use Rattle.express_schemas.specs.Views.{type_of, underlying_of, names_of, rules_of, if_some};
-ghost use Rattle.express_schemas.specs.Written.{
+ghost use Rattle.express_syntax.specs.declared.keyword.Keyword.TheVariants as keywords;
+ghost use Rattle.express_syntax.specs.Words;
+ghost use Rattle.express_syntax.specs.Words.{keyword, mark};
+ghost use Rattle.express_syntax.specs.Grammar.{depth_limit};
+ghost use Rattle.express_syntax.specs.Views.{type_of, underlying_of, names_of, rules_of, if_some};
+ghost use Rattle.express_syntax.specs.Written.{
   words_of_type,
   words_of_underlying,
   words_of_names,
   words_of_clause,
   words_of_rule,
 };
-ghost use Rattle.express_schemas.specs.Profile.{
+ghost use Rattle.express_syntax.specs.Profile.{
   Every,
   FitsType,
   FitsUnderlying,
@@ -22,10 +22,10 @@ ghost use Rattle.express_schemas.specs.Profile.{
   IsFilled,
   Maybe,
 };
-ghost use Rattle.express_schemas.specs.Sources.{IsUnderlyingOf, IsRuleOf, IsTypeOf};
-ghost use Rattle.express_schemas.specs.Predict;
-ghost use Rattle.express_schemas.specs.Predict.{Id, Just, TypeEnd, names_symbols};
-ghost use Rattle.express_schemas.specs.Steps.{ParsesWhere, ParsesBehind};
+ghost use Rattle.express_syntax.specs.Sources.{IsUnderlyingOf, IsRuleOf, IsTypeOf};
+ghost use Rattle.express_syntax.specs.Predict;
+ghost use Rattle.express_syntax.specs.Predict.{Id, Just, TypeEnd, names_symbols};
+ghost use Rattle.express_syntax.specs.Steps.{ParsesWhere, ParsesBehind};
 
 use express_lexis::marks::Mark;
 use express_parts::data_types::{Ending, data_type_from};
@@ -33,9 +33,9 @@ use express_parts::rules::rules;
 use express_runs::names::names;
 use express_runs::reader::Reader;
 use express_runs::tokens::{is_keyword, refuse};
-use express_schemas::fault::SyntaxFault;
-use express_schemas::tree::{Rule, TypeDeclaration, Underlying};
-use express_trees::keyword::Keyword;
+use express_syntax::fault::SyntaxFault;
+use express_syntax::keyword::Keyword;
+use express_syntax::tree::{Rule, TypeDeclaration, Underlying};
 use step_literals::literal::Word;
 
 /// Reads names in parentheses, and the semicolon behind them.

@@ -2,10 +2,10 @@
 use Rattle.std.proofs.Common.{arith}
 use Rattle.digraph.specs.Graphs.{Graph, IsGraph}
 use Rattle.digraph.proofs.Searching.{reached-within}
-use Rattle.express_schemas.specs.Schemas.{Schema}
+use Rattle.express_syntax.specs.Schemas.{Schema}
 use Rattle.schema_names.specs.Edges.{supertypes_in}
 use Rattle.schema_names.proofs.Edges.{is-graph}
-use Rattle.own_attributes.specs.Above.{AreAbove}
+use Rattle.schema_places.specs.Above.{AreAbove}
 
 pub above-graph : (s : Schema) (rows : Graph) → AreAbove s rows → IsGraph rows
 above-graph s rows h a b step =

@@ -2,26 +2,23 @@
 use Rattle.std.specs.Prelude.{◌≡◌, ◌<◌, ◌^◌, length, map}
 use Rattle.digraph.specs.Graphs.{Graph, graph_of}
 use Rattle.digraph.specs.Closures.{IsReversal}
-use Rattle.express_schemas.specs.Schemas.{Schema}
-use Rattle.express_schemas.specs.Profile.{Every}
-use Rattle.type_graphs.specs.Parts.{AreUnchecked}
+use Rattle.express_syntax.specs.Schemas.{Schema}
+use Rattle.express_syntax.specs.Profile.{Every}
+use Rattle.schema_semantics.specs.Parts.{AreUnchecked}
 use Rattle.schema_names.specs.Numbers.{AreRowsOf}
-use Rattle.data_types.specs.Numbered.{form_in, whole_types, all_data_types}
-use Rattle.data_types.specs.Values.{AreParts}
-use Rattle.alike_types.specs.Shaped.{AreShapes}
-use Rattle.attribute_origins.specs.Lines.{HaveLines}
-use Rattle.declared_attributes.specs.Declarations.{AreAttributes}
-use Rattle.enumeration_items.specs.Items.{AreItems}
-use Rattle.derivation_ranks.specs.Firsts.{AreFirsts}
-use Rattle.derivation_ranks.specs.Ranking.{AreRanksOf}
-use Rattle.unchecked_parts.specs.Adding.{unchecked_in}
-use Rattle.express_meanings.specs.DomainRules.{AreDomainRules}
-use Rattle.derivation_formulas.specs.Formulas.{AreFormulas}
-use Rattle.domain_rules.specs.Seen.{rule_seen, IsNumbered}
-use Rattle.conformance.specs.Bases.{Domain, IsDomain}
-use Rattle.population_rules.specs.Rules.{AreRules}
-use Rattle.rule_tables.specs.declared.tables.RuleTables.{RuleTables}
-use Rattle.rule_tables.specs.Seen.{rules_seen, AreNumbered}
+use Rattle.schema_data_types.specs.Numbered.{form_in, whole_types, all_data_types}
+use Rattle.schema_data_types.specs.Values.{AreParts}
+use Rattle.schema_data_types.specs.Shaped.{AreShapes}
+use Rattle.schema_places.specs.Lines.{HaveLines}
+use Rattle.schema_attributes.specs.Declarations.{AreAttributes}
+use Rattle.schema_data_types.specs.Items.{AreItems}
+use Rattle.schema_derivations.specs.Firsts.{AreFirsts}
+use Rattle.schema_derivations.specs.Ranking.{AreRanksOf}
+use Rattle.schema_parts.specs.Adding.{unchecked_in}
+use Rattle.conformance.specs.DomainRules.{AreDomainRules}
+use Rattle.schema_derivations.specs.Formulas.{AreFormulas}
+use Rattle.schema_conditions.specs.Seen.{rule_seen, IsNumbered}
+use Rattle.schema_rules.specs.Ruled.{AreRuleTables}
 use Rattle.express_types.specs.declared.judging.Types.{Types}
 use Rattle.express_types.specs.declared.judging.Meanings.{Meanings}
 use Rattle.express_types.specs.declared.judging.Judged.{Judged}
@@ -56,11 +53,6 @@ pub record AreDomainTables (s : Schema) (t : DomainTables) : Type 0 where
   pub formulas : AreFormulas s t.formulas.items
   pub rules : AreDomainRules s (map (rule_seen s) t.rules.items)
   pub numbered : Every (IsNumbered s) t.rules.items
-
--- These are its rules that speak of a whole population, and their numbers are those of its entities and attributes.
-pub record AreRuleTables (s : Schema) (t : RuleTables) : Type 0 where
-  pub rules : (d : Domain) → IsDomain s d → AreRules s d (rules_seen s t)
-  pub numbered : AreNumbered s t
 
 -- This is what is found of it.
 pub record AreFound (s : Schema) (t : Found) : Type 0 where

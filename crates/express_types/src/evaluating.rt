@@ -1,14 +1,14 @@
 //! What is evaluated of a schema: formulas and domain rules (ISO 10303-11, 9.2.1.2, 9.1 and 9.2.2.2).
 
 ghost use Rattle.std.specs.Prelude.{IfOk};
-ghost use Rattle.unchecked_list.specs.Findings.{AreFound, schema_found};
+ghost use Rattle.schema_unchecked.specs.Findings.{AreFound, schema_found};
 ghost use Rattle.express_types.specs.Judging.{AreDomainTables};
 
 use crate::judging::DomainTables;
-use derivation_formulas::table::formulas;
-use domain_rules::list::domain_rules;
+use schema_conditions::list::domain_rules;
+use schema_derivations::formula_table::formulas;
+use schema_unchecked::findings::Findings;
 use std::alloc::{AllocError, Global};
-use unchecked_list::findings::Findings;
 
 /// How the derived attributes of a schema are computed, and its domain rules that are checked, by
 /// what is found of it.

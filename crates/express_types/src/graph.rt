@@ -1,23 +1,24 @@
 //! What a schema says of its types.
 
 ghost use Rattle.std.specs.Prelude.{◌≡◌, ◌<◌, Some, length, slice_get};
-ghost use Rattle.express_trees.specs.Views.{capitals};
-ghost use Rattle.express_schemas.specs.SchemaViews.{schema_of};
-ghost use Rattle.type_graphs.specs.Parts.{AreUnchecked};
+ghost use Rattle.express_syntax.specs.ExpressionViews.{capitals};
+ghost use Rattle.express_syntax.specs.SchemaViews.{schema_of};
+ghost use Rattle.schema_semantics.specs.Parts.{AreUnchecked};
 ghost use Rattle.schema_names.specs.Numbers.{number_of};
-ghost use Rattle.attribute_places.specs.Places.{all_places};
-ghost use Rattle.unchecked_parts.specs.Adding.{unchecked_in};
-ghost use Rattle.derivation_ranks.specs.Ranking.{IsRankOf};
-ghost use Rattle.resolved_types.specs.Graphs.{AreSupers, IsKind, ArePlacesOf, place_of};
-ghost use Rattle.express_types.specs.Judging.{IsJudged, AreDomainTables, AreRuleTables};
+ghost use Rattle.schema_places.specs.Places.{all_places};
+ghost use Rattle.schema_parts.specs.Adding.{unchecked_in};
+ghost use Rattle.schema_derivations.specs.Ranking.{IsRankOf};
+ghost use Rattle.schema_types.specs.Graphs.{AreSupers, IsKind, ArePlacesOf, place_of};
+ghost use Rattle.express_types.specs.Judging.{IsJudged, AreDomainTables};
+ghost use Rattle.schema_rules.specs.Ruled.{AreRuleTables};
 
 use crate::judging::{DomainTables, Judged};
-use attribute_places::attributes::Place;
-use derivation_ranks::asked::rank_at;
-use resolved_types::types::ResolvedTypes;
-use rule_tables::tables::RuleTables;
+use schema_derivations::asked_ranks::rank_at;
+use schema_parts::list::Unchecked;
+use schema_places::attributes::Place;
+use schema_rules::tables::RuleTables;
+use schema_types::types::ResolvedTypes;
 use step_literals::literal::Word;
-use unchecked_parts::list::Unchecked;
 
 /// What a schema says of its types, where its names are resolved.
 ///

@@ -3,15 +3,15 @@
 
 ghost use Rattle.std.specs.Prelude.{◌≡◌, IfOk, length};
 ghost use Rattle.digraph.specs.Graphs.{graph_of};
-ghost use Rattle.express_schemas.specs.SchemaViews.{schema_of};
-ghost use Rattle.type_graphs.specs.Faults.{IsResolved};
-ghost use Rattle.own_attributes.specs.Above.{AreAbove};
-ghost use Rattle.attribute_places.specs.Places.{places_of, all_places, AreRows};
-ghost use Rattle.resolved_types.specs.Made.{IsMade};
-ghost use Rattle.taken_attributes.specs.Taking.{IsKnown, schema_in};
-ghost use Rattle.enumeration_items.specs.Items.{AreItems};
-ghost use Rattle.attribute_origins.specs.Lines.{HaveLines};
-ghost use Rattle.alike_types.specs.Shaped.{AreShapes};
+ghost use Rattle.express_syntax.specs.SchemaViews.{schema_of};
+ghost use Rattle.schema_semantics.specs.Faults.{IsResolved};
+ghost use Rattle.schema_places.specs.Above.{AreAbove};
+ghost use Rattle.schema_places.specs.Places.{places_of, all_places, AreRows};
+ghost use Rattle.schema_types.specs.Made.{IsMade};
+ghost use Rattle.schema_references.specs.Taking.{IsKnown, schema_in};
+ghost use Rattle.schema_data_types.specs.Items.{AreItems};
+ghost use Rattle.schema_places.specs.Lines.{HaveLines};
+ghost use Rattle.schema_data_types.specs.Shaped.{AreShapes};
 ghost use Rattle.express_types.specs.Judging.{
   AreTypes,
   AreMeanings,
@@ -22,29 +22,29 @@ ghost use Rattle.express_types.specs.Judging.{
 
 use crate::evaluating::domain_by;
 use crate::ruling::rules_by;
-use alike_types::table::shapes;
-use attribute_origins::lines::lines;
-use attribute_places::places::AttributePlaces;
-use body_reasons::derivations::{derivation_ranks, judge_derivations};
-use data_types::forms::{DataTypes, data_types};
-use data_types::values::Tables;
-use declared_attributes::attributes::Attributes;
-use derivation_formulas::formula::Formula;
-use derivation_ranks::asked::first_derivations;
 use digraph::closures::{closure, reversal};
-use domain_rules::rule::DomainRule;
-use enumeration_items::items::Items;
-use resolved_types::types::ResolvedTypes;
-use rule_tables::tables::RuleTables;
+use schema_attributes::attributes::Attributes;
+use schema_conditions::rule::DomainRule;
+use schema_data_types::forms::{DataTypes, data_types};
+use schema_data_types::items::Items;
+use schema_data_types::shape_table::shapes;
+use schema_data_types::shapes::Shape;
+use schema_data_types::values::Tables;
+use schema_derivations::asked_ranks::first_derivations;
+use schema_derivations::formula::Formula;
 use schema_names::graphs::{part_graph, supertype_graph};
 use schema_names::names::Names;
+use schema_parts::list::Unchecked;
+use schema_places::lines::lines;
+use schema_places::places::AttributePlaces;
+use schema_references::known::Known;
+use schema_rules::tables::RuleTables;
+use schema_types::types::ResolvedTypes;
+use schema_unchecked::derivations::{derivation_ranks, judge_derivations};
+use schema_unchecked::findings::Findings;
+use schema_unchecked::list::unchecked_parts;
 use std::alloc::{AllocError, Global};
 use std::hash::RandomState;
-use taken_attributes::known::Known;
-use type_shapes::shapes::Shape;
-use unchecked_list::findings::Findings;
-use unchecked_list::list::unchecked_parts;
-use unchecked_parts::list::Unchecked;
 
 /// The data types of a schema by number, all that defined types are made of, and the shapes of data
 /// types.

@@ -2,19 +2,20 @@
 //! and 10).
 
 ghost use Rattle.std.specs.Prelude.{◌≡◌, IfOk, MatchResult};
-ghost use Rattle.express_schemas.specs.SchemaViews.{schema_of};
-ghost use Rattle.type_graphs.specs.Faults.{IsResolved};
-ghost use Rattle.derivation_ranks.specs.Firsts.{AreFirsts};
-ghost use Rattle.resolved_types.specs.Made.{IsMade};
-ghost use Rattle.resolved_types.specs.Resolving.{IsNameFault};
-ghost use Rattle.express_types.specs.Judging.{AreDomainTables, AreRuleTables};
+ghost use Rattle.express_syntax.specs.SchemaViews.{schema_of};
+ghost use Rattle.schema_semantics.specs.Faults.{IsResolved};
+ghost use Rattle.schema_derivations.specs.Firsts.{AreFirsts};
+ghost use Rattle.schema_types.specs.Made.{IsMade};
+ghost use Rattle.schema_types.specs.Resolving.{IsNameFault};
+ghost use Rattle.express_types.specs.Judging.{AreDomainTables};
+ghost use Rattle.schema_rules.specs.Ruled.{AreRuleTables};
 
 use crate::graph::TypeGraph;
 use crate::judging::{Found, judge};
-use express_schemas::fault::SchemaFault;
-use express_schemas::tree::SchemaTree;
-use resolved_types::resolving::resolve_types;
-use resolved_types::types::ResolvedTypes;
+use express_syntax::fault::SchemaFault;
+use express_syntax::tree::SchemaTree;
+use schema_types::resolving::resolve_types;
+use schema_types::types::ResolvedTypes;
 use std::alloc::{AllocError, Global};
 use std::hash::RandomState;
 

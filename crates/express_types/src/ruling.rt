@@ -2,16 +2,16 @@
 
 ghost use Rattle.std.specs.Prelude.{◌≡◌, IfOk, length};
 ghost use Rattle.digraph.specs.Graphs.{graph_of};
-ghost use Rattle.attribute_places.specs.Places.{places_of, all_places, AreRows};
-ghost use Rattle.attribute_origins.specs.Lines.{HaveLines};
-ghost use Rattle.taken_attributes.specs.Taking.{IsKnown, schema_in};
-ghost use Rattle.express_types.specs.Judging.{AreRuleTables};
+ghost use Rattle.schema_places.specs.Places.{places_of, all_places, AreRows};
+ghost use Rattle.schema_places.specs.Lines.{HaveLines};
+ghost use Rattle.schema_references.specs.Taking.{IsKnown, schema_in};
+ghost use Rattle.schema_rules.specs.Ruled.{AreRuleTables};
 
-use attribute_places::places::AttributePlaces;
-use rule_tables::sources::Sources;
-use rule_tables::tables::{RuleTables, rule_tables};
+use schema_places::places::AttributePlaces;
+use schema_references::known::Known;
+use schema_rules::sources::Sources;
+use schema_rules::tables::{RuleTables, rule_tables};
 use std::alloc::{AllocError, Global};
-use taken_attributes::known::Known;
 
 /// The uniqueness rules and the inverse attributes of a schema, by what is known of it.
 pub(crate) fn rules_by<'r, 't, 'a>(

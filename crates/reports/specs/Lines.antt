@@ -1,20 +1,20 @@
 -- The lines of a report.
 use Rattle.std.specs.Prelude.{ℕ, ◌+◌, List, [], ◌∷◌, ◌++◌, length, flat_map, codes, decimal}
 use Rattle.std.specs.String.{string_bytes}
-use Rattle.type_graphs.specs.declared.unchecked.PartKind.{PartKind}
-use Rattle.type_graphs.specs.declared.unchecked.PartKind.TheVariants as parts
-use Rattle.type_graphs.specs.declared.unchecked.Reason.{Reason}
-use Rattle.type_graphs.specs.declared.unchecked.Reason.TheVariants as reasons
-use Rattle.unchecked_parts.specs.declared.list.Unchecked.{Unchecked}
-use Rattle.unchecked_parts.specs.Adding.{said}
+use Rattle.schema_semantics.specs.declared.unchecked.PartKind.{PartKind}
+use Rattle.schema_semantics.specs.declared.unchecked.PartKind.TheVariants as parts
+use Rattle.schema_semantics.specs.declared.unchecked.Reason.{Reason}
+use Rattle.schema_semantics.specs.declared.unchecked.Reason.TheVariants as reasons
+use Rattle.schema_parts.specs.declared.list.Unchecked.{Unchecked}
+use Rattle.schema_parts.specs.Adding.{said}
 use Rattle.conformance.specs.declared.finding.FindingKind.{FindingKind}
 use Rattle.conformance.specs.declared.finding.FindingKind.TheVariants as findings
 use Rattle.conformance.specs.declared.finding.Finding.{Finding}
 use Rattle.conformance.specs.declared.finding.Spot.{Spot}
 use Rattle.conformance.specs.declared.finding.Spot.TheVariants.{Place, Nothing}
-use Rattle.rule_findings.specs.declared.finding.RuleFindingKind.{RuleFindingKind}
-use Rattle.rule_findings.specs.declared.finding.RuleFindingKind.TheVariants as breaches
-use Rattle.rule_findings.specs.declared.finding.RuleFinding.{RuleFinding}
+use Rattle.schema_rules.specs.declared.finding.RuleFindingKind.{RuleFindingKind}
+use Rattle.schema_rules.specs.declared.finding.RuleFindingKind.TheVariants as breaches
+use Rattle.schema_rules.specs.declared.finding.RuleFinding.{RuleFinding}
 use Rattle.reports.specs.declared.report.Report.{Report}
 
 abbrev pub part_text : PartKind → List ℕ

@@ -1,14 +1,14 @@
 -- The line of a schema's fault.
 use Rattle.std.specs.Prelude.{ℕ, List, [], ◌∷◌, ◌++◌, codes, decimal}
 use Rattle.std.specs.String.{string_bytes}
-use Rattle.express_schemas.specs.declared.fault.LeftOut.{LeftOut}
-use Rattle.express_schemas.specs.declared.fault.LeftOut.TheVariants as parts
-use Rattle.express_schemas.specs.declared.fault.FaultKind.{FaultKind}
-use Rattle.express_schemas.specs.declared.fault.FaultKind.TheVariants as kinds
-use Rattle.express_schemas.specs.declared.fault.NameFault.{NameFault}
-use Rattle.express_schemas.specs.declared.fault.NameFault.TheVariants as names
-use Rattle.express_schemas.specs.declared.fault.SchemaFault.{SchemaFault}
-use Rattle.express_schemas.specs.declared.fault.SchemaFault.TheVariants as faults
+use Rattle.express_syntax.specs.declared.fault.LeftOut.{LeftOut}
+use Rattle.express_syntax.specs.declared.fault.LeftOut.TheVariants as parts
+use Rattle.express_syntax.specs.declared.fault.FaultKind.{FaultKind}
+use Rattle.express_syntax.specs.declared.fault.FaultKind.TheVariants as kinds
+use Rattle.express_syntax.specs.declared.fault.NameFault.{NameFault}
+use Rattle.express_syntax.specs.declared.fault.NameFault.TheVariants as names
+use Rattle.express_syntax.specs.declared.fault.SchemaFault.{SchemaFault}
+use Rattle.express_syntax.specs.declared.fault.SchemaFault.TheVariants as faults
 
 abbrev pub left_out_text : LeftOut → List ℕ
 left_out_text parts.Use = codes "S8 LeftOut Use"

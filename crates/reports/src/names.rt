@@ -2,13 +2,13 @@
 
 ghost use Rattle.std.specs.Prelude.{decimal};
 ghost use Rattle.devices.specs.Prints.{Prints};
-ghost use Rattle.express_trees.specs.Views.{capitals};
-ghost use Rattle.unchecked_parts.specs.Adding.{said};
+ghost use Rattle.express_syntax.specs.ExpressionViews.{capitals};
+ghost use Rattle.schema_parts.specs.Adding.{said};
 
 use devices::device::Sink;
 use devices::printer::Printer;
+use schema_parts::list::Label;
 use step_literals::literal::Word;
-use unchecked_parts::list::Label;
 
 /// A number.
 pub fn print_number<S: Sink>(printer: &mut Printer, out: &mut S, number: u64)

@@ -18,8 +18,8 @@ use crate::words::{finding_name, part_name, reason_name, rule_finding_name};
 use conformance::finding::{Finding, Spot};
 use devices::device::{Sink, WriteFault};
 use devices::printer::Printer;
-use rule_findings::finding::RuleFinding;
-use unchecked_parts::list::Unchecked;
+use schema_parts::list::Unchecked;
+use schema_rules::finding::RuleFinding;
 
 // The line of a part that isn't checked.
 fn print_unchecked<S: Sink>(printer: &mut Printer, out: &mut S, part: &Unchecked)

@@ -1,8 +1,8 @@
 //! What is said of a file.
 
 use conformance::finding::Finding;
-use rule_findings::finding::RuleFinding;
-use unchecked_parts::list::Unchecked;
+use schema_parts::list::Unchecked;
+use schema_rules::finding::RuleFinding;
 
 /// What is said of a file that is checked against a schema.
 #[derive(Drop)]

@@ -14,7 +14,7 @@ ghost use Rattle.reports.specs.SchemaLines.{
 
 use devices::device::{Sink, WriteFault};
 use devices::printer::Printer;
-use express_schemas::fault::{FaultKind, LeftOut, NameFault, SchemaFault};
+use express_syntax::fault::{FaultKind, LeftOut, NameFault, SchemaFault};
 
 /// The number of a part that is left out, and its name.
 pub fn left_out_name(part: LeftOut) -> &'static str

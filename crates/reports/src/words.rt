@@ -4,8 +4,8 @@ ghost use Rattle.std.specs.Prelude.{◌≡◌};
 ghost use Rattle.reports.specs.Lines.{finding_text, part_text, reason_text, rule_finding_text};
 
 use conformance::finding::FindingKind;
-use rule_findings::finding::RuleFindingKind;
-use type_graphs::unchecked::{PartKind, Reason};
+use schema_rules::finding::RuleFindingKind;
+use schema_semantics::unchecked::{PartKind, Reason};
 
 /// The word for a part of a schema.
 pub fn part_name(kind: PartKind) -> &'static str

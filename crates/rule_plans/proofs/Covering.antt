@@ -3,17 +3,17 @@ use Rattle.std.specs.Prelude.{◌≡◌, ℕ, Bool, true, false, ◌||◌, List,
 use Rattle.std.specs.List.{list_any}
 use Rattle.std.proofs.Common.{refl, ap, ◌∙◌}
 use Rattle.schema_names.specs.Numbers.{HasNumber}
-use Rattle.base_types.specs.Seen.{name_at}
+use Rattle.schema_bases.specs.Seen.{name_at}
 use Rattle.conformance.specs.Populations.{Instance}
-use Rattle.instance_forms.proofs.Naming.{same-test}
-use Rattle.domain_rules.specs.declared.rule.RuleHolder.{RuleHolder}
-use Rattle.domain_rules.specs.declared.rule.RuleHolder.TheVariants as holders
-use Rattle.domain_rules.specs.declared.rule.DomainRule.{DomainRule}
-use Rattle.express_settings.specs.declared.setting.Setting.{Setting}
-use Rattle.express_settings.specs.Settings.{Meant, schema_in}
-use Rattle.self_values.specs.Coded.{is_wanted}
-use Rattle.self_values.specs.Seeking.{Tells}
-use Rattle.self_values.specs.Speaking.{is_of, TypesTell}
+use Rattle.population_layouts.proofs.Naming.{same-test}
+use Rattle.schema_conditions.specs.declared.rule.RuleHolder.{RuleHolder}
+use Rattle.schema_conditions.specs.declared.rule.RuleHolder.TheVariants as holders
+use Rattle.schema_conditions.specs.declared.rule.DomainRule.{DomainRule}
+use Rattle.rule_settings.specs.declared.setting.Setting.{Setting}
+use Rattle.rule_settings.specs.Settings.{Meant, schema_in}
+use Rattle.rule_plans.specs.Coded.{is_wanted}
+use Rattle.rule_plans.specs.Seeking.{Tells}
+use Rattle.rule_plans.specs.Speaking.{is_of, TypesTell}
 use Rattle.rule_plans.specs.Wanted.{is_type, is_type_rule, IsTableFor, IsTableOf, AreTablesOf, in_any}
 use Rattle.rule_plans.specs.Planning.{Tell, TellAll}
 

@@ -2,8 +2,8 @@
 use Rattle.std.specs.Prelude.{◌≡◌, ℕ, ◌≤◌, max, List, [], ◌∷◌, ◌++◌, Option}
 use Rattle.std.proofs.Common.{sym, subst, arith}
 use Rattle.std.proofs.lemmas.Bool.Decides.{nat_tests}
-use Rattle.express_schemas.proofs.Lists.{every_push}
-use Rattle.derivation_formulas.specs.declared.formula.Formula.{Formula}
+use Rattle.express_syntax.proofs.Lists.{every_push}
+use Rattle.schema_derivations.specs.declared.formula.Formula.{Formula}
 use Rattle.rule_plans.specs.Limits.{above_rank, IsLimit}
 
 limit-weaker : (fs : List (Option Formula)) (m n : ℕ) → m ≤ n → IsLimit fs m → IsLimit fs n

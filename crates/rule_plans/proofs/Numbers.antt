@@ -1,11 +1,11 @@
 -- The numbers of the rules that are tried at instances of a form.
 use Rattle.std.specs.Prelude.{◌≡◌, ℕ, zero, suc, ◌+◌, ◌<◌, Bool, true, false, cond, List, [], ◌∷◌, map, length, Option, None, Some}
 use Rattle.std.proofs.Common.{sym, ap, ◌∙◌, drop, get_or, add-one, arith}
-use Rattle.express_schemas.specs.Profile.{Every}
-use Rattle.row_forms.specs.declared.form.Form.{Form}
-use Rattle.step_population.proofs.Turns.{drop-got}
+use Rattle.express_syntax.specs.Profile.{Every}
+use Rattle.population_rows.specs.declared.form.Form.{Form}
+use Rattle.population_typed.proofs.Turns.{drop-got}
 use Rattle.step_extent.specs.Inverses.{row_by}
-use Rattle.domain_rules.specs.declared.rule.DomainRule.{DomainRule}
+use Rattle.schema_conditions.specs.declared.rule.DomainRule.{DomainRule}
 use Rattle.rule_plans.specs.Applying.{may_apply, numbers_by}
 
 -- the numbers are within the list

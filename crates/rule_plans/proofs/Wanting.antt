@@ -4,11 +4,11 @@ use Rattle.std.specs.List.{list_any}
 use Rattle.std.proofs.Common.{refl, sym, ap, subst, ◌∙◌, arith}
 use Rattle.std.proofs.lemmas.Bool.Decides.{nat_tests}
 use Rattle.std.proofs.lemmas.List.Folds.{list_any-append}
-use Rattle.attribute_uses.proofs.Going.{take-at}
+use Rattle.schema_uses.proofs.Going.{take-at}
 use Rattle.digraph.specs.Graphs.{has}
-use Rattle.express_schemas.specs.Schemas.{Schema}
-use Rattle.domain_rules.specs.declared.rule.DomainRule.{DomainRule}
-use Rattle.self_values.specs.Coded.{is_wanted}
+use Rattle.express_syntax.specs.Schemas.{Schema}
+use Rattle.schema_conditions.specs.declared.rule.DomainRule.{DomainRule}
+use Rattle.rule_plans.specs.Coded.{is_wanted}
 use Rattle.rule_plans.specs.Wanted.{IsTableOf, AreTablesOf, in_any, table_by}
 
 wanted-before : (ws : List Bool) (b : Bool) (i : ℕ) → i < length ws → is_wanted (ws ++ b ∷ []) i ≡ is_wanted ws i

@@ -1,10 +1,10 @@
 -- Which rules may have a value of SELF at instances of a form.
 use Rattle.std.specs.Prelude.{ℕ, suc, Bool, true, cond, List, [], ◌∷◌}
 use Rattle.digraph.specs.Graphs.{has}
-use Rattle.row_forms.specs.declared.form.Form.{Form}
-use Rattle.domain_rules.specs.declared.rule.RuleHolder.{RuleHolder}
-use Rattle.domain_rules.specs.declared.rule.RuleHolder.TheVariants as holders
-use Rattle.domain_rules.specs.declared.rule.DomainRule.{DomainRule}
+use Rattle.population_rows.specs.declared.form.Form.{Form}
+use Rattle.schema_conditions.specs.declared.rule.RuleHolder.{RuleHolder}
+use Rattle.schema_conditions.specs.declared.rule.RuleHolder.TheVariants as holders
+use Rattle.schema_conditions.specs.declared.rule.DomainRule.{DomainRule}
 
 abbrev pub may_hold : Form → RuleHolder → Bool
 may_hold x (holders.Entity i) = has x.types.items i

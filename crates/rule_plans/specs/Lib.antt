@@ -1,3 +1,8 @@
+pub mod Coded
+pub mod Flat
+pub mod Seeking
+pub mod Speaking
+pub mod Unsought
 pub mod Limits
 pub mod Applying
 pub mod Wanted

@@ -1,7 +1,7 @@
 -- Ranks above those of derived attributes.
 use Rattle.std.specs.Prelude.{ℕ, suc, ◌≤◌, List, Option, Some, None}
-use Rattle.express_schemas.specs.Profile.{Every}
-use Rattle.derivation_formulas.specs.declared.formula.Formula.{Formula}
+use Rattle.express_syntax.specs.Profile.{Every}
+use Rattle.schema_derivations.specs.declared.formula.Formula.{Formula}
 
 -- one more than the rank
 abbrev pub above_rank : Option Formula → ℕ

@@ -2,18 +2,18 @@
 use Rattle.std.specs.Prelude.{◌≡◌, ⊤, ℕ, Bool, true, false, List, [], map, length}
 use Rattle.std.specs.List.{list_any}
 use Rattle.digraph.specs.Graphs.{has}
-use Rattle.express_schemas.specs.Profile.{Every}
-use Rattle.base_types.specs.Seen.{name_at}
+use Rattle.express_syntax.specs.Profile.{Every}
+use Rattle.schema_bases.specs.Seen.{name_at}
 use Rattle.conformance.specs.Populations.{Instance}
-use Rattle.domain_rules.specs.declared.rule.RuleHolder.{RuleHolder}
-use Rattle.domain_rules.specs.declared.rule.RuleHolder.TheVariants as holders
-use Rattle.domain_rules.specs.declared.rule.DomainRule.{DomainRule}
-use Rattle.domain_rules.specs.Seen.{IsNumbered}
-use Rattle.express_settings.specs.declared.setting.Setting.{Setting}
-use Rattle.express_settings.specs.Settings.{Meant, schema_in}
-use Rattle.self_values.specs.Seeking.{Agrees}
-use Rattle.self_values.specs.Speaking.{is_of, values_of}
-use Rattle.self_values.specs.Unsought.{forms_in, AreTables}
+use Rattle.schema_conditions.specs.declared.rule.RuleHolder.{RuleHolder}
+use Rattle.schema_conditions.specs.declared.rule.RuleHolder.TheVariants as holders
+use Rattle.schema_conditions.specs.declared.rule.DomainRule.{DomainRule}
+use Rattle.schema_conditions.specs.Seen.{IsNumbered}
+use Rattle.rule_settings.specs.declared.setting.Setting.{Setting}
+use Rattle.rule_settings.specs.Settings.{Meant, schema_in}
+use Rattle.rule_plans.specs.Seeking.{Agrees}
+use Rattle.rule_plans.specs.Speaking.{is_of, values_of}
+use Rattle.rule_plans.specs.Unsought.{forms_in, AreTables}
 use Rattle.rule_plans.specs.declared.plan.Plan.{Plan}
 use Rattle.rule_plans.specs.Applying.{numbers_by}
 use Rattle.rule_plans.specs.Wanted.{is_type_rule, AreTablesOf, IsUnion}

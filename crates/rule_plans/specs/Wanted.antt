@@ -1,14 +1,14 @@
 -- For the values of which defined types rules are tried.
 use Rattle.std.specs.Prelude.{◌≡◌, ℕ, ◌<◌, Bool, true, false, List, [], map, Option, None, Some, slice_get, ◌↔◌, IsTrue}
 use Rattle.std.specs.List.{list_any, AllZip}
-use Rattle.express_schemas.specs.Schemas.{Schema, named}
-use Rattle.type_graphs.specs.Names.{IsOrLeads, Renames}
+use Rattle.express_syntax.specs.Schemas.{Schema, named}
+use Rattle.schema_semantics.specs.Names.{IsOrLeads, Renames}
 use Rattle.schema_names.specs.Numbers.{HasNumber}
-use Rattle.base_types.specs.Seen.{name_at}
-use Rattle.domain_rules.specs.declared.rule.RuleHolder.{RuleHolder}
-use Rattle.domain_rules.specs.declared.rule.RuleHolder.TheVariants as holders
-use Rattle.domain_rules.specs.declared.rule.DomainRule.{DomainRule}
-use Rattle.self_values.specs.Coded.{is_wanted}
+use Rattle.schema_bases.specs.Seen.{name_at}
+use Rattle.schema_conditions.specs.declared.rule.RuleHolder.{RuleHolder}
+use Rattle.schema_conditions.specs.declared.rule.RuleHolder.TheVariants as holders
+use Rattle.schema_conditions.specs.declared.rule.DomainRule.{DomainRule}
+use Rattle.rule_plans.specs.Coded.{is_wanted}
 
 abbrev pub is_type : RuleHolder → Bool
 is_type (holders.Entity i) = false

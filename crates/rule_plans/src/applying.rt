@@ -3,8 +3,8 @@
 ghost use Rattle.std.specs.Prelude.{◌≡◌, map, IfOk};
 ghost use Rattle.rule_plans.specs.Applying.{may_apply, numbers_by};
 
-use domain_rules::rule::{DomainRule, RuleHolder};
-use row_forms::form::Form;
+use population_rows::form::Form;
+use schema_conditions::rule::{DomainRule, RuleHolder};
 use std::alloc::{AllocError, Global};
 
 /// Whether a rule may have a value of SELF at an instance of this form.

@@ -1,7 +1,15 @@
-//! What is made once of the domain rules of a schema, to try them at the instances of a population.
+//! What is made once of the domain rules of a schema, and the values of SELF for which they are tried
+//! (ISO 10303-11, 9.1 and 9.2.2.2).
 #![tactic(auto)]
 
 mod applying;
+mod flat;
+mod found;
 pub mod limit;
 pub mod plan;
+mod sought;
+pub mod sought_types;
+mod typed_values;
+pub mod unsought;
+pub mod values;
 pub mod wanted;

@@ -3,7 +3,7 @@
 ghost use Rattle.std.specs.Prelude.{◌≡◌, ◌≤◌, max};
 ghost use Rattle.rule_plans.specs.Limits.{above_rank, IsLimit};
 
-use derivation_formulas::formula::Formula;
+use schema_derivations::formula::Formula;
 
 /// The greater of a rank and the one above that of a formula.
 fn raised(limit: u64, formula: Option<Formula<'_, '_>>) -> u64

@@ -1,19 +1,19 @@
 //! What is made once, to try rules at the instances of a population.
 
 ghost use Rattle.std.specs.Prelude.{◌≡◌, ◌<◌, true, Some, length, slice_get, IfOk};
-ghost use Rattle.express_schemas.specs.Profile.{Every};
+ghost use Rattle.express_syntax.specs.Profile.{Every};
 ghost use Rattle.conformance.specs.Populations.{Instance};
-ghost use Rattle.domain_rules.specs.Seen.{IsNumbered};
-ghost use Rattle.express_settings.specs.Settings.{IsSetting, Meant, schema_in, population_in};
-ghost use Rattle.self_values.specs.Unsought.{AreTables};
+ghost use Rattle.schema_conditions.specs.Seen.{IsNumbered};
+ghost use Rattle.rule_settings.specs.Settings.{IsSetting, Meant, schema_in, population_in};
+ghost use Rattle.rule_plans.specs.Unsought.{AreTables};
 ghost use Rattle.rule_plans.specs.Planning.{IsPlan, TellAll};
 
 use crate::applying::numbers_by_form;
+use crate::unsought::{Unsought, unsought_by_form};
+use crate::values::value_types;
 use crate::wanted::{has_type_rule, tables_of, union_of};
-use domain_rules::rule::DomainRule;
-use express_settings::setting::Setting;
-use self_values::unsought::{Unsought, unsought_by_form};
-use self_values::values::value_types;
+use rule_settings::setting::Setting;
+use schema_conditions::rule::DomainRule;
 use std::alloc::{AllocError, Global};
 
 /// The rules that are tried, and where.

@@ -2,13 +2,13 @@
 
 ghost use Rattle.std.specs.Prelude.{◌≡◌, length, map, IfOk};
 ghost use Rattle.std.specs.List.{list_any};
-ghost use Rattle.express_schemas.specs.Profile.{Every};
-ghost use Rattle.express_schemas.specs.SchemaViews.{schema_of};
-ghost use Rattle.type_graphs.specs.Faults.{IsResolved};
-ghost use Rattle.domain_rules.specs.Seen.{IsNumbered, IsNumberedHolder};
+ghost use Rattle.express_syntax.specs.Profile.{Every};
+ghost use Rattle.express_syntax.specs.SchemaViews.{schema_of};
+ghost use Rattle.schema_semantics.specs.Faults.{IsResolved};
+ghost use Rattle.schema_conditions.specs.Seen.{IsNumbered, IsNumberedHolder};
 ghost use Rattle.schema_names.specs.Numbers.{HasNumber};
-ghost use Rattle.base_types.specs.Seen.{name_at};
-ghost use Rattle.self_values.specs.Coded.{is_wanted};
+ghost use Rattle.schema_bases.specs.Seen.{name_at};
+ghost use Rattle.rule_plans.specs.Coded.{is_wanted};
 ghost use Rattle.rule_plans.specs.Wanted.{
   is_type_rule,
   IsTableFor,
@@ -19,10 +19,10 @@ ghost use Rattle.rule_plans.specs.Wanted.{
   table_by,
 };
 
-use attribute_sources::defined::is_defined_by;
-use domain_rules::rule::{DomainRule, RuleHolder};
+use crate::sought_types::is_wanted;
+use schema_conditions::rule::{DomainRule, RuleHolder};
 use schema_names::names::Names;
-use self_values::wanted::is_wanted;
+use schema_sources::defined::is_defined_by;
 use std::alloc::{AllocError, Global};
 
 /// Whether a defined type states a rule.

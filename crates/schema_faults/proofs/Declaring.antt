@@ -3,18 +3,18 @@ use Rattle.std.specs.Prelude.{◌≡◌, ℕ, ◌+◌, ◌<◌, ◌≤◌, List,
 use Rattle.std.proofs.Common.{refl, ap, sym, subst, ◌∙◌, arith}
 use Rattle.std.proofs.lemmas.List.{append_assoc, append-nil, flat_map_more, length-map, length-take-le, take_all}
 use Rattle.step_literals.specs.declared.literal.Word.{Word}
-use Rattle.express_trees.specs.Views.{capitals}
-use Rattle.express_schemas.specs.Schemas as trees
-use Rattle.express_schemas.specs.Views.{names_of, attribute_of, attributes_of, explicit_of, derived_of, inverse_of, entity_of}
-use Rattle.express_schemas.specs.declared.fault.NameFault.TheVariants.{DuplicateName}
-use Rattle.express_schemas.specs.declared.tree.Attribute.{Attribute}
-use Rattle.express_schemas.specs.declared.tree.Attribute.TheVariants.{Unqualified, Redeclared}
-use Rattle.express_schemas.specs.declared.tree.Explicit.{Explicit}
-use Rattle.express_schemas.specs.declared.tree.Derived.{Derived}
-use Rattle.express_schemas.specs.declared.tree.Inverse.{Inverse}
-use Rattle.express_schemas.specs.declared.tree.Entity.{Entity}
-use Rattle.type_graphs.specs.Names.{Name, own_names, explicit_names, derived_names, inverse_names, attribute_names}
-use Rattle.type_graphs.specs.Faults.{Declared, in_scope, declared_from, declared}
+use Rattle.express_syntax.specs.ExpressionViews.{capitals}
+use Rattle.express_syntax.specs.Schemas as trees
+use Rattle.express_syntax.specs.Views.{names_of, attribute_of, attributes_of, explicit_of, derived_of, inverse_of, entity_of}
+use Rattle.express_syntax.specs.declared.fault.NameFault.TheVariants.{DuplicateName}
+use Rattle.express_syntax.specs.declared.tree.Attribute.{Attribute}
+use Rattle.express_syntax.specs.declared.tree.Attribute.TheVariants.{Unqualified, Redeclared}
+use Rattle.express_syntax.specs.declared.tree.Explicit.{Explicit}
+use Rattle.express_syntax.specs.declared.tree.Derived.{Derived}
+use Rattle.express_syntax.specs.declared.tree.Inverse.{Inverse}
+use Rattle.express_syntax.specs.declared.tree.Entity.{Entity}
+use Rattle.schema_semantics.specs.Names.{Name, own_names, explicit_names, derived_names, inverse_names, attribute_names}
+use Rattle.schema_semantics.specs.Faults.{Declared, in_scope, declared_from, declared}
 use Rattle.schema_names.proofs.Rows.{map-joined, take-more}
 use Rattle.schema_names.proofs.Clauses.{clause-listed}
 use Rattle.schema_faults.specs.Shown.{IsShown}

@@ -3,8 +3,8 @@ use Rattle.std.specs.Prelude.{◌≡◌, ℕ, ◌+◌, ◌<◌, ◌≤◌, Bool,
 use Rattle.std.specs.List.{cons_option}
 use Rattle.std.proofs.Common.{refl, inl, inr, ap, sym, subst, ◌∙◌, arith, zero, suc}
 use Rattle.std.proofs.lemmas.Slice.Eq.{bytes_eq-Decides}
-use Rattle.express_schemas.specs.Schemas.{Declaration}
-use Rattle.type_graphs.specs.Names.{Name, IsFirst, declared_name, is_named}
+use Rattle.express_syntax.specs.Schemas.{Declaration}
+use Rattle.schema_semantics.specs.Names.{Name, IsFirst, declared_name, is_named}
 use Rattle.schema_names.specs.Numbers.{number_from}
 
 pub same-some : {A : Type 0} (x y : A) → Some x ≡ Some y → x ≡ y

@@ -3,3 +3,7 @@ pub mod Loops
 pub mod Turning
 pub mod Seeing
 pub mod Declaring
+pub mod Unmet
+pub mod Asking
+pub mod Deciding
+pub mod ByClause

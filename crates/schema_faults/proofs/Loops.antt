@@ -3,9 +3,9 @@ use Rattle.std.specs.Prelude.{◌≡◌, ℕ, ◌<◌, List, Option, None, Some,
 use Rattle.std.proofs.Common.{sym, subst, ◌∙◌, arith}
 use Rattle.digraph.specs.Graphs.{Graph, Step, Reaches, IsGraph}
 use Rattle.digraph.specs.Closures.{IsFirstCyclic}
-use Rattle.express_schemas.specs.Schemas.{Schema, Declaration}
-use Rattle.type_graphs.specs.Names.{Name, Among, IsFirst, declared_name}
-use Rattle.type_graphs.proofs.Lists.{first-step, last-step}
+use Rattle.express_syntax.specs.Schemas.{Schema, Declaration}
+use Rattle.schema_semantics.specs.Names.{Name, Among, IsFirst, declared_name}
+use Rattle.schema_semantics.proofs.Lists.{first-step, last-step}
 use Rattle.schema_names.specs.Numbers.{HasNumber, IsAt}
 use Rattle.schema_names.specs.Edges.{IsGraphOf}
 use Rattle.schema_names.proofs.Numbers.{what-stands}

@@ -7,10 +7,10 @@ use Rattle.std.proofs.lemmas.Slice.Eq.{bytes_eq-Decides}
 use Rattle.std.proofs.lemmas.Bool.Decides.{nat_tests}
 use Rattle.indexmap.specs.IndexSet.{contains, Updates}
 use Rattle.step_literals.specs.declared.literal.Word.{Word}
-use Rattle.express_trees.specs.Views.{capitals}
-use Rattle.type_graphs.specs.Names.{Among}
-use Rattle.type_graphs.specs.Faults.{Declared, IsFirstAgain}
-use Rattle.type_graphs.proofs.Lists.{none-behind}
+use Rattle.express_syntax.specs.ExpressionViews.{capitals}
+use Rattle.schema_semantics.specs.Names.{Among}
+use Rattle.schema_semantics.specs.Faults.{Declared, IsFirstAgain}
+use Rattle.schema_semantics.proofs.Lists.{none-behind}
 use Rattle.schema_faults.specs.Repeated.{IsSeen, IsFirstRepeated, same_entry, stands_for}
 use Rattle.schema_faults.specs.declared.seen.Seen.{Seen}
 

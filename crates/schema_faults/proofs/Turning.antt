@@ -4,13 +4,13 @@ use Rattle.std.proofs.Common.{refl, inl, inr, ap, sym, subst, ◌∙◌}
 use Rattle.digraph.specs.Graphs.{Graph}
 use Rattle.digraph.specs.Closures.{IsFirstCyclic}
 use Rattle.step_literals.specs.declared.literal.Word.{Word}
-use Rattle.express_trees.specs.Views.{capitals}
-use Rattle.express_schemas.specs.Schemas.{Schema, Declaration, type, entity, skipped, Entity, TypeDeclaration, DataType, named}
-use Rattle.express_schemas.specs.Views.{if_some}
-use Rattle.express_schemas.specs.declared.fault.NameFault.TheVariants.{SupertypeCycle, TypeCycle}
-use Rattle.type_graphs.specs.Names.{Name, Among, IsFirst, entities_of, types_of, declared_name, IsMadeOf, IsSubtypeOf}
-use Rattle.type_graphs.specs.Faults.{IsAboveItself, IsMadeOfItself}
-use Rattle.type_graphs.proofs.Lists.{first-step, first-holds}
+use Rattle.express_syntax.specs.ExpressionViews.{capitals}
+use Rattle.express_syntax.specs.Schemas.{Schema, Declaration, type, entity, skipped, Entity, TypeDeclaration, DataType, named}
+use Rattle.express_syntax.specs.Views.{if_some}
+use Rattle.express_syntax.specs.declared.fault.NameFault.TheVariants.{SupertypeCycle, TypeCycle}
+use Rattle.schema_semantics.specs.Names.{Name, Among, IsFirst, entities_of, types_of, declared_name, IsMadeOf, IsSubtypeOf}
+use Rattle.schema_semantics.specs.Faults.{IsAboveItself, IsMadeOfItself}
+use Rattle.schema_semantics.proofs.Lists.{first-step, first-holds}
 use Rattle.schema_names.specs.Numbers.{HasNumber, IsAt}
 use Rattle.schema_names.specs.Edges.{IsGraphOf, supertypes_in, parts_in}
 use Rattle.schema_names.proofs.Numbers.{each-number}

@@ -3,10 +3,10 @@ use Rattle.std.specs.Prelude.{◌≡◌, ℕ, Option, None, Some, ◌⊎◌}
 use Rattle.digraph.specs.Graphs.{Graph}
 use Rattle.digraph.specs.Closures.{IsFirstCyclic}
 use Rattle.step_literals.specs.declared.literal.Word.{Word}
-use Rattle.express_trees.specs.Views.{capitals}
-use Rattle.express_schemas.specs.Schemas.{Schema, Declaration}
-use Rattle.express_schemas.specs.Views.{if_some}
-use Rattle.type_graphs.specs.Names.{declared_name}
+use Rattle.express_syntax.specs.ExpressionViews.{capitals}
+use Rattle.express_syntax.specs.Schemas.{Schema, Declaration}
+use Rattle.express_syntax.specs.Views.{if_some}
+use Rattle.schema_semantics.specs.Names.{declared_name}
 use Rattle.schema_names.specs.Numbers.{IsAt}
 
 -- none without a cycle, else the name of what is declared at the first vertex on one

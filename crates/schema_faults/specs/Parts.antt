@@ -1,15 +1,15 @@
 -- What each part of a schema declares, by the scope.
 use Rattle.std.specs.Prelude.{ℕ, List, [], ◌∷◌}
 use Rattle.step_literals.specs.declared.literal.Word.{Word}
-use Rattle.express_trees.specs.Views.{capitals}
-use Rattle.express_schemas.specs.Schemas as trees
-use Rattle.express_schemas.specs.Views.{attribute_of, attributes_of}
-use Rattle.express_schemas.specs.declared.tree.Attribute.{Attribute}
-use Rattle.express_schemas.specs.declared.tree.Explicit.{Explicit}
-use Rattle.express_schemas.specs.declared.tree.Derived.{Derived}
-use Rattle.express_schemas.specs.declared.tree.Inverse.{Inverse}
-use Rattle.type_graphs.specs.Names.{own_names, attribute_names}
-use Rattle.type_graphs.specs.Faults.{Declared, in_scope, items_of}
+use Rattle.express_syntax.specs.ExpressionViews.{capitals}
+use Rattle.express_syntax.specs.Schemas as trees
+use Rattle.express_syntax.specs.Views.{attribute_of, attributes_of}
+use Rattle.express_syntax.specs.declared.tree.Attribute.{Attribute}
+use Rattle.express_syntax.specs.declared.tree.Explicit.{Explicit}
+use Rattle.express_syntax.specs.declared.tree.Derived.{Derived}
+use Rattle.express_syntax.specs.declared.tree.Inverse.{Inverse}
+use Rattle.schema_semantics.specs.Names.{own_names, attribute_names}
+use Rattle.schema_semantics.specs.Faults.{Declared, in_scope, items_of}
 
 abbrev pub word_in : ℕ → Word → List Declared
 word_in k w = (k, capitals w) ∷ []

@@ -3,8 +3,8 @@ use Rattle.std.specs.Prelude.{◌≡◌, ℕ, Bool, ◌&&◌, nat_eq, bytes_eq, 
 use Rattle.std.specs.List.{list_any}
 use Rattle.indexmap.specs.IndexSet.{contains}
 use Rattle.step_literals.specs.declared.literal.Word.{Word}
-use Rattle.express_trees.specs.Views.{capitals}
-use Rattle.type_graphs.specs.Faults.{Declared, IsFirstAgain}
+use Rattle.express_syntax.specs.ExpressionViews.{capitals}
+use Rattle.schema_semantics.specs.Faults.{Declared, IsFirstAgain}
 use Rattle.schema_names.specs.Words.{same_word}
 use Rattle.schema_faults.specs.declared.seen.Seen.{Seen}
 

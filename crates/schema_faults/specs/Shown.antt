@@ -1,10 +1,10 @@
 -- What is answered for a fault of names, whatever the others.
 use Rattle.std.specs.Prelude.{Option, None, Some}
 use Rattle.step_literals.specs.declared.literal.Word.{Word}
-use Rattle.express_trees.specs.Views.{capitals}
-use Rattle.express_schemas.specs.Schemas.{Schema}
-use Rattle.express_schemas.specs.declared.fault.NameFault.{NameFault}
-use Rattle.type_graphs.specs.Faults.{ShowsAt, IsFreeOf}
+use Rattle.express_syntax.specs.ExpressionViews.{capitals}
+use Rattle.express_syntax.specs.Schemas.{Schema}
+use Rattle.express_syntax.specs.declared.fault.NameFault.{NameFault}
+use Rattle.schema_semantics.specs.Faults.{ShowsAt, IsFreeOf}
 
 -- the name at which it shows first, or none exactly where it shows nowhere
 abbrev pub IsShown : Schema → NameFault → Option Word → Type 0

@@ -2,11 +2,11 @@
 
 ghost use Rattle.std.specs.Prelude.{◌≡◌, length, IfOk};
 ghost use Rattle.digraph.specs.Graphs.{IsGraph, graph_of};
-ghost use Rattle.express_schemas.specs.declared.fault.NameFault.TheVariants.{
+ghost use Rattle.express_syntax.specs.declared.fault.NameFault.TheVariants.{
   SupertypeCycle,
   TypeCycle,
 };
-ghost use Rattle.express_schemas.specs.SchemaViews.{schema_of};
+ghost use Rattle.express_syntax.specs.SchemaViews.{schema_of};
 ghost use Rattle.schema_faults.specs.Shown.{IsShown};
 ghost use Rattle.schema_faults.specs.FirstNamed.{IsFirstNamed};
 

@@ -1,8 +1,8 @@
 //! Names that are declared twice in their scope (ISO 10303-11, 10.1).
 
 ghost use Rattle.std.specs.Prelude.{IfOk};
-ghost use Rattle.express_schemas.specs.declared.fault.NameFault.TheVariants.{DuplicateName};
-ghost use Rattle.express_schemas.specs.SchemaViews.{schema_of};
+ghost use Rattle.express_syntax.specs.declared.fault.NameFault.TheVariants.{DuplicateName};
+ghost use Rattle.express_syntax.specs.SchemaViews.{schema_of};
 ghost use Rattle.schema_faults.specs.Shown.{IsShown};
 
 use crate::parts::see_all;

@@ -1,8 +1,15 @@
-//! What is wrong with the names of a schema (ISO 10303-11, 9 and 10): for each fault the first name
-//! that shows it.
+//! What is wrong with the names of a schema, and what they are asked to be where they stand (ISO 10303-11,
+//! 8 to 10).
 #![tactic(auto)]
 
 pub mod cycles;
+pub mod demands;
 pub mod duplicates;
+mod entities;
+mod inherited;
+mod inverses;
+mod kinds;
+mod names;
 mod parts;
 mod seen;
+mod types;

@@ -1,13 +1,13 @@
 //! What each part of a schema declares, from the first name to the last.
 
 ghost use Rattle.std.specs.Prelude.{ℕ, ◌+◌, ◌<◌, ◌^◌, map, flat_map, length, OnOk};
-ghost use Rattle.express_schemas.specs.Views.{
+ghost use Rattle.express_syntax.specs.Views.{
   entity_of,
   underlying_of,
   declaration_of as declaration_seen,
 };
-ghost use Rattle.type_graphs.specs.Names.{attribute_names};
-ghost use Rattle.type_graphs.specs.Faults.{in_scope, items_of, declared_from};
+ghost use Rattle.schema_semantics.specs.Names.{attribute_names};
+ghost use Rattle.schema_semantics.specs.Faults.{in_scope, items_of, declared_from};
 ghost use Rattle.schema_faults.specs.Repeated.{Sees};
 ghost use Rattle.schema_faults.specs.Parts.{
   word_in,
@@ -19,7 +19,7 @@ ghost use Rattle.schema_faults.specs.Parts.{
 };
 
 use crate::seen::{Seen, see};
-use express_schemas::tree::{
+use express_syntax::tree::{
     Attribute, Declaration, Derived, Entity, Explicit, Inverse, Underlying,
 };
 use std::alloc::AllocError;

@@ -1,7 +1,7 @@
 //! What is declared up to some place of a schema.
 
 ghost use Rattle.std.specs.Prelude.{◌∷◌, [], OnOk};
-ghost use Rattle.express_trees.specs.Views.{capitals};
+ghost use Rattle.express_syntax.specs.ExpressionViews.{capitals};
 ghost use Rattle.schema_faults.specs.Repeated.{Sees};
 
 use indexmap::IndexSet;

@@ -1,8 +1,8 @@
 -- The laws of numbers.
 use Rattle.std.proofs.Common.{subst}
 use Rattle.digraph.specs.Graphs.{Leads}
-use Rattle.express_schemas.specs.Schemas.{named}
-use Rattle.type_graphs.specs.Names.{IsBelow, IsMadeOf}
+use Rattle.express_syntax.specs.Schemas.{named}
+use Rattle.schema_semantics.specs.Names.{IsBelow, IsMadeOf}
 use Rattle.schema_names.specs.Edges.{supertypes_in, parts_in}
 use Rattle.schema_names.specs.Laws.{ReachedAreSupertypes, ReachedAreParts, EdgesLeadWithin}
 use Rattle.schema_names.proofs.Numbers.{one-name}

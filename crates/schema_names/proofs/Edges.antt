@@ -5,9 +5,9 @@ use Rattle.std.proofs.Common.{refl, inl, inr, ap, sym, subst, ◌∙◌, arith, 
 use Rattle.std.proofs.lemmas.List.{length-map}
 use Rattle.std.proofs.lemmas.Bool.Decides.{nat_tests}
 use Rattle.digraph.specs.Graphs.{Graph, has, Step, Chain, Leads, Reaches, IsGraph}
-use Rattle.express_schemas.specs.Schemas.{Schema, Declaration, type, entity, skipped, Underlying, enumeration, select, data_type, DataType, named}
-use Rattle.type_graphs.specs.Names.{Name, Among, declaration_of, IsSubtypeOf, IsBelow, IsMadeOf, StandsFor}
-use Rattle.type_graphs.proofs.Lists.{leads-kept}
+use Rattle.express_syntax.specs.Schemas.{Schema, Declaration, type, entity, skipped, Underlying, enumeration, select, data_type, DataType, named}
+use Rattle.schema_semantics.specs.Names.{Name, Among, declaration_of, IsSubtypeOf, IsBelow, IsMadeOf, StandsFor}
+use Rattle.schema_semantics.proofs.Lists.{leads-kept}
 use Rattle.schema_names.specs.Numbers.{number_of, HasNumber}
 use Rattle.schema_names.specs.Edges.{IsGraphOf, supertypes_in, parts_in, parts_of}
 use Rattle.schema_names.proofs.Numbers.{stands-at, what-stands, each-number}

@@ -6,7 +6,7 @@ use Rattle.std.proofs.lemmas.List.{length-map}
 use Rattle.std.proofs.lemmas.Option.{slice_get-map}
 use Rattle.digraph.specs.Graphs.{Graph}
 use Rattle.schema_names.proofs.Rows.{map-joined}
-use Rattle.express_schemas.specs.Schemas.{Declaration}
+use Rattle.express_syntax.specs.Schemas.{Declaration}
 use Rattle.schema_names.specs.Numbers.{AreAt, AreRowsOf}
 
 -- what is at a number stays there as the list goes on

@@ -2,8 +2,8 @@
 use Rattle.std.specs.Prelude.{◌≡◌, ℕ, ◌+◌, Bool, true, false, cond, List, [], ◌∷◌, Option, None, Some, slice_get}
 use Rattle.std.proofs.Common.{refl, ap, sym, subst, ◌∙◌, suc, arith}
 use Rattle.std.proofs.lemmas.Slice.Eq.{bytes_eq-Decides}
-use Rattle.express_schemas.specs.Schemas.{Schema, Declaration}
-use Rattle.type_graphs.specs.Names.{Name, declared_name, is_named, declaration_of}
+use Rattle.express_syntax.specs.Schemas.{Schema, Declaration}
+use Rattle.schema_semantics.specs.Names.{Name, declared_name, is_named, declaration_of}
 use Rattle.schema_names.specs.Numbers.{number_from, HasNumber, IsAt, NumbersStand}
 
 -- i is k and the place of the first declaration of the name n

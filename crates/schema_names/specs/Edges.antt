@@ -1,8 +1,8 @@
 -- Graphs on the numbers of a schema.
 use Rattle.std.specs.Prelude.{◌≡◌, ℕ, List, [], ◌∷◌, length, ◌↔◌, filter_map}
 use Rattle.digraph.specs.Graphs.{Graph, next, Step}
-use Rattle.express_schemas.specs.Schemas.{Schema, Declaration, type, entity, skipped, Underlying, enumeration, select, data_type, named}
-use Rattle.type_graphs.specs.Names.{Name, Among, supertypes_of}
+use Rattle.express_syntax.specs.Schemas.{Schema, Declaration, type, entity, skipped, Underlying, enumeration, select, data_type, named}
+use Rattle.schema_semantics.specs.Names.{Name, Among, supertypes_of}
 use Rattle.schema_names.specs.Numbers.{number_of, HasNumber, IsAt}
 
 -- the names behind SUBTYPE OF; none in what is no entity (ISO 10303-11, 9.2.3)

@@ -1,8 +1,8 @@
 -- Laws of numbers and of the graphs on them, whatever the schema.
 use Rattle.std.specs.Prelude.{ℕ, ◌↔◌}
 use Rattle.digraph.specs.Graphs.{Graph, Reaches, Leads, IsGraph}
-use Rattle.express_schemas.specs.Schemas.{Schema, named}
-use Rattle.type_graphs.specs.Names.{Name, IsBelow, IsMadeOf}
+use Rattle.express_syntax.specs.Schemas.{Schema, named}
+use Rattle.schema_semantics.specs.Names.{Name, IsBelow, IsMadeOf}
 use Rattle.schema_names.specs.Numbers.{HasNumber, NumbersStand}
 use Rattle.schema_names.specs.Edges.{IsGraphOf, supertypes_in, parts_in}
 

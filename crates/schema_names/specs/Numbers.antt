@@ -1,7 +1,7 @@
 -- Numbers for what a schema declares: the places of its declarations in the text, counted from 0.
 use Rattle.std.specs.Prelude.{◌≡◌, ℕ, ◌+◌, List, [], ◌∷◌, Option, None, Some, cond, map, slice_get}
-use Rattle.express_schemas.specs.Schemas.{Schema, Declaration}
-use Rattle.type_graphs.specs.Names.{Name, declared_name, is_named, declaration_of}
+use Rattle.express_syntax.specs.Schemas.{Schema, Declaration}
+use Rattle.schema_semantics.specs.Names.{Name, declared_name, is_named, declaration_of}
 
 -- where the declaration is that a name stands for, the first type or entity that has it (ISO 10303-11, 10.3)
 abbrev pub number_from : ℕ → List Declaration → Name → Option ℕ

@@ -1,7 +1,7 @@
 -- What a declaration names, by what edges say.
 use Rattle.std.specs.Prelude.{List}
-use Rattle.express_schemas.specs.Schemas.{Declaration}
-use Rattle.type_graphs.specs.Names.{Name}
+use Rattle.express_syntax.specs.Schemas.{Declaration}
+use Rattle.schema_semantics.specs.Names.{Name}
 use Rattle.schema_names.specs.Edges.{supertypes_in, parts_in}
 use Rattle.schema_names.specs.declared.graphs.Relation.{Relation}
 use Rattle.schema_names.specs.declared.graphs.Relation.TheVariants.{Supertypes, Parts}

@@ -2,7 +2,7 @@
 
 ghost use Rattle.std.specs.Prelude.{◌≡◌, IfOk};
 ghost use Rattle.std.specs.String.{string_bytes};
-ghost use Rattle.express_trees.specs.Views.{capitals};
+ghost use Rattle.express_syntax.specs.ExpressionViews.{capitals};
 
 use std::alloc::{AllocError, Global};
 use step_literals::literal::Word;

@@ -3,20 +3,20 @@
 ghost use Rattle.std.specs.Prelude.{◌≡◌, [], ◌++◌, filter_map, IfOk, OnOk};
 ghost use Rattle.std.specs.List.{cons_option};
 ghost use Rattle.digraph.specs.Graphs.{graph_of};
-ghost use Rattle.express_schemas.specs.Views.{
+ghost use Rattle.express_syntax.specs.Views.{
   names_of,
   underlying_of,
   data_type_of,
   declaration_of as declaration_seen,
 };
-ghost use Rattle.express_schemas.specs.Schemas.{data_type as of_data_type};
-ghost use Rattle.express_schemas.specs.SchemaViews.{schema_of};
+ghost use Rattle.express_syntax.specs.Schemas.{data_type as of_data_type};
+ghost use Rattle.express_syntax.specs.SchemaViews.{schema_of};
 ghost use Rattle.schema_names.specs.Numbers.{number_of};
 ghost use Rattle.schema_names.specs.Edges.{IsGraphOf, supertypes_in, parts_in, parts_of};
 ghost use Rattle.schema_names.specs.Relations.{named_in};
 
 use crate::names::Names;
-use express_schemas::tree::{DataType, Declaration, Underlying};
+use express_syntax::tree::{DataType, Declaration, Underlying};
 use std::alloc::{AllocError, Global};
 use std::slice;
 use step_literals::literal::Word;

@@ -18,15 +18,15 @@ ghost use Rattle.std.specs.Prelude.{
 ghost use Rattle.std.specs.Vec.{vec_len};
 ghost use Rattle.indexmap.specs.IndexMap.{get};
 ghost use Rattle.step_literals.specs.declared.literal.Word.{Word};
-ghost use Rattle.express_trees.specs.Views.{capitals};
-ghost use Rattle.express_schemas.specs.Views.{if_some, declaration_of as declaration_seen};
-ghost use Rattle.express_schemas.specs.Schemas.{Declaration as DeclarationTree};
-ghost use Rattle.express_schemas.specs.SchemaViews.{schema_of};
-ghost use Rattle.type_graphs.specs.Names.{declared_name, is_named};
+ghost use Rattle.express_syntax.specs.ExpressionViews.{capitals};
+ghost use Rattle.express_syntax.specs.Views.{if_some, declaration_of as declaration_seen};
+ghost use Rattle.express_syntax.specs.Schemas.{Declaration as DeclarationTree};
+ghost use Rattle.express_syntax.specs.SchemaViews.{schema_of};
+ghost use Rattle.schema_semantics.specs.Names.{declared_name, is_named};
 ghost use Rattle.schema_names.specs.Words.{same_word};
 ghost use Rattle.schema_names.specs.Numbers.{number_from, number_of, IsAt};
 
-use express_schemas::tree::{Declaration, SchemaTree};
+use express_syntax::tree::{Declaration, SchemaTree};
 use indexmap::IndexMap;
 use std::alloc::{AllocError, Global};
 use std::hash::RandomState;

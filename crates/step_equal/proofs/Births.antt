@@ -115,7 +115,7 @@ module _ (n last : ℕ) (R : ℕ → ℕ → ℕ → Bool) (by : ArePartings n l
   not_again q zero h a b l = omega arith
   not_again q (suc r) h a b l = b.fresh (first_later q r h a.within (omega arith) a.first)
 
-  birth_once : (q r h : ℕ) → IsBirth q h → IsBirth r h → q ≡ r
+  pub birth_once : (q r h : ℕ) → IsBirth q h → IsBirth r h → q ≡ r
   birth_once q r h a b = elim (cases_order q r) [
     | inl e ↦ e
     | inr (inl l) ↦ absurd (not_again q r h a b l)
@@ -144,7 +144,7 @@ module _ (n last : ℕ) (R : ℕ → ℕ → ℕ → Bool) (by : ArePartings n l
       ]
 
   -- by round, then by index
-  abbrev From : ℕ → ℕ → ℕ → ℕ → Type 0
+  abbrev pub From : ℕ → ℕ → ℕ → ℕ → Type 0
   From r i q h = (r < q) ⊎ ((r ≡ q) × (i ≤ h))
 
   -- L has the births from index i at round r on, in order

@@ -21,7 +21,7 @@ use Rattle.step_equal.proofs.Births.{ArePartings, first, first_le, first_below, 
 use Rattle.step_equal.proofs.Classes.{number, origin_by, began_by, classes, class_of, IsOf, of_class, split_of, number_is, first_from_number, in_order, parent_before, ancestor_at}
 
 -- a name with a class by its index
-members_by : (ℕ → ℕ) → List ℕ → List (ℕ × ℕ)
+pub members_by : (ℕ → ℕ) → List ℕ → List (ℕ × ℕ)
 members_by f [] = []
 members_by f (y ∷ ys) = (y, f 0) ∷ members_by (λ i. f (suc i)) ys
 
@@ -93,19 +93,19 @@ refinement_like P pinned E F last same refines = record {
 }
 
 module _ (P : List Row) (pinned : ℕ → Bool) (population : IsPopulation P) where
-  abbrev ys : List ℕ
+  abbrev pub ys : List ℕ
   ys = names P
 
-  abbrev n : ℕ
+  abbrev pub n : ℕ
   n = length (names P)
 
-  abbrev last : ℕ
+  abbrev pub last : ℕ
   last = (stop P pinned population).0
 
-  abbrev R : ℕ → ℕ → ℕ → Bool
+  abbrev pub R : ℕ → ℕ → ℕ → Bool
   R r i j = parted P pinned r (slice_index ys i) (slice_index ys j)
 
-  partings : ArePartings n last R
+  pub partings : ArePartings n last R
   partings =
       let by = parted_partitions P pinned in
       record {
@@ -117,17 +117,17 @@ module _ (P : List Row) (pinned : ℕ → Bool) (population : IsPopulation P) wh
         stays = λ r i j. stop_settled P pinned population r (slice_index ys i) (slice_index ys j);
       }
 
-  abbrev num : ℕ → ℕ → ℕ
+  abbrev pub num : ℕ → ℕ → ℕ
   num = number n last R partings
 
-  abbrev head : ℕ → ℕ → ℕ
+  abbrev pub head : ℕ → ℕ → ℕ
   head = first n last R partings
 
-  abbrev table : Table
+  abbrev pub table : Table
   table = record { rounds = last; classes = classes n last R partings; members = members_by (num last) ys }
 
   -- the class of an instance
-  at_is : (r i : ℕ) → i < n → class_at table (slice_index ys i) r ≡ Some (num r i)
+  pub at_is : (r i : ℕ) → i < n → class_at table (slice_index ys i) r ≡ Some (num r i)
   at_is r i l =
       (classes_are_ancestors table (slice_index ys i) r (num r i)).1
       (num last i, class_by (num last) ys population.distinct i l, ancestor_at n last R partings r i l)
@@ -253,7 +253,7 @@ module _ (P : List Row) (pinned : ℕ → Bool) (population : IsPopulation P) wh
         | inr m ↦ let same = m.0 in let less = m.1 in inr (omega arith, omega arith)
       ]
 
-  standard : IsStandard P pinned table
+  pub standard : IsStandard P pinned table
   standard = record {
     members = members_are;
     well_formed = record {

@@ -94,13 +94,6 @@ module _ (P : List Row) (pinned : ℕ → Bool) (E : ℕ → ℕ → Bool) (cong
     | inr ph ↦ or_left (pinned (head y)) (pinned y) ph
   ])
 
-  pub pinned_apart : (y w : ℕ) → IsName P y → IsName P w → (pinned y ≡ true) ⊎ (pinned w ≡ true) → head y ≡ head w
-      → y ≡ w
-  pinned_apart y w n m pin e = elim pin [
-    | inl py ↦ sym (quotient_image.alone w y m n py (sym e))
-    | inr pw ↦ quotient_image.alone y w n m pw e
-  ]
-
 pub quotients_are_images : QuotientsAreImages
 quotients_are_images P pinned E population congruence = (
   quotient_image P pinned E congruence,

@@ -15,7 +15,7 @@ ghost use Rattle.std.specs.Prelude.{
   Some,
 };
 ghost use Rattle.std.specs.List.{IsDistinct, AllZip, sum_by};
-ghost use Rattle.columns.specs.Nodes.{IsColumn};
+ghost use Rattle.parsing.specs.Nodes.{IsColumn};
 ghost use Rattle.step_values.specs.Cells.{value_nodes};
 ghost use Rattle.step_values.specs.NodeCounts.{nodes_in};
 ghost use Rattle.step_values.specs.Targets.{LeadTo, ReferTo, targets_of};

@@ -1,8 +1,8 @@
 -- The trees that are kept of a structure are that structure.
 use Rattle.std.proofs.Common.{◌≡◌, ℕ, List, [], ◌∷◌, ◌++◌, length, take, drop, map, refl, sym, ap, ◌∙◌}
 use Rattle.std.proofs.lemmas.List.{take_at, drop_at}
-use Rattle.step_parameters.specs.Building.{list_of}
-use Rattle.step_parameters.proofs.Parts.{trees_all, all_in}
+use Rattle.step_records.specs.Building.{list_of}
+use Rattle.step_records.proofs.Parts.{trees_all, all_in}
 use Rattle.step_structures.specs.Trees.{Tree, Record, Form, internal, external, Row}
 use Rattle.step_records.specs.Records.{tree_of_record, trees_of_form}
 use Rattle.step_records.specs.Instances.{names_of, tree_of_row}

@@ -2,7 +2,7 @@
 use Rattle.std.proofs.Common.{◌≡◌, ℕ, zero, suc, ◌+◌, ◌<◌, ◌≤◌, nat_lt, Bool, true, false, ◌==◌, List, [], ◌∷◌, ◌++◌, length, Option, Result, Ok, Err, MatchResult, IfOk, refl, sym, ap, ◌∙◌, subst, append_assoc, append-nil, length-append, arith, codes}
 use Rattle.std.proofs.lemmas.Bool.{false≢true}
 use Rattle.std.proofs.lemmas.Bool.Decides.{nat_tests}
-use Rattle.predictive.proofs.Taking as taking
+use Rattle.parsing.proofs.Taking as taking
 use Rattle.step_literals.specs.declared.literal.Text as literal
 use Rattle.step_lexis.specs.declared.token.Mark.TheVariants.{Open, Semicolon}
 use Rattle.step_lexis.specs.declared.token.Sort.{Sort}

@@ -4,9 +4,9 @@ use Rattle.std.proofs.lemmas.List.{map-append}
 use Rattle.step_lexis.specs.declared.token.Mark.TheVariants.{Open, Semicolon}
 use Rattle.step_lexis.specs.declared.token.Token.{Token}
 use Rattle.step_lexis.specs.Reading.{Reading, Takes, left}
-use Rattle.step_parameters.specs.Building.{list_of}
-use Rattle.step_parameters.specs.Cells.{all_of}
-use Rattle.step_parameters.specs.Tokens.{leaf_tree}
+use Rattle.step_records.specs.Building.{list_of}
+use Rattle.step_records.specs.Cells.{all_of}
+use Rattle.step_records.specs.Tokens.{leaf_tree}
 use Rattle.step_structures.specs.declared.fault.TextFault.{TextFault}
 use Rattle.step_structures.specs.Words.{keyword, mark, token, located}
 use Rattle.step_structures.specs.Trees.{Tree, leaf, Record, this, is_said, items_of_record, items_of_list}

@@ -10,3 +10,4 @@ pub mod Outcome
 pub mod Whole
 pub mod Writing
 pub mod Counts
+pub mod Named

@@ -1,11 +1,11 @@
 -- What was read, against the definitions.
 use Rattle.std.proofs.Common.{◌≡◌, ℕ, ◌+◌, ◌-◌, ◌≤◌, List, [], ◌∷◌, ◌++◌, take, drop, refl, sym, ap, ◌∙◌, subst, append_assoc, arith, codes}
 use Rattle.std.proofs.lemmas.List.{drop-take}
-use Rattle.predictive.specs.Tables.{lookaheads, stops, run}
-use Rattle.predictive.proofs.Lists.{cut_at, lookaheads_append, passes_or_stops}
-use Rattle.predictive.proofs.Leading.{Leads}
-use Rattle.predictive.proofs.Running.{reaches_run}
-use Rattle.predictive.proofs.Shown.{shows_join}
+use Rattle.parsing.specs.Tables.{lookaheads, stops, run}
+use Rattle.parsing.proofs.Lists.{cut_at, lookaheads_append, passes_or_stops}
+use Rattle.parsing.proofs.Leading.{Leads}
+use Rattle.parsing.proofs.Running.{reaches_run}
+use Rattle.parsing.proofs.Shown.{shows_join}
 use Rattle.step_lexis.specs.declared.token.Mark.TheVariants.{Semicolon}
 use Rattle.step_lexis.specs.Reading.{Reading, start}
 use Rattle.step_structures.specs.declared.fault.FaultKind.{FaultKind}

@@ -1,7 +1,7 @@
 -- The places of a header.
 use Rattle.std.proofs.Common.{◌≡◌, ℕ, ◌≤◌, Bool, true, false, cond, ◌&&◌, nat_eq, List, [], ◌∷◌, length, refl, sym, ap, ◌∙◌, subst, arith, length-drop}
 use Rattle.std.specs.List.{starts_with}
-use Rattle.predictive.specs.Tables.{lookaheads}
+use Rattle.parsing.specs.Tables.{lookaheads}
 use Rattle.step_lexis.specs.Reading.{Reading, start, start_of}
 use Rattle.step_lexis.proofs.Determined.{same_place, places_rise}
 use Rattle.step_structures.specs.Words.{LocatedToken, Shows, shows_token, shows_fault, shows_end, ShowsAll, begins}

@@ -4,9 +4,9 @@ use Rattle.std.proofs.lemmas.Bool.{false≢true}
 use Rattle.step_structures.specs.Words.{string}
 use Rattle.step_structures.specs.Trees.{Tree, leaf, group, Trees, none, one, Record}
 use Rattle.step_structures.specs.Fits.{NamesSchema}
-use Rattle.step_parameters.specs.Cells.{all_of}
-use Rattle.step_parameters.specs.Params.{parts_of}
-use Rattle.step_parameters.proofs.Parts.{all_in}
+use Rattle.step_records.specs.Cells.{all_of}
+use Rattle.step_records.specs.Params.{parts_of}
+use Rattle.step_records.proofs.Parts.{all_in}
 use Rattle.step_records.specs.Readers.{Progress}
 use Rattle.step_records.specs.Records.{tree_of_record}
 use Rattle.step_exchange.specs.Views.{record_of, record_in}

@@ -1,9 +1,9 @@
 -- The prints of a normal text.
-use Rattle.std.proofs.Common.{◌≡◌, ℕ, zero, suc, ◌+◌, ◌<◌, ◌≤◌, Bool, true, false, List, [], ◌∷◌, ◌++◌, Option, Some, None, length, map, take, drop, get_or, slice_get, refl, sym, ap, ◌∙◌, append_assoc, append-nil, add-one, arith}
+use Rattle.std.proofs.Common.{◌≡◌, ℕ, zero, suc, ◌+◌, ◌<◌, ◌≤◌, Bool, List, [], ◌∷◌, ◌++◌, Option, Some, None, length, map, take, drop, get_or, slice_get, refl, sym, ap, ◌∙◌, append_assoc, append-nil, add-one, arith}
 use Rattle.std.proofs.Math.Seq.{take-suc}
 use Rattle.std.specs.Char.{to_ascii_uppercase}
-use Rattle.step_parameters.specs.Cells.{all_of}
-use Rattle.step_parameters.proofs.Weights.{weight, weights, lighter}
+use Rattle.step_records.specs.Cells.{all_of}
+use Rattle.step_records.proofs.Weights.{weight, weights, lighter}
 use Rattle.devices.specs.Prints.{Printing, Prints}
 use Rattle.step_structures.specs.Trees.{Tree}
 use Rattle.step_exchange.specs.Views.{record_in, form_in, rows_with}
@@ -112,11 +112,3 @@ rows_short (n ∷ ns) [] zero h = refl
 rows_short (n ∷ ns) (x ∷ xs) zero h = absurd (cc)
 rows_short (n ∷ ns) [] (suc i) h = refl
 rows_short (n ∷ ns) (x ∷ xs) (suc i) h = ap (λ l. record { name = n; form = form_in x } ∷ l) (rows_short ns xs i h)
-
-byte_kept : (x : ℕ) → x < 97 → to_ascii_uppercase x ≡ x
-byte_kept x less = grind arith
-
--- what stands in upper case, and one byte more before the letters in lower case
-pub raised_push : (w : List ℕ) (y : ℕ) → upper w ≡ w → y < 97 → upper (w ++ y ∷ []) ≡ w ++ y ∷ []
-raised_push w y e less = upper_push w y ∙ ap (λ l. l ++ to_ascii_uppercase y ∷ []) e
-    ∙ ap (λ b. w ++ b ∷ []) (byte_kept y less)

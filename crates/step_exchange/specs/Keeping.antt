@@ -2,8 +2,8 @@
 use Rattle.std.specs.Prelude.{◌≡◌, ℕ, Bool, true, false, List, [], ◌∷◌, ◌++◌, length, map, codes}
 use Rattle.step_lexis.specs.declared.token.Mark.TheVariants.{Open, Semicolon}
 use Rattle.step_lexis.specs.declared.token.Token.{Token}
-use Rattle.step_parameters.specs.Cells.{all_of}
-use Rattle.step_parameters.specs.Tokens.{leaf_tree}
+use Rattle.step_records.specs.Cells.{all_of}
+use Rattle.step_records.specs.Tokens.{leaf_tree}
 use Rattle.step_records.specs.Readers.{Progress, reading}
 use Rattle.step_records.specs.Steps.{Passes, PushesAll}
 use Rattle.step_records.specs.Records.{tree_of_record}

@@ -2,8 +2,8 @@
 use Rattle.std.specs.Prelude.{ℕ, Bool, true, false, if◌then◌else◌, List, [], ◌∷◌, map}
 use Rattle.step_structures.specs.Words.{keyword}
 use Rattle.step_structures.specs.Trees.{Tree, leaf, none, Record, Form, internal, external, Row}
-use Rattle.step_parameters.specs.Cells.{all_of}
-use Rattle.step_parameters.specs.Params.{parts_of, keyword_of}
+use Rattle.step_records.specs.Cells.{all_of}
+use Rattle.step_records.specs.Params.{parts_of, keyword_of}
 
 -- a keyword, and then parameters
 abbrev pub record_of : List Tree → Record

@@ -11,7 +11,7 @@ use crate::structure::Exchange;
 use memchr::memchr_iter;
 use std::alloc::Global;
 use std::hash::RandomState;
-use step_parameters::param::cut;
+use step_records::param::cut;
 use step_records::reader::Reader;
 use step_structures::fault::TextFault;
 

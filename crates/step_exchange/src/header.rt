@@ -4,7 +4,7 @@ ghost use Rattle.std.specs.Prelude.{◌≡◌, ◌∷◌, [], MatchResult};
 ghost use Rattle.step_lexis.specs.declared.token.Mark.TheVariants.{Semicolon};
 ghost use Rattle.step_lexis.specs.declared.token.Sort.TheVariants as sorts;
 ghost use Rattle.step_structures.specs.Predict.{Head, Just, Records, start_symbols};
-ghost use Rattle.step_parameters.specs.Tokens.{StandsIn};
+ghost use Rattle.step_records.specs.Tokens.{StandsIn};
 ghost use Rattle.step_records.specs.Readers.{reading};
 ghost use Rattle.step_records.specs.Steps.{StopsIn};
 ghost use Rattle.step_exchange.specs.Steps.{StopsInHeader, after_keyword};
@@ -21,7 +21,7 @@ ghost use Rattle.step_exchange.specs.Keeping.{
 use crate::schema::schema;
 use step_lexis::token::{Mark, Sort, Token};
 use step_literals::literal::Word;
-use step_parameters::cell::Leaf;
+use step_records::cell::Leaf;
 use step_records::params::items;
 use step_records::reader::Reader;
 use step_records::records::record;

@@ -4,6 +4,7 @@
 mod data;
 pub mod exchange;
 mod header;
+pub mod laws;
 mod schema;
 pub mod section;
 pub mod structure;

@@ -10,7 +10,7 @@ ghost use Rattle.step_exchange.specs.Keeping.{KeepsSchema};
 
 use crate::header::head;
 use step_lexis::token::Mark;
-use step_parameters::param::{Node, Param, Params};
+use step_records::param::{Node, Param, Params};
 use step_records::reader::Reader;
 use step_records::tokens::{is_mark, refuse, take};
 use step_structures::fault::{FaultKind, TextFault};

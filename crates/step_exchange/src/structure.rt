@@ -5,7 +5,7 @@ ghost use Rattle.step_structures.specs.Texts.{IsRead};
 ghost use Rattle.step_exchange.specs.Sections.{CountsTo, file_of};
 
 use crate::section::Section;
-use step_parameters::forest::Forest;
+use step_records::forest::Forest;
 use step_records::names::Names;
 
 /// An exchange structure that some text reads as. The fields are for reading.

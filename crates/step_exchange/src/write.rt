@@ -3,8 +3,8 @@
 ghost use Rattle.std.specs.Prelude.{◌≡◌, ◌++◌, false, take, drop, map, codes, is_err, IsTrue};
 ghost use Rattle.devices.specs.Prints.{Prints};
 ghost use Rattle.devices.specs.Emits.{Emits};
-ghost use Rattle.step_parameters.specs.Cells.{all_of};
-ghost use Rattle.step_parameters.specs.Params.{node_value};
+ghost use Rattle.step_records.specs.Cells.{all_of};
+ghost use Rattle.step_records.specs.Params.{node_value};
 ghost use Rattle.step_exchange.specs.Views.{
   record_of,
   record_in,
@@ -37,7 +37,7 @@ use crate::structure::Exchange;
 use devices::device::{Sink, WriteFault};
 use devices::printer::Printer;
 use step_literals::literal::Text;
-use step_parameters::param::{Node, Param, Params, cut};
+use step_records::param::{Node, Param, Params, cut};
 
 // Whether each byte of the word stands before the letters in lower case. It looks at all of them,
 // several at a time.

@@ -3,11 +3,11 @@ use Rattle.std.specs.Prelude.{◌≡◌, ℕ, ◌+◌, List, [], ◌∷◌, ◌+
 use Rattle.std.proofs.Common.{refl, sym, subst, ap, ◌∙◌, append_assoc, append-nil, take}
 use Rattle.std.proofs.lemmas.Grind.{flat_map-append}
 use Rattle.std.proofs.lemmas.List.Concat.{flat_map-cons}
-use Rattle.population_rules.specs.Findings.{Breach}
-use Rattle.rule_findings.specs.Findings.{IsFindingOf, AreFindingsOf}
-use Rattle.rule_findings.specs.declared.finding.RuleFinding.{RuleFinding}
-use Rattle.rule_findings.specs.declared.finding.RuleFindingKind.{RuleFindingKind}
-use Rattle.step_population.proofs.Orders.{zip-joined}
+use Rattle.conformance.specs.RuleFindings.{Breach}
+use Rattle.schema_rules.specs.Findings.{IsFindingOf, AreFindingsOf}
+use Rattle.schema_rules.specs.declared.finding.RuleFinding.{RuleFinding}
+use Rattle.schema_rules.specs.declared.finding.RuleFindingKind.{RuleFindingKind}
+use Rattle.population_typed.proofs.Orders.{zip-joined}
 use Rattle.schema_names.proofs.Rows.{map-joined}
 use Rattle.step_extent.specs.Findings.{Adds}
 use Rattle.step_extent.proofs.Held.{take-next}

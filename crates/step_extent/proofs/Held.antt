@@ -5,26 +5,26 @@ use Rattle.std.proofs.Common.{refl, sym, ap, ◌∙◌, arith, add-one, append-n
 use Rattle.std.proofs.lemmas.Grind.{flat_map-append}
 use Rattle.std.proofs.lemmas.List.Concat.{flat_map-cons}
 use Rattle.digraph.specs.Graphs.{has}
-use Rattle.express_schemas.specs.Schemas.{Schema}
-use Rattle.express_schemas.specs.Profile.{Every}
-use Rattle.attribute_places.specs.Places.{all_places}
-use Rattle.attribute_places.proofs.Repeats.{AreOne}
+use Rattle.express_syntax.specs.Schemas.{Schema}
+use Rattle.express_syntax.specs.Profile.{Every}
+use Rattle.schema_places.specs.Places.{all_places}
+use Rattle.schema_places.proofs.Repeats.{AreOne}
 use Rattle.step_values.specs.Values.{Value, leaf, reference, typed, sequence, bag, Values, none, more}
-use Rattle.base_types.specs.Seen.{name_at}
+use Rattle.schema_bases.specs.Seen.{name_at}
 use Rattle.conformance.specs.Populations.{slot_at}
-use Rattle.row_forms.specs.declared.form.Form.{Form}
-use Rattle.instance_forms.proofs.Naming.{among-is}
-use Rattle.population_rules.specs.Referring.{times, times_in, times_at, holds, held}
+use Rattle.population_rows.specs.declared.form.Form.{Form}
+use Rattle.population_layouts.proofs.Naming.{among-is}
+use Rattle.conformance.specs.Referring.{times, times_in, times_at, holds, held}
 use Rattle.referrers.specs.declared.referrers.Reference.{Reference}
 use Rattle.referrers.specs.Referring.{referrers_of}
-use Rattle.rule_tables.specs.Seen.{gathering_seen, inverse_seen, IsNumberedInverse}
-use Rattle.rule_tables.specs.declared.gathering.Gathering.{Gathering}
-use Rattle.rule_tables.specs.declared.gathering.Gathering.TheVariants as gatherings
-use Rattle.rule_tables.specs.declared.inverses.InverseAttribute.{InverseAttribute}
-use Rattle.step_population.specs.Ordering.{picked_at, position_among}
-use Rattle.step_population.specs.Seen.{place_at, slots_seen, instance_seen, instances_seen}
-use Rattle.step_population.specs.Whole.{form_among, ArePlaced, AreNumbered}
-use Rattle.step_population.proofs.Found.{value-at-number}
+use Rattle.schema_rules.specs.Seen.{gathering_seen, inverse_seen, IsNumberedInverse}
+use Rattle.schema_rules.specs.declared.gathering.Gathering.{Gathering}
+use Rattle.schema_rules.specs.declared.gathering.Gathering.TheVariants as gatherings
+use Rattle.schema_rules.specs.declared.inverses.InverseAttribute.{InverseAttribute}
+use Rattle.population_typed.specs.Ordering.{picked_at, position_among}
+use Rattle.population_typed.specs.Seen.{place_at, slots_seen, instance_seen, instances_seen}
+use Rattle.population_typed.specs.Whole.{form_among, ArePlaced, AreNumbered}
+use Rattle.population_typed.proofs.Found.{value-at-number}
 use Rattle.step_extent.specs.Gathering.{position_by, position_at}
 use Rattle.step_extent.specs.Targets.{targets, targets_of_each, often, references_to}
 use Rattle.step_extent.proofs.Once.{often-append}

@@ -2,13 +2,13 @@
 use Rattle.std.proofs.Common.{rules, ◌≡◌, ◌<◌, ℕ, Some, Option, None, length, sym, ◌∙◌, ap, arith}
 use Rattle.std.proofs.lemmas.List.{length-map}
 use Rattle.std.specs.Option.{IsSome}
-use Rattle.express_trees.specs.Views.{capitals}
-use Rattle.express_schemas.specs.Schemas.{Schema, Declaration}
-use Rattle.express_schemas.specs.Views.{if_some, declaration_of}
-use Rattle.express_schemas.specs.SchemaViews.{schema_of}
-use Rattle.express_schemas.specs.declared.tree.SchemaTree.{SchemaTree}
+use Rattle.express_syntax.specs.ExpressionViews.{capitals}
+use Rattle.express_syntax.specs.Schemas.{Schema, Declaration}
+use Rattle.express_syntax.specs.Views.{if_some, declaration_of}
+use Rattle.express_syntax.specs.SchemaViews.{schema_of}
+use Rattle.express_syntax.specs.declared.tree.SchemaTree.{SchemaTree}
 use Rattle.step_literals.specs.declared.literal.Word.{Word}
-use Rattle.type_graphs.specs.Names.{Name, declared_name}
+use Rattle.schema_semantics.specs.Names.{Name, declared_name}
 use Rattle.schema_names.specs.Numbers.{HasNumber, IsAt}
 use Rattle.schema_names.proofs.Edges as edges
 use Rattle.schema_names.proofs.Numbers.{what-stands}

@@ -2,10 +2,10 @@
 use Rattle.std.specs.Prelude.{◌≡◌, ℕ, ◌+◌, cond, List, ◌∷◌, length}
 use Rattle.std.proofs.Common.{sym, ap, ◌∙◌, ◌<◌, drop, get_or, add-one}
 use Rattle.digraph.specs.Graphs.{has}
-use Rattle.row_forms.specs.declared.form.Form.{Form}
-use Rattle.rule_tables.specs.declared.inverses.InverseAttribute.{InverseAttribute}
+use Rattle.population_rows.specs.declared.form.Form.{Form}
+use Rattle.schema_rules.specs.declared.inverses.InverseAttribute.{InverseAttribute}
 use Rattle.step_extent.specs.Inverses.{numbers_by}
-use Rattle.step_population.proofs.Turns.{drop-got}
+use Rattle.population_typed.proofs.Turns.{drop-got}
 
 -- one number more
 pub next-number : (inverses : List InverseAttribute) (n : ℕ) (i : InverseAttribute) (x : Form) → n < length inverses

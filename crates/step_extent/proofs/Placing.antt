@@ -1,20 +1,21 @@
 -- The inverse attribute of a place, by its number.
 use Rattle.std.specs.Prelude.{◌≡◌, ℕ, suc, ◌+◌, ◌≤◌, Bool, true, false, cond, List, [], ◌∷◌, length, map, drop, Option, None, Some, slice_get}
 use Rattle.std.proofs.Common.{refl, sym, ap, subst, ◌∙◌, zero, add-one, arith}
-use Rattle.std.proofs.Math.Logic.{∥∥₁_elim}
+use Rattle.std.proofs.Math.Logic.{∥∥₁_elim, ∥∥₁_map}
 use Rattle.std.proofs.Math.Nat.{ℕ_set}
 use Rattle.std.proofs.Props.{props}
-use Rattle.express_schemas.specs.Profile.{Every}
-use Rattle.express_schemas.specs.Schemas.{Schema}
+use Rattle.express_syntax.specs.Profile.{Every}
+use Rattle.express_syntax.specs.Schemas.{Schema}
 use Rattle.schema_names.specs.Numbers.{HasNumber}
-use Rattle.base_types.specs.Seen.{name_at}
-use Rattle.type_graphs.specs.Attributes.{Place, same_place}
+use Rattle.schema_bases.specs.Seen.{name_at}
+use Rattle.schema_semantics.specs.Attributes.{Place, same_place}
 use Rattle.conformance.specs.Populations.{Instance}
-use Rattle.population_rules.specs.Referring.{inverse_value, inverse_of}
-use Rattle.rule_tables.specs.Seen.{inverse_seen, IsNumberedInverse, AreNumbered}
-use Rattle.rule_tables.specs.declared.tables.RuleTables.{RuleTables}
-use Rattle.rule_tables.specs.declared.inverses.InverseAttribute.{InverseAttribute}
-use Rattle.step_population.proofs.Turns.{drop-item}
+use Rattle.conformance.specs.Referring.{inverse_value, inverse_of}
+use Rattle.schema_rules.specs.Seen.{inverse_seen, IsNumberedInverse, AreNumbered}
+use Rattle.schema_rules.specs.Ruled.{AreRuleTables}
+use Rattle.schema_rules.specs.declared.tables.RuleTables.{RuleTables}
+use Rattle.schema_rules.specs.declared.inverses.InverseAttribute.{InverseAttribute}
+use Rattle.population_typed.proofs.Turns.{drop-item}
 use Rattle.step_extent.specs.Extents.{inverse_value_by}
 use Rattle.step_extent.specs.Places.{place_of_inverse, number_from}
 
@@ -75,6 +76,10 @@ option-set : (a b : Option ℕ) → IsProp (a ≡ b)
 option-set a b = hlevel (props, ℕ_set)
 
 -- the entity of an inverse attribute has its number
+-- the numbers of rules that are those of a schema
+pub numbered-are : (s : Schema) (t : RuleTables) → ∥ AreRuleTables s t ∥₁ → ∥ AreNumbered s t ∥₁
+numbered-are s t are = ∥∥₁_map are (λ r. r.numbered)
+
 pub numbered-entity : (s : Schema) (t : RuleTables) → ∥ AreNumbered s t ∥₁ → (n : ℕ) (i : InverseAttribute)
     → slice_get t.inverses.items n ≡ Some i → HasNumber s (name_at s i.entity) i.entity
 numbered-entity s t numbered n i e =

@@ -7,20 +7,20 @@ use Rattle.std.proofs.Math.Nat.{ℕ_set}
 use Rattle.std.proofs.Math.Logic.{∥∥₁_elim}
 use Rattle.std.proofs.lemmas.Slice.Zip.{AllZip-long}
 use Rattle.digraph.specs.Graphs.{has}
-use Rattle.express_schemas.specs.Schemas.{Schema}
-use Rattle.express_schemas.specs.Profile.{Every}
+use Rattle.express_syntax.specs.Schemas.{Schema}
+use Rattle.express_syntax.specs.Profile.{Every}
 use Rattle.schema_names.specs.Numbers.{HasNumber}
-use Rattle.base_types.specs.Seen.{name_at}
+use Rattle.schema_bases.specs.Seen.{name_at}
 use Rattle.conformance.specs.Fitting.{among}
 use Rattle.conformance.specs.Populations.{Instance, types_at}
-use Rattle.instance_forms.proofs.Naming.{among-is}
-use Rattle.population_rules.specs.Referring.{held, inverse_value}
+use Rattle.population_layouts.proofs.Naming.{among-is}
+use Rattle.conformance.specs.Referring.{held, inverse_value}
 use Rattle.referrers.specs.declared.referrers.Reference.{Reference}
 use Rattle.referrers.specs.Referring.{referrers_of}
-use Rattle.rule_tables.specs.declared.inverses.InverseAttribute.{InverseAttribute}
-use Rattle.rule_tables.specs.Seen.{inverse_seen, IsNumberedInverse}
-use Rattle.rule_tables.specs.Seen.{AreNumbered}
-use Rattle.rule_tables.specs.declared.tables.RuleTables.{RuleTables}
+use Rattle.schema_rules.specs.declared.inverses.InverseAttribute.{InverseAttribute}
+use Rattle.schema_rules.specs.Seen.{inverse_seen, IsNumberedInverse}
+use Rattle.schema_rules.specs.Seen.{AreNumbered}
+use Rattle.schema_rules.specs.declared.tables.RuleTables.{RuleTables}
 use Rattle.step_extent.specs.Extents.{AllHeld, inverse_value_by}
 
 list-set : (a b : List ℕ) → IsProp (a ≡ b)

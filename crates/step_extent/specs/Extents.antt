@@ -1,12 +1,12 @@
 -- The values of inverse attributes, by the numbers of these.
 use Rattle.std.specs.Prelude.{ℕ, List, [], Option, None, Some}
 use Rattle.std.specs.List.{AllZip}
-use Rattle.express_schemas.specs.Schemas.{Schema}
+use Rattle.express_syntax.specs.Schemas.{Schema}
 use Rattle.conformance.specs.Populations.{Instance}
-use Rattle.population_rules.specs.Referring.{inverse_value}
+use Rattle.conformance.specs.Referring.{inverse_value}
 use Rattle.referrers.specs.declared.referrers.Reference.{Reference}
-use Rattle.rule_tables.specs.declared.inverses.InverseAttribute.{InverseAttribute}
-use Rattle.rule_tables.specs.Seen.{inverse_seen}
+use Rattle.schema_rules.specs.declared.inverses.InverseAttribute.{InverseAttribute}
+use Rattle.schema_rules.specs.Seen.{inverse_seen}
 use Rattle.step_extent.specs.Gathering.{AreHeld}
 
 -- for each inverse attribute the references that it holds

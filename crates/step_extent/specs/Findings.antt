@@ -1,9 +1,9 @@
 -- How findings are added, one behind the other.
 use Rattle.std.specs.Prelude.{◌≡◌, List, ◌++◌}
-use Rattle.population_rules.specs.Findings.{Breach}
-use Rattle.rule_findings.specs.Findings.{AreFindingsOf}
-use Rattle.rule_findings.specs.declared.finding.RuleFinding.{RuleFinding}
-use Rattle.rule_findings.specs.declared.finding.RuleFindingKind.{RuleFindingKind}
+use Rattle.conformance.specs.RuleFindings.{Breach}
+use Rattle.schema_rules.specs.Findings.{AreFindingsOf}
+use Rattle.schema_rules.specs.declared.finding.RuleFinding.{RuleFinding}
+use Rattle.schema_rules.specs.declared.finding.RuleFindingKind.{RuleFindingKind}
 
 -- The list goes on with one for each of these.
 abbrev pub Adds : RuleFindingKind → List Breach → List RuleFinding → List RuleFinding → Type 0

@@ -1,15 +1,15 @@
 -- The references that an inverse attribute inverts, gathered from instances.
 use Rattle.std.specs.Prelude.{◌≡◌, ℕ, cond, List, flat_map, Option, None, Some, slice_get}
 use Rattle.digraph.specs.Graphs.{has}
-use Rattle.express_schemas.specs.Schemas.{Schema}
+use Rattle.express_syntax.specs.Schemas.{Schema}
 use Rattle.conformance.specs.Populations.{Instance}
-use Rattle.row_forms.specs.declared.form.Form.{Form}
-use Rattle.population_rules.specs.Referring.{held}
+use Rattle.population_rows.specs.declared.form.Form.{Form}
+use Rattle.conformance.specs.Referring.{held}
 use Rattle.referrers.specs.declared.referrers.Reference.{Reference}
 use Rattle.referrers.specs.Referring.{referrers_of}
-use Rattle.rule_tables.specs.declared.inverses.InverseAttribute.{InverseAttribute}
-use Rattle.rule_tables.specs.Seen.{inverse_seen}
-use Rattle.step_population.specs.Ordering.{position_among}
+use Rattle.schema_rules.specs.declared.inverses.InverseAttribute.{InverseAttribute}
+use Rattle.schema_rules.specs.Seen.{inverse_seen}
+use Rattle.population_typed.specs.Ordering.{position_among}
 
 -- where instances of a form have the attribute that is inverted; nowhere where they are none of the entity that refers
 abbrev pub position_by : InverseAttribute → Form → Option ℕ

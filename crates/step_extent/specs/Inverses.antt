@@ -1,9 +1,9 @@
 -- The inverse attributes of instances, by number.
 use Rattle.std.specs.Prelude.{ℕ, suc, cond, List, [], ◌∷◌, Option, None, Some, slice_get}
 use Rattle.digraph.specs.Graphs.{has}
-use Rattle.base_types.specs.Seen.{or_empty}
-use Rattle.row_forms.specs.declared.form.Form.{Form}
-use Rattle.rule_tables.specs.declared.inverses.InverseAttribute.{InverseAttribute}
+use Rattle.schema_bases.specs.Seen.{or_empty}
+use Rattle.population_rows.specs.declared.form.Form.{Form}
+use Rattle.schema_rules.specs.declared.inverses.InverseAttribute.{InverseAttribute}
 
 -- the numbers, from n on, of those that instances of a form have
 abbrev pub numbers_by : List InverseAttribute → ℕ → Form → List ℕ

@@ -1,7 +1,7 @@
 -- The number of the inverse attribute of a place: of an entity, and a name by which it declares it.
 use Rattle.std.specs.Prelude.{ℕ, suc, cond, List, [], ◌∷◌, Option, None, Some}
-use Rattle.type_graphs.specs.Attributes.{Place, same_place}
-use Rattle.population_rules.specs.Rules.{InverseAttribute}
+use Rattle.schema_semantics.specs.Attributes.{Place, same_place}
+use Rattle.conformance.specs.Rules.{InverseAttribute}
 
 abbrev pub place_of_inverse : InverseAttribute → Place
 place_of_inverse i = (i.entity, i.name)

@@ -1,26 +1,27 @@
 //! The values of inverse attributes in a population (ISO 10303-11, 9.2.1.3).
 
 ghost use Rattle.std.specs.Prelude.{◌≡◌, IfOk, slice_get};
-ghost use Rattle.express_trees.specs.Views.{capitals};
-ghost use Rattle.express_schemas.specs.Profile.{Every};
-ghost use Rattle.express_schemas.specs.SchemaViews.{schema_of};
-ghost use Rattle.type_graphs.specs.Parts.{dotted};
-ghost use Rattle.unchecked_parts.specs.Adding.{said};
+ghost use Rattle.express_syntax.specs.ExpressionViews.{capitals};
+ghost use Rattle.express_syntax.specs.Profile.{Every};
+ghost use Rattle.express_syntax.specs.SchemaViews.{schema_of};
+ghost use Rattle.schema_semantics.specs.Parts.{dotted};
+ghost use Rattle.schema_parts.specs.Adding.{said};
 ghost use Rattle.schema_names.specs.Numbers.{HasNumber};
-ghost use Rattle.base_types.specs.Seen.{name_at};
-ghost use Rattle.rule_tables.specs.Seen.{label_seen, IsNumberedInverse, AreNumbered};
-ghost use Rattle.step_population.specs.Seen.{population_seen};
+ghost use Rattle.schema_bases.specs.Seen.{name_at};
+ghost use Rattle.schema_rules.specs.Ruled.{AreRuleTables};
+ghost use Rattle.schema_rules.specs.Seen.{label_seen, IsNumberedInverse};
+ghost use Rattle.population_typed.specs.Seen.{population_seen};
 ghost use Rattle.step_extent.specs.Extents.{AllHeld, inverse_value_by};
 
 use crate::gathering::gathered;
+use population_typed::population::Population;
 use referrers::referrers::Referrers;
-use rule_tables::inverses::InverseAttribute;
-use rule_tables::label::RuleLabel;
-use rule_tables::tables::RuleTables;
+use schema_parts::list::Label;
+use schema_rules::inverses::InverseAttribute;
+use schema_rules::label::RuleLabel;
+use schema_rules::tables::RuleTables;
 use std::alloc::{AllocError, Global};
 use step_literals::literal::Word;
-use step_population::population::Population;
-use unchecked_parts::list::Label;
 
 /// A population by the rules of its schema that speak of all of it: who refers to whom, by each
 /// attribute that an inverse attribute inverts.
@@ -30,7 +31,8 @@ pub struct Extents<'s, 't, 'r, 'a, 'e> {
     pub rules: &'e RuleTables<'s>,
     /// For each inverse attribute, those that refer.
     pub(crate) referrers: Vec<Referrers>,
-    pub ghost numbered: { ∥ AreNumbered (schema_of population.now.types.now.names.schema.now)
+    // The rules are those of the schema.
+    pub ghost ruled: { ∥ AreRuleTables (schema_of population.now.types.now.names.schema.now)
         rules.now ∥₁ },
     pub ghost held: { ∥ AllHeld (schema_of population.now.types.now.names.schema.now)
         (population_seen population.now) rules.now.inverses.items referrers.items ∥₁ },
@@ -66,7 +68,7 @@ impl<'s, 't, 'r, 'a, 'e> Extents<'s, 't, 'r, 'a, 'e> {
         population: &'e Population<'s, 't, 'r, 'a>,
         rules: &'e RuleTables<'s>,
     ) -> Result<Extents<'s, 't, 'r, 'a, 'e>, AllocError>
-        requires numbered { AreNumbered (schema_of population.now.types.now.names.schema.now)
+        requires rules { AreRuleTables (schema_of population.now.types.now.names.schema.now)
             rules.now }
         ensures population { IfOk result (λ x. x.population.now ≡ population.entry.now) }
         ensures rules { IfOk result (λ x. x.rules.now ≡ rules.entry.now) }

@@ -3,22 +3,22 @@
 
 ghost use Rattle.std.specs.Prelude.{◌≡◌, ℕ, ◌∷◌, [], ◌++◌, min, IfOk, OnOk};
 ghost use Rattle.std.specs.List.{repeat};
-ghost use Rattle.express_schemas.specs.SchemaViews.{schema_of};
-ghost use Rattle.population_rules.specs.Referring.{holds, times, times_at};
+ghost use Rattle.express_syntax.specs.SchemaViews.{schema_of};
+ghost use Rattle.conformance.specs.Referring.{holds, times, times_at};
 ghost use Rattle.referrers.specs.Referring.{referrers_of};
-ghost use Rattle.rule_tables.specs.Seen.{gathering_seen, IsNumberedInverse};
-ghost use Rattle.step_population.specs.Ordering.{picked_at};
-ghost use Rattle.step_population.specs.Seen.{population_seen};
+ghost use Rattle.schema_rules.specs.Seen.{gathering_seen, IsNumberedInverse};
+ghost use Rattle.population_typed.specs.Ordering.{picked_at};
+ghost use Rattle.population_typed.specs.Seen.{population_seen};
 ghost use Rattle.step_extent.specs.Gathering.{AreHeld};
 ghost use Rattle.step_extent.specs.Targets.{often, references_to};
 
 use crate::positions::{is_somewhere, position_at, positions};
 use crate::targets::add_targets;
+use population_typed::population::Population;
 use referrers::referrers::Reference;
-use rule_tables::gathering::Gathering;
-use rule_tables::inverses::InverseAttribute;
+use schema_rules::gathering::Gathering;
+use schema_rules::inverses::InverseAttribute;
 use std::alloc::{AllocError, Global};
-use step_population::population::Population;
 use step_values::slot::{Slot, Slots};
 
 /// Leaves each name once.

@@ -4,8 +4,8 @@ ghost use Rattle.std.specs.Prelude.{◌≡◌, map, IfOk};
 ghost use Rattle.digraph.specs.Graphs.{has};
 ghost use Rattle.step_extent.specs.Inverses.{numbers_by, row_by};
 
-use row_forms::form::Form;
-use rule_tables::inverses::InverseAttribute;
+use population_rows::form::Form;
+use schema_rules::inverses::InverseAttribute;
 use std::alloc::{AllocError, Global};
 
 /// Whether instances of this form have an inverse attribute.

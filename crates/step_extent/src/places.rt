@@ -1,15 +1,15 @@
 //! The values of inverse attributes by the names of these (ISO 10303-11, 9.2.1.3).
 
 ghost use Rattle.std.specs.Prelude.{◌≡◌, ◌<◌, Some, length, slice_get};
-ghost use Rattle.express_trees.specs.Views.{capitals};
-ghost use Rattle.express_schemas.specs.SchemaViews.{schema_of};
-ghost use Rattle.type_graphs.specs.Attributes.{same_place};
-ghost use Rattle.population_rules.specs.Referring.{inverse_of};
-ghost use Rattle.rule_tables.specs.Seen.{inverse_seen, rules_seen};
-ghost use Rattle.rule_tables.specs.declared.inverses.InverseAttribute.{
+ghost use Rattle.express_syntax.specs.ExpressionViews.{capitals};
+ghost use Rattle.express_syntax.specs.SchemaViews.{schema_of};
+ghost use Rattle.schema_semantics.specs.Attributes.{same_place};
+ghost use Rattle.conformance.specs.Referring.{inverse_of};
+ghost use Rattle.schema_rules.specs.Seen.{inverse_seen, rules_seen};
+ghost use Rattle.schema_rules.specs.declared.inverses.InverseAttribute.{
   InverseAttribute as Attribute,
 };
-ghost use Rattle.step_population.specs.Seen.{population_seen};
+ghost use Rattle.population_typed.specs.Seen.{population_seen};
 ghost use Rattle.step_extent.specs.Places.{place_of_inverse, number_from};
 
 use crate::extents::Extents;

@@ -4,10 +4,10 @@ ghost use Rattle.std.specs.Prelude.{◌≡◌, IfOk, is_some, map};
 ghost use Rattle.std.specs.List.{list_any};
 ghost use Rattle.step_extent.specs.Gathering.{position_at, position_by};
 
-use row_forms::form::Form;
-use rule_tables::inverses::InverseAttribute;
+use population_rows::form::Form;
+use population_typed::reading::position_of;
+use schema_rules::inverses::InverseAttribute;
 use std::alloc::{AllocError, Global};
-use step_population::reading::position_of;
 
 /// Where instances of this form have the attribute that is inverted; nowhere where they are none of
 /// the entity that refers.

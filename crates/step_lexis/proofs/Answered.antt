@@ -6,7 +6,7 @@ use Rattle.step_lexis.specs.Laws.{EachReadingHasAnAnswer}
 use Rattle.step_lexis.proofs.Standing.{token_at}
 use Rattle.step_lexis.proofs.LayoutFound.{layout_found}
 use Rattle.step_lexis.proofs.FrontFound.{FrontAt, front_found}
-use Rattle.lexing.proofs.Answered as lexing
+use Rattle.parsing.proofs.Answered as lexing
 
 found : (l : List ℕ) (place : ℕ) → FrontAt l → lexing.FrontAt lexis l place
 found l place (inl f) =

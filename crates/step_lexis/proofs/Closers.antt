@@ -162,14 +162,6 @@ next_before_closer string t s c closer own = subst (λ l. IsNext string l (c ∷
     (next_string own.0.0 (c ∷ s) own.1)
 next_before_closer k t s c closer own = next_other k t s c closer own (some_bytes k t (c ∷ s) own) (λ q. cc)
 
-allows_moved : (k : TokenKind) (t a b : List ℕ) (c : ℕ) → Allows k t (c ∷ a) → Allows k t (c ∷ b)
-allows_moved string t a b c h = h
-allows_moved _ t a b c h = h
-
--- what stands behind a closer doesn't change the token before it
-pub next_moved : (k : TokenKind) (t a b : List ℕ) (c : ℕ) → is_closer c ≡ true → IsNext k t (c ∷ a) → IsNext k t (c ∷ b)
-next_moved k t a b c closer h = next_before_closer k t b c closer (allows_moved k t a b c h.allowed)
-
 allows_past : (k : TokenKind) (t v a b : List ℕ) (c : ℕ) → Allows k t (v ++ c ∷ a) → Allows k t (v ++ c ∷ b)
 allows_past string t [] a b c h = h
 allows_past string t (x ∷ xs) a b c h = h

@@ -12,8 +12,8 @@ use Rattle.step_literals.specs.Strings.{content_of, IsReadable, IsBrokenAt}
 use Rattle.step_lexis.specs.Front.{kind_of, mark_byte, HasValue, IsFront, IsFlawed, HasBadEscape}
 use Rattle.step_lexis.specs.Reading.{lexis, Reading, Reaches, SameSort}
 use Rattle.step_lexis.specs.Laws.{AnswersAreDetermined, EndIsAnsweredAgain, FaultIsAnsweredAgain, PlacesRise}
-use Rattle.lexing.proofs.Determined as lexing
-use Rattle.lexing.proofs.Determined.{IsUnambiguous}
+use Rattle.parsing.proofs.Determined as lexing
+use Rattle.parsing.proofs.Determined.{IsUnambiguous}
 use Rattle.step_lexis.specs.declared.token.Mark.{Mark}
 use Rattle.step_lexis.specs.declared.token.Mark.TheVariants.{Open, Close, Comma, Semicolon, Equals, Dollar, Asterisk}
 use Rattle.std.specs.Prelude.{◌==◌, if◌then◌else◌}

@@ -1,6 +1,6 @@
 -- Laws of what a lexer answers.
 use Rattle.step_lexis.specs.Reading.{lexis}
-use Rattle.lexing.specs.Laws as laws
+use Rattle.parsing.specs.LexingLaws as laws
 
 -- what is answered is determined by the text and by how far it is read, and so is how far it is read then
 abbrev pub AnswersAreDetermined : Type 0

@@ -7,9 +7,9 @@ use Rattle.step_lexis.specs.declared.token.Sort.TheVariants as sorts
 use Rattle.step_literals.specs.declared.fault.TextFault.{TextFault}
 use Rattle.step_lexis.specs.Front.{IsFront, IsFlawed}
 use Rattle.step_lexis.specs.Layout.{SkipsLayout}
-use Rattle.lexing.specs.Reading as lexing
+use Rattle.parsing.specs.Reading as lexing
 -- a text and how many bytes of it are read, the start behind a byte order mark, and what is left
-pub use Rattle.lexing.specs.Reading.{Reading, start_of, start, left}
+pub use Rattle.parsing.specs.Reading.{Reading, start_of, start, left}
 
 -- two tokens have one kind and one value
 abbrev pub SameSort : Sort → Sort → Type 0

@@ -1,6 +1,6 @@
 -- The bytes of a string from 32 up, and what they begin with.
-use Rattle.std.proofs.Common.{◌≡◌, ℕ, zero, suc, ◌+◌, ◌≤◌, ◌<◌, Bool, true, false, List, [], ◌∷◌, ◌++◌, length, get_or, take, drop, refl, sym, ap, ◌∙◌, arith, append_assoc, length-append, length-take, length-drop, take-append-drop, drop-drop, nat_le, not}
-use Rattle.std.proofs.lemmas.List.{drop_all, take_all}
+use Rattle.std.proofs.Common.{◌≡◌, ℕ, zero, suc, ◌+◌, ◌≤◌, ◌<◌, Bool, true, false, List, [], ◌∷◌, ◌++◌, length, get_or, take, drop, refl, sym, ap, ◌∙◌, arith, append_assoc, take-append-drop, drop-drop, nat_le, not}
+use Rattle.std.proofs.lemmas.List.{take_all}
 use Rattle.std.proofs.lemmas.List.Filters.{length-filter_both}
 use Rattle.std.proofs.lemmas.Bool.Decides.{nat_tests}
 use Rattle.std.specs.Cmp.Lexicographic.{bytes_decides}
@@ -75,31 +75,6 @@ pub differs : (text bs : List ℕ) (k first : ℕ) (back : List ℕ) → bs ≡ 
     → (first ≡ get_or text k 0 → ⊥) → begins_with text bs ≡ false
 differs text bs k first back e lt other =
     begins_no text bs (λ rest h. other (same_at text k first back rest (sym e ∙ h) lt))
-
--- an end before the text's
-pub too_short : (text bs back : List ℕ) (k : ℕ) → bs ≡ take k text ++ back → back ≡ [] → k < length text
-    → begins_with text bs ≡ false
-too_short text bs back k e none lt =
-    begins_no text bs (λ rest h. omega (
-      arith,
-      ap length e,
-      ap length h,
-      ap length none,
-      length-append (take k text)
-          back,
-      length-append text rest,
-      length-take k text,
-    ))
-
--- past the end nothing is left
-pub skips_all : {n m : ℕ} {before after : List ℕ} → Skips n before after → clean after ≡ [] → n ≤ m
-    → Skips m before after
-skips_all {n} {m} {before} {after} h none more = record {
-  passed = h.passed;
-  split = h.split;
-  left = none ∙ sym (drop_all m (clean before)
-      (omega (arith, ap length (sym h.left ∙ none), length-drop n (clean before), more)));
-}
 
 pub clean_le : (bs : List ℕ) → length (clean bs) ≤ length bs
 clean_le bs = omega (arith, length-filter_both (λ b. nat_le 32 b) (λ b. not (nat_le 32 b)) (λ b. refl) bs)

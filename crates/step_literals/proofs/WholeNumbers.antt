@@ -1,6 +1,5 @@
 -- Bytes that are a number and nothing more.
-use Rattle.std.proofs.Common.{◌≡◌, ℕ, ◌≤◌, ◌<◌, Bool, true, false, cond, ◌||◌, List, [], ◌∷◌, ◌++◌, length, get_or, take, drop, refl, sym, ap, ◌∙◌, arith, append-nil, append_assoc, take-append-drop, subst, inl, inr}
-use Rattle.std.proofs.lemmas.Bool.{false≢true}
+use Rattle.std.proofs.Common.{◌≡◌, ℕ, ◌≤◌, ◌<◌, Bool, true, cond, ◌||◌, List, [], ◌∷◌, ◌++◌, length, take, drop, refl, sym, ap, ◌∙◌, arith, append-nil, append_assoc, take-append-drop, subst, inl, inr}
 use Rattle.std.proofs.lemmas.Bool.Decides.{nat_tests}
 use Rattle.step_literals.specs.Bytes.{is_digit}
 use Rattle.step_literals.specs.Tokens.{is_sign, IsSign, IsDigits, integer, real, IsNext, NoneAt}
@@ -27,12 +26,6 @@ begins_number (x ∷ y ∷ ys) ds rest l hs hd e = absurd hs
 starts : (t : List ℕ) → IsNumber t → StartsNumber t
 starts t (inl h) = begins_number h.0 h.1 [] t h.2 h.3 (ap (λ l. h.0 ++ l) (append-nil h.1) ∙ sym h.4)
 starts t (inr h) = begins_number h.0 h.1 (46 ∷ (h.2 ++ h.3)) t h.4 h.5 ((simp append_assoc) ∙ sym h.8)
-
--- bytes that don't begin as a number does are none
-pub no_start : (t : List ℕ) → (0 < length t → (is_digit (get_or t 0 0) || is_sign (get_or t 0 0)) ≡ false) → IsNumber t
-    → ⊥
-no_start [] h n = starts [] n
-no_start (b ∷ bs) h n = false≢true (sym (h (omega arith)) ∙ starts (b ∷ bs) n)
 
 spelled_next : (t l after : List ℕ) (b : Bool) → IsNext (cond b real integer) l after → l ++ after ≡ t → IsNumber t
     → length t ≤ length l

@@ -7,21 +7,21 @@ use Rattle.std.specs.Ordering.{nat_cmp}
 use Rattle.std.proofs.Common.{refl, sym, ap, subst, ◌∙◌, inl, inr}
 use Rattle.std.proofs.lemmas.Bool.{eqb-true, eq-eqb}
 use Rattle.std.proofs.lemmas.Map.Keys.{IsDistinct-head, IsDistinct-tail}
-use Rattle.express_schemas.specs.Schemas.{Schema}
-use Rattle.type_graphs.specs.Names.{Name, OneOf, Among}
-use Rattle.type_graphs.specs.Attributes.{Place}
+use Rattle.express_syntax.specs.Schemas.{Schema}
+use Rattle.schema_semantics.specs.Names.{Name, OneOf, Among}
+use Rattle.schema_semantics.specs.Attributes.{Place}
 use Rattle.conformance.specs.Bases.{Domain}
 use Rattle.conformance.specs.Entities.{Entities}
 use Rattle.conformance.specs.Fitting.{among}
 use Rattle.conformance.specs.Populations.{Slot, Instance, slot_at, instance_at, types_in, types_at}
-use Rattle.conforming_values.specs.Standing.{InBag, StandsInBag}
-use Rattle.population_rules.specs.Laws.{names}
-use Rattle.population_rules.specs.Pins.{HasUnchosenLeaf, OccursAt, IsInKey, IsInverseSide, StandsInsideUnique, IsPinnedElsewhere, IsWeaklyPinned}
-use Rattle.population_rules.specs.Rules.{UniqueRule, Rules}
-use Rattle.population_rules.proofs.Holding.{named_at}
-use Rattle.population_rules.proofs.Standing.{one_is, found}
+use Rattle.conformance.specs.Standing.{InBag, StandsInBag}
+use Rattle.conformance.specs.RuleLaws.{names}
+use Rattle.conformance.specs.Pins.{HasUnchosenLeaf, OccursAt, IsInKey, IsInverseSide, StandsInsideUnique, IsPinnedElsewhere, IsWeaklyPinned}
+use Rattle.conformance.specs.Rules.{UniqueRule, Rules}
+use Rattle.conformance.proofs.Holding.{named_at}
+use Rattle.conformance.proofs.Standing.{one_is, found}
 use Rattle.step_equal.specs.Maps.{is_pinned}
-use Rattle.value_pins.specs.Pinning.{Pins}
+use Rattle.step_pins.specs.Pinning.{Pins}
 use Rattle.step_pins.specs.Rows.{ArePinned, StandsInKey, PinsByForm}
 
 -- the instance of a name

@@ -2,17 +2,17 @@
 use Rattle.std.specs.Prelude.{◌≡◌, ℕ, zero, suc, ◌+◌, ◌<◌, ◌≤◌, List, [], ◌∷◌, length, drop, Option, None, Some, ◌⊎◌, ◌↔◌}
 use Rattle.std.specs.BTreeSet.{BTreeSet}
 use Rattle.std.proofs.Common.{refl, sym, ap, subst, ◌∙◌, arith, add-one}
-use Rattle.express_schemas.specs.Schemas.{Schema}
-use Rattle.type_graphs.specs.Names.{OneOf}
+use Rattle.express_syntax.specs.Schemas.{Schema}
+use Rattle.schema_semantics.specs.Names.{OneOf}
 use Rattle.conformance.specs.Populations.{Slot}
-use Rattle.conforming_values.specs.Standing.{InBag}
-use Rattle.row_forms.specs.declared.form.SlotForm.{SlotForm}
-use Rattle.step_population.specs.Seen.{slots_seen}
+use Rattle.conformance.specs.Standing.{InBag}
+use Rattle.population_rows.specs.declared.form.SlotForm.{SlotForm}
+use Rattle.population_typed.specs.Seen.{slots_seen}
 use Rattle.step_values.specs.Slots.{nth}
 use Rattle.step_values.specs.Values.{Value, Values, none, more}
 use Rattle.step_values.proofs.Walks.{after, after_at}
-use Rattle.value_pins.specs.Pinning.{Pins, PinsUpTo}
-use Rattle.value_pins.proofs.Pinning as pinning
+use Rattle.step_pins.specs.Pinning.{Pins, PinsUpTo}
+use Rattle.step_pins.proofs.Pinning as pinning
 
 drop-some : {A : Type 0} (xs : List A) (i : ℕ) → i < length xs → (x : A) × (drop i xs ≡ x ∷ drop (i + 1) xs)
 drop-some [] i lt = absurd (omega (arith, lt))

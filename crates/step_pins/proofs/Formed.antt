@@ -4,37 +4,37 @@ use Rattle.std.specs.List.{AllZip, list_any, cons_option}
 use Rattle.std.proofs.Common.{refl, sym, ap, subst, ◌∙◌, inl, inr}
 use Rattle.std.proofs.lemmas.Bool.{and_parts, and_from, or_cases, or_left, or_right}
 use Rattle.digraph.specs.Graphs.{Graph, has, next}
-use Rattle.express_schemas.specs.Schemas.{Schema, Declaration, type, entity, skipped}
-use Rattle.express_schemas.specs.Profile.{Every}
-use Rattle.type_graphs.specs.Names.{Name, OneOf, Among, IsEntity, declaration_of}
-use Rattle.type_graphs.specs.Attributes.{Place}
-use Rattle.type_graphs.specs.Faults.{IsResolved}
-use Rattle.type_graphs.proofs.Lists.{every-at}
+use Rattle.express_syntax.specs.Schemas.{Schema, Declaration, type, entity, skipped}
+use Rattle.express_syntax.specs.Profile.{Every}
+use Rattle.schema_semantics.specs.Names.{Name, OneOf, Among, IsEntity, declaration_of}
+use Rattle.schema_semantics.specs.Attributes.{Place}
+use Rattle.schema_semantics.specs.Faults.{IsResolved}
+use Rattle.schema_semantics.proofs.Lists.{every-at}
 use Rattle.schema_names.specs.Numbers.{HasNumber}
 use Rattle.schema_names.proofs.Numbers.{stands-at}
-use Rattle.own_attributes.specs.Above.{AreAbove}
-use Rattle.attribute_places.specs.Places.{all_places}
-use Rattle.attribute_places.proofs.Repeats.{AreOne}
-use Rattle.base_types.specs.Making.{is_some_entity, is_entity_at}
-use Rattle.base_types.specs.Seen.{name_at}
+use Rattle.schema_places.specs.Above.{AreAbove}
+use Rattle.schema_places.specs.Places.{all_places}
+use Rattle.schema_places.proofs.Repeats.{AreOne}
+use Rattle.schema_bases.specs.Making.{is_some_entity, is_entity_at}
+use Rattle.schema_bases.specs.Seen.{name_at}
 use Rattle.conformance.specs.Entities.{Entities, AreEntities, is_leaf}
 use Rattle.conformance.specs.Fitting.{among}
 use Rattle.conformance.specs.Populations.{Slot, Instance, slot_at}
-use Rattle.instance_forms.specs.Marked.{is_above}
-use Rattle.row_forms.specs.declared.form.Form.{Form}
-use Rattle.row_forms.specs.declared.form.SlotForm.{SlotForm}
-use Rattle.instance_forms.proofs.Naming.{among-is}
-use Rattle.instance_forms.proofs.Kindred.{below-is}
-use Rattle.population_rules.specs.Pins.{HasUnchosenLeaf, OccursAt}
-use Rattle.population_rules.specs.Rules as rules
-use Rattle.rule_tables.specs.declared.uniques.UniqueRule.{UniqueRule}
-use Rattle.rule_tables.specs.Seen.{unique_seen, IsNumberedUnique}
-use Rattle.chosen_types.specs.Chosen.{is_chosen, AreChosen}
-use Rattle.chosen_types.specs.declared.choice.Chosen.{Chosen}
-use Rattle.step_population.specs.Ordering.{position_among, picked_at}
-use Rattle.step_population.specs.Seen.{place_at, slots_seen}
-use Rattle.step_population.specs.Whole.{AreNumbered}
-use Rattle.step_population.proofs.Found.{value-at-number}
+use Rattle.population_layouts.specs.Marked.{is_above}
+use Rattle.population_rows.specs.declared.form.Form.{Form}
+use Rattle.population_rows.specs.declared.form.SlotForm.{SlotForm}
+use Rattle.population_layouts.proofs.Naming.{among-is}
+use Rattle.population_layouts.proofs.Kindred.{below-is}
+use Rattle.conformance.specs.Pins.{HasUnchosenLeaf, OccursAt}
+use Rattle.conformance.specs.Rules as rules
+use Rattle.schema_rules.specs.declared.uniques.UniqueRule.{UniqueRule}
+use Rattle.schema_rules.specs.Seen.{unique_seen, IsNumberedUnique}
+use Rattle.pin_choices.specs.Chosen.{is_chosen, AreChosen}
+use Rattle.pin_choices.specs.declared.choice.Chosen.{Chosen}
+use Rattle.population_typed.specs.Ordering.{position_among, picked_at}
+use Rattle.population_typed.specs.Seen.{place_at, slots_seen}
+use Rattle.population_typed.specs.Whole.{AreNumbered}
+use Rattle.population_typed.proofs.Found.{value-at-number}
 use Rattle.step_extent.proofs.Held.{take-next}
 use Rattle.step_values.specs.Slots.{nth}
 use Rattle.step_values.specs.Values.{Values}

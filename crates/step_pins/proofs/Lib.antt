@@ -1,3 +1,14 @@
+pub mod Pinning
+pub mod Listing
+pub mod Walking
+pub mod Classmates
+pub mod Tabled
+pub mod Unheld
+pub mod WalkingElements
+pub mod Adding
+pub mod Listed
+pub mod Asked
+pub mod Rowed
 pub mod Distinct
 pub mod Formed
 pub mod Ruled

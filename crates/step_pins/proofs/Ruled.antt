@@ -4,24 +4,24 @@ use Rattle.std.specs.List.{AllZip}
 use Rattle.std.proofs.Common.{sym, subst, ◌∙◌, inl, inr}
 use Rattle.std.proofs.lemmas.Bool.{or_cases, or_left, or_right}
 use Rattle.digraph.specs.Graphs.{graph_of}
-use Rattle.express_schemas.specs.Schemas.{Schema}
-use Rattle.express_schemas.specs.Profile.{Every}
-use Rattle.type_graphs.specs.Names.{Name, OneOf}
-use Rattle.type_graphs.specs.Faults.{IsResolved}
-use Rattle.own_attributes.specs.Above.{AreAbove}
-use Rattle.attribute_places.specs.Places.{all_places}
-use Rattle.attribute_places.proofs.Repeats.{AreOne}
-use Rattle.base_types.specs.Seen.{name_at}
+use Rattle.express_syntax.specs.Schemas.{Schema}
+use Rattle.express_syntax.specs.Profile.{Every}
+use Rattle.schema_semantics.specs.Names.{Name, OneOf}
+use Rattle.schema_semantics.specs.Faults.{IsResolved}
+use Rattle.schema_places.specs.Above.{AreAbove}
+use Rattle.schema_places.specs.Places.{all_places}
+use Rattle.schema_places.proofs.Repeats.{AreOne}
+use Rattle.schema_bases.specs.Seen.{name_at}
 use Rattle.conformance.specs.Entities.{Entities, AreEntities}
 use Rattle.conformance.specs.Fitting.{among}
 use Rattle.conformance.specs.Populations.{Instance}
-use Rattle.row_forms.specs.declared.form.Form.{Form}
-use Rattle.population_rules.specs.Pins.{HasUnchosenLeaf, OccursAt}
-use Rattle.population_rules.specs.Rules as rules
-use Rattle.rule_tables.specs.Seen.{unique_seen, IsNumberedUnique}
-use Rattle.chosen_types.specs.Chosen.{AreChosen}
-use Rattle.step_population.specs.Seen.{instance_seen}
-use Rattle.step_population.specs.Whole.{form_among, ArePlaced, HaveEntities, AreNumbered}
+use Rattle.population_rows.specs.declared.form.Form.{Form}
+use Rattle.conformance.specs.Pins.{HasUnchosenLeaf, OccursAt}
+use Rattle.conformance.specs.Rules as rules
+use Rattle.schema_rules.specs.Seen.{unique_seen, IsNumberedUnique}
+use Rattle.pin_choices.specs.Chosen.{AreChosen}
+use Rattle.population_typed.specs.Seen.{instance_seen}
+use Rattle.population_typed.specs.Whole.{form_among, ArePlaced, HaveEntities, AreNumbered}
 use Rattle.step_values.specs.Slots.{nth}
 use Rattle.step_values.specs.Values.{Values}
 use Rattle.step_pins.specs.Forms.{has_unchosen_leaf, states_rule, keys_by, IsFormRules}

@@ -3,26 +3,26 @@ use Rattle.std.specs.Prelude.{◌≡◌, ℕ, suc, zero, ◌+◌, ◌==◌, Bool
 use Rattle.std.specs.List.{IsDistinct}
 use Rattle.std.proofs.Common.{refl, sym, ap, subst, ◌∙◌, inl, inr, arith}
 use Rattle.digraph.specs.Graphs.{has}
-use Rattle.express_schemas.specs.Schemas.{Schema}
-use Rattle.express_schemas.specs.Profile.{Every}
-use Rattle.type_graphs.specs.Names.{OneOf, Among}
-use Rattle.base_types.specs.Seen.{name_at}
+use Rattle.express_syntax.specs.Schemas.{Schema}
+use Rattle.express_syntax.specs.Profile.{Every}
+use Rattle.schema_semantics.specs.Names.{OneOf, Among}
+use Rattle.schema_bases.specs.Seen.{name_at}
 use Rattle.conformance.specs.Fitting.{among}
 use Rattle.conformance.specs.Populations.{Instance, types_at}
-use Rattle.row_forms.specs.declared.form.Form.{Form}
-use Rattle.instance_forms.proofs.Naming.{among-is}
-use Rattle.population_rules.specs.Laws.{names}
-use Rattle.population_rules.specs.Pins.{IsInverseSide}
-use Rattle.population_rules.specs.Referring.{held, inverse_value}
-use Rattle.population_rules.specs.Rules as rules
-use Rattle.population_rules.proofs.Holding.{named_at, inverse_sides_are_held}
-use Rattle.population_rules.proofs.Standing.{one_is, found}
-use Rattle.rule_tables.specs.Seen.{inverse_seen, IsNumberedInverse}
-use Rattle.rule_tables.specs.declared.inverses.InverseAttribute.{InverseAttribute}
+use Rattle.population_rows.specs.declared.form.Form.{Form}
+use Rattle.population_layouts.proofs.Naming.{among-is}
+use Rattle.conformance.specs.RuleLaws.{names}
+use Rattle.conformance.specs.Pins.{IsInverseSide}
+use Rattle.conformance.specs.Referring.{held, inverse_value}
+use Rattle.conformance.specs.Rules as rules
+use Rattle.conformance.proofs.Holding.{named_at, inverse_sides_are_held}
+use Rattle.conformance.proofs.Standing.{one_is, found}
+use Rattle.schema_rules.specs.Seen.{inverse_seen, IsNumberedInverse}
+use Rattle.schema_rules.specs.declared.inverses.InverseAttribute.{InverseAttribute}
 use Rattle.step_extent.specs.Extents.{inverse_value_by}
 use Rattle.step_extent.specs.Inverses.{numbers_by, row_by}
-use Rattle.step_population.specs.Seen.{instance_seen}
-use Rattle.step_population.specs.Whole.{form_among, AreNumbered}
+use Rattle.population_typed.specs.Seen.{instance_seen}
+use Rattle.population_typed.specs.Whole.{form_among, AreNumbered}
 use Rattle.step_values.specs.Values.{Values}
 use Rattle.step_pins.specs.Sides.{IsOnSide, IsOnSideOf}
 

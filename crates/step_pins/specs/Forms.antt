@@ -2,12 +2,12 @@
 use Rattle.std.specs.Prelude.{◌≡◌, ℕ, ◌&&◌, ◌||◌, not, Bool, cond, List, [], flat_map, filter_map}
 use Rattle.std.specs.List.{list_any}
 use Rattle.digraph.specs.Graphs.{Graph, graph_of, has}
-use Rattle.instance_forms.specs.Marked.{is_above}
-use Rattle.row_forms.specs.declared.form.Form.{Form}
-use Rattle.rule_tables.specs.declared.uniques.UniqueRule.{UniqueRule}
-use Rattle.chosen_types.specs.Chosen.{is_chosen}
-use Rattle.chosen_types.specs.declared.choice.Chosen.{Chosen}
-use Rattle.step_population.specs.Ordering.{position_among}
+use Rattle.population_layouts.specs.Marked.{is_above}
+use Rattle.population_rows.specs.declared.form.Form.{Form}
+use Rattle.schema_rules.specs.declared.uniques.UniqueRule.{UniqueRule}
+use Rattle.pin_choices.specs.Chosen.{is_chosen}
+use Rattle.pin_choices.specs.declared.choice.Chosen.{Chosen}
+use Rattle.population_typed.specs.Ordering.{position_among}
 use Rattle.step_pins.specs.declared.forms.FormRules.{FormRules}
 use Rattle.step_pins.specs.declared.forms.Sources.{Sources}
 

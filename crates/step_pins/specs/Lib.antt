@@ -1,3 +1,8 @@
+pub mod Pinning
+pub mod Classes
+pub mod Elements
+pub mod Holding
+pub mod Slots
 pub mod Forms
 pub mod Rows
 pub mod Sides

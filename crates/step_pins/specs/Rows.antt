@@ -1,16 +1,16 @@
 -- What instances pin by their types, by uniqueness rules, and by SETs and BAGs.
 use Rattle.std.specs.Prelude.{◌≡◌, ℕ, IsTrue, List, Option, None, Some, ◌⊎◌, slice_get}
-use Rattle.express_schemas.specs.Schemas.{Schema}
-use Rattle.type_graphs.specs.Names.{Name, OneOf}
-use Rattle.type_graphs.specs.Attributes.{Place}
+use Rattle.express_syntax.specs.Schemas.{Schema}
+use Rattle.schema_semantics.specs.Names.{Name, OneOf}
+use Rattle.schema_semantics.specs.Attributes.{Place}
 use Rattle.conformance.specs.Entities.{Entities}
 use Rattle.conformance.specs.Fitting.{among}
 use Rattle.conformance.specs.Populations.{Slot, Instance, slot_at}
-use Rattle.conforming_values.specs.Standing.{InBag}
-use Rattle.population_rules.specs.Pins.{HasUnchosenLeaf, OccursAt}
-use Rattle.population_rules.specs.Rules.{UniqueRule}
-use Rattle.row_forms.specs.declared.form.Form.{Form}
-use Rattle.step_population.specs.Seen.{slots_seen}
+use Rattle.conformance.specs.Standing.{InBag}
+use Rattle.conformance.specs.Pins.{HasUnchosenLeaf, OccursAt}
+use Rattle.conformance.specs.Rules.{UniqueRule}
+use Rattle.population_rows.specs.declared.form.Form.{Form}
+use Rattle.population_typed.specs.Seen.{slots_seen}
 use Rattle.step_values.specs.Slots.{nth}
 use Rattle.step_values.specs.Values.{Values}
 use Rattle.step_pins.specs.declared.forms.FormRules.{FormRules}

@@ -1,9 +1,9 @@
 -- The instances on the sides of inverse attributes, by those that these hold.
 use Rattle.std.specs.Prelude.{◌≡◌, ℕ, List, slice_get, ◌⊎◌}
-use Rattle.express_schemas.specs.Schemas.{Schema}
-use Rattle.type_graphs.specs.Names.{OneOf}
+use Rattle.express_syntax.specs.Schemas.{Schema}
+use Rattle.schema_semantics.specs.Names.{OneOf}
 use Rattle.conformance.specs.Populations.{Instance}
-use Rattle.rule_tables.specs.declared.inverses.InverseAttribute.{InverseAttribute}
+use Rattle.schema_rules.specs.declared.inverses.InverseAttribute.{InverseAttribute}
 use Rattle.step_extent.specs.Extents.{inverse_value_by}
 
 -- y is one of those that an inverse attribute of an instance holds, or that instance

@@ -3,8 +3,8 @@
 ghost use Rattle.std.specs.Prelude.{◌≡◌, ◌++◌, filter_map, IfOk, OnOk};
 ghost use Rattle.std.specs.List.{AllZip};
 ghost use Rattle.digraph.specs.Graphs.{graph_of, next};
-ghost use Rattle.instance_forms.specs.Marked.{is_above};
-ghost use Rattle.step_population.specs.Ordering.{position_among};
+ghost use Rattle.population_layouts.specs.Marked.{is_above};
+ghost use Rattle.population_typed.specs.Ordering.{position_among};
 ghost use Rattle.step_pins.specs.Forms.{
   has_unchosen_leaf,
   states_rule,
@@ -13,11 +13,11 @@ ghost use Rattle.step_pins.specs.Forms.{
   IsFormRules,
 };
 
-use chosen_types::choice::Chosen;
-use row_forms::form::{Form, SlotForm};
-use rule_tables::uniques::UniqueRule;
+use pin_choices::choice::Chosen;
+use population_rows::form::{Form, SlotForm};
+use population_typed::reading::position_of;
+use schema_rules::uniques::UniqueRule;
 use std::alloc::{AllocError, Global};
-use step_population::reading::position_of;
 
 /// What pins the instances of a form, and what they pin by uniqueness rules.
 #[derive(Drop)]

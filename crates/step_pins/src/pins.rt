@@ -1,24 +1,24 @@
 //! The instances that keep their identity.
 
 ghost use Rattle.std.specs.Prelude.{◌≡◌, ℕ, IsTrue, ◌⊎◌, ◌↔◌, IfOk};
-ghost use Rattle.express_schemas.specs.SchemaViews.{schema_of};
-ghost use Rattle.type_graphs.specs.Names.{OneOf};
-ghost use Rattle.resolved_types.specs.Made.{IsMade};
+ghost use Rattle.express_syntax.specs.SchemaViews.{schema_of};
+ghost use Rattle.schema_semantics.specs.Names.{OneOf};
+ghost use Rattle.schema_types.specs.Made.{IsMade};
 ghost use Rattle.conformance.specs.Bases.{Domain, IsDomain};
 ghost use Rattle.conformance.specs.Entities.{Entities, AreEntities};
-ghost use Rattle.population_rules.specs.Pins.{StandsBesideItsClass};
+ghost use Rattle.conformance.specs.Pins.{StandsBesideItsClass};
 ghost use Rattle.step_equal.specs.Tables.{shares};
 ghost use Rattle.step_equal.specs.TableViews.{table_of};
-ghost use Rattle.step_population.specs.Seen.{population_seen};
+ghost use Rattle.population_typed.specs.Seen.{population_seen};
 ghost use Rattle.step_pins.specs.Pinned.{is_pinned};
 
+use crate::classes::Classes;
+use crate::elements::Elements;
+use crate::unique_elements::pin_elements;
+use population_typed::population::Population;
 use std::alloc::{AllocError, Global};
 use std::collections::BTreeSet;
 use step_equal::table::Table;
-use step_population::population::Population;
-use unique_elements::elements::pin_elements;
-use value_pins::classes::Classes;
-use value_pins::elements::Elements;
 
 /// The instances that keep their identity, by name.
 #[derive(Drop)]

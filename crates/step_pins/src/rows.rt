@@ -1,32 +1,32 @@
 //! Pinning what forms, uniqueness rules, SETs and BAGs pin, instance by instance.
 
 ghost use Rattle.std.specs.Prelude.{List, OnOk};
-ghost use Rattle.express_schemas.specs.Schemas.{Schema};
-ghost use Rattle.express_schemas.specs.SchemaViews.{schema_of};
-ghost use Rattle.type_graphs.specs.Names.{Name, OneOf};
-ghost use Rattle.resolved_types.specs.Made.{IsMade};
-ghost use Rattle.chosen_types.specs.Chosen.{AreChosen};
+ghost use Rattle.express_syntax.specs.Schemas.{Schema};
+ghost use Rattle.express_syntax.specs.SchemaViews.{schema_of};
+ghost use Rattle.schema_semantics.specs.Names.{Name, OneOf};
+ghost use Rattle.schema_types.specs.Made.{IsMade};
+ghost use Rattle.pin_choices.specs.Chosen.{AreChosen};
 ghost use Rattle.conformance.specs.Entities.{Entities, AreEntities};
-ghost use Rattle.conforming_values.specs.Standing.{InBag};
-ghost use Rattle.population_rules.specs.Pins.{OccursAt};
-ghost use Rattle.rule_tables.specs.Seen.{AreNumbered, rules_seen};
-ghost use Rattle.step_population.specs.Seen.{population_seen, slots_seen};
+ghost use Rattle.conformance.specs.Standing.{InBag};
+ghost use Rattle.conformance.specs.Pins.{OccursAt};
+ghost use Rattle.schema_rules.specs.Seen.{AreNumbered, rules_seen};
+ghost use Rattle.population_typed.specs.Seen.{population_seen, slots_seen};
 ghost use Rattle.step_values.specs.Slots.{nth};
-ghost use Rattle.value_pins.specs.Pinning.{Pins};
+ghost use Rattle.step_pins.specs.Pinning.{Pins};
 ghost use Rattle.step_pins.specs.Rows.{PinsByForm, PinnedAt, PinnedBy, PinnedAmong};
 
+use crate::bags::pin_in_bags;
 use crate::forms::{FormRules, Sources, rules_by_form};
-use chosen_types::choice::Chosen;
-use row_forms::form::{Form, SlotForm};
-use rule_tables::tables::RuleTables;
+use crate::pinned_names::pin;
+use crate::targets::pin_targets;
+use pin_choices::choice::Chosen;
+use population_rows::form::{Form, SlotForm};
+use population_typed::instances::InstanceRow;
+use population_typed::population::Population;
+use schema_rules::tables::RuleTables;
 use std::alloc::{AllocError, Global};
 use std::collections::BTreeSet;
-use step_population::instances::InstanceRow;
-use step_population::population::Population;
 use step_values::slot::Slots;
-use value_pins::bags::pin_in_bags;
-use value_pins::set::pin;
-use value_pins::targets::pin_targets;
 
 /// Pins what the values at these positions refer to.
 fn pin_keys(

@@ -1,19 +1,19 @@
 //! Pinning the instances on the sides of inverse attributes (ISO 10303-11, 9.2.1.3).
 
 ghost use Rattle.std.specs.Prelude.{OnOk};
-ghost use Rattle.express_schemas.specs.SchemaViews.{schema_of};
-ghost use Rattle.type_graphs.specs.Names.{OneOf};
-ghost use Rattle.population_rules.specs.Pins.{IsInverseSide};
-ghost use Rattle.rule_tables.specs.Seen.{AreNumbered, rules_seen};
-ghost use Rattle.step_population.specs.Seen.{population_seen};
-ghost use Rattle.value_pins.specs.Pinning.{Pins};
+ghost use Rattle.express_syntax.specs.SchemaViews.{schema_of};
+ghost use Rattle.schema_semantics.specs.Names.{OneOf};
+ghost use Rattle.conformance.specs.Pins.{IsInverseSide};
+ghost use Rattle.schema_rules.specs.Seen.{AreNumbered, rules_seen};
+ghost use Rattle.population_typed.specs.Seen.{population_seen};
+ghost use Rattle.step_pins.specs.Pinning.{Pins};
 ghost use Rattle.step_pins.specs.Sides.{IsOnSide, IsOnSideOf};
 
+use crate::pinned_names::{pin, pin_all};
 use std::alloc::{AllocError, Global};
 use std::collections::BTreeSet;
 use step_extent::extents::Extents;
 use step_extent::inverses::{numbers_by_form, row_at};
-use value_pins::set::{pin, pin_all};
 
 /// Pins an instance and those that an inverse attribute of it holds, where it holds any.
 fn pin_side(pinned: &mut BTreeSet<u64>, name: u64, held: &[u64]) -> Result<(), AllocError>

@@ -1,26 +1,26 @@
 //! The pins of a population by the weak rules.
 
 ghost use Rattle.std.specs.Prelude.{ℕ, List, IsTrue, ◌↔◌, IfOk};
-ghost use Rattle.express_schemas.specs.SchemaViews.{schema_of};
-ghost use Rattle.type_graphs.specs.Names.{Name};
-ghost use Rattle.resolved_types.specs.Made.{IsMade};
+ghost use Rattle.express_syntax.specs.SchemaViews.{schema_of};
+ghost use Rattle.schema_semantics.specs.Names.{Name};
+ghost use Rattle.schema_types.specs.Made.{IsMade};
 ghost use Rattle.conformance.specs.Bases.{Domain, IsDomain};
 ghost use Rattle.conformance.specs.Entities.{Entities, AreEntities};
-ghost use Rattle.population_rules.specs.Pins.{IsWeaklyPinned};
-ghost use Rattle.rule_tables.specs.Seen.{AreNumbered, rules_seen};
-ghost use Rattle.chosen_types.specs.Chosen.{AreChosen};
-ghost use Rattle.step_population.specs.Seen.{population_seen};
+ghost use Rattle.conformance.specs.Pins.{IsWeaklyPinned};
+ghost use Rattle.schema_rules.specs.Seen.{AreNumbered, rules_seen};
+ghost use Rattle.pin_choices.specs.Chosen.{AreChosen};
+ghost use Rattle.population_typed.specs.Seen.{population_seen};
 ghost use Rattle.step_pins.specs.Pinned.{is_pinned};
 
+use crate::elements::Elements;
 use crate::pins::Pins;
 use crate::rows::pin_by_forms;
 use crate::sides::pin_sides;
-use chosen_types::choice::Chosen;
+use crate::unique_elements::pin_elements;
+use pin_choices::choice::Chosen;
 use std::alloc::{AllocError, Global};
 use std::collections::BTreeSet;
 use step_extent::extents::Extents;
-use unique_elements::elements::pin_elements;
-use value_pins::elements::Elements;
 
 /// The pins of a population, by the weak rules: an instance is pinned where
 /// - one of its types that no other of them is below isn't chosen;

@@ -1,8 +1,7 @@
 pub mod Turns
-pub mod Found
-pub mod Rowwise
-pub mod Ordered
-pub mod Orders
-pub mod Headed
-pub mod Copied
-pub mod RowsMade
+pub mod Typed
+pub mod Clean
+pub mod Populating
+pub mod Judged
+pub mod Verdicts
+pub mod Entities

@@ -1,5 +1,2 @@
-pub mod Whole
-pub mod Seen
-pub mod Instances
-pub mod PlainRows
-pub mod Ordering
+pub mod Making
+pub mod Verdicts

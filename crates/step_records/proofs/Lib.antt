@@ -1,8 +1,16 @@
+mod Asking
+mod Leaves
+mod Built
+mod Runs
+mod ParamKeywords
+mod Spellings
+pub mod Weights
+pub mod Parts
 pub mod Taking
 pub mod Looking
 pub mod ParamSteps
 pub mod Pushing
-pub mod Keywords
+pub mod RecordKeywords
 pub mod RecordSteps
 pub mod Recording
 pub mod RowSteps

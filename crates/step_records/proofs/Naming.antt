@@ -12,10 +12,6 @@ pub has_key : (k : ℕ) (names : List ℕ) → has_name k names ≡ list_any (na
 has_key k [] = refl
 has_key k (n ∷ ns) = ap (λ b. nat_eq k n || b) (has_key k ns)
 
-pub insert_absent : (k : ℕ) (names : List ℕ) → has_name k names ≡ false
-    → insert_key nat_eq names k ≡ names ++ k ∷ []
-insert_absent k names h = ap (λ b. if b then names else names ++ k ∷ []) (sym (has_key k names) ∙ h)
-
 -- names beyond the greatest
 not_same : (n m g : ℕ) → m ≤ g → g < n → (n == m) ≡ false
 not_same n m g h k = grind (arith, nat_tests)
@@ -72,9 +68,6 @@ has_more n zero (x ∷ xs) h = or_none (n == x)
 has_more n (suc i) (x ∷ xs) h = ap (λ b. n == x || b) (has_more n i xs (omega (arith, h)))
     ∙ or_assoc (n == x) (has_name n (take i xs)) (n == slice_index xs i)
 
-pub first_begin : (names : List ℕ) → AreFirst [] 0 names
-first_begin names = record { within = omega arith; same = λ n. refl }
-
 pub first_next : (set : List ℕ) (i : ℕ) (names : List ℕ) → AreFirst set i names → i < length names
     → AreFirst (insert_key nat_eq set (slice_index names i)) (i + 1) names
 first_next set i names f h =
@@ -94,9 +87,6 @@ take_all (suc i) (x ∷ xs) h = ap (λ l. x ∷ l) (take_all i xs (omega (arith,
 pub first_all : (set : List ℕ) (i : ℕ) (names : List ℕ) → AreFirst set i names → length names ≤ i → (n : ℕ)
     → has_name n set ≡ has_name n names
 first_all set i names f h n = f.same n ∙ ap (has_name n) (take_all i names h)
-
-pub kept_begin : IsKept [] 0 [] 0
-kept_begin = record { bound = tt; first = first_begin [] }
 
 pub kept_push : (names : List ℕ) (g : ℕ) (set : List ℕ) (i k n : ℕ) → IsKept names g set i → g ≤ k → n ≤ k
     → IsKept (names ++ n ∷ []) k set i

@@ -2,7 +2,7 @@
 use Rattle.std.proofs.Common.{◌≡◌, ℕ, ◌+◌, ◌<◌, Bool, true, false, List, [], ◌∷◌, ◌++◌, length, Ok, Err, refl, sym, ap, ◌∙◌, append_assoc, append-nil, arith, nat_lt}
 use Rattle.std.proofs.lemmas.Bool.{false≢true}
 use Rattle.std.proofs.lemmas.Bool.Decides.{nat_tests}
-use Rattle.predictive.specs.Tables.{lookaheads, step_on, run}
+use Rattle.parsing.specs.Tables.{lookaheads, step_on, run}
 use Rattle.step_lexis.specs.declared.token.Mark.TheVariants.{Open, Close, Comma}
 use Rattle.step_lexis.specs.Reading.{Reading, Takes, left}
 use Rattle.step_lexis.specs.declared.token.Token.{Token}
@@ -12,12 +12,12 @@ use Rattle.step_structures.specs.declared.fault.TextFault.TheVariants as faults
 use Rattle.step_structures.specs.Words.{Word, Lookahead, token, mark, keyword, LocatedToken, located, shows_token}
 use Rattle.step_structures.specs.Trees.{Tree, leaf, typed, group, Trees, none, one, this, items_of_tree, items_of_trees, items_of_more, items_of_list}
 use Rattle.step_structures.specs.Fits.{the_rules, IsLeaf, FitsTree, FitsTrees}
-use Rattle.step_parameters.specs.Cells.{all_of}
+use Rattle.step_records.specs.Cells.{all_of}
 use Rattle.step_structures.specs.Predict.{Symbol, Just, Value, Items, More, Next, refused, is_mark, next_value, then_more, table, params_symbols}
 use Rattle.step_records.specs.Steps.{StopsIn, Passes, inner_symbols}
 use Rattle.step_structures.proofs.Meeting.{meet_as, meets_is}
 use Rattle.step_structures.proofs.Passing.{next_leaf, items_as_value}
-use Rattle.step_records.proofs.Taking.{passes_as, passes_join, passes_more, passes_then, passes_token, passes_taken, passes_first, passes_within, stops_behind, stops_behind_taken, stops_all}
+use Rattle.step_records.proofs.Taking.{passes_as, passes_join, passes_more, passes_then, passes_token, passes_taken, passes_first, passes_within, stops_behind}
 use Rattle.step_records.proofs.Looking.{mark_met, meets_mark}
 
 -- a parameter of which the first token is taken already
@@ -33,21 +33,10 @@ leaf_done n w t here f e = (
       ∙ next_leaf the_rules n w f),
 )
 
--- behind the keyword of a typed parameter
-pub inner_err_open : (e : TextFault) (n : ℕ) (old : Reading) → StopsIn e (Just Open ∷ []) [] old
-    → StopsIn e (inner_symbols n) [] old
-inner_err_open e n old h = stops_all e (Just Open ∷ []) (Value (n + 1) ∷ Just Close ∷ []) [] old h
-
 pub inner_err_first : (e : TextFault) (n : ℕ) (old a : Reading) → Passes (Just Open ∷ []) [] [] (this (mark Open) ∷ [])
     old a → StopsIn e (Value (n + 1) ∷ []) [] a → StopsIn e (inner_symbols n) [] old
 inner_err_first e n old a h g = stops_behind e (Value (n + 1) ∷ []) (Just Close ∷ [])
     (passes_more (Value (n + 1) ∷ Just Close ∷ []) h) g
-
-pub inner_err_value : (e : TextFault) (n : ℕ) (old a : Reading) (t : Token) (b : Reading)
-    → Passes (Just Open ∷ []) [] [] (this (mark Open) ∷ []) old a → Takes a t b
-    → StopsIn e (Value (n + 1) ∷ []) (located t ∷ []) b → StopsIn e (inner_symbols n) [] old
-inner_err_value e n old a t b h taken g = stops_behind_taken e (Value (n + 1) ∷ []) (Just Close ∷ []) t
-    (passes_more (Value (n + 1) ∷ Just Close ∷ []) h) taken g
 
 inner_passes : (n : ℕ) (old a : Reading) (t : Token) (b : Reading) (x : Tree) (c : Reading)
     → Passes (Just Open ∷ []) [] [] (this (mark Open) ∷ []) old a → Takes a t b → Taken (n + 1) t b x c
@@ -97,10 +86,6 @@ passes_open : (n : ℕ) (t : Token) (here : Reading) → n < 64 → (located t).
     → Passes (Value n ∷ []) (Items (n + 1) ∷ []) (located t ∷ []) (this (mark Open) ∷ []) here here
 passes_open n t here h is = passes_taken (Value n) (Items (n + 1) ∷ []) (this (mark Open)) t here
     (meets_is (mark Open) (located t).lookahead is) (ap (table (Value n)) is ∙ open_next n h)
-
-pub list_err : (e : TextFault) (n : ℕ) (t : Token) (old : Reading) → n < 64 → (located t).lookahead ≡ token (mark Open)
-    → StopsIn e (Items (n + 1) ∷ []) [] old → StopsIn e (Value n ∷ []) (located t ∷ []) old
-list_err e n t old h is g = stops_behind e (Items (n + 1) ∷ []) [] (passes_open n t old h is) g
 
 pub list_done : (n : ℕ) (t : Token) (old : Reading) (xs : Trees) (new : Reading) → n < 64
     → (located t).lookahead ≡ token (mark Open) → Listed (n + 1) old xs new → Taken n t old (group xs) new
@@ -186,12 +171,6 @@ pub items_err_next : (e : TextFault) (n : ℕ) (old : Reading) (xs : Trees) (her
 items_err_next e n old xs here t a so h c g = stops_behind e (Value n ∷ []) (More n ∷ [])
     (passes_comma n old xs here t a so h c) g
 
-pub items_err_value : (e : TextFault) (n : ℕ) (old : Reading) (xs : Trees) (here : Reading) (t : Token) (a : Reading)
-    (u : Token) (b : Reading) → SoFar n old xs here → Takes here t a → is_mark Comma (located t).lookahead ≡ true
-    → Takes a u b → StopsIn e (Value n ∷ []) (located u ∷ []) b → StopsIn e (Items n ∷ []) [] old
-items_err_value e n old xs here t a u b so h c k g = stops_behind_taken e (Value n ∷ []) (More n ∷ []) u
-    (passes_comma n old xs here t a so h c) k g
-
 pub more_refused : (n : ℕ) (s : Lookahead) → is_mark Close s ≡ false → is_mark Comma s ≡ false → table (More n) s ≡ Err
     (refused s)
 more_refused n (token (mark Comma)) c d = absurd (false≢true (sym d))
@@ -263,10 +242,6 @@ all_push (x ∷ xs) y = ap (λ l. one x l) (all_push xs y)
 abbrev pub Params : ℕ → Reading → Trees → Reading → Type 0
 Params n old xs new = FitsTrees the_rules (n + 1) xs × Passes (params_symbols n) [] [] (this (mark Open)
     ∷ items_of_list xs) old new
-
-pub params_err_open : (e : TextFault) (n : ℕ) (old : Reading) → StopsIn e (Just Open ∷ []) [] old
-    → StopsIn e (params_symbols n) [] old
-params_err_open e n old h = stops_all e (Just Open ∷ []) (Items (n + 1) ∷ []) [] old h
 
 pub params_err_items : (e : TextFault) (n : ℕ) (old a : Reading) → Passes (Just Open ∷ []) [] [] (this (mark Open) ∷ [])
     old a → StopsIn e (Items (n + 1) ∷ []) [] a → StopsIn e (params_symbols n) [] old

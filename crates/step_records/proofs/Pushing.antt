@@ -1,5 +1,5 @@
 -- Parameters that are read and built.
-use Rattle.std.proofs.Common.{◌≡◌, ℕ, ◌+◌, ◌<◌, ◌≤◌, Bool, true, false, List, [], ◌∷◌, ◌++◌, length, take, drop, Some, Result, Ok, Err, MatchResult, refl, sym, ap, ◌∙◌, subst, append_assoc, append-nil, arith, length-append, length-take, length-drop}
+use Rattle.std.proofs.Common.{◌≡◌, ℕ, ◌+◌, ◌<◌, ◌≤◌, Bool, true, false, List, [], ◌∷◌, ◌++◌, length, take, drop, Some, Result, Ok, Err, MatchResult, refl, sym, ap, ◌∙◌, subst, append_assoc, append-nil, arith, length-take, length-drop}
 use Rattle.std.proofs.lemmas.List.{take_at, drop_at}
 use Rattle.step_lexis.specs.declared.token.Mark.TheVariants.{Open, Close, Comma, Semicolon, Equals, Dollar, Asterisk}
 use Rattle.step_lexis.specs.declared.token.Sort.{Sort}
@@ -9,11 +9,11 @@ use Rattle.step_lexis.specs.Front.{IsFront}
 use Rattle.step_lexis.specs.Reading.{Reading, SkipsMark, Takes, left}
 use Rattle.step_lexis.proofs.ReadingLemmas.{some_bytes}
 use Rattle.step_lexis.proofs.Standing.{token_at, front_taken}
-use Rattle.step_parameters.specs.Building.{Building}
-use Rattle.step_parameters.specs.Cells.{all_of, typed_of}
-use Rattle.step_parameters.specs.Tokens.{StandsIn, IsLeafAt, leaf_of, leaf_tree}
-use Rattle.step_parameters.specs.declared.cell.Leaf.{Leaf}
-use Rattle.step_parameters.specs.declared.cell.Leaf.TheVariants.{Keyword}
+use Rattle.step_records.specs.Building.{Building}
+use Rattle.step_records.specs.Cells.{all_of, typed_of}
+use Rattle.step_records.specs.Tokens.{IsLeafAt, leaf_of, leaf_tree}
+use Rattle.step_records.specs.declared.cell.Leaf.{Leaf}
+use Rattle.step_records.specs.declared.cell.Leaf.TheVariants.{Keyword}
 use Rattle.step_structures.specs.declared.fault.TextFault.{TextFault}
 use Rattle.step_structures.specs.Words.{keyword, mark, token, located, word_of}
 use Rattle.step_structures.specs.Trees.{Tree, leaf, typed, this, items_of_tree}
@@ -25,12 +25,6 @@ use Rattle.step_records.specs.Steps.{StopsIn, StopsAnyway, TakesNext, Passes, Is
 use Rattle.step_records.proofs.Looking.{mark_met, mark_shown}
 use Rattle.step_records.proofs.Taking.{passes_here, stops_behind_taken}
 use Rattle.step_records.proofs.ParamSteps.{leaf_done, SoFar, items_none, items_err_first, items_first, items_next, items_done, all_push, inner_done, typed_done, params_done, params_err_items}
-
--- a token that is taken stands in the text
-pub takes_stands : (old a : Progress) (t : Token) → Takes (reading old) t (reading a) → a.built ≡ old.built
-    → StandsIn a.built.text t
-takes_stands old a t h e = subst (λ b. StandsIn b.text t) (sym e)
-    (record { within = h.reaches.within; front = h.front; is = h.text })
 
 -- what stands next for the lexer of a reader stands next for the reader
 pub front_of : (r : Reading) (b : Building) (p : Progress) (sort : Sort) (n : ℕ)
@@ -335,14 +329,6 @@ wrapped_over f m b ps xs e =
     let front : take m (ps ++ xs) ≡ ps = take_at ps xs m (sym e) in
     let rest : drop m (ps ++ xs) ≡ xs = drop_at ps xs m (sym e) in
     λ i. record b { pending = front i ++ f (rest i) ∷ [] }
-
-pub two_more : (old a b : Progress) (k : Tree) (n : ℕ)
-    → a ≡ record old { built = record old.built { pending = old.built.pending ++ k ∷ [] } } → TakesInner n a b
-    → length b.built.pending ≡ length old.built.pending + 2
-two_more old a b k n e h =
-    ap (λ x. length x.pending) h.pushes ∙ length-append a.built.pending (h.tree ∷ [])
-    ∙ ap (λ x. length x.built.pending + 1) e ∙ ap (λ x. x + 1) (length-append old.built.pending (k ∷ []))
-    ∙ omega arith
 
 pub typed_whole : (n : ℕ) (t : Token) (m : ℕ) (old a b d : Progress) → n < 64 → leaf_of t.sort ≡ Some Keyword
     → m ≡ length old.built.pending

@@ -18,7 +18,7 @@ use Rattle.step_structures.specs.Predict.{Just, Body, PartialRecords, refused, i
 use Rattle.step_records.specs.Steps.{StopsIn, Passes}
 use Rattle.step_records.specs.Records.{FitsBehind, FitsPartials, keywords_of, any_is, texts_of}
 use Rattle.step_structures.proofs.Meeting.{meets_is}
-use Rattle.step_records.proofs.Taking.{passes_here, passes_as, passes_join, passes_more, passes_then, passes_token, passes_taken, passes_first, passes_within, stops_behind, stops_behind_taken, stops_all, stops_taken}
+use Rattle.step_records.proofs.Taking.{passes_as, passes_join, passes_more, passes_then, passes_token, passes_taken, passes_first, passes_within, stops_behind, stops_behind_taken, stops_taken}
 use Rattle.step_records.proofs.Looking.{stops_refused, mark_met, meets_mark}
 use Rattle.step_records.proofs.ParamSteps.{Params}
 
@@ -135,9 +135,6 @@ partials_next old ps here t a p b so h g = record {
       (passes_join so.passes (passes_first t here h g.1)));
 }
 
-pub partials_start : (r : Reading) → PartialRecordsSoFar r [] r
-partials_start r = record { fits = tt; passes = passes_here (PartialRecords [] ∷ []) r }
-
 closed : (ps : List Record) (s : Lookahead) → 0 < length ps → s ≡ token (mark Close)
     → table (PartialRecords (keywords_of ps)) s ≡ Ok []
 closed [] s some e = absurd (omega (arith, some))
@@ -189,11 +186,6 @@ pub form_external : (t : Token) (ps : List Record) (old a b : Reading) → Takes
     ++ this (mark Close) ∷ []) a b → Formed old (external ps) b
 form_external t ps old a b h is g = ((omega arith, g.0.0, g.0.1), passes_join (passes_open t old a h is) g.1)
 
--- an instance behind its name
-pub row_err_equals : (e : TextFault) (old : Reading) → StopsIn e (Just Equals ∷ []) [] old → StopsIn e row_symbols []
-    old
-row_err_equals e old h = stops_all e (Just Equals ∷ []) (Body ∷ Just Semicolon ∷ []) [] old h
-
 pub row_err_form : (e : TextFault) (old a : Reading) → Passes (Just Equals ∷ []) [] [] (this (mark Equals) ∷ []) old a
     → StopsIn e (Body ∷ []) [] a → StopsIn e row_symbols [] old
 row_err_form e old a h g = stops_behind e (Body ∷ []) (Just Semicolon ∷ []) (passes_more (Body ∷ Just Semicolon ∷ [])
@@ -211,14 +203,6 @@ Lined old f new = FitsForm the_rules f × Passes row_symbols [] [] (this (mark E
 pub row_done : (f : Form) (old a b c : Reading) → Passes (Just Equals ∷ []) [] [] (this (mark Equals) ∷ []) old a
     → Formed a f b → Passes (Just Semicolon ∷ []) [] [] (this (mark Semicolon) ∷ []) b c → Lined old f c
 row_done f old a b c h g i = (g.0, passes_then h (passes_then g.1 i))
-
--- tokens that can't stand there
-pub partial_refused : (before : List (List ℕ)) (sort : Sort) (text : List ℕ) → ((w : _) → sort ≡ sorts.Keyword w → ⊥)
-    → is_mark Close (token (word_of sort text)) ≡ false → table (PartialRecords before)
-    (token (word_of sort text)) ≡ Err (refused (token (word_of sort text)))
-partial_refused before (sorts.Keyword w) text h c = absurd (h w refl)
-partial_refused before (sorts.Mark Close) text h c = absurd (false≢true (sym c))
-partial_refused before _ text h c = refl
 
 pub body_refused : (sort : Sort) (text : List ℕ) → ((w : _) → sort ≡ sorts.Keyword w → ⊥)
     → is_mark Open (token (word_of sort text)) ≡ false → table Body (token (word_of sort text)) ≡ Err

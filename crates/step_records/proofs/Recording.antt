@@ -1,14 +1,14 @@
 -- Records and instances that are read and built.
-use Rattle.std.proofs.Common.{◌≡◌, ℕ, ◌<◌, Bool, true, false, List, [], ◌∷◌, ◌++◌, length, take, drop, map, Result, Ok, Err, MatchResult, refl, sym, ap, ◌∙◌, subst, append_assoc, append-nil, arith}
+use Rattle.std.proofs.Common.{◌≡◌, ℕ, ◌<◌, Bool, true, false, List, [], ◌∷◌, ◌++◌, length, take, drop, map, Result, Ok, Err, MatchResult, refl, sym, ap, ◌∙◌, subst, append_assoc, arith}
 use Rattle.std.proofs.lemmas.List.{length-map, map-append, take_at, drop_at}
 use Rattle.step_lexis.specs.declared.token.Mark.TheVariants.{Open, Close, Semicolon, Equals}
 use Rattle.step_lexis.specs.declared.token.Token.{Token}
 use Rattle.step_lexis.specs.Reading.{Reading, Takes, left}
 use Rattle.step_literals.specs.declared.literal.Word as literal
-use Rattle.step_parameters.specs.Building.{Building, list_of}
-use Rattle.step_parameters.specs.Cells.{all_of}
-use Rattle.step_parameters.proofs.Parts.{trees_all}
-use Rattle.step_parameters.specs.Tokens.{leaf_tree}
+use Rattle.step_records.specs.Building.{Building, list_of}
+use Rattle.step_records.specs.Cells.{all_of}
+use Rattle.step_records.proofs.Parts.{trees_all}
+use Rattle.step_records.specs.Tokens.{leaf_tree}
 use Rattle.step_structures.specs.declared.fault.TextFault.{TextFault}
 use Rattle.step_structures.specs.declared.fault.TextFault.TheVariants as faults
 use Rattle.step_structures.specs.Words.{keyword, mark, token, located}
@@ -17,11 +17,11 @@ use Rattle.step_structures.specs.Fits.{has_keyword}
 use Rattle.step_structures.specs.Predict.{Just, Body, PartialRecords, refused, is_mark, params_symbols, row_symbols}
 use Rattle.step_records.specs.Readers.{Progress, reading}
 use Rattle.step_records.specs.Steps.{StopsIn, Passes, PushesAll, PushesKeyword, PushesWord, TakesParams}
-use Rattle.step_parameters.specs.Params.{trees_in}
+use Rattle.step_records.specs.Params.{trees_in}
 use Rattle.step_records.specs.Records.{texts_of, keywords_of, tree_of_record, trees_of_form, TakesRecord, TakesPartial, TakesPartials, TakesForm, TakesRow}
 use Rattle.step_records.proofs.Looking.{mark_met}
 use Rattle.step_records.proofs.Pushing.{keyword_leaf, wrapped, wrapped_over, pushes_over}
-use Rattle.step_records.proofs.RecordSteps.{Added, PartialRecordsSoFar, partial_done, partials_start, partials_next, partials_done, partials_err_token, partials_err_partial, partials_empty, partials_smaller, form_internal, form_external, form_err_params, form_err_partials, row_done}
+use Rattle.step_records.proofs.RecordSteps.{Added, PartialRecordsSoFar, partial_done, partials_next, partials_done, partials_err_token, partials_err_partial, partials_empty, partials_smaller, form_internal, form_external, form_err_params, form_err_partials, row_done}
 
 -- the record that trees behind a keyword make
 abbrev pub record_with : List ℕ → List Tree → Record
@@ -55,14 +55,6 @@ pub record PartialsSoFar (old now : Progress) (words : List literal.Word) : Type
   pub pushes : PushesAll old (map tree_of_record partials) now
   pub so : PartialRecordsSoFar (reading old) partials (reading now)
   pub same : texts_of words ≡ keywords_of partials
-
-pub partials_begin : (r : Progress) → PartialsSoFar r r []
-partials_begin r = record {
-  partials = [];
-  pushes = ap {A = List Tree} (λ l. record r.built { pending = l }) (sym (append-nil r.built.pending));
-  so = partials_start (reading r);
-  same = refl;
-}
 
 pub partials_go_on : (old here a b : Progress) (t : Token) (w : literal.Word) (ws : List literal.Word)
     → PartialsSoFar old here ws → Takes (reading here) t (reading a) → a.built ≡ here.built

@@ -1,9 +1,9 @@
 -- What is read of an exchange structure, one part behind another.
 use Rattle.std.proofs.Common.{◌≡◌, ◌≤◌, List, [], ◌∷◌, ◌++◌, length, Ok, Err, refl, sym, ap, subst, arith, length-drop}
-use Rattle.predictive.proofs.Shown.{shows_falls}
-use Rattle.predictive.proofs.Taking as taking
-use Rattle.predictive.proofs.Taking.{Joins}
-use Rattle.predictive.proofs.Turning as turning
+use Rattle.parsing.proofs.Shown.{shows_falls}
+use Rattle.parsing.proofs.Taking as taking
+use Rattle.parsing.proofs.Taking.{Joins}
+use Rattle.parsing.proofs.Turning as turning
 use Rattle.step_lexis.specs.Reading.{Reading, Takes, left}
 use Rattle.step_lexis.specs.declared.token.Token.{Token}
 use Rattle.step_lexis.proofs.ReadingLemmas.{takes_less}

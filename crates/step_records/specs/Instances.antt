@@ -1,7 +1,7 @@
 -- The instances of a section that are read and built.
 use Rattle.std.specs.Prelude.{◌≡◌, ℕ, ◌<◌, false, List, [], ◌∷◌, ◌++◌, ◌⊎◌, length, map, codes, Err}
 use Rattle.step_lexis.specs.Reading.{Reading}
-use Rattle.step_parameters.specs.Building.{list_of}
+use Rattle.step_records.specs.Building.{list_of}
 use Rattle.step_records.specs.Readers.{Progress, reading}
 use Rattle.step_records.specs.Steps.{Passes, StopsIn}
 use Rattle.step_records.specs.Records.{trees_of_form}

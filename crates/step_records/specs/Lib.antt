@@ -1,3 +1,9 @@
+pub mod Cells
+pub mod Laws
+pub mod ComputedCodes
+pub mod Building
+pub mod Tokens
+pub mod Params
 pub mod Readers
 pub mod Steps
 pub mod Records

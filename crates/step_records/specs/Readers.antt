@@ -2,7 +2,7 @@
 use Rattle.std.specs.Prelude.{ℕ, refl}
 use Rattle.std.specs.Coded.{Coded, code_by, coded×, coded_ℕ}
 use Rattle.step_lexis.specs.Reading.{Reading}
-use Rattle.step_parameters.specs.Building.{Building, coded_building}
+use Rattle.step_records.specs.Building.{Building, coded_building}
 
 -- how many bytes are read, and what is built so far over the text
 pub record Progress : Type 0 where

@@ -4,10 +4,10 @@ use Rattle.std.specs.List.{list_any}
 use Rattle.step_lexis.specs.declared.token.Mark.TheVariants.{Open, Close, Semicolon, Equals}
 use Rattle.step_lexis.specs.declared.token.Token.{Token}
 use Rattle.step_literals.specs.declared.literal.Word as literal
-use Rattle.step_parameters.specs.Building.{list_of}
-use Rattle.step_parameters.specs.Cells.{all_of}
-use Rattle.step_parameters.specs.Params.{trees_in}
-use Rattle.step_parameters.specs.Tokens.{leaf_tree}
+use Rattle.step_records.specs.Building.{list_of}
+use Rattle.step_records.specs.Cells.{all_of}
+use Rattle.step_records.specs.Params.{trees_in}
+use Rattle.step_records.specs.Tokens.{leaf_tree}
 use Rattle.step_records.specs.Readers.{Progress, reading}
 use Rattle.step_records.specs.Steps.{Passes, Pushes, PushesAll}
 use Rattle.step_structures.specs.Words.{mark, keyword, LocatedToken}

@@ -1,15 +1,15 @@
 -- Reading parameters, records and instances by the table, from one place to another.
 use Rattle.std.specs.Prelude.{◌≡◌, ℕ, ◌+◌, List, [], ◌∷◌, ◌++◌, Option, Some, None, Result, Bool, true, false, if◌then◌else◌}
-use Rattle.predictive.specs.Lexers as lexers
-use Rattle.predictive.specs.Steps as steps
+use Rattle.parsing.specs.Lexers as lexers
+use Rattle.parsing.specs.Steps as steps
 use Rattle.step_lexis.specs.declared.token.Mark.TheVariants.{Open, Close, Comma}
 use Rattle.step_lexis.specs.declared.token.Sort.{Sort}
 use Rattle.step_lexis.specs.declared.token.Token.{Token}
 use Rattle.step_lexis.specs.Reading.{Reading, Takes}
-use Rattle.step_parameters.specs.Cells.{all_of}
-use Rattle.step_parameters.specs.Tokens.{leaf_of, leaf_tree}
-use Rattle.step_parameters.specs.declared.cell.Leaf.{Leaf}
-use Rattle.step_parameters.specs.declared.cell.Leaf.TheVariants.{Keyword}
+use Rattle.step_records.specs.Cells.{all_of}
+use Rattle.step_records.specs.Tokens.{leaf_of, leaf_tree}
+use Rattle.step_records.specs.declared.cell.Leaf.{Leaf}
+use Rattle.step_records.specs.declared.cell.Leaf.TheVariants.{Keyword}
 use Rattle.step_records.specs.Readers.{Progress, reading}
 use Rattle.step_structures.specs.declared.fault.FaultKind.{FaultKind}
 use Rattle.step_structures.specs.declared.fault.TextFault.{TextFault}

@@ -1,8 +1,14 @@
-//! Records and instances of an exchange structure (ISO 10303-21), read from tokens.
+//! Records and instances of an exchange structure (ISO 10303-21, 11), read from tokens, and their parameters,
+//! as flat cells of one column.
 #![tactic(auto)]
 
+pub mod builder;
+pub mod cell;
+pub mod forest;
 pub mod instances;
+pub mod laws;
 pub mod names;
+pub mod param;
 pub mod params;
 pub mod reader;
 pub mod records;

@@ -2,11 +2,11 @@
 
 ghost use Rattle.std.specs.Prelude.{◌≡◌, ◌≤◌, ◌<◌, true, false, [], ◌∷◌, Some, MatchResult};
 ghost use Rattle.step_lexis.specs.declared.token.Mark.TheVariants.{Open};
-ghost use Rattle.step_parameters.specs.declared.cell.Leaf.TheVariants.{Keyword};
+ghost use Rattle.step_records.specs.declared.cell.Leaf.TheVariants.{Keyword};
 ghost use Rattle.step_structures.specs.Predict;
 ghost use Rattle.step_structures.specs.Words.{located};
 ghost use Rattle.step_structures.specs.Predict.{Value, Items, params_symbols};
-ghost use Rattle.step_parameters.specs.Tokens.{StandsIn, leaf_of};
+ghost use Rattle.step_records.specs.Tokens.{StandsIn, leaf_of};
 ghost use Rattle.step_records.specs.Readers.{reading};
 ghost use Rattle.step_records.specs.Steps.{
   StopsIn,
@@ -21,10 +21,10 @@ ghost use Rattle.step_records.specs.Steps.{
   inner_symbols,
 };
 
+use crate::cell::Leaf;
 use crate::reader::Reader;
 use crate::tokens::{expect, fault_at, goes_on, is_mark, refuse, take};
 use step_lexis::token::{Mark, Sort, Token};
-use step_parameters::cell::Leaf;
 use step_structures::fault::{FaultKind, TextFault};
 
 /// So many parentheses may be open at once.

@@ -1,24 +1,24 @@
 //! A text that is read token by token, and what is built of it.
 
 ghost use Rattle.std.specs.Prelude.{◌≡◌, ◌≤◌, ◌+◌, ◌++◌, [], ◌∷◌, Some, length, take, drop, IfOk, IfSome, IsTrue};
-ghost use Rattle.step_parameters.specs.declared.cell.Leaf.TheVariants.{Keyword};
+ghost use Rattle.step_records.specs.declared.cell.Leaf.TheVariants.{Keyword};
 ghost use Rattle.step_lexis.specs.Front.{IsFront};
 ghost use Rattle.step_lexis.specs.Reading.{Answers, SkipsMark, left, start_of};
-ghost use Rattle.step_parameters.specs.Building.{list_of};
-ghost use Rattle.step_parameters.specs.Cells.{typed_of};
-ghost use Rattle.step_parameters.specs.Tokens.{StandsIn, leaf_of, leaf_tree};
+ghost use Rattle.step_records.specs.Building.{list_of};
+ghost use Rattle.step_records.specs.Cells.{typed_of};
+ghost use Rattle.step_records.specs.Tokens.{StandsIn, leaf_of, leaf_tree};
 ghost use Rattle.step_records.specs.Readers.{reading};
 ghost use Rattle.step_records.specs.Steps.{IsParameter, PushesNext, PushesWord};
 
+use crate::builder::Builder;
+use crate::cell::Leaf;
+use crate::forest::Forest;
+use crate::param::Params;
 use std::alloc::{AllocError, Global};
 use std::marker::Model;
 use step_lexis::lexer::Lexer;
 use step_lexis::token::{Mark, Sort, Token};
 use step_literals::fault::TextFault;
-use step_parameters::builder::Builder;
-use step_parameters::cell::Leaf;
-use step_parameters::forest::Forest;
-use step_parameters::param::Params;
 
 /// The lexer of a text, and the trees that are built of its tokens.
 #[derive(Drop)]

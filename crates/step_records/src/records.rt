@@ -2,8 +2,8 @@
 
 ghost use Rattle.std.specs.Prelude.{◌≡◌, ◌<◌, false, [], ◌∷◌, ◌++◌, Some, MatchResult, OnOk, drop};
 ghost use Rattle.step_lexis.specs.declared.token.Mark.TheVariants.{Close};
-ghost use Rattle.step_parameters.specs.Tokens.{StandsIn, leaf_of};
-ghost use Rattle.step_parameters.specs.declared.cell.Leaf.TheVariants.{Keyword};
+ghost use Rattle.step_records.specs.Tokens.{StandsIn, leaf_of};
+ghost use Rattle.step_records.specs.declared.cell.Leaf.TheVariants.{Keyword};
 ghost use Rattle.step_structures.specs.Words.{located};
 ghost use Rattle.step_structures.specs.Predict;
 ghost use Rattle.step_structures.specs.Predict.{Body, PartialRecords, params_symbols, row_symbols};
@@ -19,6 +19,7 @@ ghost use Rattle.step_records.specs.Records.{
   TakesRow,
 };
 
+use crate::cell::Leaf;
 use crate::params::record_params;
 use crate::reader::Reader;
 use crate::tokens::{expect, fault_at, is_mark, is_said, refuse, take};
@@ -27,7 +28,6 @@ use std::alloc::{AllocFailed, Global};
 use std::hash::RandomState;
 use step_lexis::token::{Mark, Sort, Token};
 use step_literals::literal::Word;
-use step_parameters::cell::Leaf;
 use step_structures::fault::{FaultKind, TextFault};
 
 /// So many partial records are looked through one by one; most external records have no more. The

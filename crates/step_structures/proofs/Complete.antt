@@ -1,11 +1,11 @@
 -- Each symbol can be completed, and leaves only symbols around which no more is open, and stands, than may be.
 use Rattle.std.proofs.Common.{◌≡◌, ℕ, ◌+◌, ◌<◌, ◌≤◌, nat_lt, Bool, true, false, not, ◌&&◌, if◌then◌else◌, List, [], ◌∷◌, ◌++◌, length, suc, zero, Ok, Err, refl, ap, subst, append-nil, length-append, ◌⊎◌, inl, inr, arith, codes, bytes_eq, eq-eqb}
 use Rattle.std.specs.Str.{str_to_ascii_lowercase}
-use Rattle.predictive.specs.Languages.{AllAre, IsComplete, IsExact}
-use Rattle.predictive.proofs.Lists.{all_append}
-use Rattle.predictive.proofs.Leading.{Leads}
-use Rattle.predictive.proofs.Running.{completed_by}
-use Rattle.predictive.proofs.Accepted.{exact_leads}
+use Rattle.parsing.specs.Languages.{AllAre, IsComplete, IsExact}
+use Rattle.parsing.proofs.Lists.{all_append}
+use Rattle.parsing.proofs.Leading.{Leads}
+use Rattle.parsing.proofs.Running.{completed_by}
+use Rattle.parsing.proofs.Accepted.{exact_leads}
 use Rattle.step_lexis.specs.declared.token.Mark.TheVariants.{Open, Close, Comma, Semicolon, Dollar, Asterisk}
 use Rattle.step_structures.specs.declared.fault.FaultKind.{FaultKind}
 use Rattle.step_structures.specs.declared.fault.FaultKind.TheVariants as kinds

@@ -1,12 +1,12 @@
 -- Each text reads as a structure, or has a first fault.
 use Rattle.std.proofs.Common.{◌≡◌, ℕ, ◌-◌, ◌≤◌, Bool, true, false, if◌then◌else◌, nat_eq, List, [], ◌∷◌, ◌++◌, length, take, drop, refl, sym, ap, ◌∙◌, subst, arith, length-drop, append_assoc, Option, Some, None, Result, Ok, Err, ◌⊎◌, inl, inr}
 use Rattle.std.specs.List.{starts_with}
-use Rattle.predictive.specs.Tables.{lookaheads, stops, run}
-use Rattle.predictive.specs.Languages as languages
-use Rattle.predictive.proofs.Leading.{Leads, leads_split}
-use Rattle.predictive.proofs.Lists.{lookaheads_append, cut_at}
-use Rattle.predictive.proofs.Shown.{shows_split}
-use Rattle.predictive.proofs.Ending.{ShowsOne, shown_to_last, BeginsWhole, whole_or_stops}
+use Rattle.parsing.specs.Tables.{lookaheads, stops, run}
+use Rattle.parsing.specs.Languages as languages
+use Rattle.parsing.proofs.Leading.{Leads, leads_split}
+use Rattle.parsing.proofs.Lists.{lookaheads_append, cut_at}
+use Rattle.parsing.proofs.Shown.{shows_split}
+use Rattle.parsing.proofs.Ending.{ShowsOne, shown_to_last, BeginsWhole, whole_or_stops}
 use Rattle.step_literals.specs.declared.fault.TextFault.{TextFault}
 use Rattle.step_literals.proofs.CleanLemmas.{begins_split}
 use Rattle.step_lexis.specs.declared.token.Mark.TheVariants.{Semicolon}

@@ -2,11 +2,11 @@
 use Rattle.std.proofs.Common.{◌≡◌, ℕ, Bool, true, false, List, [], ◌∷◌, ◌++◌, Ok, Err, refl, sym, ap, ◌∙◌, subst, ◌⊎◌, inl, inr, arith, codes}
 use Rattle.std.specs.Str.{str_to_ascii_lowercase}
 use Rattle.std.proofs.lemmas.Slice.Eq.{bytes_eq-Decides}
-use Rattle.predictive.specs.Tables.{lookaheads}
-use Rattle.predictive.specs.Languages as languages
-use Rattle.predictive.proofs.Leading.{Leads}
-use Rattle.predictive.proofs.Running.{reaches_keeps}
-use Rattle.predictive.proofs.Wider.{goes_on_wider}
+use Rattle.parsing.specs.Tables.{lookaheads}
+use Rattle.parsing.specs.Languages as languages
+use Rattle.parsing.proofs.Leading.{Leads}
+use Rattle.parsing.proofs.Running.{reaches_keeps}
+use Rattle.parsing.proofs.Wider.{goes_on_wider}
 use Rattle.step_structures.specs.declared.fault.FaultKind.{FaultKind}
 use Rattle.step_structures.specs.declared.fault.FaultKind.TheVariants as kinds
 use Rattle.step_structures.specs.declared.fault.LeftOut.{LeftOut}
@@ -146,10 +146,6 @@ due_large : (before : List Lookahead) (s : Lookahead) → IsLeftOut before s lef
 due_large before (token (user_defined text)) h = h
 due_large before (token scope) h = h
 due_large before s h = h
-
--- a word is no mark
-word_no_mark : (word : List ℕ) (s : Lookahead) → IsWord word s → NoSemicolon s
-word_no_mark word s h e = let P : Lookahead → Type 0 = IsWord word in subst P e h
 
 parts_stricter : IsLooser more_parts repeated
 parts_stricter = record {

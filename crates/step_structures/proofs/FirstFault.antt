@@ -1,14 +1,14 @@
 -- A fault of the table is the first one by the definition; so is a third record that names no schema. A text has one
 -- first fault at most.
 use Rattle.std.proofs.Common.{◌≡◌, ℕ, List, [], ◌∷◌, ◌++◌, Result, Ok, Err, refl, sym, ap, ◌∙◌, subst, append_assoc, append-nil, arith}
-use Rattle.predictive.specs.Tables.{lookaheads, stops, run}
-use Rattle.predictive.specs.Languages as languages
-use Rattle.predictive.proofs.Lists.{lookaheads_append, same_stop}
-use Rattle.predictive.proofs.Leading.{Leads, leads_more, leads_once}
-use Rattle.predictive.proofs.Running.{Wants, wants}
-use Rattle.predictive.proofs.Faults as table_faults
-use Rattle.predictive.proofs.Shown.{shows_join, shows_one}
-use Rattle.predictive.proofs.Texts as texts
+use Rattle.parsing.specs.Tables.{lookaheads, stops, run}
+use Rattle.parsing.specs.Languages as languages
+use Rattle.parsing.proofs.Lists.{lookaheads_append, same_stop}
+use Rattle.parsing.proofs.Leading.{Leads, leads_more, leads_once}
+use Rattle.parsing.proofs.Running.{Wants, wants}
+use Rattle.parsing.proofs.Faults as table_faults
+use Rattle.parsing.proofs.Shown.{shows_join, shows_one}
+use Rattle.parsing.proofs.Texts as texts
 use Rattle.step_lexis.specs.declared.token.Mark.TheVariants.{Semicolon}
 use Rattle.step_lexis.specs.Reading.{Reading, start}
 use Rattle.step_structures.specs.declared.fault.FaultKind.{FaultKind}

@@ -1,7 +1,7 @@
 -- The header bytes of an exchange structure read the same before any other bytes.
 use Rattle.std.proofs.Common.{◌≡◌, ℕ, ◌+◌, ◌-◌, ◌≤◌, List, [], ◌∷◌, ◌++◌, length, take, drop, refl, sym, ap, ◌∙◌, subst, arith, length-append, append_assoc, Some, None, codes, false, nat_eq}
 use Rattle.std.proofs.lemmas.Bool.Decides.{nat_tests}
-use Rattle.predictive.specs.Tables.{lookaheads}
+use Rattle.parsing.specs.Tables.{lookaheads}
 use Rattle.step_lexis.specs.declared.token.Token.{Token}
 use Rattle.step_literals.specs.Tokens.{IsNext}
 use Rattle.step_lexis.specs.Front.{kind_of}

@@ -1,6 +1,6 @@
 -- The tokens up to a semicolon are the same whatever stands behind it.
 use Rattle.std.proofs.Common.{◌≡◌, ℕ, ◌+◌, ◌≤◌, List, [], ◌∷◌, ◌++◌, length, drop, refl, sym, ap, ◌∙◌, subst, arith, length-drop, length-append, append_assoc}
-use Rattle.predictive.specs.Tables.{lookaheads}
+use Rattle.parsing.specs.Tables.{lookaheads}
 use Rattle.step_lexis.specs.declared.token.Mark.TheVariants.{Semicolon}
 use Rattle.step_lexis.specs.declared.token.Sort.{Sort}
 use Rattle.step_lexis.specs.declared.token.Sort.TheVariants as sorts

@@ -1,7 +1,7 @@
 -- What fits some rules fits looser ones.
 use Rattle.std.proofs.Common.{◌≡◌, ℕ, ◌+◌, ◌≤◌, Bool, true, false, List, [], ◌∷◌, ◌++◌, refl, arith}
-use Rattle.step_structures.specs.Trees.{Tree, leaf, typed, group, Trees, none, one, Record, Form, internal, external, Row, File, rows_of}
-use Rattle.step_structures.specs.Fits.{Rules, the_rules, FitsTree, FitsTrees, FitsRecord, FitsPartialRecords, FitsForm, FitsRows, FitsRecords, FitsHeader, FitsFile, IsHeader, Where, has_keyword, has_name}
+use Rattle.step_structures.specs.Trees.{Tree, leaf, typed, group, Trees, none, one, Record, Form, internal, external, Row}
+use Rattle.step_structures.specs.Fits.{Rules, the_rules, FitsTree, FitsTrees, FitsRecord, FitsPartialRecords, FitsForm, FitsRows, FitsRecords, FitsHeader, IsHeader, Where, has_keyword, has_name}
 use Rattle.step_structures.specs.Texts.{more_levels, more_parts, repeated, unheaded}
 
 -- these rules ask for less
@@ -61,12 +61,6 @@ module _ (a b : Rules) (l : IsLooser a b) where
 
   pub looser_header : (ps : List Record) → FitsHeader a ps → FitsHeader b ps
   looser_header ps h = (looser_records ps h.0, h.1, where_looser (IsHeader ps) a.headed b.headed l.headed h.2)
-
-  pub looser_file : (x : File) → FitsFile a x → FitsFile b x
-  looser_file x h = (
-    looser_header x.header h.0,
-    (h.1.0, omega (arith, h.1.1, l.sections), looser_rows (rows_of x.sections) [] h.1.2),
-  )
 
 pub levels_looser : IsLooser the_rules more_levels
 levels_looser = record { levels = omega arith; instances = omega arith; sections = omega arith; distinct = (λ e. e); headed = (λ e. e) }

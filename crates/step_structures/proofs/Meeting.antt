@@ -1,7 +1,7 @@
 -- What items ask for, piece by piece.
 use Rattle.std.proofs.Common.{◌≡◌, ℕ, ◌∷◌, ◌++◌, List, [], refl, sym, ap, ◌∙◌, subst, ◌⊎◌, inl, inr}
-use Rattle.predictive.specs.Tables.{lookaheads}
-use Rattle.predictive.proofs.Lists.{lookaheads_append}
+use Rattle.parsing.specs.Tables.{lookaheads}
+use Rattle.parsing.proofs.Lists.{lookaheads_append}
 use Rattle.step_structures.specs.Words.{Word, keyword, name, Lookahead, token, flawed, end_of_text, LocatedToken}
 use Rattle.step_structures.specs.Trees.{Item, this, named, finish, Meets, MeetAll}
 

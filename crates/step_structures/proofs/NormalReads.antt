@@ -1,6 +1,6 @@
 -- The normal text of what a text reads as reads as the same.
 use Rattle.std.proofs.Common.{◌≡◌, ℕ, List, ◌∷◌, ◌++◌, length, sym, subst, append_assoc, codes}
-use Rattle.predictive.specs.Tables.{lookaheads}
+use Rattle.parsing.specs.Tables.{lookaheads}
 use Rattle.step_structures.specs.Trees.{Section, MeetAll, items_of_sections, items_of_end}
 use Rattle.step_structures.specs.Fits.{the_rules}
 use Rattle.step_structures.specs.Texts.{ReadsAs}

@@ -1,10 +1,10 @@
 -- A text reads as one structure at most, and then it has no fault.
 use Rattle.std.proofs.Common.{◌-◌, List, [], ◌∷◌, ◌++◌, take, drop, sym, ap, ◌∙◌, subst, append_assoc, arith}
-use Rattle.predictive.specs.Tables.{lookaheads}
-use Rattle.predictive.proofs.Lists.{lookaheads_append}
-use Rattle.predictive.proofs.Faults as table_faults
-use Rattle.predictive.proofs.Shown.{shows_join}
-use Rattle.predictive.proofs.Texts as texts
+use Rattle.parsing.specs.Tables.{lookaheads}
+use Rattle.parsing.proofs.Lists.{lookaheads_append}
+use Rattle.parsing.proofs.Faults as table_faults
+use Rattle.parsing.proofs.Shown.{shows_join}
+use Rattle.parsing.proofs.Texts as texts
 use Rattle.step_lexis.specs.Reading.{Reading, start}
 use Rattle.step_lexis.proofs.Determined.{same_place}
 use Rattle.step_structures.specs.Words.{Lookahead, LocatedToken, Shows, ShowsAll}

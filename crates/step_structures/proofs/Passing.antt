@@ -1,6 +1,6 @@
 -- The tokens of a structure and of its parts lead from what is to come, by the table, to nothing more.
 use Rattle.std.proofs.Common.{◌≡◌, ℕ, ◌+◌, ◌<◌, ◌≤◌, Bool, true, false, not, ◌&&◌, ltb, List, [], ◌∷◌, ◌++◌, length, suc, Option, Some, None, Ok, codes, refl, sym, ap, ◌∙◌, subst, append_assoc, append-nil, arith, eq-eqb}
-use Rattle.predictive.proofs.Leading.{Leads, leads_join, leads_more}
+use Rattle.parsing.proofs.Leading.{Leads, leads_join, leads_more}
 use Rattle.step_lexis.specs.declared.token.Mark.{Mark}
 use Rattle.step_lexis.specs.declared.token.Mark.TheVariants.{Open, Close, Comma, Semicolon, Equals, Dollar, Asterisk}
 use Rattle.step_structures.specs.Words.{Word, begins, ends, keyword, name, number, element, string, binary, mark, Lookahead, token, end_of_text, flawed}

@@ -1,7 +1,7 @@
 -- Viable prefixes, as fronts of the language of structures.
 use Rattle.std.proofs.Common.{List, ◌++◌}
-use Rattle.predictive.specs.Languages as languages
-use Rattle.predictive.proofs.Faults.{front_of_front}
+use Rattle.parsing.specs.Languages as languages
+use Rattle.parsing.proofs.Faults.{front_of_front}
 use Rattle.step_structures.specs.Words.{Lookahead}
 use Rattle.step_structures.specs.Trees.{File, MeetAll, items_of_file}
 use Rattle.step_structures.specs.Fits.{Rules, the_rules, FitsFile, HasSchema, Where}

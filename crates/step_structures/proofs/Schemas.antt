@@ -1,9 +1,9 @@
 -- What the rule on FILE_SCHEMA asks of tokens.
 use Rattle.std.proofs.Common.{◌≡◌, Bool, true, false, List, [], ◌∷◌, ◌++◌, sym, ap, ◌∙◌, subst, append_assoc, arith, codes, ◌⊎◌, inl, inr}
-use Rattle.predictive.specs.Tables.{LocatedToken, lookaheads, passes, run}
-use Rattle.predictive.proofs.Lists.{lookaheads_append, placed, lookaheads_placed, cut_at, passes_or_stops, passes_or_short}
-use Rattle.predictive.proofs.Leading.{Leads, leads_once}
-use Rattle.predictive.proofs.Running.{reaches_run, Passed, passed, Ends, ends}
+use Rattle.parsing.specs.Tables.{LocatedToken, lookaheads, passes, run}
+use Rattle.parsing.proofs.Lists.{lookaheads_append, placed, lookaheads_placed, cut_at, passes_or_stops, passes_or_short}
+use Rattle.parsing.proofs.Leading.{Leads, leads_once}
+use Rattle.parsing.proofs.Running.{reaches_run, Passed, passed, Ends, ends}
 use Rattle.step_lexis.specs.declared.token.Mark.TheVariants.{Semicolon}
 use Rattle.step_structures.specs.Words.{string, mark, Lookahead, token}
 use Rattle.step_structures.specs.Trees.{leaf, group, Trees, none, one, Record, File, Item, this, Meets, MeetAll, items_of_record, items_of_records, items_of_header, items_of_sections, items_of_end, items_of_file, section}

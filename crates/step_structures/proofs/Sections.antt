@@ -1,8 +1,8 @@
 -- What stands before the symbols that stand up to the end of the file, and which symbol is to come there.
 use Rattle.std.proofs.Common.{◌≡◌, ℕ, zero, suc, Bool, true, false, List, [], ◌∷◌, ◌++◌, Ok, codes, refl, sym, ap, ◌∙◌, subst, append_assoc, append-nil, arith, ◌⊎◌, inl, inr}
-use Rattle.predictive.specs.Languages.{AllAre}
-use Rattle.predictive.proofs.Leading.{Leads, leads_join, leads_more, leads_parts, leads_same, leads_split}
-use Rattle.predictive.proofs.Lists.{all_append}
+use Rattle.parsing.specs.Languages.{AllAre}
+use Rattle.parsing.proofs.Leading.{Leads, leads_join, leads_more, leads_parts, leads_same, leads_split}
+use Rattle.parsing.proofs.Lists.{all_append}
 use Rattle.step_lexis.specs.declared.token.Mark.TheVariants.{Semicolon}
 use Rattle.step_structures.specs.Words.{keyword, ends, mark, Lookahead, token, end_of_text}
 use Rattle.step_structures.specs.Trees.{Section, Item, this, finish, is_said, Meets, MeetAll, items_of_header, items_of_sections, items_of_end}

@@ -1,6 +1,6 @@
 -- A lexer shows one thing at each place of a text.
 use Rattle.std.proofs.Common.{◌≡◌, ℕ, List, refl, sym, ap, ◌∙◌, Some, None, Ok, Err}
-use Rattle.predictive.proofs.Shown.{IsDetermined}
+use Rattle.parsing.proofs.Shown.{IsDetermined}
 use Rattle.step_lexis.specs.declared.token.Sort.{Sort}
 use Rattle.step_lexis.specs.declared.token.Sort.TheVariants as sorts
 use Rattle.step_lexis.specs.declared.token.Token.{Token}

@@ -1,6 +1,6 @@
 -- What leads from what is to come, by the table, to nothing more is a structure, or the part of one that is asked for.
 use Rattle.std.proofs.Common.{◌≡◌, ℕ, ◌+◌, ◌<◌, Bool, true, false, not, ◌&&◌, eqb, ltb, suc, zero, ◌-◌, ◌≤◌, List, [], ◌∷◌, ◌++◌, length, Option, Some, None, Ok, Err, codes, refl, sym, ap, ◌∙◌, subst, append_assoc, append-nil, arith, if◌then◌else◌, ◌⊎◌, inl, inr, MatchResult}
-use Rattle.predictive.proofs.Leading.{Leads}
+use Rattle.parsing.proofs.Leading.{Leads}
 use Rattle.step_lexis.specs.declared.token.Mark.{Mark}
 use Rattle.step_lexis.specs.declared.token.Mark.TheVariants.{Open, Close, Comma, Semicolon, Equals, Dollar, Asterisk}
 use Rattle.step_structures.specs.declared.fault.FaultKind.{FaultKind}

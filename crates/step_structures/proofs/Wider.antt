@@ -1,6 +1,6 @@
 -- What relaxed rules let stand.
 use Rattle.std.proofs.Common.{◌≡◌, ℕ, ◌≤◌, nat_lt, Bool, true, false, ◌&&◌, if◌then◌else◌, List, Ok, Err, refl, sym, ◌∙◌, arith}
-use Rattle.predictive.proofs.Wider.{IsWider}
+use Rattle.parsing.proofs.Wider.{IsWider}
 use Rattle.step_structures.specs.declared.fault.FaultKind.{FaultKind}
 use Rattle.step_structures.specs.declared.fault.FaultKind.TheVariants as kinds
 use Rattle.step_structures.specs.declared.fault.LeftOut.TheVariants as left_out

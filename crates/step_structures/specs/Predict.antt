@@ -1,7 +1,7 @@
 -- What may stand next, token by token: a stack of what is still to come. No promise rests on this table:
 -- it stands between the definitions, which speak of trees and of viable prefixes, and the reader.
 use Rattle.std.specs.Prelude.{ℕ, zero, suc, ◌+◌, nat_lt, Bool, false, not, ◌&&◌, ◌==◌, if◌then◌else◌, List, [], ◌∷◌, ◌++◌, length, Result, Ok, Err, codes}
-use Rattle.predictive.specs.Tables.{Table}
+use Rattle.parsing.specs.Tables.{Table}
 use Rattle.step_lexis.specs.declared.token.Mark.{Mark}
 use Rattle.step_lexis.specs.declared.token.Mark.TheVariants.{Open, Close, Comma, Semicolon, Equals, Dollar, Asterisk}
 use Rattle.step_structures.specs.declared.fault.FaultKind.{FaultKind}

@@ -1,7 +1,7 @@
 -- What exchange structure a text reads as, and the fault that shows first where it reads as none
 -- (ISO 10303-21, 5 to 11).
 use Rattle.std.specs.Prelude.{◌≡◌, ℕ, ◌+◌, ◌-◌, true, false, List, [], ◌∷◌, ◌++◌, take, drop, codes, ◌⊎◌}
-use Rattle.predictive.specs.Tables.{lookaheads}
+use Rattle.parsing.specs.Tables.{lookaheads}
 use Rattle.step_lexis.specs.declared.token.Mark.TheVariants.{Semicolon}
 use Rattle.step_lexis.specs.Reading.{Reading, Reaches, start}
 use Rattle.step_structures.specs.declared.fault.FaultKind.{FaultKind}

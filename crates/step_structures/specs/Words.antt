@@ -1,7 +1,7 @@
 -- Tokens as contracts see them, and what a lexer shows of a text.
 use Rattle.std.specs.Prelude.{◌≡◌, ℕ, List, length}
-use Rattle.predictive.specs.Tables as tables
-use Rattle.predictive.specs.Lexers as lexers
+use Rattle.parsing.specs.Tables as tables
+use Rattle.parsing.specs.Lexers as lexers
 use Rattle.step_lexis.specs.declared.token.Mark.{Mark}
 use Rattle.step_lexis.specs.declared.token.Sort.{Sort}
 use Rattle.step_lexis.specs.declared.token.Sort.TheVariants as sorts

@@ -20,6 +20,27 @@ mutual
   agree_each_grows l m f (more v vs) (more w ws) h = (agree_grows l m f v w h.0, agree_each_grows l m f vs ws h.1)
   agree_each_grows l m f _ _ h = absurd h
 
+-- a test is replaced by another that passes the same of the references at hand
+mutual
+  pub agree_on : (A : ℕ → Type 0) (l m : ℕ → ℕ → Bool) → ((y z : ℕ) → A y → A z → l y z ≡ true → m y z ≡ true)
+      → (v w : Value) → EachReference A v → EachReference A w → Agree l v w → Agree m v w
+  agree_on A l m f (leaf a) (leaf b) p q h = h
+  agree_on A l m f (reference y) (reference z) p q h = f y z p q h
+  agree_on A l m f (typed n v) (typed k w) p q h = (h.0, agree_on A l m f v w p q h.1)
+  agree_on A l m f (sequence vs) (sequence ws) p q h = agree_each_on A l m f vs ws p q h
+  agree_on A l m f (bag vs) (bag ws) p q h = h
+  agree_on A l m f _ _ p q h = absurd h
+
+  pub agree_each_on : (A : ℕ → Type 0) (l m : ℕ → ℕ → Bool) → ((y z : ℕ) → A y → A z → l y z ≡ true → m y z ≡ true)
+      → (vs ws : Values) → EachReferenceOf A vs → EachReferenceOf A ws → AgreeEach l vs ws → AgreeEach m vs ws
+  agree_each_on A l m f none none p q h = tt
+  agree_each_on A l m f (more v vs) (more w ws) p q h = (
+    agree_on A l m f v w p.0 q.0 h.0,
+    agree_each_on A l m f vs ws p.1
+        q.1 h.1,
+  )
+  agree_each_on A l m f _ _ p q h = absurd h
+
 pub eqb_sym : (y z : ℕ) → (y == z) ≡ true → (z == y) ≡ true
 eqb_sym y z h = eq-eqb z y (sym (eqb-true y z h))
 

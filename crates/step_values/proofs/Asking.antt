@@ -1,6 +1,6 @@
 -- A cell says what it does by what is inside it alone.
 use Rattle.std.proofs.Common.{◌≡◌, ◌<◌, ◌≤◌, ◌+◌, ℕ, zero, suc, ◌∷◌, refl, ap, arith}
-use Rattle.columns.specs.Nodes.{run, AsksChildrenAlone}
+use Rattle.parsing.specs.Nodes.{run, AsksChildrenAlone}
 use Rattle.step_values.specs.declared.cell.Cell.{Cell}
 use Rattle.step_values.specs.declared.cell.Cell.TheVariants as cells
 use Rattle.step_values.specs.Cells.{inner_of, reach_of, value_by, value_nodes}

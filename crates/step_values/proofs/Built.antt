@@ -3,11 +3,11 @@ use Rattle.std.proofs.Common.{◌≡◌, ◌≤◌, ◌+◌, ℕ, suc, List, [],
 use Rattle.std.specs.List.{sum_by}
 use Rattle.std.proofs.lemmas.List.{map-append, take_at, drop_at, drop-map, take-map, take-append-drop}
 use Rattle.std.proofs.lemmas.List.Sums.{sum_by_push}
-use Rattle.columns.specs.Cells.{Cells}
-use Rattle.columns.specs.Closing.{Closes}
-use Rattle.columns.specs.Nodes.{run, said_by, IsColumn, AreBefore, GoesOn}
-use Rattle.columns.specs.declared.column.Run.{Run}
-use Rattle.columns.proofs.Grown.{goes_on, place_same, said_same, all_later}
+use Rattle.parsing.specs.Cells.{Cells}
+use Rattle.parsing.specs.Closing.{Closes}
+use Rattle.parsing.specs.Nodes.{run, said_by, IsColumn, AreBefore, GoesOn}
+use Rattle.parsing.specs.declared.column.Run.{Run}
+use Rattle.parsing.proofs.Grown.{goes_on, place_same, said_same, all_later}
 use Rattle.step_literals.specs.declared.literal.Word.{Word}
 use Rattle.step_values.specs.declared.cell.Cell.{Cell}
 use Rattle.step_values.specs.declared.cell.Cell.TheVariants as cells

@@ -8,7 +8,7 @@ use Rattle.step_values.specs.Values.{Value, leaf, reference, typed, sequence, ba
 use Rattle.step_values.specs.References.{renamed, renamed_each, EachReference, EachReferenceOf}
 use Rattle.step_values.specs.Labels.{Labelling, renaming, label_test, one_label, renamed_in_bags, each_renamed_in_bags, AgreeBy, AgreeEachBy}
 use Rattle.step_values.specs.ComputedAgreement.{same_test, same_each_test}
-use Rattle.step_values.specs.ComputedLabels.{code, within, placed, labelled, each_labelled, same_by, same_each_by}
+use Rattle.step_values.specs.ComputedLabels.{code, within, labelled, each_labelled, same_by, same_each_by}
 use Rattle.step_values.proofs.Deciding.{same_bool, test_sound, test_complete, each_sound, each_complete, by_sound, by_complete, each_by_sound, each_by_complete}
 use Rattle.step_values.proofs.Renaming.{agree_renamed, reflected, each_renamed_itself}
 
@@ -114,11 +114,6 @@ mutual
       ap (λ b. b && same_each_test (each_labelled f vs) (each_labelled g ws)) (same_labelled f g v w)
       ∙ ap (λ b. same_by f g v w && b) (same_each_labelled f g vs ws)
   same_each_labelled f g _ _ = refl
-
--- what stands in a bag for a reference stands there whatever is around it
-pub within_placed : (b : Bool) (f : Labelling) → within (placed b f) ≡ within f
-within_placed true f = refl
-within_placed false f = refl
 
 -- the tests decide agreement
 

@@ -1,5 +1,7 @@
 pub mod References
 pub mod Agreement
+pub mod ByShapes
+mod Changes
 pub mod Renaming
 pub mod Deciding
 pub mod Labelled

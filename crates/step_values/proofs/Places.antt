@@ -2,8 +2,8 @@
 use Rattle.std.proofs.Common.{◌≡◌, ◌≤◌, ℕ, zero, suc, List, [], ◌∷◌, ◌++◌, length, take, drop, Some, refl, sym, ◌∙◌, ap, subst, arith, append_assoc, length-append, slice_get}
 use Rattle.std.proofs.lemmas.List.{take-append-drop, length-take-le}
 use Rattle.std.proofs.lemmas.Option.{slice_get_within}
-use Rattle.columns.specs.Nodes.{IsColumn}
-use Rattle.columns.proofs.Grown.{place_same, cell_same, pushed_place}
+use Rattle.parsing.specs.Nodes.{IsColumn}
+use Rattle.parsing.proofs.Grown.{place_same, cell_same, pushed_place}
 use Rattle.step_values.specs.declared.cell.Cell.{Cell}
 use Rattle.step_values.specs.Cells.{reach_of, value_at, value_by, value_nodes}
 use Rattle.step_values.proofs.Asking.{asks_inside}

@@ -1,7 +1,7 @@
 -- Values that stand side by side in a column.
 use Rattle.std.proofs.Common.{◌≡◌, ◌<◌, ◌≤◌, ◌+◌, ℕ, zero, suc, List, [], ◌∷◌, Some, None, ◌∙◌, ap, subst, arith, refl, slice_get}
-use Rattle.columns.specs.Nodes.{run}
-use Rattle.columns.specs.declared.column.Run.{Run}
+use Rattle.parsing.specs.Nodes.{run}
+use Rattle.parsing.specs.declared.column.Run.{Run}
 use Rattle.step_values.specs.Building.{AreWithin}
 use Rattle.step_values.specs.Cells.{values_at}
 use Rattle.step_values.specs.ComputedAgreement.{size}

@@ -1,7 +1,7 @@
 -- The references of what a column says are the names that its cells lead to.
 use Rattle.std.proofs.Common.{◌≡◌, ℕ, zero, suc, List, [], ◌∷◌, Option, Some, None, slice_get, refl}
-use Rattle.columns.specs.Nodes.{run, said_or, said_within}
-use Rattle.columns.specs.declared.column.Run.{Run}
+use Rattle.parsing.specs.Nodes.{run, said_or, said_within}
+use Rattle.parsing.specs.declared.column.Run.{Run}
 use Rattle.step_values.specs.declared.cell.Cell.{Cell}
 use Rattle.step_values.specs.declared.cell.Cell.TheVariants as cells
 use Rattle.step_values.specs.Building.{rows_by}

@@ -91,9 +91,6 @@ abbrev pub Collects : Labelling → Values → ℕ → List Normal → Type 0
 Collects f vs i ms = (ns : List Normal) → AreNormal (each_labelled f (after i vs)) ns
     → AreNormal (each_labelled f vs) (ms ++ ns)
 
-pub collected_none : (f : Labelling) (vs : Values) → Collects f vs 0 []
-collected_none f vs ns p = p
-
 pub collected_more : (f : Labelling) (vs : Values) (i : ℕ) (v : Value) (n : Normal) (ms : List Normal)
     → nth vs i ≡ Some v → IsNormal (labelled f v) n → Collects f vs i ms → Collects f vs (i + 1) (ms ++ n ∷ [])
 collected_more f vs i v n ms e form c ns p =

@@ -2,8 +2,8 @@
 use Rattle.std.specs.Prelude.{◌≡◌, ⊤, ℕ, ◌+◌, ◌≤◌, List, [], ◌∷◌, length, map, refl}
 use Rattle.std.specs.Coded.{Coded, code_by, coded×, coded_ℕ, coded_list}
 use Rattle.std.specs.List.{sum_by}
-use Rattle.columns.specs.Nodes.{said_by, IsColumn, AreBefore}
-use Rattle.columns.specs.declared.column.Run.{Run}
+use Rattle.parsing.specs.Nodes.{said_by, IsColumn, AreBefore}
+use Rattle.parsing.specs.declared.column.Run.{Run}
 use Rattle.step_values.specs.declared.cell.Cell.{Cell}
 use Rattle.step_values.specs.Cells.{value_nodes, values_of_run}
 use Rattle.step_values.specs.ComputedCodes.{coded_value, coded_values}

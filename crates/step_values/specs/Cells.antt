@@ -1,7 +1,7 @@
 -- What a cell of a column says of a value.
 use Rattle.std.specs.Prelude.{ℕ, suc, ◌+◌, ◌*◌, ◌^◌, List}
-use Rattle.columns.specs.Nodes.{Nodes, run, said_at}
-use Rattle.columns.specs.declared.column.Run.{Run}
+use Rattle.parsing.specs.Nodes.{Nodes, run, said_at}
+use Rattle.parsing.specs.declared.column.Run.{Run}
 use Rattle.step_values.specs.declared.cell.Cell.{Cell}
 use Rattle.step_values.specs.declared.cell.Cell.TheVariants as cells
 use Rattle.step_values.specs.Leaves.{unset, derived, element}

@@ -1,7 +1,7 @@
 -- The laws of agreement, and of cells.
 use Rattle.std.specs.Prelude.{◌≡◌, ◌==◌, ◌↔◌, true, List}
 use Rattle.std.specs.Cmp.Lexicographic.{pointwise}
-use Rattle.columns.specs.Nodes.{AsksChildrenAlone}
+use Rattle.parsing.specs.Nodes.{AsksChildrenAlone}
 use Rattle.step_values.specs.declared.normal.Normal.{Normal}
 use Rattle.step_values.specs.Cells.{value_nodes}
 use Rattle.step_values.specs.ComputedAgreement.{same_test, same_each_test}

@@ -1,6 +1,7 @@
 pub mod Leaves
 pub mod Values
 pub mod References
+pub mod Shapes
 pub mod Maps
 pub mod Labels
 pub mod Views

@@ -1,6 +1,6 @@
 //! One cell of a column of values.
 
-use columns::column::Run;
+use parsing::column::Run;
 use std::mem::size_of;
 use step_literals::literal::{Bits, Decimal, Text, Word};
 

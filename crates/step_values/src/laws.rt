@@ -5,6 +5,7 @@ ghost use Rattle.step_values.specs.Laws.{
   NormalFormsDecideAgreement,
   TestsDecideAgreement,
 };
+ghost use Rattle.step_values.specs.Shapes.{AgreementIsByShapes, ChangesDecide};
 
 /// The tests of values and of lists of values pass exactly where these agree, each reference with
 /// itself alone.
@@ -21,4 +22,16 @@ pub fn normal_forms_decide_agreement()
 /// for columns of values.
 pub fn a_cell_asks_what_is_inside()
     ensures { CellsAskTheirChildren }
+{}
+
+/// Values agree under a test exactly where they have one shape, and the test passes their references
+/// outside bags one by one.
+pub fn agreement_is_by_shapes()
+    ensures { AgreementIsByShapes }
+{}
+
+/// Where classes get new numbers, references whose numbers were equal one by one have equal ones
+/// exactly where those that changed are, at the same places.
+pub fn changes_decide()
+    ensures { ChangesDecide }
 {}

@@ -31,7 +31,7 @@ ghost use Rattle.step_values.specs.Views.{
 use crate::cell::Cell;
 use crate::place::split;
 use crate::rows::ValueRows;
-use columns::column::{Column, Run};
+use parsing::column::{Column, Run};
 use std::alloc::{AllocError, Global};
 use std::marker::Model;
 use std::mem;
@@ -89,13 +89,6 @@ impl<'n, 'a> RowBuilder<'n, 'a> {
         ensures { result ≡ length self.now.pending }
     {
         self.cells.pending_len()
-    }
-
-    /// How many rows there are so far.
-    pub fn rows_len(&self) -> usize
-        ensures { result ≡ length self.now.rows }
-    {
-        self.runs.len()
     }
 
     /// One more value is pending, an unset one.

@@ -2,7 +2,7 @@
 
 ghost use Rattle.std.specs.Prelude.{◌≡◌, ◌<◌, Some, length, slice_get};
 ghost use Rattle.std.specs.List.{sum_by};
-ghost use Rattle.columns.specs.Nodes.{IsColumn};
+ghost use Rattle.parsing.specs.Nodes.{IsColumn};
 ghost use Rattle.step_values.specs.Cells.{value_nodes};
 ghost use Rattle.step_values.specs.NodeCounts.{nodes_in};
 ghost use Rattle.step_values.specs.Building.{Holds, rows_by};
@@ -10,7 +10,7 @@ ghost use Rattle.step_values.specs.Targets.{targets_of};
 
 use crate::cell::Cell;
 use crate::slot::Slots;
-use columns::column::Run;
+use parsing::column::Run;
 use std::marker::Model;
 
 /// Rows of values, each of them side by side, in one column of cells.

@@ -1,7 +1,7 @@
 //! Values as readers see them, whatever they are kept in: by their outermost parts.
 
 ghost use Rattle.std.specs.Prelude.{◌≡◌, ◌<◌, ◌≤◌, ◌+◌, Some, length};
-ghost use Rattle.columns.specs.Nodes.{IsColumn};
+ghost use Rattle.parsing.specs.Nodes.{IsColumn};
 ghost use Rattle.step_values.specs.Cells.{
   reach_of,
   value_at,
@@ -14,7 +14,7 @@ ghost use Rattle.step_values.specs.Slots.{node_value, kind_of, len_of, item_of, 
 
 use crate::cell::Cell;
 use crate::place::join;
-use columns::column::Run;
+use parsing::column::Run;
 use std::marker::Model;
 use step_literals::literal::{Bits, Decimal, Text, Word};
 
@@ -27,7 +27,7 @@ pub struct Slot<'p, 'a> {
 
 impl<'p, 'a> Model for Slot<'p, 'a> {
     ghost use Rattle.std.specs.Prelude.{◌<◌, length};
-    ghost use Rattle.columns.specs.Nodes.{IsColumn};
+    ghost use Rattle.parsing.specs.Nodes.{IsColumn};
     ghost use Rattle.step_values.specs.Values as values;
     ghost use Rattle.step_values.specs.Cells.{value_nodes, value_at};
     ghost use Rattle.step_values.specs.ComputedCodes.{coded_value};
@@ -50,7 +50,7 @@ pub struct Slots<'p, 'a> {
 
 impl<'p, 'a> Model for Slots<'p, 'a> {
     ghost use Rattle.std.specs.Prelude.{◌≤◌, ◌+◌, length};
-    ghost use Rattle.columns.specs.Nodes.{IsColumn};
+    ghost use Rattle.parsing.specs.Nodes.{IsColumn};
     ghost use Rattle.step_values.specs.Values.{Values};
     ghost use Rattle.step_values.specs.Cells.{value_nodes, values_of_run};
     ghost use Rattle.step_values.specs.ComputedCodes.{coded_values};

@@ -2,10 +2,10 @@
 //! `stepmin check SCHEMA FILE` tells where it breaks its schema.
 #![tactic(auto)]
 
+use command_line::folder::Folder;
 use command_line::usage::unread_words;
 use commands::command::{refuse, refuse_to_read, run_command};
 use devices::counted::Counted;
-use file_store::folder::Folder;
 use std::env::Env;
 use std::hash::RandomState;
 use std::io;

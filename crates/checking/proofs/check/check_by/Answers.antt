@@ -1,4 +1,4 @@
-use Rattle.express_schemas.specs.SchemaViews.{schema_of}
+use Rattle.express_syntax.specs.SchemaViews.{schema_of}
 use Rattle.checking.proofs.Answering.{of-names}
 use Rattle.checking.proofs.Failing.{schema-fault-told, other-told}
 use Rattle.checking.proofs.check.check_by.Goals as goal

@@ -1,5 +1,5 @@
 use Rattle.std.proofs.Common.{subst, sym, ◌∙◌}
-use Rattle.express_schemas.specs.SchemaViews.{schema_of}
+use Rattle.express_syntax.specs.SchemaViews.{schema_of}
 use Rattle.checking.specs.Checks.{FileAnswers}
 use Rattle.checking.proofs.Answering.{gives, no-device, of-source}
 use Rattle.checking.proofs.Failing.{file-told}

@@ -1,5 +1,5 @@
 use Rattle.std.proofs.Common.{inl, inr, map, string_bytes}
-use Rattle.command_line.specs.Stores.{stored}
+use Rattle.files.specs.Stores.{stored}
 use Rattle.command_line.proofs.Asking.{are_texts, asks_or_not}
 use Rattle.commands.proofs.Running.{asked_runs, asked_says, checked_failed, checks_asked, file_failed, memory_checks, memory_runs, none_asked, refused_device, refused_unwritten, runs_asked, schema_failed}
 use Rattle.commands.proofs.command.run_command.Goals as goal

@@ -1,8 +1,8 @@
 use Rattle.std.proofs.Common.{length, map}
 use Rattle.express_lexis.specs.Reading.{left}
 use Rattle.express_runs.specs.Items.{located_of}
-use Rattle.express_schemas.specs.Views.{attribute_of}
-use Rattle.express_schemas.specs.Predict.{Symbol}
+use Rattle.express_syntax.specs.Views.{attribute_of}
+use Rattle.express_syntax.specs.Predict.{Symbol}
 use Rattle.express_entities.specs.Lists.{IsListed, ListsOn}
 use Rattle.express_entities.proofs.attributes.attributes.Given as goal
 

@@ -1,19 +1,19 @@
 use Rattle.std.proofs.Common.{[], ap, sym, ◌∙◌, refl}
 use Rattle.std.proofs.lemmas.Result.{err_from_is_err_and}
-use Rattle.express_trees.specs.declared.keyword.Keyword.TheVariants as keywords
-use Rattle.express_trees.specs.Words.{name, word_of}
-use Rattle.express_trees.specs.Views.{capitals}
+use Rattle.express_syntax.specs.declared.keyword.Keyword.TheVariants as keywords
+use Rattle.express_syntax.specs.Words.{name, word_of}
+use Rattle.express_syntax.specs.ExpressionViews.{capitals}
 use Rattle.express_runs.specs.Items.{located_of}
-use Rattle.express_schemas.specs.Views.{if_some, bounds_of}
-use Rattle.express_schemas.specs.Written.{words_of_some_bounds}
-use Rattle.express_schemas.specs.Texts.{token}
-use Rattle.express_schemas.specs.Predict.{Inverted}
-use Rattle.express_schemas.proofs.Looking.{keyword_met, stops_refused}
-use Rattle.express_schemas.proofs.Taking.{passes_token}
+use Rattle.express_syntax.specs.Views.{if_some, bounds_of}
+use Rattle.express_syntax.specs.Written.{words_of_some_bounds}
+use Rattle.express_syntax.specs.Texts.{token}
+use Rattle.express_syntax.specs.Predict.{Inverted}
+use Rattle.express_syntax.proofs.Looking.{keyword_met, stops_refused}
+use Rattle.express_syntax.proofs.Taking.{passes_token}
 use Rattle.express_entities.proofs.AttributeSteps.{grouped_passes, grouped_stops, grouped_stops_behind, collection_refused}
-use Rattle.express_schemas.proofs.SameText.{shows_text, kept}
-use Rattle.express_schemas.specs.Sources.{IsBoundsOf}
-use Rattle.express_schemas.specs.Profile.{Maybe}
+use Rattle.express_syntax.proofs.SameText.{shows_text, kept}
+use Rattle.express_syntax.specs.Sources.{IsBoundsOf}
+use Rattle.express_syntax.specs.Profile.{Maybe}
 use Rattle.express_entities.proofs.attributes.collection.Goals as goal
 
 pub returns-in_err-bounds-clause-read : goal.returns-in_err-bounds-clause-read

@@ -1,13 +1,13 @@
 use Rattle.std.proofs.Common.{[], ◌∷◌, ◌++◌, sym, ◌∙◌}
 use Rattle.std.proofs.lemmas.Result.{err_from_is_err_and}
 use Rattle.express_lexis.specs.declared.marks.Mark.TheVariants as marks
-use Rattle.express_trees.specs.Words.{mark}
+use Rattle.express_syntax.specs.Words.{mark}
 use Rattle.express_runs.specs.Items.{located_of}
-use Rattle.express_schemas.specs.Views.{data_type_of}
-use Rattle.express_schemas.specs.Written.{words_of_data_type}
+use Rattle.express_syntax.specs.Views.{data_type_of}
+use Rattle.express_syntax.specs.Written.{words_of_data_type}
 use Rattle.express_entities.proofs.AttributeSteps.{optional_passes, optional_stops, data_type_passes, data_type_stops}
-use Rattle.express_schemas.proofs.SameText.{shows_text, kept}
-use Rattle.express_schemas.specs.Sources.{IsDataTypeOf}
+use Rattle.express_syntax.proofs.SameText.{shows_text, kept}
+use Rattle.express_syntax.specs.Sources.{IsDataTypeOf}
 use Rattle.express_entities.proofs.attributes.optional_data_type.Goals as goal
 
 pub returns-in_err-data_type-clause-read : goal.returns-in_err-data_type-clause-read

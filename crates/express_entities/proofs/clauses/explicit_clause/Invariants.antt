@@ -1,11 +1,11 @@
 use Rattle.std.proofs.Common.{length, map}
 use Rattle.express_lexis.specs.Reading.{left}
-use Rattle.express_trees.specs.Grammar.{depth_limit}
-use Rattle.express_schemas.specs.Views.{explicit_of}
-use Rattle.express_schemas.specs.Written.{words_of_explicit}
-use Rattle.express_schemas.specs.Profile.{Every, FitsExplicit}
-use Rattle.express_schemas.specs.Sources.{IsExplicitOf}
-use Rattle.express_schemas.specs.Predict.{explicits}
+use Rattle.express_syntax.specs.Grammar.{depth_limit}
+use Rattle.express_syntax.specs.Views.{explicit_of}
+use Rattle.express_syntax.specs.Written.{words_of_explicit}
+use Rattle.express_syntax.specs.Profile.{Every, FitsExplicit}
+use Rattle.express_syntax.specs.Sources.{IsExplicitOf}
+use Rattle.express_syntax.specs.Predict.{explicits}
 use Rattle.express_entities.specs.EntityParts.{Stand}
 use Rattle.express_entities.proofs.clauses.explicit_clause.Given as goal
 

@@ -1,15 +1,15 @@
 use Rattle.std.proofs.Common.{◌∙◌, map, refl}
 use Rattle.std.proofs.lemmas.Result.{err_from_is_err_and}
-use Rattle.express_trees.specs.Grammar.{depth_limit}
+use Rattle.express_syntax.specs.Grammar.{depth_limit}
 use Rattle.express_entities.specs.declared.clauses.ClauseStart.TheVariants as starts
-use Rattle.express_schemas.specs.Views.{inverse_of}
-use Rattle.express_schemas.specs.Written.{words_of_inverse}
-use Rattle.express_schemas.specs.Profile.{FitsInverse}
-use Rattle.express_schemas.specs.Predict.{inverses, behind_attribute}
+use Rattle.express_syntax.specs.Views.{inverse_of}
+use Rattle.express_syntax.specs.Written.{words_of_inverse}
+use Rattle.express_syntax.specs.Profile.{FitsInverse}
+use Rattle.express_syntax.specs.Predict.{inverses, behind_attribute}
 use Rattle.express_entities.proofs.ClauseSteps.{begins_as, first_same, item_less, stand_push, stand_stops_front, stand_stops_item, stand_ended}
-use Rattle.express_schemas.proofs.SameText.{passes_text, kept}
-use Rattle.express_schemas.proofs.Lists.{every_push}
-use Rattle.express_schemas.specs.Sources.{IsInverseOf}
+use Rattle.express_syntax.proofs.SameText.{passes_text, kept}
+use Rattle.express_syntax.proofs.Lists.{every_push}
+use Rattle.express_syntax.specs.Sources.{IsInverseOf}
 use Rattle.express_entities.proofs.clauses.inverse_clause.Goals as goal
 
 pub returns-in_err-attribute-clause-read : goal.returns-in_err-attribute-clause-read

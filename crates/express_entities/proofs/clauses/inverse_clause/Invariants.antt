@@ -1,11 +1,11 @@
 use Rattle.std.proofs.Common.{length, map}
 use Rattle.express_lexis.specs.Reading.{left}
-use Rattle.express_trees.specs.Grammar.{depth_limit}
-use Rattle.express_schemas.specs.Views.{inverse_of}
-use Rattle.express_schemas.specs.Written.{words_of_inverse}
-use Rattle.express_schemas.specs.Profile.{Every, FitsInverse}
-use Rattle.express_schemas.specs.Sources.{IsInverseOf}
-use Rattle.express_schemas.specs.Predict.{inverses}
+use Rattle.express_syntax.specs.Grammar.{depth_limit}
+use Rattle.express_syntax.specs.Views.{inverse_of}
+use Rattle.express_syntax.specs.Written.{words_of_inverse}
+use Rattle.express_syntax.specs.Profile.{Every, FitsInverse}
+use Rattle.express_syntax.specs.Sources.{IsInverseOf}
+use Rattle.express_syntax.specs.Predict.{inverses}
 use Rattle.express_entities.specs.EntityParts.{Stand}
 use Rattle.express_entities.proofs.clauses.inverse_clause.Given as goal
 

@@ -1,10 +1,10 @@
 use Rattle.std.proofs.Common.{◌∙◌}
 use Rattle.std.proofs.lemmas.Result.{err_from_is_err_and}
-use Rattle.express_schemas.specs.Views.{if_some, rules_of}
+use Rattle.express_syntax.specs.Views.{if_some, rules_of}
 use Rattle.express_entities.proofs.ClauseSteps.{stops_end, after_derived, after_inverses, after_uniques, after_rules}
-use Rattle.express_schemas.proofs.SameText.{passes_text, kept}
-use Rattle.express_schemas.specs.Sources.{IsDerivedOf, IsInverseOf, IsRuleOf}
-use Rattle.express_schemas.specs.Profile.{Every, Maybe}
+use Rattle.express_syntax.proofs.SameText.{passes_text, kept}
+use Rattle.express_syntax.specs.Sources.{IsDerivedOf, IsInverseOf, IsRuleOf}
+use Rattle.express_syntax.specs.Profile.{Every, Maybe}
 use Rattle.express_entities.proofs.clauses.read_clauses.Goals as goal
 
 pub returns-in_err-derived-clause-read : goal.returns-in_err-derived-clause-read

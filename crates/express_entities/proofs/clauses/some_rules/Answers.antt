@@ -1,6 +1,6 @@
 use Rattle.std.proofs.Common.{[], ◌∷◌, refl}
 use Rattle.express_lexis.specs.declared.marks.Mark.TheVariants as marks
-use Rattle.express_trees.specs.Words.{mark}
+use Rattle.express_syntax.specs.Words.{mark}
 use Rattle.express_entities.proofs.ClauseSteps.{not_where}
 use Rattle.express_entities.proofs.clauses.some_rules.Goals as goal
 

@@ -1,9 +1,9 @@
 use Rattle.std.proofs.Common.{length, map}
 use Rattle.express_lexis.specs.Reading.{left}
-use Rattle.express_schemas.specs.Views.{unique_of}
-use Rattle.express_schemas.specs.Written.{words_of_unique}
-use Rattle.express_schemas.specs.Profile.{FitsUnique}
-use Rattle.express_schemas.specs.Predict.{uniques}
+use Rattle.express_syntax.specs.Views.{unique_of}
+use Rattle.express_syntax.specs.Written.{words_of_unique}
+use Rattle.express_syntax.specs.Profile.{FitsUnique}
+use Rattle.express_syntax.specs.Predict.{uniques}
 use Rattle.express_entities.specs.EntityParts.{Stand}
 use Rattle.express_entities.proofs.clauses.unique_clause.Given as goal
 

@@ -1,9 +1,9 @@
 use Rattle.std.proofs.Common.{◌∙◌}
 use Rattle.std.proofs.lemmas.Result.{err_from_is_err_and}
-use Rattle.express_trees.specs.Views.{capitals}
+use Rattle.express_syntax.specs.ExpressionViews.{capitals}
 use Rattle.express_entities.proofs.EntitySteps.{entity_err_head, entity_err_clauses, entity_done}
-use Rattle.express_schemas.proofs.SameText.{passes_text, kept}
-use Rattle.express_schemas.specs.Sources.{IsSupertypeOf}
+use Rattle.express_syntax.proofs.SameText.{passes_text, kept}
+use Rattle.express_syntax.specs.Sources.{IsSupertypeOf}
 use Rattle.express_entities.specs.EntityParts.{AreClausesOf}
 use Rattle.express_entities.proofs.entities.entity.Goals as goal
 

@@ -1,10 +1,10 @@
 use Rattle.std.proofs.Common.{◌≡◌, sym, ◌∙◌}
 use Rattle.std.proofs.lemmas.Result.{err_from_is_err_and}
 use Rattle.express_runs.specs.Items.{located_of}
-use Rattle.express_schemas.specs.Predict.{Super, EndOfText}
+use Rattle.express_syntax.specs.Predict.{Super, EndOfText}
 use Rattle.express_entities.proofs.EntitySteps.{answers_as, head_plain, head_err_plain, head_err_second, head_abstract, head_err_abstract}
-use Rattle.express_schemas.proofs.SameText.{shows_text, kept_ok}
-use Rattle.express_schemas.specs.Sources.{IsSupertypeOf}
+use Rattle.express_syntax.proofs.SameText.{shows_text, kept_ok}
+use Rattle.express_syntax.specs.Sources.{IsSupertypeOf}
 use Rattle.express_entities.proofs.entities.read_head.Goals as goal
 
 pub returns-then-not-is_keyword-clause-read : goal.returns-then-not-is_keyword-clause-read

@@ -1,5 +1,5 @@
 use Rattle.std.proofs.Common.{sym, ◌∙◌, ◌≡◌, length, vec_len, arith}
-use Rattle.express_trees.specs.Views.{tree_of}
+use Rattle.express_syntax.specs.ExpressionViews.{tree_of}
 use Rattle.express_expressions.proofs.Levels.{conjoined_more, not_empty}
 use Rattle.express_expressions.proofs.Readings.{built_same}
 use Rattle.express_expressions.proofs.boxed.conjoined.Goals as goal

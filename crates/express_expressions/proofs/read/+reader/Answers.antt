@@ -1,13 +1,13 @@
 use Rattle.std.proofs.Common.{◌≡◌, ap, ◌∙◌, ◌∷◌, refl}
 use Rattle.std.proofs.lemmas.Result.{err_from_is_err_and}
 use Rattle.express_lexis.specs.declared.marks.Mark.TheVariants as marks
-use Rattle.express_trees.specs.declared.keyword.Keyword.TheVariants as keywords
-use Rattle.express_trees.specs.Words.{keyword, mark}
-use Rattle.express_trees.specs.Trees.{none, one, finish, another, plain, word_of_function, word_of_literal, word_of_root}
-use Rattle.express_trees.specs.Grammar.{unary, term, simple, expression}
-use Rattle.express_trees.specs.Reads.{Stands}
+use Rattle.express_syntax.specs.declared.keyword.Keyword.TheVariants as keywords
+use Rattle.express_syntax.specs.Words.{keyword, mark}
+use Rattle.express_syntax.specs.Trees.{none, one, finish, another, plain, word_of_function, word_of_literal, word_of_root}
+use Rattle.express_syntax.specs.Grammar.{unary, term, simple, expression}
+use Rattle.express_syntax.specs.Reads.{Stands}
 use Rattle.express_expressions.specs.Pieces.{words_from, level_of, boxed_tree, Heads}
-use Rattle.express_trees.specs.Views.{capitals, literal_of, root_of, tree_of, trees_of, alternatives_of, selection_of, qualifiers_of}
+use Rattle.express_syntax.specs.ExpressionViews.{capitals, literal_of, root_of, tree_of, trees_of, alternatives_of, selection_of, qualifiers_of}
 use Rattle.express_expressions.proofs.ViewLemmas.{joined, joined_alternatives, joined_qualifiers, selected, chosen, trees_push, alternatives_push, qualifiers_push}
 use Rattle.express_expressions.proofs.Levels.{expression_none, expression_alone, expression_half, expression_twice, expression_done, simple_none, simple_half, simple_done, term_none, term_half, term_done, unary_none, unary_done, negation_done}
 use Rattle.express_expressions.proofs.Chains.{others_next, others_none, others_done, more_next, more_none, more_done, selects_next, selects_none, selects_done, qualifies_shorter, no_attribute, elements_first, elements_next, elements_none, elements_stuck, elements_done}

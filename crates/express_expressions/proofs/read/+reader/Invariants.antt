@@ -1,5 +1,5 @@
 use Rattle.std.proofs.Common.{◌+◌, ◌*◌, ◌-◌, length}
-use Rattle.express_trees.specs.Views.{trees_of, alternatives_of, qualifiers_of}
+use Rattle.express_syntax.specs.ExpressionViews.{trees_of, alternatives_of, qualifiers_of}
 use Rattle.express_expressions.specs.Pieces.{words_from}
 use Rattle.express_expressions.proofs.Chains.{OthersSoFar, MoreSoFar, SelectsSoFar, ElementsSoFar}
 use Rattle.express_expressions.proofs.read.+reader.Given as goal

@@ -1,9 +1,9 @@
 use Rattle.std.proofs.Common.{◌≡◌, rules}
-use Rattle.express_trees.specs.Grammar.{expression}
-use Rattle.express_trees.specs.Reads.{StandsNone}
+use Rattle.express_syntax.specs.Grammar.{expression}
+use Rattle.express_syntax.specs.Reads.{StandsNone}
 use Rattle.express_expressions.specs.declared.not_read.NotRead.TheVariants as failures
-use Rattle.express_trees.specs.Words.{words_of}
-use Rattle.express_trees.specs.Views.{tree_of}
+use Rattle.express_syntax.specs.Words.{words_of}
+use Rattle.express_syntax.specs.ExpressionViews.{tree_of}
 use Rattle.express_expressions.specs.Pieces.{words_from, Unless}
 use Rattle.express_expressions.proofs.Levels.{whole_none, whole_more, some_left}
 use Rattle.express_expressions.proofs.read.read_expression.Goals as goal

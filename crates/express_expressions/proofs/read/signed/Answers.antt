@@ -1,9 +1,9 @@
-use Rattle.express_trees.specs.Words.{Word}
-use Rattle.express_trees.specs.Trees.{Tree, word_of_sign}
-use Rattle.express_trees.specs.Grammar.{unary}
-use Rattle.express_trees.specs.Reads.{Stands}
+use Rattle.express_syntax.specs.Words.{Word}
+use Rattle.express_syntax.specs.Trees.{Tree, word_of_sign}
+use Rattle.express_syntax.specs.Grammar.{unary}
+use Rattle.express_syntax.specs.Reads.{Stands}
 use Rattle.std.proofs.Common.{ℕ, List, ◌∷◌}
-use Rattle.express_trees.specs.Views.{number_of}
+use Rattle.express_syntax.specs.ExpressionViews.{number_of}
 use Rattle.express_expressions.specs.Pieces.{words_from}
 use Rattle.express_expressions.proofs.Primaries.{signed_none, signed_cut, signed_done}
 use Rattle.express_expressions.proofs.Readings.{built}

@@ -1,8 +1,8 @@
 use Rattle.std.proofs.lemmas.Result.{err_from_is_err_and}
-use Rattle.express_schemas.specs.Views.{bound_of}
+use Rattle.express_syntax.specs.Views.{bound_of}
 use Rattle.express_parts.proofs.BoundSteps.{bounds_err_upper, bounds_err_of, bounds_done}
-use Rattle.express_schemas.proofs.SameText.{passes_text, kept}
-use Rattle.express_schemas.specs.Sources.{IsBoundOf}
+use Rattle.express_syntax.proofs.SameText.{passes_text, kept}
+use Rattle.express_syntax.specs.Sources.{IsBoundOf}
 use Rattle.express_parts.proofs.bounds.bounds.Goals as goal
 
 pub returns-in_err-upper-clause-read : goal.returns-in_err-upper-clause-read

@@ -1,10 +1,10 @@
 use Rattle.std.proofs.Common.{rules, ap, ◌∙◌, ◌≡◌, ◌∷◌, length}
-use Rattle.express_trees.specs.Words.{word_of, words_of}
-use Rattle.express_trees.specs.Views.{capitals}
-use Rattle.express_schemas.specs.Views.{names_of}
+use Rattle.express_syntax.specs.Words.{word_of, words_of}
+use Rattle.express_syntax.specs.ExpressionViews.{capitals}
+use Rattle.express_syntax.specs.Views.{names_of}
 use Rattle.express_parts.proofs.BoundSteps.{names_short, names_other, names_next, names_done, names_at, two_words, behind_two, no_words}
 use Rattle.express_parts.proofs.bounds.known_names.Goals as goal
-use Rattle.express_schemas.proofs.Lists.{map_push}
+use Rattle.express_syntax.proofs.Lists.{map_push}
 
 pub returns-in_default-left : goal.returns-in_default-left
 returns-in_default-left c = names_short (words_of c.args.lexemes.now) (names_of c.loop-left.names.items)

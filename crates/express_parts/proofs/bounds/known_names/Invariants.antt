@@ -1,6 +1,6 @@
 use Rattle.std.proofs.Common.{length}
-use Rattle.express_trees.specs.Words.{words_of}
-use Rattle.express_schemas.specs.Views.{names_of}
+use Rattle.express_syntax.specs.Words.{words_of}
+use Rattle.express_syntax.specs.Views.{names_of}
 use Rattle.express_parts.proofs.BoundSteps.{NamesSoFar}
 use Rattle.express_parts.proofs.bounds.known_names.Given as goal
 

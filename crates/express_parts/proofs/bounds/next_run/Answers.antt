@@ -1,9 +1,9 @@
 use Rattle.express_runs.specs.Items.{located_of}
-use Rattle.express_schemas.specs.Views.{run_of}
+use Rattle.express_syntax.specs.Views.{run_of}
 use Rattle.express_runs.specs.OpenRuns.{part_of}
 use Rattle.express_parts.proofs.BoundSteps.{run_of_gather}
-use Rattle.express_schemas.proofs.SameText.{shows_text, kept_ok}
-use Rattle.express_schemas.specs.Sources.{IsRunOf}
+use Rattle.express_syntax.proofs.SameText.{shows_text, kept_ok}
+use Rattle.express_syntax.specs.Sources.{IsRunOf}
 use Rattle.express_parts.proofs.bounds.next_run.Goals as goal
 
 pub returns-clause-read : goal.returns-clause-read

@@ -1,11 +1,11 @@
 use Rattle.std.proofs.Common.{rules, sym, ◌∙◌, ◌≤◌, ◌<◌}
 use Rattle.std.proofs.lemmas.Result.{err_from_is_err_and}
-use Rattle.express_trees.specs.Grammar.{depth_limit}
+use Rattle.express_syntax.specs.Grammar.{depth_limit}
 use Rattle.express_runs.specs.Items.{located_of}
-use Rattle.express_schemas.specs.Views.{bounds_of}
+use Rattle.express_syntax.specs.Views.{bounds_of}
 use Rattle.express_parts.proofs.BoundSteps.{no_bounds, some_bounds_err, some_bounds_deep, some_bounds_stop, some_bounds_done}
-use Rattle.express_schemas.proofs.SameText.{shows_text, kept}
-use Rattle.express_schemas.specs.Sources.{IsBoundsOf}
+use Rattle.express_syntax.proofs.SameText.{shows_text, kept}
+use Rattle.express_syntax.specs.Sources.{IsBoundsOf}
 use Rattle.express_parts.proofs.bounds.some_bounds.Goals as goal
 
 pub returns-then-is_keyword-clause-read : goal.returns-then-is_keyword-clause-read

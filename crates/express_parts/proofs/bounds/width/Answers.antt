@@ -1,6 +1,6 @@
 use Rattle.std.proofs.Common.{ap, sym, ◌∙◌}
-use Rattle.express_trees.specs.Words.{words_of}
-use Rattle.express_schemas.specs.Views.{run_of}
+use Rattle.express_syntax.specs.Words.{words_of}
+use Rattle.express_syntax.specs.Views.{run_of}
 use Rattle.express_parts.proofs.BoundSteps.{width_known, width_other}
 use Rattle.express_parts.proofs.bounds.width.Goals as goal
 

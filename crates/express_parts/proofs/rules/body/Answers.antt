@@ -1,7 +1,7 @@
 use Rattle.express_runs.specs.Items.{located_of}
 use Rattle.express_parts.proofs.RuleSteps.{body_done}
-use Rattle.express_schemas.proofs.SameText.{shows_text, kept_ok}
-use Rattle.express_schemas.specs.Sources.{IsBodyOf}
+use Rattle.express_syntax.proofs.SameText.{shows_text, kept_ok}
+use Rattle.express_syntax.specs.Sources.{IsBodyOf}
 use Rattle.express_parts.proofs.rules.body.Goals as goal
 
 pub returns-clause-read : goal.returns-clause-read

@@ -1,12 +1,12 @@
 use Rattle.std.proofs.Common.{sym, ◌∙◌, ◌≡◌}
 use Rattle.std.proofs.lemmas.Result.{err_from_is_err_and}
-use Rattle.express_trees.specs.Words.{word_of}
+use Rattle.express_syntax.specs.Words.{word_of}
 use Rattle.express_runs.specs.Items.{located_of}
-use Rattle.express_schemas.specs.Predict.{Labelled, EndOfText, in_rule}
-use Rattle.express_schemas.specs.Views.{body_of}
+use Rattle.express_syntax.specs.Predict.{Labelled, EndOfText, in_rule}
+use Rattle.express_syntax.specs.Views.{body_of}
 use Rattle.express_parts.proofs.RuleSteps.{behind_name, behind_label, labelled_read, second_read, second_stops}
-use Rattle.express_schemas.proofs.SameText.{shows_text, kept}
-use Rattle.express_schemas.specs.Sources.{IsBodyOf}
+use Rattle.express_syntax.proofs.SameText.{shows_text, kept}
+use Rattle.express_syntax.specs.Sources.{IsBodyOf}
 use Rattle.express_parts.proofs.rules.named_rule.Goals as goal
 
 pub returns-in_err-next-clause-read : goal.returns-in_err-next-clause-read

@@ -1,5 +1,5 @@
 use Rattle.std.proofs.lemmas.Result.{err_from_is_err_and}
-use Rattle.express_schemas.specs.Views.{body_of}
+use Rattle.express_syntax.specs.Views.{body_of}
 use Rattle.express_parts.proofs.RuleSteps.{bare_read, bare_stops, named_done}
 use Rattle.express_parts.proofs.rules.rule_from.Goals as goal
 

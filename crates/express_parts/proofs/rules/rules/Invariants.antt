@@ -1,8 +1,8 @@
 use Rattle.std.proofs.Common.{length}
 use Rattle.express_lexis.specs.Reading.{left}
-use Rattle.express_schemas.specs.Views.{rules_of}
-use Rattle.express_schemas.specs.Profile.{Every}
-use Rattle.express_schemas.specs.Sources.{IsRuleOf}
+use Rattle.express_syntax.specs.Views.{rules_of}
+use Rattle.express_syntax.specs.Profile.{Every}
+use Rattle.express_syntax.specs.Sources.{IsRuleOf}
 use Rattle.express_parts.proofs.RuleSteps.{RulesSoFar}
 use Rattle.express_parts.proofs.rules.rules.Given as goal
 

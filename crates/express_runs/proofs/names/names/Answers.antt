@@ -1,12 +1,12 @@
 use Rattle.std.proofs.Common.{sym, ap, ◌∙◌, ◌≡◌, [], ◌∷◌, ◌++◌}
 use Rattle.std.proofs.lemmas.Result.{err_from_is_err_and}
-use Rattle.express_trees.specs.Views.{capitals}
+use Rattle.express_syntax.specs.ExpressionViews.{capitals}
 use Rattle.express_runs.specs.Items.{located_of}
-use Rattle.express_schemas.specs.Views.{names_of}
-use Rattle.express_schemas.specs.Predict.{Names, EndOfText}
+use Rattle.express_syntax.specs.Views.{names_of}
+use Rattle.express_syntax.specs.Predict.{Names, EndOfText}
 use Rattle.express_runs.proofs.NameSteps.{names_first, names_none, names_stopped, names_other, names_done, names_lacking, names_next, names_smaller}
 use Rattle.express_runs.proofs.names.names.Goals as goal
-use Rattle.express_schemas.proofs.Lists.{map_push}
+use Rattle.express_syntax.proofs.Lists.{map_push}
 
 pub returns-in_err-first : goal.returns-in_err-first
 returns-in_err-first c =

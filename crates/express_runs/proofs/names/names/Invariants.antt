@@ -1,6 +1,6 @@
 use Rattle.std.proofs.Common.{length}
 use Rattle.express_lexis.specs.Reading.{left}
-use Rattle.express_schemas.specs.Views.{names_of}
+use Rattle.express_syntax.specs.Views.{names_of}
 use Rattle.express_runs.proofs.NameSteps.{NamesSoFar}
 use Rattle.express_runs.proofs.names.names.Given as goal
 

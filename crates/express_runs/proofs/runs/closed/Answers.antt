@@ -1,6 +1,6 @@
 use Rattle.std.proofs.Common.{rules, sym, ◌∙◌, ◌≡◌, length}
-use Rattle.express_schemas.specs.declared.fault.FaultKind.TheVariants as fault_kinds
-use Rattle.express_schemas.specs.Predict as table
+use Rattle.express_syntax.specs.declared.fault.FaultKind.TheVariants as fault_kinds
+use Rattle.express_syntax.specs.Predict as table
 use Rattle.express_runs.specs.OpenRuns.{part_of, bracket_of, brackets_of}
 use Rattle.express_runs.proofs.RunSteps.{agrees_fault, closed_none, closed_same, closed_other}
 use Rattle.express_runs.proofs.runs.closed.Goals as goal

@@ -1,12 +1,12 @@
 use Rattle.std.proofs.Common.{rules, not, ℕ, refl, subst, arith, ◌∙◌}
 use Rattle.std.proofs.lemmas.Result.{err_from_is_err_and}
-use Rattle.express_trees.specs.Words.{word_of, words_of}
+use Rattle.express_syntax.specs.Words.{word_of, words_of}
 use Rattle.express_runs.specs.declared.runs.Buffer.{Buffer}
 use Rattle.express_runs.specs.Items.{located_of}
-use Rattle.express_schemas.specs.Views.{run_of}
+use Rattle.express_syntax.specs.Views.{run_of}
 use Rattle.express_runs.specs.OpenRuns.{part_of, brackets_of, IsPushed}
-use Rattle.express_schemas.proofs.Looking.{shown_less}
-use Rattle.express_schemas.proofs.SameText.{passes_text}
+use Rattle.express_syntax.proofs.Looking.{shown_less}
+use Rattle.express_syntax.proofs.SameText.{passes_text}
 use Rattle.express_runs.proofs.RunSteps.{brackets_length, few_open, some_is, agreed_ended, agreed_further, so_start, so_err_step, so_err_take, so_next, so_begins, so_stands, so_gathered}
 use Rattle.express_runs.proofs.runs.gather.Goals as goal
 

@@ -1,7 +1,7 @@
 use Rattle.std.proofs.Common.{rules, ◌+◌, ◌<◌, ◌≤◌, length}
-use Rattle.express_schemas.specs.declared.fault.FaultKind.TheVariants as fault_kinds
-use Rattle.express_trees.specs.Grammar.{depth_limit}
-use Rattle.express_schemas.specs.Predict as table
+use Rattle.express_syntax.specs.declared.fault.FaultKind.TheVariants as fault_kinds
+use Rattle.express_syntax.specs.Grammar.{depth_limit}
+use Rattle.express_syntax.specs.Predict as table
 use Rattle.express_runs.specs.OpenRuns.{bracket_of, brackets_of}
 use Rattle.express_runs.proofs.RunSteps.{agrees_fault, opened_deep, opened_next}
 use Rattle.express_runs.proofs.runs.opened.Goals as goal

@@ -1,8 +1,8 @@
 use Rattle.std.proofs.Common.{ap, ◌∙◌, subst, sym, List}
-use Rattle.express_trees.specs.Words.{word_of, mark}
+use Rattle.express_syntax.specs.Words.{word_of, mark}
 use Rattle.express_lexis.specs.declared.marks.Mark.TheVariants as marks
 use Rattle.express_runs.specs.declared.runs.Bracket.{Bracket}
-use Rattle.express_schemas.specs.Predict.{Next, next_mark}
+use Rattle.express_syntax.specs.Predict.{Next, next_mark}
 use Rattle.express_runs.specs.OpenRuns.{part_of, brackets_of, Agrees}
 use Rattle.express_runs.proofs.RunSteps.{agrees_word, step_beside}
 use Rattle.express_runs.proofs.runs.step.Goals as goal

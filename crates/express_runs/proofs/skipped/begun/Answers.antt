@@ -1,5 +1,5 @@
 use Rattle.std.proofs.Common.{◌≡◌, arith}
-use Rattle.express_trees.specs.Words.{word_of}
+use Rattle.express_syntax.specs.Words.{word_of}
 use Rattle.express_runs.proofs.SkippedSteps.{begun_first, begun_more}
 use Rattle.express_runs.proofs.skipped.begun.Goals as goal
 

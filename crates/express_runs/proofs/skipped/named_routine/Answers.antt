@@ -1,8 +1,8 @@
 use Rattle.std.proofs.Common.{[], ◌∷◌, ◌∙◌, subst}
 use Rattle.std.proofs.lemmas.Result.{err_from_is_err_and}
-use Rattle.express_schemas.specs.Sources.{IsRoutineAt}
-use Rattle.express_schemas.specs.Predict.{Routine, SkippedEnd}
-use Rattle.express_schemas.proofs.SameText.{passes_text}
+use Rattle.express_syntax.specs.Sources.{IsRoutineAt}
+use Rattle.express_syntax.specs.Predict.{Routine, SkippedEnd}
+use Rattle.express_syntax.proofs.SameText.{passes_text}
 use Rattle.express_runs.proofs.SkippedSteps.{stops_second, passes_both, words_stand}
 use Rattle.express_runs.proofs.skipped.named_routine.Goals as goal
 

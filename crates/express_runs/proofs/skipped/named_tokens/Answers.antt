@@ -1,8 +1,8 @@
 use Rattle.std.proofs.Common.{[], ◌∷◌, ◌∙◌, subst}
 use Rattle.std.proofs.lemmas.Result.{err_from_is_err_and}
-use Rattle.express_schemas.specs.Sources.{IsPassageAt}
-use Rattle.express_schemas.specs.Predict.{Until, SkippedEnd}
-use Rattle.express_schemas.proofs.SameText.{passes_text}
+use Rattle.express_syntax.specs.Sources.{IsPassageAt}
+use Rattle.express_syntax.specs.Predict.{Until, SkippedEnd}
+use Rattle.express_syntax.proofs.SameText.{passes_text}
 use Rattle.express_runs.proofs.SkippedSteps.{stops_second, passes_both, words_stand}
 use Rattle.express_runs.proofs.skipped.named_tokens.Goals as goal
 

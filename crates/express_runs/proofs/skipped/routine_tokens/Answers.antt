@@ -1,15 +1,15 @@
 use Rattle.std.proofs.Common.{[], ◌∷◌, ◌≡◌, Ok, refl, sym, ap, ◌∙◌, arith}
 use Rattle.std.proofs.lemmas.Result.{err_from_is_err_and}
-use Rattle.express_trees.specs.Words.{word_of}
+use Rattle.express_syntax.specs.Words.{word_of}
 use Rattle.express_runs.specs.Items.{located_of}
-use Rattle.express_schemas.specs.declared.passage.Passage.{Passage}
-use Rattle.express_schemas.specs.Runs.{words_of_routine}
-use Rattle.express_schemas.specs.Views.{routine_of}
+use Rattle.express_syntax.specs.declared.passage.Passage.{Passage}
+use Rattle.express_syntax.specs.Runs.{words_of_routine}
+use Rattle.express_syntax.specs.Views.{routine_of}
 use Rattle.express_runs.specs.Skips.{still_open}
-use Rattle.express_schemas.specs.Predict.{Routine, EndOfText}
-use Rattle.express_schemas.proofs.Looking.{shown_less}
-use Rattle.express_schemas.proofs.Taking.{stops_behind}
-use Rattle.express_schemas.proofs.SameText.{passes_text}
+use Rattle.express_syntax.specs.Predict.{Routine, EndOfText}
+use Rattle.express_syntax.proofs.Looking.{shown_less}
+use Rattle.express_syntax.proofs.Taking.{stops_behind}
+use Rattle.express_syntax.proofs.SameText.{passes_text}
 use Rattle.express_runs.proofs.SkippedSteps.{passage_at, routine_start, routine_few, routine_next, routine_done, routine_is_done}
 use Rattle.express_runs.proofs.skipped.routine_tokens.Goals as goal
 

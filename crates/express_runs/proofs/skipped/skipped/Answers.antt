@@ -1,7 +1,7 @@
 use Rattle.std.proofs.Common.{[], ◌∷◌, codes, refl, sym, ◌∙◌}
 use Rattle.std.proofs.lemmas.Result.{err_from_is_err_and}
-use Rattle.express_trees.specs.Views.{capitals}
-use Rattle.express_schemas.specs.Predict.{SkippedName, SkippedEnd, Routine, Until}
+use Rattle.express_syntax.specs.ExpressionViews.{capitals}
+use Rattle.express_syntax.specs.Predict.{SkippedName, SkippedEnd, Routine, Until}
 use Rattle.express_runs.proofs.SkippedSteps.{skipped_done, skipped_stops}
 use Rattle.express_runs.proofs.skipped.skipped.Goals as goal
 

@@ -1,10 +1,10 @@
 use Rattle.std.proofs.Common.{[], refl, sym, ◌∙◌}
 use Rattle.express_lexis.specs.declared.marks.Mark.TheVariants as marks
-use Rattle.express_trees.specs.Words.{mark, word_of}
+use Rattle.express_syntax.specs.Words.{mark, word_of}
 use Rattle.express_runs.specs.Items.{located_of}
-use Rattle.express_schemas.specs.Predict.{SkippedEnd}
-use Rattle.express_schemas.proofs.Taking.{passes_token}
-use Rattle.express_schemas.proofs.Looking.{mark_met}
+use Rattle.express_syntax.specs.Predict.{SkippedEnd}
+use Rattle.express_syntax.proofs.Taking.{passes_token}
+use Rattle.express_syntax.proofs.Looking.{mark_met}
 use Rattle.express_runs.proofs.SkippedSteps.{end_expected, stops_expected}
 use Rattle.express_runs.proofs.skipped.skipped_end.Goals as goal
 

@@ -1,10 +1,10 @@
 use Rattle.std.proofs.Common.{[], ap, refl}
-use Rattle.express_trees.specs.Words.{name, word_of}
-use Rattle.express_trees.specs.Views.{capitals}
+use Rattle.express_syntax.specs.Words.{name, word_of}
+use Rattle.express_syntax.specs.ExpressionViews.{capitals}
 use Rattle.express_runs.specs.Items.{located_of}
-use Rattle.express_schemas.specs.Texts.{token}
-use Rattle.express_schemas.specs.Predict.{SkippedName}
-use Rattle.express_schemas.proofs.Taking.{passes_token}
+use Rattle.express_syntax.specs.Texts.{token}
+use Rattle.express_syntax.specs.Predict.{SkippedName}
+use Rattle.express_syntax.proofs.Taking.{passes_token}
 use Rattle.express_runs.proofs.SkippedSteps.{name_expected, stops_expected}
 use Rattle.express_runs.proofs.skipped.skipped_name.Goals as goal
 

@@ -1,10 +1,10 @@
 use Rattle.std.proofs.Common.{[], ◌∷◌, ◌++◌, append_assoc}
 use Rattle.std.proofs.lemmas.Result.{err_from_is_err_and}
 use Rattle.express_lexis.specs.declared.marks.Mark.TheVariants as marks
-use Rattle.express_trees.specs.Words.{name, mark}
-use Rattle.express_schemas.specs.Predict.{SkippedEnd}
-use Rattle.express_schemas.specs.Views.{words_of_passage}
-use Rattle.express_schemas.proofs.Taking.{passes_as}
+use Rattle.express_syntax.specs.Words.{name, mark}
+use Rattle.express_syntax.specs.Predict.{SkippedEnd}
+use Rattle.express_syntax.specs.Views.{words_of_passage}
+use Rattle.express_syntax.proofs.Taking.{passes_as}
 use Rattle.express_runs.proofs.SkippedSteps.{stops_second, passes_both}
 use Rattle.express_runs.proofs.skipped.tokens_ended.Goals as goal
 

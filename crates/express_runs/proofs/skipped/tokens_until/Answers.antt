@@ -1,12 +1,12 @@
 use Rattle.std.proofs.Common.{[], ◌∷◌, ◌≡◌, refl, sym, ap, ◌∙◌}
 use Rattle.std.proofs.lemmas.Result.{err_from_is_err_and}
-use Rattle.express_trees.specs.Words.{word_of}
+use Rattle.express_syntax.specs.Words.{word_of}
 use Rattle.express_runs.specs.Items.{located_of}
-use Rattle.express_schemas.specs.Views.{words_of_passage}
-use Rattle.express_schemas.specs.Predict.{Until, EndOfText}
-use Rattle.express_schemas.proofs.Looking.{shown_less}
-use Rattle.express_schemas.proofs.Taking.{stops_behind}
-use Rattle.express_schemas.proofs.SameText.{passes_text, shows_text}
+use Rattle.express_syntax.specs.Views.{words_of_passage}
+use Rattle.express_syntax.specs.Predict.{Until, EndOfText}
+use Rattle.express_syntax.proofs.Looking.{shown_less}
+use Rattle.express_syntax.proofs.Taking.{stops_behind}
+use Rattle.express_syntax.proofs.SameText.{passes_text, shows_text}
 use Rattle.express_runs.proofs.SkippedSteps.{passage_at, until_start, until_next, until_text, until_done}
 use Rattle.express_runs.proofs.skipped.tokens_until.Goals as goal
 

@@ -1,7 +1,7 @@
 use Rattle.std.proofs.Common.{Some, None, Option, Ok, ◌≡◌, subst}
 use Rattle.express_lexis.specs.declared.token.Token.{Token}
 use Rattle.express_lexis.specs.Reading.{Answers, IsAtEnd, Reading, Takes}
-use Rattle.express_schemas.proofs.Looking.{stops_end, stops_flaw, shows_lexeme}
+use Rattle.express_syntax.proofs.Looking.{stops_end, stops_flaw, shows_lexeme}
 use Rattle.express_runs.proofs.tokens.next_item.Goals as goal
 
 at_none : (old : Reading) (o : Option Token) (new : Reading) → o ≡ None → Answers old (Ok o) new → IsAtEnd old new

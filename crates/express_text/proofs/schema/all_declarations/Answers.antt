@@ -1,13 +1,13 @@
 use Rattle.std.proofs.Common.{◌≡◌, map, refl, sym, ◌∙◌}
 use Rattle.std.proofs.lemmas.Result.{err_from_is_err_and}
-use Rattle.express_trees.specs.Words.{word_of}
+use Rattle.express_syntax.specs.Words.{word_of}
 use Rattle.express_runs.specs.Items.{located_of}
-use Rattle.express_schemas.specs.Views.{declaration_of}
-use Rattle.express_schemas.specs.Predict.{Declarations, EndOfText}
+use Rattle.express_syntax.specs.Views.{declaration_of}
+use Rattle.express_syntax.specs.Predict.{Declarations, EndOfText}
 use Rattle.express_text.proofs.SchemaSteps.{declarations_stop, declarations_stop_end, declarations_stop_taken, declarations_done, declarations_next, declarations_at, declaration_less}
-use Rattle.express_schemas.proofs.SameText.{shows_text, passes_text, kept}
-use Rattle.express_schemas.proofs.Lists.{every_push}
-use Rattle.express_schemas.specs.Sources.{IsDeclarationOf}
+use Rattle.express_syntax.proofs.SameText.{shows_text, passes_text, kept}
+use Rattle.express_syntax.proofs.Lists.{every_push}
+use Rattle.express_syntax.specs.Sources.{IsDeclarationOf}
 use Rattle.express_text.proofs.schema.all_declarations.Goals as goal
 
 pub returns-in_err-first-clause-read : goal.returns-in_err-first-clause-read

@@ -1,9 +1,9 @@
 use Rattle.std.proofs.Common.{length, map}
 use Rattle.express_lexis.specs.Reading.{left}
-use Rattle.express_schemas.specs.Views.{declaration_of}
-use Rattle.express_schemas.specs.Profile.{Every}
-use Rattle.express_schemas.specs.Sources.{IsDeclarationOf}
-use Rattle.express_schemas.specs.Places.{AreDeclarationsAt}
+use Rattle.express_syntax.specs.Views.{declaration_of}
+use Rattle.express_syntax.specs.Profile.{Every}
+use Rattle.express_syntax.specs.Sources.{IsDeclarationOf}
+use Rattle.express_syntax.specs.Places.{AreDeclarationsAt}
 use Rattle.express_text.proofs.SchemaSteps.{DeclarationsSoFar}
 use Rattle.express_text.proofs.schema.all_declarations.Given as goal
 

@@ -1,10 +1,10 @@
 use Rattle.std.proofs.Common.{[], ◌∷◌, refl, sym, ◌∙◌}
 use Rattle.express_lexis.specs.declared.marks.Mark.TheVariants as marks
-use Rattle.express_trees.specs.declared.keyword.Keyword.TheVariants as keywords
+use Rattle.express_syntax.specs.declared.keyword.Keyword.TheVariants as keywords
 use Rattle.express_runs.specs.Items.{located_of}
-use Rattle.express_schemas.specs.Views.{type_of, entity_of}
-use Rattle.express_schemas.specs.Written.{words_of_type, words_of_entity}
-use Rattle.express_schemas.specs.Predict.{Id, Just, Underlying, TypeEnd, Head, Body, explicits}
+use Rattle.express_syntax.specs.Views.{type_of, entity_of}
+use Rattle.express_syntax.specs.Written.{words_of_type, words_of_entity}
+use Rattle.express_syntax.specs.Predict.{Id, Just, Underlying, TypeEnd, Head, Body, explicits}
 use Rattle.express_text.proofs.SchemaSteps.{declared}
 use Rattle.express_text.proofs.schema.declaration.Goals as goal
 

@@ -1,8 +1,8 @@
 use Rattle.std.proofs.Common.{refl}
-use Rattle.express_trees.specs.Words.{word_of}
-use Rattle.express_schemas.specs.Texts.{token}
-use Rattle.express_schemas.specs.Predict.{EndOfText, refused}
-use Rattle.express_schemas.proofs.Looking.{stops_flaw}
+use Rattle.express_syntax.specs.Words.{word_of}
+use Rattle.express_syntax.specs.Texts.{token}
+use Rattle.express_syntax.specs.Predict.{EndOfText, refused}
+use Rattle.express_syntax.proofs.Looking.{stops_flaw}
 use Rattle.express_text.proofs.SchemaSteps.{stops_over}
 use Rattle.express_text.proofs.schema.expect_end.Goals as goal
 

@@ -1,10 +1,10 @@
 use Rattle.std.proofs.lemmas.Result.{err_from_is_err_and}
-use Rattle.express_schemas.specs.SchemaViews.{schema_of}
-use Rattle.express_schemas.proofs.Unique.{one_schema}
-use Rattle.express_schemas.proofs.FirstFault.{stop_is_fault, reads_never_stops}
-use Rattle.express_schemas.proofs.SameText.{kept}
-use Rattle.express_schemas.specs.Sources.{IsSchemaOf}
-use Rattle.express_schemas.specs.Places.{IsSchemaAt}
+use Rattle.express_syntax.specs.SchemaViews.{schema_of}
+use Rattle.express_syntax.proofs.UniqueSchemas.{one_schema}
+use Rattle.express_syntax.proofs.FirstFault.{stop_is_fault, reads_never_stops}
+use Rattle.express_syntax.proofs.SameText.{kept}
+use Rattle.express_syntax.specs.Sources.{IsSchemaOf}
+use Rattle.express_syntax.specs.Places.{IsSchemaAt}
 use Rattle.std.proofs.Common.{ap, subst}
 use Rattle.express_lexis.specs.Reading.{Reading}
 use Rattle.express_text.proofs.SchemaSteps.{reads_as, stops_at_start}

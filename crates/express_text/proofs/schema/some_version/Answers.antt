@@ -2,8 +2,8 @@ use Rattle.std.proofs.Common.{[], ◌∷◌, sym, ◌∙◌}
 use Rattle.std.proofs.lemmas.Result.{err_from_is_err_and}
 use Rattle.express_lexis.specs.declared.marks.Mark.TheVariants as marks
 use Rattle.express_runs.specs.Items.{located_of}
-use Rattle.express_schemas.specs.Predict.{Just, Version, refused}
-use Rattle.express_schemas.proofs.Taking.{passes_join, stops_behind}
+use Rattle.express_syntax.specs.Predict.{Just, Version, refused}
+use Rattle.express_syntax.proofs.Taking.{passes_join, stops_behind}
 use Rattle.express_text.proofs.SchemaSteps.{stops_at, passes_unversioned, passes_version, version_is}
 use Rattle.express_text.proofs.schema.some_version.Goals as goal
 

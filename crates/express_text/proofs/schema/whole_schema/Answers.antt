@@ -1,15 +1,15 @@
 use Rattle.std.proofs.Common.{◌∙◌, [], ◌∷◌, map}
 use Rattle.std.proofs.lemmas.Result.{err_from_is_err_and}
-use Rattle.express_trees.specs.Views.{capitals}
-use Rattle.express_schemas.specs.Schemas.{Schema}
-use Rattle.express_schemas.specs.Views.{if_some, version_of, declaration_of}
-use Rattle.express_schemas.specs.Predict.{Id, Version, Declarations, EndOfText}
+use Rattle.express_syntax.specs.ExpressionViews.{capitals}
+use Rattle.express_syntax.specs.Schemas.{Schema}
+use Rattle.express_syntax.specs.Views.{if_some, version_of, declaration_of}
+use Rattle.express_syntax.specs.Predict.{Id, Version, Declarations, EndOfText}
 use Rattle.express_runs.proofs.SkippedSteps.{stops_second, passes_both, words_stand}
 use Rattle.express_text.proofs.SchemaSteps.{passes_opening, schema_done, reads_as}
-use Rattle.express_schemas.proofs.SameText.{passes_text, kept}
-use Rattle.express_schemas.specs.Sources.{IsDeclarationOf}
-use Rattle.express_schemas.specs.Profile.{Every}
-use Rattle.express_schemas.specs.Places.{AreDeclarationsAt}
+use Rattle.express_syntax.proofs.SameText.{passes_text, kept}
+use Rattle.express_syntax.specs.Sources.{IsDeclarationOf}
+use Rattle.express_syntax.specs.Profile.{Every}
+use Rattle.express_syntax.specs.Places.{AreDeclarationsAt}
 use Rattle.express_text.proofs.schema.whole_schema.Goals as goal
 
 pub returns-in_err-name-clause-read : goal.returns-in_err-name-clause-read

@@ -1,5 +1,5 @@
 use Rattle.std.proofs.lemmas.Result.{err_from_is_err_and}
-use Rattle.express_schemas.specs.Views.{names_of}
+use Rattle.express_syntax.specs.Views.{names_of}
 use Rattle.express_text.proofs.TypeSteps.{last_names_open, last_names_done}
 use Rattle.express_text.proofs.types.last_names.Goals as goal
 

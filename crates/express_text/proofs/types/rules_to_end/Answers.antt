@@ -1,11 +1,11 @@
 use Rattle.std.proofs.lemmas.Result.{err_from_is_err_and}
 use Rattle.std.proofs.Common.{sym, ◌∙◌}
 use Rattle.express_runs.specs.Items.{located_of}
-use Rattle.express_schemas.specs.Views.{rules_of}
+use Rattle.express_syntax.specs.Views.{rules_of}
 use Rattle.express_text.proofs.TypeSteps.{where_stopped, where_done, type_end_refused, type_end_stopped, type_end_done}
-use Rattle.express_schemas.proofs.SameText.{shows_text, kept}
-use Rattle.express_schemas.specs.Sources.{IsRuleOf}
-use Rattle.express_schemas.specs.Profile.{Every}
+use Rattle.express_syntax.proofs.SameText.{shows_text, kept}
+use Rattle.express_syntax.specs.Sources.{IsRuleOf}
+use Rattle.express_syntax.specs.Profile.{Every}
 use Rattle.express_text.proofs.types.rules_to_end.Goals as goal
 
 pub returns-in_err-rules-clause-read : goal.returns-in_err-rules-clause-read

@@ -1,14 +1,14 @@
 use Rattle.std.proofs.lemmas.Result.{err_from_is_err_and}
 use Rattle.std.proofs.Common.{◌∙◌, [], ◌∷◌, ◌++◌}
 use Rattle.express_lexis.specs.declared.marks.Mark.TheVariants as marks
-use Rattle.express_trees.specs.Words.{mark}
-use Rattle.express_trees.specs.Views.{capitals}
-use Rattle.express_schemas.specs.Views.{underlying_of, type_of}
-use Rattle.express_schemas.specs.Written.{words_of_underlying}
+use Rattle.express_syntax.specs.Words.{mark}
+use Rattle.express_syntax.specs.ExpressionViews.{capitals}
+use Rattle.express_syntax.specs.Views.{underlying_of, type_of}
+use Rattle.express_syntax.specs.Written.{words_of_underlying}
 use Rattle.express_text.proofs.TypeSteps.{type_unequal, type_underlying, type_unended, type_done}
-use Rattle.express_schemas.proofs.SameText.{passes_text, kept}
-use Rattle.express_schemas.specs.Sources.{IsUnderlyingOf, IsRuleOf}
-use Rattle.express_schemas.specs.Profile.{Every, Maybe}
+use Rattle.express_syntax.proofs.SameText.{passes_text, kept}
+use Rattle.express_syntax.specs.Sources.{IsUnderlyingOf, IsRuleOf}
+use Rattle.express_syntax.specs.Profile.{Every, Maybe}
 use Rattle.express_text.proofs.types.type_declaration.Goals as goal
 
 pub returns-in_err-expect-clause-read : goal.returns-in_err-expect-clause-read

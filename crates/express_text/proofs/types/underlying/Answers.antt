@@ -1,10 +1,10 @@
 use Rattle.std.proofs.lemmas.Result.{err_from_is_err_and}
 use Rattle.std.proofs.Common.{sym, ◌∙◌}
 use Rattle.express_runs.specs.Items.{located_of}
-use Rattle.express_schemas.specs.Views.{names_of, data_type_of}
+use Rattle.express_syntax.specs.Views.{names_of, data_type_of}
 use Rattle.express_text.proofs.TypeSteps.{enumeration_unsaid, enumeration_stopped, enumeration_done, select_stopped, select_done, underlying_stopped, underlying_done}
-use Rattle.express_schemas.proofs.SameText.{shows_text, kept}
-use Rattle.express_schemas.specs.Sources.{IsDataTypeOf}
+use Rattle.express_syntax.proofs.SameText.{shows_text, kept}
+use Rattle.express_syntax.specs.Sources.{IsDataTypeOf}
 use Rattle.express_text.proofs.types.underlying.Goals as goal
 
 pub returns-in_err-expect_keyword-clause-read : goal.returns-in_err-expect_keyword-clause-read

@@ -1,8 +1,8 @@
 use Rattle.std.proofs.Common.{sym, ◌∙◌}
 use Rattle.std.proofs.lemmas.List.{length-map}
 use Rattle.digraph.specs.Graphs.{graph_of}
-use Rattle.express_schemas.specs.Views.{declaration_of}
-use Rattle.express_schemas.specs.SchemaViews.{schema_of}
+use Rattle.express_syntax.specs.Views.{declaration_of}
+use Rattle.express_syntax.specs.SchemaViews.{schema_of}
 use Rattle.express_types.proofs.Above.{above-graph}
 use Rattle.express_types.proofs.judging.make_meanings.Goals as goal
 

@@ -1,6 +1,6 @@
 use Rattle.std.proofs.Common.{sym, subst}
 use Rattle.digraph.specs.Graphs.{graph_of}
-use Rattle.express_schemas.specs.SchemaViews.{schema_of}
+use Rattle.express_syntax.specs.SchemaViews.{schema_of}
 use Rattle.schema_names.specs.Edges.{IsGraphOf, parts_in}
 use Rattle.schema_names.proofs.Edges.{is-graph}
 use Rattle.express_types.proofs.judging.make_types.Goals as goal

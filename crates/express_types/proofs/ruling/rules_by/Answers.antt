@@ -1,7 +1,7 @@
 use Rattle.std.proofs.Common.{◌∙◌, ap, subst, sym}
 use Rattle.digraph.specs.Graphs.{graph_of}
-use Rattle.attribute_places.specs.Places.{AreRows, places_of, all_places}
-use Rattle.taken_attributes.specs.Taking.{schema_in}
+use Rattle.schema_places.specs.Places.{AreRows, places_of, all_places}
+use Rattle.schema_references.specs.Taking.{schema_in}
 use Rattle.express_types.proofs.ruling.rules_by.Goals as goal
 
 pub rule_tables-requires : goal.rule_tables-requires

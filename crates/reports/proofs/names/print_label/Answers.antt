@@ -1,6 +1,6 @@
 use Rattle.std.proofs.Common.{sym, ap}
 use Rattle.devices.proofs.Printing.{prints_as, then_print}
-use Rattle.unchecked_parts.specs.Adding.{said}
+use Rattle.schema_parts.specs.Adding.{said}
 use Rattle.reports.proofs.names.print_label.Goals as goal
 
 pub returns-in-Of : goal.returns-in-Of

@@ -1,8 +1,8 @@
 use Rattle.std.proofs.Common.{◌∙◌, ap, subst, map, length}
 use Rattle.rule_plans.specs.Applying.{numbers_by}
 use Rattle.rule_plans.specs.Wanted.{IsUnion}
-use Rattle.express_settings.specs.Settings.{schema_in}
-use Rattle.self_values.specs.Unsought.{AreTables}
+use Rattle.rule_settings.specs.Settings.{schema_in}
+use Rattle.rule_plans.specs.Unsought.{AreTables}
 use Rattle.rule_plans.proofs.plan.plan_of.Goals as goal
 
 pub returns-clause-plan : goal.returns-clause-plan

@@ -1,11 +1,11 @@
 use Rattle.std.proofs.Common.{◌∙◌, ap, sym, subst, map, []}
 use Rattle.std.proofs.lemmas.Result.{IfOk-weaker}
 use Rattle.schema_names.proofs.Edges.{number-within}
-use Rattle.base_types.specs.Seen.{name_at}
-use Rattle.express_settings.specs.Settings.{schema_in}
-use Rattle.self_values.specs.Coded.{is_wanted}
-use Rattle.self_values.specs.Unsought.{AreRight, IsRight}
-use Rattle.self_values.proofs.Passing.{tables-right, table-right}
+use Rattle.schema_bases.specs.Seen.{name_at}
+use Rattle.rule_settings.specs.Settings.{schema_in}
+use Rattle.rule_plans.specs.Coded.{is_wanted}
+use Rattle.rule_plans.specs.Unsought.{AreRight, IsRight}
+use Rattle.rule_plans.proofs.Passing.{tables-right, table-right}
 use Rattle.rule_plans.specs.Planning.{TellAll}
 use Rattle.rule_plans.proofs.Covering.{tell-none, tell-all}
 use Rattle.rule_plans.proofs.plan.types_at.Goals as goal

@@ -1,7 +1,7 @@
 use Rattle.std.proofs.Common.{rules, tests}
 use Rattle.std.proofs.lemmas.Iterator.Search.{any_from_yields_List}
 use Rattle.std.proofs.lemmas.Iterator.{YieldsList-from_slice}
-use Rattle.self_values.specs.Coded.{is_wanted}
+use Rattle.rule_plans.specs.Coded.{is_wanted}
 use Rattle.rule_plans.proofs.wanted.has_one_of.Goals as goal
 
 pub returns : goal.returns

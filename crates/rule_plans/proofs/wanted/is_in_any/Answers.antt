@@ -1,7 +1,7 @@
 use Rattle.std.proofs.Common.{◌∙◌, ap, sym, map}
-use Rattle.declared_attributes.proofs.Gathered.{seen}
-use Rattle.attribute_uses.proofs.Going.{all-taken}
-use Rattle.self_values.specs.Coded.{is_wanted}
+use Rattle.schema_attributes.proofs.Gathered.{seen}
+use Rattle.schema_uses.proofs.Going.{all-taken}
+use Rattle.rule_plans.specs.Coded.{is_wanted}
 use Rattle.rule_plans.specs.Wanted.{in_any}
 use Rattle.rule_plans.proofs.Wanting.{found-one, none-more}
 use Rattle.rule_plans.proofs.wanted.is_in_any.Goals as goal

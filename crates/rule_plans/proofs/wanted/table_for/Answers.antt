@@ -1,9 +1,9 @@
 use Rattle.std.specs.Prelude.{◌↔◌, IsTrue}
 use Rattle.std.proofs.Common.{arith}
-use Rattle.express_schemas.specs.SchemaViews.{schema_of}
+use Rattle.express_syntax.specs.SchemaViews.{schema_of}
 use Rattle.schema_names.specs.Numbers.{HasNumber}
-use Rattle.base_types.specs.Seen.{name_at}
-use Rattle.attribute_sources.proofs.Reading.{tree-within}
+use Rattle.schema_bases.specs.Seen.{name_at}
+use Rattle.schema_sources.proofs.Reading.{tree-within}
 use Rattle.rule_plans.specs.Wanted.{IsDefinedBy}
 use Rattle.rule_plans.proofs.Wanting.{fills-none, fills-more}
 use Rattle.rule_plans.proofs.wanted.table_for.Goals as goal

@@ -1,7 +1,7 @@
 use Rattle.std.specs.Prelude.{◌↔◌, IsTrue}
-use Rattle.express_schemas.specs.SchemaViews.{schema_of}
+use Rattle.express_syntax.specs.SchemaViews.{schema_of}
 use Rattle.schema_names.specs.Numbers.{HasNumber}
-use Rattle.base_types.specs.Seen.{name_at}
+use Rattle.schema_bases.specs.Seen.{name_at}
 use Rattle.rule_plans.specs.Wanted.{IsDefinedBy}
 use Rattle.rule_plans.proofs.Wanting.{Fills}
 use Rattle.rule_plans.proofs.wanted.table_for.Given as goal

@@ -1,7 +1,7 @@
 use Rattle.std.proofs.Common.{sym, subst}
 use Rattle.std.specs.Prelude.{IfOk}
-use Rattle.express_schemas.specs.SchemaViews.{schema_of}
-use Rattle.domain_rules.specs.Seen.{IsNumberedHolder}
+use Rattle.express_syntax.specs.SchemaViews.{schema_of}
+use Rattle.schema_conditions.specs.Seen.{IsNumberedHolder}
 use Rattle.rule_plans.specs.Wanted.{IsTableOf}
 use Rattle.rule_plans.proofs.wanted.table_of.Goals as goal
 

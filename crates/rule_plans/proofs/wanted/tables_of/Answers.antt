@@ -1,11 +1,11 @@
 use Rattle.std.proofs.Common.{ap, sym, subst, map, []}
 use Rattle.std.proofs.lemmas.Option.{slice_get-get_or}
 use Rattle.std.specs.List.{AllZip}
-use Rattle.express_schemas.specs.SchemaViews.{schema_of}
-use Rattle.attribute_uses.proofs.Going.{zip-next, all-taken}
-use Rattle.step_population.proofs.Found.{every-at}
-use Rattle.domain_rules.specs.declared.rule.DomainRule.{DomainRule}
-use Rattle.domain_rules.specs.Seen.{IsNumbered}
+use Rattle.express_syntax.specs.SchemaViews.{schema_of}
+use Rattle.schema_uses.proofs.Going.{zip-next, all-taken}
+use Rattle.population_typed.proofs.Found.{every-at}
+use Rattle.schema_conditions.specs.declared.rule.DomainRule.{DomainRule}
+use Rattle.schema_conditions.specs.Seen.{IsNumbered}
 use Rattle.rule_plans.specs.Wanted.{IsTableOf}
 use Rattle.rule_plans.proofs.wanted.tables_of.Goals as goal
 

@@ -1,7 +1,7 @@
 use Rattle.std.specs.List.{AllZip}
 use Rattle.std.proofs.Common.{map, take}
-use Rattle.express_schemas.specs.SchemaViews.{schema_of}
-use Rattle.domain_rules.specs.declared.rule.DomainRule.{DomainRule}
+use Rattle.express_syntax.specs.SchemaViews.{schema_of}
+use Rattle.schema_conditions.specs.declared.rule.DomainRule.{DomainRule}
 use Rattle.rule_plans.specs.Wanted.{IsTableOf}
 use Rattle.rule_plans.proofs.wanted.tables_of.Given as goal
 

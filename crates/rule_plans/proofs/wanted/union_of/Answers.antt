@@ -1,5 +1,5 @@
 use Rattle.std.proofs.Common.{◌≡◌, map, arith}
-use Rattle.attribute_sources.proofs.Reading.{as-many}
+use Rattle.schema_sources.proofs.Reading.{as-many}
 use Rattle.rule_plans.specs.Wanted.{in_any}
 use Rattle.rule_plans.proofs.Wanting.{fills-none, fills-more}
 use Rattle.rule_plans.proofs.wanted.union_of.Goals as goal

@@ -1,9 +1,9 @@
 use Rattle.std.proofs.Common.{sym, subst, ap, length, arith}
 use Rattle.std.proofs.lemmas.List.{length-map}
 use Rattle.digraph.specs.Graphs.{graph_of}
-use Rattle.express_schemas.specs.Views.{declaration_of as declaration_seen}
-use Rattle.express_schemas.specs.SchemaViews.{schema_of}
-use Rattle.express_schemas.specs.declared.fault.NameFault.TheVariants.{SupertypeCycle}
+use Rattle.express_syntax.specs.Views.{declaration_of as declaration_seen}
+use Rattle.express_syntax.specs.SchemaViews.{schema_of}
+use Rattle.express_syntax.specs.declared.fault.NameFault.TheVariants.{SupertypeCycle}
 use Rattle.schema_names.specs.Edges.{IsGraphOf, supertypes_in}
 use Rattle.schema_names.proofs.Edges.{is-graph}
 use Rattle.schema_faults.specs.Shown.{IsShown}

@@ -1,7 +1,7 @@
 use Rattle.std.proofs.Common.{None, refl, subst, map}
-use Rattle.express_schemas.specs.Views.{declaration_of as declaration_seen}
-use Rattle.express_schemas.specs.SchemaViews.{schema_of}
-use Rattle.type_graphs.specs.Faults.{declared_from}
+use Rattle.express_syntax.specs.Views.{declaration_of as declaration_seen}
+use Rattle.express_syntax.specs.SchemaViews.{schema_of}
+use Rattle.schema_semantics.specs.Faults.{declared_from}
 use Rattle.schema_faults.specs.Repeated.{Sees}
 use Rattle.schema_faults.specs.declared.seen.Seen.{Seen}
 use Rattle.schema_faults.proofs.Seeing.{seen-nothing}

@@ -1,8 +1,8 @@
 use Rattle.std.proofs.Common.{subst, sym, ◌∷◌, []}
-use Rattle.express_trees.specs.Views.{capitals}
-use Rattle.express_schemas.specs.Views.{entity_of, underlying_of, declaration_of as declaration_seen}
-use Rattle.type_graphs.specs.Names.{attribute_names}
-use Rattle.type_graphs.specs.Faults.{in_scope, items_of}
+use Rattle.express_syntax.specs.ExpressionViews.{capitals}
+use Rattle.express_syntax.specs.Views.{entity_of, underlying_of, declaration_of as declaration_seen}
+use Rattle.schema_semantics.specs.Names.{attribute_names}
+use Rattle.schema_semantics.specs.Faults.{in_scope, items_of}
 use Rattle.schema_faults.specs.Repeated.{Sees}
 use Rattle.schema_faults.specs.Parts.{declared_in}
 use Rattle.schema_faults.proofs.Turning.{ok-also}

@@ -1,6 +1,6 @@
 use Rattle.std.proofs.Common.{flat_map, subst, ap, ◌∙◌}
-use Rattle.type_graphs.specs.Names.{own_names}
-use Rattle.type_graphs.specs.Faults.{in_scope}
+use Rattle.schema_semantics.specs.Names.{own_names}
+use Rattle.schema_semantics.specs.Faults.{in_scope}
 use Rattle.schema_faults.specs.Repeated.{Sees}
 use Rattle.schema_faults.specs.Parts.{explicit_in}
 use Rattle.schema_faults.proofs.Declaring.{attributes-are, sees-item, sees-whole}

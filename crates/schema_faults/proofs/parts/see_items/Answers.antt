@@ -1,6 +1,6 @@
 use Rattle.std.proofs.Common.{OnOk, subst, sym, ap, ◌∙◌, flat_map}
-use Rattle.express_schemas.specs.Views.{underlying_of}
-use Rattle.type_graphs.specs.Faults.{in_scope, items_of}
+use Rattle.express_syntax.specs.Views.{underlying_of}
+use Rattle.schema_semantics.specs.Faults.{in_scope, items_of}
 use Rattle.schema_faults.specs.Repeated.{Sees}
 use Rattle.schema_faults.specs.Parts.{word_in}
 use Rattle.schema_faults.proofs.Declaring.{words-are}

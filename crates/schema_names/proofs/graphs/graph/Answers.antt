@@ -1,9 +1,9 @@
 use Rattle.std.proofs.Common.{◌∙◌, ◌<◌, List, ℕ, length, map, filter_map, ap, arith}
 use Rattle.std.proofs.lemmas.List.{take_all}
 use Rattle.digraph.specs.Graphs.{graph_of}
-use Rattle.express_schemas.specs.Schemas.{Declaration}
-use Rattle.express_schemas.specs.Views.{declaration_of as declaration_seen}
-use Rattle.express_schemas.specs.SchemaViews.{schema_of}
+use Rattle.express_syntax.specs.Schemas.{Declaration}
+use Rattle.express_syntax.specs.Views.{declaration_of as declaration_seen}
+use Rattle.express_syntax.specs.SchemaViews.{schema_of}
 use Rattle.schema_names.specs.Numbers.{number_of}
 use Rattle.schema_names.specs.Relations.{named_in}
 use Rattle.schema_names.proofs.Rows.{rows-more}

@@ -1,7 +1,7 @@
 use Rattle.std.proofs.Common.{◌≡◌, map, take, filter_map}
-use Rattle.express_schemas.specs.Schemas.{Declaration}
-use Rattle.express_schemas.specs.Views.{declaration_of as declaration_seen}
-use Rattle.express_schemas.specs.SchemaViews.{schema_of}
+use Rattle.express_syntax.specs.Schemas.{Declaration}
+use Rattle.express_syntax.specs.Views.{declaration_of as declaration_seen}
+use Rattle.express_syntax.specs.SchemaViews.{schema_of}
 use Rattle.digraph.specs.Graphs.{graph_of}
 use Rattle.schema_names.specs.Numbers.{number_of}
 use Rattle.schema_names.specs.Relations.{named_in}

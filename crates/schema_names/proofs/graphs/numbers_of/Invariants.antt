@@ -1,6 +1,6 @@
 use Rattle.std.proofs.Common.{◌≡◌, map, take, filter_map}
-use Rattle.express_trees.specs.Views.{capitals}
-use Rattle.express_schemas.specs.SchemaViews.{schema_of}
+use Rattle.express_syntax.specs.ExpressionViews.{capitals}
+use Rattle.express_syntax.specs.SchemaViews.{schema_of}
 use Rattle.schema_names.specs.Numbers.{number_of}
 use Rattle.schema_names.proofs.graphs.numbers_of.Given as goal
 

@@ -1,7 +1,7 @@
 use Rattle.std.proofs.Common.{sym, ap, ◌∙◌, ◌≡◌, subst}
 use Rattle.std.proofs.lemmas.Result.{err_from_is_err_and}
-use Rattle.step_parameters.specs.Building.{Building}
-use Rattle.step_parameters.specs.Tokens.{StandsIn, leaf_of}
+use Rattle.step_records.specs.Building.{Building}
+use Rattle.step_records.specs.Tokens.{StandsIn, leaf_of}
 use Rattle.step_structures.specs.Predict.{Ended, EndOfText}
 use Rattle.step_exchange.proofs.HeadSteps.{keyed_err_params, keyed_err_token, keyed_refused}
 use Rattle.step_exchange.proofs.HeadKeeping.{keyed_params, keyed_items, keyed_stops, keyed_over}

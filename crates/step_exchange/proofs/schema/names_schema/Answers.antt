@@ -1,8 +1,8 @@
 use Rattle.std.proofs.Common.{◌≡◌, [], ◌∷◌, refl, Some, None, Option, MatchOption, List, length, sym, ap, ◌∙◌, subst}
 use Rattle.step_structures.specs.Trees.{Tree, one, none}
 use Rattle.step_structures.specs.Fits.{NamesSchema}
-use Rattle.step_parameters.specs.Cells.{all_of}
-use Rattle.step_parameters.specs.Params.{node_value}
+use Rattle.step_records.specs.Cells.{all_of}
+use Rattle.step_records.specs.Params.{node_value}
 use Rattle.step_exchange.proofs.SchemaNames.{not_one, not_one_name, no_schema}
 use Rattle.step_exchange.proofs.schema.names_schema.Goals as goal
 

@@ -2,9 +2,9 @@ use Rattle.std.proofs.Common.{rules, take, length, ◌≡◌, ◌≤◌, ◌∙�
 use Rattle.std.proofs.lemmas.List.{take_all}
 use Rattle.devices.specs.Prints.{Prints}
 use Rattle.step_literals.specs.Words.{upper}
-use Rattle.step_parameters.specs.Cells.{all_of}
-use Rattle.step_parameters.specs.Params.{node_value}
-use Rattle.step_parameters.proofs.Weights.{lighter}
+use Rattle.step_records.specs.Cells.{all_of}
+use Rattle.step_records.specs.Params.{node_value}
+use Rattle.step_records.proofs.Weights.{lighter}
 use Rattle.step_structures.specs.Normal.{plain_tree, plain_more}
 use Rattle.devices.proofs.Printing.{then_print, prints_as, prints_nothing, printing}
 use Rattle.step_exchange.proofs.Writing.{prints_at, more_push, params_first, no_params, lighter_behind}

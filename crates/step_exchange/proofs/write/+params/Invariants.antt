@@ -1,8 +1,8 @@
 use Rattle.std.proofs.Common.{suc, take}
 use Rattle.devices.specs.Prints.{Prints}
-use Rattle.step_parameters.specs.Cells.{all_of}
-use Rattle.step_parameters.specs.Params.{node_value}
-use Rattle.step_parameters.proofs.Weights.{weight, weights}
+use Rattle.step_records.specs.Cells.{all_of}
+use Rattle.step_records.specs.Params.{node_value}
+use Rattle.step_records.proofs.Weights.{weight, weights}
 use Rattle.step_structures.specs.Normal.{plain_more}
 use Rattle.step_exchange.proofs.write.+params.Given as goal
 

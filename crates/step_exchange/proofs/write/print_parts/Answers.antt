@@ -1,5 +1,5 @@
 use Rattle.std.proofs.Common.{ap, sym, ◌∙◌}
-use Rattle.step_parameters.specs.Cells.{all_of}
+use Rattle.step_records.specs.Cells.{all_of}
 use Rattle.step_literals.specs.Words.{upper}
 use Rattle.step_structures.specs.Normal.{plain_trees}
 use Rattle.devices.proofs.Printing.{then_print, prints_as}

@@ -1,7 +1,7 @@
 use Rattle.std.proofs.Common.{◌∙◌}
-use Rattle.express_schemas.specs.SchemaViews.{schema_of}
-use Rattle.step_population.specs.Seen.{population_seen}
-use Rattle.step_population.proofs.Orders.{zip-next}
+use Rattle.express_syntax.specs.SchemaViews.{schema_of}
+use Rattle.population_typed.specs.Seen.{population_seen}
+use Rattle.population_typed.proofs.Orders.{zip-next}
 use Rattle.step_extent.specs.Gathering.{AreHeld}
 use Rattle.step_extent.proofs.extents.all_referrers.Goals as goal
 

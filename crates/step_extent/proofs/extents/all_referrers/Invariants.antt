@@ -1,6 +1,6 @@
 use Rattle.std.proofs.Common.{take}
-use Rattle.express_schemas.specs.SchemaViews.{schema_of}
-use Rattle.step_population.specs.Seen.{population_seen}
+use Rattle.express_syntax.specs.SchemaViews.{schema_of}
+use Rattle.population_typed.specs.Seen.{population_seen}
 use Rattle.step_extent.specs.Extents.{AllHeld}
 use Rattle.step_extent.proofs.extents.all_referrers.Given as goal
 

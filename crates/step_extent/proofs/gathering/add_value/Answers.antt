@@ -1,9 +1,9 @@
 use Rattle.std.proofs.Common.{◌∙◌, ◌∷◌, [], ◌++◌, ap}
 use Rattle.std.specs.List.{repeat}
-use Rattle.population_rules.specs.Referring.{holds}
+use Rattle.conformance.specs.Referring.{holds}
 use Rattle.referrers.specs.Referring.{referrers_of}
-use Rattle.rule_tables.specs.Seen.{gathering_seen}
-use Rattle.step_population.proofs.Turns.{on-ok}
+use Rattle.schema_rules.specs.Seen.{gathering_seen}
+use Rattle.population_typed.proofs.Turns.{on-ok}
 use Rattle.step_extent.specs.Targets.{often, targets}
 use Rattle.step_extent.proofs.Held.{often-targets, referrers-added}
 use Rattle.step_extent.proofs.gathering.add_value.Goals as goal

@@ -1,14 +1,14 @@
 use Rattle.std.specs.Prelude.{false, is_some}
 use Rattle.std.proofs.Common.{◌≡◌, ◌∙◌, ◌∷◌, [], ◌++◌, map, flat_map, take, ap, sym}
 use Rattle.std.specs.List.{repeat, list_any}
-use Rattle.express_schemas.specs.SchemaViews.{schema_of}
-use Rattle.population_rules.specs.Referring.{holds, times_at, held}
+use Rattle.express_syntax.specs.SchemaViews.{schema_of}
+use Rattle.conformance.specs.Referring.{holds, times_at, held}
 use Rattle.referrers.specs.Referring.{referrers_of}
-use Rattle.rule_tables.specs.Seen.{gathering_seen, inverse_seen}
-use Rattle.step_population.specs.Ordering.{picked_at}
-use Rattle.step_population.specs.Seen.{instance_seen, population_seen}
-use Rattle.step_population.specs.Whole.{form_among}
-use Rattle.step_population.proofs.Found.{kept}
+use Rattle.schema_rules.specs.Seen.{gathering_seen, inverse_seen}
+use Rattle.population_typed.specs.Ordering.{picked_at}
+use Rattle.population_typed.specs.Seen.{instance_seen, population_seen}
+use Rattle.population_typed.specs.Whole.{form_among}
+use Rattle.population_typed.proofs.Found.{kept}
 use Rattle.step_extent.specs.Gathering.{position_at, position_by}
 use Rattle.step_extent.proofs.Held.{position_in, position-is, numbers-of, held-in, none-gathered, flat-next}
 use Rattle.step_extent.proofs.gathering.gathered.Goals as goal

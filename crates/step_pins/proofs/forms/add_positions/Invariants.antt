@@ -1,6 +1,6 @@
 use Rattle.std.proofs.Common.{◌≡◌, ◌++◌, drop}
 use Rattle.std.specs.Prelude.{filter_map}
-use Rattle.step_population.specs.Ordering.{position_among}
+use Rattle.population_typed.specs.Ordering.{position_among}
 use Rattle.step_pins.proofs.forms.add_positions.Given as goal
 
 abbrev pub invariant-loop-place : goal.invariant-loop-place

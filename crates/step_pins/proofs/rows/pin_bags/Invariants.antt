@@ -1,11 +1,11 @@
 use Rattle.std.proofs.Common.{drop}
-use Rattle.express_schemas.specs.Schemas.{Schema}
-use Rattle.type_graphs.specs.Names.{OneOf}
+use Rattle.express_syntax.specs.Schemas.{Schema}
+use Rattle.schema_semantics.specs.Names.{OneOf}
 use Rattle.conformance.specs.Populations.{Slot}
-use Rattle.conforming_values.specs.Standing.{InBag}
-use Rattle.step_population.specs.Seen.{slots_seen}
+use Rattle.conformance.specs.Standing.{InBag}
+use Rattle.population_typed.specs.Seen.{slots_seen}
 use Rattle.step_values.proofs.Walks.{after}
-use Rattle.value_pins.specs.Pinning.{PinsUpTo}
+use Rattle.step_pins.specs.Pinning.{PinsUpTo}
 use Rattle.step_pins.proofs.rows.pin_bags.Given as goal
 
 abbrev pub invariant-loop-i : goal.invariant-loop-i

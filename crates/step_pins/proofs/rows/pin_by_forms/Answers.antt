@@ -1,17 +1,17 @@
 use Rattle.std.proofs.Common.{map, sym, subst, arith}
 use Rattle.std.specs.Prelude.{◌↔◌}
 use Rattle.digraph.specs.Graphs.{graph_of}
-use Rattle.express_schemas.specs.Profile.{Every}
-use Rattle.own_attributes.specs.Above.{AreAbove}
+use Rattle.express_syntax.specs.Profile.{Every}
+use Rattle.schema_places.specs.Above.{AreAbove}
 use Rattle.std.specs.List.{AllZip}
-use Rattle.express_schemas.specs.SchemaViews.{schema_of}
-use Rattle.rule_tables.specs.Seen.{unique_seen, IsNumberedUnique}
-use Rattle.step_population.specs.Seen.{instance_seen, population_seen}
-use Rattle.step_population.specs.Whole.{form_among}
-use Rattle.step_population.proofs.Found.{kept}
-use Rattle.value_pins.specs.Pinning.{Pins}
-use Rattle.value_pins.proofs.Listing.{next, ends}
-use Rattle.value_pins.proofs.Pinning.{pins-alike}
+use Rattle.express_syntax.specs.SchemaViews.{schema_of}
+use Rattle.schema_rules.specs.Seen.{unique_seen, IsNumberedUnique}
+use Rattle.population_typed.specs.Seen.{instance_seen, population_seen}
+use Rattle.population_typed.specs.Whole.{form_among}
+use Rattle.population_typed.proofs.Found.{kept}
+use Rattle.step_pins.specs.Pinning.{Pins}
+use Rattle.step_pins.proofs.Listing.{next, ends}
+use Rattle.step_pins.proofs.Pinning.{pins-alike}
 use Rattle.step_pins.specs.Forms.{IsFormRules}
 use Rattle.step_pins.specs.Rows.{PinsByForm, PinnedAmong}
 use Rattle.step_pins.specs.declared.forms.Sources.{Sources}

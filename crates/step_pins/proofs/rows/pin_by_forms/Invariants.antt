@@ -1,11 +1,11 @@
 use Rattle.std.proofs.Common.{List}
-use Rattle.express_schemas.specs.SchemaViews.{schema_of}
-use Rattle.type_graphs.specs.Names.{Name}
+use Rattle.express_syntax.specs.SchemaViews.{schema_of}
+use Rattle.schema_semantics.specs.Names.{Name}
 use Rattle.conformance.specs.Entities.{Entities, AreEntities}
-use Rattle.chosen_types.specs.Chosen.{AreChosen}
-use Rattle.rule_tables.specs.Seen.{rules_seen}
-use Rattle.step_population.specs.Seen.{population_seen}
-use Rattle.value_pins.proofs.Listing.{SoFar}
+use Rattle.pin_choices.specs.Chosen.{AreChosen}
+use Rattle.schema_rules.specs.Seen.{rules_seen}
+use Rattle.population_typed.specs.Seen.{population_seen}
+use Rattle.step_pins.proofs.Listing.{SoFar}
 use Rattle.step_pins.specs.Rows.{PinsByForm}
 use Rattle.step_pins.proofs.rows.pin_by_forms.Given as goal
 

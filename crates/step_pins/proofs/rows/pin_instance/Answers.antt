@@ -1,14 +1,14 @@
 use Rattle.std.proofs.Common.{ℕ, List, OnOk, ◌⊎◌, subst}
 use Rattle.std.proofs.lemmas.Result.{on_ok_weaker}
-use Rattle.type_graphs.specs.Names.{OneOf}
+use Rattle.schema_semantics.specs.Names.{OneOf}
 use Rattle.conformance.specs.Populations.{Slot}
-use Rattle.conforming_values.specs.Standing.{InBag}
-use Rattle.row_forms.specs.declared.form.SlotForm.{SlotForm}
-use Rattle.population_rules.specs.Pins.{OccursAt}
-use Rattle.step_population.specs.Seen.{slots_seen}
+use Rattle.conformance.specs.Standing.{InBag}
+use Rattle.population_rows.specs.declared.form.SlotForm.{SlotForm}
+use Rattle.conformance.specs.Pins.{OccursAt}
+use Rattle.population_typed.specs.Seen.{slots_seen}
 use Rattle.step_values.specs.Slots.{nth}
-use Rattle.value_pins.specs.Pinning.{Pins}
-use Rattle.value_pins.proofs.Pinning.{pins-both}
+use Rattle.step_pins.specs.Pinning.{Pins}
+use Rattle.step_pins.proofs.Pinning.{pins-both}
 use Rattle.step_pins.specs.Rows.{PinnedAt, PinnedBy}
 use Rattle.step_pins.proofs.rows.pin_instance.Goals as goal
 

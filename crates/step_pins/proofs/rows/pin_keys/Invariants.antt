@@ -1,6 +1,6 @@
-use Rattle.population_rules.specs.Pins.{OccursAt}
+use Rattle.conformance.specs.Pins.{OccursAt}
 use Rattle.step_values.specs.Slots.{nth}
-use Rattle.value_pins.proofs.Listing.{SoFar}
+use Rattle.step_pins.proofs.Listing.{SoFar}
 use Rattle.step_pins.proofs.rows.pin_keys.Given as goal
 
 abbrev pub invariant-loop-position : goal.invariant-loop-position

@@ -1,6 +1,6 @@
 use Rattle.std.proofs.Common.{◌≡◌, ◌∙◌, Some, ap, sym, subst, slice_get, OnOk}
 use Rattle.std.proofs.lemmas.Option.{slice_get-get_or}
-use Rattle.value_pins.specs.Pinning.{Pins}
+use Rattle.step_pins.specs.Pinning.{Pins}
 use Rattle.step_pins.specs.Rows.{PinnedWith, PinnedAmong}
 use Rattle.step_pins.proofs.rows.pin_row.Goals as goal
 

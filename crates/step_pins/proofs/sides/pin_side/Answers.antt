@@ -1,9 +1,9 @@
 use Rattle.std.proofs.Common.{◌≡◌, ◌==◌, ◌∙◌, [], true, false, length, ap, sym}
 use Rattle.std.specs.Prelude.{◌⊎◌}
 use Rattle.std.proofs.lemmas.Result.{on_ok_weaker}
-use Rattle.type_graphs.specs.Names.{Among}
-use Rattle.value_pins.specs.Pinning.{Pins}
-use Rattle.value_pins.proofs.Pinning.{pins-both, pins-alike}
+use Rattle.schema_semantics.specs.Names.{Among}
+use Rattle.step_pins.specs.Pinning.{Pins}
+use Rattle.step_pins.proofs.Pinning.{pins-both, pins-alike}
 use Rattle.step_pins.specs.Sides.{IsOnSide}
 use Rattle.step_pins.proofs.Sided.{on-side}
 use Rattle.step_pins.proofs.sides.pin_side.Goals as goal

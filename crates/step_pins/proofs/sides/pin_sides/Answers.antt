@@ -1,14 +1,14 @@
 use Rattle.std.proofs.Common.{◌≡◌, ◌∙◌, ap, map, subst, arith}
-use Rattle.express_schemas.specs.SchemaViews.{schema_of}
-use Rattle.rule_tables.specs.Seen.{inverse_seen}
-use Rattle.type_graphs.specs.Names.{OneOf}
+use Rattle.express_syntax.specs.SchemaViews.{schema_of}
+use Rattle.schema_rules.specs.Seen.{inverse_seen}
+use Rattle.schema_semantics.specs.Names.{OneOf}
 use Rattle.step_extent.specs.Inverses.{numbers_by, row_by}
-use Rattle.step_population.specs.Seen.{instance_seen, population_seen}
-use Rattle.step_population.specs.Whole.{form_among}
-use Rattle.step_population.proofs.Found.{kept}
-use Rattle.value_pins.specs.Pinning.{Pins}
-use Rattle.value_pins.proofs.Listing.{next, ends}
-use Rattle.value_pins.proofs.Pinning.{pins-alike}
+use Rattle.population_typed.specs.Seen.{instance_seen, population_seen}
+use Rattle.population_typed.specs.Whole.{form_among}
+use Rattle.population_typed.proofs.Found.{kept}
+use Rattle.step_pins.specs.Pinning.{Pins}
+use Rattle.step_pins.proofs.Listing.{next, ends}
+use Rattle.step_pins.proofs.Pinning.{pins-alike}
 use Rattle.step_pins.specs.Sides.{IsOnSideOf}
 use Rattle.step_pins.proofs.Distinct.{names-distinct}
 use Rattle.step_pins.proofs.Sided.{IsSideOf, row-is, sides-are}

@@ -1,9 +1,9 @@
 use Rattle.std.proofs.Common.{map}
-use Rattle.express_schemas.specs.SchemaViews.{schema_of}
-use Rattle.type_graphs.specs.Names.{OneOf}
-use Rattle.rule_tables.specs.Seen.{rules_seen}
-use Rattle.step_population.specs.Seen.{population_seen}
-use Rattle.value_pins.proofs.Listing.{SoFar}
+use Rattle.express_syntax.specs.SchemaViews.{schema_of}
+use Rattle.schema_semantics.specs.Names.{OneOf}
+use Rattle.schema_rules.specs.Seen.{rules_seen}
+use Rattle.population_typed.specs.Seen.{population_seen}
+use Rattle.step_pins.proofs.Listing.{SoFar}
 use Rattle.step_pins.proofs.Sided.{IsSideOf}
 use Rattle.step_pins.proofs.sides.pin_sides.Given as goal
 

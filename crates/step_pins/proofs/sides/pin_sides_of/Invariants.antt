@@ -1,8 +1,8 @@
 use Rattle.std.proofs.Common.{slice_get}
-use Rattle.express_schemas.specs.SchemaViews.{schema_of}
+use Rattle.express_syntax.specs.SchemaViews.{schema_of}
 use Rattle.step_extent.specs.Extents.{inverse_value_by}
-use Rattle.step_population.specs.Seen.{population_seen}
-use Rattle.value_pins.proofs.Listing.{SoFar}
+use Rattle.population_typed.specs.Seen.{population_seen}
+use Rattle.step_pins.proofs.Listing.{SoFar}
 use Rattle.step_pins.specs.Sides.{IsOnSide}
 use Rattle.step_pins.proofs.sides.pin_sides_of.Given as goal
 

@@ -1,11 +1,11 @@
 use Rattle.std.proofs.Common.{ℕ}
 use Rattle.std.specs.Prelude.{◌⊎◌}
-use Rattle.express_schemas.specs.SchemaViews.{schema_of}
-use Rattle.type_graphs.specs.Names.{OneOf}
-use Rattle.population_rules.specs.Pins.{IsInverseSide, StandsInsideUnique, IsWeaklyPinned}
-use Rattle.rule_tables.specs.Seen.{rules_seen}
-use Rattle.step_population.specs.Seen.{population_seen}
-use Rattle.value_pins.proofs.Pinning.{pins-both, pins-alike}
+use Rattle.express_syntax.specs.SchemaViews.{schema_of}
+use Rattle.schema_semantics.specs.Names.{OneOf}
+use Rattle.conformance.specs.Pins.{IsInverseSide, StandsInsideUnique, IsWeaklyPinned}
+use Rattle.schema_rules.specs.Seen.{rules_seen}
+use Rattle.population_typed.specs.Seen.{population_seen}
+use Rattle.step_pins.proofs.Pinning.{pins-both, pins-alike}
 use Rattle.step_pins.specs.Rows.{PinsByForm}
 use Rattle.step_pins.proofs.Assembled.{together, from-none}
 use Rattle.step_pins.proofs.Distinct.{names-distinct}

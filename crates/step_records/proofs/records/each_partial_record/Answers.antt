@@ -11,7 +11,7 @@ use Rattle.step_records.specs.Readers.{reading}
 use Rattle.step_records.specs.Records.{texts_of, keywords_of, TakesPartial}
 use Rattle.step_records.specs.Steps.{StopsIn}
 use Rattle.step_records.proofs.RecordSteps.{has_keyword_any}
-use Rattle.step_records.proofs.Keywords.{says}
+use Rattle.step_records.proofs.RecordKeywords.{says}
 use Rattle.step_records.proofs.Recording.{partials_go_on, partials_end, partials_err_read, partials_err_one, partials_none, partials_less}
 use Rattle.step_records.proofs.records.each_partial_record.Goals as goal
 

@@ -1,4 +1,4 @@
-use Rattle.step_records.proofs.Keywords.{said_first, said_behind}
+use Rattle.step_records.proofs.RecordKeywords.{said_first, said_behind}
 use Rattle.step_records.proofs.records.has_keyword.Goals as goal
 
 pub returns-then-is_among : goal.returns-then-is_among

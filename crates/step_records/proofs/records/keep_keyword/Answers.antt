@@ -1,5 +1,5 @@
 use Rattle.std.proofs.Common.{rules}
-use Rattle.step_records.proofs.Keywords.{further_more}
+use Rattle.step_records.proofs.RecordKeywords.{further_more}
 use Rattle.step_records.proofs.records.keep_keyword.Goals as goal
 
 pub returns : goal.returns

@@ -1,11 +1,11 @@
 use Rattle.std.proofs.Common.{[], sym, ◌∙◌}
-use Rattle.express_trees.specs.Words.{mark}
+use Rattle.express_syntax.specs.Words.{mark}
 use Rattle.express_runs.specs.Items.{located_of}
-use Rattle.express_schemas.specs.Predict.{Just}
-use Rattle.express_trees.specs.Grammar.{depth_limit}
-use Rattle.express_schemas.proofs.Taking.{passes_token}
-use Rattle.express_schemas.proofs.Passing.{next_mark}
-use Rattle.express_schemas.proofs.Looking.{mark_met, mark_refused, stops_refused}
+use Rattle.express_syntax.specs.Predict.{Just}
+use Rattle.express_syntax.specs.Grammar.{depth_limit}
+use Rattle.express_syntax.proofs.Taking.{passes_token}
+use Rattle.express_syntax.proofs.Passing.{next_mark}
+use Rattle.express_syntax.proofs.Looking.{mark_met, mark_refused, stops_refused}
 use Rattle.express_runs.proofs.reader.Reader.expect.Goals as goal
 
 pub returns-then-not-is_mark : goal.returns-then-not-is_mark

@@ -1,11 +1,11 @@
 use Rattle.std.proofs.Common.{[], sym, ◌∙◌}
-use Rattle.express_trees.specs.Words.{keyword}
+use Rattle.express_syntax.specs.Words.{keyword}
 use Rattle.express_runs.specs.Items.{located_of}
-use Rattle.express_schemas.specs.Predict.{Say}
-use Rattle.express_trees.specs.Grammar.{depth_limit}
-use Rattle.express_schemas.proofs.Taking.{passes_token}
-use Rattle.express_schemas.proofs.Passing.{next_keyword}
-use Rattle.express_schemas.proofs.Looking.{keyword_met, keyword_refused, stops_refused}
+use Rattle.express_syntax.specs.Predict.{Say}
+use Rattle.express_syntax.specs.Grammar.{depth_limit}
+use Rattle.express_syntax.proofs.Taking.{passes_token}
+use Rattle.express_syntax.proofs.Passing.{next_keyword}
+use Rattle.express_syntax.proofs.Looking.{keyword_met, keyword_refused, stops_refused}
 use Rattle.express_runs.proofs.reader.Reader.expect_keyword.Goals as goal
 
 pub returns-then-not-is_keyword : goal.returns-then-not-is_keyword

@@ -1,11 +1,11 @@
 use Rattle.std.proofs.Common.{[], ap, refl}
-use Rattle.express_trees.specs.Words.{name, word_of}
-use Rattle.express_trees.specs.Views.{capitals}
+use Rattle.express_syntax.specs.Words.{name, word_of}
+use Rattle.express_syntax.specs.ExpressionViews.{capitals}
 use Rattle.express_runs.specs.Items.{located_of}
-use Rattle.express_schemas.specs.Texts.{token}
-use Rattle.express_schemas.specs.Predict.{Id}
-use Rattle.express_schemas.proofs.Taking.{passes_token}
-use Rattle.express_schemas.proofs.Looking.{name_refused, stops_refused}
+use Rattle.express_syntax.specs.Texts.{token}
+use Rattle.express_syntax.specs.Predict.{Id}
+use Rattle.express_syntax.proofs.Taking.{passes_token}
+use Rattle.express_syntax.proofs.Looking.{name_refused, stops_refused}
 use Rattle.express_runs.proofs.reader.Reader.expect_name.Goals as goal
 
 pub returns-in-Name : goal.returns-in-Name

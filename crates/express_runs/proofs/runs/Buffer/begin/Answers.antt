@@ -1,8 +1,8 @@
 use Rattle.std.proofs.Common.{ap, ◌∙◌, ◌≡◌, ◌++◌, [], ◌∷◌, refl, List}
-use Rattle.express_trees.specs.declared.lexeme.Lexeme.{Lexeme}
-use Rattle.express_trees.specs.declared.lexeme.Lexeme.TheVariants as lexemes
-use Rattle.express_trees.specs.Words.{words_of, name}
-use Rattle.express_trees.specs.Views.{capitals}
+use Rattle.express_syntax.specs.declared.lexeme.Lexeme.{Lexeme}
+use Rattle.express_syntax.specs.declared.lexeme.Lexeme.TheVariants as lexemes
+use Rattle.express_syntax.specs.Words.{words_of, name}
+use Rattle.express_syntax.specs.ExpressionViews.{capitals}
 use Rattle.express_runs.specs.Items.{named}
 use Rattle.express_runs.proofs.RunSteps.{begun_named}
 use Rattle.express_runs.proofs.runs.Buffer.begin.Goals as goal

@@ -1,5 +1,5 @@
 use Rattle.std.proofs.Math.Logic.{∥∥₁_map}
-use Rattle.express_schemas.specs.SchemaViews.{schema_of}
+use Rattle.express_syntax.specs.SchemaViews.{schema_of}
 use Rattle.express_types.specs.Judging.{IsJudged}
 use Rattle.express_types.proofs.graph.TypeGraph.into_unchecked.Goals as goal
 

@@ -1,8 +1,8 @@
 use Rattle.std.proofs.Common.{sym, subst}
 use Rattle.std.proofs.Math.Logic.{∥∥₁_map}
-use Rattle.express_schemas.specs.SchemaViews.{schema_of}
-use Rattle.derivation_ranks.specs.Firsts.{AreFirsts}
-use Rattle.derivation_ranks.specs.Ranking.{AreRanksOf}
+use Rattle.express_syntax.specs.SchemaViews.{schema_of}
+use Rattle.schema_derivations.specs.Firsts.{AreFirsts}
+use Rattle.schema_derivations.specs.Ranking.{AreRanksOf}
 use Rattle.express_types.specs.Judging.{IsJudged}
 use Rattle.express_types.proofs.graph.TypeGraph.rank.Goals as goal
 

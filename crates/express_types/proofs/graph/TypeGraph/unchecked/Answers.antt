@@ -1,8 +1,8 @@
 use Rattle.std.proofs.Common.{sym, subst}
 use Rattle.std.proofs.Math.Logic.{∥∥₁_map}
-use Rattle.express_schemas.specs.SchemaViews.{schema_of}
-use Rattle.type_graphs.specs.Parts.{AreUnchecked}
-use Rattle.unchecked_parts.specs.Adding.{unchecked_in}
+use Rattle.express_syntax.specs.SchemaViews.{schema_of}
+use Rattle.schema_semantics.specs.Parts.{AreUnchecked}
+use Rattle.schema_parts.specs.Adding.{unchecked_in}
 use Rattle.express_types.specs.Judging.{IsJudged}
 use Rattle.express_types.proofs.graph.TypeGraph.unchecked.Goals as goal
 

@@ -1,6 +1,6 @@
 use Rattle.std.proofs.Common.{◌∙◌, ap}
-use Rattle.express_schemas.specs.Views.{declaration_of as declaration_seen}
-use Rattle.type_graphs.specs.Names.{declared_name}
+use Rattle.express_syntax.specs.Views.{declaration_of as declaration_seen}
+use Rattle.schema_semantics.specs.Names.{declared_name}
 use Rattle.schema_names.proofs.Rows.{seen-at}
 use Rattle.schema_names.proofs.names.Names.name.Goals as goal
 

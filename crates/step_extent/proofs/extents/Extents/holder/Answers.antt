@@ -1,5 +1,5 @@
 use Rattle.std.proofs.Common.{rules}
-use Rattle.express_schemas.specs.SchemaViews.{schema_of}
+use Rattle.express_syntax.specs.SchemaViews.{schema_of}
 use Rattle.step_extent.proofs.Named.{number-within, word-is-there, word-says}
 use Rattle.step_extent.proofs.extents.Extents.holder.Goals as goal
 

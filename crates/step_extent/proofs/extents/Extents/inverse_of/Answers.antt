@@ -1,8 +1,8 @@
 use Rattle.std.proofs.Common.{◌∙◌, ap, sym}
-use Rattle.express_trees.specs.Views.{capitals}
-use Rattle.express_schemas.specs.SchemaViews.{schema_of}
-use Rattle.type_graphs.specs.Attributes.{Place}
-use Rattle.step_population.specs.Seen.{population_seen}
+use Rattle.express_syntax.specs.ExpressionViews.{capitals}
+use Rattle.express_syntax.specs.SchemaViews.{schema_of}
+use Rattle.schema_semantics.specs.Attributes.{Place}
+use Rattle.population_typed.specs.Seen.{population_seen}
 use Rattle.step_extent.specs.Extents.{inverse_value_by}
 use Rattle.step_extent.proofs.Placing.{at, value-of}
 use Rattle.step_extent.proofs.extents.Extents.inverse_of.Goals as goal

@@ -1,14 +1,14 @@
 use Rattle.std.proofs.Common.{◌≡◌, ◌∙◌, Some, ap, sym, subst, bytes_eq}
 use Rattle.std.specs.Prelude.{◌&&◌}
 use Rattle.std.proofs.lemmas.Option.{slice_get-get_or}
-use Rattle.express_trees.specs.Views.{capitals}
-use Rattle.express_schemas.specs.SchemaViews.{schema_of}
-use Rattle.type_graphs.specs.Attributes.{same_place}
-use Rattle.base_types.specs.Seen.{name_at}
-use Rattle.rule_tables.specs.Seen.{inverse_seen}
-use Rattle.rule_tables.specs.declared.inverses.InverseAttribute.{InverseAttribute}
+use Rattle.express_syntax.specs.ExpressionViews.{capitals}
+use Rattle.express_syntax.specs.SchemaViews.{schema_of}
+use Rattle.schema_semantics.specs.Attributes.{same_place}
+use Rattle.schema_bases.specs.Seen.{name_at}
+use Rattle.schema_rules.specs.Seen.{inverse_seen}
+use Rattle.schema_rules.specs.declared.inverses.InverseAttribute.{InverseAttribute}
 use Rattle.step_extent.specs.Places.{place_of_inverse}
-use Rattle.step_extent.proofs.Placing.{numbered-entity}
+use Rattle.step_extent.proofs.Placing.{numbered-are, numbered-entity}
 use Rattle.step_extent.proofs.extents.Extents.is_named.Goals as goal
 
 pub holder-requires : goal.holder-requires
@@ -16,7 +16,7 @@ holder-requires c =
     let x = c.args.self.now in
     let s = schema_of x.population.now.types.now.names.schema.now in
     let i = c.index-inverse.result.now in
-    numbered-entity s x.rules.now x.numbered c.args.number i
+    numbered-entity s x.rules.now (numbered-are s x.rules.now x.ruled) c.args.number i
     (slice_get-get_or x.rules.now.inverses.items c.args.number i c.requires ∙ ap Some (sym c.index-inverse.ensures))
 
 pub returns-then-eq : goal.returns-then-eq

@@ -1,10 +1,10 @@
 use Rattle.std.proofs.Common.{rules, ◌≡◌, ◌<◌, ◌+◌, ◌∙◌, Some, ap, sym, cond, map, drop, length, arith}
 use Rattle.std.specs.Vec.{vec_len}
-use Rattle.express_trees.specs.Views.{capitals}
-use Rattle.express_schemas.specs.SchemaViews.{schema_of}
-use Rattle.type_graphs.specs.Attributes.{Place}
-use Rattle.rule_tables.specs.Seen.{inverse_seen}
-use Rattle.step_population.proofs.Turns.{got}
+use Rattle.express_syntax.specs.ExpressionViews.{capitals}
+use Rattle.express_syntax.specs.SchemaViews.{schema_of}
+use Rattle.schema_semantics.specs.Attributes.{Place}
+use Rattle.schema_rules.specs.Seen.{inverse_seen}
+use Rattle.population_typed.proofs.Turns.{got}
 use Rattle.step_extent.specs.Places.{number_from}
 use Rattle.step_extent.proofs.Placing.{number-next, number-past}
 use Rattle.step_extent.proofs.extents.Extents.number_of.Goals as goal

@@ -1,7 +1,7 @@
 use Rattle.std.proofs.Common.{◌≡◌, map, drop}
-use Rattle.express_trees.specs.Views.{capitals}
-use Rattle.express_schemas.specs.SchemaViews.{schema_of}
-use Rattle.rule_tables.specs.Seen.{inverse_seen}
+use Rattle.express_syntax.specs.ExpressionViews.{capitals}
+use Rattle.express_syntax.specs.SchemaViews.{schema_of}
+use Rattle.schema_rules.specs.Seen.{inverse_seen}
 use Rattle.step_extent.specs.Places.{number_from}
 use Rattle.step_extent.proofs.extents.Extents.number_of.Given as goal
 

@@ -1,6 +1,6 @@
 use Rattle.std.proofs.Common.{◌+◌, ap, refl, rules}
 use Rattle.step_lexis.specs.Reading.{Reading, lexis}
-use Rattle.lexing.proofs.Readings.{faulty}
+use Rattle.parsing.proofs.Readings.{faulty}
 use Rattle.step_lexis.proofs.lexer.Lexer.next_token.Goals as goal
 
 pub returns-in-Err : goal.returns-in-Err

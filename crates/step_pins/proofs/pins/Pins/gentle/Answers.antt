@@ -1,12 +1,12 @@
 use Rattle.std.proofs.Common.{◌≡◌, ℕ, Bool, subst}
-use Rattle.express_schemas.specs.SchemaViews.{schema_of}
-use Rattle.type_graphs.specs.Names.{OneOf}
-use Rattle.population_rules.specs.Pins.{StandsBesideItsClass}
+use Rattle.express_syntax.specs.SchemaViews.{schema_of}
+use Rattle.schema_semantics.specs.Names.{OneOf}
+use Rattle.conformance.specs.Pins.{StandsBesideItsClass}
 use Rattle.step_equal.specs.Tables.{same_class, shares}
 use Rattle.step_equal.specs.TableViews.{table_of}
-use Rattle.step_population.specs.Seen.{population_seen}
-use Rattle.value_pins.specs.Classes.{class_of, share_class}
-use Rattle.value_pins.specs.Pinning.{Pins}
+use Rattle.population_typed.specs.Seen.{population_seen}
+use Rattle.step_pins.specs.Classes.{class_of, share_class}
+use Rattle.step_pins.specs.Pinning.{Pins}
 use Rattle.step_pins.proofs.Assembled.{same-names, pins-from}
 use Rattle.step_pins.proofs.pins.Pins.gentle.Goals as goal
 

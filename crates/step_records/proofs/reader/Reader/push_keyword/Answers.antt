@@ -1,7 +1,7 @@
 use Rattle.std.proofs.Common.{sym, ap, ◌∙◌, subst}
 use Rattle.step_lexis.specs.Reading.{Reading}
-use Rattle.step_parameters.specs.Building.{Building}
-use Rattle.step_parameters.specs.declared.cell.Leaf.TheVariants.{Keyword}
+use Rattle.step_records.specs.Building.{Building}
+use Rattle.step_records.specs.declared.cell.Leaf.TheVariants.{Keyword}
 use Rattle.step_records.specs.Readers.{Progress}
 use Rattle.step_records.specs.Steps.{PushesKeyword}
 use Rattle.step_records.proofs.Pushing.{next_token, leaf_next, keyword_pushed}

@@ -1,5 +1,5 @@
 use Rattle.std.proofs.Common.{suc, drop, refl, ap, arith}
-use Rattle.columns.specs.Nodes.{said_by}
+use Rattle.parsing.specs.Nodes.{said_by}
 use Rattle.step_values.specs.declared.cell.Cell.TheVariants.{Bag}
 use Rattle.step_values.specs.Cells.{value_nodes}
 use Rattle.step_values.specs.Values.{bag}

@@ -1,6 +1,6 @@
 use Rattle.std.proofs.Common.{◌≡◌, ◌-◌, ◌∷◌, [], length, ◌∙◌, ap, sym, arith, length-append}
 use Rattle.std.proofs.lemmas.List.{length-map}
-use Rattle.columns.specs.Nodes.{said_by}
+use Rattle.parsing.specs.Nodes.{said_by}
 use Rattle.step_values.specs.Cells.{value_at, value_by, value_nodes}
 use Rattle.step_values.proofs.Built.{closed, nothing_built, typed_pushed, typed_built}
 use Rattle.step_values.proofs.row_builder.RowBuilder.close_typed.Goals as goal

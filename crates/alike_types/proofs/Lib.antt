@@ -1,9 +1,0 @@
-mod Known
-mod Asked
-mod Shown
-mod Along
-mod Tables
-mod Fitting
-mod Parts
-mod OneShape
-mod FromTrees

@@ -1,5 +1,0 @@
-use Rattle.alike_types.proofs.Asked.{data-types-are-known}
-use Rattle.alike_types.proofs.laws.data_types_are_known.Goals as goal
-
-pub returns : goal.returns
-returns c = data-types-are-known

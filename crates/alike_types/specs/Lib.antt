@@ -1,3 +1,0 @@
-pub mod Shaped
-pub mod Making
-pub mod Laws

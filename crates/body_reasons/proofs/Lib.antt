@@ -1,4 +1,0 @@
-pub mod Firsts
-pub mod Used
-pub mod Selves
-pub mod InTurn

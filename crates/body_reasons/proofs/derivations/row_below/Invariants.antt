@@ -1,6 +1,0 @@
-use Rattle.std.proofs.Common.{◌≡◌, ◌++◌, drop}
-use Rattle.body_reasons.specs.Surveyed.{below}
-use Rattle.body_reasons.proofs.derivations.row_below.Given as goal
-
-abbrev pub invariant-loop-number : goal.invariant-loop-number
-invariant-loop-number l = l.row.items ++ below l.count (drop l.number-index l.uses) ≡ below l.count l.uses

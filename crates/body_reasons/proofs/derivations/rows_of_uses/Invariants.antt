@@ -1,9 +1,0 @@
-use Rattle.std.proofs.Common.{◌≡◌, ◌++◌, drop, map, length}
-use Rattle.digraph.specs.Graphs.{graph_of}
-use Rattle.body_reasons.specs.Surveyed.{uses_below}
-use Rattle.body_reasons.proofs.derivations.rows_of_uses.Given as goal
-
-abbrev pub invariant-loop-judgement : goal.invariant-loop-judgement
-invariant-loop-judgement l =
-    graph_of l.rows.items ++ map (uses_below (length l.judged)) (drop l.judgement-index l.judged)
-    ≡ map (uses_below (length l.judged)) l.judged

@@ -1,3 +1,0 @@
-pub mod Judging
-pub mod Surveyed
-pub mod Growing

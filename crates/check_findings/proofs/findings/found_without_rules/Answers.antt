@@ -1,0 +1,19 @@
+use Rattle.express_syntax.specs.SchemaViews.{schema_of}
+use Rattle.conformance.specs.Said.{instances}
+use Rattle.step_exchange.specs.Exchanges.{structure}
+use Rattle.check_findings.proofs.Behind.{no-rules-behind}
+use Rattle.check_findings.proofs.findings.found_without_rules.Goals as goal
+
+pub returns : goal.returns
+returns c =
+    let graph = c.args.graph.now in
+    let s = schema_of graph.types.names.schema.now in
+    let ready = c.requires.ready in (
+      c.schema_is_said.ensures,
+      λ said. (
+        c.in_ok-findings.ensures said,
+        no-rules-behind s said graph.rules (ready.rules.rules said.domain said.is_domain) graph.domain ready.domain.rules
+            c.requires.without (instances s said (structure c.args.exchange.now)) _ _ _ c.empty_report.ensures.findings
+            c.empty_report.ensures.unknown,
+      ),
+    )

@@ -1,0 +1,29 @@
+use Rattle.std.proofs.Common.{sym, subst}
+use Rattle.express_syntax.specs.SchemaViews.{schema_of}
+use Rattle.conformance.specs.Conforming.{PopulationConforms}
+use Rattle.conformance.specs.Said.{Said}
+use Rattle.population_typed.specs.Seen.{population_seen}
+use Rattle.check_findings.specs.Findings.{AreRuleFindings}
+use Rattle.check_findings.specs.Ruling.{AreReady}
+use Rattle.check_findings.proofs.rules.found_by_rules.Goals as goal
+
+pub rule_findings-requires : goal.rule_findings-requires
+rule_findings-requires c =
+    let e = c.in_ok-extents.extents in
+    let graph = c.args.graph.now in
+    let tables = c.args.tables.now in
+    let settings = c.args.settings.now in
+    record {
+      ready = subst (λ t. AreReady e.population.now.types.now t graph.domain graph.judged.firsts.items tables settings)
+          (sym c.in_ok-extents.ensures.rules)
+          (subst (λ q. AreReady q.types.now graph.rules graph.domain graph.judged.firsts.items tables settings)
+          (sym c.in_ok-extents.ensures.population) c.requires.ready);
+    }
+
+pub returns : goal.returns
+returns c =
+    let r = c.in_ok-report.report in
+    subst (λ q. (said : Said (schema_of q.types.now.names.schema.now))
+    → PopulationConforms (schema_of q.types.now.names.schema.now) said.domain said.entities (population_seen q)
+    → AreRuleFindings (schema_of q.types.now.names.schema.now) said (population_seen q) r.findings.items r.unknown)
+    c.in_ok-extents.ensures.population c.in_ok-report.ensures

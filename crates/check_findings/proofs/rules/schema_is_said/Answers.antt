@@ -1,0 +1,45 @@
+use Rattle.std.proofs.Common.{ap, sym, subst, map}
+use Rattle.express_syntax.specs.SchemaViews.{schema_of}
+use Rattle.schema_rules.specs.Seen.{rules_seen}
+use Rattle.schema_conditions.specs.Seen.{rule_seen}
+use Rattle.schema_sources.specs.Seen.{inverses_seen}
+use Rattle.schema_derivations.specs.Formulas.{AreFormulas}
+use Rattle.conformance.specs.Attributes.{AreAttributes}
+use Rattle.conformance.specs.Entities.{Entities, AreEntities}
+use Rattle.schema_sources.specs.Tables.{IsKnown}
+use Rattle.check_findings.proofs.rules.schema_is_said.Goals as goal
+
+pub attributes_are_said-requires : goal.attributes_are_said-requires
+attributes_are_said-requires c =
+    let ready = c.requires.ready in
+    let d = ready.tables.base_types.exists in
+    record {
+      known = subst (IsKnown c.args.types.now c.args.settings.now.sources) (sym c.deref.ensures.value) (record {
+        made = ready.made;
+        sources = ready.settings.sources;
+        inverses = record { declared = (d.0, (ready.rules.rules d.0 d.1).inverses); numbered = ready.rules.numbered.inverses };
+      });
+    }
+
+pub returns : goal.returns
+returns c =
+    let s = schema_of c.args.types.now.names.schema.now in
+    let ready = c.requires.ready in
+    let d = ready.tables.base_types.exists in
+    let same = ap (λ n. schema_of n.schema.now) c.knowledge-known.ensures.same in
+    let en = subst (λ t. (e : Entities) × AreEntities t e) same c.entities_are_said.ensures in
+    let formula = c.formulas_are_said.ensures s (subst (AreFormulas s) (sym c.deref-2.ensures.value) ready.domain.formulas) ready.firsts in
+    let found = c.attributes_are_said.ensures formula.0 formula.1 in
+    record {
+      resolved = ready.made.resolved;
+      domain = d.0;
+      entities = en.0;
+      rules = rules_seen s c.args.rules.now;
+      attributes = found.0;
+      conditions = map (rule_seen s) c.args.domain.now.rules.items;
+      is_domain = d.1;
+      are_entities = en.1;
+      are_rules = ready.rules.rules d.0 d.1;
+      are_attributes = subst (λ rows. AreAttributes s (inverses_seen s rows) found.0) c.deref.ensures.value found.1;
+      are_conditions = ready.domain.rules;
+    }

@@ -1,0 +1,6 @@
+//! What is found of a file by its schema: of its instances one by one, and by rules.
+#![tactic(auto)]
+
+pub mod findings;
+pub mod laws;
+mod rules;

@@ -1,3 +1,0 @@
-mod Buffers
-mod Levels
-pub mod Grown

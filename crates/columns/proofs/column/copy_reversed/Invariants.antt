@@ -1,5 +1,0 @@
-use Rattle.columns.proofs.Buffers.{Copied}
-use Rattle.columns.proofs.column.copy_reversed.Given as goal
-
-abbrev pub invariant-loop-i : goal.invariant-loop-i
-invariant-loop-i g l = Copied l.fn.cells l.from l.end l.to l.i l.cells

@@ -1,9 +1,0 @@
--- The words of lines.
-use Rattle.std.proofs.Common.{◌≡◌, ℕ, ◌++◌, true, refl}
-use Rattle.std.specs.Prelude.{codes, decimal}
-use Rattle.command_line.specs.Lines.{count_text, is_counted}
-use Rattle.command_line.specs.declared.fault.Role.{Role}
-
-pub count_told : (role : Role) (written : ℕ) → is_counted role ≡ true
-    → codes " after " ++ decimal written ++ codes " bytes" ≡ count_text role written
-count_told role written e = rw e refl

@@ -1,6 +1,0 @@
-use Rattle.std.proofs.Common.{◌∙◌}
-use Rattle.devices.proofs.Printing.{prints_as}
-use Rattle.command_line.proofs.fault.print_number.Goals as goal
-
-pub returns : goal.returns
-returns g c = prints_as (c.as_bytes.ensures.value ∙ c.format.ensures.text) c.print.ensures

@@ -1,0 +1,378 @@
+//! What words and devices make of a run, and the lines of its faults.
+
+use super::{Ending, FILE, Paper, run};
+use command_line::usage::unread_words;
+use commands::command::{refuse, refuse_to_read};
+use devices::counted::Counted;
+use files::fault::{Fault, Role, print_line};
+use files::read::ReadFault;
+use std::alloc::Global;
+use std::hash::RandomState;
+use std::io;
+use std::test::Fail;
+use step_structures::fault::{FaultKind, LeftOut};
+
+// What `--help` prints.
+const HELP: &str = "Reads STEP files (ISO 10303-21)\n\n\
+    Usage: stepmin <COMMAND>\n\n\
+    Commands:\n  \
+    plain  Writes the normal text of a STEP file\n  \
+    check  Tells where a STEP file breaks its schema\n  \
+    help   Print this message or the help of the given subcommand(s)\n\n\
+    Options:\n  \
+    -h, --help     Print help\n  \
+    -V, --version  Print version\n\n\
+    Exit status:\n  \
+    0  all is done\n  \
+    1  the file breaks its schema\n  \
+    2  the text of a file or a schema can't be read\n  \
+    3  the words of the command line are wrong\n  \
+    4  a device fails\n  \
+    5  memory runs out\n";
+
+// What `plain --help` prints.
+const PLAIN_HELP: &str = "Writes the normal text of a STEP file\n\n\
+    Usage: stepmin plain <FILE>\n\n\
+    Arguments:\n  \
+    <FILE>  The file that is read\n\n\
+    Options:\n  \
+    -h, --help  Print help\n";
+
+// What `check --help` prints.
+const CHECK_HELP: &str = "Tells where a STEP file breaks its schema\n\n\
+    Usage: stepmin check <SCHEMA> <FILE>\n\n\
+    Arguments:\n  \
+    <SCHEMA>  The schema that it is checked against\n  \
+    <FILE>    The file that is read\n\n\
+    Options:\n  \
+    -h, --help  Print help\n";
+
+const ALL: usize = usize::MAX;
+
+// The length of the file.
+const SENT: usize = 151;
+
+const LOST: &str = "device: file\n";
+
+const PLAIN: &'static [&'static str] = &["stepmin", "plain", "F"];
+
+// The words, the file and whether it breaks, the room of the outputs, the status, how many bytes of
+// the file go out, and what stands on the error output.
+type Row = (
+    &'static [&'static str],
+    &'static str,
+    bool,
+    usize,
+    usize,
+    u8,
+    usize,
+    &'static str,
+);
+
+const ROWS: &'static [Row] = &[
+    (PLAIN, FILE, false, ALL, 0, 0, SENT, ""),
+    (
+        &["other", "plain", "--", "F"],
+        FILE,
+        false,
+        ALL,
+        ALL,
+        0,
+        SENT,
+        "",
+    ),
+    (
+        &["stepmin", "plain", "F", "--"],
+        FILE,
+        false,
+        ALL,
+        ALL,
+        0,
+        SENT,
+        "",
+    ),
+    (
+        &["stepmin", "plain", "G"],
+        FILE,
+        false,
+        ALL,
+        ALL,
+        4,
+        0,
+        LOST,
+    ),
+    (&["stepmin", "plain", ""], FILE, false, ALL, ALL, 4, 0, LOST),
+    (
+        &["stepmin", "plain", "-"],
+        FILE,
+        false,
+        ALL,
+        ALL,
+        4,
+        0,
+        LOST,
+    ),
+    (
+        &["stepmin", "plain", "help"],
+        FILE,
+        false,
+        ALL,
+        ALL,
+        4,
+        0,
+        LOST,
+    ),
+    (
+        &["stepmin", "plain", "--", "--help"],
+        FILE,
+        false,
+        ALL,
+        ALL,
+        4,
+        0,
+        LOST,
+    ),
+    (PLAIN, FILE, true, ALL, ALL, 4, 0, LOST),
+    (
+        PLAIN,
+        "",
+        false,
+        ALL,
+        ALL,
+        2,
+        0,
+        "file: E6 Expected at byte 0\n",
+    ),
+    (PLAIN, "", false, ALL, 4, 4, 0, "file"),
+    (PLAIN, FILE, false, SENT, 0, 0, SENT, ""),
+    (
+        PLAIN,
+        FILE,
+        false,
+        0,
+        ALL,
+        4,
+        0,
+        "device: output after 0 bytes\n",
+    ),
+    (
+        PLAIN,
+        FILE,
+        false,
+        1,
+        ALL,
+        4,
+        1,
+        "device: output after 1 bytes\n",
+    ),
+    (
+        PLAIN,
+        FILE,
+        false,
+        119,
+        ALL,
+        4,
+        119,
+        "device: output after 119 bytes\n",
+    ),
+    (
+        PLAIN,
+        FILE,
+        false,
+        150,
+        ALL,
+        4,
+        150,
+        "device: output after 150 bytes\n",
+    ),
+];
+
+// Whether a run is what a row says.
+fn is_right_run(run: &Ending, row: &Row) -> bool {
+    let (_, _, _, _, _, status, sent, line) = *row;
+    run.status == status
+        && run.out.len() == sent
+        && FILE.as_bytes().starts_with(run.out.as_slice())
+        && run.err.as_slice() == line.as_bytes()
+}
+
+fn is_right(alloc: Global, keys: RandomState, row: &Row) -> bool {
+    let (words, file, breaks, out_room, err_room, ..) = *row;
+    match run(alloc, keys, words, file, breaks, out_room, err_room) {
+        Some(run) => is_right_run(&run, row),
+        None => false,
+    }
+}
+
+// The first row that comes to something else.
+fn wrong_row(alloc: Global, keys: RandomState) -> Option<usize> {
+    for i in 0..ROWS.len() {
+        if !is_right(alloc, keys, &ROWS[i]) {
+            return Some(i);
+        }
+    }
+    None
+}
+
+#[test]
+fn a_device_that_fails_is_told(rt: HostRuntime) -> Result<(), Fail> {
+    let keys = RandomState::new(&rt)?;
+    assert_eq!(rt; wrong_row(rt.alloc(), keys), None);
+    Ok(())
+}
+
+// What a run says where this is its status, and how much goes to the other output.
+fn said_by(status: u8, run: &Ending) -> (&[u8], usize) {
+    if status == 0 {
+        (run.out.as_slice(), run.err.len())
+    } else {
+        (run.err.as_slice(), run.out.len())
+    }
+}
+
+// The words of a row, the status, and what is said: wrong words on the error output, by a text that
+// begins so, and a text that is asked for on the output, just this one.
+type Asked = (&'static [&'static str], u8, &'static str);
+
+const ASKED: &'static [Asked] = &[
+    (&["stepmin"], 3, "error: "),
+    (&["stepmin", "check", "GEO"], 3, "error: "),
+    (&["stepmin", "check", "GEO", "F", "F"], 3, "error: "),
+    (&["stepmin", "shrink", "GEO", "F", "X", "X"], 3, "error: "),
+    (&["stepmin", "plain"], 3, "error: "),
+    (&["stepmin", "plain", "F", "F"], 3, "error: "),
+    (&["stepmin", "plain", "--strict", "F"], 3, "error: "),
+    (&["stepmin", "plain", "-F"], 3, "error: "),
+    (&["stepmin", "--", "plain", "F"], 3, "error: "),
+    (&["stepmin", "plain", "--version"], 3, "error: "),
+    (&["stepmin", "--help"], 0, HELP),
+    (&["stepmin", "-h"], 0, HELP),
+    (&["stepmin", "help"], 0, HELP),
+    (&["stepmin", "--version"], 0, "stepmin 0.1.0\n"),
+    (&["stepmin", "-V"], 0, "stepmin 0.1.0\n"),
+    (&["stepmin", "plain", "--help"], 0, PLAIN_HELP),
+    (&["stepmin", "check", "--help"], 0, CHECK_HELP),
+];
+
+// Whether it is said, and nothing else.
+fn is_said_by(run: &Ending, status: u8, text: &str) -> bool {
+    let (said, unsaid) = said_by(status, run);
+    run.status == status
+        && unsaid == 0
+        && said.starts_with(text.as_bytes())
+        && (status != 0 || said.len() == text.len())
+}
+
+fn is_said(alloc: Global, keys: RandomState, row: &Asked) -> bool {
+    let (words, status, text) = *row;
+    match run(alloc, keys, words, "", false, ALL, ALL) {
+        Some(run) => is_said_by(&run, status, text),
+        None => false,
+    }
+}
+
+// Whether three bytes of it are said alone, and the status is a device's.
+fn is_cut_by(run: &Ending, status: u8) -> bool {
+    let (said, unsaid) = said_by(status, run);
+    run.status == 4 && unsaid == 0 && said.len() == 3
+}
+
+// Whether it is cut so where there is room for three bytes.
+fn is_cut(alloc: Global, keys: RandomState, row: &Asked) -> bool {
+    let (words, status, _) = *row;
+    match run(alloc, keys, words, "", false, 3, 3) {
+        Some(run) => is_cut_by(&run, status),
+        None => false,
+    }
+}
+
+// The first row that comes to something else.
+fn wrong_answer(alloc: Global, keys: RandomState) -> Option<usize> {
+    for i in 0..ASKED.len() {
+        if !is_said(alloc, keys, &ASKED[i]) || !is_cut(alloc, keys, &ASKED[i]) {
+            return Some(i);
+        }
+    }
+    None
+}
+
+#[test]
+fn words_that_ask_for_no_file_are_answered(rt: HostRuntime) -> Result<(), Fail> {
+    let keys = RandomState::new(&rt)?;
+    assert_eq!(rt; wrong_answer(rt.alloc(), keys), None);
+    Ok(())
+}
+
+// Whether the fault has this line.
+fn has_line(alloc: Global, fault: Fault, line: &str) -> bool {
+    let mut err = Counted::new(Paper::new(alloc, ALL));
+    let printed = print_line(&mut err, fault);
+    let paper = err.into_inner();
+    printed == Ok(()) && paper.bytes.as_slice() == line.as_bytes()
+}
+
+#[test]
+fn a_fault_has_its_line(rt: HostRuntime) {
+    let alloc = rt.alloc();
+    let too_large = Fault::of_read(Role::Schema, ReadFault::TooLarge);
+    let too_many = Fault::Text {
+        role: Role::Output,
+        kind: FaultKind::LeftOut(LeftOut::TooMany),
+        place: u64::MAX,
+    };
+    let unread = Fault::of_read(Role::Schema, ReadFault::Device);
+    let unwritten = Fault::Device {
+        role: Role::Certificate,
+        written: 0,
+    };
+    assert!(rt;
+        has_line(
+            alloc,
+            too_large,
+            "schema: E8 LeftOut TooLarge at byte 1099511627776\n"
+        )
+    );
+    assert!(rt;
+        has_line(
+            alloc,
+            too_many,
+            "output: E8 LeftOut TooMany at byte 18446744073709551615\n"
+        )
+    );
+    assert!(rt; has_line(alloc, unread, "device: schema\n"));
+    assert!(rt; has_line(alloc, unwritten, "device: certificate after 0 bytes\n"));
+}
+
+// Whether words that the system can't give for an error of this kind are refused with this status
+// and this line.
+fn is_refused(alloc: Global, kind: io::ErrorKind, status: u8, line: &str) -> bool {
+    let mut out = Counted::new(Paper::new(alloc, ALL));
+    let mut err = Counted::new(Paper::new(alloc, ALL));
+    let refusal = unread_words(alloc, &io::Error::from(kind));
+    let ending = Ending {
+        status: refuse(refusal, &mut out, &mut err),
+        out: out.into_inner().bytes,
+        err: err.into_inner().bytes,
+    };
+    ending.comes_to(status, b"", line.as_bytes())
+}
+
+#[test]
+fn words_that_the_system_can_not_give_are_wrong(rt: HostRuntime) {
+    let line = "error: an argument is not text\n";
+    assert!(rt; is_refused(rt.alloc(), io::ErrorKind::InvalidData, 3, line));
+    assert!(rt; is_refused(rt.alloc(), io::ErrorKind::OutOfMemory, 5, "memory\n"));
+}
+
+// Whether it is told that no file can be read.
+fn is_told(alloc: Global) -> bool {
+    let mut err = Counted::new(Paper::new(alloc, ALL));
+    let status = refuse_to_read(&mut err);
+    let paper = err.into_inner();
+    status == 4 && paper.bytes.as_slice() == LOST.as_bytes()
+}
+
+#[test]
+fn without_keys_no_file_is_read(rt: HostRuntime) {
+    assert!(rt; is_told(rt.alloc()));
+}

@@ -1,0 +1,118 @@
+//! A large file in the file system, and its normal text.
+
+use super::{FILE, add_words, run_in};
+use command_line::folder::Folder;
+use devices::device::Sink;
+use files::store::Store;
+use std::alloc::Global;
+use std::fs;
+use std::hash::RandomState;
+use std::rt::Files;
+use std::test::Fail;
+
+// Where the large file lies for a while.
+const LARGE: &str = "a-large-file.stp";
+
+// Adds many points, each with this behind its name.
+fn add_points(text: &mut String, behind: &str) -> bool {
+    for name in 1..40000u32 {
+        if write!(text, "#{name}{behind}\n").is_err() {
+            return false;
+        }
+    }
+    true
+}
+
+// The file with two further records in its header and these points.
+fn with_points(alloc: Global, points: &str) -> Option<String> {
+    match FILE.replace(alloc, "'GEO'));\n", "'GEO'));\nA(1);\nB('x');\n") {
+        Ok(head) => head.as_str().replace(alloc, "DATA;\n", points).ok(),
+        Err(_) => None,
+    }
+}
+
+// A file of more than a MiB with two further records in its header, in which points are spelt so.
+fn large_file(alloc: Global, behind: &str) -> Option<String> {
+    let Ok(mut points) = String::from_str(alloc, "DATA;\n") else {
+        return None;
+    };
+    if !add_points(&mut points, behind) {
+        return None;
+    }
+    with_points(alloc, points.as_str())
+}
+
+// Whether the text can be laid into the file system.
+fn is_laid<R: Files>(rt: &R, text: &str) -> bool {
+    let mut folder = Folder::new(rt);
+    let mut writer = folder.writer(LARGE);
+    let put = writer.put(text.as_bytes());
+    folder.keep(LARGE, writer);
+    put == Ok(text.len())
+}
+
+// Whether the file that lies there has this normal text.
+fn is_normal_there<'x, R: Files>(
+    rt: &'x R,
+    alloc: Global,
+    keys: RandomState,
+    words: &'x [String],
+    text: &str,
+) -> bool {
+    let mut folder = Folder::new(rt);
+    let run = run_in(alloc, keys, words, &mut folder, usize::MAX, usize::MAX);
+    run.comes_to(0, text.as_bytes(), b"")
+}
+
+// What fails first of the large file and its normal text.
+fn wrong_of<R: Files>(
+    rt: &R,
+    alloc: Global,
+    keys: RandomState,
+    file: &str,
+    text: &str,
+) -> Option<&'static str> {
+    let mut words = Vec::new(alloc);
+    if !add_words(alloc, &mut words, &["stepmin", "plain", LARGE]) {
+        return Some("the words");
+    }
+    if !is_laid(rt, file) {
+        return Some("the file in the file system");
+    }
+    if !is_normal_there(rt, alloc, keys, &words, text) {
+        return Some("its normal text");
+    }
+    None
+}
+
+fn wrong_of_file<R: Files>(
+    rt: &R,
+    alloc: Global,
+    keys: RandomState,
+    file: &str,
+) -> Option<&'static str> {
+    if file.len() <= 1 << 20 {
+        return Some("the length of the file");
+    }
+    match large_file(alloc, "=POINT((0.,1.));") {
+        Some(text) => wrong_of(rt, alloc, keys, file, text.as_str()),
+        None => Some("the text"),
+    }
+}
+
+fn wrong_large<R: Files>(rt: &R, alloc: Global, keys: RandomState) -> Option<&'static str> {
+    match large_file(alloc, " = point ( ( 0., 1. ) ) ;") {
+        Some(file) => wrong_of_file(rt, alloc, keys, file.as_str()),
+        None => Some("the file"),
+    }
+}
+
+#[test]
+fn a_large_file_is_read_from_the_file_system(rt: HostRuntime) -> Result<(), Fail> {
+    let keys = RandomState::new(&rt)?;
+    let wrong = wrong_large(&rt, rt.alloc(), keys);
+    let is_removed = fs::remove_file(&rt, LARGE).is_ok();
+    assert_eq!(rt; wrong, None);
+    assert!(rt; is_removed);
+    Ok(())
+}

@@ -1,0 +1,61 @@
+-- The domain rules of a schema, those of WHERE, and which of them are checked (ISO 10303-11, 9.1 and 9.2.2.2).
+use Rattle.std.specs.Prelude.{◌≡◌, ℕ, ◌+◌, List, [], ◌∷◌, ◌++◌, ◌⊎◌}
+use Rattle.express_syntax.specs.Trees.{Tree}
+use Rattle.express_syntax.specs.Schemas.{Schema, Declaration, type, entity, skipped, Rule, Body, parsed, named}
+use Rattle.schema_semantics.specs.declared.unchecked.Reason.{Reason}
+use Rattle.schema_semantics.specs.Names.{Name, listed}
+use Rattle.schema_semantics.specs.Ranks.{Self, HasReason}
+use Rattle.schema_semantics.specs.Parts.{label_of, TypeRuleHasReason}
+
+-- what states a rule: an entity, or a defined type
+pub data Holder : Type 0 where
+  of_entity : Name → Holder
+  of_type : Name → Holder
+
+abbrev pub holder_name : Holder → Name
+holder_name (of_entity n) = n
+holder_name (of_type n) = n
+
+-- a rule that is checked
+pub record DomainRule : Type 0 where
+  pub holder : Holder
+  pub label : Name
+  pub condition : Tree
+
+-- a rule as it is written
+pub record Statement : Type 0 where
+  pub holder : Holder
+  pub label : Name
+  pub body : Body
+
+-- those of WHERE from the n-th on; one without a label is `?` and its number
+abbrev pub statements_from : Holder → ℕ → List Rule → List Statement
+statements_from h n [] = []
+statements_from h n (r ∷ rs) =
+    record { holder = h; label = label_of n r.label; body = r.body } ∷ statements_from h (n + 1) rs
+
+-- in the order of the text
+abbrev pub statements_in : List Declaration → List Statement
+statements_in [] = []
+statements_in (type t ∷ ds) = statements_from (of_type t.name) 1 (listed t.rules) ++ statements_in ds
+statements_in (entity e ∷ ds) = statements_from (of_entity e.name) 1 (listed e.rules) ++ statements_in ds
+statements_in (skipped p ∷ ds) = statements_in ds
+
+module _ (s : Schema) where
+  -- a reason why a rule isn't checked
+  abbrev pub RuleHasReason : Holder → Body → Reason → Type 0
+  RuleHasReason (of_entity e) b r = HasReason s (Self e) b r
+  RuleHasReason (of_type t) b r = TypeRuleHasReason s (named t) b r
+
+  -- these are those that are checked, in turn
+  abbrev pub AreChecked : List Statement → List DomainRule → Type 0
+  AreChecked [] rules = rules ≡ []
+  AreChecked (x ∷ xs) rules =
+      (((r : Reason) → RuleHasReason x.holder x.body r → ⊥)
+      × (c : Tree) × (x.body ≡ parsed c) × (more : List DomainRule)
+      × (rules ≡ record { holder = x.holder; label = x.label; condition = c } ∷ more) × AreChecked xs more)
+      ⊎ (((r : Reason) × RuleHasReason x.holder x.body r) × AreChecked xs rules)
+
+-- the domain rules of a schema that are checked
+abbrev pub AreDomainRules : Schema → List DomainRule → Type 0
+AreDomainRules s rules = AreChecked s (statements_in s.declarations) rules

@@ -1,0 +1,42 @@
+-- What a schema says, as functions and lists, and what it is that a file conforms to it (ISO 10303-21, 11; ISO 10303-11).
+use Rattle.std.specs.Prelude.{◌≡◌, List, []}
+use Rattle.step_structures.specs.Trees.{File}
+use Rattle.express_syntax.specs.Schemas.{Schema}
+use Rattle.schema_semantics.specs.Faults.{IsResolved}
+use Rattle.conformance.specs.Bases.{Domain, IsDomain}
+use Rattle.conformance.specs.Entities.{Entities, AreEntities}
+use Rattle.conformance.specs.Findings.{findings}
+use Rattle.conformance.specs.Populations.{Instance, population_of}
+use Rattle.conformance.specs.Rules.{Rules, AreRules}
+use Rattle.conformance.specs.RuleFindings.{unique_findings, inverse_findings}
+use Rattle.conformance.specs.Attributes.{Attributes, AreAttributes}
+use Rattle.conformance.specs.DomainRules.{DomainRule, AreDomainRules}
+use Rattle.conformance.specs.DomainFindings.{rule_findings}
+
+-- What a schema whose names are resolved says: what its data types ask of values, what its entities ask of instances, its
+-- rules of a whole population, where attributes have their values, and its domain rules that are checked. Each relation
+-- leaves no choice of what these answer of the schema's own names.
+pub record Said (s : Schema) : Type 0 where
+  pub resolved : IsResolved s
+  pub domain : Domain
+  pub entities : Entities
+  pub rules : Rules
+  pub attributes : Attributes
+  pub conditions : List DomainRule
+  pub is_domain : IsDomain s domain
+  pub are_entities : AreEntities s entities
+  pub are_rules : AreRules s domain rules
+  pub are_attributes : AreAttributes s rules.inverses attributes
+  pub are_conditions : AreDomainRules s conditions
+
+module _ (s : Schema) (said : Said s) where
+  -- the population of a file
+  abbrev pub instances : File → List Instance
+  instances f = population_of s said.domain said.entities f
+
+  -- Nothing is wrong with a file: with its instances one by one, and by no rule.
+  pub record FileConforms (f : File) : Type 0 where
+    pub nothing : findings s said.domain said.entities f ≡ []
+    pub holds : rule_findings s said.domain said.entities said.attributes (instances f) said.conditions ≡ []
+    pub unique : unique_findings said.rules (instances f) ≡ []
+    pub bounded : inverse_findings said.rules (instances f) ≡ []

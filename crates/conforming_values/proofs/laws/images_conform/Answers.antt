@@ -1,5 +1,0 @@
-use Rattle.conforming_values.proofs.Leading.{images_conform}
-use Rattle.conforming_values.proofs.laws.images_conform.Goals as goal
-
-pub returns : goal.returns
-returns c = λ s d en h is js image conforms. images_conform s d en h is js image conforms

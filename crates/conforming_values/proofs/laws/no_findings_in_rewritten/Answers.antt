@@ -1,5 +1,0 @@
-use Rattle.conforming_values.proofs.Written.{none_written}
-use Rattle.conforming_values.proofs.laws.no_findings_in_rewritten.Goals as goal
-
-pub returns : goal.returns
-returns c = λ s d en are h f g new e. none_written s d en h f g new are e

@@ -1,5 +1,0 @@
-pub mod Numbered
-pub mod Growing
-pub mod Values
-pub mod Leaves
-pub mod Selects

@@ -1,9 +1,0 @@
-use Rattle.std.proofs.Common.{map}
-use Rattle.express_schemas.specs.Views.{inverse_of}
-use Rattle.declared_attributes.specs.Gathering.{AddsAll, schema_in, SaysInverse}
-use Rattle.declared_attributes.proofs.Gathered.{UpTo}
-use Rattle.declared_attributes.proofs.gathering.add_inverses.Given as goal
-
-abbrev pub invariant-loop-n : goal.invariant-loop-n
-invariant-loop-n l =
-    AddsAll l.initial.table (UpTo (SaysInverse (schema_in l.sources) l.entity l.row l.first) (map inverse_of l.inverses) l.n) l.table

@@ -1,5 +1,0 @@
-mod Oneness
-mod Joined
-mod Made
-mod Placed
-pub mod Said

@@ -1,5 +1,0 @@
-use Rattle.derivation_formulas.proofs.Said.{formulas-said}
-use Rattle.derivation_formulas.proofs.existing.formulas_are_said.Goals as goal
-
-pub returns : goal.returns
-returns c s table firsts = formulas-said s c.args.formulas.now table c.args.firsts.now firsts

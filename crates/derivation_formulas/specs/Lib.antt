@@ -1,2 +1,0 @@
-pub mod Formulas
-pub mod Making

@@ -1,5 +1,0 @@
-pub mod Above
-pub mod Aside
-pub mod Numbering
-pub mod Ranked
-pub mod Asking

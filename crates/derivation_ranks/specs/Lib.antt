@@ -1,4 +1,0 @@
-pub mod Tables
-pub mod Firsts
-pub mod Asked
-pub mod Ranking

@@ -1,6 +1,0 @@
-use Rattle.std.proofs.Common.{rules}
-use Rattle.devices.proofs.Printing.{printing}
-use Rattle.exchange_checks.proofs.printer.print_row.Goals as goal
-
-pub returns : goal.returns
-returns g c = search (rules, printing)

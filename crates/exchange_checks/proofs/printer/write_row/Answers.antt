@@ -1,5 +1,0 @@
-use Rattle.devices.proofs.Printing.{emits_all}
-use Rattle.exchange_checks.proofs.printer.write_row.Goals as goal
-
-pub returns-clause-emits : goal.returns-clause-emits
-returns-clause-emits g c = emits_all c.new-printer.ensures c.print_row.ensures c.finish.ensures

@@ -1,0 +1,10 @@
+use Rattle.std.proofs.Common.{length, take, flat_map}
+use Rattle.rule_settings.specs.Settings.{Meant, population_in}
+use Rattle.express_rules.specs.Counting.{Has, broken_in, open_in}
+use Rattle.express_rules.proofs.check.planned_report.Given as goal
+
+abbrev pub invariant-loop-row : goal.invariant-loop-row
+invariant-loop-row l =
+    (m : Meant l.asked.setting.now)
+    → Has (flat_map (broken_in l.asked.setting.now m l.plan.rules.now) (take l.row (population_in l.asked.setting.now)))
+    (length (flat_map (open_in l.asked.setting.now m l.plan.rules.now) (take l.row (population_in l.asked.setting.now)))) l.report

@@ -1,0 +1,29 @@
+-- What a rule of the program's list says at an instance.
+use Rattle.std.specs.Prelude.{map}
+use Rattle.express_syntax.specs.declared.expression.Logical.{Logical}
+use Rattle.express_syntax.specs.ExpressionViews.{tree_of}
+use Rattle.conformance.specs.Populations.{Instance}
+use Rattle.express_logic.specs.Data.{Datum}
+use Rattle.conformance.specs.Operations.{says}
+use Rattle.conformance.specs.Meanings.{meaning}
+use Rattle.conformance.specs.DomainFindings.{least, selves, outcome}
+use Rattle.schema_conditions.specs.declared.rule.DomainRule.{DomainRule}
+use Rattle.schema_conditions.specs.declared.rule.RuleHolder.{RuleHolder}
+use Rattle.schema_conditions.specs.Seen.{holder_seen, rule_seen}
+use Rattle.rule_settings.specs.declared.setting.Setting.{Setting}
+use Rattle.rule_settings.specs.Settings.{Meant, schema_in, population_in}
+
+-- of a value of SELF
+abbrev pub said_of : (S : Setting) → Meant S → DomainRule → Datum → Logical
+said_of S m r me =
+    says (meaning (schema_in S) m.domain m.entities m.attributes (population_in S) me (tree_of r.condition.now))
+
+-- .. of those of this holder at an instance, the least
+abbrev pub said_by : (S : Setting) → Meant S → Instance → DomainRule → RuleHolder → Logical
+said_by S m x r h =
+    least (map (λ self. said_of S m r self)
+    (selves (schema_in S) m.domain m.entities m.attributes x (holder_seen (schema_in S) h)))
+
+abbrev pub outcome_in : (S : Setting) → Meant S → Instance → DomainRule → Logical
+outcome_in S m x r =
+    outcome (schema_in S) m.domain m.entities m.attributes (population_in S) x (rule_seen (schema_in S) r)

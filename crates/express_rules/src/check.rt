@@ -1,0 +1,192 @@
+//! Domain rules are checked.
+
+ghost use Rattle.std.specs.Prelude.{◌≡◌, ◌<◌, Some, length, map, flat_map, slice_get, IfOk, OnOk};
+ghost use Rattle.express_syntax.specs.Profile.{Every};
+ghost use Rattle.conformance.specs.Populations.{Instance};
+ghost use Rattle.schema_rules.specs.Findings.{AreFindingsOf};
+ghost use Rattle.schema_rules.specs.declared.finding.RuleFindingKind.TheVariants.{WhereFalse};
+ghost use Rattle.schema_conditions.specs.Seen.{rule_seen, IsNumbered};
+ghost use Rattle.conformance.specs.DomainFindings.{rule_findings, unknown};
+ghost use Rattle.rule_settings.specs.Settings.{IsSetting, Meant, schema_in, population_in};
+ghost use Rattle.rule_plans.specs.Limits.{IsLimit};
+ghost use Rattle.rule_plans.specs.Planning.{IsPlan, TellAll};
+ghost use Rattle.express_rules.specs.Counting.{
+  capped,
+  Counts,
+  broken_by,
+  open_by,
+  broken_at,
+  open_at,
+  broken_in,
+  open_in,
+  Has,
+};
+
+use crate::outcome::{Asked, outcome};
+use crate::report::{RuleReport, empty_report};
+use express_logic::logical::Logical;
+use rule_plans::limit::rank_limit;
+use rule_plans::plan::{Plan, plan_of, types_at};
+use rule_plans::wanted::table_at;
+use rule_settings::setting::Setting;
+use schema_conditions::rule::{DomainRule, RuleHolder};
+use schema_rules::finding::{RuleFinding, RuleFindingKind};
+use std::alloc::{AllocError, Global};
+use step_extent::inverses::row_at;
+
+/// The number of what states a rule.
+fn holder_number(holder: RuleHolder) -> u32
+    ensures { result ≡ Rattle.express_rules.specs.Counting.holder_number holder }
+{
+    match holder {
+        RuleHolder::Entity(number) => number,
+        RuleHolder::Type(number) => number,
+    }
+}
+
+/// Adds what a rule says of the instance of a name.
+fn add_outcome<'s>(
+    setting: &Setting<'s, '_, '_, '_, '_, '_>,
+    report: &mut RuleReport<'s>,
+    name: u64,
+    rule: &DomainRule<'s, '_>,
+    outcome: Logical,
+) -> Result<(), AllocError>
+    requires numbered { IsNumbered (schema_in setting.now) rule.now }
+    ensures { OnOk result (Counts (broken_by (schema_in setting.now) name rule.now outcome)
+        (length (open_by (schema_in setting.now) rule.now outcome)) report.old report.new) }
+{
+    match outcome {
+        Logical::False => {
+            let rule = setting
+                .extents
+                .label(holder_number(rule.holder), rule.label);
+            report.findings.push(RuleFinding {
+                kind: RuleFindingKind::WhereFalse,
+                instance: name,
+                rule,
+            })?;
+            Ok(())
+        }
+        Logical::Unknown => {
+            report.unknown = report.unknown.saturating_add(1);
+            Ok(())
+        }
+        Logical::True => Ok(()),
+    }
+}
+
+/// An instance, and the rules that are tried there.
+#[derive(Drop)]
+struct Tried<'n> {
+    pub row: usize,
+    pub name: u64,
+    /// The numbers of the rules.
+    pub numbers: &'n [usize],
+    /// The numbers of the defined types of its values.
+    pub types: &'n [u32],
+}
+
+/// Adds what rules say at an instance.
+fn add_instance<'p, 'e, 'r, 't, 's: 'r, 'a>(
+    alloc: Global,
+    asked: &Asked<'s, 't, 'r, 'a, 'e, 'p>,
+    report: &mut RuleReport<'s>,
+    plan: &Plan<'s, 't, '_>,
+    tried: &Tried<'_>,
+) -> Result<(), AllocError>
+    requires setting { IsSetting asked.now.setting.now }
+    requires limit { IsLimit asked.now.setting.now.formulas.now asked.now.limit }
+    requires plan { IsPlan asked.now.setting.now plan.now }
+    requires row { tried.now.row < length (population_in asked.now.setting.now) }
+    requires within { Every (λ n. n < length plan.now.rules.now) tried.now.numbers.now }
+    ensures { OnOk result ((m : Meant asked.now.setting.now) → (x : Instance)
+        → slice_get (population_in asked.now.setting.now) tried.now.row ≡ Some x
+        → tried.now.name ≡ x.name
+        → TellAll asked.now.setting.now m x tried.now.types.now plan.now.rules.now
+        → Counts (broken_at asked.now.setting.now m x plan.now.rules.now tried.now.numbers.now)
+        (length (open_at asked.now.setting.now m x plan.now.rules.now tried.now.numbers.now))
+        report.old report.new) }
+{
+    for number in tried.numbers {
+        let rule = &plan.rules[*number];
+        let table = table_at(&plan.tables, *number);
+        let outcome = outcome(
+            alloc,
+            asked,
+            tried.row,
+            tried.name,
+            rule,
+            table,
+            tried.types,
+        )?;
+        add_outcome(asked.setting, report, tried.name, rule, outcome)?;
+    }
+    Ok(())
+}
+
+/// What rules say at all instances.
+fn planned_report<'p, 'e, 'r, 't, 's: 'r, 'a>(
+    alloc: Global,
+    asked: &Asked<'s, 't, 'r, 'a, 'e, 'p>,
+    plan: &Plan<'s, 't, '_>,
+) -> Result<RuleReport<'s>, AllocError>
+    requires setting { IsSetting asked.now.setting.now }
+    requires limit { IsLimit asked.now.setting.now.formulas.now asked.now.limit }
+    requires plan { IsPlan asked.now.setting.now plan.now }
+    ensures { IfOk result (λ r. (m : Meant asked.now.setting.now) → Has
+        (flat_map (broken_in asked.now.setting.now m plan.now.rules.now)
+        (population_in asked.now.setting.now))
+        (length (flat_map (open_in asked.now.setting.now m plan.now.rules.now)
+        (population_in asked.now.setting.now))) r) }
+{
+    let population = asked.setting.extents.population;
+    let mut report = RuleReport {
+        findings: Vec::new(alloc),
+        unknown: 0,
+    };
+    for row in 0..population.len() {
+        let instance = population.instance(row);
+        let numbers = row_at(&plan.rows, instance.form);
+        let types = types_at(alloc, asked.setting, plan, row)?;
+        let tried = Tried {
+            row,
+            name: instance.name,
+            numbers,
+            types: &types,
+        };
+        add_instance(alloc, asked, &mut report, plan, &tried)?;
+    }
+    Ok(report)
+}
+
+/// The instances at which domain rules are FALSE, by instance in the order of the file, then by rule
+/// in the order of the text; and how many pairs of an instance and a rule are UNKNOWN
+/// (ISO 10303-11, 9.1 and 9.2.2.2).
+///
+/// An error says that memory ran out.
+pub fn check_rules<'p, 'e, 'r, 't, 's: 'r, 'a>(
+    alloc: Global,
+    setting: &'p Setting<'s, 't, 'r, 'a, 'e, 'p>,
+    rules: &[DomainRule<'s, 't>],
+) -> Result<RuleReport<'s>, AllocError>
+    requires setting { IsSetting setting.now }
+    requires numbered { Every (IsNumbered (schema_in setting.now)) rules.now }
+    ensures findings { IfOk result (λ r. (m : Meant setting.entry.now) → AreFindingsOf WhereFalse
+        (rule_findings (schema_in setting.entry.now) m.domain m.entities m.attributes
+        (population_in setting.entry.now) (map (rule_seen (schema_in setting.entry.now)) rules.now))
+        r.findings.items) }
+    ensures unknown { IfOk result (λ r. (m : Meant setting.entry.now) → r.unknown
+        ≡ capped (unknown (schema_in setting.entry.now) m.domain m.entities m.attributes
+        (population_in setting.entry.now)
+        (map (rule_seen (schema_in setting.entry.now)) rules.now))) }
+{
+    if rules.is_empty() {
+        return Ok(empty_report(alloc));
+    }
+    let limit = rank_limit(setting.formulas);
+    let asked = Asked { setting, limit };
+    let plan = plan_of(alloc, setting, rules)?;
+    let report = planned_report(alloc, &asked, &plan)?;
+    Ok(report)
+}

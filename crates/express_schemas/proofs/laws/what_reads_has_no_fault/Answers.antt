@@ -1,5 +1,0 @@
-use Rattle.express_schemas.proofs.FirstFault.{reads_no_fault}
-use Rattle.express_schemas.proofs.laws.what_reads_has_no_fault.Goals as goal
-
-pub returns : goal.returns
-returns c = reads_no_fault

@@ -1,5 +1,0 @@
-use Rattle.express_trees.proofs.Capitals.{keywords_are_spelt}
-use Rattle.express_trees.proofs.laws.a_found_keyword_is_spelt_so.Goals as goal
-
-pub returns : goal.returns
-returns c = keywords_are_spelt

@@ -1,5 +1,0 @@
-use Rattle.express_trees.proofs.Unique.{one_tree_at_most}
-use Rattle.express_trees.proofs.laws.an_expression_is_one_tree.Goals as goal
-
-pub returns : goal.returns
-returns c = one_tree_at_most

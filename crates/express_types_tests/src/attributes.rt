@@ -1,0 +1,132 @@
+//! Where attributes are declared, and the ranks of those that are derived.
+
+ghost use Rattle.digraph.specs.Graphs.{graph_of};
+ghost use Rattle.express_syntax.specs.SchemaViews.{schema_of};
+ghost use Rattle.schema_semantics.specs.Faults.{IsResolved};
+ghost use Rattle.schema_names.specs.Edges.{IsGraphOf, supertypes_in};
+ghost use Rattle.schema_places.specs.Lines.{HaveLines};
+
+use crate::questions::{Case, Question, Text, wrong_case};
+use crate::rows::expect_none;
+use express_types::graph::TypeGraph;
+use schema_names::graphs::supertype_graph;
+use schema_names::names::Names;
+use schema_places::lines::lines;
+use schema_places::origins::{inverted, origin};
+use std::alloc::Global;
+use step_literals::literal::Word;
+
+const CHAIN: &'static [u8] = b"SCHEMA s;
+    ENTITY a; x : REAL; DERIVE p : REAL := x; END_ENTITY;
+    ENTITY b SUBTYPE OF (a);
+    DERIVE q : REAL := NVL(p, r); r : REAL := SELF.p; SELF\\a.x : REAL := 1.0; t : REAL := t;
+    u : REAL := NVL(q, t); END_ENTITY;
+    END_SCHEMA;";
+
+// b and c are below a, and d below both; each declares a w.
+const DIAMOND: &'static [u8] = b"SCHEMA s;
+    ENTITY d SUBTYPE OF (b, c); END_ENTITY;
+    ENTITY c SUBTYPE OF (a); w : REAL; END_ENTITY;
+    ENTITY b SUBTYPE OF (a); DERIVE w : REAL := 1.0; END_ENTITY;
+    ENTITY a; w : REAL; z : REAL; END_ENTITY;
+    END_SCHEMA;";
+
+const CASES: &'static [Case] = &[
+    // Ranks fall along uses. The x of a may be the one that b redeclares.
+    (Text::Whole(CHAIN), Question::Rank(b"b", b"x", Some(0))),
+    (Text::Whole(CHAIN), Question::Rank(b"a", b"p", Some(1))),
+    (Text::Whole(CHAIN), Question::Rank(b"b", b"r", Some(2))),
+    (Text::Whole(CHAIN), Question::Rank(b"b", b"q", Some(3))),
+    // An explicit one, one that a supertype derives, one that uses itself, and one that uses that.
+    (Text::Whole(CHAIN), Question::Rank(b"a", b"x", None)),
+    (Text::Whole(CHAIN), Question::Rank(b"b", b"p", None)),
+    (Text::Whole(CHAIN), Question::Rank(b"b", b"t", None)),
+    (Text::Whole(CHAIN), Question::Rank(b"b", b"u", None)),
+    // The first in line declares what is meant; what is inverted is explicit.
+    (
+        Text::Whole(DIAMOND),
+        Question::Origins(b"d", b"w", Some(2), Some(3)),
+    ),
+    (
+        Text::Whole(DIAMOND),
+        Question::Origins(b"c", b"w", Some(1), Some(1)),
+    ),
+    (
+        Text::Whole(DIAMOND),
+        Question::Origins(b"d", b"z", Some(3), Some(3)),
+    ),
+    (
+        Text::Whole(DIAMOND),
+        Question::Origins(b"d", b"y", None, None),
+    ),
+];
+
+/// Whether an attribute of an entity that is there has this rank.
+pub(crate) fn has_rank(
+    graph: &TypeGraph<'_, '_>,
+    entity: &[u8],
+    attribute: &[u8],
+    wanted: Option<u32>,
+) -> bool {
+    let (Ok(entity), Ok(attribute)) = (Word::read(entity), Word::read(attribute)) else {
+        return false;
+    };
+    let Some(number) = graph.find(entity) else {
+        return false;
+    };
+    if (number as usize) >= graph.types.names.len() {
+        return false;
+    }
+    graph.rank(number, attribute) == wanted
+}
+
+// Whether the entity is there, and the answers are the ones that are wanted.
+fn are_origins(names: &Names<'_, '_>, lines: &[Vec<u32>], question: Question) -> bool
+    requires { HaveLines (schema_of names.now.schema.now) (graph_of lines.now) }
+{
+    let Question::Origins(entity, attribute, declared, explicit) = question else {
+        return false;
+    };
+    let (Ok(entity), Ok(attribute)) = (Word::read(entity), Word::read(attribute)) else {
+        return false;
+    };
+    let Some(number) = names.find(entity) else {
+        return false;
+    };
+    if (number as usize) >= lines.len() {
+        return false;
+    }
+    origin(names, lines, number, attribute) == declared
+        && inverted(names, lines, number, attribute) == explicit
+}
+
+fn has_lines(
+    alloc: Global,
+    names: &Names<'_, '_>,
+    supertypes: &[Vec<u32>],
+    question: Question,
+) -> bool
+    requires resolved { IsResolved (schema_of names.now.schema.now) }
+    requires graph { IsGraphOf (schema_of names.now.schema.now) supertypes_in
+        (graph_of supertypes.now) }
+{
+    let Ok(lines) = lines(alloc, names, supertypes) else {
+        return false;
+    };
+    are_origins(names, &lines, question)
+}
+
+/// Whether attributes of a schema have these origins.
+pub(crate) fn has_origins(alloc: Global, names: &Names<'_, '_>, question: Question) -> bool
+    requires { IsResolved (schema_of names.now.schema.now) }
+{
+    let Ok(supertypes) = supertype_graph(alloc, names) else {
+        return false;
+    };
+    has_lines(alloc, names, &supertypes, question)
+}
+
+#[test]
+fn attributes_are_declared_and_derived(rt: HostRuntime) {
+    expect_none(&rt, wrong_case(&rt, rt.alloc(), CASES));
+}

@@ -1,5 +1,0 @@
-pub mod Agreeing
-pub mod Adding
-pub mod Finding
-pub mod Walking
-pub mod Choosing

@@ -1,8 +1,0 @@
-use Rattle.std.proofs.Common.{sym, ◌∙◌}
-use Rattle.expression_sets.specs.Scopes.{schema_around}
-use Rattle.expression_sets.proofs.meanings.meaning_of.Goals as goal
-
-pub returns-else-taken : goal.returns-else-taken
-returns-else-taken c =
-    c.item_meaning.ensures (c.in_default.ensures (schema_around c.args.scope.now))
-    (λ p m. let e = sym (c.in_ok-taken.ensures.some.1 (p, m)) ∙ c.if-taken.false in absurd (cc))

@@ -1,3 +1,0 @@
-pub mod Scopes
-pub mod Paths
-pub mod Meanings

@@ -1,0 +1,4 @@
+pub mod Reads
+pub mod Faults
+pub mod Lines
+pub mod Stores

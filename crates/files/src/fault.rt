@@ -1,0 +1,184 @@
+//! Why a command ends before it is done, and the line that says so.
+
+ghost use Rattle.std.specs.Prelude.{◌≡◌, false, decimal, is_err};
+ghost use Rattle.devices.specs.Emits.{Emits};
+ghost use Rattle.devices.specs.Prints.{Prints};
+ghost use Rattle.files.specs.Faults.{read_fault, text_fault, write_fault};
+ghost use Rattle.files.specs.Lines.{count_text, fault_text, is_counted, line_of, role_text};
+ghost use Rattle.files.specs.declared.fault.Fault.TheVariants.{Device, Text};
+
+use crate::read::ReadFault;
+use devices::device::{Sink, WriteFault};
+use devices::printer::Printer;
+use step_structures::fault::{FaultKind, LeftOut, TextFault};
+
+/// The most bytes that a file has.
+pub const LIMIT: u64 = 1 << 40;
+
+/// What a file is to a command.
+#[derive(Clone, Copy, Debug, PartialEq, Eq)]
+pub enum Role {
+    /// The schema that is read.
+    Schema,
+    /// The file that is read.
+    File,
+    /// The file that is written, or the output.
+    Output,
+    /// The certificate.
+    Certificate,
+}
+
+impl Role {
+    /// The word for it.
+    pub fn name(self) -> &'static str
+        ensures { result.now ≡ role_text self }
+    {
+        match self {
+            Role::Schema => "schema",
+            Role::File => "file",
+            Role::Output => "output",
+            Role::Certificate => "certificate",
+        }
+    }
+
+    // Whether the line of a fault tells how many bytes went out.
+    fn is_counted(self) -> bool
+        ensures { result ≡ is_counted self }
+    {
+        match self {
+            Role::Schema => false,
+            Role::File => false,
+            Role::Output => true,
+            Role::Certificate => true,
+        }
+    }
+}
+
+/// Why a command ends before it is done.
+#[derive(Clone, Copy, Debug, PartialEq, Eq)]
+pub enum Fault {
+    /// The text of a file isn't read: the fault that shows first, and the number of bytes before
+    /// it.
+    Text {
+        role: Role,
+        kind: FaultKind,
+        place: u64,
+    },
+    /// A file can't be opened, made, read or written: how many bytes of a text went out to it, as
+    /// far as 2^64 - 1.
+    Device {
+        role: Role,
+        written: u64,
+    },
+    /// Memory ran out.
+    Memory,
+}
+
+impl Fault {
+    /// The fault where a source of this role wasn't read to its end.
+    pub fn of_read(role: Role, fault: ReadFault) -> Fault
+        ensures { result ≡ read_fault role fault }
+    {
+        match fault {
+            ReadFault::Device => Fault::Device { role, written: 0 },
+            ReadFault::TooLarge => Fault::Text {
+                role,
+                kind: FaultKind::LeftOut(LeftOut::TooLarge),
+                place: LIMIT,
+            },
+            ReadFault::Memory => Fault::Memory,
+        }
+    }
+
+    /// The fault where the text of a file of this role isn't read.
+    pub fn of_text(role: Role, fault: TextFault) -> Fault
+        ensures { result ≡ text_fault role fault }
+    {
+        match fault {
+            TextFault::Memory => Fault::Memory,
+            TextFault::Fault { kind, place } => Fault::Text { role, kind, place },
+        }
+    }
+
+    /// The fault where a file of this role isn't written.
+    pub fn of_write(role: Role, fault: WriteFault) -> Fault
+        ensures { result ≡ write_fault role fault }
+    {
+        Fault::Device {
+            role,
+            written: fault.written,
+        }
+    }
+}
+
+// A number.
+fn print_number<S: Sink>(printer: &mut Printer, out: &mut S, number: u64)
+    ensures { Prints S.held S.has_failed out.old out.new printer.old printer.new (decimal number) }
+{
+    let mut digits = itoa::Buffer::new();
+    printer.print(out, digits.format(number).as_bytes());
+}
+
+// What a text fault says.
+fn print_text_fault<S: Sink>(
+    printer: &mut Printer,
+    out: &mut S,
+    role: Role,
+    kind: FaultKind,
+    place: u64,
+)
+    ensures { Prints S.held S.has_failed out.old out.new printer.old printer.new
+        (fault_text (Text role kind place)) }
+{
+    printer.print(out, role.name().as_bytes());
+    printer.print(out, b": ");
+    printer.print(out, kind.name().as_bytes());
+    printer.print(out, b" at byte ");
+    print_number(printer, out, place);
+}
+
+// How many bytes went out, where that is told.
+fn print_count<S: Sink>(printer: &mut Printer, out: &mut S, role: Role, written: u64)
+    ensures { Prints S.held S.has_failed out.old out.new printer.old printer.new
+        (count_text role written) }
+{
+    if role.is_counted() {
+        printer.print(out, b" after ");
+        print_number(printer, out, written);
+        printer.print(out, b" bytes");
+    }
+}
+
+// What a device's fault says.
+fn print_device_fault<S: Sink>(printer: &mut Printer, out: &mut S, role: Role, written: u64)
+    ensures { Prints S.held S.has_failed out.old out.new printer.old printer.new
+        (fault_text (Device role written)) }
+{
+    printer.print(out, b"device: ");
+    printer.print(out, role.name().as_bytes());
+    print_count(printer, out, role, written);
+}
+
+// What the fault says.
+fn print_fault<S: Sink>(printer: &mut Printer, out: &mut S, fault: Fault)
+    ensures { Prints S.held S.has_failed out.old out.new printer.old printer.new
+        (fault_text fault) }
+{
+    match fault {
+        Fault::Text { role, kind, place } => print_text_fault(printer, out, role, kind, place),
+        Fault::Device { role, written } => print_device_fault(printer, out, role, written),
+        Fault::Memory => printer.print(out, b"memory"),
+    }
+}
+
+/// Prints the line of the fault. `WriteFault` comes where the sink fails; a front of the line went
+/// out then.
+pub fn print_line<S: Sink>(out: &mut S, fault: Fault) -> Result<(), WriteFault>
+    ensures emits { Emits (S.held out.old) (S.held out.new) (line_of fault) result }
+    ensures failed { S.has_failed out.old ≡ false → S.has_failed out.new ≡ is_err result }
+{
+    let mut printer = Printer::new();
+    print_fault(&mut printer, out, fault);
+    printer.print_byte(out, b'\n');
+    printer.finish(out)
+}

@@ -1,0 +1,7 @@
+//! The files of a command: what each is to it, a source read to its end, where files lie by their paths,
+//! and why a command ends before it is done, with the line that says so.
+#![tactic(auto)]
+
+pub mod fault;
+pub mod read;
+pub mod store;

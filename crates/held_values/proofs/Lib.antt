@@ -1,7 +1,0 @@
-pub mod Elements
-pub mod Indexed
-pub mod Naming
-pub mod Items
-pub mod Tabled
-pub mod Worth
-mod Examples

@@ -1,6 +1,0 @@
-pub mod Named
-pub mod Coded
-pub mod Parts
-pub mod Tables
-pub mod Indices
-pub mod Laws

@@ -1,6 +1,0 @@
-use Rattle.std.proofs.Common.{◌≡◌, ◌++◌, drop}
-use Rattle.instance_forms.specs.Marked.{numbers_from, numbers}
-use Rattle.instance_forms.proofs.marking.marked_numbers.Given as goal
-
-abbrev pub invariant-loop-i : goal.invariant-loop-i
-invariant-loop-i l = l.row.items ++ numbers_from l.i (drop l.i l.marks) ≡ numbers l.marks

@@ -1,5 +1,0 @@
-pub mod Marked
-pub mod Knowing
-pub mod Slots
-pub mod Making
-pub mod Forms

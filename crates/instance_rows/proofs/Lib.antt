@@ -1,4 +1,0 @@
-pub mod Naming
-pub mod Records
-pub mod Makings
-pub mod Placing

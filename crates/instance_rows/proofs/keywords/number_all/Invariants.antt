@@ -1,9 +1,0 @@
-use Rattle.std.proofs.Common.{take, map, true}
-use Rattle.express_schemas.specs.SchemaViews.{schema_of}
-use Rattle.step_exchange.specs.Views.{record_in}
-use Rattle.instance_rows.specs.Keywords.{NumberAll}
-use Rattle.instance_rows.proofs.keywords.number_all.Given as goal
-
-abbrev pub invariant-loop-i : goal.invariant-loop-i
-invariant-loop-i l =
-    NumberAll (schema_of l.names.schema.now) (map record_in (take l.i l.partials)) l.entities.items true

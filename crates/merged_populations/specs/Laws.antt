@@ -1,0 +1,55 @@
+-- The laws of merged files.
+use Rattle.std.specs.Prelude.{◌≡◌, ◌≤◌, ℕ, Bool, List, length}
+use Rattle.step_structures.specs.Trees.{File, rows_of}
+use Rattle.step_structures.specs.Fits.{the_rules, FitsFile}
+use Rattle.step_structures.specs.Normal.{normal_file}
+use Rattle.merged_texts.specs.Merged.{merged_file}
+use Rattle.step_equal.specs.Rows.{Row, names, IsPopulation, BagsArePinned}
+use Rattle.step_equal.specs.Keeping.{IsValueEquality, IsCongruence}
+use Rattle.step_equal.specs.Images.{IsImage, head_of, quotient}
+use Rattle.conformance.specs.PlainRows.{AreRowsOf}
+use Rattle.express_syntax.specs.Schemas.{Schema}
+use Rattle.schema_semantics.specs.Names.{Name}
+use Rattle.conformance.specs.Bases.{Domain}
+use Rattle.conformance.specs.Entities.{Entities}
+use Rattle.conformance.specs.Populations.{population_of}
+use Rattle.conformance.specs.Said.{Said, instances, FileConforms}
+use Rattle.merged_populations.specs.Pinned.{ArePins}
+use Rattle.merged_populations.specs.Led.{merged_instances, merged_rows}
+
+-- The population of a merged file is the merged population, and its rows are the merged rows.
+abbrev pub MergedPopulationsAreLed : Type 0
+MergedPopulationsAreLed = (s : Schema) (d : Domain) (en : Entities) (h : ℕ → ℕ) (f : File)
+    → (population_of s d en (normal_file (merged_file h f)) ≡ merged_instances h (population_of s d en f))
+    × ((P : List Row) → AreRowsOf s (population_of s d en f) P
+    → AreRowsOf s (population_of s d en (normal_file (merged_file h f))) (merged_rows h P))
+
+-- the file that is merged by a test
+abbrev pub merged_by : List Row → (ℕ → ℕ → Bool) → File → File
+merged_by P F f = normal_file (merged_file (head_of (names P) F) f)
+
+-- P are the rows of the instances of a file that is read, of which nothing is wrong
+pub record AreRowsOfFile (s : Schema) (said : Said s) (f : File) (P : List Row) : Type 0 where
+  pub fits : FitsFile the_rules f
+  pub rows : AreRowsOf s (instances s said f) P
+  pub population : IsPopulation P
+  pub conforms : FileConforms s said f
+
+-- Where a file is merged by a congruence under gentle pins, nothing is wrong with the merged file, its rows are those of
+-- the quotient, and the quotient is an image.
+abbrev pub MergedFilesConform : Type 0
+MergedFilesConform = (s : Schema) (said : Said s) (chosen : List Name) (f : File) (P : List Row) (pinned : ℕ → Bool)
+    (F : ℕ → ℕ → Bool) → AreRowsOfFile s said f P → ArePins s said chosen (instances s said f) P pinned
+    → IsCongruence P pinned F
+    → FileConforms s said (merged_by P F f)
+    × AreRowsOf s (instances s said (merged_by P F f)) (quotient P F)
+    × IsImage P (quotient P F) (head_of (names P) F) pinned × IsPopulation (quotient P F)
+
+-- References in bags are pinned; so where it is merged by value equality, no image has fewer instances.
+abbrev pub MergedFilesAreLeast : Type 0
+MergedFilesAreLeast = (s : Schema) (said : Said s) (chosen : List Name) (f : File) (P : List Row) (pinned : ℕ → Bool)
+    (F : ℕ → ℕ → Bool) → AreRowsOfFile s said f P → ArePins s said chosen (instances s said f) P pinned
+    → IsValueEquality P pinned F
+    → BagsArePinned P pinned
+    × (length (rows_of (merged_by P F f).sections) ≡ length (quotient P F))
+    × ((Q : List Row) (h : ℕ → ℕ) → IsImage P Q h pinned → length (rows_of (merged_by P F f).sections) ≤ length Q)

@@ -1,2 +1,0 @@
-pub mod Having
-pub mod Owning

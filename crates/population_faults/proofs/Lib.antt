@@ -1,0 +1,10 @@
+pub mod Naming
+pub mod Records
+pub mod Makings
+pub mod Placing
+pub mod Miscounts
+pub mod Misfitting
+pub mod InTurn
+pub mod Spelling
+pub mod Targeting
+pub mod Heading

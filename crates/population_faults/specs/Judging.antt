@@ -1,0 +1,120 @@
+-- What the parameters of a file are judged by.
+use Rattle.std.specs.Prelude.{◌≡◌, ℕ, ◌==◌, ◌&&◌, Bool, cond, ◌++◌, List, [], ◌∷◌, Option, None, Some, drop, flat_map}
+use Rattle.express_syntax.specs.Schemas.{Schema}
+use Rattle.schema_semantics.specs.Names.{Name}
+use Rattle.schema_semantics.specs.Attributes.{Place}
+use Rattle.step_structures.specs.Trees.{Trees, Row}
+use Rattle.step_structures.specs.Trees as trees
+use Rattle.conformance.specs.declared.finding.Finding.{Finding}
+use Rattle.conformance.specs.Bases.{Domain, IsDomain}
+use Rattle.conformance.specs.Entities.{Entities, AreEntities, joined, records, parameters, types_of, places_of, abstract_leaves, missing_supertypes, broken_one_ofs, wrong_counts}
+use Rattle.conformance.specs.Fitting.{Target}
+use Rattle.conformance.specs.Findings.{whole, or_next, misfits_from, row_findings}
+use Rattle.conformance.specs.declared.finding.FindingKind.TheVariants.{AbstractInstance, MissingSupertype, OneOfBroken, ParameterCount, SchemaName}
+use Rattle.conformance.specs.declared.finding.Spot.TheVariants.{Nothing}
+use Rattle.schema_bases.specs.Seen.{schema_at}
+use Rattle.schema_bases.specs.Tables.{AreBases}
+use Rattle.population_fits.specs.Targets.{AreTargets, target_of}
+use Rattle.population_rows.specs.declared.form.SlotForm.{SlotForm}
+use Rattle.population_rows.specs.declared.form.Form.{Form}
+use Rattle.population_layouts.specs.Forms.{AreSlotsOf, IsFormOf}
+use Rattle.population_faults.specs.SchemaNames.{names_the_schema}
+use Rattle.population_faults.specs.Rows.{HasTypes, HaveForms}
+use Rattle.population_faults.specs.declared.judge.Judge.{Judge}
+use Rattle.population_rows.specs.declared.rows.Rows.{Rows}
+
+-- the schema by which is judged
+abbrev pub schema_by : Judge → Schema
+schema_by j = schema_at j.bases
+
+-- what references lead to
+abbrev pub target_by : Judge → ℕ → Target
+target_by j = target_of (schema_by j) j.targets
+
+abbrev pub IsJudge : Judge → Type 0
+IsJudge j = AreBases j.bases × AreTargets (schema_by j) j.targets
+
+-- the functions of the schema
+abbrev pub AreOf : Judge → Domain → Entities → Type 0
+AreOf j d en = IsDomain (schema_by j) d × AreEntities (schema_by j) en
+
+-- Those of the parameters xs behind so many attributes, and then of any others, are what is told and what is left.
+abbrev pub TellsBetween : Judge → ℕ → List SlotForm → ℕ → Trees → List Finding → ℕ → Trees → List Finding → Type 0
+TellsBetween j name slots from xs old to left new =
+    (d : Domain) (en : Entities) → AreOf j d en → (types : List Name) (ps : List Place)
+    → AreSlotsOf (schema_by j) en types ps slots → (ys : Trees)
+    → new ++ misfits_from (schema_by j) d en (target_by j) name to types (drop to ps) (joined left ys)
+    ≡ old ++ misfits_from (schema_by j) d en (target_by j) name from types (drop from ps) (joined xs ys)
+
+-- .. of a record's, of which none are left
+abbrev pub TellsRecord : Judge → ℕ → List SlotForm → ℕ → Trees → List Finding → List Finding → ℕ → Type 0
+TellsRecord j name slots from xs old new to = TellsBetween j name slots from xs old to trees.none new
+
+-- .. of an instance's
+abbrev pub TellsUpTo : Judge → ℕ → List SlotForm → Trees → List Finding → ℕ → Trees → List Finding → Type 0
+TellsUpTo j name slots xs old to left new =
+    (d : Domain) (en : Entities) → AreOf j d en → (types : List Name) (ps : List Place)
+    → AreSlotsOf (schema_by j) en types ps slots
+    → new ++ misfits_from (schema_by j) d en (target_by j) name to types (drop to ps) left
+    ≡ old ++ misfits_from (schema_by j) d en (target_by j) name 0 types ps xs
+
+-- an instance has a form where all its keywords are entities
+abbrev pub IsOfForm : Schema → Entities → Option Form → trees.Form → Type 0
+IsOfForm s en None f = HasTypes s f → ⊥
+IsOfForm s en (Some x) f = HasTypes s f × IsFormOf s en f x
+
+-- The findings of an instance's parameters are told.
+abbrev pub TellsAll : Judge → ℕ → List SlotForm → Trees → List Finding → List Finding → Type 0
+TellsAll j name slots xs old new =
+    (d : Domain) (en : Entities) → AreOf j d en → (types : List Name) (ps : List Place)
+    → AreSlotsOf (schema_by j) en types ps slots
+    → new ≡ old ++ misfits_from (schema_by j) d en (target_by j) name 0 types ps xs
+
+-- a schema asks nothing of the types that they don't have
+abbrev pub is_sound : Form → Bool
+is_sound x = x.abstract_leaves == 0 && x.missing_supertypes == 0 && x.broken_one_ofs == 0
+
+abbrev pub types_told : ℕ → ℕ → ℕ → ℕ → List Finding
+types_told name leaves missing broken =
+    whole name AbstractInstance leaves ++ whole name MissingSupertype missing ++ whole name OneOfBroken broken
+
+abbrev pub TellsTypes : ℕ → Form → List Finding → List Finding → Type 0
+TellsTypes name x old new = new ≡ old ++ types_told name x.abstract_leaves x.missing_supertypes x.broken_one_ofs
+
+-- the findings of an instance of which all keywords are entities
+abbrev pub behind : Judge → Domain → Entities → Row → List Finding
+behind j d en r =
+    let types = types_of (schema_by j) en r.form in
+    or_next (types_told r.name (abstract_leaves (schema_by j) en types) (missing_supertypes (schema_by j) en types)
+    (broken_one_ofs (schema_by j) en types))
+    (or_next (whole r.name ParameterCount (wrong_counts (schema_by j) en r.form))
+    (misfits_from (schema_by j) d en (target_by j) r.name 0 types (places_of (schema_by j) en r.form)
+    (parameters (records r.form))))
+
+abbrev pub TellsBehind : Judge → Form → Row → List Finding → List Finding → Type 0
+TellsBehind j x r old new =
+    (d : Domain) (en : Entities) → AreOf j d en → IsFormOf (schema_by j) en r.form x → new ≡ old ++ behind j d en r
+
+-- The findings of an instance are told; its form is that of the row.
+abbrev pub TellsForm : Judge → Option Form → Row → List Finding → List Finding → Type 0
+TellsForm j x r old new =
+    (d : Domain) (en : Entities) → AreOf j d en → IsOfForm (schema_by j) en x r.form
+    → new ≡ old ++ row_findings (schema_by j) d en (target_by j) r
+
+-- .. of each
+abbrev pub TellsRows : Judge → Rows → List Row → List Finding → List Finding → Type 0
+TellsRows j t rs old new =
+    (d : Domain) (en : Entities) → AreOf j d en → HaveForms (schema_by j) en t rs t.form_of.items
+    → new ≡ old ++ flat_map (row_findings (schema_by j) d en (target_by j)) rs
+
+-- .. where some are left
+abbrev pub TellsRowsTo : Judge → Rows → List Row → List Finding → List Row → List Finding → Type 0
+TellsRowsTo j t rs old left new =
+    (d : Domain) (en : Entities) → AreOf j d en → HaveForms (schema_by j) en t rs t.form_of.items
+    → new ++ flat_map (row_findings (schema_by j) d en (target_by j)) left
+    ≡ old ++ flat_map (row_findings (schema_by j) d en (target_by j)) rs
+
+-- that of the schema's name
+abbrev pub schema_told : Name → trees.File → List Finding
+schema_told n f =
+    cond (names_the_schema n f) [] (record { kind = SchemaName; instance = 0; spot = Nothing } ∷ [])

@@ -1,0 +1,174 @@
+//! The forms of the instances of a file, each made once.
+
+ghost use Rattle.std.specs.Prelude.{◌≡◌, ℕ, List, [], ◌∷◌, Some, None, slice_set, IfOk};
+ghost use Rattle.express_syntax.specs.Schemas.{Schema};
+ghost use Rattle.step_structures.specs.Trees.{Record};
+ghost use Rattle.step_exchange.specs.Views.{form_of};
+ghost use Rattle.population_layouts.specs.Forms.{NameEntities};
+ghost use Rattle.population_layouts.specs.Knowing.{AreKnown, schema_in};
+ghost use Rattle.population_faults.specs.Making.{
+  AreMade,
+  Adds,
+  MakesOne,
+  MakesForm,
+  IsInternal,
+  IsExternal,
+  number_in,
+};
+
+use crate::keywords::{Recent, is_internal, number_all, recent_entity_of};
+use indexmap::IndexMap;
+use population_layouts::forms::{external_form, internal_form};
+use population_layouts::knowledge::Knowledge;
+use population_rows::form::Form;
+use std::alloc::{AllocError, Global};
+use std::hash::RandomState;
+use step_records::param::Params;
+
+/// So many forms have numbers of 32 bits.
+const MOST_FORMS: usize = 4_294_967_295;
+
+/// The forms that were made so far.
+#[derive(Drop)]
+pub struct Made {
+    /// By declaration, the number of the form of instances that are mapped internally, by one
+    /// record of that entity; none where it isn't made yet.
+    internal: Vec<Option<u32>>,
+    /// By the entities of their records, the number of the form of instances that are mapped
+    /// externally.
+    external: IndexMap<Vec<u32>, u32, RandomState>,
+    pub forms: Vec<Form>,
+    /// By form, the numbers of the types of its instances.
+    pub types: Vec<Vec<u32>>,
+}
+
+/// The number at a place; none where there is no such place.
+fn number_at(numbers: &[Option<u32>], place: u32) -> Option<u32>
+    ensures { result ≡ number_in numbers.now place }
+{
+    match numbers.get(place as usize) {
+        Some(number) => *number,
+        None => None,
+    }
+}
+
+/// Puts a number at a place, where there is such a place.
+fn put_number(numbers: &mut [Option<u32>], place: u32, number: u32)
+    ensures { numbers.new ≡ slice_set numbers.old place (Some number) }
+{
+    let place = place as usize;
+    if place < numbers.len() {
+        numbers[place] = Some(number);
+    }
+}
+
+/// As many places without a number.
+fn no_numbers(alloc: Global, places: usize) -> Result<Vec<Option<u32>>, AllocError>
+    ensures { IfOk result (λ v. (i : ℕ) → number_in v.items i ≡ None) }
+{
+    let mut numbers = Vec::with_capacity(alloc, places)?;
+    for _ in 0..places {
+        numbers.push(None)?;
+    }
+    Ok(numbers)
+}
+
+impl Made {
+    /// No forms, of the entities among so many declarations.
+    pub fn new(alloc: Global, keys: RandomState, declarations: usize) -> Result<Made, AllocError>
+        ensures { IfOk result (λ t. (s : Schema) → AreMade s t) }
+    {
+        Ok(Made {
+            internal: no_numbers(alloc, declarations)?,
+            external: IndexMap::with_hasher(alloc, keys),
+            forms: Vec::new(alloc),
+            types: Vec::new(alloc),
+        })
+    }
+
+    /// One more form, and its number.
+    fn add(&mut self, alloc: Global, form: Form) -> Result<u32, AllocError>
+        ensures { IfOk result (Adds self.old form self.new) }
+    {
+        if self.forms.len() >= MOST_FORMS {
+            return Err(AllocError);
+        }
+        let number = self.forms.len() as u32;
+        self.types.push(Vec::from_slice(alloc, &form.types)?)?;
+        self.forms.push(form)?;
+        Ok(number)
+    }
+
+    /// The number of the form of instances that are mapped internally, by one record of this
+    /// entity.
+    fn internal(
+        &mut self,
+        alloc: Global,
+        known: &Knowledge<'_, '_, '_>,
+        entity: u32,
+    ) -> Result<u32, AllocError>
+        requires known { AreKnown known.now }
+        requires made { AreMade (schema_in known.now) self.old }
+        requires named { (r : Record) × NameEntities (schema_in known.now) (r ∷ []) (entity ∷ []) }
+        ensures { IfOk result (MakesOne (schema_in known.now)
+            (IsInternal (schema_in known.now) entity) self.old self.new) }
+    {
+        if let Some(number) = number_at(&self.internal, entity) {
+            return Ok(number);
+        }
+        let number = self.add(alloc, internal_form(alloc, known, entity)?)?;
+        put_number(&mut self.internal, entity, number);
+        Ok(number)
+    }
+
+    /// The number of the form of instances that are mapped externally, by records of these
+    /// entities. They stand in a `Vec`, as the keys of the table do.
+    fn external(
+        &mut self,
+        alloc: Global,
+        known: &Knowledge<'_, '_, '_>,
+        entities: &Vec<u32>,
+    ) -> Result<u32, AllocError>
+        requires known { AreKnown known.now }
+        requires made { AreMade (schema_in known.now) self.old }
+        requires named { (rs : List Record)
+            × NameEntities (schema_in known.now) rs entities.now.items }
+        ensures { IfOk result (MakesOne (schema_in known.now)
+            (IsExternal (schema_in known.now) entities.now.items) self.old self.new) }
+    {
+        if let Some(number) = self.external.get(entities) {
+            return Ok(*number);
+        }
+        let number = self.add(alloc, external_form(alloc, known, entities)?)?;
+        self.external
+            .insert(Vec::from_slice(alloc, entities)?, number)?;
+        Ok(number)
+    }
+
+    /// The number of the form of an instance; none where a keyword is no entity. The entities of
+    /// partial records are put in place of these numbers.
+    pub fn form(
+        &mut self,
+        alloc: Global,
+        known: &Knowledge<'_, '_, '_>,
+        recent: &mut Recent,
+        entities: &mut Vec<u32>,
+        parts: &Params<'_>,
+    ) -> Result<Option<u32>, AllocError>
+        requires known { AreKnown known.now }
+        requires made { AreMade (schema_in known.now) self.old }
+        ensures { IfOk result (MakesForm (schema_in known.now) (form_of parts.now)
+            self.old self.new) }
+    {
+        if is_internal(parts) {
+            let Some(entity) = recent_entity_of(known.names, recent, parts) else {
+                return Ok(None);
+            };
+            return Ok(Some(self.internal(alloc, known, entity)?));
+        }
+        if !number_all(known.names, recent, entities, parts)? {
+            return Ok(None);
+        }
+        Ok(Some(self.external(alloc, known, entities)?))
+    }
+}

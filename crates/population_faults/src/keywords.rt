@@ -1,0 +1,204 @@
+//! The entities that the records of an instance name.
+
+ghost use Rattle.std.specs.Prelude.{◌≡◌, ◌≤◌, [], ◌∷◌, Some, map, IfOk, IsTrue};
+ghost use Rattle.express_syntax.specs.SchemaViews.{schema_of};
+ghost use Rattle.express_syntax.specs.ExpressionViews.{capitals};
+ghost use Rattle.schema_semantics.specs.Faults.{IsResolved};
+ghost use Rattle.step_exchange.specs.Views.{record_of, record_in, begins_with_keyword, form_of};
+ghost use Rattle.conformance.specs.Entities.{named_entity, records};
+ghost use Rattle.population_faults.specs.Keywords.{BeginsWith, IsEntityOf, NumberAll, unknown_among};
+
+use express_syntax::tree::Declaration;
+use schema_names::names::Names;
+use std::alloc::{AllocError, Global};
+use step_literals::literal::Word;
+use step_records::param::{Node, Params};
+
+/// How many entities are remembered.
+const REMEMBERED: usize = 256;
+
+/// Entities that keywords named, by a few letters of these. A file names few entities, so a keyword
+/// is mostly compared with the name of one, and not hashed.
+#[derive(Drop)]
+pub struct Recent {
+    entities: Vec<u32>,
+}
+
+impl Recent {
+    /// None that is told by a keyword yet.
+    pub fn new(alloc: Global) -> Result<Recent, AllocError> {
+        Ok(Recent {
+            entities: vec![in alloc; 0; REMEMBERED]?,
+        })
+    }
+
+    /// Where the entity of a keyword stands.
+    fn place(name: &[u8]) -> usize {
+        let (Some(first), Some(last)) = (name.first(), name.last()) else {
+            return 0;
+        };
+        let letters = (*first as usize)
+            .wrapping_mul(31)
+            .wrapping_add(*last as usize);
+        letters.wrapping_mul(7).wrapping_add(name.len()) % REMEMBERED
+    }
+
+    /// Remembers an entity.
+    fn note(&mut self, place: usize, entity: u32) {
+        if let Some(noted) = self.entities.get_mut(place) {
+            *noted = entity;
+        }
+    }
+}
+
+/// The keyword that stands first.
+fn keyword<'t>(parts: &Params<'t>) -> Option<Word<'t>>
+    ensures { BeginsWith parts.now result }
+{
+    let Some(first) = parts.item(0) else {
+        return None;
+    };
+    match first.node() {
+        Node::Keyword(word) => Some(word),
+        _ => None,
+    }
+}
+
+/// Whether an instance is mapped internally: a keyword stands first.
+pub fn is_internal(parts: &Params<'_>) -> bool
+    ensures { result ≡ begins_with_keyword parts.now }
+{
+    keyword(parts).is_some()
+}
+
+/// The number of the entity of this name; none where no entity has it.
+fn find_entity(names: &Names<'_, '_>, name: Word<'_>) -> Option<u32>
+    requires { IsResolved (schema_of names.now.schema.now) }
+    ensures { IsEntityOf (schema_of names.now.schema.now) (capitals name.entry) result }
+{
+    let Some(number) = names.find(name) else {
+        return None;
+    };
+    match names.declaration(number) {
+        Declaration::Entity(_) => Some(number),
+        _ => None,
+    }
+}
+
+/// Whether the declaration of a number is an entity of this name.
+fn is_entity_at(names: &Names<'_, '_>, number: u32, name: Word<'_>) -> bool
+    requires { IsResolved (schema_of names.now.schema.now) }
+    ensures { IsTrue result
+        → IsEntityOf (schema_of names.now.schema.now) (capitals name.entry) (Some number) }
+{
+    match names.at(number) {
+        Some(Declaration::Entity(entity)) => entity.name == name,
+        _ => false,
+    }
+}
+
+/// The number of the entity of this name, which is remembered; none where no entity has it.
+fn find_recent(names: &Names<'_, '_>, recent: &mut Recent, name: Word<'_>) -> Option<u32>
+    requires { IsResolved (schema_of names.now.schema.now) }
+    ensures { IsEntityOf (schema_of names.now.schema.now) (capitals name.entry) result }
+{
+    let place = Recent::place(name.spelling());
+    if let Some(entity) = recent.entities.get(place).copied() {
+        if is_entity_at(names, entity, name) {
+            return Some(entity);
+        }
+    }
+    let Some(entity) = find_entity(names, name) else {
+        return None;
+    };
+    recent.note(place, entity);
+    Some(entity)
+}
+
+/// The number of the entity that a record names, which is remembered; none where its keyword is no
+/// entity.
+pub fn recent_entity_of(
+    names: &Names<'_, '_>,
+    recent: &mut Recent,
+    record: &Params<'_>,
+) -> Option<u32>
+    requires { IsResolved (schema_of names.now.schema.now) }
+    ensures { IsEntityOf (schema_of names.now.schema.now)
+        (named_entity (record_of record.now)) result }
+{
+    match keyword(record) {
+        Some(word) => find_recent(names, recent, word),
+        None => None,
+    }
+}
+
+/// The number of the entity that a record names; none where its keyword is no entity.
+fn entity_of(names: &Names<'_, '_>, record: &Params<'_>) -> Option<u32>
+    requires { IsResolved (schema_of names.now.schema.now) }
+    ensures { IsEntityOf (schema_of names.now.schema.now)
+        (named_entity (record_of record.now)) result }
+{
+    match keyword(record) {
+        Some(word) => find_entity(names, word),
+        None => None,
+    }
+}
+
+/// Puts the numbers of the entities that partial records name in place of these numbers, up to
+/// the first keyword that is no entity, and tells whether there is none such.
+pub fn number_all(
+    names: &Names<'_, '_>,
+    recent: &mut Recent,
+    entities: &mut Vec<u32>,
+    partials: &Params<'_>,
+) -> Result<bool, AllocError>
+    requires { IsResolved (schema_of names.now.schema.now) }
+    ensures { IfOk result (NumberAll (schema_of names.now.schema.now) (map record_in partials.now)
+        entities.new.items) }
+{
+    entities.clear();
+    for i in 0..partials.len() {
+        let Some(entity) = recent_entity_of(names, recent, &partials.at(i).parts()) else {
+            return Ok(false);
+        };
+        entities.push(entity)?;
+    }
+    Ok(true)
+}
+
+/// 1 for a record that names no entity.
+fn unknown_entity(names: &Names<'_, '_>, record: &Params<'_>) -> usize
+    requires { IsResolved (schema_of names.now.schema.now) }
+    ensures counted { result ≡ unknown_among (schema_of names.now.schema.now)
+        (record_of record.now ∷ []) }
+    ensures few { result ≤ 1 }
+{
+    match entity_of(names, record) {
+        Some(_) => 0,
+        None => 1,
+    }
+}
+
+/// How many partial records name no entity.
+fn unknown_partials(names: &Names<'_, '_>, partials: &Params<'_>) -> usize
+    requires { IsResolved (schema_of names.now.schema.now) }
+    ensures { result ≡ unknown_among (schema_of names.now.schema.now) (map record_in partials.now) }
+{
+    let mut unknown: usize = 0;
+    for i in 0..partials.len() {
+        unknown += unknown_entity(names, &partials.at(i).parts());
+    }
+    unknown
+}
+
+/// How many records of an instance name no entity.
+pub fn unknown_entities(names: &Names<'_, '_>, parts: &Params<'_>) -> usize
+    requires { IsResolved (schema_of names.now.schema.now) }
+    ensures { result ≡ unknown_among (schema_of names.now.schema.now)
+        (records (form_of parts.now)) }
+{
+    if !is_internal(parts) {
+        return unknown_partials(names, parts);
+    }
+    unknown_entity(names, parts)
+}

@@ -1,0 +1,74 @@
+//! What is known of the instances of a file.
+
+ghost use Rattle.std.specs.Prelude.{IfOk};
+ghost use Rattle.conformance.specs.Entities.{Entities, AreEntities};
+ghost use Rattle.population_layouts.specs.Knowing.{AreKnown, schema_in};
+ghost use Rattle.population_faults.specs.Rows.{AreRowsOf, rows_in};
+ghost use Rattle.population_faults.specs.Making.{AreMade, MakeForms};
+
+use crate::forms::Made;
+use crate::keywords::Recent;
+use population_layouts::knowledge::Knowledge;
+use population_rows::index::RowIndex;
+use population_rows::rows::Rows;
+use std::alloc::{AllocError, Global};
+use std::hash::RandomState;
+use step_exchange::structure::Exchange;
+use step_records::param::Params;
+
+/// So many instances have rows of 32 bits; no file that is read has more.
+const MOST_ROWS: usize = 4_294_967_295;
+
+/// The numbers of the forms of these instances, in order.
+fn forms_of(
+    known: &Knowledge<'_, '_, '_>,
+    made: &mut Made,
+    alloc: Global,
+    instances: &Params<'_>,
+) -> Result<Vec<Option<u32>>, AllocError>
+    requires known { AreKnown known.now }
+    requires made { AreMade (schema_in known.now) made.old }
+    ensures { IfOk result (λ v. MakeForms (schema_in known.now) instances.now made.new v.items) }
+{
+    let mut form_of = Vec::with_capacity(alloc, instances.len())?;
+    let mut recent = Recent::new(alloc)?;
+    let mut entities = Vec::new(alloc);
+    for i in 0..instances.len() {
+        form_of.push(made.form(
+            alloc,
+            known,
+            &mut recent,
+            &mut entities,
+            &instances.at(i).parts(),
+        )?)?;
+    }
+    Ok(form_of)
+}
+
+/// The instances of a file. Names and keywords are hashed by these keys.
+pub fn rows_of(
+    alloc: Global,
+    keys: RandomState,
+    known: &Knowledge<'_, '_, '_>,
+    exchange: &Exchange<'_>,
+) -> Result<Rows, AllocError>
+    requires known { AreKnown known.now }
+    ensures { IfOk result (λ t. (en : Entities) → AreEntities (schema_in known.now) en
+        → AreRowsOf (schema_in known.now) en (rows_in exchange.now) t) }
+{
+    let names = exchange.names.as_slice();
+    if names.len() > MOST_ROWS {
+        return Err(AllocError);
+    }
+    let index = RowIndex::of(alloc, keys, names)?;
+    let (_, instances) = exchange.trees.trees().split(exchange.header_len);
+    let mut made = Made::new(alloc, keys, known.names.len())?;
+    let form_of = forms_of(known, &mut made, alloc, &instances)?;
+    let Made { forms, types, .. } = made;
+    Ok(Rows {
+        index,
+        form_of,
+        forms,
+        types,
+    })
+}

@@ -1,0 +1,33 @@
+use Rattle.std.proofs.Common.{◌≡◌, ◌≤◌, ◌+◌, length, take, subst, sym, arith}
+use Rattle.std.proofs.lemmas.List.{take_all}
+use Rattle.conformance.specs.Fitting.{values_as}
+use Rattle.schema_bases.specs.Seen.{base_seen, schema_at}
+use Rattle.step_records.specs.Cells.{all_of}
+use Rattle.step_records.proofs.Weights.{lighter}
+use Rattle.step_values.specs.ComputedForms.{AreNormal}
+use Rattle.population_fits.specs.Named.{each_by_name}
+use Rattle.population_fits.proofs.Forms.{form_next}
+use Rattle.population_fits.proofs.normals.+normals.Goals as goal
+
+pub normal_values-normal_value-requires : goal.normal_values-normal_value-requires
+normal_values-normal_value-requires t c =
+    let less = lighter c.args.params.now c.loop-i.i c.at.result c.at.ensures in
+    (omega (arith, less, c.decreases), (c.requires.bases, c.requires.numbered))
+
+pub normal_values-loop-i-preserved : goal.normal_values-loop-i-preserved
+normal_values-loop-i-preserved t c d h =
+    let s = schema_at c.args.bases.now in
+    let b = base_seen s c.args.base in
+    subst (AreNormal (each_by_name (values_as s d b (all_of (take (c.loop-i.i + 1) c.args.params.now)))))
+    (sym c.in_ok-push.ensures.items)
+    (form_next s d b c.args.params.now c.loop-i.i c.at.result c.at.ensures c.loop-i.forms.items
+    c.in_ok-normal_value.field-0 (c.loop-i.invariant d h) (c.in_ok-normal_value.ensures d h))
+
+pub normal_values-returns : goal.normal_values-returns
+normal_values-returns t c d h =
+    let s = schema_at c.args.bases.now in
+    let b = base_seen s c.args.base in
+    let over : length c.args.params.now ≤ c.loop-i.i = omega (arith, c.loop-i-test.false, c.len-i-end.ensures) in
+    let all : take c.loop-i.i c.args.params.now ≡ c.args.params.now = take_all c.loop-i.i c.args.params.now over in
+    subst (λ xs. AreNormal (each_by_name (values_as s d b (all_of xs))) c.loop-i.forms.items)
+    all (c.loop-i.invariant d h)

@@ -1,0 +1,117 @@
+use Rattle.std.proofs.Common.{◌∙◌, sym, ap, subst, arith}
+use Rattle.conformance.specs.Fitting.{or_this}
+use Rattle.step_records.specs.Params.{node_value}
+use Rattle.step_records.proofs.Weights.{weight, lighter}
+use Rattle.step_values.specs.Building.{Building}
+use Rattle.step_values.specs.Values.{sequence, bag}
+use Rattle.schema_bases.specs.Seen.{base_seen, schema_at}
+use Rattle.population_rows.specs.Index.{found}
+use Rattle.population_fits.specs.References.{AreFound, RefersWithin}
+use Rattle.population_fits.proofs.Pushed.{reached, bag_gathered, sequence_gathered, some_pending, or_itself, refers_at, pushed_next, typed_closed, list_closed}
+use Rattle.population_fits.proofs.values.+values.Goals as goal
+
+pub push_value-push_node-requires : goal.push_value-push_node-requires
+push_value-push_node-requires t c =
+    let w = ap weight c.node.ensures in (
+      omega (arith, c.decreases, w),
+      (
+        c.requires.bases,
+        (
+          c.requires.numbered,
+          (
+            c.requires.indexed,
+            subst (RefersWithin (found c.args.index.now)) (sym c.node.ensures) c.requires.within,
+          ),
+        ),
+      ),
+    )
+
+pub push_each-push_value-requires : goal.push_each-push_value-requires
+push_each-push_value-requires t c =
+    let less = lighter c.args.params.now c.loop-i.i c.at.result c.at.ensures in (
+      omega (arith, less, c.decreases),
+      (
+        c.requires.bases,
+        (
+          c.requires.numbered,
+          (
+            subst (λ names. AreFound names (found c.args.index.now)) (sym c.loop-i.invariant.names) c.requires.indexed,
+            refers_at (found c.args.index.now) c.args.params.now c.loop-i.i c.at.result c.at.ensures c.requires.within,
+          ),
+        ),
+      ),
+    )
+
+pub push_each-loop-i-preserved : goal.push_each-loop-i-preserved
+push_each-loop-i-preserved t c =
+    let some = c.requires.bases.1.exists in
+    record {
+      names = ap (λ (b : Building). b.names) (c.in_ok-push_value.ensures some.0 some.1) ∙ c.loop-i.invariant.names;
+      pushed = λ d h. pushed_next (schema_at c.args.bases.now) d (base_seen (schema_at c.args.bases.now) c.args.base.now)
+          c.args.builder.now c.loop-i.builder c.push_value.new.builder c.args.params.now c.loop-i.i c.at.result
+          c.at.ensures (c.loop-i.invariant.pushed d h) (c.in_ok-push_value.ensures d h);
+    }
+
+pub push_list-close_bag-requires : goal.push_list-close_bag-requires
+push_list-close_bag-requires t c =
+    let some = c.requires.bases.1.exists in
+    reached c.args.builder.now c.push_each.new.builder _ c.pending_len-mark.result
+    (c.in_ok-push_each.ensures some.0 some.1) c.pending_len-mark.ensures
+
+pub push_list-close_sequence-requires : goal.push_list-close_sequence-requires
+push_list-close_sequence-requires t c =
+    let some = c.requires.bases.1.exists in
+    reached c.args.builder.now c.push_each.new.builder _ c.pending_len-mark.result
+    (c.in_ok-push_each.ensures some.0 some.1) c.pending_len-mark.ensures
+
+pub push_list-returns-then-has_no_order : goal.push_list-returns-then-has_no_order
+push_list-returns-then-has_no_order t c =
+    let s = schema_at c.args.bases.now in
+    let some = c.requires.bases.1.exists in
+    list_closed s bag c.args.builder.now c.push_each.new.builder c.close_bag.new.self
+    c.pending_len-mark.result c.pending_len-mark.ensures (base_seen s c.args.base.now) (base_seen s c.element-inside.result)
+    c.args.params.now
+    (λ vs. bag_gathered (base_seen s c.args.base.now) vs (sym (c.has_no_order.ensures s) ∙ c.if-has_no_order.true))
+    some c.element-inside.ensures.says c.in_ok-push_each.ensures c.close_bag.result c.close_bag.ensures
+
+pub push_list-returns-else-has_no_order : goal.push_list-returns-else-has_no_order
+push_list-returns-else-has_no_order t c =
+    let s = schema_at c.args.bases.now in
+    let some = c.requires.bases.1.exists in
+    list_closed s sequence c.args.builder.now c.push_each.new.builder c.close_sequence.new.self
+    c.pending_len-mark.result c.pending_len-mark.ensures (base_seen s c.args.base.now) (base_seen s c.element-inside.result)
+    c.args.params.now
+    (λ vs. sequence_gathered (base_seen s c.args.base.now) vs (sym (c.has_no_order.ensures s) ∙ c.if-has_no_order.false))
+    some c.element-inside.ensures.says c.in_ok-push_each.ensures c.close_sequence.result c.close_sequence.ensures
+
+pub push_node-push_typed-requires : goal.push_node-push_typed-requires
+push_node-push_typed-requires t c =
+    let w = ap (λ n. weight (node_value n)) c.in-Typed.is in (
+      omega (arith, c.decreases, w),
+      (
+        c.requires.bases,
+        (
+          c.requires.numbered,
+          (
+            c.requires.indexed,
+            subst (λ n. RefersWithin (found c.args.index.now) (node_value n)) c.in-Typed.is c.requires.within,
+          ),
+        ),
+      ),
+    )
+
+pub push_typed-close_typed-requires : goal.push_typed-close_typed-requires
+push_typed-close_typed-requires t c =
+    let some = c.requires.bases.1.exists in
+    some_pending c.args.builder.now c.push_value.new.builder _ (c.in_ok-push_value.ensures some.0 some.1)
+
+pub push_typed-returns : goal.push_typed-returns
+push_typed-returns t c =
+    let s = schema_at c.args.bases.now in
+    let some = c.requires.bases.1.exists in
+    typed_closed s c.args.builder.now c.push_value.new.builder c.close_typed.new.self
+    (base_seen s c.args.base.now) (base_seen s c.unwrap_or-within.result) c.args.word.text.now c.args.inner.now some
+    (λ d h. ap (base_seen s) c.unwrap_or-within.ensures
+    ∙ or_itself s d (base_seen s) c.item.result c.args.base.now
+    ∙ ap (or_this s d (base_seen s c.args.base.now)) (c.item.ensures.says d h))
+    c.in_ok-push_value.ensures c.close_typed.result c.close_typed.ensures.names c.close_typed.ensures.typed

@@ -1,0 +1,198 @@
+//! Whether a parameter fits a data type.
+
+ghost use Rattle.std.specs.Prelude.{◌≡◌, ◌&&◌, cond, None, IfOk};
+ghost use Rattle.step_records.specs.Cells.{all_of};
+ghost use Rattle.step_records.specs.Params.{node_value};
+ghost use Rattle.step_structures.specs.Trees.{typed, group};
+ghost use Rattle.conformance.specs.Bases.{Domain, IsDomain};
+ghost use Rattle.conformance.specs.Fitting.{misfit, misfit_each, is_dollar};
+ghost use Rattle.schema_bases.specs.Seen.{base_seen, schema_at};
+ghost use Rattle.schema_bases.specs.Tables.{AreBases, IsNumbered};
+ghost use Rattle.population_fits.specs.Targets.{AreTargets, target_of};
+
+use crate::bounds::in_bounds;
+use crate::distinct::are_distinct;
+use crate::inside::item;
+use crate::leaves::{
+    misfit_binary, misfit_element, misfit_number, misfit_string, needs, other_kind,
+};
+use crate::targets::{Targets, misfit_reference};
+use conformance::finding::FindingKind;
+use schema_bases::base::Base;
+use schema_bases::lookup::Bases;
+use std::alloc::{AllocError, Global};
+use step_literals::literal::Word;
+use step_records::param::{Node, Param, Params};
+
+/// The finding of a parameter that has to fit a data type which asks this, at most one: that of the
+/// outermost part, or of the first element that has one.
+///
+/// `AllocError` comes where memory runs out, which only elements that have to be distinct take.
+#[cycle(fits)]
+pub fn misfit(
+    alloc: Global,
+    bases: &Bases<'_, '_, '_>,
+    targets: &Targets<'_>,
+    base: &Base,
+    param: &Param<'_>,
+) -> Result<Option<FindingKind>, AllocError>
+    requires bases { AreBases bases.now }
+    requires targets { AreTargets (schema_at bases.now) targets.now }
+    requires numbered { IsNumbered (schema_at bases.now) base.now }
+    ensures { IfOk result (λ f. (d : Domain) → IsDomain (schema_at bases.now) d
+        → f ≡ misfit (schema_at bases.now) d (target_of (schema_at bases.now) targets.now)
+        (base_seen (schema_at bases.now) base.now) param.now) }
+{
+    misfit_node(alloc, bases, targets, base, param.node())
+}
+
+/// The same of its outermost part, with what is inside it.
+#[cycle(fits)]
+fn misfit_node(
+    alloc: Global,
+    bases: &Bases<'_, '_, '_>,
+    targets: &Targets<'_>,
+    base: &Base,
+    node: Node<'_>,
+) -> Result<Option<FindingKind>, AllocError>
+    requires bases { AreBases bases.now }
+    requires targets { AreTargets (schema_at bases.now) targets.now }
+    requires numbered { IsNumbered (schema_at bases.now) base.now }
+    ensures { IfOk result (λ f. (d : Domain) → IsDomain (schema_at bases.now) d
+        → f ≡ misfit (schema_at bases.now) d (target_of (schema_at bases.now) targets.now)
+        (base_seen (schema_at bases.now) base.now) (node_value node.entry)) }
+{
+    match node {
+        Node::Unset => Ok(Some(FindingKind::MissingValue)),
+        Node::Star => Ok(Some(FindingKind::MisplacedStar)),
+        Node::Number(number) => Ok(misfit_number(*base, &number)),
+        Node::Text(text) => Ok(misfit_string(*base, &text)),
+        Node::Bits(bits) => Ok(misfit_binary(*base, &bits)),
+        Node::Element(word) => Ok(misfit_element(bases, *base, word)),
+        Node::Reference(name, _) => Ok(misfit_reference(bases, *base, targets.target(name))),
+        Node::Keyword(_) => Ok(Some(other_kind(*base))),
+        Node::Typed(word, inner) => misfit_typed(alloc, bases, targets, base, word, &inner),
+        Node::List(params) => misfit_list(alloc, bases, targets, base, &params),
+    }
+}
+
+/// The finding of a typed parameter, which has this keyword and this parameter inside.
+#[cycle(fits)]
+#[inline(never)]
+fn misfit_typed(
+    alloc: Global,
+    bases: &Bases<'_, '_, '_>,
+    targets: &Targets<'_>,
+    base: &Base,
+    word: Word<'_>,
+    inner: &Param<'_>,
+) -> Result<Option<FindingKind>, AllocError>
+    requires bases { AreBases bases.now }
+    requires targets { AreTargets (schema_at bases.now) targets.now }
+    requires numbered { IsNumbered (schema_at bases.now) base.now }
+    ensures { IfOk result (λ f. (d : Domain) → IsDomain (schema_at bases.now) d
+        → f ≡ misfit (schema_at bases.now) d (target_of (schema_at bases.now) targets.now)
+        (base_seen (schema_at bases.now) base.now) (typed word.entry.text.now inner.now)) }
+{
+    match item(bases, *base, word) {
+        None => Ok(Some(other_kind(*base))),
+        Some(within) => misfit(alloc, bases, targets, &within, inner),
+    }
+}
+
+/// The finding of a list.
+#[cycle(fits)]
+#[inline(never)]
+fn misfit_list(
+    alloc: Global,
+    bases: &Bases<'_, '_, '_>,
+    targets: &Targets<'_>,
+    base: &Base,
+    params: &Params<'_>,
+) -> Result<Option<FindingKind>, AllocError>
+    requires bases { AreBases bases.now }
+    requires targets { AreTargets (schema_at bases.now) targets.now }
+    requires numbered { IsNumbered (schema_at bases.now) base.now }
+    ensures { IfOk result (λ f. (d : Domain) → IsDomain (schema_at bases.now) d
+        → f ≡ misfit (schema_at bases.now) d (target_of (schema_at bases.now) targets.now)
+        (base_seen (schema_at bases.now) base.now) (group (all_of params.now))) }
+{
+    let Base::Aggregate(aggregate) = *base else {
+        return Ok(Some(other_kind(*base)));
+    };
+    if !in_bounds(aggregate, params.len()) {
+        return Ok(Some(FindingKind::OutOfBounds));
+    }
+    let element = bases.of_number(aggregate.element);
+    let found = misfit_each(
+        alloc,
+        bases,
+        targets,
+        aggregate.is_optional,
+        &element,
+        params,
+    )?;
+    if found.is_some() || !aggregate.is_unique {
+        return Ok(found);
+    }
+    let distinct = are_distinct(alloc, bases, element, params)?;
+    Ok(needs(distinct, FindingKind::NotDistinct))
+}
+
+/// The finding of the first element that has one.
+#[cycle(fits)]
+fn misfit_each(
+    alloc: Global,
+    bases: &Bases<'_, '_, '_>,
+    targets: &Targets<'_>,
+    is_optional: bool,
+    base: &Base,
+    params: &Params<'_>,
+) -> Result<Option<FindingKind>, AllocError>
+    requires bases { AreBases bases.now }
+    requires targets { AreTargets (schema_at bases.now) targets.now }
+    requires numbered { IsNumbered (schema_at bases.now) base.now }
+    ensures { IfOk result (λ f. (d : Domain) → IsDomain (schema_at bases.now) d
+        → f ≡ misfit_each (schema_at bases.now) d
+        (target_of (schema_at bases.now) targets.now)
+        is_optional (base_seen (schema_at bases.now) base.now) (all_of params.now)) }
+{
+    for i in 0..params.len() {
+        let found = misfit_one(alloc, bases, targets, is_optional, base, &params.at(i))?;
+        if found.is_some() {
+            return Ok(found);
+        }
+    }
+    Ok(None)
+}
+
+/// The finding of one element.
+#[cycle(fits)]
+fn misfit_one(
+    alloc: Global,
+    bases: &Bases<'_, '_, '_>,
+    targets: &Targets<'_>,
+    is_optional: bool,
+    base: &Base,
+    param: &Param<'_>,
+) -> Result<Option<FindingKind>, AllocError>
+    requires bases { AreBases bases.now }
+    requires targets { AreTargets (schema_at bases.now) targets.now }
+    requires numbered { IsNumbered (schema_at bases.now) base.now }
+    ensures { IfOk result (λ f. (d : Domain) → IsDomain (schema_at bases.now) d
+        → f ≡ cond (is_optional && is_dollar param.now) None
+        (misfit (schema_at bases.now) d (target_of (schema_at bases.now) targets.now)
+        (base_seen (schema_at bases.now) base.now) param.now)) }
+{
+    if is_optional && is_dollar(param) {
+        return Ok(None);
+    }
+    misfit(alloc, bases, targets, base, param)
+}
+
+/// Whether a parameter is `$`.
+fn is_dollar(param: &Param<'_>) -> bool
+    ensures { result ≡ is_dollar param.now }
+{
+    matches!(param.node(), Node::Unset)
+}

@@ -1,0 +1,154 @@
+//! Whether a parameter of one token fits a data type.
+
+ghost use Rattle.std.specs.Prelude.{◌≡◌, Some};
+ghost use Rattle.step_literals.specs.Words.{upper};
+ghost use Rattle.express_syntax.specs.Schemas.{Schema};
+ghost use Rattle.express_syntax.specs.Views.{names_of, underlying_of, declaration_of};
+ghost use Rattle.conformance.specs.Fitting.{
+  needs,
+  other_kind,
+  is_integer,
+  is_truth,
+  among,
+  misfit_number,
+  misfit_string,
+  misfit_binary,
+  misfit_element,
+};
+ghost use Rattle.schema_bases.specs.Seen.{
+  base_seen,
+  items_of,
+  items_in,
+  items_at,
+  schema_at,
+};
+
+use crate::bounds::{bits_have_width, text_has_width};
+use conformance::finding::FindingKind;
+use express_syntax::tree::{Declaration, Underlying};
+use schema_bases::base::Base;
+use schema_bases::lookup::Bases;
+use step_literals::literal::{Bits, Decimal, Text, Word};
+
+/// The finding where the test fails.
+pub fn needs(holds: bool, kind: FindingKind) -> Option<FindingKind>
+    ensures { result ≡ needs holds kind }
+{
+    if holds { None } else { Some(kind) }
+}
+
+/// The finding of another kind of value than a data type asks.
+pub fn other_kind(base: Base) -> FindingKind
+    ensures { (s : Schema) → result ≡ other_kind (base_seen s base) }
+{
+    match base {
+        Base::Select(_) => FindingKind::NoSelectItem,
+        _ => FindingKind::WrongKind,
+    }
+}
+
+/// Whether a number is spelt as an integer (ISO 10303-21, 6.4.1).
+fn is_integer(number: &Decimal<'_>) -> bool
+    ensures { result ≡ is_integer number.now.text.now }
+{
+    !number.spelling().contains(&b'.')
+}
+
+/// The finding of a number.
+pub fn misfit_number(base: Base, number: &Decimal<'_>) -> Option<FindingKind>
+    ensures { (s : Schema) → result ≡ misfit_number (base_seen s base) number.now.text.now }
+{
+    match base {
+        Base::Integer => needs(is_integer(number), FindingKind::WrongKind),
+        Base::Number => None,
+        _ => Some(other_kind(base)),
+    }
+}
+
+/// The finding of a string.
+pub fn misfit_string(base: Base, text: &Text<'_>) -> Option<FindingKind>
+    ensures { (s : Schema) → result ≡ misfit_string (base_seen s base) text.now.text.now }
+{
+    match base {
+        Base::String(None) => None,
+        Base::String(Some(width)) => needs(text_has_width(width, text), FindingKind::TooWide),
+        _ => Some(other_kind(base)),
+    }
+}
+
+/// The finding of a binary.
+pub fn misfit_binary(base: Base, bits: &Bits<'_>) -> Option<FindingKind>
+    ensures { (s : Schema) → result ≡ misfit_binary (base_seen s base) bits.now.text.now }
+{
+    match base {
+        Base::Binary(None) => None,
+        Base::Binary(Some(width)) => needs(bits_have_width(width, bits), FindingKind::TooWide),
+        _ => Some(other_kind(base)),
+    }
+}
+
+/// Whether an element is one of BOOLEAN or, with UNKNOWN, of LOGICAL (ISO 10303-21, 11.1).
+fn is_truth(with_unknown: bool, word: Word<'_>) -> bool
+    ensures { result ≡ is_truth with_unknown (upper word.entry.text.now) }
+{
+    let text = word.spelling();
+    text.eq_ignore_ascii_case(b"T")
+        || text.eq_ignore_ascii_case(b"F")
+        || (with_unknown && text.eq_ignore_ascii_case(b"U"))
+}
+
+/// The items of an enumeration; none of what is no enumeration.
+fn items_of<'d, 'a>(underlying: &'d Underlying<'a>) -> &'d [Word<'a>]
+    ensures { names_of result.now ≡ items_of (underlying_of underlying.now) }
+{
+    match underlying {
+        Underlying::Enumeration(items) => items,
+        Underlying::Select(_) | Underlying::DataType(_) => &[],
+    }
+}
+
+fn items_in<'d, 'a>(declaration: &'d Declaration<'a>) -> &'d [Word<'a>]
+    ensures { names_of result.now ≡ items_in (Some (declaration_of declaration.now)) }
+{
+    match declaration {
+        Declaration::Type(declared) => items_of(&declared.underlying),
+        _ => &[],
+    }
+}
+
+/// Whether a word is among some, whatever the case of their letters.
+fn is_among(word: Word<'_>, words: &[Word<'_>]) -> bool
+    ensures { result ≡ among (upper word.entry.text.now) (names_of words.now) }
+{
+    for other in words {
+        if word == *other {
+            return true;
+        }
+    }
+    false
+}
+
+/// Whether the enumeration that is declared at a number has an item.
+fn has_item(bases: &Bases<'_, '_, '_>, number: u32, word: Word<'_>) -> bool
+    ensures { result ≡ among (upper word.entry.text.now) (items_at (schema_at bases.now) number) }
+{
+    match bases.names.at(number) {
+        Some(declaration) => is_among(word, items_in(declaration)),
+        None => false,
+    }
+}
+
+/// The finding of an element of an enumeration.
+pub fn misfit_element(bases: &Bases<'_, '_, '_>, base: Base, word: Word<'_>) -> Option<FindingKind>
+    ensures { result ≡ misfit_element (base_seen (schema_at bases.now) base)
+        (upper word.entry.text.now) }
+{
+    match base {
+        Base::Boolean => needs(is_truth(false, word), FindingKind::UnknownElement),
+        Base::Logical => needs(is_truth(true, word), FindingKind::UnknownElement),
+        Base::Enumeration(number) => {
+            needs(has_item(bases, number, word), FindingKind::UnknownElement)
+        }
+        _ => Some(other_kind(base)),
+    }
+}

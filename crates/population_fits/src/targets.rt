@@ -1,0 +1,164 @@
+//! What references lead to.
+
+ghost use Rattle.std.specs.Prelude.{◌≡◌, Some, map, slice_get};
+ghost use Rattle.std.specs.List.{list_any};
+ghost use Rattle.std.specs.Str.{bytes_eq};
+ghost use Rattle.express_syntax.specs.Schemas.{Schema};
+ghost use Rattle.express_syntax.specs.Profile.{Every};
+ghost use Rattle.schema_semantics.specs.Names.{Name};
+ghost use Rattle.schema_names.specs.Numbers.{HasNumber};
+ghost use Rattle.conformance.specs.Bases.{Domain, IsDomain};
+ghost use Rattle.conformance.specs.Fitting.{misfit_target, misfit_reference};
+ghost use Rattle.conformance.specs.declared.finding.FindingKind.TheVariants.{
+  WrongEntity,
+  NoSelectItem,
+};
+ghost use Rattle.schema_bases.specs.Seen.{base_seen, name_at, schema_at};
+ghost use Rattle.schema_bases.specs.Tables.{AreBases, IsNumbered};
+ghost use Rattle.population_fits.specs.Targets.{
+  target_of,
+  of_row,
+  of_form,
+  AreTargets,
+};
+ghost use Rattle.population_fits.specs.Led.{target_seen, AreNumbered, IsLed};
+
+use crate::leaves::needs;
+use conformance::finding::FindingKind;
+use population_rows::index::RowIndex;
+use schema_bases::base::Base;
+use schema_bases::lookup::Bases;
+
+/// What is known of the instances of a file.
+#[derive(Clone, Copy)]
+pub struct Targets<'r> {
+    /// The row of each name.
+    pub index: &'r RowIndex,
+    /// By row, the number of its form; none for an instance of which a keyword is no entity.
+    pub forms: &'r [Option<u32>],
+    /// By form, the numbers of the types of its instances.
+    pub types: &'r [Vec<u32>],
+}
+
+/// What a reference leads to.
+#[derive(Clone, Copy)]
+pub enum Target<'r> {
+    /// Nothing.
+    Absent,
+    /// An instance of which a keyword is no entity.
+    Unknown,
+    /// An instance of the types of these numbers.
+    OfTypes(&'r [u32]),
+}
+
+impl<'r> Targets<'r> {
+    /// What the instances of a form are.
+    fn of_form(&self, form: u32) -> Target<'r>
+        ensures led { (s : Schema) → target_seen s result ≡ of_form s self.now (Some form) }
+        ensures numbered { (s : Schema) → AreTargets s self.now → IsLed s result }
+    {
+        match self.types.get(form as usize) {
+            Some(types) => Target::OfTypes(types),
+            None => Target::OfTypes(&[]),
+        }
+    }
+
+    /// What the instance of a row is.
+    fn of_row(&self, row: u32) -> Target<'r>
+        ensures led { (s : Schema)
+            → target_seen s result ≡ of_row s self.now (slice_get self.now.forms.now row) }
+        ensures numbered { (s : Schema) → AreTargets s self.now → IsLed s result }
+    {
+        match self.forms.get(row as usize).copied() {
+            Some(Some(form)) => self.of_form(form),
+            _ => Target::Unknown,
+        }
+    }
+
+    /// What the reference of a name leads to.
+    pub fn target(&self, name: u64) -> Target<'r>
+        ensures led { (s : Schema) → target_seen s result ≡ target_of s self.now name }
+        ensures numbered { (s : Schema) → AreTargets s self.now → IsLed s result }
+    {
+        match self.index.find(name) {
+            Some(row) => self.of_row(row),
+            None => Target::Absent,
+        }
+    }
+}
+
+/// Whether a number is among some.
+fn is_among(number: u32, numbers: &[u32]) -> bool
+    ensures { (s : Schema) → HasNumber s (name_at s number) number → AreNumbered s numbers.now
+        → result ≡ list_any (bytes_eq (name_at s number)) (map (name_at s) numbers.now) }
+{
+    numbers.contains(&number)
+}
+
+/// Whether a SELECT takes one of these entities.
+fn takes_one(bases: &Bases<'_, '_, '_>, number: u32, types: &[u32]) -> bool
+    requires bases { AreBases bases.now }
+    requires numbered { AreNumbered (schema_at bases.now) types.now }
+    ensures { (d : Domain) → IsDomain (schema_at bases.now) d → (m : Name)
+        → HasNumber (schema_at bases.now) m number
+        → result ≡ list_any (d.is_item m) (map (name_at (schema_at bases.now)) types.now) }
+{
+    for entity in types {
+        if bases.takes(number, *entity) {
+            return true;
+        }
+    }
+    false
+}
+
+/// The finding of a reference that has to be to an entity.
+fn misfit_entity(entity: u32, target: Target<'_>) -> Option<FindingKind>
+    ensures { (s : Schema) → HasNumber s (name_at s entity) entity → IsLed s target.entry
+        → result ≡ misfit_target (bytes_eq (name_at s entity)) WrongEntity
+        (target_seen s target.entry) }
+{
+    match target {
+        Target::Absent => Some(FindingKind::DanglingReference),
+        Target::Unknown => None,
+        Target::OfTypes(types) => needs(is_among(entity, types), FindingKind::WrongEntity),
+    }
+}
+
+/// The finding of a reference that stands for a SELECT.
+fn misfit_select(bases: &Bases<'_, '_, '_>, number: u32, target: Target<'_>) -> Option<FindingKind>
+    requires bases { AreBases bases.now }
+    requires led { IsLed (schema_at bases.now) target }
+    ensures { (d : Domain) → IsDomain (schema_at bases.now) d → (m : Name)
+        → HasNumber (schema_at bases.now) m number
+        → result ≡ misfit_target (d.is_item m) NoSelectItem
+        (target_seen (schema_at bases.now) target.entry) }
+{
+    match target {
+        Target::Absent => Some(FindingKind::DanglingReference),
+        Target::Unknown => None,
+        Target::OfTypes(types) => {
+            needs(takes_one(bases, number, types), FindingKind::NoSelectItem)
+        }
+    }
+}
+
+/// The finding of a reference, by what it leads to.
+pub fn misfit_reference(
+    bases: &Bases<'_, '_, '_>,
+    base: Base,
+    target: Target<'_>,
+) -> Option<FindingKind>
+    requires bases { AreBases bases.now }
+    requires numbered { IsNumbered (schema_at bases.now) base }
+    requires led { IsLed (schema_at bases.now) target }
+    ensures { (d : Domain) → IsDomain (schema_at bases.now) d
+        → result ≡ misfit_reference (schema_at bases.now) d
+        (base_seen (schema_at bases.now) base)
+        (target_seen (schema_at bases.now) target.entry) }
+{
+    match base {
+        Base::Entity(entity) => misfit_entity(entity, target),
+        Base::Select(number) => misfit_select(bases, number, target),
+        _ => Some(FindingKind::WrongKind),
+    }
+}

@@ -1,0 +1,38 @@
+-- What is known of the entities of a schema, by number.
+use Rattle.std.specs.Prelude.{◌≡◌, List, [], length, map, filter_map}
+use Rattle.digraph.specs.Graphs.{Graph, graph_of}
+use Rattle.express_syntax.specs.Schemas.{Schema, Declaration, type, entity, skipped}
+use Rattle.schema_semantics.specs.Names.{Name}
+use Rattle.express_syntax.specs.SchemaViews.{schema_of}
+use Rattle.schema_semantics.specs.Faults.{IsResolved}
+use Rattle.schema_places.specs.Above.{AreAbove}
+use Rattle.schema_names.specs.Numbers.{number_of}
+use Rattle.schema_places.specs.Places.{places_of, all_places, AreRows, HavePlaces}
+use Rattle.schema_uses.specs.Uses.{AreUses}
+use Rattle.conformance.specs.Entities.{one_of_in, one_ofs}
+use Rattle.population_layouts.specs.declared.knowledge.Knowledge.{Knowledge}
+
+abbrev pub schema_in : Knowledge → Schema
+schema_in k = schema_of k.names.now.schema.now
+
+-- the ONEOF of a declaration, where it has one
+abbrev pub one_ofs_in : Declaration → List (List Name)
+one_ofs_in (type t) = []
+one_ofs_in (entity e) = one_of_in e.supertype
+one_ofs_in (skipped p) = []
+
+-- the rows have the numbers of the operands of ONEOFs, of those that are declared
+abbrev pub AreOperands : Schema → Graph → Type 0
+AreOperands s rows = rows ≡ map (filter_map (number_of s)) (one_ofs s)
+
+-- The names are resolved, and the tables are those of the schema.
+pub record AreKnown (k : Knowledge) : Type 0 where
+  pub resolved : IsResolved (schema_in k)
+  pub above : AreAbove (schema_in k) (graph_of k.above.now)
+  pub above_each : length k.above.now ≡ length (schema_in k).declarations
+  pub attributes : places_of k.attributes.now ≡ all_places (schema_in k)
+  pub places : HavePlaces (schema_in k) (graph_of k.places.now)
+  pub places_each : length k.places.now ≡ length (schema_in k).declarations
+  pub own : AreRows (all_places (schema_in k)) (schema_in k).declarations (graph_of k.own.now)
+  pub uses : AreUses (schema_in k) k.uses.now
+  pub one_ofs : AreOperands (schema_in k) (graph_of k.one_ofs.now)

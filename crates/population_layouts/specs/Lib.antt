@@ -1,0 +1,6 @@
+pub mod Marked
+pub mod Knowing
+pub mod Slots
+pub mod Making
+pub mod Forms
+pub mod Tables

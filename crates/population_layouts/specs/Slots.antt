@@ -1,0 +1,19 @@
+-- What is asked of the value of an attribute, by numbers.
+use Rattle.std.specs.Prelude.{◌≡◌, ℕ, List, map, flat_map}
+use Rattle.std.specs.List.{list_all, list_any}
+use Rattle.digraph.specs.Graphs.{graph_of, has, next}
+use Rattle.schema_uses.specs.Uses.{of_place, uses_at}
+use Rattle.schema_uses.specs.declared.uses.AttributeUse.{AttributeUse}
+use Rattle.schema_uses.specs.declared.uses.Uses.{Uses}
+use Rattle.population_rows.specs.declared.form.SlotForm.{SlotForm}
+
+-- the declarations of the attribute of a place by these types
+abbrev pub uses_by : Uses → List ℕ → ℕ → List AttributeUse
+uses_by t types q = flat_map (λ i. of_place q (uses_at t i)) types
+
+-- It is what the rows say of a place.
+pub record IsSlotAt (t : Uses) (types : List ℕ) (q : ℕ) (x : SlotForm) : Type 0 where
+  pub place : x.place ≡ q
+  pub derived : x.is_derived ≡ list_any (λ i. has (next (graph_of t.derived.items) i) q) types
+  pub optional : x.is_optional ≡ list_all (λ (u : AttributeUse). u.is_optional) (uses_by t types q)
+  pub data_types : x.data_types.items ≡ map (λ (u : AttributeUse). u.data_type) (uses_by t types q)

@@ -1,0 +1,118 @@
+//! Making the form of an instance from the entities that its records name.
+
+ghost use Rattle.std.specs.Prelude.{◌≡◌, ◌∷◌, [], List, length, map, IfOk};
+ghost use Rattle.std.specs.List.{concat};
+ghost use Rattle.digraph.specs.Graphs.{graph_of, next};
+ghost use Rattle.step_structures.specs.Trees.{Record, internal, external};
+ghost use Rattle.conformance.specs.Entities.{Entities, AreEntities};
+ghost use Rattle.population_layouts.specs.Knowing.{AreKnown, schema_in};
+ghost use Rattle.population_layouts.specs.Forms.{IsFormOf, NameEntities};
+ghost use Rattle.population_layouts.specs.Making.{IsForm};
+
+use crate::counting::{abstract_leaves, rows_with_two, unmarked_ones};
+use crate::knowledge::Knowledge;
+use crate::marks::{marked_numbers, marks_above, marks_on, marks_on_kinds, row_at};
+pub use crate::operands::one_ofs;
+use crate::slots::slots;
+use population_rows::form::Form;
+use std::alloc::{AllocError, Global};
+
+/// The form of instances whose types are marked, and whose records have to have so many
+/// parameters, with values of the attributes of these places.
+fn form(
+    alloc: Global,
+    known: &Knowledge<'_, '_, '_>,
+    marks: &[bool],
+    counts: Vec<usize>,
+    places: &[u32],
+) -> Result<Form, AllocError>
+    requires { length marks.now ≡ length known.now.names.now.schema.now.declarations.items }
+    ensures { IfOk result (IsForm known.now marks.now counts.items places.now) }
+{
+    let types = marked_numbers(alloc, marks)?;
+    let above = marks_above(alloc, known, &types)?;
+    let supertypes = marked_numbers(alloc, &above)?;
+    let slots = slots(alloc, known.uses, &types, places)?;
+    Ok(Form {
+        abstract_leaves: abstract_leaves(known.names, &types, &above),
+        missing_supertypes: unmarked_ones(marks, &supertypes),
+        broken_one_ofs: rows_with_two(marks, known.one_ofs),
+        types,
+        counts,
+        slots,
+    })
+}
+
+/// The form of instances that are mapped internally, by one record of this entity
+/// (ISO 10303-21, 11.2.5.1).
+pub fn internal_form(
+    alloc: Global,
+    known: &Knowledge<'_, '_, '_>,
+    entity: u32,
+) -> Result<Form, AllocError>
+    requires known { AreKnown known.now }
+    ensures { IfOk result (λ f. (en : Entities) → AreEntities (schema_in known.now) en
+        → (r : Record) → NameEntities (schema_in known.now) (r ∷ []) (entity ∷ [])
+        → IsFormOf (schema_in known.now) en (internal r) f) }
+{
+    let marks = marks_on_kinds(alloc, known, entity)?;
+    let places = row_at(known.places, entity);
+    let counts = vec![in alloc; places.len()]?;
+    form(alloc, known, &marks, counts, places)
+}
+
+/// How many attributes each of these entities declares itself.
+fn own_counts(
+    alloc: Global,
+    known: &Knowledge<'_, '_, '_>,
+    entities: &[u32],
+) -> Result<Vec<usize>, AllocError>
+    ensures { IfOk result (λ counts. counts.items
+        ≡ map (λ i. length (next (graph_of known.now.own.now) i)) entities.now) }
+{
+    let mut counts = Vec::new(alloc);
+    for entity in entities {
+        counts.push(row_at(known.own, *entity).len())?;
+    }
+    Ok(counts)
+}
+
+/// The places of the attributes that each of these entities declares itself.
+fn own_places(
+    alloc: Global,
+    known: &Knowledge<'_, '_, '_>,
+    entities: &[u32],
+) -> Result<Vec<u32>, AllocError>
+    ensures { IfOk result (λ places. places.items
+        ≡ concat (map (next (graph_of known.now.own.now)) entities.now)) }
+{
+    let mut places = Vec::new(alloc);
+    for entity in entities {
+        places.extend_from_slice(row_at(known.own, *entity))?;
+    }
+    Ok(places)
+}
+
+/// The form of instances that are mapped externally, by records of these entities
+/// (ISO 10303-21, 11.2.5.3).
+pub fn external_form(
+    alloc: Global,
+    known: &Knowledge<'_, '_, '_>,
+    entities: &[u32],
+) -> Result<Form, AllocError>
+    requires known { AreKnown known.now }
+    ensures { IfOk result (λ f. (en : Entities) → AreEntities (schema_in known.now) en
+        → (rs : List Record) → NameEntities (schema_in known.now) rs entities.now
+        → IsFormOf (schema_in known.now) en (external rs) f) }
+{
+    let marks = marks_on(alloc, known, entities)?;
+    let counts = own_counts(alloc, known, entities)?;
+    let places = own_places(alloc, known, entities)?;
+    form(alloc, known, &marks, counts, &places)
+}
+
+/// There are functions that say what the entities of a schema say.
+pub fn entities_are_said(known: &Knowledge<'_, '_, '_>)
+    requires known { AreKnown known.now }
+    ensures { (en : Entities) × AreEntities (schema_in known.now) en }
+{}

@@ -1,0 +1,11 @@
+//! What a schema asks of the records of an instance, and of files, in tables that are made once (ISO
+//! 10303-11, 9.2; ISO 10303-21, 11.2).
+#![tactic(auto)]
+
+mod counting;
+pub mod forms;
+pub mod knowledge;
+mod marks;
+mod operands;
+mod slots;
+pub mod tables;

@@ -1,0 +1,73 @@
+//! The operands of ONEOFs, by number.
+
+ghost use Rattle.std.specs.Prelude.{◌≡◌, [], ◌++◌, map, filter_map, IfOk, OnOk};
+ghost use Rattle.std.specs.List.{cons_option};
+ghost use Rattle.digraph.specs.Graphs.{graph_of};
+ghost use Rattle.express_syntax.specs.SchemaViews.{schema_of};
+ghost use Rattle.express_syntax.specs.Views.{names_of, declaration_of as declaration_seen};
+ghost use Rattle.schema_names.specs.Numbers.{number_of};
+ghost use Rattle.population_layouts.specs.Knowing.{AreOperands, one_ofs_in};
+
+use express_syntax::tree::{Declaration, Supertype};
+use schema_names::names::Names;
+use std::alloc::{AllocError, Global};
+use step_literals::literal::Word;
+
+/// Adds a number, where there is one.
+fn add_number(row: &mut Vec<u32>, number: Option<u32>) -> Result<(), AllocError>
+    ensures { OnOk result (row.new.items ≡ row.old.items ++ cons_option number []) }
+{
+    if let Some(number) = number {
+        row.push(number)?;
+    }
+    Ok(())
+}
+
+/// The numbers of what these names stand for, in order.
+fn numbers_of<'a>(
+    alloc: Global,
+    names: &Names<'a, '_>,
+    words: &[Word<'a>],
+) -> Result<Vec<u32>, AllocError>
+    ensures { IfOk result (λ row. row.items
+        ≡ filter_map (number_of (schema_of names.now.schema.now)) (names_of words.now)) }
+{
+    let mut row = Vec::new(alloc);
+    for word in words {
+        add_number(&mut row, names.find(*word))?;
+    }
+    Ok(row)
+}
+
+/// Adds the operands of what a declaration says of its subtypes, where that is a ONEOF.
+fn add_operands<'a>(
+    alloc: Global,
+    names: &Names<'a, '_>,
+    declaration: &Declaration<'a>,
+    rows: &mut Vec<Vec<u32>>,
+) -> Result<(), AllocError>
+    ensures { OnOk result (graph_of rows.new.items ≡ graph_of rows.old.items
+        ++ map (filter_map (number_of (schema_of names.now.schema.now)))
+        (one_ofs_in (declaration_seen declaration.now))) }
+{
+    let Declaration::Entity(entity) = declaration else {
+        return Ok(());
+    };
+    if let Supertype::OfOneOf(words) = &entity.supertype {
+        rows.push(numbers_of(alloc, names, words)?)?;
+    }
+    Ok(())
+}
+
+/// The operands of each ONEOF of a schema that is checked, in the order of the text, by number
+/// (ISO 10303-11, 9.2.5).
+pub fn one_ofs(alloc: Global, names: &Names<'_, '_>) -> Result<Vec<Vec<u32>>, AllocError>
+    ensures { IfOk result (λ rows. AreOperands (schema_of names.now.schema.now)
+        (graph_of rows.items)) }
+{
+    let mut rows = Vec::new(alloc);
+    for declaration in names.declarations() {
+        add_operands(alloc, names, declaration, &mut rows)?;
+    }
+    Ok(rows)
+}

@@ -1,5 +1,0 @@
-use Rattle.population_rules.proofs.Keys.{no_finding_exactly_where_bounds_hold}
-use Rattle.population_rules.proofs.laws.no_finding_exactly_where_bounds_hold.Goals as goal
-
-pub returns : goal.returns
-returns c = no_finding_exactly_where_bounds_hold

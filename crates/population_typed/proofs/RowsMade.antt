@@ -1,0 +1,200 @@
+-- The rows of a population, by what they are made of.
+use Rattle.std.specs.Prelude.{◌≡◌, ℕ, zero, suc, ◌<◌, true, false, ◌||◌, List, [], ◌∷◌, length, map, flat_map, Option, None, Some, slice_get, ◌⊎◌}
+use Rattle.std.specs.List.{AllZip, list_any}
+use Rattle.std.specs.Str.{bytes_eq}
+use Rattle.std.proofs.Common.{refl, inl, inr, sym, ap, subst, ◌∙◌, arith}
+use Rattle.std.proofs.lemmas.Slice.Eq.{bytes_eq-Decides}
+use Rattle.express_syntax.specs.Schemas.{Schema}
+use Rattle.express_syntax.specs.SchemaViews.{schema_of}
+use Rattle.express_syntax.specs.Profile.{Every}
+use Rattle.schema_semantics.specs.Attributes.{Place}
+use Rattle.schema_places.specs.Places.{all_places}
+use Rattle.schema_places.proofs.Repeats.{AreOne}
+use Rattle.schema_bases.specs.Seen.{name_at}
+use Rattle.conformance.specs.Entities.{own_places_of}
+use Rattle.conformance.specs.Populations.{slot_at}
+use Rattle.population_rows.specs.declared.form.SlotForm.{SlotForm}
+use Rattle.population_rows.specs.declared.form.Form.{Form}
+use Rattle.step_values.specs.Values.{Values, none, more}
+use Rattle.step_values.specs.Views.{word_of}
+use Rattle.step_equal.specs.Rows.{Row}
+use Rattle.step_equal.specs.Settled.{AreInOrder, IsSettled}
+use Rattle.step_equal.specs.Views.{row_from, rows_from}
+use Rattle.step_equal.specs.declared.row.RowHead.{RowHead}
+use Rattle.population_typed.specs.Seen.{or_nowhere, place_at, slots_seen, instance_seen, instances_seen, section_numbers, population_seen}
+use Rattle.population_typed.specs.Whole.{form_among, ArePlaced}
+use Rattle.conformance.specs.PlainRows.{or_unset, values_at, IsRowOf, AreRowsOf}
+use Rattle.population_typed.specs.Ordering.{position_among, StandAt, IsOrder, AreOrders, picked_at, picked, order_among, row_picked, rows_picked, types_in, IsHead, AreHeads}
+use Rattle.population_typed.specs.declared.ordering.Order.{Order}
+use Rattle.population_typed.specs.declared.population.Population.{Population}
+use Rattle.population_typed.proofs.Found.{kept, value-at-number}
+use Rattle.conformance.proofs.Ordered.{same-order}
+
+within-all : {A : Type 0} (xs : List A) (i : ℕ) (x : A) → slice_get xs i ≡ Some x → i < length xs
+within-all [] i x e = absurd (cc)
+within-all (y ∷ xs) zero x e = omega arith
+within-all (y ∷ xs) (suc i) x e = let rest = within-all xs i x e in omega (arith, rest)
+
+-- a list with the items of none is empty
+same-as-none : (ts : List (List ℕ)) → ((w : List ℕ) → list_any (bytes_eq w) ts ≡ false) → ts ≡ []
+same-as-none [] h = refl
+same-as-none (t ∷ ts) h =
+    let itself : bytes_eq t t ≡ true = (bytes_eq-Decides t t).1 refl in
+    let here : list_any (bytes_eq t) (t ∷ ts) ≡ true = ap (λ b. b || list_any (bytes_eq t) ts) itself in
+    let none : list_any (bytes_eq t) (t ∷ ts) ≡ false = h t in
+    absurd (cc (here, none))
+
+-- what stands at one place of two lists that belong together
+zip-at : {A B : Type 0} (R : A → B → Type 0) (xs : List A) (ys : List B) → AllZip R xs ys → (n : ℕ)
+    → ((slice_get xs n ≡ None) × (slice_get ys n ≡ None))
+    ⊎ ((x : A) × (y : B) × (slice_get xs n ≡ Some x) × (slice_get ys n ≡ Some y) × R x y)
+zip-at R [] [] h n = inl (refl, refl)
+zip-at R [] (y ∷ ys) h n = absurd h
+zip-at R (x ∷ xs) [] h n = absurd h
+zip-at R (x ∷ xs) (y ∷ ys) h zero = inr (x, y, refl, refl, h.0)
+zip-at R (x ∷ xs) (y ∷ ys) h (suc n) = zip-at R xs ys h.1 n
+
+module _ (s : Schema) (one : AreOne (all_places s)) where
+  -- the values at positions are those of the places that stand there
+  picked-is : (xs : List SlotForm) (vs : Values) → Every (λ (y : SlotForm). y.place < length (all_places s)) xs
+      → (ps : List Place) (os : List (Option ℕ)) → StandAt s xs ps os
+      → picked vs os ≡ values_at (slots_seen s xs vs) ps
+  picked-is xs vs h [] [] z = refl
+  picked-is xs vs h [] (o ∷ os) z = absurd z
+  picked-is xs vs h (p ∷ ps) [] z = absurd z
+  picked-is xs vs h (p ∷ ps) (o ∷ os) z =
+      let at : slice_get (all_places s) z.0.0 ≡ Some p = z.0.1 in
+      let stands : o ≡ position_among xs z.0.0 = z.0.2 in
+      let place : place_at s z.0.0 ≡ p = ap or_nowhere at in
+      let lt = within-all (all_places s) z.0.0 p at in
+      let value : picked_at vs o ≡ slot_at (slots_seen s xs vs) p =
+      ap (picked_at vs) stands ∙ sym (value-at-number s one z.0.0 lt xs vs h)
+      ∙ ap (slot_at (slots_seen s xs vs)) place in
+      let rest = picked-is xs vs h ps os z.1 in
+      λ i. more (or_unset (value i)) (rest i)
+
+  module _ (forms : List Form) (orders : List Order) (all : AreOrders s forms orders) where
+    -- the form and the order of an instance
+    HasOrder : Option ℕ → Type 0
+    HasOrder o =
+        ((form_among forms o ≡ None) × (order_among orders o ≡ None))
+        ⊎ ((x : Form) × (y : Order) × (form_among forms o ≡ Some x) × (order_among orders o ≡ Some y) × IsOrder s x y)
+
+    has-order : (o : Option ℕ) → HasOrder o
+    unfolding HasOrder
+    has-order None = inl (refl, refl)
+    has-order (Some n) = zip-at (IsOrder s) forms orders all n
+
+    -- the row of an instance of no form
+    formless-row : (n k : ℕ) (vs : Values) (h : RowHead) (q : Row) → h.name ≡ n → h.section ≡ k
+        → map word_of h.types.items ≡ [] → IsSettled (row_from h none) q → IsRowOf s (instance_seen s n k None vs) q
+    formless-row n k vs h q name section types z =
+        let ordered = subst (λ ws. AreInOrder ws q.types) types z.types in
+        let empty = same-as-none q.types ordered.same in
+        record {
+          name = z.name ∙ name;
+          section = z.section ∙ section;
+          types = ordered;
+          values = z.values ∙ ap (λ ts. values_at [] (flat_map (own_places_of s) ts)) (sym empty);
+        }
+
+    -- .. of an instance of a form
+    formed-row : (n k : ℕ) (vs : Values) (x : Form) (y : Order) (h : RowHead) (q : Row) → h.name ≡ n → h.section ≡ k
+        → map word_of h.types.items ≡ map word_of y.types.items → ArePlaced s (Some x) → IsOrder s x y
+        → IsSettled (row_from h (picked vs y.positions.items)) q → IsRowOf s (instance_seen s n k (Some x) vs) q
+    formed-row n k vs x y h q name section types placed order z =
+        let ordered = subst (λ ws. AreInOrder ws q.types) types z.types in
+        let same = same-order (map word_of y.types.items) q.types order.types.in_order ordered.in_order
+        (λ w. sym (ordered.same w)) in
+        record {
+          name = z.name ∙ name;
+          section = z.section ∙ section;
+          types = subst (AreInOrder (map (name_at s) x.types.items)) same order.types;
+          values = z.values
+              ∙ picked-is x.slots.items vs placed (flat_map (own_places_of s) (map word_of y.types.items))
+              y.positions.items order.positions
+              ∙ ap (λ ts. values_at (slots_seen s x.slots.items vs) (flat_map (own_places_of s) ts)) same;
+        }
+
+    row-is : (n k : ℕ) (o : Option ℕ) (vs : Values) (h : RowHead) (q : Row) → IsHead orders k n o h
+        → ArePlaced s (form_among forms o) → IsSettled (row_from h (row_picked (order_among orders o) vs)) q
+        → IsRowOf s (instance_seen s n k (form_among forms o) vs) q
+    unfolding HasOrder
+    row-is n k o vs h q head placed z = by (has-order o)
+      where
+        by : HasOrder o → IsRowOf s (instance_seen s n k (form_among forms o) vs) q
+        by (inl neither) =
+            subst (λ f. IsRowOf s (instance_seen s n k f vs) q) (sym neither.0)
+            (formless-row n k vs h q head.name_is head.section_is (head.types_are ∙ ap types_in neither.1)
+            (subst (λ y. IsSettled (row_from h (row_picked y vs)) q) neither.1 z))
+        by (inr has) =
+            subst (λ f. IsRowOf s (instance_seen s n k f vs) q) (sym has.2)
+            (formed-row n k vs has.0 has.1 h q head.name_is head.section_is (head.types_are ∙ ap types_in has.3)
+            (subst (ArePlaced s) has.2 placed) has.4
+            (subst (λ y. IsSettled (row_from h (row_picked y vs)) q) has.3 z))
+
+    pub rows-are : (ns ks : List ℕ) (os : List (Option ℕ)) (vss : List Values) (hs : List RowHead) (qs : List Row)
+        → length vss ≡ length ns → AreHeads orders ks ns os hs
+        → Every (λ o. ArePlaced s (form_among forms o)) os
+        → AllZip IsSettled (rows_from hs (rows_picked orders os vss)) qs
+        → AreRowsOf s (instances_seen s forms ns ks os vss) qs
+    rows-are [] [] [] vss [] [] c heads placed z = tt
+    rows-are [] [] [] vss [] (q ∷ qs) c heads placed z = absurd z
+    rows-are [] [] [] vss (h ∷ hs) qs c heads placed z = absurd heads
+    rows-are [] [] (o ∷ os) vss hs qs c heads placed z = absurd heads
+    rows-are [] (k ∷ ks) os vss hs qs c heads placed z = absurd heads
+    rows-are (n ∷ ns) [] os vss hs qs c heads placed z = absurd heads
+    rows-are (n ∷ ns) (k ∷ ks) [] vss hs qs c heads placed z = absurd heads
+    rows-are (n ∷ ns) (k ∷ ks) (o ∷ os) vss [] qs c heads placed z = absurd heads
+    rows-are (n ∷ ns) (k ∷ ks) (o ∷ os) [] (h ∷ hs) qs c heads placed z = absurd (omega (arith, c))
+    rows-are (n ∷ ns) (k ∷ ks) (o ∷ os) (vs ∷ vss) (h ∷ hs) [] c heads placed z = absurd z
+    rows-are (n ∷ ns) (k ∷ ks) (o ∷ os) (vs ∷ vss) (h ∷ hs) (q ∷ qs) c heads placed z = (
+      row-is n k o vs h q heads.0 placed.0 z.0,
+      rows-are ns ks os vss hs qs (omega (arith, c)) heads.1 placed.1 z.1,
+    )
+
+-- what stands before rows names them, one by one
+pub heads-names : (orders : List Order) (ks ns : List ℕ) (os : List (Option ℕ)) (hs : List RowHead)
+    → AreHeads orders ks ns os hs → map (λ (h : RowHead). h.name) hs ≡ ns
+heads-names orders [] [] [] [] h = refl
+heads-names orders [] [] [] (x ∷ hs) h = absurd h
+heads-names orders [] [] (o ∷ os) hs h = absurd h
+heads-names orders [] (n ∷ ns) os hs h = absurd h
+heads-names orders (k ∷ ks) [] os hs h = absurd h
+heads-names orders (k ∷ ks) (n ∷ ns) [] hs h = absurd h
+heads-names orders (k ∷ ks) (n ∷ ns) (o ∷ os) [] h = absurd h
+heads-names orders (k ∷ ks) (n ∷ ns) (o ∷ os) (x ∷ hs) h =
+    let first = h.0.name_is in
+    let rest = heads-names orders ks ns os hs h.1 in
+    λ i. first i ∷ rest i
+
+pub mapped-length : {A B : Type 0} (f : A → B) (xs : List A) → length (map f xs) ≡ length xs
+mapped-length f [] = refl
+mapped-length f (x ∷ xs) = ap suc (mapped-length f xs)
+
+pub picked-length : (orders : List Order) (os : List (Option ℕ)) (vss : List Values) → length os ≡ length vss
+    → length (rows_picked orders os vss) ≡ length vss
+picked-length orders [] [] h = refl
+picked-length orders [] (vs ∷ vss) h = absurd (omega (arith, h))
+picked-length orders (o ∷ os) [] h = absurd (omega (arith, h))
+picked-length orders (o ∷ os) (vs ∷ vss) h = ap suc (picked-length orders os vss (omega (arith, h)))
+
+-- the rows that a population is made into
+module _ (p : Population) (forms : List Form) (forms-are : forms ≡ p.rows.forms.items) (orders : List Order)
+    (ordered : AreOrders (schema_of p.types.now.names.schema.now) forms orders) (ns : List ℕ)
+    (names-are : ns ≡ p.exchange.now.names) (ks : List ℕ)
+    (sections-are : ks ≡ section_numbers 0 0 p.exchange.now.sections.items) (os : List (Option ℕ))
+    (numbers-are : os ≡ p.rows.form_of.items) (hs : List RowHead) (heads : AreHeads orders ks ns os hs) where
+  pub made-rows : (rows : List Values) → rows ≡ rows_picked orders p.rows.form_of.items p.values.rows → (qs : List Row)
+      → AllZip IsSettled (rows_from hs rows) qs
+      → AreRowsOf (schema_of p.types.now.names.schema.now) (population_seen p) qs
+  made-rows rows made qs z =
+      let k = kept p in
+      rows-are (schema_of p.types.now.names.schema.now) k.one p.rows.forms.items orders
+      (subst (λ fs. AreOrders (schema_of p.types.now.names.schema.now) fs orders) forms-are ordered)
+      p.exchange.now.names (section_numbers 0 0 p.exchange.now.sections.items) p.rows.form_of.items p.values.rows hs qs
+      k.values
+      (subst (λ ys. AreHeads orders (section_numbers 0 0 p.exchange.now.sections.items) ys p.rows.form_of.items hs) names-are
+      (subst (λ js. AreHeads orders js ns p.rows.form_of.items hs) sections-are
+      (subst (λ ms. AreHeads orders ks ns ms hs) numbers-are heads)))
+      k.placed (subst (λ rs. AllZip IsSettled (rows_from hs rs) qs) made z)

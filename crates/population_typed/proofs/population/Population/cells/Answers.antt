@@ -1,0 +1,17 @@
+use Rattle.std.proofs.Common.{◌∙◌, sym, subst}
+use Rattle.std.proofs.Math.Logic.{∥∥₁_map}
+use Rattle.express_syntax.specs.SchemaViews.{schema_of}
+use Rattle.step_values.specs.Targets.{LeadTo}
+use Rattle.population_typed.specs.Whole.{IsWhole}
+use Rattle.population_typed.proofs.Found.{population-nodes}
+use Rattle.population_typed.proofs.population.Population.cells.Goals as goal
+
+pub returns-clause-count : goal.returns-clause-count
+returns-clause-count c = c.cells.ensures.count ∙ population-nodes c.args.self.now
+
+pub returns-clause-references : goal.returns-clause-references
+returns-clause-references c =
+    let p = c.args.self.now in
+    ∥∥₁_map p.whole
+    (λ (w : IsWhole (schema_of p.types.now.names.schema.now) p.exchange.now.names p.rows p.values).
+    subst (LeadTo p.exchange.now.names) (sym c.cells.ensures.targets) w.leads)

@@ -1,0 +1,16 @@
+-- The instance of a row of a population.
+use Rattle.std.specs.Prelude.{◌≡◌, ℕ, Some, slice_get}
+use Rattle.express_syntax.specs.SchemaViews.{schema_of}
+use Rattle.population_typed.specs.Whole.{form_among, ArePlaced, HaveEntities}
+use Rattle.population_typed.specs.Seen.{instance_seen, population_seen}
+use Rattle.population_typed.specs.declared.population.Population.{Population}
+use Rattle.population_typed.specs.declared.instances.InstanceRow.{InstanceRow}
+
+-- The instance stands there, and the attributes and types of its form are those of the schema.
+pub record IsInstance (p : Population) (row : ℕ) (x : InstanceRow) : Type 0 where
+  pub section : ℕ
+  pub seen : slice_get (population_seen p) row
+      ≡ Some (instance_seen (schema_of p.types.now.names.schema.now) x.name section (form_among p.rows.forms.items x.form)
+      x.values)
+  pub placed : ArePlaced (schema_of p.types.now.names.schema.now) (form_among p.rows.forms.items x.form)
+  pub entities : HaveEntities (schema_of p.types.now.names.schema.now) (form_among p.rows.forms.items x.form)

@@ -1,0 +1,4 @@
+pub mod Whole
+pub mod Seen
+pub mod Instances
+pub mod Ordering

@@ -1,0 +1,79 @@
+-- The order in which the values of instances stand in their rows.
+use Rattle.std.specs.Prelude.{◌≡◌, ⊤, ℕ, List, [], ◌∷◌, Option, None, Some, map, flat_map, slice_get}
+use Rattle.std.specs.List.{AllZip}
+use Rattle.express_syntax.specs.Schemas.{Schema}
+use Rattle.schema_semantics.specs.Attributes.{Place}
+use Rattle.schema_places.specs.Places.{all_places}
+use Rattle.population_rows.specs.Index.{place_of}
+use Rattle.step_values.specs.Slots.{nth}
+use Rattle.step_values.specs.Values.{Value, Values, none, more}
+use Rattle.step_values.specs.Views.{word_of}
+use Rattle.step_equal.specs.Settled.{AreInOrder}
+use Rattle.step_equal.specs.declared.row.RowHead.{RowHead}
+use Rattle.schema_bases.specs.Seen.{name_at}
+use Rattle.conformance.specs.Entities.{own_places_of}
+use Rattle.population_rows.specs.declared.form.SlotForm.{SlotForm}
+use Rattle.population_rows.specs.declared.form.Form.{Form}
+use Rattle.population_typed.specs.declared.ordering.Order.{Order}
+use Rattle.conformance.specs.PlainRows.{or_unset}
+
+-- where the attribute of a number stands among those of a form
+abbrev pub position_among : List SlotForm → ℕ → Option ℕ
+position_among xs q = place_of (map (λ (x : SlotForm). x.place) xs) q
+
+-- .. the attribute of a place
+abbrev pub StandsAt : Schema → List SlotForm → Place → Option ℕ → Type 0
+StandsAt s xs p o = (q : ℕ) × (slice_get (all_places s) q ≡ Some p) × (o ≡ position_among xs q)
+
+-- .. and those of these places
+abbrev pub StandAt : Schema → List SlotForm → List Place → List (Option ℕ) → Type 0
+StandAt s xs ps os = AllZip (StandsAt s xs) ps os
+
+-- The types of a form in the order of their letters, and where the attributes stand that they declare, type by type.
+pub record IsOrder (s : Schema) (x : Form) (o : Order) : Type 0 where
+  pub types : AreInOrder (map (name_at s) x.types.items) (map word_of o.types.items)
+  pub positions : StandAt s x.slots.items (flat_map (own_places_of s) (map word_of o.types.items)) o.positions.items
+
+abbrev pub AreOrders : Schema → List Form → List Order → Type 0
+AreOrders s forms orders = AllZip (IsOrder s) forms orders
+
+-- the value at a position
+abbrev pub picked_at : Values → Option ℕ → Option Value
+picked_at vs None = None
+picked_at vs (Some i) = nth vs i
+
+-- .. at each of these
+abbrev pub picked : Values → List (Option ℕ) → Values
+picked vs [] = none
+picked vs (o ∷ os) = more (or_unset (picked_at vs o)) (picked vs os)
+
+-- the order of a number, where there is one
+abbrev pub order_among : List Order → Option ℕ → Option Order
+order_among orders None = None
+order_among orders (Some n) = slice_get orders n
+
+-- the row of an instance whose values stand in this order; one of no form has no values
+abbrev pub row_picked : Option Order → Values → Values
+row_picked None vs = none
+row_picked (Some o) vs = picked vs o.positions.items
+
+-- .. of instances in turn, with the numbers of their forms
+abbrev pub rows_picked : List Order → List (Option ℕ) → List Values → List Values
+rows_picked orders (n ∷ ns) (vs ∷ rows) = row_picked (order_among orders n) vs ∷ rows_picked orders ns rows
+rows_picked orders ns rows = []
+
+-- the types of an instance, in order; one of no form has none
+abbrev pub types_in : Option Order → List (List ℕ)
+types_in None = []
+types_in (Some o) = map word_of o.types.items
+
+-- what stands before the values of an instance of this name, in this section, whose form has this number
+pub record IsHead (orders : List Order) (section name : ℕ) (n : Option ℕ) (h : RowHead) : Type 0 where
+  pub name_is : h.name ≡ name
+  pub section_is : h.section ≡ section
+  pub types_are : map word_of h.types.items ≡ types_in (order_among orders n)
+
+abbrev pub AreHeads : List Order → List ℕ → List ℕ → List (Option ℕ) → List RowHead → Type 0
+AreHeads orders (k ∷ ks) (y ∷ ys) (n ∷ ns) (h ∷ hs) = IsHead orders k y n h × AreHeads orders ks ys ns hs
+AreHeads orders [] [] [] [] = ⊤
+AreHeads orders ks ys ns hs = ⊥

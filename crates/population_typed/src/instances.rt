@@ -1,0 +1,45 @@
+//! The instances of a typed population, one by one.
+
+ghost use Rattle.std.specs.Prelude.{◌≡◌, ◌<◌, length};
+ghost use Rattle.express_syntax.specs.SchemaViews.{schema_of};
+ghost use Rattle.express_syntax.specs.Profile.{Every};
+ghost use Rattle.population_typed.specs.Whole.{AreNumbered};
+ghost use Rattle.population_typed.specs.Seen.{population_seen};
+ghost use Rattle.population_typed.specs.Instances.{IsInstance};
+
+use crate::population::Population;
+use population_rows::form::Form;
+use step_values::slot::Slots;
+
+/// An instance of a population.
+#[derive(Drop)]
+pub struct InstanceRow<'p, 'r> {
+    pub name: u64,
+    /// The number of its form among those of the population.
+    pub form: Option<u32>,
+    /// The values of its attributes, in the order of its form.
+    pub values: Slots<'p, 'r>,
+}
+
+impl<'s, 't, 'r, 'a> Population<'s, 't, 'r, 'a> {
+    /// The forms that its instances have, each once. It takes no memory.
+    pub fn forms(&self) -> &[Form]
+        ensures forms { result.now ≡ self.now.rows.forms.items }
+        ensures numbered { Every (AreNumbered (schema_of self.now.types.now.names.schema.now))
+            result.now }
+    {
+        &self.rows.forms
+    }
+
+    /// The instance of a row, counted from 0 in the order of the file. It takes no memory.
+    pub fn instance(&self, row: usize) -> InstanceRow<'_, 'r>
+        requires { row < length (population_seen self.now) }
+        ensures { IsInstance self.now row result }
+    {
+        InstanceRow {
+            name: self.exchange.names.as_slice()[row],
+            form: self.rows.form_of[row],
+            values: self.values.row(row),
+        }
+    }
+}

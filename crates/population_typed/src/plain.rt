@@ -1,0 +1,199 @@
+//! A typed population as rows, of which a schema has nothing to say any more.
+
+ghost use Rattle.std.specs.Prelude.{
+  ◌≡◌,
+  ℕ,
+  [],
+  ◌∷◌,
+  ◌++◌,
+  length,
+  map,
+  IfOk,
+  MatchResult,
+  OnOk,
+  option_copied,
+};
+ghost use Rattle.express_syntax.specs.SchemaViews.{schema_of};
+ghost use Rattle.step_exchange.specs.Sections.{CountsTo};
+ghost use Rattle.step_values.specs.References.{EachReferenceOf};
+ghost use Rattle.step_values.specs.Targets.{LeadTo, ReferTo};
+ghost use Rattle.step_values.specs.Views.{word_of};
+ghost use Rattle.population_rows.specs.Index.{found, place_of};
+ghost use Rattle.population_fits.specs.References.{IsFound, AreFound};
+ghost use Rattle.population_typed.specs.Seen.{section_numbers, population_seen};
+ghost use Rattle.conformance.specs.PlainRows.{AreRowsOf};
+ghost use Rattle.population_typed.specs.Ordering.{
+  order_among,
+  row_picked,
+  rows_picked,
+  types_in,
+  IsHead,
+  AreHeads,
+};
+
+use crate::copying::push_all_picked;
+use crate::ordering::{Order, orders};
+use crate::population::Population;
+use population_rows::index::RowIndex;
+use population_rows::rows::Rows;
+use schema_places::attributes::explicit_attributes;
+use std::alloc::{AllocError, Global};
+use std::hash::RandomState;
+use step_equal::plain::Plain;
+use step_equal::row::RowHead;
+use step_exchange::section::Section;
+use step_literals::literal::Word;
+use step_values::row_builder::RowBuilder;
+use step_values::rows::ValueRows;
+use step_values::slot::Slots;
+
+/// The order of the values of an instance whose form has this number; none where it has no form.
+fn order_at<'o, 's>(orders: &'o [Order<'s>], number: Option<u32>) -> Option<&'o Order<'s>>
+    ensures { option_copied result ≡ order_among orders.now number }
+{
+    match number {
+        Some(number) => orders.get(number as usize),
+        None => None,
+    }
+}
+
+/// Makes the row of an instance, in this order; one of no form has no values.
+fn push_row<'p, 'v>(
+    builder: &mut RowBuilder<'_, 'v>,
+    index: &RowIndex,
+    values: &Slots<'p, 'v>,
+    order: Option<&Order<'_>>,
+) -> Result<(), AllocError>
+    requires indexed { AreFound builder.old.names (found index.now) }
+    requires within { EachReferenceOf (IsFound (found index.now)) values.now }
+    requires whole { builder.old.pending ≡ [] }
+    ensures { OnOk result (builder.new ≡ record builder.old {
+      rows = builder.old.rows ++ row_picked (option_copied order.entry) values.now ∷ [];
+    }) }
+{
+    if let Some(order) = order {
+        push_all_picked(builder, index, values, &order.positions)?;
+    }
+    builder.close_row()
+}
+
+/// The values of instances with these names and forms, each row in the order of its form.
+fn ordered_values<'v>(
+    alloc: Global,
+    names: &[u64],
+    rows: &Rows,
+    values: &ValueRows<'v>,
+    orders: &[Order<'_>],
+) -> Result<ValueRows<'v>, AllocError>
+    requires indexed { (y : ℕ) → found rows.now.index y ≡ place_of names.now y }
+    requires all { ReferTo names.now values.now.rows }
+    requires forms { length rows.now.form_of.items ≡ length names.now }
+    requires each { length values.now.rows ≡ length names.now }
+    ensures rows { IfOk result (λ v. v.rows
+        ≡ rows_picked orders.now rows.now.form_of.items values.now.rows) }
+    ensures leads { IfOk result (λ v. LeadTo names.now v.targets) }
+    ensures refers { IfOk result (λ v. ReferTo names.now v.rows) }
+{
+    let mut builder = RowBuilder::new(alloc, names);
+    builder.reserve(values.cells().len(), names.len())?;
+    for i in 0..names.len() {
+        let order = order_at(orders, rows.form_of[i]);
+        push_row(&mut builder, &rows.index, &values.row(i), order)?;
+    }
+    Ok(builder.finish())
+}
+
+/// By row, the number of the data section that it stands in, counted from 0.
+///
+/// Where there are more than 2^32 sections there is no memory for it.
+fn row_sections(alloc: Global, sections: &[Section<'_>]) -> Result<Vec<u32>, AllocError>
+    requires { (n : ℕ) × CountsTo 0 sections.now n }
+    ensures { IfOk result (λ v. v.items ≡ section_numbers 0 0 sections.now) }
+{
+    let mut numbers = Vec::new(alloc);
+    for k in 0..sections.len() {
+        let Ok(number) = u32::try_from(k) else {
+            return Err(AllocError);
+        };
+        numbers.resize(sections[k].past as usize, number)?;
+    }
+    Ok(numbers)
+}
+
+/// Adds these words.
+fn push_words<'s: 'c, 'c>(types: &mut Vec<Word<'c>>, words: &[Word<'s>]) -> Result<(), AllocError>
+    ensures { OnOk result (map word_of types.new.items
+        ≡ map word_of types.old.items ++ map word_of words.now) }
+{
+    for word in words {
+        types.push(*word)?;
+    }
+    Ok(())
+}
+
+/// What stands before the values of an instance whose values have this order.
+fn head<'s: 'c, 'c>(
+    alloc: Global,
+    name: u64,
+    section: u32,
+    order: Option<&Order<'s>>,
+) -> Result<RowHead<'c>, AllocError>
+    ensures name { IfOk result (λ h. h.name ≡ name) }
+    ensures section { IfOk result (λ h. h.section ≡ section) }
+    ensures types { IfOk result (λ h. map word_of h.types.items
+        ≡ types_in (option_copied order.entry)) }
+{
+    let mut types = Vec::new(alloc);
+    if let Some(order) = order {
+        push_words(&mut types, &order.types)?;
+    }
+    Ok(RowHead {
+        name,
+        section,
+        types,
+    })
+}
+
+/// What stands before the values of each instance.
+fn heads<'s: 'c, 'c>(
+    alloc: Global,
+    sections: &[u32],
+    names: &[u64],
+    form_of: &[Option<u32>],
+    orders: &[Order<'s>],
+) -> Result<Vec<RowHead<'c>>, AllocError>
+    requires sections { length sections.now ≡ length names.now }
+    requires forms { length form_of.now ≡ length names.now }
+    ensures { IfOk result (λ v. AreHeads orders.now sections.now names.now form_of.now v.items) }
+{
+    let mut heads = Vec::with_capacity(alloc, names.len())?;
+    for i in 0..names.len() {
+        let order = order_at(orders, form_of[i]);
+        heads.push(head(alloc, names[i], sections[i], order)?)?;
+    }
+    Ok(heads)
+}
+
+impl<'s: 'r, 't, 'r, 'a> Population<'s, 't, 'r, 'a> {
+    /// The population as rows, in the order of the file: of each instance its name, its data
+    /// section, its types in the order of their letters, and the values of the attributes that they
+    /// declare, type by type, those of each as it declares them. Names are hashed by these keys.
+    ///
+    /// `AllocError` comes where memory runs out.
+    pub fn plain(&self, alloc: Global, keys: RandomState) -> Result<Plain<'r>, AllocError>
+        ensures { IfOk result (λ p. AreRowsOf (schema_of self.now.types.now.names.schema.now)
+            (population_seen self.now) p) }
+    {
+        let types = &self.types.names;
+        let explicit = explicit_attributes(alloc, types.schema)?;
+        let orders = orders(alloc, types, &explicit.own, &self.rows.forms)?;
+        let names = self.exchange.names.as_slice();
+        let values = ordered_values(alloc, names, &self.rows, &self.values, &orders)?;
+        let sections = row_sections(alloc, &self.exchange.sections)?;
+        let heads = heads(alloc, &sections, names, &self.rows.form_of, &orders)?;
+        match Plain::from_parts(alloc, keys, heads, values) {
+            Ok(plain) => Ok(plain),
+            Err(_) => Err(AllocError),
+        }
+    }
+}

@@ -1,0 +1,22 @@
+//! Typed populations.
+
+ghost use Rattle.express_syntax.specs.SchemaViews.{schema_of};
+ghost use Rattle.population_typed.specs.Whole.{IsWhole};
+
+use population_rows::rows::Rows;
+use schema_types::types::ResolvedTypes;
+use step_exchange::structure::Exchange;
+use step_values::rows::ValueRows;
+
+/// The typed population of an exchange structure that conforms to a schema.
+#[derive(Drop)]
+pub struct Population<'s, 't, 'r, 'a> {
+    pub types: &'r ResolvedTypes<'s, 't>,
+    pub exchange: &'r Exchange<'a>,
+    /// The forms of its instances.
+    pub rows: Rows,
+    /// For each instance the values of its attributes, in the order of its form.
+    pub values: ValueRows<'r>,
+    pub ghost whole: { ∥ IsWhole (schema_of types.now.names.schema.now) exchange.now.names rows
+        values ∥₁ },
+}

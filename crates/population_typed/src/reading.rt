@@ -1,0 +1,128 @@
+//! What a typed population says of its instances.
+
+ghost use Rattle.std.specs.Prelude.{◌≡◌, ◌<◌, ◌≤◌, ℕ, None, Some, length, map, IfSome};
+ghost use Rattle.parsing.specs.Nodes.{IsColumn};
+ghost use Rattle.step_values.specs.Cells.{value_nodes};
+ghost use Rattle.step_values.specs.Targets.{LeadTo, targets_of};
+ghost use Rattle.express_syntax.specs.Profile.{Every};
+ghost use Rattle.express_syntax.specs.SchemaViews.{schema_of};
+ghost use Rattle.schema_names.specs.Numbers.{HasNumber};
+ghost use Rattle.schema_places.specs.Places.{all_places};
+ghost use Rattle.population_rows.specs.declared.form.SlotForm.{SlotForm};
+ghost use Rattle.population_rows.specs.Rows.{form_at as form_in_rows};
+ghost use Rattle.population_rows.specs.Index.{found, place_of};
+ghost use Rattle.schema_bases.specs.Seen.{name_at};
+ghost use Rattle.conformance.specs.Populations.{value_of, types_at};
+ghost use Rattle.population_typed.specs.Seen.{place_at, population_seen, nodes_seen};
+ghost use Rattle.population_typed.specs.Ordering.{position_among};
+ghost use Rattle.population_typed.specs.Whole.{form_among, slots_by_form, types_by_form};
+
+use crate::population::Population;
+use population_rows::form::SlotForm;
+use population_rows::rows::form_at;
+use step_values::cell::Cell;
+use step_values::slot::Slot;
+
+/// Where the attribute of a place stands among these, counted from 0.
+pub fn position_of(slots: &[SlotForm], place: u32) -> Option<usize>
+    ensures { result ≡ place_of (map (λ (x : SlotForm). x.place) slots.now) place }
+{
+    for i in 0..slots.len() {
+        if slots[i].place == place {
+            return Some(i);
+        }
+    }
+    None
+}
+
+impl<'s, 't, 'r, 'a> Population<'s, 't, 'r, 'a> {
+    /// How many instances there are.
+    pub fn len(&self) -> usize
+        ensures { result ≡ length (population_seen self.now) }
+    {
+        self.exchange.names.len()
+    }
+
+    /// The row of the instance of a name, counted from 0 in the order of the file; none where there
+    /// is no such instance. It takes no memory.
+    pub fn row_of(&self, name: u64) -> Option<u32>
+        ensures found { result ≡ found self.now.rows.index name }
+        ensures within { IfSome result (λ row. row < length (population_seen self.now)) }
+    {
+        self.rows.index.find(name)
+    }
+
+    /// The number of the form of the instance of a row, among those of the population. It takes no
+    /// memory.
+    pub fn form_of_row(&self, row: u32) -> Option<u32>
+        requires { row < length (population_seen self.now) }
+        ensures form { form_among self.now.rows.forms.items result ≡ form_in_rows self.now.rows row }
+        ensures types { (name : ℕ) → found self.now.rows.index name ≡ Some row
+            → types_at (population_seen self.now) name
+            ≡ map (name_at (schema_of self.now.types.now.names.schema.now))
+            (types_by_form (form_among self.now.rows.forms.items result)) }
+    {
+        self.rows.form_of[row as usize]
+    }
+
+    /// The value that the instance of a row has of the attribute that stands at a position among those
+    /// of its form; none where it has no value of it. It takes no memory.
+    pub fn value_at(&self, row: u32, position: usize) -> Option<Slot<'_, 'r>>
+        requires { row < length (population_seen self.now) }
+        ensures { (name place : ℕ) → found self.now.rows.index name ≡ Some row
+            → place < length (all_places (schema_of self.now.types.now.names.schema.now))
+            → position_among (slots_by_form (form_in_rows self.now.rows row)) place ≡ Some position
+            → result ≡ value_of (population_seen self.now) name
+            (place_at (schema_of self.now.types.now.names.schema.now) place) }
+    {
+        self.values.row(row as usize).item(position)
+    }
+
+    /// The value that the instance of a name has of the attribute of this number; none where there
+    /// is no such instance or attribute, or it has no value of it. It takes no memory.
+    pub fn value(&self, name: u64, place: u32) -> Option<Slot<'_, 'r>>
+        ensures there { place < length (all_places (schema_of self.now.types.now.names.schema.now))
+            → result ≡ value_of (population_seen self.now) name
+            (place_at (schema_of self.now.types.now.names.schema.now) place) }
+        ensures beyond { length (all_places (schema_of self.now.types.now.names.schema.now)) ≤ place
+            → result ≡ None }
+    {
+        let Some(row) = self.row_of(name) else {
+            return None;
+        };
+        let Some(form) = form_at(&self.rows, row as usize) else {
+            return None;
+        };
+        let Some(position) = position_of(&form.slots, place) else {
+            return None;
+        };
+        self.value_at(row, position)
+    }
+
+    /// The numbers of the types of the instance of a name, in the order of the schema; none where
+    /// there is no such instance. It takes no memory.
+    pub fn types_of(&self, name: u64) -> &[u32]
+        ensures types { map (name_at (schema_of self.now.types.now.names.schema.now)) result.now
+            ≡ types_at (population_seen self.now) name }
+        ensures numbered { Every (λ i. HasNumber (schema_of self.now.types.now.names.schema.now)
+            (name_at (schema_of self.now.types.now.names.schema.now) i) i) result.now }
+    {
+        let Some(row) = self.row_of(name) else {
+            return &[];
+        };
+        match form_at(&self.rows, row as usize) {
+            Some(form) => &form.types,
+            None => &[],
+        }
+    }
+
+    /// The whole column of cells, one for each node of a value, what is inside each before it, and
+    /// in each reference the row that it names. It takes no memory.
+    pub fn cells(&self) -> &[Cell<'r>]
+        ensures column { IsColumn value_nodes result.now }
+        ensures count { length result.now ≡ nodes_seen (population_seen self.now) }
+        ensures references { ∥ LeadTo self.now.exchange.now.names (targets_of result.now) ∥₁ }
+    {
+        self.values.cells()
+    }
+}

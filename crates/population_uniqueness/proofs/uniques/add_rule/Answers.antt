@@ -1,0 +1,25 @@
+use Rattle.std.proofs.Common.{◌≡◌, ◌∙◌, [], ℕ, cond, map, ap, sym, subst}
+use Rattle.express_syntax.specs.SchemaViews.{schema_of}
+use Rattle.conformance.specs.Populations.{Instance}
+use Rattle.conformance.specs.RuleFindings.{Breach, repeats, breaches_of_unique}
+use Rattle.schema_rules.specs.declared.finding.RuleFindingKind.TheVariants.{UniqueBroken}
+use Rattle.schema_rules.specs.Seen.{unique_seen}
+use Rattle.population_typed.specs.Seen.{population_seen}
+use Rattle.population_typed.proofs.Turns.{on-ok}
+use Rattle.step_extent.specs.Findings.{Adds}
+use Rattle.step_extent.proofs.Adding.{map-twice}
+use Rattle.population_uniqueness.proofs.uniques.add_rule.Goals as goal
+
+pub returns : goal.returns
+returns c =
+    let p = c.args.extents.now.population.now in
+    let is = population_seen p in
+    let u = unique_seen (schema_of p.types.now.names.schema.now) c.args.rule.now in
+    let make : ℕ → Breach = λ y. record { instance = y; holder = u.entity; label = u.label } in
+    let all : map make c.deref.result.now ≡ breaches_of_unique is u =
+    ap (map make) (c.deref.ensures.value ∙ c.in_ok-names.ensures)
+    ∙ map-twice make (λ (x : Instance). x.name) (repeats u [] is)
+    ∙ sym (ap (λ b. cond b (map (λ (x : Instance). make x.name) (repeats u [] is)) []) c.if-not-rule.false) in
+    on-ok c.add_findings.result
+    (λ a. subst (λ bs. Adds UniqueBroken bs c.args.findings.now.items c.add_findings.new.findings.items) all a)
+    (c.add_findings.ensures u.entity u.label c.label.ensures)

@@ -1,0 +1,15 @@
+use Rattle.std.proofs.Common.{[], map, flat_map, take}
+use Rattle.express_syntax.specs.SchemaViews.{schema_of}
+use Rattle.conformance.specs.RuleFindings.{breaches_of_unique}
+use Rattle.schema_rules.specs.declared.finding.RuleFindingKind.TheVariants.{UniqueBroken}
+use Rattle.schema_rules.specs.Seen.{unique_seen}
+use Rattle.population_typed.specs.Seen.{population_seen}
+use Rattle.step_extent.specs.Findings.{Adds}
+use Rattle.population_uniqueness.proofs.uniques.check_unique.Given as goal
+
+abbrev pub invariant-loop-rule : goal.invariant-loop-rule
+invariant-loop-rule l =
+    Adds UniqueBroken
+    (flat_map (breaches_of_unique (population_seen l.extents.population.now))
+    (map (unique_seen (schema_of l.extents.population.now.types.now.names.schema.now))
+    (take l.rule-index l.extents.rules.now.uniques.items))) [] l.findings.items

@@ -1,0 +1,28 @@
+-- Which bounds of inverse attributes are broken, by the numbers of these.
+use Rattle.std.specs.Prelude.{ℕ, not, Bool, cond, List, [], ◌∷◌, length, flat_map, Option, None, Some, slice_get}
+use Rattle.express_syntax.specs.ExpressionViews.{capitals}
+use Rattle.express_syntax.specs.Schemas.{Schema}
+use Rattle.schema_bases.specs.Seen.{name_at}
+use Rattle.conformance.specs.Populations.{Instance}
+use Rattle.conformance.specs.RuleFindings.{Breach, may_hold}
+use Rattle.conformance.specs.Referring.{inverse_value}
+use Rattle.schema_rules.specs.declared.inverses.InverseAttribute.{InverseAttribute}
+use Rattle.schema_rules.specs.Seen.{gathering_seen, inverse_seen}
+
+-- what is told where an instance y breaks the bounds of an inverse attribute
+abbrev pub breach : Schema → ℕ → InverseAttribute → Breach
+breach s y i = record { instance = y; holder = name_at s i.entity; label = capitals i.name }
+
+module _ (s : Schema) (is : List Instance) (y : ℕ) where
+  -- an inverse attribute holds of y as many as it may
+  abbrev pub keeps : InverseAttribute → Bool
+  keeps i = may_hold (gathering_seen i.gathering) (length (inverse_value is (inverse_seen s i) y))
+
+  -- what is told of an inverse attribute, where there is one
+  abbrev pub breach_in : Option InverseAttribute → List Breach
+  breach_in None = []
+  breach_in (Some i) = cond (not (keeps i)) (breach s y i ∷ []) []
+
+  -- .. of those of these numbers
+  abbrev pub breaches_at : List InverseAttribute → List ℕ → List Breach
+  breaches_at inverses numbers = flat_map (λ n. breach_in (slice_get inverses n)) numbers

@@ -1,0 +1,4 @@
+pub mod Parts
+pub mod Positions
+pub mod Keys
+pub mod Bounds

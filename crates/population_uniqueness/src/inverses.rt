@@ -1,0 +1,129 @@
+//! Instances that break the bounds of inverse attributes (ISO 10303-11, 9.2.1.3).
+
+ghost use Rattle.std.specs.Prelude.{◌≡◌, ◌<◌, length, Some, IfOk, OnOk, slice_get};
+ghost use Rattle.express_syntax.specs.Profile.{Every};
+ghost use Rattle.express_syntax.specs.SchemaViews.{schema_of};
+ghost use Rattle.conformance.specs.RuleFindings.{may_hold, inverse_findings};
+ghost use Rattle.schema_rules.specs.Findings.{IsFindingOf, AreFindingsOf};
+ghost use Rattle.schema_rules.specs.declared.finding.RuleFindingKind.TheVariants.{InverseBound};
+ghost use Rattle.schema_rules.specs.Seen.{gathering_seen, rules_seen, AreNumbered};
+ghost use Rattle.schema_rules.specs.declared.inverses.InverseAttribute.{
+  InverseAttribute as Attribute,
+};
+ghost use Rattle.population_typed.specs.Seen.{population_seen};
+ghost use Rattle.step_extent.specs.Findings.{Adds};
+ghost use Rattle.population_uniqueness.specs.Bounds.{breach, keeps, breaches_at};
+
+use population_fits::bounds::{has_least, has_most};
+use schema_rules::finding::{RuleFinding, RuleFindingKind};
+use schema_rules::gathering::Gathering;
+use schema_rules::label::RuleLabel;
+use std::alloc::{AllocError, Global};
+use step_extent::extents::Extents;
+use step_extent::inverses::{numbers_by_form, row_at};
+
+/// Whether an inverse attribute may hold so many.
+fn may_hold(gathering: Gathering, count: usize) -> bool
+    ensures { result ≡ may_hold (gathering_seen gathering) count }
+{
+    match gathering {
+        Gathering::Alone => count == 1,
+        Gathering::Set { lower, upper } => has_least(lower, count) && has_most(upper, count),
+        Gathering::Bag { lower, upper } => has_least(lower, count) && has_most(upper, count),
+    }
+}
+
+/// What is found where an instance breaks the bounds of the inverse attribute of this number.
+fn finding<'s>(
+    extents: &Extents<'s, '_, '_, '_, '_>,
+    name: u64,
+    attribute: usize,
+) -> RuleFinding<'s>
+    requires numbered { AreNumbered
+        (schema_of extents.now.population.now.types.now.names.schema.now) extents.now.rules.now }
+    requires within { attribute < length extents.now.rules.now.inverses.items }
+    ensures { (i : Attribute)
+        → slice_get extents.now.rules.now.inverses.items attribute ≡ Some i
+        → IsFindingOf InverseBound
+        (breach (schema_of extents.now.population.now.types.now.names.schema.now) name i) result }
+{
+    let inverse = &extents.rules.inverses[attribute];
+    RuleFinding {
+        kind: RuleFindingKind::InverseBound,
+        instance: name,
+        rule: extents.label(inverse.entity, RuleLabel::Written(inverse.name)),
+    }
+}
+
+/// Whether the inverse attribute of this number may hold as many as it does of an instance. By
+/// attribute there is what `inverse_near` begins with.
+fn keeps(
+    extents: &Extents<'_, '_, '_, '_, '_>,
+    near: &mut [usize],
+    name: u64,
+    attribute: usize,
+) -> bool
+    requires { attribute < length extents.now.rules.now.inverses.items }
+    ensures { (i : Attribute)
+        → slice_get extents.now.rules.now.inverses.items attribute ≡ Some i
+        → result ≡ keeps (schema_of extents.now.population.now.types.now.names.schema.now)
+        (population_seen extents.now.population.now) name i }
+{
+    let begin = near.get(attribute).copied().unwrap_or(0);
+    let (value, next) = extents.inverse_near(name, attribute, begin);
+    if let Some(place) = near.get_mut(attribute) {
+        *place = next;
+    }
+    may_hold(extents.rules.inverses[attribute].gathering, value.len())
+}
+
+/// Adds what is found of an instance by the inverse attributes of these numbers.
+fn add_broken<'s>(
+    extents: &Extents<'s, '_, '_, '_, '_>,
+    near: &mut [usize],
+    findings: &mut Vec<RuleFinding<'s>>,
+    name: u64,
+    numbers: &[usize],
+) -> Result<(), AllocError>
+    requires numbered { AreNumbered
+        (schema_of extents.now.population.now.types.now.names.schema.now) extents.now.rules.now }
+    requires within { Every (λ n. n < length extents.now.rules.now.inverses.items) numbers.now }
+    ensures { OnOk result (Adds InverseBound (breaches_at
+        (schema_of extents.now.population.now.types.now.names.schema.now)
+        (population_seen extents.now.population.now) name extents.now.rules.now.inverses.items
+        numbers.now) findings.old.items findings.new.items) }
+{
+    for number in numbers {
+        if !keeps(extents, near, name, *number) {
+            findings.push(finding(extents, name, *number))?;
+        }
+    }
+    Ok(())
+}
+
+/// The instances of which an inverse attribute holds more instances than it may, or fewer, by
+/// instance in the order of the file, then by attribute in the order of the text
+/// (ISO 10303-11, 9.2.1.3).
+///
+/// `AllocError` comes where memory runs out.
+pub fn check_inverse<'s>(
+    alloc: Global,
+    extents: &Extents<'s, '_, '_, '_, '_>,
+) -> Result<Vec<RuleFinding<'s>>, AllocError>
+    requires numbered { AreNumbered
+        (schema_of extents.now.population.now.types.now.names.schema.now) extents.now.rules.now }
+    ensures { IfOk result (λ t. AreFindingsOf InverseBound
+        (inverse_findings (rules_seen
+        (schema_of extents.now.population.now.types.now.names.schema.now) extents.now.rules.now)
+        (population_seen extents.now.population.now)) t.items) }
+{
+    let rows = numbers_by_form(alloc, &extents.rules.inverses, extents.population.forms())?;
+    let mut near = vec![in alloc; 0; extents.rules.inverses.len()]?;
+    let mut findings = Vec::new(alloc);
+    for row in 0..extents.population.len() {
+        let instance = extents.population.instance(row);
+        let numbers = row_at(&rows, instance.form);
+        add_broken(extents, &mut near, &mut findings, instance.name, numbers)?;
+    }
+    Ok(findings)
+}

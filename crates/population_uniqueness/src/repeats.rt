@@ -1,0 +1,46 @@
+//! The instances that break a uniqueness rule (ISO 10303-11, 9.2.2.1).
+
+ghost use Rattle.std.specs.Prelude.{◌≡◌, [], map, IfOk};
+ghost use Rattle.express_syntax.specs.SchemaViews.{schema_of};
+ghost use Rattle.conformance.specs.RuleFindings.{repeats};
+ghost use Rattle.schema_rules.specs.Seen.{unique_seen, IsNumberedUnique};
+ghost use Rattle.population_typed.specs.Seen.{population_seen};
+
+use crate::met::meets_again;
+use crate::positions::{positions_at, positions_by_form};
+use indexmap::IndexSet;
+use population_typed::population::Population;
+use schema_rules::uniques::UniqueRule;
+use std::alloc::{AllocError, Global};
+use std::hash::RandomState;
+
+/// The names of the instances that have the key of an earlier one, in the order of the file
+/// (ISO 10303-11, 9.2.2.1). An instance has a key where the rule's entity is among its types and
+/// none of its values of the attributes that the rule names is unset or derived.
+///
+/// Keys are hashed by these numbers. It takes time by the number of instances and the size of
+/// these values. `AllocError` comes where memory runs out.
+pub fn repeats(
+    alloc: Global,
+    keys: RandomState,
+    population: &Population<'_, '_, '_, '_>,
+    rule: &UniqueRule<'_>,
+) -> Result<Vec<u64>, AllocError>
+    requires numbered { IsNumberedUnique (schema_of population.now.types.now.names.schema.now)
+        rule.now }
+    ensures { IfOk result (λ v. v.items ≡ map (λ x. x.name)
+        (repeats (unique_seen (schema_of population.now.types.now.names.schema.now) rule.now) []
+        (population_seen population.now))) }
+{
+    let positions = positions_by_form(alloc, population.forms(), rule)?;
+    let mut met = IndexSet::with_hasher(alloc, keys);
+    let mut names = Vec::new(alloc);
+    for row in 0..population.len() {
+        let instance = population.instance(row);
+        let places = positions_at(&positions, instance.form);
+        if meets_again(alloc, &mut met, &instance.values, places)? {
+            names.push(instance.name)?;
+        }
+    }
+    Ok(names)
+}

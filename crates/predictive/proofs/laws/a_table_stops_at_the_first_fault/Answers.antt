@@ -1,5 +1,0 @@
-use Rattle.predictive.proofs.Accepted.{stops_at_first}
-use Rattle.predictive.proofs.laws.a_table_stops_at_the_first_fault.Goals as goal
-
-pub returns : goal.returns
-returns g c = stops_at_first g.row.S.Denot g.row.W.Denot g.row.K.Denot

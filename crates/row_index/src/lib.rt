@@ -1,4 +1,0 @@
-//! Rows of a population by the names of their instances.
-#![tactic(auto)]
-
-pub mod index;

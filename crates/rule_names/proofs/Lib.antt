@@ -1,0 +1,5 @@
+pub mod First
+pub mod Saying
+pub mod Letters
+pub mod Spelt
+pub mod Enumerations

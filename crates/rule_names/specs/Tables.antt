@@ -1,0 +1,39 @@
+-- The tables that expressions are evaluated by.
+use Rattle.std.specs.Prelude.{◌≡◌, ℕ, List, Some, map, slice_get}
+use Rattle.express_syntax.specs.Schemas.{Schema}
+use Rattle.express_syntax.specs.SchemaViews.{schema_of}
+use Rattle.schema_semantics.specs.Attributes.{Place}
+use Rattle.schema_data_types.specs.Numbered.{form_in, all_data_types}
+use Rattle.conformance.specs.Bases.{Domain, IsDomain}
+use Rattle.conformance.specs.Entities.{Entities, AreEntities}
+use Rattle.schema_bases.specs.declared.base.Base.{Base}
+use Rattle.schema_bases.specs.Seen.{base_seen}
+use Rattle.schema_bases.specs.Tables.{IsNumbered}
+use Rattle.schema_uses.specs.Uses.{HasPlace, AreUses}
+use Rattle.schema_data_types.specs.Items.{AreItems}
+use Rattle.schema_types.specs.declared.types.ResolvedTypes.{ResolvedTypes}
+use Rattle.conformance.specs.Values.{first_declared}
+use Rattle.rule_values.specs.Tables.{AreValueTypes}
+use Rattle.schema_sources.specs.Tables.{AreSources}
+use Rattle.rule_names.specs.declared.tables.SettingTables.{SettingTables}
+
+-- It is what the attribute of this place is declared as, by the entity that declares it.
+pub record IsDeclaredAs (s : Schema) (p : Place) (b : Base) : Type 0 where
+  pub says : (d : Domain) (en : Entities) → IsDomain s d → AreEntities s en
+      → base_seen s b ≡ first_declared s d en p
+  pub numbered : IsNumbered s b
+
+-- By number, these are what explicit attributes are declared as.
+abbrev pub AreDeclared : Schema → List Base → Type 0
+AreDeclared s bases =
+    (p : Place) (q : ℕ) → HasPlace s p q → (b : Base) × (slice_get bases q ≡ Some b) × IsDeclaredAs s p b
+
+-- These are the tables of the schema of these types.
+pub record AreSettingTables (x : ResolvedTypes) (t : SettingTables) : Type 0 where
+  pub value_types : AreValueTypes (schema_of x.names.schema.now) t.value_types
+  pub sources : AreSources (schema_of x.names.schema.now) t.sources
+  pub declared : AreDeclared (schema_of x.names.schema.now) t.declared.items
+  pub uses : AreUses (schema_of x.names.schema.now) t.uses.now
+  pub forms : t.data_types.forms.items
+      ≡ map (form_in (schema_of x.names.schema.now)) (all_data_types (schema_of x.names.schema.now))
+  pub items : AreItems (schema_of x.names.schema.now) t.items

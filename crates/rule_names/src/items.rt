@@ -1,0 +1,96 @@
+//! Items of enumerations (ISO 10303-11, 8.4.1).
+
+ghost use Rattle.std.specs.Prelude.{◌≡◌, ◌&&◌, Some};
+ghost use Rattle.express_syntax.specs.ExpressionViews.{capitals};
+ghost use Rattle.express_syntax.specs.Views.{
+  names_of,
+  underlying_of,
+  declaration_of as declaration_seen,
+};
+ghost use Rattle.express_syntax.specs.SchemaViews.{schema_of};
+ghost use Rattle.schema_semantics.specs.Faults.{IsResolved};
+ghost use Rattle.conformance.specs.Bases.{Domain, IsDomain};
+ghost use Rattle.conformance.specs.Fitting.{among};
+ghost use Rattle.schema_bases.specs.Seen.{items_of, items_in};
+ghost use Rattle.conformance.specs.Meanings.{type_names, items_in as of_base};
+ghost use Rattle.rule_values.specs.Coded.{named_base};
+ghost use Rattle.rule_values.specs.Tables.{AreValueTypes};
+ghost use Rattle.rule_names.specs.Naming.{is_type};
+
+use crate::tables::SettingTables;
+use express_syntax::tree::{Declaration, Underlying};
+use rule_values::types::ValueTypes;
+use schema_bases::base::Base;
+use schema_names::names::Names;
+use step_literals::literal::Word;
+
+/// Whether a defined type is declared.
+fn is_type(declaration: &Declaration<'_>) -> bool
+    ensures { result ≡ is_type (declaration_seen declaration.now) }
+{
+    match declaration {
+        Declaration::Type(_) => true,
+        _ => false,
+    }
+}
+
+/// What stands in an enumeration; nothing where it is none.
+fn items_of<'d, 'a>(underlying: &'d Underlying<'a>) -> &'d [Word<'a>]
+    ensures { names_of result.now ≡ items_of (underlying_of underlying.now) }
+{
+    match underlying {
+        Underlying::Enumeration(items) => items,
+        Underlying::Select(_) | Underlying::DataType(_) => &[],
+    }
+}
+
+/// The items of an enumeration; none of what is no enumeration.
+fn items_in<'d, 'a>(declaration: &'d Declaration<'a>) -> &'d [Word<'a>]
+    ensures { names_of result.now ≡ items_in (Some (declaration_seen declaration.now)) }
+{
+    match declaration {
+        Declaration::Type(declared) => items_of(&declared.underlying),
+        _ => &[],
+    }
+}
+
+/// Whether a name is among some.
+fn is_among(names: &[Word<'_>], name: Word<'_>) -> bool
+    ensures { result ≡ among (capitals name.entry) (names_of names.now) }
+{
+    names.iter().any(|each| name == *each)
+}
+
+/// What a name stands for.
+fn base_of(types: &ValueTypes<'_>, name: Word<'_>) -> Base
+    ensures { result ≡ named_base types.now (capitals name.entry) }
+{
+    *types.of_name(name)
+}
+
+/// Whether the defined type of this name stands for an enumeration that has an item of this name.
+pub fn is_item_of(
+    names: &Names<'_, '_>,
+    tables: &SettingTables<'_, '_>,
+    declared: Word<'_>,
+    name: Word<'_>,
+) -> bool
+    requires resolved { IsResolved (schema_of names.now.schema.now) }
+    requires tables { AreValueTypes (schema_of names.now.schema.now) tables.now.value_types }
+    ensures { (d : Domain) → IsDomain (schema_of names.now.schema.now) d
+        → result ≡ (among (capitals declared.entry) (type_names (schema_of names.now.schema.now))
+        && among (capitals name.entry) (of_base (d.of_name (capitals declared.entry)))) }
+{
+    let Some(number) = names.find(declared) else {
+        return false;
+    };
+    if !is_type(names.declaration(number)) {
+        return false;
+    }
+    match base_of(&tables.value_types, declared) {
+        Base::Enumeration(enumeration) => {
+            is_among(items_in(names.declaration(enumeration)), name)
+        }
+        _ => false,
+    }
+}

@@ -1,0 +1,144 @@
+-- The values of some defined types among those of an instance, each with the number of its type, by the tables of a
+-- schema (ISO 10303-11, 9.1). What the code computes; no promise stands here.
+use Rattle.std.specs.Prelude.{ℕ, Bool, true, false, cond, List, [], ◌∷◌, ◌++◌, flat_map, Option, None, Some, slice_get}
+use Rattle.step_values.specs.declared.slot.Kind.{Kind}
+use Rattle.step_values.specs.declared.slot.Kind.TheVariants as kinds
+use Rattle.step_values.specs.Slots.{kind_of}
+use Rattle.step_values.specs.Values as values
+use Rattle.step_values.specs.Values.{Value, leaf, reference, Values, more}
+use Rattle.express_syntax.specs.Schemas.{Schema}
+use Rattle.express_syntax.specs.SchemaViews.{schema_of}
+use Rattle.schema_semantics.specs.Names.{Name}
+use Rattle.schema_names.specs.Numbers.{number_of}
+use Rattle.schema_data_types.specs.declared.forms.Form.{Form}
+use Rattle.schema_data_types.specs.declared.forms.Form.TheVariants as forms
+use Rattle.schema_bases.specs.declared.base.Base.{Base}
+use Rattle.schema_bases.specs.declared.base.Base.TheVariants as bases
+use Rattle.schema_bases.specs.Making.{entry}
+use Rattle.schema_uses.specs.declared.uses.AttributeUse.{AttributeUse}
+use Rattle.population_rows.specs.declared.form.Form.{Form as InstanceForm}
+use Rattle.population_rows.specs.declared.form.SlotForm.{SlotForm}
+use Rattle.population_layouts.specs.Slots.{uses_by}
+use Rattle.express_logic.specs.Data.{Datum}
+use Rattle.rule_values.specs.Coded.{number_base, named_base, element_base, coded_datum}
+use Rattle.rule_plans.specs.declared.sought.Sought.{Sought}
+use Rattle.rule_plans.specs.declared.sought.Seeker.{Seeker}
+use Rattle.rule_plans.specs.declared.values.Asked.{Asked}
+
+abbrev pub schema_in : Seeker → Schema
+schema_in x = schema_of x.names.now.schema.now
+
+-- the number of the type or entity that a data type names, if it is a name
+abbrev pub named_in : Form → Option ℕ
+named_in (forms.Named o) = o
+named_in f = None
+
+abbrev pub named_of : Option Form → Option ℕ
+named_of None = None
+named_of (Some f) = named_in f
+
+-- .. that the data type of a number names
+abbrev pub named_at : List Form → ℕ → Option ℕ
+named_at all j = named_of (slice_get all j)
+
+abbrev pub or_false : Option Bool → Bool
+or_false None = false
+or_false (Some b) = b
+
+-- values of the type of a number are sought
+abbrev pub is_wanted : List Bool → ℕ → Bool
+is_wanted wanted i = or_false (slice_get wanted i)
+
+-- the number, if values of its type are sought
+abbrev pub wanted_in : List Bool → Option ℕ → Option ℕ
+wanted_in wanted None = None
+wanted_in wanted (Some i) = cond (is_wanted wanted i) (Some i) None
+
+abbrev pub sought : Option ℕ → Base → Sought
+sought o c = record { declared = o; base = c }
+
+-- a value of the defined type of a number, and what it is worth
+abbrev pub Told : Type 0
+Told = ℕ × Datum
+
+abbrev pub told_by : Option ℕ → Datum → List Told
+told_by None d = []
+told_by (Some i) d = (i, d) ∷ []
+
+-- a value of this kind is one of its data type; one inside a typed value is of the type that is named there
+abbrev pub is_whole : Kind → Bool
+is_whole kinds.Unset = false
+is_whole kinds.Derived = false
+is_whole kinds.Typed = false
+is_whole k = true
+
+module _ (x : Seeker) where
+  -- the data type of a number
+  abbrev pub by_number : ℕ → Sought
+  by_number j = sought (wanted_in x.wanted.now (named_at x.forms.now j)) (number_base x.types.now j)
+
+  -- the type of a name
+  abbrev pub by_name : Name → Sought
+  by_name n = sought (wanted_in x.wanted.now (number_of (schema_in x) n)) (named_base x.types.now n)
+
+  -- the data type of the elements; of what is no aggregate, the same
+  abbrev pub elements_by : Sought → Base → Sought
+  elements_by q (bases.Aggregate a) = by_number a.element
+  elements_by q b = q
+
+  abbrev pub elements_of : Sought → Sought
+  elements_of q = elements_by q q.base
+
+  -- the value itself, where it is sought
+  abbrev pub coded_itself : Option ℕ → Base → Value → List Told
+  coded_itself o b v = cond (is_whole (kind_of v)) (told_by o (coded_datum x.types.now b v)) []
+
+  -- the values that are sought in a value: itself, elements, and what stands inside typed values
+  abbrev mutual
+    pub coded_values : Sought → Base → Value → List Told
+    coded_values q b (leaf a) = coded_itself q.declared b (leaf a)
+    coded_values q b (reference y) = coded_itself q.declared b (reference y)
+    coded_values q b (values.typed n v) = coded_values (by_name n) (named_base x.types.now n) v
+    coded_values q b (values.sequence vs) =
+        coded_itself q.declared b (values.sequence vs) ++ coded_each (elements_of q) (element_base x.types.now b) vs
+    coded_values q b (values.bag vs) =
+        coded_itself q.declared b (values.bag vs) ++ coded_each (elements_of q) (element_base x.types.now b) vs
+
+    pub coded_each : Sought → Base → Values → List Told
+    coded_each q b values.none = []
+    coded_each q b (more v vs) = coded_values q b v ++ coded_each q b vs
+
+  -- .. in the elements of an aggregate of this data type
+  abbrev pub coded_elements : Sought → Base → Values → List Told
+  coded_elements q b vs = coded_each (elements_of q) (element_base x.types.now b) vs
+
+  -- .. beside the value itself
+  abbrev pub coded_inside : Sought → Base → Value → List Told
+  coded_inside q b (leaf a) = []
+  coded_inside q b (reference y) = []
+  coded_inside q b (values.typed n v) = coded_values (by_name n) (named_base x.types.now n) v
+  coded_inside q b (values.sequence vs) = coded_elements q b vs
+  coded_inside q b (values.bag vs) = coded_elements q b vs
+
+  -- .. where there is a value
+  abbrev pub coded_at : Sought → Base → Option Value → List Told
+  coded_at q b None = []
+  coded_at q b (Some v) = coded_values q b v
+
+  -- .. by the data types of these declarations in turn
+  abbrev pub coded_uses : Base → Option Value → List AttributeUse → List Told
+  coded_uses b o us = flat_map (λ (u : AttributeUse). coded_at (by_number u.data_type) b o) us
+
+  -- .. by those of the attribute of a place
+  abbrev pub coded_place : Asked → ℕ → Option Value → List Told
+  coded_place k q o = coded_uses (entry k.declared.now q) o (uses_by k.uses.now k.types.now q)
+
+  -- .. in values in turn, which are those of these attributes
+  abbrev pub coded_slots : Asked → List SlotForm → Values → List Told
+  coded_slots k (y ∷ ys) (more v vs) = coded_place k y.place (Some v) ++ coded_slots k ys vs
+  coded_slots k ys vs = []
+
+-- the attributes that an instance of a form has
+abbrev pub slots_in : Option InstanceForm → List SlotForm
+slots_in None = []
+slots_in (Some f) = f.slots.items

@@ -1,0 +1,43 @@
+-- Values that no value stands inside of but elements without parts, and the data types that have no others.
+use Rattle.std.specs.Prelude.{Bool, true, false, ◌&&◌, Option, None, Some}
+use Rattle.step_values.specs.declared.slot.Kind.{Kind}
+use Rattle.step_values.specs.declared.slot.Kind.TheVariants as kinds
+use Rattle.step_values.specs.Slots.{kind_of}
+use Rattle.step_values.specs.Values.{Value, typed, sequence, bag, Values, none, more}
+use Rattle.schema_bases.specs.declared.base.Base.{Base}
+use Rattle.schema_bases.specs.declared.base.Base.TheVariants as bases
+use Rattle.rule_values.specs.declared.types.ValueTypes.{ValueTypes}
+use Rattle.rule_values.specs.Coded.{element_base}
+
+-- a value of this kind has no parts
+abbrev pub is_plain : Kind → Bool
+is_plain kinds.Typed = false
+is_plain kinds.List = false
+is_plain kinds.Bag = false
+is_plain k = true
+
+abbrev pub are_plain : Values → Bool
+are_plain none = true
+are_plain (more v vs) = is_plain (kind_of v) && are_plain vs
+
+-- a value is no typed one, and none of its elements has parts
+abbrev pub is_flat : Value → Bool
+is_flat (typed n v) = false
+is_flat (sequence vs) = are_plain vs
+is_flat (bag vs) = are_plain vs
+is_flat v = true
+
+-- .. where there is a value
+abbrev pub is_flat_at : Option Value → Bool
+is_flat_at None = true
+is_flat_at (Some v) = is_flat v
+
+-- the values that fit a data type have no parts
+abbrev pub has_plain_values : Base → Bool
+has_plain_values (bases.Select i) = false
+has_plain_values (bases.Aggregate a) = false
+has_plain_values b = true
+
+-- .. or are aggregates whose elements have none
+abbrev pub has_flat_values : ValueTypes → Base → Bool
+has_flat_values t b = has_plain_values (element_base t b)

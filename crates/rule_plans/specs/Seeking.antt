@@ -1,0 +1,56 @@
+-- What is sought in values, and what is found there.
+use Rattle.std.specs.Prelude.{◌≡◌, ⊤, ℕ, Bool, true, false, ◌||◌, cond, List, [], ◌∷◌, ◌++◌, map, Option, None, Some}
+use Rattle.digraph.specs.Graphs.{has}
+use Rattle.express_syntax.specs.Schemas.{Schema}
+use Rattle.schema_semantics.specs.Names.{Name}
+use Rattle.schema_semantics.specs.Faults.{IsResolved}
+use Rattle.schema_names.specs.Numbers.{HasNumber}
+use Rattle.schema_data_types.specs.Numbered.{form_in, all_data_types}
+use Rattle.schema_bases.specs.Seen.{name_at}
+use Rattle.express_logic.specs.Data.{Datum}
+use Rattle.rule_values.specs.Parts.{element_datum}
+use Rattle.rule_plans.specs.declared.sought.Seeker.{Seeker}
+use Rattle.rule_plans.specs.declared.found.Found.{Found}
+use Rattle.rule_plans.specs.Coded.{schema_in, is_wanted, Told}
+
+-- The names are resolved, and the data types are those of the schema.
+pub record IsSeeker (x : Seeker) : Type 0 where
+  pub resolved : IsResolved (schema_in x)
+  pub forms : x.forms.now ≡ map (form_in (schema_in x)) (all_data_types (schema_in x))
+
+-- the number, if there is one, is that of its declaration
+abbrev pub IsDeclared : Schema → Option ℕ → Type 0
+IsDeclared s None = ⊤
+IsDeclared s (Some i) = HasNumber s (name_at s i) i
+
+-- of the numbers of declarations one test tells what another one tells of their names
+abbrev pub Agrees : Schema → (ℕ → Bool) → (Name → Bool) → Type 0
+Agrees s p test = (i : ℕ) → HasNumber s (name_at s i) i → p i ≡ test (name_at s i)
+
+-- values are sought of each type that passes a test
+abbrev pub Covers : Schema → List Bool → (Name → Bool) → Type 0
+Covers s wanted test =
+    (i : ℕ) → HasNumber s (name_at s i) i → test (name_at s i) ≡ true → is_wanted wanted i ≡ true
+
+-- .. and of no other
+abbrev pub Tells : Schema → List Bool → (Name → Bool) → Type 0
+Tells s wanted test = Agrees s (is_wanted wanted) test
+
+-- of values told, those of types whose numbers pass a test
+abbrev pub those : (ℕ → Bool) → List Told → List Datum
+those p [] = []
+those p (t ∷ ts) = cond (p t.0) (t.1 ∷ those p ts) (those p ts)
+
+abbrev pub worth : Told → Datum
+worth t = t.1
+
+abbrev pub number : Told → ℕ
+number t = t.0
+
+-- These values are found more: themselves where they are kept, else the numbers of their types.
+pub record Adds (ts : List Told) (old new : Found) : Type 0 where
+  pub keeps : new.keeps ≡ old.keeps
+  pub values : old.keeps ≡ true
+      → map element_datum new.values.items ≡ map element_datum old.values.items ++ map worth ts
+  pub types : old.keeps ≡ false
+      → (i : ℕ) → has new.types.items i ≡ (has old.types.items i || has (map number ts) i)

@@ -1,0 +1,34 @@
+-- What is found in the values of an instance.
+use Rattle.std.specs.Prelude.{◌≡◌, ℕ, Bool, true, false, List, [], map}
+use Rattle.digraph.specs.Graphs.{has}
+use Rattle.schema_semantics.specs.Names.{Name}
+use Rattle.conformance.specs.Populations.{Instance}
+use Rattle.express_logic.specs.Data.{Datum}
+use Rattle.conformance.specs.DomainRules.{of_type}
+use Rattle.conformance.specs.DomainFindings.{selves}
+use Rattle.rule_settings.specs.declared.setting.Setting.{Setting}
+use Rattle.rule_settings.specs.Settings.{Meant, schema_in}
+use Rattle.rule_plans.specs.Coded.{Told}
+use Rattle.rule_plans.specs.Seeking.{Agrees, Covers, Tells, those, worth}
+
+module _ (S : Setting) (m : Meant S) where
+  -- which types are a defined type, or are defined by it
+  abbrev pub is_of : Name → Name → Bool
+  is_of t n = m.attributes.is_defined_by n t
+
+  -- the values of SELF for which a rule of a defined type is tried
+  abbrev pub values_of : Instance → Name → List Datum
+  values_of x t = selves (schema_in S) m.domain m.entities m.attributes x (of_type t)
+
+  -- These are the values of an instance that are of the types that are sought.
+  pub record AreFound (x : Instance) (wanted : List Bool) (ts : List Told) : Type 0 where
+    pub exactly : (t : Name) → Tells (schema_in S) wanted (is_of t) → map worth ts ≡ values_of x t
+    pub those_of : (t : Name) (p : ℕ → Bool) → Agrees (schema_in S) p (is_of t) → Covers (schema_in S) wanted (is_of t)
+        → those p ts ≡ values_of x t
+
+  -- .. and these are the numbers of their types: where none of them passes a test that tells a defined type and those
+  -- that are defined by it, there is no value of it.
+  abbrev pub TypesTell : Instance → List Bool → List ℕ → Type 0
+  TypesTell x wanted types =
+      (t : Name) (p : ℕ → Bool) → Agrees (schema_in S) p (is_of t) → Covers (schema_in S) wanted (is_of t)
+      → ((i : ℕ) → has types i ≡ true → p i ≡ false) → values_of x t ≡ []

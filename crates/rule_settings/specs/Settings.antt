@@ -1,0 +1,105 @@
+-- What expressions can ask, of the program's tables.
+use Rattle.std.specs.Prelude.{ℕ, Bool, List, Option, Some, None}
+use Rattle.step_literals.specs.declared.literal.items.Item.{Item}
+use Rattle.express_syntax.specs.Schemas.{Schema}
+use Rattle.express_syntax.specs.SchemaViews.{schema_of}
+use Rattle.schema_semantics.specs.Names.{Name}
+use Rattle.schema_semantics.specs.Attributes.{Derivation}
+use Rattle.schema_names.specs.Numbers.{HasNumber}
+use Rattle.schema_bases.specs.Seen.{name_at}
+use Rattle.conformance.specs.Bases.{Domain, IsDomain}
+use Rattle.conformance.specs.Entities.{Entities, AreEntities}
+use Rattle.conformance.specs.Populations.{Instance}
+use Rattle.conformance.specs.Conforming.{PopulationConforms}
+use Rattle.conformance.specs.Rules.{InverseAttribute}
+use Rattle.population_typed.specs.Seen.{population_seen}
+use Rattle.express_logic.specs.Data.{Datum, indeterminate}
+use Rattle.conformance.specs.Attributes.{Attributes, AreAttributes}
+use Rattle.conformance.specs.Expressions as expressions
+use Rattle.conformance.specs.Meanings.{setting, below}
+use Rattle.schema_sources.specs.declared.source.Derivation.{Derivation as NumberedDerivation}
+use Rattle.schema_sources.specs.Seen.{inverses_seen, derivation_seen}
+use Rattle.schema_sources.specs.Tables.{IsKnown}
+use Rattle.rule_sources.specs.Sources.{AreFormSources}
+use Rattle.schema_derivations.specs.Firsts.{AreFirsts}
+use Rattle.schema_derivations.specs.Formulas.{AreFormulas}
+use Rattle.rule_names.specs.Tables.{AreSettingTables}
+use Rattle.rule_settings.specs.declared.setting.Setting.{Setting}
+use Rattle.rule_settings.specs.declared.attributes.Found.{Found}
+use Rattle.rule_settings.specs.declared.attributes.Found.TheVariants as found
+
+abbrev pub schema_in : Setting → Schema
+schema_in S = schema_of S.extents.now.population.now.types.now.names.schema.now
+
+abbrev pub population_in : Setting → List Instance
+population_in S = population_seen S.extents.now.population.now
+
+abbrev pub inverses_in : Setting → List InverseAttribute
+inverses_in S = inverses_seen (schema_in S) S.extents.now.rules.now.inverses.items
+
+abbrev pub derivation_in : Setting → NumberedDerivation → Derivation
+derivation_in S e = derivation_seen (schema_in S) e
+
+-- The tables are those of the schema of the population.
+pub record IsSetting (S : Setting) : Type 0 where
+  pub known : IsKnown S.extents.now.population.now.types.now S.tables.now.sources S.extents.now.rules.now.inverses.items
+  pub tables : AreSettingTables S.extents.now.population.now.types.now S.tables.now
+  pub forms : AreFormSources (schema_in S) (inverses_in S) S.extents.now.population.now.rows.forms.items S.forms.now
+  pub formulas : AreFormulas (schema_in S) S.formulas.now
+  pub firsts : AreFirsts (schema_in S) S.firsts.now
+
+-- What the schema says, as functions, and that the population conforms to it.
+pub record Meant (S : Setting) : Type 0 where
+  pub domain : Domain
+  pub entities : Entities
+  pub attributes : Attributes
+  pub is_domain : IsDomain (schema_in S) domain
+  pub are_entities : AreEntities (schema_in S) entities
+  pub are_attributes : AreAttributes (schema_in S) (inverses_in S) attributes
+  pub conforms : PopulationConforms (schema_in S) domain entities (population_in S)
+
+-- what is found, where derived attributes are worth this, and this value is put where it was asked for
+abbrev pub worth_of : Setting → (Derivation → Datum) → Datum → Found → Option Datum
+worth_of S computed d found.Missing = None
+worth_of S computed d found.Value = Some d
+worth_of S computed d (found.Derived e) = Some (computed (derivation_in S e))
+
+abbrev pub or_nothing : Option Datum → Datum
+or_nothing None = indeterminate
+or_nothing (Some d) = d
+
+-- the number of a derived attribute is that of an entity
+abbrev pub IsFound : Setting → Found → Type 0
+IsFound S (found.Derived e) = HasNumber (schema_in S) (name_at (schema_in S) e.entity) e.entity
+IsFound S x = Unit {0}
+
+module _ (S : Setting) (m : Meant S) where
+  -- what an expression can ask, where derived attributes of instances are worth this
+  abbrev pub setting_by : (ℕ → Derivation → Datum) → expressions.Setting
+  setting_by computed = setting (schema_in S) m.domain m.entities m.attributes (population_in S) computed
+
+  abbrev pub attribute_by : (ℕ → Derivation → Datum) → ℕ → Name → Option Datum
+  attribute_by computed y a = (setting_by computed).attribute y a
+
+  abbrev pub group_by : (ℕ → Derivation → Datum) → ℕ → Name → Name → Datum
+  group_by computed y e a = (setting_by computed).attribute_of y e a
+
+  -- whatever derived attributes are worth
+  abbrev nothing : ℕ → Derivation → Datum
+  nothing y e = indeterminate
+
+  abbrev pub has_type_in : ℕ → List Item → Bool
+  has_type_in y text = (setting_by nothing).has_type y text
+
+  abbrev pub is_defined_in : Name → List Item → Bool
+  is_defined_in n text = (setting_by nothing).is_defined_by n text
+
+  abbrev pub is_item_in : Name → Bool
+  is_item_in n = (setting_by nothing).is_item n
+
+  abbrev pub is_item_of_in : Name → Name → Bool
+  is_item_of_in t n = (setting_by nothing).is_item_of t n
+
+  -- the values of derived attributes of ranks below n
+  abbrev pub below_rank : ℕ → ℕ → Derivation → Datum
+  below_rank n = below (schema_in S) m.domain m.entities m.attributes (population_in S) n

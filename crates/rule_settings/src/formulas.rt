@@ -1,0 +1,34 @@
+//! How derived attributes are computed (ISO 10303-11, 9.2.1.2).
+
+ghost use Rattle.std.specs.Prelude.{◌≡◌, length, slice_get};
+ghost use Rattle.std.specs.Option.{option_map, option_flatten};
+ghost use Rattle.schema_names.specs.Numbers.{HasNumber};
+ghost use Rattle.schema_bases.specs.Seen.{name_at};
+ghost use Rattle.schema_derivations.specs.Formulas.{formula_seen, formula_place};
+ghost use Rattle.rule_settings.specs.Settings.{IsSetting, Meant, schema_in, derivation_in};
+
+use crate::setting::Setting;
+use schema_derivations::asked_formulas::formula_at;
+use schema_derivations::formula::Formula;
+use schema_sources::source::Derivation;
+
+impl<'s: 'r, 't, 'r, 'a, 'e, 'p> Setting<'s, 't, 'r, 'a, 'e, 'p> {
+    /// How a derived attribute is computed; none where it is set aside.
+    pub fn formula(&self, derivation: Derivation) -> Option<Formula<'s, 't>>
+        requires setting { IsSetting self.now }
+        ensures meant { (m : Meant self.now)
+            → HasNumber (schema_in self.now) (name_at (schema_in self.now) derivation.entity)
+            derivation.entity → option_map formula_seen result
+            ≡ m.attributes.formula (derivation_in self.now derivation) }
+        ensures place { result ≡ option_flatten (slice_get self.now.formulas.now
+            (formula_place self.now.firsts.now (length self.now.formulas.now) derivation.entity
+            derivation.number)) }
+    {
+        formula_at(
+            self.formulas,
+            self.firsts,
+            derivation.entity,
+            derivation.number,
+        )
+    }
+}

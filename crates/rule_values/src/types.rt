@@ -1,0 +1,122 @@
+//! What data types ask of values, without the schema that declares them.
+
+ghost use Rattle.std.specs.Prelude.{◌≡◌, ◌<◌, Some, IfOk, OnOk, if◌then◌else◌, length};
+ghost use Rattle.step_values.specs.Views.{word_of};
+ghost use Rattle.schema_semantics.specs.Names.{Name};
+ghost use Rattle.schema_names.specs.Numbers.{number_of};
+ghost use Rattle.schema_bases.specs.Making.{entry};
+ghost use Rattle.schema_bases.specs.Seen.{schema_at};
+ghost use Rattle.schema_bases.specs.Tables.{AreBases};
+ghost use Rattle.rule_values.specs.Named.{found, names_entry};
+ghost use Rattle.rule_values.specs.Coded.{number_base, named_base, element_base};
+ghost use Rattle.rule_values.specs.Tables.{AreValueTypes};
+
+use indexmap::IndexMap;
+use schema_bases::base::Base;
+use schema_bases::lookup::Bases;
+use std::alloc::{AllocError, Global};
+use std::hash::RandomState;
+use step_literals::literal::Word;
+
+/// The numbers of the declarations of names. They are hashed by keys that the author of a text
+/// doesn't know, so that nobody can choose names that are slow to find.
+type Numbers<'r> = IndexMap<Word<'r>, u32, RandomState>;
+
+/// What the data types of a schema ask of values, by number and by name.
+#[derive(Drop)]
+pub struct ValueTypes<'r> {
+    by_number: &'r [Base],
+    by_declaration: &'r [Base],
+    numbers: Numbers<'r>,
+}
+
+/// What stands at a number; INTEGER where nothing does.
+fn entry(bases: &[Base], number: u32) -> &Base
+    ensures { result.now ≡ entry bases.now number }
+{
+    match bases.get(number as usize) {
+        Some(base) => base,
+        None => &Base::Integer,
+    }
+}
+
+/// Gives the name of a declaration its number, in place of that of a later one of that name.
+fn add_name<'r, 't, 'a: 'r>(
+    numbers: &mut Numbers<'r>,
+    bases: &Bases<'a, 't, 'r>,
+    number: u32,
+) -> Result<(), AllocError>
+    requires { number < length bases.now.names.now.schema.now.declarations.items }
+    ensures { OnOk result ((n : Name) → found numbers.new n
+        ≡ (if names_entry (schema_at bases.now) number n then Some number
+        else found numbers.old n)) }
+{
+    let Some(name) = bases.names.name(number) else {
+        return Ok(());
+    };
+    numbers.insert(name, number)?;
+    Ok(())
+}
+
+/// The numbers of the declarations of a schema, by name: of several the first.
+fn numbers_of<'r, 't, 'a: 'r>(
+    alloc: Global,
+    keys: RandomState,
+    bases: &Bases<'a, 't, 'r>,
+) -> Result<Numbers<'r>, AllocError>
+    ensures { IfOk result (λ m. (n : Name) → found m n ≡ number_of (schema_at bases.now) n) }
+{
+    let mut numbers: Numbers<'r> = IndexMap::with_hasher(alloc, keys);
+    for i in (0..bases.names.len()).rev() {
+        add_name(&mut numbers, bases, i as u32)?;
+    }
+    Ok(numbers)
+}
+
+impl<'r> ValueTypes<'r> {
+    /// Those of a schema, by the tables of its data types. Names are hashed by these keys.
+    pub fn of<'t, 'a: 'r>(
+        alloc: Global,
+        keys: RandomState,
+        bases: &Bases<'a, 't, 'r>,
+    ) -> Result<ValueTypes<'r>, AllocError>
+        requires bases { AreBases bases.now }
+        ensures { IfOk result (AreValueTypes (schema_at bases.now)) }
+    {
+        let numbers = numbers_of(alloc, keys, bases)?;
+        Ok(ValueTypes {
+            by_number: &bases.table.by_number,
+            by_declaration: &bases.table.by_declaration,
+            numbers,
+        })
+    }
+
+    /// What the data type of a number asks; INTEGER where there is none.
+    pub fn of_number(&self, number: u32) -> &'r Base
+        ensures { result.now ≡ number_base self.now number }
+    {
+        entry(self.by_number, number)
+    }
+
+    /// What a name stands for; INTEGER where no type or entity has it.
+    pub fn of_name(&self, name: Word<'_>) -> &'r Base
+        ensures { result.now ≡ named_base self.now (word_of name.entry) }
+    {
+        match self.numbers.get(&name) {
+            Some(number) => entry(self.by_declaration, *number),
+            None => &Base::Integer,
+        }
+    }
+
+    /// What is asked of the elements of an aggregate; of what is no aggregate, the same.
+    pub fn of_elements<'p>(&self, base: &'p Base) -> &'p Base
+    where
+        'r: 'p,
+        ensures { result.now ≡ element_base self.now base.now }
+    {
+        match *base {
+            Base::Aggregate(aggregate) => self.of_number(aggregate.element),
+            _ => base,
+        }
+    }
+}

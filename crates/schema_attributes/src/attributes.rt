@@ -1,0 +1,121 @@
+//! The attributes of a schema by their names.
+
+ghost use Rattle.std.specs.Prelude.{
+  ◌≡◌,
+  [],
+  length,
+  option_map,
+  slice_get,
+  IfOk,
+  OnOk,
+};
+ghost use Rattle.digraph.specs.Graphs.{graph_of};
+ghost use Rattle.express_syntax.specs.ExpressionViews.{capitals};
+ghost use Rattle.express_syntax.specs.SchemaViews.{schema_of};
+ghost use Rattle.schema_semantics.specs.Faults.{IsResolved};
+ghost use Rattle.schema_names.specs.Numbers.{AreRowsOf};
+ghost use Rattle.schema_data_types.specs.Numbered.{whole_types, all_data_types};
+ghost use Rattle.schema_data_types.specs.Shaped.{AreShapes};
+ghost use Rattle.schema_places.specs.Lines.{HaveLines};
+ghost use Rattle.step_literals.specs.declared.literal.Word.{Word};
+ghost use Rattle.schema_attributes.specs.Declarations.{AreAttributes, row_in, found};
+ghost use Rattle.schema_attributes.specs.Gathering.{AddsAll, SaysIs};
+
+use crate::declaration::AttributeDeclaration;
+use crate::gathering::{Sources, gathered};
+use crate::row::Row;
+use indexmap::IndexMap;
+use schema_data_types::forms::DataTypes;
+use schema_data_types::shapes::Shape;
+use schema_names::names::Names;
+use std::alloc::{AllocError, Global};
+use std::hash::RandomState;
+use step_literals::literal::Word;
+
+/// The rows of attributes, by their names.
+type Rows<'a> = IndexMap<Word<'a>, Row, RandomState>;
+
+/// The attributes of a schema, by name. Names are hashed by keys that the author of a text doesn't
+/// know, so that nobody can choose names that are slow to find.
+#[derive(Drop)]
+pub struct Attributes<'a> {
+    rows: Rows<'a>,
+}
+
+/// The row at a place; an empty one where there is none.
+fn row_at<'r>(rows: &'r Rows<'_>, place: usize) -> &'r [AttributeDeclaration]
+    ensures { result.now ≡ row_in (option_map (λ e. e.1) (slice_get rows.now.entries place)) }
+{
+    match rows.get_index(place) {
+        Some((_, row)) => row.as_slice(),
+        None => &[],
+    }
+}
+
+impl<'a> Attributes<'a> {
+    /// None yet, with room for as many names.
+    pub(crate) fn with_room(
+        alloc: Global,
+        keys: RandomState,
+        count: usize,
+    ) -> Result<Attributes<'a>, AllocError>
+        ensures { IfOk result (λ t. (w : Word) → found t w ≡ []) }
+    {
+        let rows = IndexMap::with_capacity_and_hasher(alloc, count, keys)?;
+        Ok(Attributes { rows })
+    }
+
+    /// Adds what is said of an attribute of this name.
+    pub(crate) fn add(
+        &mut self,
+        name: Word<'a>,
+        declaration: AttributeDeclaration,
+    ) -> Result<(), AllocError>
+        ensures { OnOk result (AddsAll self.old (SaysIs (capitals name.entry) declaration) self.new) }
+    {
+        let alloc = *self.rows.allocator();
+        if let Some(row) = self.rows.get_mut(&name) {
+            return row.push(alloc, declaration);
+        }
+        self.rows.insert(name, Row::One(declaration))?;
+        Ok(())
+    }
+
+    /// The attributes of a schema whose names are resolved, over its data types with their shapes,
+    /// and the line of each entity.
+    pub fn of(
+        alloc: Global,
+        keys: RandomState,
+        names: &Names<'a, '_>,
+        data_types: &DataTypes,
+        lines: &[Vec<u32>],
+        shapes: &[Shape],
+    ) -> Result<Attributes<'a>, AllocError>
+        requires resolved { IsResolved (schema_of names.now.schema.now) }
+        requires rows { AreRowsOf whole_types (all_data_types (schema_of names.now.schema.now))
+            (schema_of names.now.schema.now).declarations (graph_of data_types.now.rows.items) }
+        requires lines { HaveLines (schema_of names.now.schema.now) (graph_of lines.now) }
+        requires each { length lines.now ≡ length names.now.schema.now.declarations.items }
+        requires shapes { AreShapes (schema_of names.now.schema.now) shapes.now }
+        ensures { IfOk result (λ t. AreAttributes (schema_of names.now.schema.now) t) }
+    {
+        let sources = Sources {
+            names,
+            data_types,
+            lines,
+            shapes,
+        };
+        gathered(alloc, keys, &sources)
+    }
+
+    /// What declares the attributes of this name, and what redeclares them; nothing where there is
+    /// none.
+    pub fn find(&self, name: Word<'_>) -> &[AttributeDeclaration]
+        ensures { result.now ≡ found self.now name.entry }
+    {
+        match self.rows.get_index_of(&name) {
+            Some(place) => row_at(&self.rows, place),
+            None => &[],
+        }
+    }
+}

@@ -1,0 +1,236 @@
+//! What redeclares an attribute, and with which data type.
+
+ghost use Rattle.std.specs.Prelude.{◌≡◌, ◌<◌, ◌↔◌, [], Some, length, map, drop, get_or, slice_get, IsTrue};
+ghost use Rattle.std.specs.List.{list_any};
+ghost use Rattle.digraph.specs.Graphs.{graph_of};
+ghost use Rattle.express_syntax.specs.ExpressionViews.{capitals};
+ghost use Rattle.express_syntax.specs.Schemas.{DataType as DataTypeTree};
+ghost use Rattle.express_syntax.specs.Views.{
+  attribute_of,
+  explicit_of,
+  derived_of,
+  inverse_of,
+  entity_of,
+};
+ghost use Rattle.express_syntax.specs.SchemaViews.{schema_of};
+ghost use Rattle.schema_semantics.specs.Names.{Name, IsEntity};
+ghost use Rattle.schema_semantics.specs.Faults.{IsResolved};
+ghost use Rattle.schema_semantics.specs.Attributes.{IsOrigin, HasFirstShape};
+ghost use Rattle.schema_names.specs.Numbers.{HasNumber, AreRowsOf};
+ghost use Rattle.schema_places.specs.Owned.{is_own};
+ghost use Rattle.schema_data_types.specs.Numbered.{whole_types, all_data_types};
+ghost use Rattle.schema_data_types.specs.Alike.{IsTable};
+ghost use Rattle.schema_data_types.specs.Shaped.{AreShapes, IsKnown, DecidesAlike};
+ghost use Rattle.schema_places.specs.Lines.{HaveLines};
+ghost use Rattle.schema_places.specs.Origins.{IsNumberOf};
+ghost use Rattle.schema_attributes.specs.Redeclaring.{IsFirstTypeAt, IsRedeclaredAt};
+ghost use Rattle.schema_attributes.specs.Searching.{
+  explicit_typing,
+  derived_typing,
+  inverse_typing,
+  typings,
+  types_own,
+  number_where,
+};
+
+use express_syntax::tree::{Attribute, Declaration, Derived, Entity, Explicit, Inverse};
+use schema_data_types::alike::are_alike_types;
+use schema_data_types::forms::DataTypes;
+use schema_data_types::laws::data_types_are_known;
+use schema_data_types::shapes::Shape;
+use schema_names::names::Names;
+use schema_places::origins::origin;
+use step_literals::literal::Word;
+
+/// Whether an attribute has this name, and isn't redeclared.
+fn is_own(attribute: &Attribute<'_>, name: Word<'_>) -> bool
+    ensures { result ≡ is_own (capitals name.entry) (attribute_of attribute.now) }
+{
+    match attribute {
+        Attribute::Unqualified(own) => *own == name,
+        Attribute::Redeclared(_, _) => false,
+    }
+}
+
+/// Whether one of these that isn't redeclared has this name.
+fn any_own(attributes: &[Attribute<'_>], name: Word<'_>) -> bool
+    ensures { result
+        ≡ list_any (is_own (capitals name.entry)) (map attribute_of attributes.now) }
+{
+    attributes.iter().any(|attribute| is_own(attribute, name))
+}
+
+/// The numbers of the data types that a declaration gives.
+fn row_of(data_types: &DataTypes, number: u32) -> &[u32]
+    ensures { result.now ≡ get_or (graph_of data_types.now.rows.items) number [] }
+{
+    match data_types.rows.get(number as usize) {
+        Some(row) => row,
+        None => &[],
+    }
+}
+
+/// The number at a place of a row.
+fn number_at(row: &[u32], place: usize) -> Option<u32>
+    ensures { result ≡ slice_get row.now place }
+{
+    row.get(place).copied()
+}
+
+/// The number in a row of the data type of an explicit attribute.
+fn explicit_type(row: &[u32], explicits: &[Explicit<'_>], name: Word<'_>) -> Option<u32>
+    ensures { result ≡ number_where (types_own (capitals name.entry)) row.now
+        (map explicit_typing (map explicit_of explicits.now)) }
+{
+    let place = explicits
+        .iter()
+        .position(|explicit| any_own(explicit.attributes.as_slice(), name))?;
+    number_at(row, place)
+}
+
+/// The number in a row of the data type of a derived attribute.
+fn derived_type(row: &[u32], deriveds: &[Derived<'_>], name: Word<'_>) -> Option<u32>
+    ensures { result ≡ number_where (types_own (capitals name.entry)) row.now
+        (map derived_typing (map derived_of deriveds.now)) }
+{
+    let place = deriveds
+        .iter()
+        .position(|derived| is_own(&derived.attribute, name))?;
+    number_at(row, place)
+}
+
+/// The number in a row of the data type of an inverse attribute.
+fn inverse_type(row: &[u32], inverses: &[Inverse<'_>], name: Word<'_>) -> Option<u32>
+    ensures { result ≡ number_where (types_own (capitals name.entry)) row.now
+        (map inverse_typing (map inverse_of inverses.now)) }
+{
+    let place = inverses
+        .iter()
+        .position(|inverse| is_own(&inverse.attribute, name))?;
+    number_at(row, place)
+}
+
+/// What follows so many numbers of a row.
+fn behind(row: &[u32], count: usize) -> &[u32]
+    ensures { result.now ≡ drop count row.now }
+{
+    match row.get(count..) {
+        Some(rest) => rest,
+        None => &[],
+    }
+}
+
+/// The number in the row of an entity of the data type of its own attribute of this name.
+fn own_type(row: &[u32], entity: &Entity<'_>, name: Word<'_>) -> Option<u32>
+    ensures { result ≡ number_where (types_own (capitals name.entry)) row.now
+        (typings (entity_of entity.now)) }
+{
+    let explicits = entity.explicits.as_slice();
+    if let Some(number) = explicit_type(row, explicits, name) {
+        return Some(number);
+    }
+    let rest = behind(row, explicits.len());
+    let deriveds = entity.derived_attributes();
+    if let Some(number) = derived_type(rest, deriveds, name) {
+        return Some(number);
+    }
+    let last = behind(rest, deriveds.len());
+    inverse_type(last, entity.inverse_attributes(), name)
+}
+
+/// The number of the data type with which an entity declares its own attribute of this name, of
+/// whatever class; none where it declares none.
+pub fn first_type(
+    names: &Names<'_, '_>,
+    data_types: &DataTypes,
+    entity: u32,
+    attribute: Word<'_>,
+) -> Option<u32>
+    requires resolved { IsResolved (schema_of names.now.schema.now) }
+    requires rows { AreRowsOf whole_types (all_data_types (schema_of names.now.schema.now))
+        (schema_of names.now.schema.now).declarations (graph_of data_types.now.rows.items) }
+    ensures { (p : Name) → IsEntity (schema_of names.now.schema.now) p
+        → HasNumber (schema_of names.now.schema.now) p entity
+        → IsFirstTypeAt (schema_of names.now.schema.now) p (capitals attribute.entry) result }
+{
+    let declaration = names.at(entity)?;
+    match declaration {
+        Declaration::Entity(declared) => own_type(row_of(data_types, entity), declared, attribute),
+        _ => None,
+    }
+}
+
+/// The number of the entity that declares the attribute which `SELF\entity.attribute` means; none
+/// where this name is no entity's.
+fn entity_origin(
+    names: &Names<'_, '_>,
+    lines: &[Vec<u32>],
+    entity: Word<'_>,
+    attribute: Word<'_>,
+) -> Option<u32>
+    requires lines { HaveLines (schema_of names.now.schema.now) (graph_of lines.now) }
+    requires each { length lines.now ≡ length names.now.schema.now.declarations.items }
+    ensures { IsNumberOf (schema_of names.now.schema.now) (IsOrigin (schema_of names.now.schema.now)
+        (capitals entity.entry) (capitals attribute.entry)) result }
+{
+    let number = names.find(entity)?;
+    match names.declaration(number) {
+        Declaration::Entity(_) => origin(names, lines, number, attribute),
+        _ => None,
+    }
+}
+
+/// The number of the entity that declares what is redeclared here; none where nothing is.
+pub fn redeclared_entity(
+    names: &Names<'_, '_>,
+    lines: &[Vec<u32>],
+    attribute: Attribute<'_>,
+) -> Option<u32>
+    requires resolved { IsResolved (schema_of names.now.schema.now) }
+    requires lines { HaveLines (schema_of names.now.schema.now) (graph_of lines.now) }
+    requires each { length lines.now ≡ length names.now.schema.now.declarations.items }
+    ensures { IsRedeclaredAt (schema_of names.now.schema.now) (attribute_of attribute.entry) result }
+{
+    match attribute {
+        Attribute::Unqualified(_) => None,
+        Attribute::Redeclared(holder, name) => entity_origin(names, lines, holder, name),
+    }
+}
+
+/// Whether data types at two numbers of the table are alike.
+fn are_within_alike(shapes: &[Shape], first: u32, second: u32) -> bool
+    requires { IsTable shapes.now }
+    ensures { first < length shapes.now → second < length shapes.now
+        → DecidesAlike shapes.now first second result }
+{
+    (first as usize) < shapes.len()
+        && (second as usize) < shapes.len()
+        && are_alike_types(shapes, first, second)
+}
+
+/// Whether a data type has the shape of the first one of an attribute, the one with which the
+/// entity of this number declares it (ISO 10303-11, 9.2.3.4).
+pub fn has_first_shape(
+    names: &Names<'_, '_>,
+    data_types: &DataTypes,
+    shapes: &[Shape],
+    entity: u32,
+    attribute: Word<'_>,
+    data_type: u32,
+) -> bool
+    requires resolved { IsResolved (schema_of names.now.schema.now) }
+    requires rows { AreRowsOf whole_types (all_data_types (schema_of names.now.schema.now))
+        (schema_of names.now.schema.now).declarations (graph_of data_types.now.rows.items) }
+    requires shapes { AreShapes (schema_of names.now.schema.now) shapes.now }
+    ensures { (p : Name) (k : DataTypeTree) → IsEntity (schema_of names.now.schema.now) p
+        → HasNumber (schema_of names.now.schema.now) p entity
+        → slice_get (all_data_types (schema_of names.now.schema.now)) data_type ≡ Some k
+        → IsKnown (schema_of names.now.schema.now) k → IsTrue result
+        ↔ HasFirstShape (schema_of names.now.schema.now) p (capitals attribute.entry) k }
+{
+    data_types_are_known();
+    match first_type(names, data_types, entity, attribute) {
+        Some(first) => are_within_alike(shapes, first, data_type),
+        None => false,
+    }
+}

@@ -1,0 +1,48 @@
+//! What each declaration stands for.
+
+ghost use Rattle.std.specs.Prelude.{◌≡◌, ℕ, List, length, IfOk};
+ghost use Rattle.digraph.specs.Graphs.{graph_of};
+ghost use Rattle.digraph.specs.Orders.{IsTopologicalOrder};
+ghost use Rattle.express_syntax.specs.SchemaViews.{schema_of};
+ghost use Rattle.schema_semantics.specs.Faults.{IsResolved};
+ghost use Rattle.schema_names.specs.Edges.{IsGraphOf, parts_in};
+ghost use Rattle.schema_names.specs.Numbers.{AreRowsOf};
+ghost use Rattle.schema_data_types.specs.Numbered.{whole_types, all_data_types};
+ghost use Rattle.schema_bases.specs.Making.{AreMade};
+
+use crate::base::Base;
+use crate::making::base_at;
+use digraph::orders::order;
+use schema_data_types::forms::DataTypes;
+use schema_names::names::Names;
+use std::alloc::{AllocError, Global};
+
+/// What names stand for, by declaration, along an order in which each defined type stands behind
+/// what it is made of.
+pub(crate) fn declared_bases(
+    alloc: Global,
+    names: &Names<'_, '_>,
+    data_types: &DataTypes,
+    edges: &[Vec<u32>],
+) -> Result<Vec<Base>, AllocError>
+    requires resolved { IsResolved (schema_of names.now.schema.now) }
+    requires rows { AreRowsOf whole_types (all_data_types (schema_of names.now.schema.now))
+        (schema_of names.now.schema.now).declarations (graph_of data_types.now.rows.items) }
+    requires drawn { IsGraphOf (schema_of names.now.schema.now) parts_in (graph_of edges.now) }
+    ensures length { IfOk result (λ t. length t.items
+        ≡ length (schema_of names.now.schema.now).declarations) }
+    ensures made { IfOk result (λ t. AreMade (schema_of names.now.schema.now)
+        (graph_of data_types.now.rows.items) t.items) }
+    ensures ordered { IfOk result (λ t. (xs : List ℕ)
+        × IsTopologicalOrder (graph_of edges.now) xs) }
+{
+    let order = order(alloc, edges)?;
+    let mut declared = vec![in alloc; Base::Integer; edges.len()]?;
+    for a in &order {
+        let i = *a as usize;
+        let declaration = names.declaration(*a);
+        let base = base_at(names, &declared, &data_types.rows[i], *a, declaration)?;
+        declared[i] = base;
+    }
+    Ok(declared)
+}

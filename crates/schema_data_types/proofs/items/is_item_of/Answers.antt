@@ -1,0 +1,50 @@
+use Rattle.std.proofs.Common.{◌≡◌, ◌∙◌, ◌↔◌, true, false, ap, sym, subst}
+use Rattle.std.specs.Prelude.{◌&&◌, not}
+use Rattle.digraph.specs.Graphs.{graph_of}
+use Rattle.express_syntax.specs.ExpressionViews.{capitals}
+use Rattle.schema_semantics.specs.Sets.{IsItemOf}
+use Rattle.schema_data_types.specs.Values.{schema_at}
+use Rattle.schema_data_types.proofs.Declared.{parts-within}
+use Rattle.schema_data_types.specs.Enumerated.{has_item_within}
+use Rattle.schema_data_types.proofs.Enumerated.{has-number, item-told}
+use Rattle.schema_data_types.proofs.items.is_item_of.Goals as goal
+
+pub is_over_select-requires : goal.is_over_select-requires
+is_over_select-requires c =
+    parts-within (schema_at c.args.tables.now) (λ v. v.items) c.args.tables.now.parts.now c.requires.tables.parts
+    (capitals c.args.defined) c.in-Some.part (sym c.find.ensures ∙ c.in-Some.is)
+
+pub has_item_within-requires : goal.has_item_within-requires
+has_item_within-requires c =
+    parts-within (schema_at c.args.tables.now) (λ v. v.items) c.args.tables.now.parts.now c.requires.tables.parts
+    (capitals c.args.defined) c.in-Some.part (sym c.find.ensures ∙ c.in-Some.is)
+
+pub returns-then-not-is_over_select : goal.returns-then-not-is_over_select
+returns-then-not-is_over_select c =
+    let s = schema_at c.args.tables.now in
+    let rows = graph_of c.args.tables.now.parts.now in
+    let n = capitals c.args.name in
+    let t = capitals c.args.defined in
+    let told = item-told s rows c.requires.tables.parts t n c.in-Some.part (sym c.find.ensures ∙ c.in-Some.is) in
+    let free = sym c.is_over_select.ensures ∙ c.if-not-is_over_select.true in
+    subst (λ b. (b ≡ true) ↔ IsItemOf s t n)
+    (ap (λ b. not b && has_item_within s rows n c.in-Some.part) free ∙ sym c.has_item_within.ensures) told
+
+pub returns-else-not-is_over_select : goal.returns-else-not-is_over_select
+returns-else-not-is_over_select c =
+    let s = schema_at c.args.tables.now in
+    let rows = graph_of c.args.tables.now.parts.now in
+    let n = capitals c.args.name in
+    let t = capitals c.args.defined in
+    let told = item-told s rows c.requires.tables.parts t n c.in-Some.part (sym c.find.ensures ∙ c.in-Some.is) in
+    let over = sym c.is_over_select.ensures ∙ c.if-not-is_over_select.false in
+    subst (λ b. (b ≡ true) ↔ IsItemOf s t n)
+    (ap (λ b. not b && has_item_within s rows n c.in-Some.part) over ∙ sym (ap not c.if-not-is_over_select.false)) told
+
+pub returns-in-None : goal.returns-in-None
+returns-in-None c = (λ e. absurd (cc), none)
+  where
+    none : IsItemOf (schema_at c.args.tables.now) (capitals c.args.defined) (capitals c.args.name) → false ≡ true
+    none h =
+        let (i, k) = has-number (schema_at c.args.tables.now) (capitals c.args.defined) (capitals c.args.name) h in
+        let q = sym k ∙ sym c.find.ensures ∙ c.in-None.is in absurd (cc)

@@ -1,0 +1,18 @@
+-- Items of enumerations by name (ISO 10303-11, 8.4.1).
+use Rattle.std.specs.Prelude.{Bool, ◌↔◌, IsTrue, is_some}
+use Rattle.indexmap.specs.IndexMap.{get}
+use Rattle.step_literals.specs.declared.literal.Word.{Word}
+use Rattle.express_syntax.specs.ExpressionViews.{capitals}
+use Rattle.express_syntax.specs.Schemas.{Schema}
+use Rattle.schema_semantics.specs.Names.{Name}
+use Rattle.schema_semantics.specs.Sets.{IsItemOf}
+use Rattle.schema_names.specs.Words.{same_word}
+use Rattle.schema_data_types.specs.declared.items.Items.{Items}
+
+-- it has an item of this name
+abbrev pub has_item : Items → Word → Bool
+has_item t w = is_some (get same_word t.items w)
+
+-- These are the items of all enumerations of a schema.
+abbrev pub AreItems : Schema → Items → Type 0
+AreItems s t = (w : Word) → IsTrue (has_item t w) ↔ ((n : Name) × IsItemOf s n (capitals w))

@@ -1,0 +1,12 @@
+pub mod Alike
+pub mod Comparing
+pub mod Numbered
+pub mod Growing
+pub mod Values
+pub mod Leaves
+pub mod Selects
+pub mod Shaped
+pub mod Making
+pub mod Laws
+pub mod Items
+pub mod Enumerated

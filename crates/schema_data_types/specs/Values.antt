@@ -1,0 +1,59 @@
+-- What the values of a data type may be, by number (ISO 10303-11, 8).
+use Rattle.std.specs.Prelude.{◌≡◌, ◌<◌, ◌^◌, List, Some, length, map, slice_get, ◌⊎◌, ◌↔◌}
+use Rattle.digraph.specs.Graphs.{Graph, graph_of}
+use Rattle.digraph.specs.Closures.{IsClosure}
+use Rattle.express_syntax.specs.Schemas.{Schema, DataType}
+use Rattle.express_syntax.specs.SchemaViews.{schema_of}
+use Rattle.schema_semantics.specs.Names.{Name, OneOf}
+use Rattle.schema_semantics.specs.Shapes.{Atom, value, instance, a_number, a_logical, a_string, a_binary, an_item, an_aggregate, IsSort}
+use Rattle.schema_semantics.specs.Shapes as shapes
+use Rattle.schema_names.specs.Numbers.{HasNumber, AreRowsOf}
+use Rattle.schema_names.specs.Edges.{IsGraphOf, parts_in}
+use Rattle.schema_data_types.specs.declared.values.Sort.{Sort}
+use Rattle.schema_data_types.specs.declared.values.Sort.TheVariants as sorts
+use Rattle.schema_data_types.specs.declared.values.Atom.{Atom as Numbered}
+use Rattle.schema_data_types.specs.declared.values.Atom.TheVariants as atoms
+use Rattle.schema_data_types.specs.declared.values.Tables.{Tables}
+use Rattle.schema_data_types.specs.Numbered.{form_in, whole_types, all_data_types}
+
+abbrev pub sort_of : Sort → shapes.Sort
+sort_of sorts.Number = a_number
+sort_of sorts.Logical = a_logical
+sort_of sorts.String = a_string
+sort_of sorts.Binary = a_binary
+sort_of sorts.Item = an_item
+
+-- what stands for an atom by number: an aggregate by the number of the data type of its elements
+abbrev pub IsMeant : Schema → Numbered → Atom → Type 0
+IsMeant s (atoms.Value t w) x = x ≡ value (sort_of t) w
+IsMeant s (atoms.Aggregate n w) x =
+    (k : DataType) × (slice_get (all_data_types s) n ≡ Some k) × (x ≡ value (an_aggregate k) w)
+IsMeant s (atoms.Instance i) x = (n : Name) × HasNumber s n i × (x ≡ instance n)
+
+-- the set of atoms that a list stands for
+abbrev pub Holds : Schema → List Numbered → Atom → Type 0
+Holds s xs x = OneOf (λ (a : Numbered). IsMeant s a x) xs
+
+-- those of P are added to a set
+abbrev pub AddsAll : Schema → List Numbered → (Atom → Type 0) → List Numbered → Type 0
+AddsAll s old P new = (x : Atom) → Holds s new x ↔ (Holds s old x ⊎ P x)
+
+-- The rows lead from each declaration to all that it is made of, through names and SELECTs (ISO 10303-11, 8.3.2
+-- and 8.4.2).
+pub record AreParts (s : Schema) (rows : Graph) : Type 0 where
+  pub graph : Graph
+  pub drawn : IsGraphOf s parts_in graph
+  pub closed : IsClosure graph rows
+
+-- The tables are those of the schema.
+pub record AreTables (t : Tables) : Type 0 where
+  pub forms : t.data_types.now.forms.items
+      ≡ map (form_in (schema_of t.names.now.schema.now)) (all_data_types (schema_of t.names.now.schema.now))
+  pub few : length t.data_types.now.forms.items < 2 ^ 32
+  pub rows : AreRowsOf whole_types (all_data_types (schema_of t.names.now.schema.now))
+      (schema_of t.names.now.schema.now).declarations (graph_of t.data_types.now.rows.items)
+  pub parts : AreParts (schema_of t.names.now.schema.now) (graph_of t.parts.now)
+
+-- the schema of tables
+abbrev pub schema_at : Tables → Schema
+schema_at t = schema_of t.names.now.schema.now

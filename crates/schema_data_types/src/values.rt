@@ -1,0 +1,289 @@
+//! What the values of data types may be.
+
+ghost use Rattle.std.specs.Prelude.{
+  ◌≡◌,
+  ℕ,
+  ◌+◌,
+  ◌++◌,
+  [],
+  ◌<◌,
+  ◌^◌,
+  true,
+  Some,
+  length,
+  slice_get,
+  OnOk,
+};
+ghost use Rattle.std.specs.List.{cons_option, list_any};
+ghost use Rattle.digraph.specs.Graphs.{graph_of, has, next};
+ghost use Rattle.express_syntax.specs.Schemas.{DataType as DataTypeTree, named};
+ghost use Rattle.express_syntax.specs.Views.{declaration_of, underlying_of};
+ghost use Rattle.express_syntax.specs.SchemaViews.{schema_of};
+ghost use Rattle.schema_semantics.specs.Names.{Name, StandsFor};
+ghost use Rattle.schema_semantics.specs.Shapes.{IsOf};
+ghost use Rattle.schema_names.specs.Numbers.{number_of, HasNumber};
+ghost use Rattle.schema_data_types.specs.Numbered.{all_data_types};
+ghost use Rattle.schema_data_types.specs.Values.{AddsAll, AreTables, schema_at};
+ghost use Rattle.schema_data_types.specs.Leaves.{leaf_atom, LeafGives, Gives, OneGives};
+ghost use Rattle.schema_data_types.specs.Selects.{is_select, is_select_at, is_over_select};
+
+use crate::forms::{DataTypes, Form};
+use express_syntax::tree::{Declaration, Underlying};
+use schema_names::names::Names;
+use std::alloc::AllocError;
+
+/// The sorts of values that are neither aggregates nor instances.
+#[derive(Clone, Copy, Debug, PartialEq, Eq)]
+pub enum Sort {
+    Number,
+    Logical,
+    String,
+    Binary,
+    /// An item of an enumeration.
+    Item,
+}
+
+/// What a value may be.
+#[derive(Clone, Copy, Debug, PartialEq, Eq)]
+pub enum Atom {
+    /// A value of a sort, and whether it is of a SELECT.
+    Value(Sort, bool),
+    /// An aggregate of elements of the data type of this number, and whether it is of a SELECT.
+    Aggregate(u32, bool),
+    /// An instance of the entity of this number, or of a subtype.
+    Instance(u32),
+}
+
+/// What is known of a schema's data types.
+#[derive(Clone, Copy)]
+pub struct Tables<'a, 't, 'r> {
+    pub names: &'r Names<'a, 't>,
+    pub data_types: &'r DataTypes,
+    /// By declaration, all that it is made of.
+    pub parts: &'r [Vec<u32>],
+}
+
+/// What a data type without a name gives, by its form and its number.
+fn leaf(form: Form, number: u32, is_of_select: bool) -> Option<Atom>
+    requires { number + 1 < 2 ^ 32 }
+    ensures { result ≡ leaf_atom form number is_of_select }
+{
+    match form {
+        Form::Number => Some(Atom::Value(Sort::Number, is_of_select)),
+        Form::Logical => Some(Atom::Value(Sort::Logical, is_of_select)),
+        Form::String => Some(Atom::Value(Sort::String, is_of_select)),
+        Form::Binary => Some(Atom::Value(Sort::Binary, is_of_select)),
+        Form::Array | Form::List | Form::Collection => {
+            Some(Atom::Aggregate(number + 1, is_of_select))
+        }
+        Form::Named(_) => None,
+    }
+}
+
+/// Adds an atom, where there is one.
+fn add_some(atoms: &mut Vec<Atom>, atom: Option<Atom>) -> Result<(), AllocError>
+    ensures { OnOk result (atoms.new.items ≡ atoms.old.items ++ cons_option atom []) }
+{
+    if let Some(atom) = atom {
+        atoms.push(atom)?;
+    }
+    Ok(())
+}
+
+/// Adds what a data type without a name gives.
+fn add_leaf(
+    tables: &Tables<'_, '_, '_>,
+    number: u32,
+    is_of_select: bool,
+    atoms: &mut Vec<Atom>,
+) -> Result<(), AllocError>
+    requires tables { AreTables tables.now }
+    requires within { number < length tables.now.data_types.now.forms.items }
+    ensures { (k : DataTypeTree)
+        → slice_get (all_data_types (schema_at tables.now)) number ≡ Some k
+        → OnOk result (AddsAll (schema_at tables.now) atoms.old.items
+        (LeafGives (schema_at tables.now) k is_of_select) atoms.new.items) }
+{
+    let form = tables.data_types.forms[number as usize];
+    add_some(atoms, leaf(form, number, is_of_select))
+}
+
+/// Whether a SELECT is declared.
+fn is_select(declaration: &Declaration<'_>) -> bool
+    ensures { result ≡ is_select (declaration_of declaration.now) }
+{
+    match declaration {
+        Declaration::Type(declared) => matches!(declared.underlying, Underlying::Select(_)),
+        _ => false,
+    }
+}
+
+/// Whether a SELECT is declared at this number.
+fn is_select_at(tables: &Tables<'_, '_, '_>, part: u32) -> bool
+    ensures { result ≡ is_select_at (schema_at tables.now) part }
+{
+    match tables.names.at(part) {
+        Some(declaration) => is_select(declaration),
+        None => false,
+    }
+}
+
+/// Whether a SELECT is declared at one of these numbers.
+fn any_select(tables: &Tables<'_, '_, '_>, parts: &[u32]) -> bool
+    ensures { result ≡ list_any (is_select_at (schema_at tables.now)) parts.now }
+{
+    for part in parts {
+        if is_select_at(tables, *part) {
+            return true;
+        }
+    }
+    false
+}
+
+/// Whether a defined type is a SELECT, or stands for one under whatever names.
+pub fn is_over_select(tables: &Tables<'_, '_, '_>, part: u32) -> bool
+    requires { part < length tables.now.parts.now }
+    ensures { result ≡ is_over_select (schema_at tables.now) (graph_of tables.now.parts.now)
+        part }
+{
+    is_select_at(tables, part) || any_select(tables, &tables.parts[part as usize])
+}
+
+/// The number of the data type behind the `=` of a defined type, where there is one.
+fn underlying_number(data_types: &DataTypes, part: u32) -> Option<u32>
+    ensures { result ≡ slice_get (next (graph_of data_types.now.rows.items) part) 0 }
+{
+    match data_types.rows.get(part as usize) {
+        Some(row) => row.first().copied(),
+        None => None,
+    }
+}
+
+/// Adds what a defined type gives by itself.
+fn add_underlying<'a>(
+    tables: &Tables<'a, '_, '_>,
+    part: u32,
+    underlying: &Underlying<'a>,
+    is_of_select: bool,
+    atoms: &mut Vec<Atom>,
+) -> Result<(), AllocError>
+    requires tables { AreTables tables.now }
+    requires within { (n : Name) × HasNumber (schema_at tables.now) n part
+        × StandsFor (schema_at tables.now) n (underlying_of underlying.now) }
+    ensures { (n : Name) → HasNumber (schema_at tables.now) n part
+        → OnOk result (AddsAll (schema_at tables.now) atoms.old.items
+        (Gives (schema_at tables.now) n is_of_select) atoms.new.items) }
+{
+    match underlying {
+        Underlying::Enumeration(_) => {
+            atoms.push(Atom::Value(Sort::Item, is_of_select))?;
+            Ok(())
+        }
+        Underlying::Select(_) => Ok(()),
+        Underlying::DataType(_) => match underlying_number(tables.data_types, part) {
+            Some(number) => add_leaf(tables, number, is_of_select, atoms),
+            None => Ok(()),
+        },
+    }
+}
+
+/// Adds what an entity or a defined type gives by itself.
+fn add_part(
+    tables: &Tables<'_, '_, '_>,
+    part: u32,
+    is_of_select: bool,
+    atoms: &mut Vec<Atom>,
+) -> Result<(), AllocError>
+    requires tables { AreTables tables.now }
+    requires named { (n : Name) × HasNumber (schema_at tables.now) n part }
+    ensures { (n : Name) → HasNumber (schema_at tables.now) n part
+        → OnOk result (AddsAll (schema_at tables.now) atoms.old.items
+        (Gives (schema_at tables.now) n is_of_select) atoms.new.items) }
+{
+    match tables.names.declaration(part) {
+        Declaration::Entity(_) => {
+            atoms.push(Atom::Instance(part))?;
+            Ok(())
+        }
+        Declaration::Type(declared) => {
+            add_underlying(tables, part, &declared.underlying, is_of_select, atoms)
+        }
+        Declaration::Skipped(_) => Ok(()),
+    }
+}
+
+/// Adds what each of some entities and defined types gives by itself.
+fn add_parts(
+    tables: &Tables<'_, '_, '_>,
+    row: &[u32],
+    is_of_select: bool,
+    atoms: &mut Vec<Atom>,
+) -> Result<(), AllocError>
+    requires tables { AreTables tables.now }
+    requires named { (j : ℕ) → has row.now j ≡ true
+        → (n : Name) × HasNumber (schema_at tables.now) n j }
+    ensures { OnOk result (AddsAll (schema_at tables.now) atoms.old.items
+        (OneGives (schema_at tables.now) row.now is_of_select) atoms.new.items) }
+{
+    for part in row {
+        add_part(tables, *part, is_of_select, atoms)?;
+    }
+    Ok(())
+}
+
+/// Adds what the values of an entity or a defined type may be.
+pub fn add_named(
+    tables: &Tables<'_, '_, '_>,
+    part: u32,
+    atoms: &mut Vec<Atom>,
+) -> Result<(), AllocError>
+    requires tables { AreTables tables.now }
+    requires named { (n : Name) × HasNumber (schema_at tables.now) n part }
+    ensures { (n : Name) → HasNumber (schema_at tables.now) n part
+        → OnOk result (AddsAll (schema_at tables.now) atoms.old.items
+        (IsOf (schema_at tables.now) (named n)) atoms.new.items) }
+{
+    let is_of_select = is_over_select(tables, part);
+    add_part(tables, part, is_of_select, atoms)?;
+    add_parts(tables, &tables.parts[part as usize], is_of_select, atoms)
+}
+
+/// Adds what the values of what a name means may be; nothing where it means nothing.
+fn add_meant(
+    tables: &Tables<'_, '_, '_>,
+    meant: Option<u32>,
+    atoms: &mut Vec<Atom>,
+) -> Result<(), AllocError>
+    requires tables { AreTables tables.now }
+    requires meant { (n : Name) × (number_of (schema_at tables.now) n ≡ meant) }
+    ensures { (n : Name) → number_of (schema_at tables.now) n ≡ meant
+        → OnOk result (AddsAll (schema_at tables.now) atoms.old.items
+        (IsOf (schema_at tables.now) (named n)) atoms.new.items) }
+{
+    match meant {
+        Some(part) => add_named(tables, part, atoms),
+        None => Ok(()),
+    }
+}
+
+/// Adds what the values of the data type of a number may be, SELECTs being replaced by their items
+/// (ISO 10303-11, 8.4.2).
+///
+/// It takes time for each type and entity that the data type's name leads to.
+pub fn add_values(
+    tables: &Tables<'_, '_, '_>,
+    number: u32,
+    atoms: &mut Vec<Atom>,
+) -> Result<(), AllocError>
+    requires tables { AreTables tables.now }
+    requires within { number < length (all_data_types (schema_at tables.now)) }
+    ensures { (k : DataTypeTree)
+        → slice_get (all_data_types (schema_at tables.now)) number ≡ Some k
+        → OnOk result (AddsAll (schema_at tables.now) atoms.old.items
+        (IsOf (schema_at tables.now) k) atoms.new.items) }
+{
+    match tables.data_types.forms[number as usize] {
+        Form::Named(meant) => add_meant(tables, meant, atoms),
+        _ => add_leaf(tables, number, false, atoms),
+    }
+}

@@ -1,4 +1,0 @@
-pub mod Unmet
-pub mod Asking
-pub mod Deciding
-pub mod ByClause

@@ -1,0 +1,17 @@
+use Rattle.std.proofs.Common.{[], map, flat_map, subst}
+use Rattle.express_syntax.specs.SchemaViews.{schema_of}
+use Rattle.express_syntax.specs.Views.{declaration_of}
+use Rattle.schema_derivations.specs.Asked.{deriveds_in}
+use Rattle.schema_derivations.specs.Making.{Adds}
+use Rattle.schema_derivations.proofs.Made.{are-formulas}
+use Rattle.schema_derivations.proofs.formula_table.formulas.Goals as goal
+
+pub returns : goal.returns
+returns c =
+    let s = schema_of c.args.names.now.schema.now in
+    let ranks = c.args.ranks.now in
+    let new = c.add_all.new.formulas.items in
+    are-formulas s ranks c.requires.ranks c.requires.resolved new
+    (subst (λ xs. Adds ranks (flat_map deriveds_in (map declaration_of xs)) [] new) c.deref.ensures.value
+    (subst (λ old. Adds ranks (flat_map deriveds_in (map declaration_of c.deref.result.now)) old new)
+    c.new-formulas.ensures.items c.in_ok-add_all.ensures))

@@ -1,0 +1,24 @@
+-- How derived attributes are computed, by number (ISO 10303-11, 9.2.1.2).
+use Rattle.std.specs.Prelude.{◌≡◌, ℕ, ◌+◌, List, Option, Some, cond, length, get_or, slice_get, option_map, nat_lt}
+use Rattle.express_syntax.specs.ExpressionViews.{tree_of}
+use Rattle.express_syntax.specs.Schemas.{Schema}
+use Rattle.schema_semantics.specs.Attributes.{Derivation}
+use Rattle.conformance.specs.Attributes as meanings
+use Rattle.conformance.specs.Attributes.{IsFormula}
+use Rattle.schema_attributes.specs.Derivations.{all_derivations, HasDerivation}
+use Rattle.schema_derivations.specs.declared.formula.Formula.{Formula}
+
+abbrev pub formula_seen : Formula → meanings.Formula
+formula_seen f = record { rank = f.rank; expression = tree_of f.expression.now }
+
+-- By number, how derived attributes are computed; none for those that are set aside.
+pub record AreFormulas (s : Schema) (table : List (Option Formula)) : Type 0 where
+  pub same : length table ≡ length (all_derivations s)
+  pub each : (j : ℕ) (d : Derivation) (o : Option Formula) → HasDerivation s j d → slice_get table j ≡ Some o
+      → IsFormula s d (option_map formula_seen o)
+
+-- The place in the table of the n-th derived attribute of the entity that has the number i, where those of the
+-- entities begin at these places; the end of the table where that entity has no n-th.
+abbrev pub formula_place : List ℕ → ℕ → ℕ → ℕ → ℕ
+formula_place firsts count i n =
+    cond (nat_lt (get_or firsts i count + n) (get_or firsts (i + 1) count)) (get_or firsts i count + n) count

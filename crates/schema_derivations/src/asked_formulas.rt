@@ -1,0 +1,65 @@
+//! Formulas that are asked for by the number of an entity.
+
+ghost use Rattle.std.specs.Prelude.{◌≡◌, ℕ, List, Option, length, get_or, slice_get, option_map};
+ghost use Rattle.std.specs.Option.{option_flatten};
+ghost use Rattle.express_syntax.specs.Schemas.{Schema};
+ghost use Rattle.schema_semantics.specs.Names.{Name};
+ghost use Rattle.schema_names.specs.Numbers.{HasNumber};
+ghost use Rattle.conformance.specs.Rules.{InverseAttribute};
+ghost use Rattle.conformance.specs.Attributes.{Attributes, AreAttributes};
+ghost use Rattle.schema_derivations.specs.Firsts.{AreFirsts};
+ghost use Rattle.schema_derivations.specs.Formulas.{formula_seen, formula_place, AreFormulas};
+
+use crate::formula::Formula;
+
+/// The number of the first derived attribute from a declaration on, of so many; their count behind
+/// the last declaration.
+fn first_at(firsts: &[u32], declaration: usize, count: usize) -> usize
+    ensures { result ≡ get_or firsts.now declaration count }
+{
+    match firsts.get(declaration) {
+        Some(first) => *first as usize,
+        None => count,
+    }
+}
+
+/// The place of a formula among so many, by the number behind DERIVE of the entity of a number;
+/// their end where that entity has no such derived attribute.
+fn place_of(firsts: &[u32], count: usize, entity: u32, number: usize) -> usize
+    ensures { result ≡ formula_place firsts.now count entity number }
+{
+    let first = first_at(firsts, entity as usize, count);
+    let end = first_at(firsts, entity as usize + 1, count);
+    if number < end.saturating_sub(first) {
+        first + number
+    } else {
+        count
+    }
+}
+
+/// The formula at a place; none behind the end.
+fn formula_in<'t, 'a>(formulas: &[Option<Formula<'a, 't>>], place: usize) -> Option<Formula<'a, 't>>
+    ensures { result ≡ option_flatten (slice_get formulas.now place) }
+{
+    formulas.get(place).copied().flatten()
+}
+
+/// How the derived attribute is computed that stands at this number, counted from 0, behind DERIVE
+/// of the entity of this number; none where there is none, or where it is set aside
+/// (ISO 10303-11, 9.2.1.2).
+pub fn formula_at<'t, 'a>(
+    formulas: &[Option<Formula<'a, 't>>],
+    firsts: &[u32],
+    entity: u32,
+    number: usize,
+) -> Option<Formula<'a, 't>>
+    ensures meant { (s : Schema) → AreFormulas s formulas.now → AreFirsts s firsts.now
+        → (inverses : List InverseAttribute) (attributes : Attributes)
+        → AreAttributes s inverses attributes → (e : Name) → HasNumber s e entity
+        → option_map formula_seen result ≡ attributes.formula (e, number) }
+    ensures place { result ≡ option_flatten (slice_get formulas.now
+        (formula_place firsts.now (length formulas.now) entity number)) }
+{
+    let place = place_of(firsts, formulas.len(), entity, number);
+    formula_in(formulas, place)
+}

@@ -1,0 +1,99 @@
+//! What the names that begin references mean.
+
+ghost use Rattle.std.specs.Prelude.{◌↔◌, IfOk, IsTrue};
+ghost use Rattle.express_syntax.specs.ExpressionViews.{capitals, qualifiers_of};
+ghost use Rattle.schema_semantics.specs.Names.{Name};
+ghost use Rattle.schema_semantics.specs.Sets.{IsVariable, MayTake, WithSubtypes, of_set};
+ghost use Rattle.schema_data_types.specs.Values.{AreTables, schema_at};
+ghost use Rattle.schema_expressions.specs.Scopes.{IsScope, schema_around, own_in, variables_in};
+ghost use Rattle.schema_expressions.specs.Meanings.{IsMeaning, BeginWithItem};
+
+use crate::scope::Scope;
+use crate::variables::find_variable;
+use express_syntax::expression::Qualifier;
+use schema_data_types::items::is_item_of;
+use schema_data_types::values::{Atom, Tables};
+use schema_references::references::take_of_any;
+use schema_references::taken::Taken;
+use std::alloc::{AllocError, Global};
+use step_literals::literal::Word;
+
+/// What a name means that begins a reference (ISO 10303-11, 12.7).
+#[derive(Drop)]
+pub(crate) enum Meaning {
+    /// A variable of a QUERY, and what it may be.
+    Variable(Vec<Atom>),
+    /// An attribute of SELF, of a subtype too.
+    Attribute(Taken),
+    /// The item of a type that stands behind the dot.
+    ItemOfType,
+    /// An item of any enumeration.
+    Item,
+    Nothing,
+}
+
+/// Whether qualifiers begin with an item of a defined type.
+fn begin_with_item<'a>(
+    tables: &Tables<'a, '_, '_>,
+    defined: Word<'_>,
+    qualifiers: &[Qualifier<'a>],
+) -> bool
+    requires tables { AreTables tables.now }
+    ensures { IsTrue result ↔ BeginWithItem (schema_at tables.now) (capitals defined.entry)
+        (qualifiers_of qualifiers.now) }
+{
+    let Some(first) = qualifiers.first() else {
+        return false;
+    };
+    match first {
+        Qualifier::Attribute(item) => is_item_of(tables, defined, *item),
+        Qualifier::Group(_, _) => false,
+        Qualifier::Index(_) => false,
+    }
+}
+
+/// What a name means that is neither a variable nor an attribute.
+fn item_meaning<'a>(
+    scope: &Scope<'a, '_, '_, '_>,
+    name: Word<'_>,
+    qualifiers: &[Qualifier<'a>],
+) -> Meaning
+    requires scope { IsScope scope.now }
+    ensures { (IsVariable (variables_in scope.now) (capitals name.entry) → ⊥)
+        → ((p : Name) → MayTake (schema_around scope.now)
+        (of_set (WithSubtypes (schema_around scope.now) (own_in scope.now))
+        (capitals name.entry)) p → ⊥)
+        → IsMeaning (schema_around scope.now) (own_in scope.now) (variables_in scope.now)
+        (capitals name.entry) (qualifiers_of qualifiers.now) result }
+{
+    if begin_with_item(&scope.known.tables, name, qualifiers) {
+        Meaning::ItemOfType
+    } else if scope.items.has(name) {
+        Meaning::Item
+    } else {
+        Meaning::Nothing
+    }
+}
+
+/// What a name means: a variable, else an attribute of SELF, else the item of the type before the
+/// dot, else an item of any enumeration.
+pub(crate) fn meaning_of<'a>(
+    alloc: Global,
+    scope: &Scope<'a, '_, '_, '_>,
+    name: Word<'_>,
+    qualifiers: &[Qualifier<'a>],
+) -> Result<Meaning, AllocError>
+    requires scope { IsScope scope.now }
+    ensures { IfOk result (IsMeaning (schema_around scope.now) (own_in scope.now)
+        (variables_in scope.now) (capitals name.entry) (qualifiers_of qualifiers.now)) }
+{
+    if let Some(variable) = find_variable(scope.variables, name) {
+        return Ok(Meaning::Variable(Vec::from_slice(alloc, &variable.may)?));
+    }
+    let taken = take_of_any(alloc, &scope.known, scope.own, name)?;
+    if taken.is_some {
+        Ok(Meaning::Attribute(taken))
+    } else {
+        Ok(item_meaning(scope, name, qualifiers))
+    }
+}

@@ -1,0 +1,181 @@
+//! What expressions may be.
+
+ghost use Rattle.std.specs.Prelude.{IfOk, OnOk, map};
+ghost use Rattle.express_syntax.specs.ExpressionViews.{
+  root_of,
+  qualifiers_of,
+  tree_of,
+  trees_of,
+};
+ghost use Rattle.schema_semantics.specs.Sets.{Elements, May, OfReference};
+ghost use Rattle.schema_semantics.specs.Reasons.{ElementsOf, OfTrees};
+ghost use Rattle.schema_data_types.specs.Values.{AddsAll, AreTables, Holds, IsMeant, schema_at};
+ghost use Rattle.schema_references.specs.Taking.{IsSet};
+ghost use Rattle.schema_expressions.specs.Scopes.{IsScope, schema_around, own_in, variables_in};
+
+use crate::atoms::{add_aggregates, add_call, add_literal, add_sort};
+use crate::references::refer;
+use crate::scope::Scope;
+use express_syntax::expression::{Expr, Qualifier, Root};
+use schema_data_types::values::{Atom, Sort, Tables, add_values};
+use std::alloc::{AllocError, Global};
+
+/// Adds what the elements of an atom may be, where it is an aggregate.
+fn add_elements(
+    tables: &Tables<'_, '_, '_>,
+    atom: Atom,
+    atoms: &mut Vec<Atom>,
+) -> Result<(), AllocError>
+    requires tables { AreTables tables.now }
+    ensures { OnOk result (AddsAll (schema_at tables.now) atoms.old.items
+        (Elements (schema_at tables.now) (IsMeant (schema_at tables.now) atom))
+        atoms.new.items) }
+{
+    let Atom::Aggregate(number, _) = atom else {
+        return Ok(());
+    };
+    if (number as usize) < tables.data_types.forms.len() {
+        add_values(tables, number, atoms)
+    } else {
+        Ok(())
+    }
+}
+
+/// What the elements of aggregates may be, of values that may be these (ISO 10303-11, 12.6.1).
+pub fn elements(
+    alloc: Global,
+    tables: &Tables<'_, '_, '_>,
+    atoms: &[Atom],
+) -> Result<Vec<Atom>, AllocError>
+    requires tables { AreTables tables.now }
+    ensures { IfOk result (λ t. IsSet (schema_at tables.now)
+        (Elements (schema_at tables.now) (Holds (schema_at tables.now) atoms.now)) t.items) }
+{
+    let mut elements = Vec::new(alloc);
+    for atom in atoms {
+        add_elements(tables, *atom, &mut elements)?;
+    }
+    Ok(elements)
+}
+
+/// Adds what a reference may be.
+fn add_reference<'a>(
+    alloc: Global,
+    scope: &Scope<'a, '_, '_, '_>,
+    root: Root<'_>,
+    qualifiers: &[Qualifier<'a>],
+    atoms: &mut Vec<Atom>,
+) -> Result<(), AllocError>
+    requires scope { IsScope scope.now }
+    ensures { OnOk result (AddsAll (schema_around scope.now) atoms.old.items
+        (OfReference (schema_around scope.now) (own_in scope.now) (variables_in scope.now)
+        (root_of root.entry) (qualifiers_of qualifiers.now)) atoms.new.items) }
+{
+    let reference = refer(alloc, scope, root, qualifiers)?;
+    atoms.extend_from_slice(&reference.may)?;
+    Ok(())
+}
+
+/// Adds what an expression may be.
+fn add_possible<'a>(
+    alloc: Global,
+    scope: &Scope<'a, '_, '_, '_>,
+    expression: &Expr<'a>,
+    atoms: &mut Vec<Atom>,
+) -> Result<(), AllocError>
+    requires scope { IsScope scope.now }
+    ensures { OnOk result (AddsAll (schema_around scope.now) atoms.old.items
+        (May (schema_around scope.now) (own_in scope.now) (variables_in scope.now)
+        (tree_of expression.now)) atoms.new.items) }
+{
+    match expression {
+        Expr::Literal(literal) => add_literal(literal, atoms),
+        Expr::Signed(_, _) => add_sort(Sort::Number, atoms),
+        Expr::Reference(root, qualifiers) => {
+            add_reference(alloc, scope, *root, qualifiers, atoms)
+        }
+        Expr::Parenthesized(inner) => add_possible(alloc, scope, inner, atoms),
+        Expr::Aggregate(_) => Ok(()),
+        Expr::Query { source, .. } => {
+            let mut sources = Vec::new(alloc);
+            add_possible(alloc, scope, source, &mut sources)?;
+            add_aggregates(&sources, atoms)
+        }
+        Expr::Call(function, _) => add_call(*function, atoms),
+        Expr::Nvl(value, substitute) => {
+            add_possible(alloc, scope, value, atoms)?;
+            add_possible(alloc, scope, substitute, atoms)
+        }
+        Expr::Interval { .. } => add_sort(Sort::Logical, atoms),
+        Expr::Not(_) => add_sort(Sort::Logical, atoms),
+        Expr::Conjunction(_, _) => add_sort(Sort::Logical, atoms),
+        Expr::Disjunction(_, _) => add_sort(Sort::Logical, atoms),
+        Expr::Comparison(_, _, _) => add_sort(Sort::Logical, atoms),
+    }
+}
+
+/// What an expression may be.
+pub fn possible<'a>(
+    alloc: Global,
+    scope: &Scope<'a, '_, '_, '_>,
+    expression: &Expr<'a>,
+) -> Result<Vec<Atom>, AllocError>
+    requires scope { IsScope scope.now }
+    ensures { IfOk result (λ t. IsSet (schema_around scope.now) (May (schema_around scope.now)
+        (own_in scope.now) (variables_in scope.now) (tree_of expression.now)) t.items) }
+{
+    let mut atoms = Vec::new(alloc);
+    add_possible(alloc, scope, expression, &mut atoms)?;
+    Ok(atoms)
+}
+
+/// What one of some expressions may be.
+fn possible_items<'a>(
+    alloc: Global,
+    scope: &Scope<'a, '_, '_, '_>,
+    items: &[Expr<'a>],
+) -> Result<Vec<Atom>, AllocError>
+    requires scope { IsScope scope.now }
+    ensures { IfOk result (λ t. IsSet (schema_around scope.now) (OfTrees
+        (schema_around scope.now) (own_in scope.now) (variables_in scope.now)
+        (trees_of items.now)) t.items) }
+{
+    let mut atoms = Vec::new(alloc);
+    for item in items {
+        add_possible(alloc, scope, item, &mut atoms)?;
+    }
+    Ok(atoms)
+}
+
+/// What the elements of aggregates may be that an expression may be.
+fn elements_of<'a>(
+    alloc: Global,
+    scope: &Scope<'a, '_, '_, '_>,
+    expression: &Expr<'a>,
+) -> Result<Vec<Atom>, AllocError>
+    requires scope { IsScope scope.now }
+    ensures { IfOk result (λ t. IsSet (schema_around scope.now)
+        (Elements (schema_around scope.now) (May (schema_around scope.now)
+        (own_in scope.now) (variables_in scope.now) (tree_of expression.now))) t.items) }
+{
+    let atoms = possible(alloc, scope, expression)?;
+    elements(alloc, &scope.known.tables, &atoms)
+}
+
+/// What the elements of an expression on the right of IN may be (ISO 10303-11, 12.2.3).
+pub fn possible_elements<'a>(
+    alloc: Global,
+    scope: &Scope<'a, '_, '_, '_>,
+    expression: &Expr<'a>,
+) -> Result<Vec<Atom>, AllocError>
+    requires scope { IsScope scope.now }
+    ensures { IfOk result (λ t. IsSet (schema_around scope.now) (ElementsOf
+        (schema_around scope.now) (own_in scope.now) (variables_in scope.now)
+        (tree_of expression.now)) t.items) }
+{
+    match expression {
+        Expr::Parenthesized(inner) => possible_elements(alloc, scope, inner),
+        Expr::Aggregate(items) => possible_items(alloc, scope, items),
+        _ => elements_of(alloc, scope, expression),
+    }
+}

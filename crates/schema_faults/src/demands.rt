@@ -1,0 +1,48 @@
+//! All that a schema asks of its names.
+
+ghost use Rattle.std.specs.Prelude.{◌≡◌};
+ghost use Rattle.digraph.specs.Graphs.{graph_of};
+ghost use Rattle.express_syntax.specs.Views.{declaration_of as declaration_seen};
+ghost use Rattle.express_syntax.specs.SchemaViews.{schema_of};
+ghost use Rattle.schema_semantics.specs.Faults.{demands_of_declaration, demands};
+ghost use Rattle.schema_faults.specs.Checks.{Checks};
+ghost use Rattle.schema_places.specs.Above.{AreAbove};
+
+use crate::entities::check_entity_declaration;
+use crate::types::check_underlying;
+use express_syntax::tree::Declaration;
+use schema_names::names::Names;
+use step_literals::literal::Word;
+
+/// The names of a declaration.
+fn check_declaration<'a>(
+    names: &Names<'a, '_>,
+    above: &[Vec<u32>],
+    declaration: &Declaration<'a>,
+) -> Result<(), Word<'a>>
+    requires { AreAbove (schema_of names.now.schema.now) (graph_of above.now) }
+    ensures { Checks (schema_of names.now.schema.now)
+        (demands_of_declaration (declaration_seen declaration.now)) result }
+{
+    match declaration {
+        Declaration::Type(declared) => check_underlying(names, &declared.underlying),
+        Declaration::Entity(entity) => check_entity_declaration(names, above, entity),
+        Declaration::Skipped(_) => Ok(()),
+    }
+}
+
+/// Whether each name of a schema is what its place asks for (ISO 10303-11, 8, 9 and 10), over the
+/// rows of all that SUBTYPE OF leads to.
+///
+/// The error is the first name in the text that isn't: one that has to be a type or an entity, an
+/// inherited attribute or an inverted one.
+pub fn check_demands<'a>(names: &Names<'a, '_>, above: &[Vec<u32>]) -> Result<(), Word<'a>>
+    requires { AreAbove (schema_of names.now.schema.now) (graph_of above.now) }
+    ensures { Checks (schema_of names.now.schema.now) (demands (schema_of names.now.schema.now))
+        result }
+{
+    for declaration in names.declarations() {
+        check_declaration(names, above, declaration)?;
+    }
+    Ok(())
+}

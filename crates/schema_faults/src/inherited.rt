@@ -1,0 +1,45 @@
+//! The attributes that an entity has, its own and those of its supertypes (ISO 10303-11, 9.2.3.3).
+
+ghost use Rattle.std.specs.Prelude.{◌≡◌};
+ghost use Rattle.std.specs.List.{list_any};
+ghost use Rattle.digraph.specs.Graphs.{graph_of};
+ghost use Rattle.express_syntax.specs.ExpressionViews.{capitals};
+ghost use Rattle.express_syntax.specs.SchemaViews.{schema_of};
+ghost use Rattle.schema_places.specs.Owned.{declares_at, has_meant};
+
+use schema_names::names::Names;
+use schema_places::own::{Meant, declares_at};
+use step_literals::literal::Word;
+
+/// Whether one of these entities declares such an attribute.
+fn any_declares(names: &Names<'_, '_>, numbers: &[u32], meant: Meant, name: Word<'_>) -> bool
+    ensures { result ≡ list_any (declares_at (schema_of names.now.schema.now) meant
+        (capitals name.entry)) numbers.now }
+{
+    for number in numbers {
+        if declares_at(names, *number, meant, name) {
+            return true;
+        }
+    }
+    false
+}
+
+/// Whether it or a supertype of it declares such an attribute.
+pub(crate) fn has(
+    names: &Names<'_, '_>,
+    above: &[Vec<u32>],
+    number: u32,
+    meant: Meant,
+    name: Word<'_>,
+) -> bool
+    ensures { result ≡ has_meant (schema_of names.now.schema.now) (graph_of above.now) meant
+        (capitals name.entry) number }
+{
+    if declares_at(names, number, meant, name) {
+        return true;
+    }
+    let Some(uppers) = above.get(number as usize) else {
+        return false;
+    };
+    any_declares(names, uppers, meant, name)
+}

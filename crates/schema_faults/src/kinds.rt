@@ -1,0 +1,76 @@
+//! Who is a kind of whom, and which attributes are inherited (ISO 10303-11, 9.2.3).
+
+ghost use Rattle.std.specs.Prelude.{◌≡◌};
+ghost use Rattle.std.specs.List.{list_any};
+ghost use Rattle.digraph.specs.Graphs.{graph_of};
+ghost use Rattle.express_syntax.specs.ExpressionViews.{capitals};
+ghost use Rattle.express_syntax.specs.Views.{names_of};
+ghost use Rattle.express_syntax.specs.SchemaViews.{schema_of};
+ghost use Rattle.schema_faults.specs.Kinds.{is_kind, is_inherited, is_inverted};
+
+use crate::inherited::has;
+use schema_names::names::Names;
+use schema_places::above::is_or_leads;
+use schema_places::own::Meant;
+use step_literals::literal::Word;
+
+/// Whether a name is a kind of what has a number.
+fn is_kind(names: &Names<'_, '_>, above: &[Vec<u32>], name: Word<'_>, upper: u32) -> bool
+    ensures { result ≡ is_kind (schema_of names.now.schema.now) (graph_of above.now) upper
+        (capitals name.entry) }
+{
+    match names.find(name) {
+        Some(lower) => is_or_leads(above, lower, upper),
+        None => false,
+    }
+}
+
+/// Whether one of some names is a kind of what has a number.
+fn any_kind(names: &Names<'_, '_>, above: &[Vec<u32>], lowers: &[Word<'_>], upper: u32) -> bool
+    ensures { result ≡ list_any (is_kind (schema_of names.now.schema.now) (graph_of above.now)
+        upper) (names_of lowers.now) }
+{
+    for lower in lowers {
+        if is_kind(names, above, *lower, upper) {
+            return true;
+        }
+    }
+    false
+}
+
+/// Whether an entity is above one of these supertypes, or one of them, and has such an attribute
+/// (ISO 10303-11, 9.2.3.4).
+pub(crate) fn is_inherited(
+    names: &Names<'_, '_>,
+    above: &[Vec<u32>],
+    supertypes: &[Word<'_>],
+    entity: Word<'_>,
+    name: Word<'_>,
+) -> bool
+    ensures { result ≡ is_inherited (schema_of names.now.schema.now) (graph_of above.now)
+        (names_of supertypes.now) (capitals entity.entry) (capitals name.entry) }
+{
+    match names.find(entity) {
+        Some(number) => {
+            any_kind(names, above, supertypes, number)
+                && has(names, above, number, Meant::All, name)
+        }
+        None => false,
+    }
+}
+
+/// Whether an entity has such an explicit attribute (ISO 10303-11, 9.2.1.3).
+pub(crate) fn is_inverted(
+    names: &Names<'_, '_>,
+    above: &[Vec<u32>],
+    entity: Word<'_>,
+    name: Word<'_>,
+) -> bool
+    ensures { result ≡ is_inverted (schema_of names.now.schema.now) (graph_of above.now)
+        (capitals entity.entry) (capitals name.entry) }
+{
+    match names.find(entity) {
+        Some(number) => has(names, above, number, Meant::Explicit, name),
+        None => false,
+    }
+}

@@ -1,0 +1,14 @@
+pub mod Having
+pub mod Owning
+pub mod Adding
+pub mod Whole
+pub mod Repeats
+pub mod Distinct
+pub mod OwnNumbers
+pub mod Along
+pub mod Below
+pub mod Once
+pub mod Tables
+pub mod Drawn
+pub mod Firsts
+pub mod Nearest

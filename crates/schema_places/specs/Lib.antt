@@ -1,0 +1,5 @@
+pub mod Above
+pub mod Owned
+pub mod Places
+pub mod Lines
+pub mod Origins

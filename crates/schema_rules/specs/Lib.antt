@@ -1,0 +1,5 @@
+pub mod Sources
+pub mod Seen
+pub mod Making
+pub mod Findings
+pub mod Ruled

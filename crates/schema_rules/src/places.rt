@@ -1,0 +1,67 @@
+//! Entities and explicit attributes by number.
+
+ghost use Rattle.std.specs.Prelude.{◌≡◌, slice_get};
+ghost use Rattle.std.specs.List.{find};
+ghost use Rattle.digraph.specs.Graphs.{graph_of, next};
+ghost use Rattle.express_syntax.specs.ExpressionViews.{capitals};
+ghost use Rattle.express_syntax.specs.SchemaViews.{schema_of};
+ghost use Rattle.schema_semantics.specs.Names.{Name, IsEntity};
+ghost use Rattle.schema_names.specs.Numbers.{HasNumber};
+ghost use Rattle.schema_places.specs.Places.{places_of};
+ghost use Rattle.schema_uses.specs.Speaking.{has_name};
+ghost use Rattle.schema_rules.specs.Sources.{AreSources, schema_at};
+ghost use Rattle.schema_rules.specs.Making.{IsNumberOf};
+
+use crate::sources::Sources;
+use schema_names::names::Names;
+use schema_places::attributes::Place;
+use step_literals::literal::Word;
+
+/// The number of an entity.
+pub(crate) fn entity_number(names: &Names<'_, '_>, name: Word<'_>) -> u32
+    requires { IsEntity (schema_of names.now.schema.now) (capitals name) }
+    ensures { HasNumber (schema_of names.now.schema.now) (capitals name.entry) result }
+{
+    names.find(name).unwrap()
+}
+
+/// A row by its number; an empty one where there is none.
+fn row_of(rows: &[Vec<u32>], number: u32) -> &[u32]
+    ensures { result.now ≡ next (graph_of rows.now) number }
+{
+    match rows.get(number as usize) {
+        Some(row) => row,
+        None => &[],
+    }
+}
+
+/// Whether the explicit attribute of a number has this name.
+fn has_name(places: &[Place<'_, '_>], number: u32, name: Word<'_>) -> bool
+    ensures { result ≡ has_name (capitals name.entry) (slice_get (places_of places.now) number) }
+{
+    match places.get(number as usize) {
+        Some(place) => *place.attribute == name,
+        None => false,
+    }
+}
+
+/// The first of some explicit attributes that has this name.
+fn first_named(places: &[Place<'_, '_>], row: &[u32], name: Word<'_>) -> Option<u32>
+    ensures { result
+        ≡ find (λ q. has_name (capitals name.entry) (slice_get (places_of places.now) q)) row.now }
+{
+    row.iter()
+        .find(|number| has_name(places, **number, name))
+        .copied()
+}
+
+/// The number of the explicit attribute of this name that the entity of a number declares itself;
+/// none where it declares none (ISO 10303-11, 9.2.1.1).
+pub(crate) fn own_place(sources: &Sources<'_, '_, '_>, entity: u32, name: Word<'_>) -> Option<u32>
+    requires sources { AreSources sources.now }
+    ensures { (p : Name) → IsEntity (schema_at sources.now) p
+        → HasNumber (schema_at sources.now) p entity
+        → IsNumberOf (schema_at sources.now) (p, capitals name.entry) result }
+{
+    first_named(sources.places, row_of(sources.own, entity), name)
+}

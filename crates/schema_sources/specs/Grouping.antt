@@ -1,0 +1,26 @@
+-- Which attribute `\entity.attribute` means, by number (ISO 10303-11, 12.7.4).
+use Rattle.std.specs.Prelude.{◌≡◌, ℕ, true, List, Option, MatchOption}
+use Rattle.digraph.specs.Graphs.{has}
+use Rattle.express_syntax.specs.Schemas.{Schema}
+use Rattle.schema_semantics.specs.Names.{Name, Among, Has, IsEntity}
+use Rattle.schema_names.specs.Numbers.{HasNumber}
+use Rattle.schema_bases.specs.Seen.{name_at}
+use Rattle.conformance.specs.Attributes.{IsGroupMember}
+use Rattle.schema_sources.specs.Seen.{types_seen}
+
+-- the only one that e inherits, among these types
+abbrev pub IsOnly : Schema → List ℕ → Name → Name → Name → Type 0
+IsOnly s numbers e a p =
+    Among p (types_seen s numbers) × IsEntity s e × Has s e p a × ((q : Name) → Has s e q a → q ≡ p)
+
+abbrev pub IsInherited : Schema → List ℕ → Name → Name → Option ℕ → Type 0
+IsInherited s numbers e a o =
+    MatchOption o ((p : Name) → IsOnly s numbers e a p → ⊥)
+    (λ i. (has numbers i ≡ true) × HasNumber s (name_at s i) i × IsOnly s numbers e a (name_at s i))
+
+-- the type that declares the attribute which `\e.a` means, of an instance of these types
+abbrev pub IsMember : Schema → List ℕ → Name → Name → Option ℕ → Type 0
+IsMember s numbers e a o =
+    MatchOption o ((p : Name) → IsGroupMember s (types_seen s numbers) e a p → ⊥)
+    (λ i. (has numbers i ≡ true) × HasNumber s (name_at s i) i
+    × IsGroupMember s (types_seen s numbers) e a (name_at s i))

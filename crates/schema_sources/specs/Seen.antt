@@ -1,0 +1,57 @@
+-- What an answer says, with names in place of numbers.
+use Rattle.std.specs.Prelude.{ℕ, ◌<◌, List, length, Option, None, Some, map, slice_get}
+use Rattle.express_syntax.specs.Schemas.{Schema, Derived}
+use Rattle.express_syntax.specs.SchemaViews.{schema_of}
+use Rattle.express_syntax.specs.Profile.{Every}
+use Rattle.schema_semantics.specs.Names.{Name}
+use Rattle.schema_semantics.specs.Attributes as attributes
+use Rattle.schema_semantics.specs.Attributes.{IsDerivation}
+use Rattle.schema_names.specs.Numbers.{HasNumber}
+use Rattle.schema_places.specs.Places.{all_places}
+use Rattle.schema_types.specs.declared.types.ResolvedTypes.{ResolvedTypes}
+use Rattle.schema_bases.specs.Seen.{name_at}
+use Rattle.conformance.specs.Rules.{InverseAttribute}
+use Rattle.schema_rules.specs.Seen.{place_at, inverse_seen}
+use Rattle.schema_rules.specs.declared.inverses.InverseAttribute.{InverseAttribute as InverseRow}
+use Rattle.conformance.specs.Attributes as meanings
+use Rattle.schema_sources.specs.declared.source.Derivation.{Derivation}
+use Rattle.schema_sources.specs.declared.source.Source.{Source}
+use Rattle.schema_sources.specs.declared.source.Source.TheVariants as sources
+
+-- the schema of which it is asked
+abbrev pub schema_in : ResolvedTypes → Schema
+schema_in t = schema_of t.names.schema.now
+
+-- the types of an instance
+abbrev pub types_seen : Schema → List ℕ → List Name
+types_seen s numbers = map (name_at s) numbers
+
+-- .. which are types or entities
+abbrev pub AreTypes : Schema → List ℕ → Type 0
+AreTypes s numbers = Every (λ (i : ℕ). HasNumber s (name_at s i) i) numbers
+
+-- the inverse attributes
+abbrev pub inverses_seen : Schema → List InverseRow → List InverseAttribute
+inverses_seen s rows = map (inverse_seen s) rows
+
+abbrev pub derivation_seen : Schema → Derivation → attributes.Derivation
+derivation_seen s d = (name_at s d.entity, d.number)
+
+abbrev pub or_unclear : Option InverseAttribute → meanings.Source
+or_unclear None = meanings.unclear
+or_unclear (Some i) = meanings.inverse i
+
+abbrev pub source_seen : Schema → List InverseAttribute → Source → meanings.Source
+source_seen s inverses (sources.Explicit q) = meanings.explicit (place_at s q)
+source_seen s inverses (sources.Derived d) = meanings.derived (derivation_seen s d)
+source_seen s inverses (sources.Inverse i) = or_unclear (slice_get inverses i)
+source_seen s inverses sources.Unclear = meanings.unclear
+
+-- The numbers in an answer are those of an explicit attribute, of an entity with so many derived attributes, or of an
+-- inverse attribute.
+abbrev pub IsNumbered : Schema → List InverseAttribute → Source → Type 0
+IsNumbered s inverses (sources.Explicit q) = q < length (all_places s)
+IsNumbered s inverses (sources.Derived d) =
+    HasNumber s (name_at s d.entity) d.entity × (x : Derived) × IsDerivation s (derivation_seen s d) x
+IsNumbered s inverses (sources.Inverse i) = i < length inverses
+IsNumbered s inverses sources.Unclear = Unit {0}

@@ -1,0 +1,45 @@
+-- Attributes whose values are stored: explicit ones, and inverse ones by who refers (ISO 10303-11, 9.2.1.1 and 9.2.1.3).
+use Rattle.std.specs.Prelude.{◌≡◌, ℕ, Bool, false, ◌&&◌, List, Option, None, Some, MatchOption, slice_get, eqb, bytes_eq, map, ◌⊎◌}
+use Rattle.express_syntax.specs.ExpressionViews.{capitals}
+use Rattle.express_syntax.specs.Schemas.{Schema, Entity}
+use Rattle.express_syntax.specs.Profile.{Every}
+use Rattle.schema_semantics.specs.Names.{Name, Among, IsEntityAt, inverse_names, DeclaresExplicit}
+use Rattle.schema_semantics.specs.Attributes.{Place, same_place}
+use Rattle.schema_places.specs.Places.{all_places}
+use Rattle.conformance.specs.Bases.{Domain}
+use Rattle.conformance.specs.Rules.{InverseAttribute, IsInverseAttribute, InTurn, declared_inverses}
+use Rattle.schema_rules.specs.Seen.{inverse_seen, IsNumberedInverse}
+use Rattle.schema_rules.specs.declared.inverses.InverseAttribute.{InverseAttribute as InverseRow}
+use Rattle.conformance.specs.Attributes.{Source, explicit, derived, inverse, unclear, IsInverse}
+
+abbrev pub is_place : Place → Option Place → Bool
+is_place p None = false
+is_place p (Some q) = same_place q p
+
+abbrev pub is_inverse : ℕ → Name → InverseRow → Bool
+is_inverse p a i = eqb i.entity p && bytes_eq (capitals i.name) a
+
+-- the number of an explicit attribute; none where it is none
+abbrev pub IsOwnPlace : Schema → Place → Option ℕ → Type 0
+IsOwnPlace s (p, a) o =
+    MatchOption o (DeclaresExplicit s p a → ⊥)
+    (λ q. DeclaresExplicit s p a × (slice_get (all_places s) q ≡ Some (p, a)))
+
+abbrev pub DeclaresInverse : Schema → Name → Name → Type 0
+DeclaresInverse s p a = (e : Entity) × IsEntityAt s p e × Among a (inverse_names e)
+
+-- p declares a as an explicit or an inverse attribute
+abbrev pub IsStored : Schema → Name → Name → Type 0
+IsStored s p a = DeclaresExplicit s p a ⊎ DeclaresInverse s p a
+
+-- the value of such an attribute is found there
+abbrev pub IsStoredAt : Schema → List InverseAttribute → Name → Name → Source → Type 0
+IsStoredAt s inverses p a (explicit q) = (q ≡ (p, a)) × DeclaresExplicit s p a
+IsStoredAt s inverses p a (derived d) = ⊥
+IsStoredAt s inverses p a (inverse i) = IsInverse s inverses p a i × (DeclaresExplicit s p a → ⊥)
+IsStoredAt s inverses p a unclear = ⊥
+
+-- These are the inverse attributes of the schema, and their numbers are those of its entities and attributes.
+pub record AreInverses (s : Schema) (rows : List InverseRow) : Type 0 where
+  pub declared : (d : Domain) × InTurn (IsInverseAttribute s d) (declared_inverses s) (map (inverse_seen s) rows)
+  pub numbered : Every (IsNumberedInverse s) rows

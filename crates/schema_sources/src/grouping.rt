@@ -1,0 +1,73 @@
+//! Which attribute `\entity.attribute` means (ISO 10303-11, 12.7.4).
+
+ghost use Rattle.std.specs.Prelude.{◌≡◌};
+ghost use Rattle.digraph.specs.Graphs.{has};
+ghost use Rattle.express_syntax.specs.ExpressionViews.{capitals};
+ghost use Rattle.express_syntax.specs.SchemaViews.{schema_of};
+ghost use Rattle.schema_types.specs.Made.{IsMade};
+ghost use Rattle.schema_names.specs.Numbers.{HasNumber};
+ghost use Rattle.schema_semantics.specs.Names.{Name, Declares};
+ghost use Rattle.schema_sources.specs.Seen.{schema_in, AreTypes};
+ghost use Rattle.schema_sources.specs.Grouping.{IsInherited, IsMember};
+
+use crate::declaring::{Declarer, declaring};
+use crate::derivations::row_of;
+use schema_places::own::{Meant, declares_at};
+use schema_types::types::ResolvedTypes;
+use step_literals::literal::Word;
+
+/// Whether a number is among these.
+fn is_among(types: &[u32], number: u32) -> bool
+    ensures { result ≡ has types.now number }
+{
+    types.contains(&number)
+}
+
+/// The number of the only supertype of an entity that declares an attribute of this name, where it
+/// is among these types.
+fn inherited(
+    schema: &ResolvedTypes<'_, '_>,
+    types: &[u32],
+    entity: u32,
+    name: Word<'_>,
+) -> Option<u32>
+    requires made { IsMade schema.now }
+    requires types { AreTypes (schema_in schema.now) types.now }
+    ensures { (e : Name) → HasNumber (schema_in schema.now) e entity
+        → (Declares (schema_in schema.now) e (capitals name.entry) → ⊥)
+        → IsInherited (schema_in schema.now) types.now e (capitals name.entry) result }
+{
+    let row = row_of(&schema.above, entity);
+    let Declarer::One(declaring) = declaring(&schema.names, row, name) else {
+        return None;
+    };
+    if !is_among(types, declaring) {
+        return None;
+    }
+    Some(declaring)
+}
+
+/// The number of the type that declares the attribute which `\entity.name` means: the entity's own,
+/// else the only one that it inherits. None where the entity or that type isn't among these.
+pub(crate) fn group_member(
+    schema: &ResolvedTypes<'_, '_>,
+    types: &[u32],
+    entity: Word<'_>,
+    name: Word<'_>,
+) -> Option<u32>
+    requires made { IsMade schema.now }
+    requires types { AreTypes (schema_in schema.now) types.now }
+    ensures { IsMember (schema_in schema.now) types.now (capitals entity.entry)
+        (capitals name.entry) result }
+{
+    let Some(entity) = schema.names.find(entity) else {
+        return None;
+    };
+    if !is_among(types, entity) {
+        return None;
+    }
+    if declares_at(&schema.names, entity, Meant::All, name) {
+        return Some(entity);
+    }
+    inherited(schema, types, entity, name)
+}

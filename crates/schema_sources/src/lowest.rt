@@ -1,0 +1,102 @@
+//! Which of the types that give an attribute its value is below the others
+//! (ISO 10303-11, 9.2.3.4).
+
+ghost use Rattle.std.specs.Prelude.{◌≡◌, ℕ, None};
+ghost use Rattle.std.specs.List.{list_all};
+ghost use Rattle.digraph.specs.Graphs.{graph_of};
+ghost use Rattle.express_syntax.specs.ExpressionViews.{capitals};
+ghost use Rattle.schema_sources.specs.Seen.{schema_in};
+ghost use Rattle.schema_sources.specs.Deriving.{derives};
+ghost use Rattle.schema_sources.specs.Lowest.{leads, lower, with_type, lowest_from, is_below};
+
+use crate::derivations::{Asked, derives};
+use schema_places::above::is_or_leads;
+use schema_types::types::ResolvedTypes;
+
+/// The lower of two entities; the first where neither is a kind of the other.
+fn lower(above: &[Vec<u32>], lowest: Option<u32>, number: u32) -> Option<u32>
+    ensures { result ≡ lower (leads (graph_of above.now)) lowest number }
+{
+    let Some(old) = lowest else {
+        return Some(number);
+    };
+    if is_or_leads(above, number, old) {
+        return Some(number);
+    }
+    Some(old)
+}
+
+/// The lowest, with one type more.
+fn with_type(
+    schema: &ResolvedTypes<'_, '_>,
+    lines: &[Vec<u32>],
+    asked: Asked<'_>,
+    lowest: Option<u32>,
+    number: u32,
+) -> Option<u32>
+    ensures { result ≡ with_type (derives (schema_in schema.now) (graph_of lines.now)
+        (capitals asked.entry.name) asked.entry.entity) (leads (graph_of schema.now.above.items))
+        lowest number }
+{
+    if derives(&schema.names, lines, number, asked) {
+        return lower(&schema.above, lowest, number);
+    }
+    lowest
+}
+
+/// Of these types one that gives the attribute that is asked for its value: the one below all
+/// others that do, where there is such a one. None where none does.
+pub(crate) fn lowest(
+    schema: &ResolvedTypes<'_, '_>,
+    lines: &[Vec<u32>],
+    asked: Asked<'_>,
+    types: &[u32],
+) -> Option<u32>
+    ensures { result ≡ lowest_from (derives (schema_in schema.now) (graph_of lines.now)
+        (capitals asked.entry.name) asked.entry.entity) (leads (graph_of schema.now.above.items))
+        None types.now }
+{
+    let mut lowest = None;
+    for number in types {
+        lowest = with_type(schema, lines, asked, lowest, *number);
+    }
+    lowest
+}
+
+/// Whether an entity is a kind of a type, where that gives the attribute its value.
+fn is_below(
+    schema: &ResolvedTypes<'_, '_>,
+    lines: &[Vec<u32>],
+    asked: Asked<'_>,
+    entity: u32,
+    number: u32,
+) -> bool
+    ensures { result ≡ is_below (derives (schema_in schema.now) (graph_of lines.now)
+        (capitals asked.entry.name) asked.entry.entity) (leads (graph_of schema.now.above.items))
+        entity number }
+{
+    if !derives(&schema.names, lines, number, asked) {
+        return true;
+    }
+    is_or_leads(&schema.above, entity, number)
+}
+
+/// Whether an entity is a kind of all of these types that give the attribute its value.
+pub(crate) fn is_below_all(
+    schema: &ResolvedTypes<'_, '_>,
+    lines: &[Vec<u32>],
+    asked: Asked<'_>,
+    entity: u32,
+    types: &[u32],
+) -> bool
+    ensures { result ≡ list_all (is_below (derives (schema_in schema.now) (graph_of lines.now)
+        (capitals asked.entry.name) asked.entry.entity) (leads (graph_of schema.now.above.items))
+        entity) types.now }
+{
+    for number in types {
+        if !is_below(schema, lines, asked, entity, *number) {
+            return false;
+        }
+    }
+    true
+}

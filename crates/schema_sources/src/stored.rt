@@ -1,0 +1,121 @@
+//! Where the value of an attribute is found that no type of an instance derives
+//! (ISO 10303-11, 9.2.1.1 and 9.2.1.3).
+
+ghost use Rattle.std.specs.Prelude.{◌≡◌, ℕ, slice_get};
+ghost use Rattle.std.specs.List.{find, position_from};
+ghost use Rattle.express_syntax.specs.ExpressionViews.{capitals};
+ghost use Rattle.schema_places.specs.Places.{places_of};
+ghost use Rattle.schema_types.specs.Made.{IsMade};
+ghost use Rattle.schema_names.specs.Numbers.{HasNumber};
+ghost use Rattle.schema_semantics.specs.Names.{IsEntity};
+ghost use Rattle.schema_bases.specs.Seen.{name_at};
+ghost use Rattle.schema_sources.specs.Seen.{
+  schema_in,
+  inverses_seen,
+  source_seen,
+  IsNumbered,
+};
+ghost use Rattle.schema_sources.specs.Stored.{
+  is_place,
+  is_inverse,
+  IsOwnPlace,
+  IsStored,
+  IsStoredAt,
+  AreInverses,
+};
+
+use crate::derivations::{Asked, row_of};
+use crate::source::Source;
+use schema_places::attributes::Place;
+use schema_rules::inverses::InverseAttribute;
+use schema_types::types::ResolvedTypes;
+use step_literals::literal::Word;
+
+/// Whether an explicit attribute has this number, this entity and this name.
+fn is_place(places: &[Place<'_, '_>], number: u32, entity: Word<'_>, name: Word<'_>) -> bool
+    ensures { result ≡ is_place (capitals entity.entry, capitals name.entry)
+        (slice_get (places_of places.now) number) }
+{
+    match places.get(number as usize) {
+        Some(place) => *place.entity == entity && *place.attribute == name,
+        None => false,
+    }
+}
+
+/// The first of these numbers that is the one of the explicit attribute of this entity and name.
+fn place_among(
+    places: &[Place<'_, '_>],
+    row: &[u32],
+    entity: Word<'_>,
+    name: Word<'_>,
+) -> Option<u32>
+    ensures { result ≡ find (λ (q : ℕ). is_place (capitals entity.entry, capitals name.entry)
+        (slice_get (places_of places.now) q)) row.now }
+{
+    row.iter()
+        .find(|number| is_place(places, **number, entity, name))
+        .copied()
+}
+
+/// The number of the attribute that is asked for, where it is explicit.
+fn own_place(schema: &ResolvedTypes<'_, '_>, asked: Asked<'_>) -> Option<u32>
+    requires made { IsMade schema.now }
+    requires number { HasNumber (schema_in schema.now) (name_at (schema_in schema.now) asked.entity)
+        asked.entity }
+    requires entity { IsEntity (schema_in schema.now)
+        (name_at (schema_in schema.now) asked.entity) }
+    ensures { IsOwnPlace (schema_in schema.now)
+        (name_at (schema_in schema.now) asked.entry.entity, capitals asked.entry.name) result }
+{
+    let Some(entity) = schema.names.name(asked.entity) else {
+        return None;
+    };
+    let row = row_of(&schema.places.rows, asked.entity);
+    place_among(&schema.places.attributes, row, entity, asked.name)
+}
+
+/// Whether an inverse attribute is the one that is asked for.
+fn is_inverse(inverse: &InverseAttribute<'_>, asked: Asked<'_>) -> bool
+    ensures { result ≡ is_inverse asked.entry.entity (capitals asked.entry.name) inverse.now }
+{
+    inverse.entity == asked.entity && inverse.name == asked.name
+}
+
+/// The number of the inverse attribute that is asked for.
+fn inverse_number(inverses: &[InverseAttribute<'_>], asked: Asked<'_>) -> Option<usize>
+    ensures { result ≡ position_from (is_inverse asked.entry.entity (capitals asked.entry.name)) 0
+        inverses.now }
+{
+    inverses
+        .iter()
+        .position(|inverse| is_inverse(inverse, asked))
+}
+
+/// Where the value of an explicit or an inverse attribute is found.
+pub(crate) fn stored_source(
+    schema: &ResolvedTypes<'_, '_>,
+    inverses: &[InverseAttribute<'_>],
+    asked: Asked<'_>,
+) -> Source
+    requires made { IsMade schema.now }
+    requires inverses { AreInverses (schema_in schema.now) inverses.now }
+    requires number { HasNumber (schema_in schema.now) (name_at (schema_in schema.now) asked.entity)
+        asked.entity }
+    requires stored { IsStored (schema_in schema.now) (name_at (schema_in schema.now) asked.entity)
+        (capitals asked.name) }
+    ensures source { IsStoredAt (schema_in schema.now)
+        (inverses_seen (schema_in schema.now) inverses.now)
+        (name_at (schema_in schema.now) asked.entry.entity) (capitals asked.entry.name)
+        (source_seen (schema_in schema.now) (inverses_seen (schema_in schema.now) inverses.now)
+        result) }
+    ensures numbered { IsNumbered (schema_in schema.now)
+        (inverses_seen (schema_in schema.now) inverses.now) result }
+{
+    if let Some(place) = own_place(schema, asked) {
+        return Source::Explicit(place);
+    }
+    match inverse_number(inverses, asked) {
+        Some(number) => Source::Inverse(number),
+        None => Source::Unclear,
+    }
+}

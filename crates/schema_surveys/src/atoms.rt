@@ -1,0 +1,113 @@
+//! What some of a list of atoms are.
+
+ghost use Rattle.std.specs.Prelude.{◌≡◌, ◌↔◌, IsTrue, length};
+ghost use Rattle.std.specs.List.{list_any};
+ghost use Rattle.express_syntax.specs.SchemaViews.{schema_of};
+ghost use Rattle.schema_semantics.specs.Reasons.{HasBareValue, MayBeDeep, MayBeUnordered};
+ghost use Rattle.schema_data_types.specs.Values.{AreTables, Holds, schema_at};
+ghost use Rattle.schema_surveys.specs.Questions.{
+  is_numbered,
+  is_deep_atom,
+  is_bare_atom,
+  is_unordered_atom,
+};
+
+use schema_data_types::values::{Atom, Sort, Tables};
+use schema_names::names::Names;
+
+/// Whether a type or an entity has this number.
+fn is_numbered(names: &Names<'_, '_>, number: u32) -> bool
+    ensures { result ≡ is_numbered (schema_of names.now.schema.now) number }
+{
+    if number as usize >= names.len() {
+        return false;
+    }
+    match names.name(number) {
+        Some(name) => names.find(name) == Some(number),
+        None => false,
+    }
+}
+
+/// Whether an atom is an instance or an aggregate.
+fn is_deep_atom(tables: &Tables<'_, '_, '_>, atom: Atom) -> bool
+    ensures { result ≡ is_deep_atom (schema_at tables.now)
+        (length tables.now.data_types.now.forms.items) atom }
+{
+    match atom {
+        Atom::Value(_, _) => false,
+        Atom::Aggregate(number, _) => (number as usize) < tables.data_types.forms.len(),
+        Atom::Instance(number) => is_numbered(tables.names, number),
+    }
+}
+
+/// Whether one of these atoms is an instance or an aggregate.
+fn any_deep(tables: &Tables<'_, '_, '_>, atoms: &[Atom]) -> bool
+    ensures { result ≡ list_any (is_deep_atom (schema_at tables.now)
+        (length tables.now.data_types.now.forms.items)) atoms.now }
+{
+    for atom in atoms {
+        if is_deep_atom(tables, *atom) {
+            return true;
+        }
+    }
+    false
+}
+
+/// Whether an instance or an aggregate is among these.
+pub(crate) fn is_deep(tables: &Tables<'_, '_, '_>, atoms: &[Atom]) -> bool
+    requires tables { AreTables tables.now }
+    ensures { IsTrue result ↔ MayBeDeep (Holds (schema_at tables.now) atoms.now) }
+{
+    any_deep(tables, atoms)
+}
+
+/// Whether an atom is a value of no SELECT.
+fn is_bare_atom(tables: &Tables<'_, '_, '_>, atom: Atom) -> bool
+    ensures { result ≡ is_bare_atom (length tables.now.data_types.now.forms.items) atom }
+{
+    match atom {
+        Atom::Value(_, is_of_select) => !is_of_select,
+        Atom::Aggregate(number, is_of_select) => {
+            !is_of_select && (number as usize) < tables.data_types.forms.len()
+        }
+        Atom::Instance(_) => false,
+    }
+}
+
+/// Whether one of these atoms is a value of no SELECT.
+fn any_bare(tables: &Tables<'_, '_, '_>, atoms: &[Atom]) -> bool
+    ensures { result ≡ list_any (is_bare_atom (length tables.now.data_types.now.forms.items))
+        atoms.now }
+{
+    for atom in atoms {
+        if is_bare_atom(tables, *atom) {
+            return true;
+        }
+    }
+    false
+}
+
+/// Whether a value of no SELECT is among these.
+pub(crate) fn has_bare_value(tables: &Tables<'_, '_, '_>, atoms: &[Atom]) -> bool
+    requires tables { AreTables tables.now }
+    ensures { IsTrue result ↔ HasBareValue (Holds (schema_at tables.now) atoms.now) }
+{
+    any_bare(tables, atoms)
+}
+
+/// Whether an atom is a string, a binary or an item.
+fn is_unordered_atom(atom: Atom) -> bool
+    ensures { result ≡ is_unordered_atom atom }
+{
+    match atom {
+        Atom::Value(Sort::String | Sort::Binary | Sort::Item, _) => true,
+        _ => false,
+    }
+}
+
+/// Whether a string, a binary or an item is among these.
+pub(crate) fn is_unordered(tables: &Tables<'_, '_, '_>, atoms: &[Atom]) -> bool
+    ensures { IsTrue result ↔ MayBeUnordered (Holds (schema_at tables.now) atoms.now) }
+{
+    atoms.iter().any(|atom| is_unordered_atom(*atom))
+}

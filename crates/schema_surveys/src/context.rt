@@ -1,0 +1,37 @@
+//! What stands around an expression, without the variables.
+
+ghost use Rattle.std.specs.Prelude.{◌≡◌};
+ghost use Rattle.schema_expressions.specs.Scopes.{IsScope, schema_around, own_in, variables_in, inside};
+ghost use Rattle.schema_surveys.specs.Questions.{IsContext, schema_of_context, own_of_context};
+
+use schema_data_types::items::Items;
+use schema_data_types::values::Atom;
+use schema_expressions::scope::{Scope, Variable};
+use schema_references::known::Known;
+
+/// What stands around an expression, without the variables.
+#[derive(Clone, Copy)]
+pub(crate) struct Context<'a, 't, 'r> {
+    pub known: Known<'a, 't, 'r>,
+    pub items: &'r Items<'a>,
+    /// What SELF may be.
+    pub own: &'r [Atom],
+}
+
+impl<'a, 't, 'r> Context<'a, 't, 'r> {
+    /// With these variables around.
+    pub(crate) fn with<'v>(&self, variables: &'v [Variable<'a>]) -> Scope<'a, 't, 'r, 'v>
+        requires { IsContext self.now }
+        ensures scope { IsScope result }
+        ensures schema { schema_around result ≡ schema_of_context self.now }
+        ensures own { result.own.now ≡ self.now.own.now }
+        ensures variables { result.variables.now ≡ variables.now }
+    {
+        Scope {
+            known: self.known,
+            items: self.items,
+            own: self.own,
+            variables,
+        }
+    }
+}

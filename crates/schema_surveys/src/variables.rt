@@ -1,0 +1,55 @@
+//! The variables of QUERY.
+
+ghost use Rattle.std.specs.Prelude.{[], IfOk, OnOk};
+ghost use Rattle.express_syntax.specs.ExpressionViews.{capitals, tree_of};
+ghost use Rattle.schema_semantics.specs.Sets.{Elements, May};
+ghost use Rattle.schema_references.specs.Taking.{IsSet};
+ghost use Rattle.schema_expressions.specs.Scopes.{inside};
+ghost use Rattle.schema_surveys.specs.Findings.{Binds};
+ghost use Rattle.schema_surveys.specs.Questions.{
+  IsContext,
+  schema_of_context,
+  own_of_context,
+};
+
+use crate::context::Context;
+use express_syntax::expression::Expr;
+use schema_data_types::values::Atom;
+use schema_expressions::scope::Variable;
+use schema_expressions::sets::{elements, possible};
+use std::alloc::{AllocError, Global};
+use step_literals::literal::Word;
+
+/// What the variable of a QUERY over this source may be (ISO 10303-11, 12.6.7).
+fn variable_over<'a>(
+    alloc: Global,
+    context: &Context<'a, '_, '_>,
+    variables: &[Variable<'a>],
+    source: &Expr<'a>,
+) -> Result<Vec<Atom>, AllocError>
+    requires context { IsContext context.now }
+    ensures { IfOk result (λ t. IsSet (schema_of_context context.now)
+        (Elements (schema_of_context context.now) (May (schema_of_context context.now)
+        (own_of_context context.now) (inside (schema_of_context context.now) variables.now [])
+        (tree_of source.now))) t.items) }
+{
+    let may = possible(alloc, &context.with(variables), source)?;
+    elements(alloc, &context.known.tables, &may)
+}
+
+/// Puts the variable of a QUERY over this source behind those around it.
+pub(crate) fn push_variable<'a>(
+    alloc: Global,
+    context: &Context<'a, '_, '_>,
+    variables: &mut Vec<Variable<'a>>,
+    name: Word<'a>,
+    source: &Expr<'a>,
+) -> Result<(), AllocError>
+    requires context { IsContext context.now }
+    ensures { OnOk result (Binds (schema_of_context context.now) (own_of_context context.now)
+        variables.old.items (capitals name.entry) (tree_of source.now) variables.new.items) }
+{
+    let may = variable_over(alloc, context, variables, source)?;
+    variables.push(Variable { name, may })?;
+    Ok(())
+}

@@ -1,0 +1,37 @@
+//! Making the tables of the types of a schema.
+
+ghost use Rattle.std.specs.Prelude.{◌≡◌, IfOk};
+ghost use Rattle.digraph.specs.Graphs.{graph_of};
+ghost use Rattle.digraph.specs.Closures.{IsClosure};
+ghost use Rattle.express_syntax.specs.SchemaViews.{schema_of};
+ghost use Rattle.schema_semantics.specs.Faults.{IsResolved};
+ghost use Rattle.schema_names.specs.Edges.{IsGraphOf, supertypes_in};
+ghost use Rattle.schema_types.specs.Made.{IsMade};
+
+use crate::types::ResolvedTypes;
+use schema_names::names::Names;
+use schema_places::places::attribute_places;
+use std::alloc::{AllocError, Global};
+
+/// The types of a schema whose names are resolved, over the graph of its SUBTYPE OF and the rows of
+/// all that it leads to.
+pub(crate) fn make_types<'t, 'a>(
+    alloc: Global,
+    names: Names<'a, 't>,
+    supertypes: &[Vec<u32>],
+    above: Vec<Vec<u32>>,
+) -> Result<ResolvedTypes<'a, 't>, AllocError>
+    requires resolved { IsResolved (schema_of names.schema.now) }
+    requires drawn { IsGraphOf (schema_of names.schema.now) supertypes_in
+        (graph_of supertypes.now) }
+    requires closed { IsClosure (graph_of supertypes.now) (graph_of above.items) }
+    ensures same { IfOk result (λ g. g.names.schema.now ≡ names.entry.schema.now) }
+    ensures made { IfOk result IsMade }
+{
+    let places = attribute_places(alloc, &names, supertypes)?;
+    Ok(ResolvedTypes {
+        names,
+        above,
+        places,
+    })
+}

@@ -1,0 +1,149 @@
+//! Resolving the names of a schema (ISO 10303-11, 8, 9 and 10).
+
+ghost use Rattle.std.specs.Prelude.{◌≡◌, IfOk, MatchResult};
+ghost use Rattle.std.specs.String.{string_bytes};
+ghost use Rattle.digraph.specs.Graphs.{graph_of};
+ghost use Rattle.digraph.specs.Closures.{IsClosure};
+ghost use Rattle.express_syntax.specs.ExpressionViews.{capitals};
+ghost use Rattle.express_syntax.specs.SchemaViews.{schema_of};
+ghost use Rattle.schema_semantics.specs.Faults.{IsFault, IsResolved};
+ghost use Rattle.schema_names.specs.Edges.{IsGraphOf, supertypes_in};
+ghost use Rattle.schema_places.specs.Above.{AreAbove};
+ghost use Rattle.schema_types.specs.Made.{IsMade};
+ghost use Rattle.schema_types.specs.Resolving.{IsFound, IsResolution, IsSaid, IsNameFault};
+
+use crate::making::make_types;
+use crate::types::ResolvedTypes;
+use digraph::closures::closure;
+use express_syntax::fault::{NameFault, SchemaFault};
+use express_syntax::tree::SchemaTree;
+use schema_faults::cycles::{first_own_part, first_own_supertype};
+use schema_faults::demands::check_demands;
+use schema_faults::duplicates::first_duplicate;
+use schema_names::capitals::in_capitals;
+use schema_names::graphs::supertype_graph;
+use schema_names::names::Names;
+use std::alloc::{AllocError, Global};
+use std::hash::RandomState;
+use step_literals::literal::Word;
+
+/// A name, and what is wrong with it.
+#[derive(Clone, Copy)]
+struct Faulty<'a> {
+    kind: NameFault,
+    name: Word<'a>,
+}
+
+/// The fault that is answered, where there is one: the least, at its first name in the text.
+fn first_fault<'a>(
+    alloc: Global,
+    keys: RandomState,
+    names: &Names<'a, '_>,
+    above: &[Vec<u32>],
+) -> Result<Option<Faulty<'a>>, AllocError>
+    requires { AreAbove (schema_of names.now.schema.now) (graph_of above.now) }
+    ensures { IfOk result (IsFound (schema_of names.now.schema.now)) }
+{
+    if let Err(name) = check_demands(names, above) {
+        let kind = NameFault::UnknownName;
+        return Ok(Some(Faulty { kind, name }));
+    }
+    if let Some(name) = first_duplicate(alloc, keys, names)? {
+        let kind = NameFault::DuplicateName;
+        return Ok(Some(Faulty { kind, name }));
+    }
+    if let Some(name) = first_own_supertype(alloc, names)? {
+        let kind = NameFault::SupertypeCycle;
+        return Ok(Some(Faulty { kind, name }));
+    }
+    if let Some(name) = first_own_part(alloc, names)? {
+        let kind = NameFault::TypeCycle;
+        return Ok(Some(Faulty { kind, name }));
+    }
+    Ok(None)
+}
+
+/// What is found of a schema: its types, or a name with what is wrong with it.
+enum Resolution<'a, 't> {
+    Resolved(ResolvedTypes<'a, 't>),
+    Faulty(Faulty<'a>),
+}
+
+/// What is above each declaration of a schema whose names are resolved; else the fault that is
+/// answered.
+fn above_or_fault<'a>(
+    alloc: Global,
+    keys: RandomState,
+    names: &Names<'a, '_>,
+    supertypes: &[Vec<u32>],
+) -> Result<Result<Vec<Vec<u32>>, Faulty<'a>>, AllocError>
+    requires graph { IsGraphOf (schema_of names.now.schema.now) supertypes_in
+        (graph_of supertypes.now) }
+    ensures { IfOk result (λ found. MatchResult found
+        (λ above. IsResolved (schema_of names.now.schema.now)
+        × IsClosure (graph_of supertypes.now) (graph_of above.items))
+        (λ faulty. IsFault (schema_of names.now.schema.now) faulty.kind (capitals faulty.name))) }
+{
+    let above = closure(alloc, supertypes)?;
+    match first_fault(alloc, keys, names, &above)? {
+        Some(faulty) => Ok(Err(faulty)),
+        None => Ok(Ok(above)),
+    }
+}
+
+/// The types of a schema, or the fault that is answered.
+fn try_resolve<'t, 'a>(
+    alloc: Global,
+    keys: RandomState,
+    schema: &'t SchemaTree<'a>,
+) -> Result<Resolution<'a, 't>, AllocError>
+    ensures { IfOk result (IsResolution schema.entry.now) }
+{
+    let names = Names::of(alloc, keys, schema)?;
+    let supertypes = supertype_graph(alloc, &names)?;
+    match above_or_fault(alloc, keys, &names, &supertypes)? {
+        Ok(above) => {
+            let types = make_types(alloc, names, &supertypes, above)?;
+            Ok(Resolution::Resolved(types))
+        }
+        Err(faulty) => Ok(Resolution::Faulty(faulty)),
+    }
+}
+
+/// The fault that says what is wrong with a name; where there is no memory for it, that.
+fn name_fault(alloc: Global, faulty: Faulty<'_>) -> SchemaFault
+    ensures { IsSaid faulty.entry.kind (capitals faulty.entry.name) result }
+{
+    match in_capitals(alloc, faulty.name) {
+        Ok(name) => SchemaFault::Name {
+            kind: faulty.kind,
+            name,
+        },
+        Err(_) => SchemaFault::Memory,
+    }
+}
+
+/// The types of a schema, where its names are resolved (ISO 10303-11, 8, 9 and 10).
+///
+/// The error is the least of the four faults of names, at its first name in the text, or `Memory`:
+/// `UnknownName` at a name that is not what its place asks for, `DuplicateName` at one that is
+/// declared already in its scope, `SupertypeCycle` at an entity that is its own supertype,
+/// `TypeCycle` at a defined type that is made of itself. It is never a fault of the text. Names are
+/// hashed by these keys, which the author of the text must not know.
+pub fn resolve_types<'t, 'a>(
+    alloc: Global,
+    keys: RandomState,
+    schema: &'t SchemaTree<'a>,
+) -> Result<ResolvedTypes<'a, 't>, SchemaFault>
+    ensures resolved { MatchResult result (λ t. IsResolved (schema_of schema.entry.now))
+        (IsNameFault (schema_of schema.entry.now)) }
+    ensures same { IfOk result (λ t. t.names.schema.now ≡ schema.entry.now) }
+    // Its tables are those of the schema.
+    ensures made { IfOk result IsMade }
+{
+    match try_resolve(alloc, keys, schema) {
+        Ok(Resolution::Resolved(types)) => Ok(types),
+        Ok(Resolution::Faulty(faulty)) => Err(name_fault(alloc, faulty)),
+        Err(_) => Err(SchemaFault::Memory),
+    }
+}

@@ -1,0 +1,11 @@
+pub mod Firsts
+pub mod Used
+pub mod Selves
+pub mod InTurn
+pub mod Reasoned
+pub mod Counted
+pub mod Standing
+pub mod Deriving
+pub mod SelfSets
+pub mod Reshaped
+pub mod Told

@@ -1,0 +1,108 @@
+//! What of a declaration isn't checked (ISO 10303-11, 9).
+
+ghost use Rattle.std.specs.Prelude.{◌≡◌, OnOk};
+ghost use Rattle.express_syntax.specs.Schemas.{type as type_tree, entity as entity_tree};
+ghost use Rattle.express_syntax.specs.Views.{declaration_of, entity_of, type_of};
+ghost use Rattle.schema_semantics.specs.Parts.{parts_of_type, parts_of_entity, parts_of_declaration};
+ghost use Rattle.schema_names.specs.Numbers.{IsAt};
+ghost use Rattle.schema_parts.specs.Adding.{Adds, unchecked_in};
+ghost use Rattle.schema_unchecked.specs.Findings.{AreFound, schema_found};
+ghost use Rattle.schema_unchecked.specs.Listing.{parts_of_constraints};
+ghost use Rattle.schema_unchecked.specs.Places.{derivations_before};
+
+use crate::deriveds::add_derived_attributes;
+use crate::explicits::add_explicit_attributes;
+use crate::findings::Findings;
+use crate::listing::Holder;
+use crate::rules::{add_entity_rules, add_type_rules};
+use crate::uniques::add_uniques;
+use express_syntax::tree::{Declaration, Entity, TypeDeclaration};
+use schema_parts::declared::{add_inverse_clause, add_skipped, add_supertype};
+use schema_parts::limits::add_underlying;
+use schema_parts::list::{Label, Unchecked};
+use std::alloc::{AllocError, Global};
+
+/// Adds those of the defined type of this number (ISO 10303-11, 9.1).
+fn add_type<'a>(
+    alloc: Global,
+    findings: &Findings<'a, '_, '_>,
+    list: &mut Vec<Unchecked>,
+    number: u32,
+    declared: &TypeDeclaration<'a>,
+) -> Result<(), AllocError>
+    requires found { AreFound findings.now }
+    requires at { IsAt (schema_found findings.now) number (type_tree (type_of declared.now)) }
+    ensures { OnOk result (Adds (parts_of_type (schema_found findings.now)
+        (type_of declared.now)) (unchecked_in list.old.items) (unchecked_in list.new.items)) }
+{
+    let name = declared.name;
+    add_underlying(alloc, list, Label::Of(name), &declared.underlying)?;
+    let holder = Holder { number, name };
+    add_type_rules(alloc, findings, list, holder, declared.domain_rules())
+}
+
+/// Adds those of the uniqueness rules and the domain rules of the entity of this number
+/// (ISO 10303-11, 9.2.2).
+fn add_constraints<'a>(
+    alloc: Global,
+    findings: &Findings<'a, '_, '_>,
+    list: &mut Vec<Unchecked>,
+    number: u32,
+    entity: &Entity<'a>,
+) -> Result<(), AllocError>
+    requires found { AreFound findings.now }
+    requires at { IsAt (schema_found findings.now) number (entity_tree (entity_of entity.now)) }
+    ensures { OnOk result (Adds (parts_of_constraints (schema_found findings.now)
+        (entity_of entity.now)) (unchecked_in list.old.items) (unchecked_in list.new.items)) }
+{
+    let name = entity.name;
+    let holder = Holder { number, name };
+    add_uniques(alloc, findings, list, holder, entity.uniqueness_rules())?;
+    add_entity_rules(alloc, findings, list, holder, entity.domain_rules())
+}
+
+/// Adds those of the entity of this number, whose first derived attribute has the number `first`
+/// (ISO 10303-11, 9.2).
+fn add_entity<'a>(
+    alloc: Global,
+    findings: &Findings<'a, '_, '_>,
+    list: &mut Vec<Unchecked>,
+    number: u32,
+    first: u32,
+    entity: &Entity<'a>,
+) -> Result<(), AllocError>
+    requires found { AreFound findings.now }
+    requires at { IsAt (schema_found findings.now) number (entity_tree (entity_of entity.now)) }
+    requires first { first ≡ derivations_before (schema_found findings.now) number }
+    ensures { OnOk result (Adds (parts_of_entity (schema_found findings.now)
+        (entity_of entity.now)) (unchecked_in list.old.items) (unchecked_in list.new.items)) }
+{
+    add_supertype(alloc, list, entity.name, &entity.supertype)?;
+    add_explicit_attributes(alloc, findings, list, number, entity)?;
+    add_derived_attributes(alloc, findings, list, number, first, entity)?;
+    add_inverse_clause(alloc, list, entity)?;
+    add_constraints(alloc, findings, list, number, entity)
+}
+
+/// Adds those of the declaration of this number, before which so many derived attributes stand.
+pub(crate) fn add_declaration<'a>(
+    alloc: Global,
+    findings: &Findings<'a, '_, '_>,
+    list: &mut Vec<Unchecked>,
+    number: u32,
+    first: u32,
+    declaration: &Declaration<'a>,
+) -> Result<(), AllocError>
+    requires found { AreFound findings.now }
+    requires at { IsAt (schema_found findings.now) number (declaration_of declaration.now) }
+    requires first { first ≡ derivations_before (schema_found findings.now) number }
+    ensures { OnOk result (Adds (parts_of_declaration (schema_found findings.now)
+        (declaration_of declaration.now))
+        (unchecked_in list.old.items) (unchecked_in list.new.items)) }
+{
+    match declaration {
+        Declaration::Type(declared) => add_type(alloc, findings, list, number, declared),
+        Declaration::Entity(entity) => add_entity(alloc, findings, list, number, first, entity),
+        Declaration::Skipped(skipped) => add_skipped(alloc, list, skipped),
+    }
+}

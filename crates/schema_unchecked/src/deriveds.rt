@@ -1,0 +1,121 @@
+//! Derived attributes (ISO 10303-11, 9.2.1.2).
+
+ghost use Rattle.std.specs.Prelude.{◌≡◌, ℕ, ◌+◌, IfOk, OnOk, map, length};
+ghost use Rattle.express_syntax.specs.ExpressionViews.{capitals};
+ghost use Rattle.express_syntax.specs.Schemas.{entity as entity_tree};
+ghost use Rattle.express_syntax.specs.Views.{derived_of, entity_of, declaration_of};
+ghost use Rattle.schema_semantics.specs.Names.{listed};
+ghost use Rattle.schema_semantics.specs.Attributes.{IsDerivation};
+ghost use Rattle.schema_semantics.specs.Parts.{for_each, parts_of_derived};
+ghost use Rattle.schema_names.specs.Numbers.{IsAt};
+ghost use Rattle.schema_attributes.specs.Derivations.{HasDerivation, derivations_in};
+ghost use Rattle.schema_parts.specs.Adding.{Adds, unchecked_in};
+ghost use Rattle.schema_unchecked.specs.Findings.{AreFound, schema_found};
+ghost use Rattle.schema_unchecked.specs.Places.{derivations_before, AreDerivationsFrom};
+
+use crate::findings::Findings;
+use crate::listing::add_for;
+use crate::reasons::reason_of_derived;
+use express_syntax::tree::{Declaration, Derived, Entity};
+use schema_parts::limits::add_data_type;
+use schema_parts::list::{Unchecked, attribute_label};
+use schema_semantics::unchecked::PartKind;
+use std::alloc::{AllocError, Global};
+use step_literals::literal::Word;
+
+/// The number that comes so many behind another.
+///
+/// Where it isn't one of 32 bits there is no memory for it.
+fn number_behind(number: u32, count: usize) -> Result<u32, AllocError>
+    ensures { IfOk result (λ n. n ≡ number + count) }
+{
+    match u32::try_from(count) {
+        Ok(count) => number.checked_add(count).ok_or(AllocError),
+        Err(_) => Err(AllocError),
+    }
+}
+
+/// The number of the first derived attribute behind a declaration, from that of the first in it.
+pub(crate) fn first_behind(first: u32, declaration: &Declaration<'_>) -> Result<u32, AllocError>
+    ensures { IfOk result (λ n. n ≡ first + length (derivations_in (declaration_of declaration.now))) }
+{
+    match declaration {
+        Declaration::Entity(entity) => number_behind(first, entity.derived_attributes().len()),
+        Declaration::Type(_) | Declaration::Skipped(_) => Ok(first),
+    }
+}
+
+/// Adds the derived attribute of this number where there is a reason, and then those of the bounds
+/// of its data type that aren't checked.
+fn add_derived<'a>(
+    alloc: Global,
+    findings: &Findings<'a, '_, '_>,
+    list: &mut Vec<Unchecked>,
+    holder: Word<'_>,
+    number: u32,
+    derived: &Derived<'a>,
+) -> Result<(), AllocError>
+    requires found { AreFound findings.now }
+    ensures { (n : ℕ)
+        → HasDerivation (schema_found findings.now) number (capitals holder.entry, n)
+        → IsDerivation (schema_found findings.now) (capitals holder.entry, n)
+        (derived_of derived.now)
+        → OnOk result (Adds (parts_of_derived (schema_found findings.now)
+        (capitals holder.entry) (derived_of derived.now))
+        (unchecked_in list.old.items) (unchecked_in list.new.items)) }
+{
+    let reason = reason_of_derived(&findings.known, findings.judged, findings.ranks, number);
+    let label = attribute_label(holder, &derived.attribute);
+    add_for(alloc, list, PartKind::Derive, label, reason)?;
+    add_data_type(alloc, list, label, &derived.data_type)
+}
+
+/// Adds those of some derived attributes, which have numbers from this one on.
+fn add_deriveds<'a>(
+    alloc: Global,
+    findings: &Findings<'a, '_, '_>,
+    list: &mut Vec<Unchecked>,
+    holder: Word<'_>,
+    first: u32,
+    deriveds: &[Derived<'a>],
+) -> Result<(), AllocError>
+    requires found { AreFound findings.now }
+    requires numbered { AreDerivationsFrom (schema_found findings.now) (capitals holder) first
+        (map derived_of deriveds.now) }
+    ensures { OnOk result (Adds (for_each (parts_of_derived (schema_found findings.now)
+        (capitals holder.entry)) (map derived_of deriveds.now))
+        (unchecked_in list.old.items) (unchecked_in list.new.items)) }
+{
+    for i in 0..deriveds.len() {
+        let number = number_behind(first, i)?;
+        add_derived(alloc, findings, list, holder, number, &deriveds[i])?;
+    }
+    Ok(())
+}
+
+/// Adds those of the derived attributes of the entity of this number, in the order of the text;
+/// the first has the number that is given (ISO 10303-11, 9.2.1.2).
+pub(crate) fn add_derived_attributes<'a>(
+    alloc: Global,
+    findings: &Findings<'a, '_, '_>,
+    list: &mut Vec<Unchecked>,
+    number: u32,
+    first: u32,
+    entity: &Entity<'a>,
+) -> Result<(), AllocError>
+    requires found { AreFound findings.now }
+    requires at { IsAt (schema_found findings.now) number (entity_tree (entity_of entity.now)) }
+    requires first { first ≡ derivations_before (schema_found findings.now) number }
+    ensures { OnOk result (Adds (for_each (parts_of_derived (schema_found findings.now)
+        (entity_of entity.now).name) (listed (entity_of entity.now).derived))
+        (unchecked_in list.old.items) (unchecked_in list.new.items)) }
+{
+    add_deriveds(
+        alloc,
+        findings,
+        list,
+        entity.name,
+        first,
+        entity.derived_attributes(),
+    )
+}

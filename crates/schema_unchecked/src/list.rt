@@ -1,0 +1,52 @@
+//! The whole list.
+
+ghost use Rattle.std.specs.Prelude.{◌≡◌, ◌<◌, ◌^◌, length, map, IfOk, OnOk};
+ghost use Rattle.express_syntax.specs.Views.{declaration_of};
+ghost use Rattle.schema_semantics.specs.Parts.{AreUnchecked, candidates};
+ghost use Rattle.schema_parts.specs.Adding.{Adds, unchecked_in};
+ghost use Rattle.schema_unchecked.specs.Findings.{AreFound, schema_found};
+
+use crate::declarations::add_declaration;
+use crate::deriveds::first_behind;
+use crate::findings::Findings;
+use express_syntax::tree::Declaration;
+use schema_parts::list::Unchecked;
+use std::alloc::{AllocError, Global};
+
+/// Adds those of all declarations, in the order of the text.
+fn add_all<'a>(
+    alloc: Global,
+    findings: &Findings<'a, '_, '_>,
+    list: &mut Vec<Unchecked>,
+    declarations: &[Declaration<'a>],
+) -> Result<(), AllocError>
+    requires found { AreFound findings.now }
+    requires few { length declarations.now < 2 ^ 32 }
+    requires all { map declaration_of declarations.now ≡ (schema_found findings.now).declarations }
+    ensures { OnOk result (Adds (candidates (schema_found findings.now))
+        (unchecked_in list.old.items) (unchecked_in list.new.items)) }
+{
+    let mut first = 0;
+    for i in 0..declarations.len() {
+        let declaration = &declarations[i];
+        add_declaration(alloc, findings, list, i as u32, first, declaration)?;
+        first = first_behind(first, declaration)?;
+    }
+    Ok(())
+}
+
+/// The parts of a schema that aren't checked, each with the first reason that holds, in the order
+/// of the text.
+pub fn unchecked_parts(
+    alloc: Global,
+    findings: &Findings<'_, '_, '_>,
+) -> Result<Vec<Unchecked>, AllocError>
+    requires found { AreFound findings.now }
+    ensures { IfOk result (λ t. AreUnchecked (schema_found findings.now)
+        (unchecked_in t.items)) }
+{
+    let mut list = Vec::new(alloc);
+    let declarations = findings.known.tables.names.declarations();
+    add_all(alloc, findings, &mut list, declarations)?;
+    Ok(list)
+}

@@ -1,0 +1,176 @@
+//! Domain rules (ISO 10303-11, 9.1 and 9.2.2.2).
+
+ghost use Rattle.std.specs.Prelude.{◌≡◌, ◌∷◌, [], IfOk, OnOk, map, IsTrue, ◌↔◌, true};
+ghost use Rattle.express_syntax.specs.ExpressionViews.{capitals};
+ghost use Rattle.express_syntax.specs.Schemas.{named};
+ghost use Rattle.express_syntax.specs.Views.{body_of, rule_of, entity_of, type_of};
+ghost use Rattle.schema_semantics.specs.Names.{listed};
+ghost use Rattle.schema_semantics.specs.Parts.{parts_of_rules, TypeRuleHasReason};
+ghost use Rattle.schema_semantics.specs.Ranks.{Self, HasReason};
+ghost use Rattle.schema_semantics.specs.Shapes.{IsOf, IsOverSelect};
+ghost use Rattle.schema_names.specs.Numbers.{HasNumber};
+ghost use Rattle.schema_data_types.specs.Values.{Holds};
+ghost use Rattle.schema_references.specs.Taking.{IsSet};
+ghost use Rattle.schema_unchecked.specs.Judging.{IsFirstReason};
+ghost use Rattle.schema_parts.specs.Adding.{Adds, unchecked_in};
+ghost use Rattle.schema_unchecked.specs.Findings.{AreFound, schema_found};
+ghost use Rattle.schema_unchecked.specs.Rules.{has_reason};
+
+use crate::findings::Findings;
+use crate::listing::{Holder, add_for, rule_label};
+use crate::reasons::reason_for;
+use express_syntax::tree::{Body, Rule};
+use schema_data_types::values::{Atom, add_named, is_over_select};
+use schema_parts::list::Unchecked;
+use schema_semantics::unchecked::{PartKind, Reason};
+use std::alloc::{AllocError, Global};
+use std::slice;
+use step_literals::literal::Word;
+
+/// What SELF may be in a rule.
+#[derive(Clone, Copy)]
+pub struct Own<'r> {
+    pub atoms: &'r [Atom],
+    /// Whether it may be of a SELECT.
+    pub is_over_select: bool,
+}
+
+/// The reason that is given for a rule, if there is one: the first that holds, for what SELF may be.
+///
+/// An error says that memory ran out.
+pub fn reason_of_rule<'a>(
+    alloc: Global,
+    findings: &Findings<'a, '_, '_>,
+    own: Own<'_>,
+    body: &Body<'a>,
+) -> Result<Option<Reason>, AllocError>
+    requires found { AreFound findings.now }
+    ensures { IfOk result (IsFirstReason
+        (has_reason (schema_found findings.now) own.entry (body_of body.now))) }
+{
+    if own.is_over_select {
+        return Ok(Some(Reason::Profile));
+    }
+    // What SELF may be lives shorter than what is found.
+    let findings = *findings;
+    reason_for(
+        alloc,
+        &findings.known,
+        findings.items,
+        findings.ranks,
+        own.atoms,
+        body,
+    )
+}
+
+/// Adds a rule where there is a reason, by its number in its clause where it has no label.
+fn add_rule<'a>(
+    alloc: Global,
+    findings: &Findings<'a, '_, '_>,
+    list: &mut Vec<Unchecked>,
+    own: Own<'_>,
+    holder: Word<'_>,
+    number: u64,
+    rule: &Rule<'a>,
+) -> Result<(), AllocError>
+    requires found { AreFound findings.now }
+    ensures { OnOk result (Adds (parts_of_rules (capitals holder.entry)
+        (has_reason (schema_found findings.now) own.entry) number (rule_of rule.now ∷ []))
+        (unchecked_in list.old.items) (unchecked_in list.new.items)) }
+{
+    let reason = reason_of_rule(alloc, findings, own, &rule.body)?;
+    let label = rule_label(holder, rule.label, number);
+    add_for(alloc, list, PartKind::Where, label, reason)
+}
+
+/// Adds those of some rules for which there is a reason.
+fn add_rules<'a>(
+    alloc: Global,
+    findings: &Findings<'a, '_, '_>,
+    list: &mut Vec<Unchecked>,
+    own: Own<'_>,
+    holder: Word<'_>,
+    rules: &[Rule<'a>],
+) -> Result<(), AllocError>
+    requires found { AreFound findings.now }
+    ensures { OnOk result (Adds (parts_of_rules (capitals holder.entry)
+        (has_reason (schema_found findings.now) own.entry) 1 (map rule_of rules.now))
+        (unchecked_in list.old.items) (unchecked_in list.new.items)) }
+{
+    for i in 0..rules.len() {
+        add_rule(alloc, findings, list, own, holder, i as u64 + 1, &rules[i])?;
+    }
+    Ok(())
+}
+
+/// Adds those of the rules of an entity, whose SELF is an instance of it (ISO 10303-11, 9.2.2.2).
+pub(crate) fn add_entity_rules<'a>(
+    alloc: Global,
+    findings: &Findings<'a, '_, '_>,
+    list: &mut Vec<Unchecked>,
+    holder: Holder<'_>,
+    rules: &[Rule<'a>],
+) -> Result<(), AllocError>
+    requires found { AreFound findings.now }
+    requires number { HasNumber (schema_found findings.now) (capitals holder.name) holder.number }
+    ensures { OnOk result (Adds (parts_of_rules (capitals holder.entry.name)
+        (HasReason (schema_found findings.now) (Self (capitals holder.entry.name))) 1
+        (map rule_of rules.now)) (unchecked_in list.old.items) (unchecked_in list.new.items)) }
+{
+    let atom = Atom::Instance(holder.number);
+    let own = Own {
+        atoms: slice::from_ref(&atom),
+        is_over_select: false,
+    };
+    add_rules(alloc, findings, list, own, holder.name, rules)
+}
+
+/// What the values of a defined type may be, and so SELF in its rules (ISO 10303-11, 9.1).
+///
+/// An error says that memory ran out.
+pub fn values_of_type(
+    alloc: Global,
+    findings: &Findings<'_, '_, '_>,
+    holder: Holder<'_>,
+) -> Result<Vec<Atom>, AllocError>
+    requires found { AreFound findings.now }
+    requires number { HasNumber (schema_found findings.now) (capitals holder.name) holder.number }
+    ensures { IfOk result (λ t. IsSet (schema_found findings.now)
+        (IsOf (schema_found findings.now) (named (capitals holder.entry.name))) t.items) }
+{
+    let mut atoms = Vec::new(alloc);
+    add_named(&findings.known.tables, holder.number, &mut atoms)?;
+    Ok(atoms)
+}
+
+/// Whether a defined type is a SELECT, or stands for one under whatever names.
+pub fn is_type_over_select(findings: &Findings<'_, '_, '_>, holder: Holder<'_>) -> bool
+    requires found { AreFound findings.now }
+    requires number { HasNumber (schema_found findings.now) (capitals holder.name) holder.number }
+    ensures { IsTrue result ↔ IsOverSelect (schema_found findings.now)
+        (named (capitals holder.entry.name)) }
+{
+    is_over_select(&findings.known.tables, holder.number)
+}
+
+/// Adds those of the rules of a defined type, whose SELF is a value of it (ISO 10303-11, 9.1).
+pub(crate) fn add_type_rules<'a>(
+    alloc: Global,
+    findings: &Findings<'a, '_, '_>,
+    list: &mut Vec<Unchecked>,
+    holder: Holder<'_>,
+    rules: &[Rule<'a>],
+) -> Result<(), AllocError>
+    requires found { AreFound findings.now }
+    requires number { HasNumber (schema_found findings.now) (capitals holder.name) holder.number }
+    ensures { OnOk result (Adds (parts_of_rules (capitals holder.entry.name)
+        (TypeRuleHasReason (schema_found findings.now) (named (capitals holder.entry.name))) 1
+        (map rule_of rules.now)) (unchecked_in list.old.items) (unchecked_in list.new.items)) }
+{
+    let atoms = values_of_type(alloc, findings, holder)?;
+    let own = Own {
+        atoms: &atoms,
+        is_over_select: is_type_over_select(findings, holder),
+    };
+    add_rules(alloc, findings, list, own, holder.name, rules)
+}

@@ -1,0 +1,71 @@
+//! The places that entities redeclare as derived.
+
+ghost use Rattle.std.specs.Prelude.{◌≡◌, map, IfOk};
+ghost use Rattle.std.specs.List.{AllZip};
+ghost use Rattle.digraph.specs.Graphs.{graph_of};
+ghost use Rattle.express_syntax.specs.Views.{derived_of, declaration_of};
+ghost use Rattle.schema_uses.specs.Speaking.{
+  schema_in,
+  AreSources,
+  ArePlacesOf,
+  DerivesOne,
+  AreDerivedIn,
+};
+
+use crate::spoken::{add, derived_place};
+use crate::uses::Sources;
+use express_syntax::tree::{Declaration, Derived};
+use std::alloc::{AllocError, Global};
+
+/// The numbers of the places that these redeclare.
+fn derived_places<'a>(
+    alloc: Global,
+    sources: &Sources<'a, '_, '_>,
+    deriveds: &[Derived<'a>],
+) -> Result<Vec<u32>, AllocError>
+    requires sources { AreSources sources.now }
+    ensures { IfOk result (λ places. ArePlacesOf (schema_in sources.now)
+        (DerivesOne (schema_in sources.now) (map derived_of deriveds.now)) places.items) }
+{
+    let mut places = Vec::new(alloc);
+    for derived in deriveds {
+        add(&mut places, derived_place(sources, derived.attribute))?;
+    }
+    Ok(places)
+}
+
+/// The numbers of the places that a declaration redeclares as derived; what is no entity redeclares
+/// none.
+fn derived_by<'a>(
+    alloc: Global,
+    sources: &Sources<'a, '_, '_>,
+    declaration: &Declaration<'a>,
+) -> Result<Vec<u32>, AllocError>
+    requires sources { AreSources sources.now }
+    ensures { IfOk result (λ places. AreDerivedIn (schema_in sources.now)
+        (declaration_of declaration.now) places.items) }
+{
+    match declaration {
+        Declaration::Entity(entity) => {
+            derived_places(alloc, sources, entity.derived_attributes())
+        }
+        _ => Ok(Vec::new(alloc)),
+    }
+}
+
+/// By declaration, the numbers of the places that it redeclares as derived.
+pub(crate) fn all_derived(
+    alloc: Global,
+    sources: &Sources<'_, '_, '_>,
+) -> Result<Vec<Vec<u32>>, AllocError>
+    requires sources { AreSources sources.now }
+    ensures { IfOk result (λ rows. AllZip (AreDerivedIn (schema_in sources.now))
+        (schema_in sources.now).declarations (graph_of rows.items)) }
+{
+    let mut rows = Vec::new(alloc);
+    for declaration in sources.names.declarations() {
+        let row = derived_by(alloc, sources, declaration)?;
+        rows.push(row)?;
+    }
+    Ok(rows)
+}

@@ -1,0 +1,136 @@
+//! Of which place an attribute speaks that a declaration names.
+
+ghost use Rattle.std.specs.Prelude.{◌≡◌, ◌++◌, slice_get, OnOk};
+ghost use Rattle.std.specs.List.{find};
+ghost use Rattle.digraph.specs.Graphs.{graph_of, next};
+ghost use Rattle.express_syntax.specs.ExpressionViews.{capitals};
+ghost use Rattle.express_syntax.specs.Schemas.{DataType as DataTypeTree, redeclared};
+ghost use Rattle.express_syntax.specs.Views.{attribute_of};
+ghost use Rattle.schema_semantics.specs.Names.{Name};
+ghost use Rattle.schema_places.specs.Places.{places_of};
+ghost use Rattle.schema_uses.specs.Speaking.{
+  schema_in,
+  AreSources,
+  ArePlacesOf,
+  at_most_one,
+  has_name,
+  Redeclares,
+  SpeaksOf,
+  IsTypeAt,
+  IsOwnAt,
+};
+
+use crate::uses::Sources;
+use express_syntax::tree::Attribute;
+use schema_attributes::redeclaring::{has_first_shape, redeclared_entity};
+use schema_places::attributes::Place;
+use std::alloc::AllocError;
+use step_literals::literal::Word;
+
+/// A row by its number; an empty one where there is none.
+pub(crate) fn row_of(rows: &[Vec<u32>], number: usize) -> &[u32]
+    ensures { result.now ≡ next (graph_of rows.now) number }
+{
+    match rows.get(number) {
+        Some(row) => row,
+        None => &[],
+    }
+}
+
+/// Whether the place of a number has this name.
+fn has_name(places: &[Place<'_, '_>], number: u32, name: Word<'_>) -> bool
+    ensures { result ≡ has_name (capitals name.entry) (slice_get (places_of places.now) number) }
+{
+    match places.get(number as usize) {
+        Some(place) => *place.attribute == name,
+        None => false,
+    }
+}
+
+/// The number of the place of an entity's own explicit attribute; none where it declares none of
+/// this name.
+fn own_place(sources: &Sources<'_, '_, '_>, entity: u32, name: Word<'_>) -> Option<u32>
+    ensures { result ≡ find
+        (λ q. has_name (capitals name.entry) (slice_get (places_of sources.now.places.now) q))
+        (next (graph_of sources.now.own.now) entity) }
+{
+    row_of(sources.own, entity as usize)
+        .iter()
+        .find(|number| has_name(sources.places, **number, name))
+        .copied()
+}
+
+/// The number of the place that a derived attribute redeclares; none where it redeclares nothing,
+/// or no explicit attribute.
+pub(crate) fn derived_place(sources: &Sources<'_, '_, '_>, attribute: Attribute<'_>) -> Option<u32>
+    requires sources { AreSources sources.now }
+    ensures { ArePlacesOf (schema_in sources.now)
+        (Redeclares (schema_in sources.now) (attribute_of attribute.entry)) (at_most_one result) }
+{
+    let Attribute::Redeclared(_, name) = attribute else {
+        return None;
+    };
+    let entity = redeclared_entity(sources.names, sources.lines, attribute)?;
+    own_place(sources, entity, name)
+}
+
+/// The number of the place of which a redeclaration with this data type speaks: that of an explicit
+/// attribute whose first data type has its shape (ISO 10303-11, 9.2.3.4).
+fn redeclared_place(
+    sources: &Sources<'_, '_, '_>,
+    attribute: Attribute<'_>,
+    name: Word<'_>,
+    data_type: u32,
+) -> Option<u32>
+    requires sources { AreSources sources.now }
+    requires named { (q : Name) × (attribute_of attribute ≡ redeclared q (capitals name)) }
+    ensures { (n : Name) (k : DataTypeTree) → IsTypeAt (schema_in sources.now) k data_type
+        → ArePlacesOf (schema_in sources.now)
+        (SpeaksOf (schema_in sources.now) n k (attribute_of attribute.entry))
+        (at_most_one result) }
+{
+    let entity = redeclared_entity(sources.names, sources.lines, attribute)?;
+    if has_first_shape(
+        sources.names,
+        sources.data_types,
+        sources.shapes,
+        entity,
+        name,
+        data_type,
+    ) {
+        own_place(sources, entity, name)
+    } else {
+        None
+    }
+}
+
+/// The number of the place of which an attribute speaks in a declaration with this data type, where
+/// an own one has this number.
+pub(crate) fn explicit_place(
+    sources: &Sources<'_, '_, '_>,
+    attribute: Attribute<'_>,
+    own: Option<u32>,
+    data_type: u32,
+) -> Option<u32>
+    requires sources { AreSources sources.now }
+    ensures { (n : Name) (k : DataTypeTree) → IsTypeAt (schema_in sources.now) k data_type
+        → IsOwnAt (schema_in sources.now) n (attribute_of attribute.entry) own
+        → ArePlacesOf (schema_in sources.now)
+        (SpeaksOf (schema_in sources.now) n k (attribute_of attribute.entry))
+        (at_most_one result) }
+{
+    match attribute {
+        Attribute::Unqualified(_) => own,
+        Attribute::Redeclared(_, name) => redeclared_place(sources, attribute, name, data_type),
+    }
+}
+
+/// Adds a number, where there is one.
+pub(crate) fn add(numbers: &mut Vec<u32>, number: Option<u32>) -> Result<(), AllocError>
+    ensures { OnOk result (numbers.new.items ≡ numbers.old.items ++ at_most_one number) }
+{
+    if let Some(number) = number {
+        numbers.push(number)?;
+    }
+    Ok(())
+}

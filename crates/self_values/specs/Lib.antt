@@ -1,5 +1,0 @@
-pub mod Coded
-pub mod Flat
-pub mod Seeking
-pub mod Speaking
-pub mod Unsought

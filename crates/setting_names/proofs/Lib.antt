@@ -1,4 +1,0 @@
-pub mod Saying
-pub mod Letters
-pub mod Spelt
-pub mod Enumerations

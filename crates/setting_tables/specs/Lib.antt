@@ -1,2 +1,0 @@
-pub mod Declaring
-pub mod Tables

@@ -1,0 +1,8 @@
+//! A law of exchange structures that were read.
+
+ghost use Rattle.step_exchange.specs.Exchanges.{ExchangesAreNamed};
+
+/// The names of what was read are those of its instances, in order, each once, and fewer than 2^32.
+pub fn exchanges_are_named()
+    ensures { ExchangesAreNamed }
+{}

@@ -1,0 +1,23 @@
+use Rattle.std.proofs.Common.{◌≡◌, arith}
+use Rattle.conformance.specs.Standing.{InBag, InBagOf}
+use Rattle.step_values.proofs.Weights.{weight_of, lighter}
+use Rattle.step_pins.proofs.Walking.{next, ends}
+use Rattle.step_pins.proofs.bags.+bags.Goals as goal
+
+pub pin_in_bags_of_each-pin_in_bags-requires : goal.pin_in_bags_of_each-pin_in_bags-requires
+pin_in_bags_of_each-pin_in_bags-requires t c =
+    let less = lighter c.args.values.now c.loop-i.i c.at.result c.at.ensures in
+    let all : weight_of c.args.values.now ≡ t = c.decreases in
+    omega (arith, less, all)
+
+pub pin_in_bags_of_each-loop-i-preserved : goal.pin_in_bags_of_each-loop-i-preserved
+pin_in_bags_of_each-loop-i-preserved t c =
+    next InBag InBagOf (λ y h. h) (λ y v vs. ((λ h. h), (λ h. h))) c.args.values.now c.loop-i.i _ c.at.result
+    c.loop-i.pinned _ c.at.ensures c.loop-i.invariant c.in_ok-pin_in_bags.ensures
+
+pub pin_in_bags_of_each-returns : goal.pin_in_bags_of_each-returns
+pin_in_bags_of_each-returns t c =
+    let past = c.loop-i-test.false in
+    let end = c.len-i-end.ensures in
+    ends InBag InBagOf (λ y h. h) (λ y v vs. ((λ h. h), (λ h. h))) c.args.values.now c.loop-i.i _ c.loop-i.pinned
+    (omega (arith, past, end)) c.loop-i.invariant

@@ -1,0 +1,15 @@
+use Rattle.conformance.specs.Standing.{InBagOf}
+use Rattle.step_values.proofs.Walks.{after}
+use Rattle.step_values.proofs.Weights.{weight, weight_of}
+use Rattle.step_pins.specs.Pinning.{PinsUpTo}
+use Rattle.step_pins.proofs.bags.+bags.Given as goal
+
+abbrev pub decreases-pin_in_bags : goal.decreases-pin_in_bags
+decreases-pin_in_bags l = weight l.value.now
+
+abbrev pub decreases-pin_in_bags_of_each : goal.decreases-pin_in_bags_of_each
+decreases-pin_in_bags_of_each l = weight_of l.values.now
+
+abbrev pub invariant-pin_in_bags_of_each-loop-i : goal.invariant-pin_in_bags_of_each-loop-i
+invariant-pin_in_bags_of_each-loop-i l =
+    PinsUpTo (λ y. InBagOf y l.values) (λ y. InBagOf y (after l.i l.values)) l.fn.pinned l.pinned

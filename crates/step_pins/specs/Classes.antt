@@ -1,0 +1,60 @@
+-- The classes of instances, and the elements that have one of their class beside them.
+use Rattle.std.specs.Prelude.{◌≡◌, ◌≢◌, ℕ, ◌==◌, Bool, cond, List, [], ◌∷◌, Option, None, Some, ◌⊎◌}
+use Rattle.std.specs.Ordering.{nat_cmp}
+use Rattle.std.specs.BTreeMap.{BTreeMap, get}
+use Rattle.schema_semantics.specs.Names.{Among}
+use Rattle.step_equal.specs.Tables.{same_class}
+use Rattle.step_values.specs.Values.{Value, reference, Values, none, more}
+use Rattle.step_pins.specs.declared.classes.Classes.{Classes}
+
+abbrev pub or_none : Option (Option ℕ) → Option ℕ
+or_none None = None
+or_none (Some c) = c
+
+-- the class of a name, where it has one
+abbrev pub class_of : Classes → ℕ → Option ℕ
+class_of c y = or_none (get nat_cmp c.classes y)
+
+-- two names are of one class
+abbrev pub share_class : (ℕ → Option ℕ) → ℕ → ℕ → Bool
+share_class of y z = same_class (of y) (of z)
+
+abbrev pub with_name : ℕ → Option ℕ → Option (ℕ × ℕ)
+with_name y None = None
+with_name y (Some c) = Some (c, y)
+
+abbrev pub with_member : Option (ℕ × ℕ) → List (ℕ × ℕ) → List (ℕ × ℕ)
+with_member None ms = ms
+with_member (Some m) ms = m ∷ ms
+
+module _ (of : ℕ → Option ℕ) where
+  -- what a value is, where it is an instance that has a class: that class, and its name
+  abbrev pub member_in : Value → Option (ℕ × ℕ)
+  member_in (reference y) = with_name y (of y)
+  member_in v = None
+
+  abbrev pub members_in : Values → List (ℕ × ℕ)
+  members_in none = []
+  members_in (more v vs) = with_member (member_in v) (members_in vs)
+
+-- the first name of a class
+abbrev pub first_of : List (ℕ × ℕ) → ℕ → Option ℕ
+first_of [] c = None
+first_of (m ∷ ms) c = cond (m.0 == c) (Some m.1) (first_of ms c)
+
+abbrev pub AreFirsts : BTreeMap ℕ ℕ → List (ℕ × ℕ) → Type 0
+AreFirsts firsts ms = (c : ℕ) → get nat_cmp firsts c ≡ first_of ms c
+
+-- another name of its class is there
+abbrev pub HasClassmate : List (ℕ × ℕ) → ℕ → Type 0
+HasClassmate ms y = (c : ℕ) × (z : ℕ) × Among (c, y) ms × Among (c, z) ms × (z ≢ y)
+
+-- behind the first of its class comes an element that is another instance
+abbrev pub ComesBeside : Option ℕ → ℕ → ℕ → Type 0
+ComesBeside None name y = ⊥
+ComesBeside (Some first) name y = (first ≢ name) × ((y ≡ first) ⊎ (y ≡ name))
+
+-- .. an element, behind these
+abbrev pub ComesAfter : List (ℕ × ℕ) → Option (ℕ × ℕ) → ℕ → Type 0
+ComesAfter before None y = ⊥
+ComesAfter before (Some m) y = ComesBeside (first_of before m.0) m.1 y

@@ -1,0 +1,35 @@
+//! Pinning what stands in SETs and BAGs (ISO 10303-11, 8.2.3 and 8.2.4).
+
+ghost use Rattle.std.specs.Prelude.{OnOk};
+ghost use Rattle.conformance.specs.Standing.{InBag, InBagOf};
+ghost use Rattle.step_pins.specs.Pinning.{Pins};
+
+use crate::targets::pin_each_target;
+use std::alloc::AllocError;
+use std::collections::BTreeSet;
+use step_values::slot::{Node, Slot, Slots};
+
+/// Pins the instances that stand, at any depth, in a SET or BAG that a value is or has in it at any
+/// depth. `AllocError` comes where memory runs out.
+#[cycle(bags)]
+pub fn pin_in_bags(pinned: &mut BTreeSet<u64>, value: &Slot<'_, '_>) -> Result<(), AllocError>
+    ensures { OnOk result (Pins (λ y. InBag y value.now) pinned.old pinned.new) }
+{
+    match value.node() {
+        Node::Typed(_, inner) => pin_in_bags(pinned, &inner),
+        Node::Sequence(values) => pin_in_bags_of_each(pinned, &values),
+        Node::Bag(values) => pin_each_target(pinned, &values),
+        _ => Ok(()),
+    }
+}
+
+/// .. that one of these values is or has in it.
+#[cycle(bags)]
+fn pin_in_bags_of_each(pinned: &mut BTreeSet<u64>, values: &Slots<'_, '_>) -> Result<(), AllocError>
+    ensures { OnOk result (Pins (λ y. InBagOf y values.now) pinned.old pinned.new) }
+{
+    for i in 0..values.len() {
+        pin_in_bags(pinned, &values.at(i))?;
+    }
+    Ok(())
+}

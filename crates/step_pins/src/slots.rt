@@ -1,0 +1,178 @@
+//! By form of instances, the values in which a LIST or ARRAY OF UNIQUE can stand.
+
+ghost use Rattle.std.specs.Prelude.{◌≡◌, ◌∷◌, [], IfOk, OnOk};
+ghost use Rattle.std.specs.List.{AllZip};
+ghost use Rattle.express_syntax.specs.Profile.{Every};
+ghost use Rattle.schema_uses.specs.declared.uses.AttributeUse.{AttributeUse as Use};
+ghost use Rattle.schema_uses.specs.Uses.{of_place, uses_at};
+ghost use Rattle.schema_bases.specs.Seen.{type_at, schema_at};
+ghost use Rattle.schema_bases.specs.Tables.{AreBases, IsKnown};
+ghost use Rattle.population_layouts.specs.Slots.{uses_by};
+ghost use Rattle.step_pins.specs.Slots.{
+  slots_of,
+  asked,
+  AddsSlots,
+  AreKnown,
+  IsUniqueRow,
+  IsRowOf,
+  slots_at,
+};
+
+use crate::holding::may_hold;
+use population_rows::form::Form;
+use schema_bases::base::Base;
+use schema_bases::lookup::Bases;
+use schema_uses::uses::{AttributeUse, Uses};
+use std::alloc::{AllocError, Global};
+
+/// What a data type asks of a value of instances of a form, where a LIST or ARRAY OF UNIQUE can
+/// stand in it.
+#[derive(Clone, Copy)]
+pub(crate) struct UniqueSlot {
+    /// Where it stands among the values of an instance.
+    pub position: usize,
+    /// What a data type asks with which its attribute is declared or redeclared.
+    pub base: Base,
+}
+
+/// The declarations of explicit attributes by an entity; none where it is no number of one.
+fn uses_at(uses: &Uses, number: u32) -> &[AttributeUse]
+    ensures { result.now ≡ uses_at uses.now number }
+{
+    match uses.explicit.get(number as usize) {
+        Some(row) => row,
+        None => &[],
+    }
+}
+
+/// Adds what a data type asks of the value at a position, where a LIST or ARRAY OF UNIQUE can stand
+/// in it.
+fn add_slot(
+    bases: &Bases<'_, '_, '_>,
+    slots: &mut Vec<UniqueSlot>,
+    position: usize,
+    data_type: u32,
+) -> Result<(), AllocError>
+    requires bases { AreBases bases.now }
+    requires known { IsKnown (schema_at bases.now) (type_at (schema_at bases.now) data_type) }
+    ensures { OnOk result (AddsSlots (schema_at bases.now) slots.old.items slots.new.items
+        (λ d. slots_of d position (type_at (schema_at bases.now) data_type ∷ []))) }
+{
+    let base = bases.of_number(data_type);
+    if may_hold(bases, base) {
+        slots.push(UniqueSlot { position, base })?;
+    }
+    Ok(())
+}
+
+/// .. what a declaration asks of it, where it is one of the attribute of a place.
+fn add_use(
+    bases: &Bases<'_, '_, '_>,
+    slots: &mut Vec<UniqueSlot>,
+    position: usize,
+    place: u32,
+    each: AttributeUse,
+) -> Result<(), AllocError>
+    requires bases { AreBases bases.now }
+    requires known { IsKnown (schema_at bases.now) (type_at (schema_at bases.now) each.data_type) }
+    ensures { OnOk result (AddsSlots (schema_at bases.now) slots.old.items slots.new.items
+        (λ d. slots_of d position (asked (schema_at bases.now) (of_place place (each ∷ []))))) }
+{
+    if each.place == place {
+        add_slot(bases, slots, position, each.data_type)
+    } else {
+        Ok(())
+    }
+}
+
+/// .. what declarations by an entity ask of it.
+fn add_uses(
+    bases: &Bases<'_, '_, '_>,
+    slots: &mut Vec<UniqueSlot>,
+    position: usize,
+    place: u32,
+    uses: &[AttributeUse],
+) -> Result<(), AllocError>
+    requires bases { AreBases bases.now }
+    requires known { Every (λ (u : Use). IsKnown (schema_at bases.now)
+        (type_at (schema_at bases.now) u.data_type)) uses.now }
+    ensures { OnOk result (AddsSlots (schema_at bases.now) slots.old.items slots.new.items
+        (λ d. slots_of d position (asked (schema_at bases.now) (of_place place uses.now)))) }
+{
+    for i in 0..uses.len() {
+        add_use(bases, slots, position, place, uses[i])?;
+    }
+    Ok(())
+}
+
+/// .. what declarations by these types ask of it.
+fn add_place(
+    bases: &Bases<'_, '_, '_>,
+    slots: &mut Vec<UniqueSlot>,
+    uses: &Uses,
+    types: &[u32],
+    position: usize,
+    place: u32,
+) -> Result<(), AllocError>
+    requires bases { AreBases bases.now }
+    requires known { AreKnown (schema_at bases.now) uses.now }
+    ensures { OnOk result (AddsSlots (schema_at bases.now) slots.old.items slots.new.items
+        (λ d. slots_of d position (asked (schema_at bases.now)
+        (uses_by uses.now types.now place)))) }
+{
+    for i in 0..types.len() {
+        add_uses(bases, slots, position, place, uses_at(uses, types[i]))?;
+    }
+    Ok(())
+}
+
+/// The values of instances of a form in which a LIST or ARRAY OF UNIQUE can stand.
+fn slots_of_form(
+    alloc: Global,
+    bases: &Bases<'_, '_, '_>,
+    uses: &Uses,
+    form: &Form,
+) -> Result<Vec<UniqueSlot>, AllocError>
+    requires bases { AreBases bases.now }
+    requires known { AreKnown (schema_at bases.now) uses.now }
+    ensures { IfOk result (λ v. IsUniqueRow (schema_at bases.now) uses.now form.now v.items) }
+{
+    let mut slots = Vec::new(alloc);
+    for i in 0..form.slots.len() {
+        add_place(bases, &mut slots, uses, &form.types, i, form.slots[i].place)?;
+    }
+    Ok(slots)
+}
+
+/// .. by form.
+pub(crate) fn slots_by_form(
+    alloc: Global,
+    bases: &Bases<'_, '_, '_>,
+    uses: &Uses,
+    forms: &[Form],
+) -> Result<Vec<Vec<UniqueSlot>>, AllocError>
+    requires bases { AreBases bases.now }
+    requires known { AreKnown (schema_at bases.now) uses.now }
+    ensures { IfOk result (λ rows. AllZip (IsRowOf (schema_at bases.now) uses.now) forms.now
+        rows.items) }
+{
+    let mut rows = Vec::with_capacity(alloc, forms.len())?;
+    for i in 0..forms.len() {
+        let row = slots_of_form(alloc, bases, uses, &forms[i])?;
+        rows.push(row)?;
+    }
+    Ok(rows)
+}
+
+/// .. of the form of a number; none where there is no form.
+pub(crate) fn slots_at(rows: &[Vec<UniqueSlot>], form: Option<u32>) -> &[UniqueSlot]
+    ensures { result.now ≡ slots_at rows.now form }
+{
+    let Some(number) = form else {
+        return &[];
+    };
+    match rows.get(number as usize) {
+        Some(row) => row,
+        None => &[],
+    }
+}

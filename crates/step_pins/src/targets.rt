@@ -1,0 +1,36 @@
+//! Pinning what a value refers to.
+
+ghost use Rattle.std.specs.Prelude.{OnOk};
+ghost use Rattle.conformance.specs.Apart.{Occurs, OccursIn};
+ghost use Rattle.step_pins.specs.Pinning.{Pins};
+
+use crate::pinned_names::pin;
+use std::alloc::AllocError;
+use std::collections::BTreeSet;
+use step_values::slot::{Node, Slot, Slots};
+
+/// Pins the instances that a value refers to, at any depth. `AllocError` comes where memory runs
+/// out.
+#[cycle(targets)]
+pub fn pin_targets(pinned: &mut BTreeSet<u64>, value: &Slot<'_, '_>) -> Result<(), AllocError>
+    ensures { OnOk result (Pins (λ y. Occurs y value.now) pinned.old pinned.new) }
+{
+    match value.node() {
+        Node::Reference(name) => pin(pinned, name),
+        Node::Typed(_, inner) => pin_targets(pinned, &inner),
+        Node::Sequence(values) => pin_each_target(pinned, &values),
+        Node::Bag(values) => pin_each_target(pinned, &values),
+        _ => Ok(()),
+    }
+}
+
+/// Pins those that one of these values refers to. `AllocError` comes where memory runs out.
+#[cycle(targets)]
+pub fn pin_each_target(pinned: &mut BTreeSet<u64>, values: &Slots<'_, '_>) -> Result<(), AllocError>
+    ensures { OnOk result (Pins (λ y. OccursIn y values.now) pinned.old pinned.new) }
+{
+    for i in 0..values.len() {
+        pin_targets(pinned, &values.at(i))?;
+    }
+    Ok(())
+}

@@ -1,0 +1,14 @@
+use Rattle.std.proofs.Common.{◌≡◌, [], drop}
+use Rattle.step_exchange.specs.Views.{rows_with}
+use Rattle.step_population.specs.Making.{rows_by, AreRowsReady, schema_of_maker, found_by, AddsRowsUpTo}
+use Rattle.step_population.proofs.building.push_rows.Given as goal
+
+abbrev pub invariant-loop-i : goal.invariant-loop-i
+invariant-loop-i l =
+    AddsRowsUpTo l.maker l.initial.builder l.builder
+    (λ d. rows_by (schema_of_maker l.maker) d l.rows.forms.items (rows_with l.names l.instances) l.rows.form_of.items)
+    (λ d. rows_by (schema_of_maker l.maker) d l.rows.forms.items (drop l.i (rows_with l.names l.instances))
+    (drop l.i l.rows.form_of.items))
+    × AreRowsReady (schema_of_maker l.maker) (found_by l.maker) l.rows.forms.items
+    (drop l.i (rows_with l.names l.instances)) (drop l.i l.rows.form_of.items)
+    × (l.builder.pending ≡ [])

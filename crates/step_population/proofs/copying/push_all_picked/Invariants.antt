@@ -1,9 +1,0 @@
-use Rattle.std.proofs.Common.{drop}
-use Rattle.step_population.specs.Ordering.{picked}
-use Rattle.step_population.proofs.Copied.{PushesUpTo}
-use Rattle.step_population.proofs.copying.push_all_picked.Given as goal
-
-abbrev pub invariant-loop-position : goal.invariant-loop-position
-invariant-loop-position l =
-    PushesUpTo l.initial.builder l.builder (picked l.values l.positions)
-    (picked l.values (drop l.position-index l.positions))

@@ -1,9 +1,0 @@
-use Rattle.std.proofs.Common.{◌≡◌, map, take}
-use Rattle.express_schemas.specs.SchemaViews.{schema_of}
-use Rattle.step_values.specs.Views.{word_of}
-use Rattle.base_types.specs.Seen.{name_at}
-use Rattle.step_population.proofs.ordering.type_words.Given as goal
-
-abbrev pub invariant-loop-number : goal.invariant-loop-number
-invariant-loop-number l =
-    map word_of l.words.items ≡ map (name_at (schema_of l.names.schema.now)) (take l.number-index l.types)

@@ -1,6 +1,0 @@
-use Rattle.std.proofs.Common.{◌∙◌, sym}
-use Rattle.step_population.proofs.Found.{population-length}
-use Rattle.step_population.proofs.population.Population.len.Goals as goal
-
-pub returns : goal.returns
-returns c = c.len.ensures ∙ sym (population-length c.args.self.now)

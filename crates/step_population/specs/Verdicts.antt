@@ -1,0 +1,38 @@
+-- What `populate` answers.
+use Rattle.std.specs.Prelude.{◌≡◌, ◌≢◌, List, []}
+use Rattle.express_syntax.specs.Schemas.{Schema}
+use Rattle.express_syntax.specs.SchemaViews.{schema_of}
+use Rattle.schema_types.specs.declared.types.ResolvedTypes.{ResolvedTypes}
+use Rattle.step_structures.specs.Trees.{File}
+use Rattle.conformance.specs.Bases.{Domain, IsDomain}
+use Rattle.conformance.specs.Entities.{Entities, AreEntities}
+use Rattle.conformance.specs.Findings.{findings}
+use Rattle.conformance.specs.Populations.{Instance, population_of}
+use Rattle.conformance.specs.declared.finding.Finding.{Finding}
+use Rattle.step_exchange.specs.Exchanges.{structure}
+use Rattle.step_exchange.specs.declared.structure.Exchange.{Exchange}
+use Rattle.step_population.specs.declared.populate.Verdict.{Verdict}
+use Rattle.step_population.specs.declared.populate.Verdict.TheVariants.{Typed, Faulty}
+use Rattle.population_typed.specs.Seen.{population_seen}
+
+-- there are functions of the data types and of the entities of a schema
+abbrev pub HasFunctions : Schema → Type 0
+HasFunctions s = ((d : Domain) × IsDomain s d) × ((en : Entities) × AreEntities s en)
+
+-- Nothing is wrong with the file, and this is its population, whichever functions are those of the schema; and there are
+-- some.
+abbrev pub IsTyped : Schema → File → List Instance → Type 0
+IsTyped s f is = HasFunctions s
+    × ((d : Domain) (en : Entities) → IsDomain s d → AreEntities s en
+    → (findings s d en f ≡ []) × (is ≡ population_of s d en f))
+
+-- This is all that is wrong with it, whichever functions these are, and something is.
+abbrev pub IsFaulty : Schema → File → List Finding → Type 0
+IsFaulty s f fs = HasFunctions s
+    × ((d : Domain) (en : Entities) → IsDomain s d → AreEntities s en → fs ≡ findings s d en f) × (fs ≢ [])
+
+-- .. of an exchange structure, by the types of its schema
+abbrev pub IsVerdict : ResolvedTypes → Exchange → Verdict → Type 0
+IsVerdict t x (Typed p) = (p.types.now ≡ t) × (p.exchange.now ≡ x)
+    × IsTyped (schema_of t.names.schema.now) (structure x) (population_seen p)
+IsVerdict t x (Faulty fs) = IsFaulty (schema_of t.names.schema.now) (structure x) fs.items

@@ -1,0 +1,240 @@
+//! The values of all instances.
+
+ghost use Rattle.std.specs.Prelude.{◌≡◌, [], ◌∷◌, IfOk, OnOk, map, length, option_copied};
+ghost use Rattle.step_records.specs.Cells.{all_of};
+ghost use Rattle.step_exchange.specs.Views.{
+  record_in,
+  form_of,
+  form_in,
+  rows_with,
+};
+ghost use Rattle.step_values.specs.Targets.{LeadTo, ReferTo};
+ghost use Rattle.population_rows.specs.Index.{found};
+ghost use Rattle.schema_bases.specs.Seen.{schema_at};
+ghost use Rattle.schema_bases.specs.Tables.{AreBases};
+ghost use Rattle.conformance.specs.Bases.{Domain, IsDomain};
+ghost use Rattle.conformance.specs.Entities.{records, parameters};
+ghost use Rattle.population_fits.specs.References.{AreFound};
+ghost use Rattle.population_faults.specs.Rows.{rows_in};
+ghost use Rattle.step_population.specs.Making.{
+  value_by,
+  values_by,
+  row_by,
+  rows_by,
+  IsReady,
+  AreReady,
+  IsRowReady,
+  AreRowsReady,
+  schema_of_maker,
+  found_by,
+  IsMaker,
+  Adds,
+  AddsRows,
+};
+
+use population_faults::keywords::is_internal;
+use population_fits::values::push_value;
+use population_rows::form::{Form, SlotForm};
+use population_rows::index::RowIndex;
+use population_rows::rows::{Rows, form_at};
+use schema_bases::lookup::Bases;
+use std::alloc::{AllocError, Global};
+use step_exchange::structure::Exchange;
+use step_records::param::{Param, Params, cut};
+use step_values::row_builder::RowBuilder;
+use step_values::rows::ValueRows;
+
+/// So many values, those inside others among them, an instance is taken to have.
+const CELLS: usize = 4;
+
+/// What values are made by: what data types ask, and the row of each name.
+#[derive(Clone, Copy)]
+pub struct Maker<'a, 't, 'r> {
+    pub bases: Bases<'a, 't, 'r>,
+    pub index: &'r RowIndex,
+}
+
+/// Pushes the value of an attribute, by its parameter: one that is derived, however it is spelt, or
+/// a value of the first of its data types.
+fn push_slot<'p: 'v, 'v>(
+    maker: &Maker<'_, '_, '_>,
+    builder: &mut RowBuilder<'_, 'v>,
+    slot: &SlotForm,
+    param: &Param<'p>,
+) -> Result<(), AllocError>
+    requires maker { IsMaker maker.now builder.old.names }
+    requires ready { IsReady (schema_of_maker maker.now) (found_by maker.now) slot.now param.now }
+    ensures { OnOk result (Adds maker.now builder.old builder.new
+        (λ d. value_by (schema_of_maker maker.now) d slot.now param.now ∷ [])) }
+{
+    if slot.is_derived {
+        return builder.push_derived();
+    }
+    let number = slot.data_types[0];
+    let base = maker.bases.of_number(number);
+    push_value(&maker.bases, builder, &base, maker.index, param)
+}
+
+/// Pushes the values of attributes in turn, by the parameters of a record.
+fn push_record<'p: 'v, 'v>(
+    maker: &Maker<'_, '_, '_>,
+    builder: &mut RowBuilder<'_, 'v>,
+    slots: &[SlotForm],
+    values: &Params<'p>,
+) -> Result<(), AllocError>
+    requires maker { IsMaker maker.now builder.old.names }
+    requires ready { AreReady (schema_of_maker maker.now) (found_by maker.now) slots.now
+        (all_of values.now) }
+    ensures { OnOk result (Adds maker.now builder.old builder.new
+        (λ d. values_by (schema_of_maker maker.now) d slots.now (all_of values.now))) }
+{
+    for i in 0..slots.len() {
+        let Some(param) = values.item(i) else {
+            return Ok(());
+        };
+        push_slot(maker, builder, &slots[i], &param)?;
+    }
+    Ok(())
+}
+
+/// Pushes the values of attributes in turn, by the parameters of partial records as they stand.
+fn push_partials<'p: 'v, 'v>(
+    maker: &Maker<'_, '_, '_>,
+    builder: &mut RowBuilder<'_, 'v>,
+    slots: &[SlotForm],
+    partials: &Params<'p>,
+) -> Result<(), AllocError>
+    requires maker { IsMaker maker.now builder.old.names }
+    requires ready { AreReady (schema_of_maker maker.now) (found_by maker.now) slots.now
+        (parameters (map record_in partials.now)) }
+    ensures { OnOk result (Adds maker.now builder.old builder.new
+        (λ d. values_by (schema_of_maker maker.now) d slots.now
+        (parameters (map record_in partials.now)))) }
+{
+    let mut left = slots;
+    for i in 0..partials.len() {
+        let (_, values) = partials.at(i).parts().split(1);
+        let (own, behind) = cut(left, values.len());
+        push_record(maker, builder, own, &values)?;
+        left = behind;
+    }
+    Ok(())
+}
+
+/// Pushes the values of the attributes of an instance, by its records.
+fn push_instance<'p: 'v, 'v>(
+    maker: &Maker<'_, '_, '_>,
+    builder: &mut RowBuilder<'_, 'v>,
+    slots: &[SlotForm],
+    parts: &Params<'p>,
+) -> Result<(), AllocError>
+    requires maker { IsMaker maker.now builder.old.names }
+    requires ready { AreReady (schema_of_maker maker.now) (found_by maker.now) slots.now
+        (parameters (records (form_of parts.now))) }
+    ensures { OnOk result (Adds maker.now builder.old builder.new
+        (λ d. values_by (schema_of_maker maker.now) d slots.now
+        (parameters (records (form_of parts.now))))) }
+{
+    if !is_internal(parts) {
+        return push_partials(maker, builder, slots, parts);
+    }
+    let (_, values) = parts.split(1);
+    push_record(maker, builder, slots, &values)
+}
+
+/// Makes the row of an instance of this form; one of no form has no values.
+fn push_row<'p: 'v, 'v>(
+    maker: &Maker<'_, '_, '_>,
+    builder: &mut RowBuilder<'_, 'v>,
+    form: Option<&Form>,
+    instance: &Param<'p>,
+) -> Result<(), AllocError>
+    requires maker { IsMaker maker.now builder.old.names }
+    requires whole { builder.old.pending ≡ [] }
+    requires ready { IsRowReady (schema_of_maker maker.now) (found_by maker.now)
+        (option_copied form) (form_in instance.now) }
+    ensures { OnOk result (AddsRows maker.now builder.old builder.new
+        (λ d. row_by (schema_of_maker maker.now) d (option_copied form.entry)
+        (form_in instance.now) ∷ [])) }
+{
+    if let Some(form) = form {
+        push_instance(maker, builder, &form.slots, &instance.parts())?;
+    }
+    builder.close_row()
+}
+
+/// Makes the rows of instances with these names, in order.
+fn push_rows<'p: 'v, 'v>(
+    maker: &Maker<'_, '_, '_>,
+    builder: &mut RowBuilder<'_, 'v>,
+    rows: &Rows,
+    names: &[u64],
+    instances: &Params<'p>,
+) -> Result<(), AllocError>
+    requires maker { IsMaker maker.now builder.old.names }
+    requires whole { builder.old.pending ≡ [] }
+    requires matched { length rows.now.form_of.items ≡ length names.now }
+    requires ready { AreRowsReady (schema_of_maker maker.now) (found_by maker.now)
+        rows.now.forms.items (rows_with names.now instances.now) rows.now.form_of.items }
+    ensures { OnOk result (AddsRows maker.now builder.old builder.new
+        (λ d. rows_by (schema_of_maker maker.now) d rows.now.forms.items
+        (rows_with names.now instances.now) rows.now.form_of.items)) }
+{
+    for i in 0..names.len() {
+        let Some(instance) = instances.item(i) else {
+            return Ok(());
+        };
+        push_row(maker, builder, form_at(rows, i), &instance)?;
+    }
+    Ok(())
+}
+
+/// What the values of instances with these rows are made by.
+fn maker_of<'b, 't, 'a>(bases: &Bases<'a, 't, 'b>, rows: &'b Rows) -> Maker<'a, 't, 'b>
+    ensures bases { result.bases ≡ bases.now }
+    ensures index { result.index.now ≡ rows.now.index }
+{
+    Maker {
+        bases: *bases,
+        index: &rows.index,
+    }
+}
+
+/// A builder of the rows of instances with these names, with room for as many; where memory has no
+/// such room, it grows as rows come.
+fn builder_of<'n, 'v>(alloc: Global, names: &'n [u64]) -> RowBuilder<'n, 'v>
+    ensures { result ≡ record { names = names.now; rows = []; pending = [] } }
+{
+    let mut builder = RowBuilder::new(alloc, names);
+    let _ = builder.reserve(names.len().saturating_mul(CELLS), names.len());
+    builder
+}
+
+/// For each instance of an exchange structure the values of its attributes, in the order of its
+/// form.
+///
+/// `AllocError` comes where memory runs out.
+pub fn values_of<'b, 'r>(
+    alloc: Global,
+    bases: &Bases<'_, '_, 'b>,
+    rows: &'b Rows,
+    exchange: &'r Exchange<'_>,
+) -> Result<ValueRows<'r>, AllocError>
+    requires bases { AreBases bases.now }
+    requires index { AreFound exchange.now.names (found rows.now.index) }
+    requires matched { length rows.now.form_of.items ≡ length exchange.now.names }
+    requires ready { AreRowsReady (schema_at bases.now) (found rows.now.index) rows.now.forms.items
+        (rows_in exchange.now) rows.now.form_of.items }
+    ensures rows { IfOk result (λ v. (d : Domain) → IsDomain (schema_at bases.now) d
+        → v.rows ≡ rows_by (schema_at bases.now) d rows.now.forms.items
+        (rows_in exchange.now) rows.now.form_of.items) }
+    ensures leads { IfOk result (λ v. LeadTo exchange.now.names v.targets) }
+    ensures refers { IfOk result (λ v. ReferTo exchange.now.names v.rows) }
+{
+    let maker = maker_of(bases, rows);
+    let names = exchange.names.as_slice();
+    let (_, instances) = exchange.trees.trees().split(exchange.header_len);
+    let mut builder = builder_of(alloc, names);
+    push_rows(&maker, &mut builder, rows, names, &instances)?;
+    Ok(builder.finish())
+}

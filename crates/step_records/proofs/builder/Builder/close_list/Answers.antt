@@ -1,0 +1,38 @@
+use Rattle.std.proofs.Common.{ap, arith, drop}
+use Rattle.parsing.specs.Nodes.{said_by}
+use Rattle.step_records.specs.Cells.{parameters}
+use Rattle.step_records.specs.Building.{list_of}
+use Rattle.step_records.proofs.Built.{closed, pending_pushed, closed_pending}
+use Rattle.step_records.proofs.builder.Builder.close_list.Goals as goal
+
+pub invariant_of-self : goal.invariant_of-self
+invariant_of-self c =
+    let v = c.self.inside in
+    let h = closed v.text.now v.cells v.kept.items c.args.mark c.close-run.result c.close-run.new.self c.self.invariant
+    c.close-run.ensures in
+    h.builds
+
+pub invariant_of-self-in_err-push_pending : goal.invariant_of-self-in_err-push_pending
+invariant_of-self-in_err-push_pending c =
+    let v = c.self.inside in
+    let h = closed v.text.now v.cells v.kept.items c.args.mark c.close-run.result c.close-run.new.self c.self.invariant
+    c.close-run.ensures in
+    rw c.in_err-push_pending.ensures h.builds
+
+pub invariant_of-self-2 : goal.invariant_of-self-2
+invariant_of-self-2 c =
+    let v = c.self.inside in
+    let h = closed v.text.now v.cells v.kept.items c.args.mark c.close-run.result c.close-run.new.self c.self.invariant
+    c.close-run.ensures in
+    let end = h.end in
+    rw (c.in_ok-push_pending.ensures, c.in_ok-cell.ensures) (pending_pushed v.text.now c.close-run.new.self.column
+    v.kept.items c.close-run.new.self.pending _ h.builds (omega (arith, end)) tt)
+
+pub returns : goal.returns
+returns c =
+    let v = c.self.inside in
+    let h = closed v.text.now v.cells v.kept.items c.args.mark c.close-run.result c.close-run.new.self c.self.invariant
+    c.close-run.ensures in
+    rw (c.in_ok-push_pending.ensures, c.in_ok-cell.ensures, ← c.self.view_is) (closed_pending v.text.now v.cells
+    v.kept.items c.args.mark c.close-run.result c.close-run.new.self h _ (list_of (drop c.args.mark
+    (said_by (parameters v.text.now) v.cells.column v.cells.pending))) (ap list_of h.moved))

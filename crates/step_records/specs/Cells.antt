@@ -1,0 +1,90 @@
+-- What a cell of a column says of a parameter, over a text (ISO 10303-21, 11).
+use Rattle.std.specs.Prelude.{ℕ, ◌+◌, ◌<◌, ◌≤◌, ◌^◌, Bool, true, false, List, [], ◌∷◌, length, take, drop}
+use Rattle.std.specs.Str.Parse.{digits_value}
+use Rattle.parsing.specs.Nodes.{Nodes, run}
+use Rattle.step_lexis.specs.declared.token.Mark.TheVariants.{Dollar, Asterisk}
+use Rattle.step_literals.specs.Literals.{IsDecimal, IsText}
+use Rattle.step_literals.specs.Tokens.{IsKeyword, Spells}
+use Rattle.step_literals.specs.Tokens as token_kinds
+use Rattle.step_structures.specs.Words.{keyword, name, number, element, string, binary, mark}
+use Rattle.step_structures.specs.Trees.{Tree, leaf, typed, group, Trees, none, one}
+use Rattle.step_records.specs.declared.cell.Cell.{Cell}
+use Rattle.step_records.specs.declared.cell.Kind.{Kind}
+use Rattle.step_records.specs.declared.cell.Kind.TheVariants as kinds
+use Rattle.step_records.specs.declared.cell.Leaf.{Leaf}
+use Rattle.step_records.specs.declared.cell.Leaf.TheVariants as leaves
+
+abbrev pub all_of : List Tree → Trees
+all_of [] = none
+all_of (x ∷ xs) = one x (all_of xs)
+
+-- the number that a reference writes behind its mark
+abbrev pub name_of : List ℕ → ℕ
+name_of text = digits_value 10 (drop 1 text)
+
+-- a leaf that is spelt like this; an element is what stands between its dots
+abbrev pub leaf_as : Leaf → List ℕ → Tree
+leaf_as leaves.Unset s = leaf (mark Dollar)
+leaf_as leaves.Star s = leaf (mark Asterisk)
+leaf_as leaves.Number s = leaf (number s)
+leaf_as leaves.Text s = leaf (string s)
+leaf_as leaves.Bits s = leaf (binary s)
+leaf_as leaves.Element s = leaf (element s)
+leaf_as leaves.Reference s = leaf (name (name_of s) s)
+leaf_as leaves.Keyword s = leaf (keyword s)
+
+-- bytes spell a leaf of this kind
+abbrev pub IsSpelt : Leaf → List ℕ → Type 0
+IsSpelt leaves.Unset s = Unit {0}
+IsSpelt leaves.Star s = Unit {0}
+IsSpelt leaves.Number s = IsDecimal s
+IsSpelt leaves.Text s = IsText s
+IsSpelt leaves.Bits s = Spells token_kinds.binary s
+IsSpelt leaves.Element s = IsKeyword s
+IsSpelt leaves.Reference s = Spells token_kinds.name s × (name_of s < 2 ^ 64)
+IsSpelt leaves.Keyword s = IsKeyword s
+
+-- a cell of this kind is a keyword
+abbrev pub is_keyword : Kind → Bool
+is_keyword (kinds.Leaf leaves.Keyword) = true
+is_keyword _ = false
+
+-- what a keyword and the parameter inside make
+abbrev pub typed_of : List Tree → Tree
+typed_of (leaf (keyword text) ∷ x ∷ []) = typed text x
+typed_of _ = group none
+
+-- so many bytes of a text from a place on
+abbrev pub part : List ℕ → ℕ → ℕ → List ℕ
+part text at len = take len (drop at text)
+
+-- what is inside a cell stands before this place
+abbrev pub reach_as : Kind → ℕ → ℕ → ℕ
+reach_as (kinds.Leaf k) at len = 0
+reach_as kinds.Typed at len = at + 2
+reach_as kinds.List at len = at + len
+
+module _ (text : List ℕ) where
+  -- what a cell says, where what is said at each place is known
+  abbrev pub says_as : (ℕ → Tree) → Kind → ℕ → ℕ → Tree
+  says_as f (kinds.Leaf k) at len = leaf_as k (part text at len)
+  says_as f kinds.Typed at len = typed_of (run f at 2)
+  says_as f kinds.List at len = group (all_of (run f at len))
+
+  -- cells of parameters
+  abbrev pub parameters : Nodes Cell Tree
+  parameters = record {
+    reach = λ c. reach_as c.kind c.at c.len;
+    says = λ f c. says_as f c.kind c.at c.len;
+    nothing = group none;
+  }
+
+  -- a leaf stands in the text, and is spelt as its kind asks
+  abbrev pub IsInText : Kind → ℕ → ℕ → Type 0
+  IsInText (kinds.Leaf k) at len = (at + len ≤ length text) × IsSpelt k (part text at len)
+  IsInText _ at len = Unit {0}
+
+  -- .. and so do all leaves
+  abbrev pub AreInText : List Cell → Type 0
+  AreInText [] = Unit {0}
+  AreInText (c ∷ cs) = IsInText c.kind c.at c.len × AreInText cs

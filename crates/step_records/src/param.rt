@@ -1,0 +1,320 @@
+//! Parameters that are read, by their outermost parts.
+
+ghost use Rattle.std.specs.Prelude.{
+  ◌≡◌,
+  ◌<◌,
+  ◌≤◌,
+  ◌+◌,
+  ◌^◌,
+  [],
+  ◌∷◌,
+  Some,
+  length,
+  take,
+  drop,
+  slice_get,
+  get_or,
+  ◌==◌,
+  not,
+  is_some,
+  IfSome,
+};
+ghost use Rattle.parsing.specs.Nodes.{run, said_at};
+ghost use Rattle.step_literals.specs.Tokens as token_kinds;
+ghost use Rattle.step_literals.specs.Tokens.{Spells};
+ghost use Rattle.step_records.specs.Building.{Builds, kept_by, tree_of};
+ghost use Rattle.step_records.specs.Cells.{
+  IsSpelt,
+  is_keyword,
+  leaf_as,
+  name_of,
+  parameters,
+  typed_of,
+};
+ghost use Rattle.step_records.specs.Params.{node_value, parts_of, keyword_of, stays_as_spelt};
+ghost use Rattle.step_structures.specs.Normal.{plain_tree};
+
+use crate::cell::{Cell, Kind, Leaf};
+use std::marker::Model;
+use step_literals::literal::{Bits, Decimal, Text, Word};
+use step_literals::numbers::number_of;
+
+/// A parameter, or a record, of trees that are read: a view into their column.
+#[derive(Drop)]
+pub struct Param<'t> {
+    text: &'t [u8],
+    column: &'t [Cell],
+    cell: Cell,
+}
+
+impl<'t> Model for Param<'t> {
+    ghost use Rattle.std.specs.Prelude.{[], ◌∷◌};
+    ghost use Rattle.step_structures.specs.Trees.{Tree};
+    ghost use Rattle.step_records.specs.ComputedCodes.{coded_tree};
+    ghost use Rattle.step_records.specs.Building.{Builds, tree_of};
+
+    ghost Value = { Tree };
+
+    ghost coded = { coded_tree };
+
+    ghost view = { λ p. tree_of p.text.now p.column.now p.cell };
+
+    ghost invariant = { λ p. Builds p.text.now p.column.now (p.cell ∷ []) [] };
+}
+
+/// Parameters side by side.
+#[derive(Drop)]
+pub struct Params<'t> {
+    text: &'t [u8],
+    column: &'t [Cell],
+    // A part of the column, or cells over it.
+    cells: &'t [Cell],
+}
+
+impl<'t> Model for Params<'t> {
+    ghost use Rattle.std.specs.Prelude.{List, []};
+    ghost use Rattle.step_structures.specs.Trees.{Tree};
+    ghost use Rattle.step_records.specs.ComputedCodes.{coded_trees};
+    ghost use Rattle.step_records.specs.Building.{Builds, kept_by};
+
+    ghost Value = { List Tree };
+
+    ghost coded = { coded_trees };
+
+    ghost view = { λ p. kept_by p.text.now p.column.now p.cells.now };
+
+    ghost invariant = { λ p. Builds p.text.now p.column.now p.cells.now [] };
+}
+
+/// The outermost part of a parameter, with what is inside it.
+#[derive(Drop)]
+pub enum Node<'t> {
+    /// `$`, no value
+    Unset,
+    /// `*`, a value that is derived
+    Star,
+    /// An integer or a real number.
+    Number(Decimal<'t>),
+    /// A string.
+    Text(Text<'t>),
+    /// A binary.
+    Bits(Bits<'t>),
+    /// An element of an enumeration, without its dots.
+    Element(Word<'t>),
+    /// A reference to the instance of this name, and how it is spelt.
+    Reference(u64, &'t [u8]),
+    /// The keyword of a record, the first in its list.
+    Keyword(Word<'t>),
+    /// A typed parameter: its keyword and the parameter inside.
+    Typed(Word<'t>, Param<'t>),
+    /// A list of parameters; also a record, its keyword before its parameters.
+    List(Params<'t>),
+}
+
+impl<'t> Param<'t> {
+    // The tree that a cell over a column is.
+    fn of(text: &'t [u8], column: &'t [Cell], cell: Cell) -> Param<'t>
+        requires { Builds text.now column.now (cell ∷ []) [] }
+        ensures { result ≡ tree_of text.now column.now cell }
+    {
+        Param { text, column, cell }
+    }
+
+    /// Its outermost part.
+    pub fn node(&self) -> Node<'t>
+        ensures { node_value result ≡ self.now }
+    {
+        let (text, column, cell) = (self.text, self.column, self.cell);
+        match cell.kind {
+            Kind::Leaf(leaf) => leaf_node(leaf, part(text, cell.at, cell.len)),
+            Kind::Typed => typed_node(text, column, cell.at),
+            Kind::List => {
+                let cells = part(column, cell.at, cell.len);
+                Node::List(Params::of(text, column, cells))
+            }
+        }
+    }
+
+    /// Its spelling, where the normal text has it as it stands: that of a number, a string, a
+    /// binary, or a reference with no zero before its number.
+    pub fn literal(&self) -> Option<&'t [u8]>
+        ensures says { IfSome result (λ s. plain_tree self.now ≡ s.now) }
+        ensures which { is_some result ≡ stays_as_spelt self.now }
+    {
+        match self.cell.kind {
+            Kind::Leaf(leaf) => leaf_literal(leaf, part(self.text, self.cell.at, self.cell.len)),
+            _ => None,
+        }
+    }
+
+    /// What is right inside a list of parameters, or the keyword and the parameters of a record;
+    /// nothing where it is something else.
+    pub fn parts(&self) -> Params<'t>
+        ensures { result ≡ parts_of self.now }
+    {
+        match self.node() {
+            Node::List(parts) => parts,
+            _ => Params::of(self.text, self.column, part(self.column, 0, 0)),
+        }
+    }
+
+    /// The keyword that it is; no bytes where it is something else.
+    pub fn keyword(&self) -> &'t [u8]
+        ensures { result.now ≡ keyword_of self.now }
+    {
+        match self.node() {
+            Node::Keyword(word) => word.spelling(),
+            _ => &[],
+        }
+    }
+}
+
+impl<'t> Params<'t> {
+    /// The trees that cells over a column are.
+    pub(crate) fn of(text: &'t [u8], column: &'t [Cell], cells: &'t [Cell]) -> Params<'t>
+        requires { Builds text.now column.now cells.now [] }
+        ensures { result ≡ kept_by text.now column.now cells.now }
+    {
+        Params {
+            text,
+            column,
+            cells,
+        }
+    }
+
+    /// How many they are.
+    pub fn len(&self) -> usize
+        ensures { result ≡ length self.now }
+    {
+        self.cells.len()
+    }
+
+    /// One of them, counted from 0.
+    pub fn item(&self, index: usize) -> Option<Param<'t>>
+        ensures { result ≡ slice_get self.now index }
+    {
+        if index < self.len() {
+            Some(self.at(index))
+        } else {
+            None
+        }
+    }
+
+    /// The first so many of them, or all, and the others.
+    pub fn split(&self, count: usize) -> (Params<'t>, Params<'t>)
+        ensures front { result.0 ≡ take count self.now }
+        ensures back { result.1 ≡ drop count self.now }
+    {
+        let (front, back) = cut(self.cells, count);
+        (
+            Params::of(self.text, self.column, front),
+            Params::of(self.text, self.column, back),
+        )
+    }
+
+    /// One of them that is there.
+    pub fn at(&self, index: usize) -> Param<'t>
+        requires { index < length self.now }
+        ensures { slice_get self.now index ≡ Some result }
+    {
+        Param::of(self.text, self.column, self.cells[index])
+    }
+}
+
+// So many items from a place on.
+fn part<'t, T>(items: &'t [T], at: u64, len: u32) -> &'t [T]
+    requires { at + len ≤ length items.now }
+    ensures { result.now ≡ take len (drop at items.now) }
+{
+    let (_, rest) = items.split_at(at as usize);
+    let (part, _) = rest.split_at(len as usize);
+    part
+}
+
+/// The first so many items, or all, and the others.
+pub fn cut<'t, T>(items: &'t [T], count: usize) -> (&'t [T], &'t [T])
+    ensures front { result.0.now ≡ take count items.now }
+    ensures back { result.1.now ≡ drop count items.now }
+{
+    if count < items.len() {
+        items.split_at(count)
+    } else {
+        items.split_at(items.len())
+    }
+}
+
+// The number that a reference writes behind its mark.
+fn name_of(spelling: &[u8]) -> u64
+    requires spelt { Spells token_kinds.name spelling.now }
+    requires fits { name_of spelling.now < 2 ^ 64 }
+    ensures { result ≡ name_of spelling.now }
+{
+    let (_, digits) = spelling.split_at(1);
+    number_of(digits).unwrap()
+}
+
+// A leaf that is spelt like this.
+fn leaf_node<'t>(leaf: Leaf, spelling: &'t [u8]) -> Node<'t>
+    requires { IsSpelt leaf spelling.now }
+    ensures { node_value result ≡ leaf_as leaf spelling.now }
+{
+    match leaf {
+        Leaf::Unset => Node::Unset,
+        Leaf::Star => Node::Star,
+        Leaf::Number => Node::Number(Decimal::from_number(spelling)),
+        Leaf::Text => Node::Text(Text::from_string(spelling)),
+        Leaf::Bits => Node::Bits(Bits::from_binary(spelling)),
+        Leaf::Element => Node::Element(Word::from_keyword(spelling)),
+        Leaf::Reference => Node::Reference(name_of(spelling), spelling),
+        Leaf::Keyword => Node::Keyword(Word::from_keyword(spelling)),
+    }
+}
+
+// Whether no zero stands before the number of a reference.
+fn is_shortest(spelling: &[u8]) -> bool
+    requires { Spells token_kinds.name spelling.now }
+    ensures { result ≡ not (get_or spelling.now 1 0 == 48) }
+{
+    spelling[1] != b'0'
+}
+
+// A leaf that is spelt like this, where the normal text has it so.
+fn leaf_literal<'t>(leaf: Leaf, spelling: &'t [u8]) -> Option<&'t [u8]>
+    requires { IsSpelt leaf spelling.now }
+    ensures says { IfSome result (λ s. plain_tree (leaf_as leaf spelling.now) ≡ s.now) }
+    ensures which { is_some result ≡ stays_as_spelt (leaf_as leaf spelling.now) }
+{
+    match leaf {
+        Leaf::Number | Leaf::Text | Leaf::Bits => Some(spelling),
+        Leaf::Reference if is_shortest(spelling) => Some(spelling),
+        _ => None,
+    }
+}
+
+// Whether a cell is a keyword.
+fn is_keyword(kind: Kind) -> bool
+    ensures { result ≡ is_keyword kind }
+{
+    match kind {
+        Kind::Leaf(Leaf::Keyword) => true,
+        _ => false,
+    }
+}
+
+// The keyword and the parameter that stand at a place of a column; no parameters where what stands
+// there is no keyword.
+fn typed_node<'t>(text: &'t [u8], column: &'t [Cell], at: u64) -> Node<'t>
+    requires builds { Builds text.now column.now [] [] }
+    requires within { at + 2 ≤ length column.now }
+    ensures { node_value result
+        ≡ typed_of (run (said_at (parameters text.now) column.now) at 2) }
+{
+    let first = at as usize;
+    let keyword = column[first];
+    if is_keyword(keyword.kind) {
+        let word = Word::from_keyword(part(text, keyword.at, keyword.len));
+        Node::Typed(word, Param::of(text, column, column[first + 1]))
+    } else {
+        Node::List(Params::of(text, column, part(column, at, 0)))
+    }
+}

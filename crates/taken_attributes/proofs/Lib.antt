@@ -1,6 +1,0 @@
-pub mod Filtering
-pub mod Finding
-pub mod Kindred
-mod Gathered
-mod Reached
-mod Chosen

@@ -1,5 +1,0 @@
-use Rattle.type_graphs.proofs.Supertypes.{the-order-decides-no-kinds}
-use Rattle.type_graphs.proofs.laws.the_order_decides_no_kinds.Goals as goal
-
-pub returns : goal.returns
-returns c = the-order-decides-no-kinds

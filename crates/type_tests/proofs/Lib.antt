@@ -1,3 +1,0 @@
-mod Literals
-mod Capitals
-mod Saying

@@ -1,4 +1,0 @@
-pub mod Findings
-pub mod Listing
-pub mod Places
-pub mod Rules

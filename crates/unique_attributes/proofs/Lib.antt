@@ -1,3 +1,0 @@
-pub mod Members
-pub mod Holding
-pub mod Told

@@ -1,5 +1,0 @@
-pub mod Pinning
-pub mod Listing
-pub mod Walking
-pub mod Classmates
-pub mod Tabled

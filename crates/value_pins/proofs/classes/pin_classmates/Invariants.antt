@@ -1,6 +1,0 @@
-use Rattle.value_pins.specs.Classes.{class_of}
-use Rattle.value_pins.proofs.Classmates.{IsGone}
-use Rattle.value_pins.proofs.classes.pin_classmates.Given as goal
-
-abbrev pub invariant-loop-i : goal.invariant-loop-i
-invariant-loop-i l = IsGone (class_of l.classes) l.values l.i l.firsts l.fn.pinned l.pinned

@@ -1,3 +1,0 @@
-pub mod Pinning
-pub mod Classes
-pub mod Elements

@@ -1,0 +1,118 @@
+#!/usr/bin/env python3
+"""Builds `stepmin` as it stands, before any proof, to see what a change is worth before it is proved.
+
+    tools/unproved.py OUT
+
+`rattle-try` lowers the program from its sources in two minutes. This lends it a folder of tools whose `clang` keeps
+the module that it is given and ends, takes the checks of a trial (of overflow, alignment and the like) out of the
+module, has no function inlined that says `#[inline(never)]`, which a trial forgets, and compiles and links it as a
+build does. On the same files it takes 1.3 times the instructions of the proved program for `plain` and for `check`
+without rules, and 1.2 times for domain rules; what a change saves comes out alike. The program is for measuring:
+nothing of it is proved.
+"""
+import glob
+import os
+import re
+import subprocess
+import sys
+import tempfile
+
+from repository import CRATES, manifest, needed
+
+KEEPING_CLANG = """#!/bin/sh
+if [ "$(stat -c %s module.bc)" -gt 100000 ]; then cp module.bc {folder}/program.bc; exit 1; fi
+exec {kit}/toolchain/bin/clang "$@"
+"""
+TARGET = ["--target=x86_64-unknown-linux-gnu", "--no-default-config"]
+BUILD = ["-march=x86-64", "-mllvm", "-no-trap-after-noreturn", "-ffunction-sections", "-fdata-sections", "-fPIE", "-O3"]
+CHECK = re.compile(r'call void @("rattle-llvm-checks::|llvm\.trap\()')
+NEVER_INLINED = re.compile(r"#\[inline\(never\)\]\s*(?:#\[.*\]\s*)*(?:pub(?:\(\w+\))? )?(?:unsafe )?fn (\w+)")
+DEFINED = re.compile(r'define [^"]*@"([^"]+)"\(.*\) #\d+ \{$')
+
+
+def sources(kit):
+    """The words that name all libraries below the program, as sources."""
+    crates = manifest()
+    words, ported = [], ["std"]
+    for name in needed(crates, ["stepmin"]):
+        if name == "stepmin":
+            continue
+        uses = dict.fromkeys(["core", "std", *crates[name]])
+        words += ["--lib", f"{name}:{','.join(uses)}={CRATES}/{name}/src/lib.rt"]
+    for below in crates.values():
+        ported += [name for name in below if name not in crates and name not in ported]
+    for name in ported:
+        with open(f"{kit}/rlibs/{name}.rlib/format", encoding="utf-8") as file:
+            uses = re.findall(r"^dep (\w+)$", file.read(), re.M)
+        ported += [it for it in uses if it not in ported]
+        words += ["--lib", f"{name}:{','.join(uses)}={kit}/rattle/{name}/src/lib.rt"]
+    return words
+
+
+def never_inlined(kit):
+    """The crate and the name of each function that says so."""
+    found = set()
+    for path in glob.glob(f"{CRATES}/*/src/**/*.rt", recursive=True) + glob.glob(f"{kit}/rattle/*/src/**/*.rt", recursive=True):
+        crate = path.split("/src/")[0].rpartition("/")[2]
+        with open(path, encoding="utf-8") as file:
+            found.update((crate, name) for name in NEVER_INLINED.findall(file.read()))
+    return found
+
+
+def as_built(line, apart):
+    """A line of the module, where one that defines a function of these says that it isn't inlined."""
+    defined = DEFINED.match(line)
+    if not defined:
+        return line
+    path = re.sub(r"::<.*", "", defined[1]).split("::")
+    return re.sub(r" #(\d+) \{$", r" noinline #\1 {", line) if (path[0], path[-1]) in apart else line
+
+
+def run(words):
+    """Runs a tool, and says nothing unless it fails."""
+    ran = subprocess.run(words, stdout=subprocess.DEVNULL, stderr=subprocess.PIPE, text=True, check=False)
+    if ran.returncode:
+        sys.exit(ran.stderr)
+
+
+def lower(kit, folder):
+    """The module of the program, as text without the checks of a trial."""
+    os.makedirs(f"{folder}/bin")
+    for name in ("ld.lld", "llvm-ar", "rattle-x64"):
+        os.symlink(f"{kit}/toolchain/bin/{name}", f"{folder}/bin/{name}")
+    os.symlink(f"{kit}/toolchain/lib", f"{folder}/lib")
+    with open(f"{folder}/bin/clang", "w", encoding="ascii") as file:
+        file.write(KEEPING_CLANG.format(folder=folder, kit=kit))
+    os.chmod(f"{folder}/bin/clang", 0o755)
+    words = [f"{kit}/bin/rattle-try", "--toolchain", folder, "--asan", f"{kit}/c/asan.a", "--stdin", os.devnull]
+    words += ["--crate-name", "stepmin", f"{CRATES}/stepmin/src/main.rt", *sources(kit)]
+    ran = subprocess.run(words, cwd=folder, env={**os.environ, "TMPDIR": folder}, capture_output=True, text=True, check=False)
+    if not os.path.exists(f"{folder}/program.bc"):
+        sys.exit(ran.stderr)
+    text = [f"{kit}/toolchain/bin/clang", *TARGET, "-S", "-emit-llvm", "-O0", "-Xclang", "-disable-llvm-passes"]
+    run([*text, "-x", "ir", f"{folder}/program.bc", "-o", f"{folder}/all.ll"])
+    apart = never_inlined(kit)
+    with open(f"{folder}/all.ll", encoding="utf-8") as every, open(f"{folder}/program.ll", "w", encoding="utf-8") as kept:
+        kept.writelines(as_built(line, apart) for line in every if not CHECK.search(line))
+
+
+def build(out):
+    """Builds the program, as the file `out`."""
+    kit = os.path.dirname(subprocess.run(["rt", "doc"], capture_output=True, text=True, check=True).stdout.strip())
+    with tempfile.TemporaryDirectory() as folder:
+        lower(kit, folder)
+        compiling = [f"{kit}/toolchain/bin/clang", *TARGET, f"--sysroot={folder}", *BUILD, "-c", "-x", "ir"]
+        run([*compiling, f"{folder}/program.ll", "-o", f"{folder}/program.o"])
+        linking = [f"{kit}/bin/rattle-link", "--target", "x86_64-unknown-linux-gnu", "--toolchain", f"{kit}/toolchain"]
+        libraries = [f"{kit}/c/libos_c.a", f"{kit}/c/liblibc_c.a"]
+        run([*linking, "-o", out, f"{folder}/program.o", *libraries])
+
+
+def main():
+    if len(sys.argv) != 2:
+        sys.exit(__doc__)
+    build(os.path.abspath(sys.argv[1]))
+
+
+if __name__ == "__main__":
+    main()
