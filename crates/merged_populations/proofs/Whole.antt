@@ -1,5 +1,5 @@
 -- A file that is merged under gentle pins conforms, and is a least image.
-use Rattle.std.specs.Prelude.{◌≡◌, ◌≤◌, ℕ, suc, ◌==◌, Bool, IsTrue, true, List, [], ◌∷◌, ◌++◌, length, map}
+use Rattle.std.specs.Prelude.{◌≡◌, ◌≤◌, ℕ, suc, ◌==◌, Bool, true, List, [], ◌∷◌, ◌++◌, length, map}
 use Rattle.std.proofs.Common.{refl, sym, subst, ◌∙◌, inl, arith, length-append}
 use Rattle.std.proofs.lemmas.List.{length-map}
 use Rattle.step_structures.specs.Trees as trees
@@ -46,9 +46,6 @@ module _ (s : Schema) (said : Said s) (chosen : List Name) (f : File) (P : List 
 
   pub are_of : AreOf s said.domain said.entities
   are_of = record { resolved = said.resolved; domain = said.is_domain; entities = said.are_entities }
-
-  weak_pinned : (y : ℕ) → IsTrue (pins.weak y) → IsTrue (pinned y)
-  weak_pinned y w = (pins.are_gentle y).1 (inl ((pins.are_weak y).0 w))
 
   pub bags : BagsArePinned P pinned
   bags y p e =

@@ -1,14 +1,14 @@
 -- What stands before the values of instances.
 use Rattle.std.specs.Prelude.{◌≡◌, ℕ, suc, ◌+◌, ◌-◌, ◌<◌, ◌≤◌, List, [], ◌∷◌, ◌++◌, length, take, drop, Option, None, get_or}
 use Rattle.std.specs.List.{repeat}
+use Rattle.std.specs.Option.{unwrap_or}
 use Rattle.std.proofs.Common.{sym, ap, subst, ◌∙◌, refl, zero, arith, replicate, append_assoc}
-use Rattle.std.proofs.lemmas.List.{take_all, take_more, drop_more, length-replicate, length-append}
+use Rattle.std.proofs.lemmas.List.{take_all, take_more, drop_more, length-replicate, length-append, length-take-le}
 use Rattle.step_equal.specs.declared.row.RowHead.{RowHead}
 use Rattle.step_exchange.specs.declared.section.Section.{Section}
-use Rattle.population_typed.specs.declared.ordering.Order.{Order}
 use Rattle.step_exchange.specs.Sections.{CountsTo}
 use Rattle.population_typed.specs.Seen.{section_numbers}
-use Rattle.population_typed.specs.Ordering.{IsHead, AreHeads}
+use Rattle.population_typed.specs.Ordering.{heads_made}
 
 repeated : {A : Type 0} (n : ℕ) (x : A) → repeat n (x ∷ []) ≡ replicate n x
 repeated zero x = refl
@@ -55,29 +55,39 @@ numbered-next xs k x old new lt at h is = record {
     more = omega arith
 
 -- heads that grow by one
-heads-joined : (orders : List Order) (ks ys : List ℕ) (ns : List (Option ℕ)) (hs : List RowHead) (k y : ℕ)
-    (n : Option ℕ) (h : RowHead) → AreHeads orders ks ys ns hs → IsHead orders k y n h
-    → AreHeads orders (ks ++ k ∷ []) (ys ++ y ∷ []) (ns ++ n ∷ []) (hs ++ h ∷ [])
-heads-joined orders [] [] [] [] k y n h all one = (one, tt)
-heads-joined orders [] [] [] (g ∷ hs) k y n h all one = absurd all
-heads-joined orders [] [] (m ∷ ns) hs k y n h all one = absurd all
-heads-joined orders [] (b ∷ ys) ns hs k y n h all one = absurd all
-heads-joined orders (a ∷ ks) [] [] [] k y n h all one = absurd all
-heads-joined orders (a ∷ ks) [] [] (g ∷ hs) k y n h all one = absurd all
-heads-joined orders (a ∷ ks) [] (m ∷ ns) hs k y n h all one = absurd all
-heads-joined orders (a ∷ ks) (b ∷ ys) [] hs k y n h all one = absurd all
-heads-joined orders (a ∷ ks) (b ∷ ys) (m ∷ ns) [] k y n h all one = absurd all
-heads-joined orders (a ∷ ks) (b ∷ ys) (m ∷ ns) (g ∷ hs) k y n h all one =
-    (all.0, heads-joined orders ks ys ns hs k y n h all.1 one)
+heads-joined : (formless : ℕ) (ks ys : List ℕ) (ns : List (Option ℕ)) (k y : ℕ) (n : Option ℕ) → length ks ≡ length ys
+    → length ns ≡ length ys → heads_made formless (ks ++ k ∷ []) (ys ++ y ∷ []) (ns ++ n ∷ []) ≡ heads_made formless ks ys
+    ns ++ record { name = y; section = k; kind = unwrap_or n formless } ∷ []
+heads-joined formless [] [] [] k y n e f = refl
+heads-joined formless [] [] (m ∷ ns) k y n e f = absurd (omega (arith, f))
+heads-joined formless [] (b ∷ ys) ns k y n e f = absurd (omega (arith, e))
+heads-joined formless (a ∷ ks) [] ns k y n e f = absurd (omega (arith, e))
+heads-joined formless (a ∷ ks) (b ∷ ys) [] k y n e f = absurd (omega (arith, f))
+heads-joined formless (a ∷ ks) (b ∷ ys) (m ∷ ns) k y n e f =
+    ap (λ hs. record { name = b; section = a; kind = unwrap_or m formless } ∷ hs)
+    (heads-joined formless ks ys ns k y n (omega (arith, e)) (omega (arith, f)))
 
-pub heads-next : (orders : List Order) (ks ys : List ℕ) (ns : List (Option ℕ)) (i : ℕ) (old new : List RowHead)
-    (h : RowHead) → length ks ≡ length ys → length ns ≡ length ys → i < length ys
-    → AreHeads orders (take i ks) (take i ys) (take i ns) old
-    → IsHead orders (get_or ks i 0) (get_or ys i 0) (get_or ns i None) h → new ≡ old ++ h ∷ []
-    → AreHeads orders (take (i + 1) ks) (take (i + 1) ys) (take (i + 1) ns) new
-heads-next orders ks ys ns i old new h sections forms lt all one is =
+pub heads-next : (formless : ℕ) (ks ys : List ℕ) (ns : List (Option ℕ)) (i : ℕ) (old new : List RowHead)
+    → length ks ≡ length ys → length ns ≡ length ys → i < length ys
+    → old ≡ heads_made formless (take i ks) (take i ys) (take i ns)
+    → new ≡ old ++ record {
+      name = get_or ys i 0;
+      section = get_or ks i 0;
+      kind = unwrap_or (get_or ns i None) formless;
+    } ∷ []
+    → new ≡ heads_made formless (take (i + 1) ks) (take (i + 1) ys) (take (i + 1) ns)
+heads-next formless ks ys ns i old new sections forms lt all is =
     let first : i < length ks = omega (arith, sections, lt) in
     let third : i < length ns = omega (arith, forms, lt) in
-    rw (take_more ks i 0 first, take_more ys i 0 lt, take_more ns i None third, is)
-    (heads-joined orders (take i ks) (take i ys) (take i ns) old (get_or ks i 0) (get_or ys i 0) (get_or ns i None) h all
-    one)
+    let long-ks = length-take-le i ks (omega (arith, first)) in
+    let long-ys = length-take-le i ys (omega (arith, lt)) in
+    let long-ns = length-take-le i ns (omega (arith, third)) in
+    rw (take_more ks i 0 first, take_more ys i 0 lt, take_more ns i None third)
+    (is
+    ∙ ap (λ hs. hs ++ record {
+      name = get_or ys i 0;
+      section = get_or ks i 0;
+      kind = unwrap_or (get_or ns i None) formless;
+    } ∷ []) all
+    ∙ sym (heads-joined formless (take i ks) (take i ys) (take i ns) (get_or ks i 0) (get_or ys i 0) (get_or ns i None)
+    (long-ks ∙ sym long-ys) (long-ns ∙ sym long-ys)))

@@ -1,8 +1,10 @@
 -- The rows of a population, by what they are made of.
 use Rattle.std.specs.Prelude.{◌≡◌, ℕ, zero, suc, ◌<◌, true, false, ◌||◌, List, [], ◌∷◌, length, map, flat_map, Option, None, Some, slice_get, ◌⊎◌}
 use Rattle.std.specs.List.{AllZip, list_any}
+use Rattle.std.specs.Option.{option_map, unwrap_or}
 use Rattle.std.specs.Str.{bytes_eq}
 use Rattle.std.proofs.Common.{refl, inl, inr, sym, ap, subst, ◌∙◌, arith}
+use Rattle.std.proofs.lemmas.Option.{slice_get-map, slice_get_past}
 use Rattle.std.proofs.lemmas.Slice.Eq.{bytes_eq-Decides}
 use Rattle.express_syntax.specs.Schemas.{Schema}
 use Rattle.express_syntax.specs.SchemaViews.{schema_of}
@@ -19,12 +21,12 @@ use Rattle.step_values.specs.Values.{Values, none, more}
 use Rattle.step_values.specs.Views.{word_of}
 use Rattle.step_equal.specs.Rows.{Row}
 use Rattle.step_equal.specs.Settled.{AreInOrder, IsSettled}
-use Rattle.step_equal.specs.Views.{row_from, rows_from}
+use Rattle.step_equal.specs.Views.{head_names, heads_seen, or_none, rows_from, types_at}
 use Rattle.step_equal.specs.declared.row.RowHead.{RowHead}
 use Rattle.population_typed.specs.Seen.{or_nowhere, place_at, slots_seen, instance_seen, instances_seen, section_numbers, population_seen}
 use Rattle.population_typed.specs.Whole.{form_among, ArePlaced}
 use Rattle.conformance.specs.PlainRows.{or_unset, values_at, IsRowOf, AreRowsOf}
-use Rattle.population_typed.specs.Ordering.{position_among, StandAt, IsOrder, AreOrders, picked_at, picked, order_among, row_picked, rows_picked, types_in, IsHead, AreHeads}
+use Rattle.population_typed.specs.Ordering.{position_among, StandAt, IsOrder, AreOrders, picked_at, picked, order_among, row_picked, rows_picked, types_in, types_each, heads_made}
 use Rattle.population_typed.specs.declared.ordering.Order.{Order}
 use Rattle.population_typed.specs.declared.population.Population.{Population}
 use Rattle.population_typed.proofs.Found.{kept, value-at-number}
@@ -53,6 +55,21 @@ zip-at R [] (y ∷ ys) h n = absurd h
 zip-at R (x ∷ xs) [] h n = absurd h
 zip-at R (x ∷ xs) (y ∷ ys) h zero = inr (x, y, refl, refl, h.0)
 zip-at R (x ∷ xs) (y ∷ ys) h (suc n) = zip-at R xs ys h.1 n
+
+types-among : (o : Option Order) → or_none (option_map (λ (y : Order). map word_of y.types.items) o) ≡ types_in o
+types-among None = refl
+types-among (Some y) = refl
+
+-- the types of an instance are those of its kind
+kind-types : (orders : List Order) (o : Option ℕ) → types_at (types_each orders) (unwrap_or o (length orders)) ≡ types_in
+    (order_among orders o)
+kind-types orders None =
+    ap or_none (slice_get-map (λ (y : Order). map word_of y.types.items) orders (length orders)
+    ∙ ap (option_map (λ (y : Order). map word_of y.types.items))
+    (slice_get_past orders (length orders) (omega arith)))
+kind-types orders (Some n) =
+    ap or_none (slice_get-map (λ (y : Order). map word_of y.types.items) orders n)
+    ∙ types-among (slice_get orders n)
 
 module _ (s : Schema) (one : AreOne (all_places s)) where
   -- the values at positions are those of the places that stand there
@@ -86,87 +103,93 @@ module _ (s : Schema) (one : AreOne (all_places s)) where
     has-order (Some n) = zip-at (IsOrder s) forms orders all n
 
     -- the row of an instance of no form
-    formless-row : (n k : ℕ) (vs : Values) (h : RowHead) (q : Row) → h.name ≡ n → h.section ≡ k
-        → map word_of h.types.items ≡ [] → IsSettled (row_from h none) q → IsRowOf s (instance_seen s n k None vs) q
-    formless-row n k vs h q name section types z =
+    formless-row : (n k : ℕ) (vs : Values) (ts : List (List ℕ)) (q : Row) → ts ≡ []
+        → IsSettled (record { name = n; section = k; types = ts; values = none }) q
+        → IsRowOf s (instance_seen s n k None vs) q
+    formless-row n k vs ts q types z =
         let ordered = subst (λ ws. AreInOrder ws q.types) types z.types in
         let empty = same-as-none q.types ordered.same in
         record {
-          name = z.name ∙ name;
-          section = z.section ∙ section;
+          name = z.name;
+          section = z.section;
           types = ordered;
-          values = z.values ∙ ap (λ ts. values_at [] (flat_map (own_places_of s) ts)) (sym empty);
+          values = z.values ∙ ap (λ us. values_at [] (flat_map (own_places_of s) us)) (sym empty);
         }
 
     -- .. of an instance of a form
-    formed-row : (n k : ℕ) (vs : Values) (x : Form) (y : Order) (h : RowHead) (q : Row) → h.name ≡ n → h.section ≡ k
-        → map word_of h.types.items ≡ map word_of y.types.items → ArePlaced s (Some x) → IsOrder s x y
-        → IsSettled (row_from h (picked vs y.positions.items)) q → IsRowOf s (instance_seen s n k (Some x) vs) q
-    formed-row n k vs x y h q name section types placed order z =
+    formed-row : (n k : ℕ) (vs : Values) (x : Form) (y : Order) (ts : List (List ℕ)) (q : Row)
+        → ts ≡ map word_of y.types.items → ArePlaced s (Some x) → IsOrder s x y
+        → IsSettled (record { name = n; section = k; types = ts; values = picked vs y.positions.items }) q
+        → IsRowOf s (instance_seen s n k (Some x) vs) q
+    formed-row n k vs x y ts q types placed order z =
         let ordered = subst (λ ws. AreInOrder ws q.types) types z.types in
         let same = same-order (map word_of y.types.items) q.types order.types.in_order ordered.in_order
         (λ w. sym (ordered.same w)) in
         record {
-          name = z.name ∙ name;
-          section = z.section ∙ section;
+          name = z.name;
+          section = z.section;
           types = subst (AreInOrder (map (name_at s) x.types.items)) same order.types;
           values = z.values
               ∙ picked-is x.slots.items vs placed (flat_map (own_places_of s) (map word_of y.types.items))
               y.positions.items order.positions
-              ∙ ap (λ ts. values_at (slots_seen s x.slots.items vs) (flat_map (own_places_of s) ts)) same;
+              ∙ ap (λ us. values_at (slots_seen s x.slots.items vs) (flat_map (own_places_of s) us)) same;
         }
 
-    row-is : (n k : ℕ) (o : Option ℕ) (vs : Values) (h : RowHead) (q : Row) → IsHead orders k n o h
-        → ArePlaced s (form_among forms o) → IsSettled (row_from h (row_picked (order_among orders o) vs)) q
+    row-is : (n k : ℕ) (o : Option ℕ) (vs : Values) (ts : List (List ℕ)) (q : Row) → ts ≡ types_in (order_among orders o)
+        → ArePlaced s (form_among forms o)
+        → IsSettled (record { name = n; section = k; types = ts; values = row_picked (order_among orders o) vs }) q
         → IsRowOf s (instance_seen s n k (form_among forms o) vs) q
     unfolding HasOrder
-    row-is n k o vs h q head placed z = by (has-order o)
+    row-is n k o vs ts q types placed z = by (has-order o)
       where
         by : HasOrder o → IsRowOf s (instance_seen s n k (form_among forms o) vs) q
         by (inl neither) =
             subst (λ f. IsRowOf s (instance_seen s n k f vs) q) (sym neither.0)
-            (formless-row n k vs h q head.name_is head.section_is (head.types_are ∙ ap types_in neither.1)
-            (subst (λ y. IsSettled (row_from h (row_picked y vs)) q) neither.1 z))
+            (formless-row n k vs ts q (types ∙ ap types_in neither.1)
+            (subst (λ y. IsSettled (record { name = n; section = k; types = ts; values = row_picked y vs }) q) neither.1 z))
         by (inr has) =
             subst (λ f. IsRowOf s (instance_seen s n k f vs) q) (sym has.2)
-            (formed-row n k vs has.0 has.1 h q head.name_is head.section_is (head.types_are ∙ ap types_in has.3)
-            (subst (ArePlaced s) has.2 placed) has.4
-            (subst (λ y. IsSettled (row_from h (row_picked y vs)) q) has.3 z))
+            (formed-row n k vs has.0 has.1 ts q (types ∙ ap types_in has.3) (subst (ArePlaced s) has.2 placed) has.4
+            (subst (λ y. IsSettled (record { name = n; section = k; types = ts; values = row_picked y vs }) q) has.3 z))
 
-    pub rows-are : (ns ks : List ℕ) (os : List (Option ℕ)) (vss : List Values) (hs : List RowHead) (qs : List Row)
-        → length vss ≡ length ns → AreHeads orders ks ns os hs
-        → Every (λ o. ArePlaced s (form_among forms o)) os
-        → AllZip IsSettled (rows_from hs (rows_picked orders os vss)) qs
+    pub rows-are : (ns ks : List ℕ) (os : List (Option ℕ)) (vss : List Values) (qs : List Row) → length ks ≡ length ns
+        → length os ≡ length ns → length vss ≡ length ns → Every (λ o. ArePlaced s (form_among forms o)) os
+        → AllZip IsSettled
+        (rows_from (heads_seen (types_each orders) (heads_made (length orders) ks ns os)) (rows_picked orders os vss)) qs
         → AreRowsOf s (instances_seen s forms ns ks os vss) qs
-    rows-are [] [] [] vss [] [] c heads placed z = tt
-    rows-are [] [] [] vss [] (q ∷ qs) c heads placed z = absurd z
-    rows-are [] [] [] vss (h ∷ hs) qs c heads placed z = absurd heads
-    rows-are [] [] (o ∷ os) vss hs qs c heads placed z = absurd heads
-    rows-are [] (k ∷ ks) os vss hs qs c heads placed z = absurd heads
-    rows-are (n ∷ ns) [] os vss hs qs c heads placed z = absurd heads
-    rows-are (n ∷ ns) (k ∷ ks) [] vss hs qs c heads placed z = absurd heads
-    rows-are (n ∷ ns) (k ∷ ks) (o ∷ os) vss [] qs c heads placed z = absurd heads
-    rows-are (n ∷ ns) (k ∷ ks) (o ∷ os) [] (h ∷ hs) qs c heads placed z = absurd (omega (arith, c))
-    rows-are (n ∷ ns) (k ∷ ks) (o ∷ os) (vs ∷ vss) (h ∷ hs) [] c heads placed z = absurd z
-    rows-are (n ∷ ns) (k ∷ ks) (o ∷ os) (vs ∷ vss) (h ∷ hs) (q ∷ qs) c heads placed z = (
-      row-is n k o vs h q heads.0 placed.0 z.0,
-      rows-are ns ks os vss hs qs (omega (arith, c)) heads.1 placed.1 z.1,
+    rows-are [] [] [] vss [] b c d placed z = tt
+    rows-are [] [] [] vss (q ∷ qs) b c d placed z = absurd z
+    rows-are [] [] (o ∷ os) vss qs b c d placed z = absurd (omega (arith, c))
+    rows-are [] (k ∷ ks) os vss qs b c d placed z = absurd (omega (arith, b))
+    rows-are (n ∷ ns) [] os vss qs b c d placed z = absurd (omega (arith, b))
+    rows-are (n ∷ ns) (k ∷ ks) [] vss qs b c d placed z = absurd (omega (arith, c))
+    rows-are (n ∷ ns) (k ∷ ks) (o ∷ os) [] qs b c d placed z = absurd (omega (arith, d))
+    rows-are (n ∷ ns) (k ∷ ks) (o ∷ os) (vs ∷ vss) [] b c d placed z = absurd z
+    rows-are (n ∷ ns) (k ∷ ks) (o ∷ os) (vs ∷ vss) (q ∷ qs) b c d placed z = (
+      row-is n k o vs (types_at (types_each orders) (unwrap_or o (length orders))) q (kind-types orders o) placed.0 z.0,
+      rows-are ns ks os vss qs (omega (arith, b)) (omega (arith, c)) (omega (arith, d)) placed.1 z.1,
     )
 
 -- what stands before rows names them, one by one
-pub heads-names : (orders : List Order) (ks ns : List ℕ) (os : List (Option ℕ)) (hs : List RowHead)
-    → AreHeads orders ks ns os hs → map (λ (h : RowHead). h.name) hs ≡ ns
-heads-names orders [] [] [] [] h = refl
-heads-names orders [] [] [] (x ∷ hs) h = absurd h
-heads-names orders [] [] (o ∷ os) hs h = absurd h
-heads-names orders [] (n ∷ ns) os hs h = absurd h
-heads-names orders (k ∷ ks) [] os hs h = absurd h
-heads-names orders (k ∷ ks) (n ∷ ns) [] hs h = absurd h
-heads-names orders (k ∷ ks) (n ∷ ns) (o ∷ os) [] h = absurd h
-heads-names orders (k ∷ ks) (n ∷ ns) (o ∷ os) (x ∷ hs) h =
-    let first = h.0.name_is in
-    let rest = heads-names orders ks ns os hs h.1 in
-    λ i. first i ∷ rest i
+pub heads-names : (formless : ℕ) (ks ns : List ℕ) (os : List (Option ℕ)) → length ks ≡ length ns → length os ≡ length ns
+    → head_names (heads_made formless ks ns os) ≡ ns
+heads-names formless [] [] [] b c = refl
+heads-names formless [] [] (o ∷ os) b c = absurd (omega (arith, c))
+heads-names formless [] (n ∷ ns) os b c = absurd (omega (arith, b))
+heads-names formless (k ∷ ks) [] os b c = absurd (omega (arith, b))
+heads-names formless (k ∷ ks) (n ∷ ns) [] b c = absurd (omega (arith, c))
+heads-names formless (k ∷ ks) (n ∷ ns) (o ∷ os) b c =
+    ap (λ ys. n ∷ ys) (heads-names formless ks ns os (omega (arith, b)) (omega (arith, c)))
+
+-- .. of a population
+pub made-names : (p : Population) (ns : List ℕ) → ns ≡ p.exchange.now.names → (ks : List ℕ)
+    → ks ≡ section_numbers 0 0 p.exchange.now.sections.items → (os : List (Option ℕ)) → os ≡ p.rows.form_of.items
+    → (formless : ℕ) (hs : List RowHead) → hs ≡ heads_made formless ks ns os → head_names hs ≡ ns
+made-names p ns names ks sections os numbers formless hs heads =
+    let k = kept p in
+    ap head_names heads
+    ∙ heads-names formless ks ns os (ap length sections ∙ k.sections ∙ ap length (sym names))
+    (ap length numbers ∙ k.forms ∙ ap length (sym names))
 
 pub mapped-length : {A B : Type 0} (f : A → B) (xs : List A) → length (map f xs) ≡ length xs
 mapped-length f [] = refl
@@ -184,17 +207,22 @@ module _ (p : Population) (forms : List Form) (forms-are : forms ≡ p.rows.form
     (ordered : AreOrders (schema_of p.types.now.names.schema.now) forms orders) (ns : List ℕ)
     (names-are : ns ≡ p.exchange.now.names) (ks : List ℕ)
     (sections-are : ks ≡ section_numbers 0 0 p.exchange.now.sections.items) (os : List (Option ℕ))
-    (numbers-are : os ≡ p.rows.form_of.items) (hs : List RowHead) (heads : AreHeads orders ks ns os hs) where
+    (numbers-are : os ≡ p.rows.form_of.items) (formless : ℕ) (beyond : formless ≡ length orders) (hs : List RowHead)
+    (heads : hs ≡ heads_made formless ks ns os) (kinds : List (List (List ℕ))) (types : kinds ≡ types_each orders) where
   pub made-rows : (rows : List Values) → rows ≡ rows_picked orders p.rows.form_of.items p.values.rows → (qs : List Row)
-      → AllZip IsSettled (rows_from hs rows) qs
+      → AllZip IsSettled (rows_from (heads_seen kinds hs) rows) qs
       → AreRowsOf (schema_of p.types.now.names.schema.now) (population_seen p) qs
   made-rows rows made qs z =
       let k = kept p in
+      let all-heads : hs ≡ heads_made (length orders) (section_numbers 0 0 p.exchange.now.sections.items)
+      p.exchange.now.names p.rows.form_of.items =
+      heads ∙ (λ i. heads_made (beyond i) (sections-are i) (names-are i) (numbers-are i)) in
       rows-are (schema_of p.types.now.names.schema.now) k.one p.rows.forms.items orders
       (subst (λ fs. AreOrders (schema_of p.types.now.names.schema.now) fs orders) forms-are ordered)
-      p.exchange.now.names (section_numbers 0 0 p.exchange.now.sections.items) p.rows.form_of.items p.values.rows hs qs
-      k.values
-      (subst (λ ys. AreHeads orders (section_numbers 0 0 p.exchange.now.sections.items) ys p.rows.form_of.items hs) names-are
-      (subst (λ js. AreHeads orders js ns p.rows.form_of.items hs) sections-are
-      (subst (λ ms. AreHeads orders ks ns ms hs) numbers-are heads)))
-      k.placed (subst (λ rs. AllZip IsSettled (rows_from hs rs) qs) made z)
+      p.exchange.now.names (section_numbers 0 0 p.exchange.now.sections.items) p.rows.form_of.items p.values.rows qs
+      k.sections k.forms k.values k.placed
+      (subst (λ gs. AllZip IsSettled
+      (rows_from (heads_seen (types_each orders) gs) (rows_picked orders p.rows.form_of.items p.values.rows)) qs) all-heads
+      (subst (λ ts. AllZip IsSettled
+      (rows_from (heads_seen ts hs) (rows_picked orders p.rows.form_of.items p.values.rows)) qs) types
+      (subst (λ rs. AllZip IsSettled (rows_from (heads_seen kinds hs) rs) qs) made z)))

@@ -1,6 +1,7 @@
 -- The order in which the values of instances stand in their rows.
-use Rattle.std.specs.Prelude.{◌≡◌, ⊤, ℕ, List, [], ◌∷◌, Option, None, Some, map, flat_map, slice_get}
+use Rattle.std.specs.Prelude.{◌≡◌, ℕ, List, [], ◌∷◌, Option, None, Some, map, flat_map, slice_get}
 use Rattle.std.specs.List.{AllZip}
+use Rattle.std.specs.Option.{unwrap_or}
 use Rattle.express_syntax.specs.Schemas.{Schema}
 use Rattle.schema_semantics.specs.Attributes.{Place}
 use Rattle.schema_places.specs.Places.{all_places}
@@ -67,13 +68,13 @@ abbrev pub types_in : Option Order → List (List ℕ)
 types_in None = []
 types_in (Some o) = map word_of o.types.items
 
--- what stands before the values of an instance of this name, in this section, whose form has this number
-pub record IsHead (orders : List Order) (section name : ℕ) (n : Option ℕ) (h : RowHead) : Type 0 where
-  pub name_is : h.name ≡ name
-  pub section_is : h.section ≡ section
-  pub types_are : map word_of h.types.items ≡ types_in (order_among orders n)
+-- .. those of each order
+abbrev pub types_each : List Order → List (List (List ℕ))
+types_each orders = map (λ (o : Order). map word_of o.types.items) orders
 
-abbrev pub AreHeads : List Order → List ℕ → List ℕ → List (Option ℕ) → List RowHead → Type 0
-AreHeads orders (k ∷ ks) (y ∷ ys) (n ∷ ns) (h ∷ hs) = IsHead orders k y n h × AreHeads orders ks ys ns hs
-AreHeads orders [] [] [] [] = ⊤
-AreHeads orders ks ys ns hs = ⊥
+-- What stands before the values of instances, by their sections, their names and the numbers of their forms, which are
+-- their kinds; those of no form are of this kind.
+abbrev pub heads_made : ℕ → List ℕ → List ℕ → List (Option ℕ) → List RowHead
+heads_made formless (k ∷ ks) (y ∷ ys) (n ∷ ns) =
+    record { name = y; section = k; kind = unwrap_or n formless } ∷ heads_made formless ks ys ns
+heads_made formless ks ys ns = []

@@ -18,6 +18,7 @@ ghost use Rattle.step_exchange.specs.Sections.{CountsTo};
 ghost use Rattle.step_values.specs.References.{EachReferenceOf};
 ghost use Rattle.step_values.specs.Targets.{LeadTo, ReferTo};
 ghost use Rattle.step_values.specs.Views.{word_of};
+ghost use Rattle.step_equal.specs.Views.{kinds_of};
 ghost use Rattle.population_rows.specs.Index.{found, place_of};
 ghost use Rattle.population_fits.specs.References.{IsFound, AreFound};
 ghost use Rattle.population_typed.specs.Seen.{section_numbers, population_seen};
@@ -26,9 +27,8 @@ ghost use Rattle.population_typed.specs.Ordering.{
   order_among,
   row_picked,
   rows_picked,
-  types_in,
-  IsHead,
-  AreHeads,
+  types_each,
+  heads_made,
 };
 
 use crate::copying::push_all_picked;
@@ -120,58 +120,63 @@ fn row_sections(alloc: Global, sections: &[Section<'_>]) -> Result<Vec<u32>, All
     Ok(numbers)
 }
 
-/// Adds these words.
-fn push_words<'s: 'c, 'c>(types: &mut Vec<Word<'c>>, words: &[Word<'s>]) -> Result<(), AllocError>
-    ensures { OnOk result (map word_of types.new.items
-        ≡ map word_of types.old.items ++ map word_of words.now) }
-{
-    for word in words {
-        types.push(*word)?;
-    }
-    Ok(())
-}
-
-/// What stands before the values of an instance whose values have this order.
-fn head<'s: 'c, 'c>(
-    alloc: Global,
-    name: u64,
-    section: u32,
-    order: Option<&Order<'s>>,
-) -> Result<RowHead<'c>, AllocError>
-    ensures name { IfOk result (λ h. h.name ≡ name) }
-    ensures section { IfOk result (λ h. h.section ≡ section) }
-    ensures types { IfOk result (λ h. map word_of h.types.items
-        ≡ types_in (option_copied order.entry)) }
-{
-    let mut types = Vec::new(alloc);
-    if let Some(order) = order {
-        push_words(&mut types, &order.types)?;
-    }
-    Ok(RowHead {
-        name,
-        section,
-        types,
-    })
-}
-
-/// What stands before the values of each instance.
-fn heads<'s: 'c, 'c>(
+/// What stands before the values of each instance. Its kind has the number of its form; instances of
+/// no form are of the kind that is given.
+fn heads(
     alloc: Global,
     sections: &[u32],
     names: &[u64],
     form_of: &[Option<u32>],
-    orders: &[Order<'s>],
-) -> Result<Vec<RowHead<'c>>, AllocError>
+    formless: u32,
+) -> Result<Vec<RowHead>, AllocError>
     requires sections { length sections.now ≡ length names.now }
     requires forms { length form_of.now ≡ length names.now }
-    ensures { IfOk result (λ v. AreHeads orders.now sections.now names.now form_of.now v.items) }
+    ensures { IfOk result
+        (λ v. v.items ≡ heads_made formless sections.now names.now form_of.now) }
 {
     let mut heads = Vec::with_capacity(alloc, names.len())?;
     for i in 0..names.len() {
-        let order = order_at(orders, form_of[i]);
-        heads.push(head(alloc, names[i], sections[i], order)?)?;
+        heads.push(RowHead {
+            name: names[i],
+            section: sections[i],
+            kind: form_of[i].unwrap_or(formless),
+        })?;
     }
     Ok(heads)
+}
+
+/// A number beyond all of these orders.
+///
+/// Where there are 2^32 orders or more there is no memory for it.
+fn beyond(orders: &[Order<'_>]) -> Result<u32, AllocError>
+    ensures { IfOk result (λ n. n ≡ length orders.now) }
+{
+    match u32::try_from(orders.len()) {
+        Ok(number) => Ok(number),
+        Err(_) => Err(AllocError),
+    }
+}
+
+/// A copy of these words.
+fn copied<'s: 'c, 'c>(alloc: Global, words: &[Word<'s>]) -> Result<Vec<Word<'c>>, AllocError>
+    ensures { IfOk result (λ v. map word_of v.items ≡ map word_of words.now) }
+{
+    let mut copied: Vec<Word<'c>> = Vec::with_capacity(alloc, words.len())?;
+    for word in words {
+        copied.push(*word)?;
+    }
+    Ok(copied)
+}
+
+/// The types of each of these orders.
+fn kinds<'s: 'c, 'c>(alloc: Global, orders: &[Order<'s>]) -> Result<Vec<Vec<Word<'c>>>, AllocError>
+    ensures { IfOk result (λ v. kinds_of v.items ≡ types_each orders.now) }
+{
+    let mut kinds = Vec::with_capacity(alloc, orders.len())?;
+    for order in orders {
+        kinds.push(copied(alloc, &order.types)?)?;
+    }
+    Ok(kinds)
 }
 
 impl<'s: 'r, 't, 'r, 'a> Population<'s, 't, 'r, 'a> {
@@ -190,8 +195,10 @@ impl<'s: 'r, 't, 'r, 'a> Population<'s, 't, 'r, 'a> {
         let names = self.exchange.names.as_slice();
         let values = ordered_values(alloc, names, &self.rows, &self.values, &orders)?;
         let sections = row_sections(alloc, &self.exchange.sections)?;
-        let heads = heads(alloc, &sections, names, &self.rows.form_of, &orders)?;
-        match Plain::from_parts(alloc, keys, heads, values) {
+        let formless = beyond(&orders)?;
+        let heads = heads(alloc, &sections, names, &self.rows.form_of, formless)?;
+        let kinds = kinds(alloc, &orders)?;
+        match Plain::from_parts(alloc, keys, heads, kinds, values) {
             Ok(plain) => Ok(plain),
             Err(_) => Err(AllocError),
         }

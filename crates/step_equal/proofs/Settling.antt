@@ -1,6 +1,6 @@
 -- Type words in order, and rows with them so.
-use Rattle.std.proofs.Common.{◌≡◌, ◌<◌, ℕ, suc, ◌+◌, Bool, true, false, cond, List, [], ◌∷◌, ◌++◌, length, take, drop, get_or, set, add-one, drop-cons, arith, Some, nat_eq, Less, rules, refl, sym, ◌∙◌, ap, subst, inl, inr}
-use Rattle.std.specs.Prelude.{◌==◌, ◌||◌, map, IsPermutation}
+use Rattle.std.proofs.Common.{◌≡◌, ◌<◌, ℕ, zero, suc, ◌+◌, Bool, true, false, cond, List, [], ◌∷◌, ◌++◌, length, take, drop, get_or, set, add-one, drop-cons, arith, Some, nat_eq, Less, rules, refl, sym, ◌∙◌, ap, subst, inl, inr}
+use Rattle.std.specs.Prelude.{◌==◌, ◌||◌, map, IsPermutation, Vec}
 use Rattle.std.specs.Cmp.{on_total}
 use Rattle.std.specs.Cmp.Rules.{comparing}
 use Rattle.std.specs.Cmp.Lexicographic.{slice_cmp, pointwise}
@@ -24,8 +24,8 @@ use Rattle.step_equal.specs.Rows.{Row, names, row_at, IsName, IsPopulation, AreF
 use Rattle.step_equal.specs.Settled.{AreInOrder, IsSettled}
 use Rattle.step_values.specs.Views.{word_of}
 use Rattle.step_values.specs.Values.{Values}
-use Rattle.step_equal.specs.ComputedHeads.{SettlesHead}
-use Rattle.step_equal.specs.Views.{rows_from}
+use Rattle.step_equal.specs.ComputedHeads.{SettlesHead, SettlesKind}
+use Rattle.step_equal.specs.Views.{Head, heads_seen, kinds_of, rows_from, types_at}
 use Rattle.step_equal.proofs.Lookup.{row_cases, row_here, row_later, held_name, name_held}
 use Rattle.step_equal.proofs.Placing.{name_stands}
 use Rattle.step_values.proofs.References.{each_weaker_of}
@@ -133,31 +133,52 @@ population_settled rs qs z population = record {
         (sym (name_stands qs y) ∙ ap (list_any (nat_eq y)) (names_settled rs qs z) ∙ name_stands rs y
         ∙ name_held rs y m)
 
--- a step of a loop that settles heads in place
-module _ (first heads : List RowHead) (i : ℕ) (h g : RowHead) (len : length heads ≡ length first)
-    (left : drop i heads ≡ drop i first) (within : i < length heads) (at : h ≡ get_or heads i h) where
-  ahead : get_or heads i h ∷ drop (suc i) heads ≡ get_or first i h ∷ drop (suc i) first
-  ahead = sym (drop-cons heads i h within) ∙ left ∙ drop-cons first i h (omega (arith, len, within))
+-- a step of a loop that settles kinds in place
+module _ {Z : Type 0} (first kinds : List (Vec Word Z)) (i : ℕ) (k j : Vec Word Z) (len : length kinds ≡ length first)
+    (left : drop i kinds ≡ drop i first) (within : i < length kinds) (at : k ≡ get_or kinds i k) where
+  ahead : get_or kinds i k ∷ drop (suc i) kinds ≡ get_or first i k ∷ drop (suc i) first
+  ahead = sym (drop-cons kinds i k within) ∙ left ∙ drop-cons first i k (omega (arith, len, within))
 
-  pub settled_len : length (set heads i g) ≡ length first
-  settled_len = length-set heads i g ∙ len
+  pub settled_len : length (set kinds i j) ≡ length first
+  settled_len = length-set kinds i j ∙ len
 
-  pub settled_left : drop (i + 1) (set heads i g) ≡ drop (i + 1) first
-  settled_left = rw add-one (drop-set-lt (suc i) heads i g (omega arith) ∙ (let e = ahead in cc))
+  pub settled_left : drop (i + 1) (set kinds i j) ≡ drop (i + 1) first
+  settled_left = rw add-one (drop-set-lt (suc i) kinds i j (omega arith) ∙ (let e = ahead in cc))
 
-  pub settled_done : AllZip SettlesHead (take i first) (take i heads) → SettlesHead (get_or heads i h) g
-      → AllZip SettlesHead (take (i + 1) first) (take (i + 1) (set heads i g))
+  pub settled_done : AllZip SettlesKind (take i first) (take i kinds) → SettlesKind (get_or kinds i k) j
+      → AllZip SettlesKind (take (i + 1) first) (take (i + 1) (set kinds i j))
   settled_done done settles =
-      let here : h ≡ get_or first i h = at ∙ (let e = ahead in cc) in
-      let before : take (i + 1) first ≡ take i first ++ h ∷ [] =
-      rw add-one (take-suc first i h (omega (arith, len, within)) ∙ ap (λ s. take i first ++ s ∷ []) (sym here)) in
-      let after : take (i + 1) (set heads i g) ≡ take i heads ++ g ∷ [] = rw add-one (take-suc-set heads i g within) in
-      subst (λ (t : List RowHead). AllZip SettlesHead t (take (i + 1) (set heads i g))) (sym before)
-      (subst (λ (t : List RowHead). AllZip SettlesHead (take i first ++ h ∷ []) t) (sym after)
-      (AllZip-push SettlesHead (take i first) (take i heads) h g done (subst (λ (t : RowHead). SettlesHead t g) (sym at)
+      let here : k ≡ get_or first i k = at ∙ (let e = ahead in cc) in
+      let before : take (i + 1) first ≡ take i first ++ k ∷ [] =
+      rw add-one (take-suc first i k (omega (arith, len, within)) ∙ ap (λ s. take i first ++ s ∷ []) (sym here)) in
+      let after : take (i + 1) (set kinds i j) ≡ take i kinds ++ j ∷ [] = rw add-one (take-suc-set kinds i j within) in
+      subst (λ (t : List (Vec Word Z)). AllZip SettlesKind t (take (i + 1) (set kinds i j))) (sym before)
+      (subst (λ (t : List (Vec Word Z)). AllZip SettlesKind (take i first ++ k ∷ []) t) (sym after)
+      (AllZip-push SettlesKind (take i first) (take i kinds) k j done (subst (λ (t : Vec Word Z). SettlesKind t j) (sym at)
       settles)))
 
-pub rows_settled : (hs gs : List RowHead) (rows : List Values) → AllZip SettlesHead hs gs
+none_in_order : AreInOrder [] []
+unfolding IsStrictlySortedBy
+none_in_order = record { in_order = tt; same = λ w. refl }
+
+-- the types of a kind
+kind_settled : {Z : Type 0} (ks js : List (Vec Word Z)) → AllZip SettlesKind ks js → (n : ℕ)
+    → AreInOrder (types_at (kinds_of ks) n) (types_at (kinds_of js) n)
+kind_settled [] [] z n = none_in_order
+kind_settled [] (j ∷ js) z n = absurd z
+kind_settled (k ∷ ks) [] z n = absurd z
+kind_settled (k ∷ ks) (j ∷ js) z zero = z.0
+kind_settled (k ∷ ks) (j ∷ js) z (suc n) = kind_settled ks js z.1 n
+
+pub heads_settled : {Z : Type 0} (ks js : List (Vec Word Z)) → AllZip SettlesKind ks js → (hs : List RowHead)
+    → AllZip SettlesHead (heads_seen (kinds_of ks) hs) (heads_seen (kinds_of js) hs)
+heads_settled ks js z [] = tt
+heads_settled ks js z (h ∷ hs) = (
+  λ vs. record { name = refl; section = refl; types = kind_settled ks js z h.kind; values = refl },
+  heads_settled ks js z hs,
+)
+
+pub rows_settled : (hs gs : List Head) (rows : List Values) → AllZip SettlesHead hs gs
     → AllZip IsSettled (rows_from hs rows) (rows_from gs rows)
 rows_settled [] [] rows z = tt
 rows_settled [] (g ∷ gs) rows z = absurd z
@@ -166,9 +187,9 @@ rows_settled (h ∷ hs) (g ∷ gs) [] z = tt
 rows_settled (h ∷ hs) (g ∷ gs) (vs ∷ rows) z = (z.0 vs, rows_settled hs gs rows z.1)
 
 -- a list of which all is replaced
-whole : (n : ℕ) (old new : List RowHead) → n ≡ length new → take n (new ++ drop (length new) old) ≡ new
+whole : {A : Type 0} (n : ℕ) (old new : List A) → n ≡ length new → take n (new ++ drop (length new) old) ≡ new
 whole n old new e = ap (λ k. take k (new ++ drop (length new) old)) e ∙ take-append_seam new (drop (length new) old)
 
-pub whole_settled : (n : ℕ) (old new : List RowHead) → n ≡ length old → AllZip SettlesHead old new
+pub whole_settled : {Z : Type 0} (n : ℕ) (old new : List (Vec Word Z)) → n ≡ length old → AllZip SettlesKind old new
     → take n (new ++ drop (length new) old) ≡ new
-whole_settled n old new e z = whole n old new (e ∙ length_all_zip SettlesHead old new z)
+whole_settled n old new e z = whole n old new (e ∙ length_all_zip SettlesKind old new z)

@@ -1,9 +1,26 @@
--- What the code computes; no promise stands here. Heads whose type words are brought in order.
+-- What the code computes; no promise stands here. Heads with a kind each, and types that are brought in order.
+use Rattle.std.specs.Prelude.{ℕ, suc, List, [], ◌∷◌, map, Vec}
+use Rattle.step_literals.specs.declared.literal.Word.{Word}
 use Rattle.step_values.specs.Values.{Values}
+use Rattle.step_values.specs.Views.{word_of}
+use Rattle.step_equal.specs.declared.row.PlainRow.{PlainRow}
 use Rattle.step_equal.specs.declared.row.RowHead.{RowHead}
-use Rattle.step_equal.specs.Settled.{IsSettled}
-use Rattle.step_equal.specs.Views.{row_from}
+use Rattle.step_equal.specs.Settled.{AreInOrder, IsSettled}
+use Rattle.step_equal.specs.Views.{Head, row_from}
+
+-- the heads of rows, each of the kind that has its number
+abbrev pub numbered_heads : ℕ → List PlainRow → List RowHead
+numbered_heads n [] = []
+numbered_heads n (r ∷ rows) = record { name = r.name; section = r.section; kind = n } ∷ numbered_heads (suc n) rows
+
+-- .. and the types of these kinds
+abbrev pub kinds_within : List PlainRow → List (List (List ℕ))
+kinds_within rows = map (λ r. map word_of r.types.items) rows
+
+-- these types in order
+abbrev pub SettlesKind : {Z : Type 0} → Vec Word Z → Vec Word Z → Type 0
+SettlesKind old new = AreInOrder (map word_of old.items) (map word_of new.items)
 
 -- a row with this head is settled by that one, whatever its values are
-abbrev pub SettlesHead : RowHead → RowHead → Type 0
+abbrev pub SettlesHead : Head → Head → Type 0
 SettlesHead h g = (vs : Values) → IsSettled (row_from h vs) (row_from g vs)

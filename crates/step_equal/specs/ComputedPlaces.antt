@@ -2,8 +2,7 @@
 use Rattle.std.specs.Prelude.{◌≡◌, ℕ, List, length}
 use Rattle.step_values.specs.Building.{Kept}
 use Rattle.step_values.specs.Targets.{LeadTo}
-use Rattle.step_equal.specs.declared.row.RowHead.{RowHead}
-use Rattle.step_equal.specs.Views.{rows_from}
+use Rattle.step_equal.specs.Views.{Head, rows_from}
 use Rattle.step_equal.specs.Rows.{Row, names, IsPopulation, AreFew}
 
 -- the names lie in the order of the rows, which are a population and not too many
@@ -13,7 +12,7 @@ pub record IsPlaced (places : List ℕ) (rows : List Row) : Type 0 where
   pub few : AreFew rows
 
 -- .. each of a head and a row of values, in which each reference has the place of its row
-pub record IsKept (heads : List RowHead) (values : Kept) (places : List ℕ) : Type 0 where
+pub record IsKept (heads : List Head) (values : Kept) (places : List ℕ) : Type 0 where
   pub each : length heads ≡ length values.rows
   pub placed : IsPlaced places (rows_from heads values.rows)
   pub leads : LeadTo places values.targets

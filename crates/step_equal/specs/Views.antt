@@ -1,8 +1,9 @@
 -- The rows that the program's rows are.
-use Rattle.std.specs.Prelude.{ℕ, List, [], ◌∷◌, map}
+use Rattle.std.specs.Prelude.{ℕ, List, [], ◌∷◌, map, slice_get, Option, None, Some, Vec}
 use Rattle.step_equal.specs.declared.row.PlainRow.{PlainRow}
 use Rattle.step_equal.specs.declared.row.RowHead.{RowHead}
 use Rattle.step_equal.specs.declared.row.RowSlot.{RowSlot}
+use Rattle.step_literals.specs.declared.literal.Word.{Word}
 use Rattle.step_values.specs.Views.{word_of, values_of}
 use Rattle.step_values.specs.Values.{Values}
 use Rattle.step_equal.specs.Rows.{Row}
@@ -18,24 +19,49 @@ row_of r = record {
 abbrev pub rows_of : List PlainRow → List Row
 rows_of rs = map row_of rs
 
+-- what a row has before its values
+pub record Head : Type 0 where
+  pub name : ℕ
+  pub section : ℕ
+  pub types : List (List ℕ)
+
 -- the head of a row, and its values
+abbrev pub head_of : PlainRow → Head
+head_of r = record { name = r.name; section = r.section; types = map word_of r.types.items }
+
 abbrev pub values_within : PlainRow → Values
 values_within r = values_of r.values.items
 
-abbrev pub head_of : PlainRow → RowHead
-head_of r = record { name = r.name; section = r.section; types = r.types }
+-- the types of each kind
+abbrev pub kinds_of : {Z : Type 0} → List (Vec Word Z) → List (List (List ℕ))
+kinds_of kinds = map (λ ws. map word_of ws.items) kinds
 
-abbrev pub row_from : RowHead → Values → Row
-row_from h vs = record { name = h.name; section = h.section; types = map word_of h.types.items; values = vs }
+-- .. of one, which has none where it isn't among them
+abbrev pub or_none : Option (List (List ℕ)) → List (List ℕ)
+or_none None = []
+or_none (Some types) = types
 
--- the rows of heads and of as many lists of values
-abbrev pub rows_from : List RowHead → List Values → List Row
-rows_from [] rows = []
-rows_from (h ∷ hs) [] = []
-rows_from (h ∷ hs) (vs ∷ rows) = row_from h vs ∷ rows_from hs rows
+abbrev pub types_at : List (List (List ℕ)) → ℕ → List (List ℕ)
+types_at kinds n = or_none (slice_get kinds n)
+
+-- a head with the types of its kind
+abbrev pub head_seen : List (List (List ℕ)) → RowHead → Head
+head_seen kinds h = record { name = h.name; section = h.section; types = types_at kinds h.kind }
+
+abbrev pub heads_seen : List (List (List ℕ)) → List RowHead → List Head
+heads_seen kinds hs = map (head_seen kinds) hs
 
 abbrev pub head_names : List RowHead → List ℕ
 head_names hs = map (λ h. h.name) hs
+
+abbrev pub row_from : Head → Values → Row
+row_from h vs = record { name = h.name; section = h.section; types = h.types; values = vs }
+
+-- the rows of heads and of as many lists of values
+abbrev pub rows_from : List Head → List Values → List Row
+rows_from [] rows = []
+rows_from (h ∷ hs) [] = []
+rows_from (h ∷ hs) (vs ∷ rows) = row_from h vs ∷ rows_from hs rows
 
 abbrev pub row_seen : RowSlot → Row
 row_seen r = record { name = r.name; section = r.section; types = map word_of r.types.now; values = r.values }

@@ -24,26 +24,36 @@ ghost use Rattle.step_equal.specs.ComputedPlaces.{IsKept};
 ghost use Rattle.step_equal.specs.Faults.{IsFaultOf};
 ghost use Rattle.step_equal.specs.Rows.{Row, AreFew, IsPopulation, names, row_at};
 ghost use Rattle.step_equal.specs.Settled.{IsSettled};
-ghost use Rattle.step_equal.specs.Views.{head_names, row_seen, rows_from, rows_of};
+ghost use Rattle.step_equal.specs.Views.{
+  head_names,
+  heads_seen,
+  kinds_of,
+  row_seen,
+  rows_from,
+  rows_of,
+};
 
 use crate::fault::PlainFault;
 use crate::laid::laid_down;
-use crate::parts::{head_names, heads_of, row_names};
+use crate::parts::{head_names, heads_of, kinds_of, row_names, types_at};
 use crate::places::{Names, places_of};
 use crate::row::{PlainRow, RowHead, RowSlot};
-use crate::settled::settle_heads;
+use crate::settled::settle_kinds;
 use std::alloc::{AllocError, Global};
 use std::hash::RandomState;
 use std::marker::Model;
+use step_literals::literal::Word;
 use step_values::cell::Cell;
 use step_values::rows::ValueRows;
 
 /// A population: at most 2^32 - 1 rows, no name stands twice, and each reference names a row.
 ///
-/// The values of all rows stand in one column of cells.
+/// The values of all rows stand in one column of cells, and rows of one kind have their types in
+/// common.
 #[derive(Drop)]
 pub struct Plain<'a> {
-    heads: Vec<RowHead<'a>>,
+    heads: Vec<RowHead>,
+    kinds: Vec<Vec<Word<'a>>>,
     values: ValueRows<'a>,
     places: Names,
 }
@@ -53,9 +63,10 @@ impl<'a> Model for Plain<'a> {
 
     ghost coded = { coded_rows };
 
-    ghost view = { λ p. rows_from p.heads.items p.values.rows };
+    ghost view = { λ p. rows_from (heads_seen (kinds_of p.kinds.items) p.heads.items) p.values.rows };
 
-    ghost invariant = { λ p. IsKept p.heads.items p.values p.places.keys };
+    ghost invariant = { λ p.
+        IsKept (heads_seen (kinds_of p.kinds.items) p.heads.items) p.values p.places.keys };
 }
 
 impl<'a> Plain<'a> {
@@ -79,13 +90,16 @@ impl<'a> Plain<'a> {
         let names = row_names(alloc, &rows)?;
         let places = places_of(alloc, keys, &names)?;
         let values = laid_down(alloc, &names, &places, &rows)?;
-        let heads = heads_of(alloc, rows)?;
-        Ok(settled(heads, values, places)?)
+        let heads = heads_of(alloc, &rows)?;
+        let kinds = kinds_of(alloc, rows)?;
+        Ok(settled(heads, kinds, values, places)?)
     }
 
-    /// The population of these heads and, for each in order, its row of values, with the type words
-    /// of each in order and none twice. The values were put together over the names of the heads,
-    /// so that each reference in them has the place of its row.
+    /// The population of these heads, each with the types of its kind and, in order, its row of
+    /// values. A kind is a number in the list of kinds, counted from 0; a row of one beyond the list
+    /// has no types. The type words of each kind come in order and none twice. The values were put
+    /// together over the names of the heads, so that each reference in them has the place of its
+    /// row.
     ///
     /// Where there are more than 2^32 - 1 rows the fault is `TooManyRows`, else where a name stands
     /// twice `DuplicateRow`; where memory runs out it is `Memory`.
@@ -94,22 +108,25 @@ impl<'a> Plain<'a> {
     pub fn from_parts(
         alloc: Global,
         keys: RandomState,
-        heads: Vec<RowHead<'a>>,
+        heads: Vec<RowHead>,
+        kinds: Vec<Vec<Word<'a>>>,
         values: ValueRows<'a>,
     ) -> Result<Plain<'a>, PlainFault>
         requires each { length heads.items ≡ length values.rows }
         requires leads { LeadTo (head_names heads.items) values.targets }
         requires closed { ReferTo (head_names heads.items) values.rows }
         ensures rows { IfOk result
-            (λ p. AllZip IsSettled (rows_from heads.entry.items values.entry.rows) p) }
+            (λ p. AllZip IsSettled (rows_from
+            (heads_seen (kinds_of kinds.entry.items) heads.items) values.entry.rows) p) }
         ensures population { IfOk result (λ p. IsPopulation p) }
         ensures few { IfOk result (λ p. AreFew p) }
         ensures fault { IfErr result
-            (λ e. IsFaultOf (rows_from heads.entry.items values.entry.rows) e) }
+            (λ e. IsFaultOf (rows_from
+            (heads_seen (kinds_of kinds.entry.items) heads.items) values.entry.rows) e) }
     {
         let names = head_names(alloc, &heads)?;
         let places = places_of(alloc, keys, &names)?;
-        Ok(settled(heads, values, places)?)
+        Ok(settled(heads, kinds, values, places)?)
     }
 
     /// How many rows it has.
@@ -126,7 +143,7 @@ impl<'a> Plain<'a> {
         requires { place < length self.now }
         ensures { slice_get self.now place ≡ Some (row_seen result) }
     {
-        row_in(&self.heads, &self.values, place)
+        row_in(&self.heads, &self.kinds, &self.values, place)
     }
 
     /// The name of the row at a place.
@@ -163,24 +180,27 @@ impl<'a> Plain<'a> {
     }
 }
 
-/// The row of a head and the values at its place.
+/// The row of the head and the values at a place, with the types of its kind.
 fn row_in<'p, 'a>(
-    heads: &'p [RowHead<'a>],
+    heads: &'p [RowHead],
+    kinds: &'p [Vec<Word<'a>>],
     values: &'p ValueRows<'a>,
     place: usize,
 ) -> RowSlot<'p, 'a>
     requires head { place < length heads.now }
     requires values { place < length values.now.rows }
-    ensures { slice_get (rows_from heads.entry.now values.entry.now.rows) place
-        ≡ Some (row_seen result) }
+    ensures { slice_get (rows_from (heads_seen (kinds_of kinds.entry.now) heads.entry.now)
+        values.entry.now.rows) place ≡ Some (row_seen result) }
 {
-    RowSlot::of(&heads[place], values.row(place))
+    let head = heads[place];
+    RowSlot::of(head, types_at(kinds, head.kind), values.row(place))
 }
 
-/// The population of heads and their rows of values, with the type words of each in order and none
-/// twice.
+/// The population of heads, kinds of types and rows of values, with the type words of each kind in
+/// order and none twice.
 fn settled<'a>(
-    heads: Vec<RowHead<'a>>,
+    heads: Vec<RowHead>,
+    kinds: Vec<Vec<Word<'a>>>,
     values: ValueRows<'a>,
     places: Names,
 ) -> Result<Plain<'a>, AllocError>
@@ -191,14 +211,16 @@ fn settled<'a>(
     requires leads { LeadTo places.keys values.targets }
     requires closed { ReferTo places.keys values.rows }
     ensures rows { IfOk result
-        (λ p. AllZip IsSettled (rows_from heads.entry.items values.entry.rows) p) }
+        (λ p. AllZip IsSettled (rows_from
+        (heads_seen (kinds_of kinds.entry.items) heads.items) values.entry.rows) p) }
     ensures population { IfOk result (λ p. IsPopulation p) }
     ensures few { IfOk result (λ p. AreFew p) }
 {
-    let mut heads = heads;
-    settle_heads(&mut heads)?;
+    let mut kinds = kinds;
+    settle_kinds(&mut kinds)?;
     Ok(Plain {
         heads,
+        kinds,
         values,
         places,
     })

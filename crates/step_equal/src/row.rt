@@ -6,7 +6,7 @@ ghost use Rattle.step_values.specs.ComputedAgreement.{each_test};
 ghost use Rattle.step_values.specs.Views.{word_of};
 ghost use Rattle.step_equal.specs.ComputedKinds.{kind_test};
 ghost use Rattle.step_equal.specs.Rows.{kind_of};
-ghost use Rattle.step_equal.specs.Views.{row_from, row_seen};
+ghost use Rattle.step_equal.specs.Views.{row_seen};
 
 use step_literals::literal::Word;
 use step_values::literals::same_word;
@@ -24,14 +24,15 @@ pub struct PlainRow<'a> {
     pub values: Vec<PlainValue<'a>>,
 }
 
-/// What a row has before its values: an instance's name, the data section that it stands in, and its
-/// types.
-#[derive(Drop)]
-pub struct RowHead<'a> {
+/// What a row has before its values: an instance's name, the data section that it stands in, and
+/// the kind of its types, which rows have in common.
+#[derive(Clone, Copy, Debug, PartialEq, Eq)]
+pub struct RowHead {
     pub name: u64,
     /// Counted from 0.
     pub section: u32,
-    pub types: Vec<Word<'a>>,
+    /// Where its types stand in a list of kinds, counted from 0; beyond the list it has none.
+    pub kind: u32,
 }
 
 /// A row as its readers see it, whatever it is kept in.
@@ -45,14 +46,19 @@ pub struct RowSlot<'p, 'a> {
 }
 
 impl<'p, 'a> RowSlot<'p, 'a> {
-    /// The row of a head and the values behind it, where they are kept.
-    pub fn of(head: &'p RowHead<'a>, values: Slots<'p, 'a>) -> RowSlot<'p, 'a>
-        ensures { row_seen result ≡ row_from head.entry.now values.entry }
+    /// The row of a head, the types of its kind, and the values behind it, where they are kept.
+    pub fn of(head: RowHead, types: &'p [Word<'a>], values: Slots<'p, 'a>) -> RowSlot<'p, 'a>
+        ensures { row_seen result ≡ record {
+          name = head.name;
+          section = head.section;
+          types = map word_of types.entry.now;
+          values = values.entry;
+        } }
     {
         RowSlot {
             name: head.name,
             section: head.section,
-            types: &head.types,
+            types,
             values,
         }
     }

@@ -2,26 +2,26 @@
 
 ghost use Rattle.std.specs.Prelude.{OnOk};
 ghost use Rattle.std.specs.List.{AllZip};
-ghost use Rattle.step_equal.specs.ComputedHeads.{SettlesHead};
+ghost use Rattle.step_equal.specs.ComputedHeads.{SettlesKind};
 
-use crate::row::RowHead;
 use std::alloc::AllocError;
+use step_literals::literal::Word;
 
-/// Brings the type words of each head in order, and leaves repeats out.
-pub(crate) fn settle_heads<'a>(heads: &mut [RowHead<'a>]) -> Result<(), AllocError>
-    ensures { OnOk result (AllZip SettlesHead heads.old heads.new) }
+/// Brings the type words of each kind in order, and leaves repeats out.
+pub(crate) fn settle_kinds<'a>(kinds: &mut [Vec<Word<'a>>]) -> Result<(), AllocError>
+    ensures { OnOk result (AllZip SettlesKind kinds.old kinds.new) }
 {
-    for i in 0..heads.len() {
-        settle(&mut heads[i])?;
+    for i in 0..kinds.len() {
+        settle(&mut kinds[i])?;
     }
     Ok(())
 }
 
-/// Brings the type words of a head in order, and leaves repeats out.
-fn settle<'a>(head: &mut RowHead<'a>) -> Result<(), AllocError>
-    ensures { OnOk result (SettlesHead head.old head.new) }
+/// Brings type words in order, and leaves repeats out.
+fn settle<'a>(types: &mut Vec<Word<'a>>) -> Result<(), AllocError>
+    ensures { OnOk result (SettlesKind types.old types.new) }
 {
-    head.types.sort()?;
-    head.types.dedup();
+    types.sort()?;
+    types.dedup();
     Ok(())
 }

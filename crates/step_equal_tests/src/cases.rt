@@ -1,6 +1,6 @@
 //! The cases of all tables.
 
-use crate::{images, labels, populations, rings, tables, values};
+use crate::{images, judged, labels, populations, rings, tables, values};
 use std::alloc::Global;
 use std::hash::RandomState;
 use std::test::Fail;
@@ -14,6 +14,8 @@ fn wrong_case(alloc: Global, keys: RandomState) -> Option<&'static str> {
         .or(values::wrong_kind(alloc, keys))
         .or(labels::wrong_case(alloc, keys))
         .or(tables::wrong_class(alloc))
+        .or(judged::wrong_case(alloc, keys))
+        .or(judged::wrong_root(alloc))
 }
 
 #[test]

@@ -1,10 +1,13 @@
-//! Tests of `step_equal`: populations, images and tables of classes, by its public items alone.
+//! Tests of `step_equal`, `merged_outputs` and `judged_tables`: populations, images, tables of classes and what is
+//! merged by them, by public items alone.
 #![tactic(auto)]
 
 #[cfg(test)]
 mod cases;
 #[cfg(test)]
 mod images;
+#[cfg(test)]
+mod judged;
 #[cfg(test)]
 mod labels;
 #[cfg(test)]

@@ -2,7 +2,6 @@
 use Rattle.std.proofs.Common.{◌≡◌, ℕ, ◌+◌, ◌-◌, ◌<◌, zero, suc, add-one, get_or, List, [], ◌∷◌, ◌++◌, length, take, drop, refl, sym, ap, ◌∙◌, subst, append_assoc, append-nil, length-append, arith}
 use Rattle.step_exchange.specs.declared.section.Section as code
 use Rattle.step_structures.specs.Trees.{Tree, Row, Section, rows_of}
-use Rattle.step_structures.specs.Normal.{plain_section, plain_sections}
 use Rattle.step_exchange.specs.Views.{form_in, rows_with}
 use Rattle.step_exchange.specs.Sections.{CountsTo, heading_of, sections_of}
 
@@ -86,22 +85,6 @@ rows_dropped zero ns xs = refl
 rows_dropped (suc k) [] xs = refl
 rows_dropped (suc k) (n ∷ ns) [] = sym (no_rows (drop k ns))
 rows_dropped (suc k) (n ∷ ns) (x ∷ xs) = rows_dropped k ns xs
-
--- the first section is printed, and then the others
-pub sections_printed : (from : ℕ) (s : code.Section) (ss : List code.Section) (ns own_ns ns_behind : List ℕ)
-    (xs own behind : List Tree) (n : ℕ) → n ≡ s.past - from → own_ns ≡ take n ns → ns_behind ≡ drop n ns
-    → own ≡ take n xs → behind ≡ drop n xs
-    → plain_sections (sections_of from (s ∷ ss) (rows_with ns xs)) ≡ plain_section (record {
-      heading = heading_of s.heading;
-      rows = rows_with own_ns own;
-    }) ++ plain_sections (sections_of s.past ss (rows_with ns_behind behind))
-sections_printed from s ss ns own_ns ns_behind xs own behind n e f g h k =
-    let front : take (s.past - from) (rows_with ns xs) ≡ rows_with own_ns own = ap (λ i. take i (rows_with ns xs)) (sym e)
-    ∙ rows_taken n ns xs ∙ (λ i. rows_with (sym f i) (sym h i)) in
-    let back : drop (s.past - from) (rows_with ns xs) ≡ rows_with ns_behind behind = ap (λ i. drop i (rows_with ns xs))
-    (sym e) ∙ rows_dropped n ns xs ∙ (λ i. rows_with (sym g i) (sym k i)) in
-    λ i. plain_section (record { heading = heading_of s.heading; rows = front i }) ++ plain_sections
-    (sections_of s.past ss (back i))
 
 -- what is left of a list from one of its elements on
 drop_at : {A : Type 0} → (xs : List A) (i : ℕ) (x d : A) → i < length xs → x ≡ get_or xs i d

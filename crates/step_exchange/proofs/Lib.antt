@@ -11,3 +11,4 @@ pub mod Whole
 pub mod Writing
 pub mod Counts
 pub mod Named
+pub mod Printed

@@ -8,7 +8,7 @@ use Rattle.devices.specs.Prints.{Printing, Prints}
 use Rattle.step_structures.specs.Trees.{Tree}
 use Rattle.step_exchange.specs.Views.{record_in, form_in, rows_with}
 use Rattle.step_literals.specs.Words.{upper}
-use Rattle.step_structures.specs.Normal.{plain_tree, plain_trees, plain_more, plain_record, plain_partial_records, plain_row, plain_rows}
+use Rattle.step_structures.specs.Normal.{plain_tree, plain_more, plain_record, plain_partial_records, plain_row, plain_rows}
 use Rattle.devices.proofs.Printing.{then_print, prints_as}
 
 -- in a loop over a list: what the first elements come to is printed, and then what one more comes to
@@ -54,17 +54,6 @@ pub prints_at : {A S : Type 0} {held : S → Option (List ℕ)} {failed : S → 
 prints_at f g push xs i x e done next =
     let t : take (i + 1) xs ≡ take i xs ++ x ∷ [] = rw add-one (take_next xs i x e) in
     prints_as (sym (ap f t ∙ push (take i xs) x)) (then_print done next)
-
--- parameters begin with the first, and commas stand before the others
-pub params_first : (xs further : List Tree) (x : Tree) → slice_get xs 0 ≡ Some x → further ≡ drop 1 xs
-    → plain_tree x ++ plain_more (all_of further) ≡ plain_trees (all_of xs)
-params_first [] further x e f = absurd (cc)
-params_first (y ∷ ys) further x e f = let same : y ≡ x = cc in
-    λ i. plain_tree (sym same i) ++ plain_more (all_of (f i))
-
-pub no_params : (xs : List Tree) → slice_get xs 0 ≡ None → [] ≡ plain_trees (all_of xs)
-no_params [] e = refl
-no_params (x ∷ xs) e = absurd (cc)
 
 -- those behind the first weigh less as well
 pub lighter_behind : (xs further : List Tree) (i : ℕ) (x : Tree) → further ≡ drop 1 xs → slice_get further i ≡ Some x

@@ -5,6 +5,8 @@ mod data;
 pub mod exchange;
 mod header;
 pub mod laws;
+pub mod leading;
+pub mod print;
 mod schema;
 pub mod section;
 pub mod structure;

@@ -1,7 +1,7 @@
-use Rattle.std.proofs.Common.{take}
-use Rattle.population_typed.specs.Ordering.{AreHeads}
+use Rattle.std.proofs.Common.{◌≡◌, take}
+use Rattle.population_typed.specs.Ordering.{heads_made}
 use Rattle.population_typed.proofs.plain.heads.Given as goal
 
 abbrev pub invariant-loop-i : goal.invariant-loop-i
 invariant-loop-i l =
-    AreHeads l.orders (take l.i l.sections) (take l.i l.names) (take l.i l.form_of) l.heads.items
+    l.heads.items ≡ heads_made l.formless (take l.i l.sections) (take l.i l.names) (take l.i l.form_of)

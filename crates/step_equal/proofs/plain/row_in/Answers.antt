@@ -1,11 +1,21 @@
-use Rattle.std.proofs.Common.{◌∙◌, ap, sym, refl, Some}
-use Rattle.std.proofs.lemmas.Option.{slice_get_read}
+use Rattle.std.proofs.Common.{◌≡◌, ◌∙◌, ap, sym, Some, get_or}
+use Rattle.std.specs.Option.{option_map}
+use Rattle.std.proofs.lemmas.Option.{slice_get-get_or, slice_get-map}
+use Rattle.step_equal.specs.declared.row.RowHead.{RowHead}
+use Rattle.step_equal.specs.Views.{head_seen, heads_seen, kinds_of, row_from, row_seen}
 use Rattle.step_equal.proofs.Parted.{row_there}
 use Rattle.step_equal.proofs.plain.row_in.Goals as goal
 
 pub returns : goal.returns
 returns c =
-    row_there c.args.heads.now c.args.values.now.rows c.args.place c.index-heads-place.result c.row.result
-    (slice_get_read c.args.heads.now _ c.args.place c.index-heads-place.result refl c.requires.head
-    c.index-heads-place.is) c.row.ensures
-    ∙ ap Some (sym c.of.ensures)
+    let kinds = kinds_of c.args.kinds.now in
+    let none : RowHead = record { name = 0; section = 0; kind = 0 } in
+    let h = get_or c.args.heads.now c.args.place none in
+    let vs = c.row.result in
+    let at = slice_get-map (head_seen kinds) c.args.heads.now c.args.place
+    ∙ ap (option_map (head_seen kinds)) (slice_get-get_or c.args.heads.now c.args.place none c.requires.head) in
+    let seen : row_from (head_seen kinds h) vs ≡ row_seen c.of.result =
+    (λ i. record { name = h.name; section = h.section; types = sym c.types_at.ensures i; values = vs })
+    ∙ sym c.of.ensures in
+    row_there (heads_seen kinds c.args.heads.now) c.args.values.now.rows c.args.place (head_seen kinds h) vs at c.row.ensures
+    ∙ ap Some seen

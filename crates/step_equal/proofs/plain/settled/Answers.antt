@@ -1,25 +1,27 @@
 use Rattle.std.proofs.Common.{◌∙◌, ap, sym, length, arith}
-use Rattle.step_equal.specs.ComputedHeads.{SettlesHead}
 use Rattle.std.proofs.lemmas.List.{length-map}
-use Rattle.std.proofs.lemmas.List.Elements.{length_all_zip}
-use Rattle.step_equal.specs.Views.{rows_from}
-use Rattle.step_equal.proofs.Parted.{length_from, names_from, population_from}
-use Rattle.step_equal.proofs.Settling.{names_settled, few_settled, population_settled, rows_settled, whole_settled}
+use Rattle.step_equal.specs.Views.{heads_seen, kinds_of, rows_from}
+use Rattle.step_equal.proofs.Parted.{length_from, length_seen, names_from, names_seen, population_from}
+use Rattle.step_equal.proofs.Settling.{heads_settled, names_settled, few_settled, population_settled, rows_settled, whole_settled}
 use Rattle.step_equal.proofs.plain.settled.Goals as goal
 
 pub invariant_of-result : goal.invariant_of-result
 invariant_of-result c =
-    let hs = c.args.heads.items in
-    let gs = c.settle_heads.new.heads in
+    let heads = c.args.heads.items in
+    let ks = c.args.kinds.items in
+    let js = c.settle_kinds.new.kinds in
+    let hs = heads_seen (kinds_of ks) heads in
+    let gs = heads_seen (kinds_of js) heads in
     let rows = c.args.values.rows in
-    let settled = rw c.deref_mut.ensures.value at c.in_ok-settle_heads.ensures in
-    let kept = rows_settled hs gs rows settled in
-    let population =
-    population_from hs rows c.requires.each c.args.places.keys c.requires.places c.requires.distinct c.requires.closed in
-    rw (whole_settled c.args.heads.len hs gs c.args.heads.ok.0 settled) (record {
-      each = sym (length_all_zip SettlesHead hs gs settled) ∙ c.requires.each;
+    let settled = rw c.deref_mut.ensures.value at c.in_ok-settle_kinds.ensures in
+    let kept = rows_settled hs gs rows (heads_settled ks js settled heads) in
+    let each = length_seen (kinds_of ks) heads ∙ c.requires.each in
+    let named = c.requires.places ∙ sym (names_seen (kinds_of ks) heads) in
+    let population = population_from hs rows each c.args.places.keys named c.requires.distinct c.requires.closed in
+    rw (whole_settled c.args.kinds.len ks js c.args.kinds.ok.0 settled) (record {
+      each = length_seen (kinds_of js) heads ∙ c.requires.each;
       placed = record {
-        in_order = c.requires.places ∙ sym (names_from hs rows c.requires.each)
+        in_order = named ∙ sym (names_from hs rows each)
             ∙ sym (names_settled (rows_from hs rows) (rows_from gs rows) kept);
         population = population_settled (rows_from hs rows) (rows_from gs rows) kept population;
         few = few_settled (rows_from hs rows) (rows_from gs rows) kept
@@ -27,8 +29,9 @@ invariant_of-result c =
               arith,
               c.requires.few,
               ap length c.requires.places,
-              length-map hs (λ h. h.name),
-              length_from hs rows c.requires.each,
+              length-map heads (λ h. h.name),
+              length_seen (kinds_of ks) heads,
+              length_from hs rows each,
             ));
       };
       leads = c.requires.leads;
@@ -36,9 +39,13 @@ invariant_of-result c =
 
 pub returns-clause-rows : goal.returns-clause-rows
 returns-clause-rows c =
-    let settled = rw c.deref_mut.ensures.value at c.in_ok-settle_heads.ensures in
-    rw (whole_settled c.args.heads.len c.args.heads.items c.settle_heads.new.heads c.args.heads.ok.0 settled)
-    (rows_settled c.args.heads.items c.settle_heads.new.heads c.args.values.rows settled)
+    let heads = c.args.heads.items in
+    let ks = c.args.kinds.items in
+    let js = c.settle_kinds.new.kinds in
+    let settled = rw c.deref_mut.ensures.value at c.in_ok-settle_kinds.ensures in
+    rw (whole_settled c.args.kinds.len ks js c.args.kinds.ok.0 settled)
+    (rows_settled (heads_seen (kinds_of ks) heads) (heads_seen (kinds_of js) heads) c.args.values.rows
+    (heads_settled ks js settled heads))
 
 pub returns-clause-population : goal.returns-clause-population
 returns-clause-population c = (invariant_of-result c).placed.population

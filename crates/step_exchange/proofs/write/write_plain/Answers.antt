@@ -1,21 +1,18 @@
-use Rattle.std.proofs.Common.{drop, ap, ◌∙◌}
+use Rattle.std.proofs.Common.{refl, ap, subst, ◌∙◌}
 use Rattle.std.proofs.Math.Logic.{∥∥₁_map}
-use Rattle.step_exchange.specs.Views.{rows_with}
-use Rattle.step_exchange.specs.Sections.{sections_of}
-use Rattle.step_exchange.specs.Exchanges.{structure}
-use Rattle.step_structures.specs.Normal.{plain_sections}
+use Rattle.devices.specs.Emits.{Emits}
+use Rattle.step_structures.specs.Normal.{plain_text}
 use Rattle.step_structures.proofs.NormalReads.{normal_reads_again}
-use Rattle.devices.proofs.Printing.{then_print, prints_as, emits_all}
+use Rattle.step_exchange.specs.Exchanges.{structure}
+use Rattle.merged_texts.proofs.Unmerged.{sections_stay}
 use Rattle.step_exchange.proofs.write.write_plain.Goals as goal
 
 pub returns-clause-emits : goal.returns-clause-emits
 returns-clause-emits g c =
-    let n = c.args.exchange.now.header_len in
-    let forms = c.split-forms.ensures.back ∙ ap (drop n) c.trees.ensures in
-    let sections = prints_as (λ i. plain_sections (sections_of 0 (c.deref.ensures.value i) (rows_with
-    (c.as_slice.ensures i) (forms i)))) c.print_sections.ensures in
-    emits_all c.new-printer.ensures (then_print (then_print (then_print c.print.ensures c.print-2.ensures) sections)
-    c.print-3.ensures) c.finish.ensures
+    let x = c.args.exchange.now in
+    subst (λ t. Emits (g.S.Sink.held c.args.out.now) (g.S.Sink.held c.write_led.new.out) t c.write_led.result)
+    (ap (plain_text x.header_bytes.now) (sections_stay (λ y. y) (λ y. refl) (structure x).sections))
+    c.write_led.ensures.emits
 
 pub returns-clause-again : goal.returns-clause-again
 returns-clause-again g c = ∥∥₁_map c.args.exchange.now.read (λ r. normal_reads_again r.0

@@ -6,11 +6,12 @@ use Rattle.step_exchange.specs.Sections.{CountsTo}
 use Rattle.step_values.specs.Targets.{LeadTo, ReferTo}
 use Rattle.population_rows.specs.Index.{place_of}
 use Rattle.step_exchange.proofs.Counts.{counts-prop}
+use Rattle.step_equal.specs.Views.{kinds_of}
 use Rattle.population_typed.specs.Seen.{section_numbers}
 use Rattle.population_typed.specs.Whole.{AreNumbered}
-use Rattle.population_typed.specs.Ordering.{rows_picked, AreHeads}
+use Rattle.population_typed.specs.Ordering.{rows_picked, types_each}
 use Rattle.population_typed.proofs.Found.{kept}
-use Rattle.population_typed.proofs.RowsMade.{heads-names, mapped-length, picked-length, made-rows}
+use Rattle.population_typed.proofs.RowsMade.{made-names, mapped-length, picked-length, made-rows}
 use Rattle.population_typed.proofs.population.Population.plain.Goals as goal
 
 pub orders-requires-clause-numbered : goal.orders-requires-clause-numbered
@@ -42,19 +43,21 @@ row_sections-requires c =
 
 pub heads-requires-clause-sections : goal.heads-requires-clause-sections
 heads-requires-clause-sections c =
-    ap length (c.deref-5.ensures.value ∙ c.in_ok-sections.ensures ∙ ap (section_numbers 0 0) c.deref-4.ensures.value)
+    ap length (c.deref-6.ensures.value ∙ c.in_ok-sections.ensures ∙ ap (section_numbers 0 0) c.deref-4.ensures.value)
     ∙ (kept c.args.self.now).sections ∙ ap length (sym c.as_slice-names.ensures)
 
 pub heads-requires-clause-forms : goal.heads-requires-clause-forms
 heads-requires-clause-forms c =
-    ap length c.deref-6.ensures.value ∙ (kept c.args.self.now).forms ∙ ap length (sym c.as_slice-names.ensures)
+    ap length c.deref-7.ensures.value ∙ (kept c.args.self.now).forms ∙ ap length (sym c.as_slice-names.ensures)
 
 pub from_parts-requires-clause-each : goal.from_parts-requires-clause-each
 from_parts-requires-clause-each c =
     let k = kept c.args.self.now in
-    sym (mapped-length (λ h. h.name) c.in_ok-heads.heads.items)
-    ∙ ap length (heads-names c.deref-7.result.now c.deref-5.result.now c.as_slice-names.result.now c.deref-6.result.now
-    c.in_ok-heads.heads.items c.in_ok-heads.ensures ∙ c.as_slice-names.ensures)
+    let named = made-names c.args.self.now c.as_slice-names.result.now c.as_slice-names.ensures c.deref-6.result.now
+    (c.deref-6.ensures.value ∙ c.in_ok-sections.ensures ∙ ap (section_numbers 0 0) c.deref-4.ensures.value)
+    c.deref-7.result.now c.deref-7.ensures.value c.in_ok-formless.formless c.in_ok-heads.heads.items
+    c.in_ok-heads.ensures in
+    sym (mapped-length (λ h. h.name) c.in_ok-heads.heads.items) ∙ ap length (named ∙ c.as_slice-names.ensures)
     ∙ sym k.values
     ∙ sym (picked-length c.deref-3.result.now c.args.self.now.rows.form_of.items c.args.self.now.values.rows
     (k.forms ∙ sym k.values))
@@ -62,26 +65,30 @@ from_parts-requires-clause-each c =
 
 pub from_parts-requires-clause-leads : goal.from_parts-requires-clause-leads
 from_parts-requires-clause-leads c =
-    subst (λ ns. LeadTo ns c.in_ok-values.values.targets)
-    (sym (heads-names c.deref-7.result.now c.deref-5.result.now c.as_slice-names.result.now c.deref-6.result.now
-    c.in_ok-heads.heads.items c.in_ok-heads.ensures)) c.in_ok-values.ensures.leads
+    let named = made-names c.args.self.now c.as_slice-names.result.now c.as_slice-names.ensures c.deref-6.result.now
+    (c.deref-6.ensures.value ∙ c.in_ok-sections.ensures ∙ ap (section_numbers 0 0) c.deref-4.ensures.value)
+    c.deref-7.result.now c.deref-7.ensures.value c.in_ok-formless.formless c.in_ok-heads.heads.items
+    c.in_ok-heads.ensures in
+    subst (λ ns. LeadTo ns c.in_ok-values.values.targets) (sym named) c.in_ok-values.ensures.leads
 
 pub from_parts-requires-clause-closed : goal.from_parts-requires-clause-closed
 from_parts-requires-clause-closed c =
-    subst (λ ns. ReferTo ns c.in_ok-values.values.rows)
-    (sym (heads-names c.deref-7.result.now c.deref-5.result.now c.as_slice-names.result.now c.deref-6.result.now
-    c.in_ok-heads.heads.items c.in_ok-heads.ensures)) c.in_ok-values.ensures.refers
+    let named = made-names c.args.self.now c.as_slice-names.result.now c.as_slice-names.ensures c.deref-6.result.now
+    (c.deref-6.ensures.value ∙ c.in_ok-sections.ensures ∙ ap (section_numbers 0 0) c.deref-4.ensures.value)
+    c.deref-7.result.now c.deref-7.ensures.value c.in_ok-formless.formless c.in_ok-heads.heads.items
+    c.in_ok-heads.ensures in
+    subst (λ ns. ReferTo ns c.in_ok-values.values.rows) (sym named) c.in_ok-values.ensures.refers
 
 pub returns-in-Ok : goal.returns-in-Ok
 returns-in-Ok c =
     let p = c.args.self.now in
     let all = c.in_ok-orders.orders.items in
     made-rows p c.deref-2.result.now c.deref-2.ensures.value all c.in_ok-orders.ensures c.as_slice-names.result.now
-    c.as_slice-names.ensures c.deref-5.result.now
-    (c.deref-5.ensures.value ∙ c.in_ok-sections.ensures ∙ ap (section_numbers 0 0) c.deref-4.ensures.value)
-    c.deref-6.result.now c.deref-6.ensures.value c.in_ok-heads.heads.items
-    (subst (λ os. AreHeads os c.deref-5.result.now c.as_slice-names.result.now c.deref-6.result.now
-    c.in_ok-heads.heads.items) c.deref-7.ensures.value c.in_ok-heads.ensures)
+    c.as_slice-names.ensures c.deref-6.result.now
+    (c.deref-6.ensures.value ∙ c.in_ok-sections.ensures ∙ ap (section_numbers 0 0) c.deref-4.ensures.value)
+    c.deref-7.result.now c.deref-7.ensures.value c.in_ok-formless.formless
+    (c.in_ok-formless.ensures ∙ ap length c.deref-5.ensures.value) c.in_ok-heads.heads.items c.in_ok-heads.ensures
+    (kinds_of c.in_ok-kinds.kinds.items) (c.in_ok-kinds.ensures ∙ ap types_each c.deref-8.ensures.value)
     c.in_ok-values.values.rows
     (c.in_ok-values.ensures.rows
     ∙ ap (λ os. rows_picked os p.rows.form_of.items p.values.rows) c.deref-3.ensures.value)

@@ -1,0 +1,122 @@
+//! Writing certificates.
+
+ghost use Rattle.std.specs.Prelude.{◌≡◌, ◌++◌, ◌∷◌, [], ℕ, List, map, suc, is_err, false, decimal, codes};
+ghost use Rattle.devices.specs.Emits.{Emits};
+ghost use Rattle.devices.specs.Prints.{Prints};
+ghost use Rattle.step_equal.specs.TableViews.{table_of, origin_of, member_of};
+ghost use Rattle.certificate_text.specs.Texts.{
+  certificate_text,
+  class_line,
+  class_lines,
+  member_line,
+  origin_text,
+  rounds_line,
+  table_lines,
+  text_of,
+};
+
+use devices::device::{Sink, WriteFault};
+use devices::printer::Printer;
+use step_equal::table::{Origin, Table};
+
+/// Writes the certificate of two tables, version 2: `STEPCERT 2`, `table 1`, the lines of the first,
+/// `table 2`, the lines of the second, `end`, each ended by a line feed. The lines of a table are its
+/// last round, its classes by number and its members in their order, as `rounds 2`, `C1`, `C3=C1@2`
+/// and `#17=C3`. Takes no memory.
+///
+/// Tables that are well formed, as `read_certificate` gives them, and have 2^32 - 1 classes at most
+/// are read back as they are. Where the sink fails, a front of the text went out, and the fault has
+/// its length.
+pub fn write_certificate<S: Sink>(
+    first: &Table,
+    second: &Table,
+    out: &mut S,
+) -> Result<(), WriteFault>
+    ensures emits { Emits (S.held out.old) (S.held out.new)
+        (certificate_text (table_of first.now) (table_of second.now)) result }
+    ensures failed { S.has_failed out.old ≡ false → S.has_failed out.new ≡ is_err result }
+{
+    let mut printer = Printer::new();
+    printer.print(out, b"STEPCERT 2\ntable 1\n");
+    print_table(&mut printer, out, first);
+    printer.print(out, b"table 2\n");
+    print_table(&mut printer, out, second);
+    printer.print(out, b"end\n");
+    printer.finish(out)
+}
+
+/// Prints the lines of a table.
+fn print_table<S: Sink>(printer: &mut Printer, out: &mut S, table: &Table)
+    ensures { Prints S.held S.has_failed out.old out.new printer.old printer.new
+        (text_of (table_lines (table_of table.now))) }
+{
+    printer.print(out, b"rounds ");
+    print_number(printer, out, u64::from(table.rounds));
+    printer.print_byte(out, b'\n');
+    print_classes(printer, out, &table.classes);
+    print_members(printer, out, &table.members);
+}
+
+/// Prints a line for each class.
+fn print_classes<S: Sink>(printer: &mut Printer, out: &mut S, classes: &[Origin])
+    ensures { Prints S.held S.has_failed out.old out.new printer.old printer.new
+        (text_of (class_lines 0 (map origin_of classes.now))) }
+{
+    for number in 0..classes.len() {
+        print_class(printer, out, number as u64, &classes[number]);
+    }
+}
+
+/// Prints the line of a class.
+fn print_class<S: Sink>(printer: &mut Printer, out: &mut S, number: u64, origin: &Origin)
+    ensures { Prints S.held S.has_failed out.old out.new printer.old printer.new
+        (class_line number (origin_of origin.now) ++ (10 ∷ [])) }
+{
+    printer.print_byte(out, b'C');
+    print_number(printer, out, number);
+    print_origin(printer, out, origin);
+    printer.print_byte(out, b'\n');
+}
+
+/// Prints where a class comes from.
+fn print_origin<S: Sink>(printer: &mut Printer, out: &mut S, origin: &Origin)
+    ensures { Prints S.held S.has_failed out.old out.new printer.old printer.new
+        (origin_text (origin_of origin.now)) }
+{
+    if let Origin::Split { parent, round } = *origin {
+        printer.print(out, b"=C");
+        print_number(printer, out, u64::from(parent));
+        printer.print_byte(out, b'@');
+        print_number(printer, out, u64::from(round));
+    }
+}
+
+/// Prints a line for each member.
+fn print_members<S: Sink>(printer: &mut Printer, out: &mut S, members: &[(u64, u32)])
+    ensures { Prints S.held S.has_failed out.old out.new printer.old printer.new
+        (text_of (map member_line (map member_of members.now))) }
+{
+    for at in 0..members.len() {
+        print_member(printer, out, members[at]);
+    }
+}
+
+/// Prints the line of a member.
+fn print_member<S: Sink>(printer: &mut Printer, out: &mut S, member: (u64, u32))
+    ensures { Prints S.held S.has_failed out.old out.new printer.old printer.new
+        (member_line (member_of member) ++ (10 ∷ [])) }
+{
+    printer.print_byte(out, b'#');
+    print_number(printer, out, member.0);
+    printer.print(out, b"=C");
+    print_number(printer, out, u64::from(member.1));
+    printer.print_byte(out, b'\n');
+}
+
+/// Prints a number, without leading zeros.
+fn print_number<S: Sink>(printer: &mut Printer, out: &mut S, number: u64)
+    ensures { Prints S.held S.has_failed out.old out.new printer.old printer.new (decimal number) }
+{
+    let mut digits = itoa::Buffer::new();
+    printer.print(out, digits.format(number).as_bytes());
+}

@@ -1,0 +1,162 @@
+//! The standard numbers of classes.
+
+ghost use Rattle.std.specs.Prelude.{ℕ, ◌≡◌, ◌<◌, ◌/◌, ◌%◌, IfOk, length, map, slice_index};
+ghost use Rattle.class_parts.specs.Laid.{IsLaid, class_in, count, size};
+ghost use Rattle.class_parts.specs.Views.{layout};
+ghost use Rattle.class_numbers.specs.Births.{AreCounts};
+ghost use Rattle.class_numbers.specs.Numbers.{IsNumbering};
+ghost use Rattle.class_numbers.specs.Origins.{origin_of, place_in};
+ghost use Rattle.class_numbers.specs.Working.{AreHeads, IsUndone};
+
+use crate::first_places::{filled, first_places};
+use crate::history::undo_rounds;
+use crate::keys::{births, numbers, place_of, round_of};
+use class_parts::parts::Parts;
+use std::alloc::{AllocError, Global};
+
+/// How a class began.
+#[derive(Clone, Copy, Debug, PartialEq, Eq)]
+pub enum Origin {
+    /// It was there from round 0 on.
+    Start,
+    /// It was parted off the class with the number `parent`, which is less than its own, at this round, 1 or later.
+    Split { parent: u32, round: u32 },
+}
+
+/// The classes of all rounds by their standard numbers, which count from 0: by the round at which a class began, then by
+/// its first place. Where a class is parted, the part with its first place keeps its number.
+#[derive(Drop)]
+pub struct Numbering {
+    /// By number, the first place of the class, which is the same in all rounds.
+    pub firsts: Vec<u32>,
+    /// By number, how the class began.
+    pub origins: Vec<Origin>,
+    /// By place, the number of its class after the last round.
+    pub members: Vec<u32>,
+}
+
+/// Numbers the classes of a refinement. `counts` has the number of classes after each round, that of round 0 first, as
+/// `refine` of `class_rounds` answers it.
+///
+/// It takes time by the number of places times its logarithm.
+///
+/// # Errors
+///
+/// `AllocError` where memory runs out.
+pub fn number(alloc: Global, parts: &Parts, counts: &[u32]) -> Result<Numbering, AllocError>
+    requires laid { IsLaid (layout parts.now) }
+    requires counts { AreCounts (layout parts.now) counts.now }
+    ensures { IfOk result
+        (λ n. IsNumbering (layout parts.now) counts.now n.firsts.items n.origins.items n.members.items) }
+{
+    let size = parts.len();
+    let mut first_places = first_places(alloc, parts)?;
+    let heads = heads(alloc, parts, &first_places)?;
+    let mut rounds = filled(alloc, size as usize, counts.len() as u32)?;
+    let mut before = filled(alloc, size as usize, 0)?;
+    undo_rounds(
+        alloc,
+        parts,
+        counts,
+        &mut first_places,
+        &mut rounds,
+        &mut before,
+    )?;
+    in_order(alloc, parts, counts, &rounds, &before, &heads)
+}
+
+/// By place, the first place of its class.
+fn heads(alloc: Global, parts: &Parts, first_places: &[u32]) -> Result<Vec<u32>, AllocError>
+    requires laid { IsLaid (layout parts.now) }
+    requires length { length first_places.now ≡ count (layout parts.now) }
+    ensures length { IfOk result (λ v. length v.items ≡ size (layout parts.now)) }
+    ensures each { IfOk result (λ v. (x : ℕ) → x < size (layout parts.now)
+        → slice_index v.items x ≡ slice_index first_places.now (class_in (layout parts.now) x)) }
+{
+    let mut heads = Vec::new(alloc);
+    for place in 0..parts.len() {
+        heads.push(first_places[parts.class(place) as usize])?;
+    }
+    Ok(heads)
+}
+
+/// Numbers the births of classes in order.
+fn in_order(
+    alloc: Global,
+    parts: &Parts,
+    counts: &[u32],
+    rounds: &[u32],
+    before: &[u32],
+    heads: &[u32],
+) -> Result<Numbering, AllocError>
+    requires laid { IsLaid (layout parts.now) }
+    requires counts { AreCounts (layout parts.now) counts.now }
+    requires undone { IsUndone (layout parts.now) counts.now rounds.now before.now }
+    requires heads { AreHeads (layout parts.now) heads.now }
+    ensures { IfOk result
+        (λ n. IsNumbering (layout parts.now) counts.now n.firsts.items n.origins.items n.members.items) }
+{
+    let births = births(alloc, rounds, counts.len() as u32)?;
+    let numbers = numbers(alloc, &births, parts.len())?;
+    Ok(Numbering {
+        firsts: firsts(alloc, &births)?,
+        origins: origins(alloc, &births, &numbers, before)?,
+        members: members(alloc, heads, &numbers)?,
+    })
+}
+
+/// The places of births.
+fn firsts(alloc: Global, births: &[u64]) -> Result<Vec<u32>, AllocError>
+    ensures { IfOk result (λ v. v.items ≡ map place_in births.now) }
+{
+    let mut firsts = Vec::with_capacity(alloc, births.len())?;
+    for birth in births {
+        firsts.push(place_of(*birth))?;
+    }
+    Ok(firsts)
+}
+
+/// How the classes of births began.
+fn origins(
+    alloc: Global,
+    births: &[u64],
+    numbers: &[u32],
+    before: &[u32],
+) -> Result<Vec<Origin>, AllocError>
+    requires places { (c : ℕ) → c < length births.now → place_in (slice_index births.now c) < length before.now }
+    requires before { (c : ℕ) → c < length births.now → 0 < slice_index births.now c / 4294967296
+        → slice_index before.now (place_in (slice_index births.now c)) < length numbers.now }
+    ensures { IfOk result (λ v. v.items ≡ map (origin_of numbers.now before.now) births.now) }
+{
+    let mut origins = Vec::with_capacity(alloc, births.len())?;
+    for birth in births {
+        origins.push(origin_of(*birth, numbers, before))?;
+    }
+    Ok(origins)
+}
+
+/// How the class of a birth began. `before` has by place the first place of the class that it was parted off.
+fn origin_of(birth: u64, numbers: &[u32], before: &[u32]) -> Origin
+    requires place { place_in birth < length before.now }
+    requires before { 0 < birth / 4294967296 → slice_index before.now (place_in birth) < length numbers.now }
+    ensures { result ≡ origin_of numbers.now before.now birth }
+{
+    let round = round_of(birth);
+    if round == 0 {
+        return Origin::Start;
+    }
+    let parent = numbers[before[place_of(birth) as usize] as usize];
+    Origin::Split { parent, round }
+}
+
+/// By place, the number of its class.
+fn members(alloc: Global, heads: &[u32], numbers: &[u32]) -> Result<Vec<u32>, AllocError>
+    requires { (x : ℕ) → x < length heads.now → slice_index heads.now x < length numbers.now }
+    ensures { IfOk result (λ v. v.items ≡ map (slice_index numbers.now) heads.now) }
+{
+    let mut members = Vec::with_capacity(alloc, heads.len())?;
+    for head in heads {
+        members.push(numbers[*head as usize])?;
+    }
+    Ok(members)
+}

@@ -1,0 +1,15 @@
+use Rattle.std.proofs.Common.{length, ◌-◌, ◌≡◌, ◌<◌, ◌≤◌, ℕ}
+use Rattle.class_parts.specs.Steps.{key_at}
+use Rattle.class_parts.specs.Views.{layout}
+use Rattle.class_parts.proofs.Keys.{IsPartedByFirst}
+use Rattle.class_parts.proofs.parts.Parts.part_by_runs.Given as goal
+
+abbrev pub invariant-loop-at : goal.invariant-loop-at
+invariant-loop-at l = record {
+  parted : IsPartedByFirst (layout l.initial.self) (layout l.self) l.pairs l.at;
+  within : l.at ≤ length l.pairs;
+  apart : (j k : ℕ) → j < l.at → l.at ≤ k → k < length l.pairs → key_at l.pairs j ≡ key_at l.pairs k → ⊥;
+}
+
+abbrev pub decreases-loop-at : goal.decreases-loop-at
+decreases-loop-at l = length l.pairs - l.at

@@ -1,0 +1,5 @@
+pub mod Inverse
+pub mod Laid
+pub mod Parted
+pub mod Steps
+pub mod Views

@@ -1,0 +1,60 @@
+-- Classes that are parted.
+use Rattle.std.specs.Prelude.{◌≡◌, ℕ, ◌<◌, ◌≤◌, ◌↔◌, List, length, slice_index}
+use Rattle.std.specs.List.{Contains}
+use Rattle.class_parts.specs.declared.pairs.Pair.{Pair}
+use Rattle.class_parts.specs.Laid.{Layout, size, count, class_in, IsLaid, NoneIsChosen}
+
+-- from class c up the chain of those that it was parted off, to the first that is older than `base`
+pub data Above (parents : List ℕ) (base : ℕ) : ℕ → ℕ → Type 0 where
+  here : (c : ℕ) → c < base → Above parents base c c
+  up : (c a : ℕ) → base ≤ c → slice_index parents c < c → Above parents base (slice_index parents c) a
+      → Above parents base c a
+
+-- classes are parted: an old number stands for places that it stood for, and each new class was parted off one that
+-- its places were in
+pub record IsFiner (old new : Layout) : Type 0 where
+  pub places : size new ≡ size old
+  pub more : count old ≤ count new
+  pub kept : (x : ℕ) → x < size old → class_in new x < count old → class_in new x ≡ class_in old x
+  pub finer : (x z : ℕ) → x < size old → z < size old → class_in new x ≡ class_in new z → class_in old x ≡ class_in old z
+  pub above : (base x a : ℕ) → base ≤ count old → x < size old → Above old.parent base (class_in old x) a
+      → Above new.parent base (class_in new x) a
+
+-- place x has the key of class c and position i
+abbrev pub HasPair : List Pair → ℕ → ℕ → ℕ → Type 0
+HasPair ps c i x = Contains ps (record { position = i; class = c; place = x })
+
+-- two places have the same keys
+abbrev pub HaveSamePairs : List Pair → ℕ → ℕ → Type 0
+HaveSamePairs ps x z = (c i : ℕ) → HasPair ps c i x ↔ HasPair ps c i z
+
+-- each class is parted by the keys that its places have
+pub record IsPartedByPairs (old new : Layout) (ps : List Pair) : Type 0 where
+  pub laid : IsLaid new
+  pub finer : IsFiner old new
+  pub settled : NoneIsChosen new
+  pub parts : (x z : ℕ) → x < size old → z < size old → (class_in new x ≡ class_in new z)
+      ↔ ((class_in old x ≡ class_in old z) × HaveSamePairs ps x z)
+
+-- x is one of the first i numbers, or of all
+abbrev pub IsAmongFirst : List ℕ → ℕ → ℕ → Type 0
+IsAmongFirst xs i x = (k : ℕ) × (k < i) × (slice_index xs k ≡ x)
+
+abbrev pub IsAmong : List ℕ → ℕ → Type 0
+IsAmong xs x = IsAmongFirst xs (length xs) x
+
+-- these are places
+abbrev pub ArePlaces : ℕ → List ℕ → Type 0
+ArePlaces n xs = (k : ℕ) → k < length xs → slice_index xs k < n
+
+-- these are the places of class c
+pub record AreMembers (p : Layout) (c : ℕ) (xs : List ℕ) : Type 0 where
+  pub sound : (x : ℕ) → IsAmong xs x → (x < size p) × (class_in p x ≡ c)
+  pub complete : (x : ℕ) → x < size p → class_in p x ≡ c → IsAmong xs x
+
+-- n places in one class
+pub record IsWhole (n : ℕ) (p : Layout) : Type 0 where
+  pub laid : IsLaid p
+  pub places : size p ≡ n
+  pub settled : NoneIsChosen p
+  pub one : (x : ℕ) → x < n → class_in p x ≡ 0

@@ -1,0 +1,125 @@
+//! Places in classes.
+
+ghost use Rattle.std.specs.Prelude.{◌≡◌, ◌<◌, ℕ, IfOk, length, slice_index};
+ghost use Rattle.class_parts.specs.Laid.{IsLaid, class_in, count, size, parent_of};
+ghost use Rattle.class_parts.specs.Parted.{AreMembers, IsWhole};
+ghost use Rattle.class_parts.specs.Steps.{singles};
+ghost use Rattle.class_parts.specs.Views.{layout};
+
+use std::alloc::{AllocError, Global};
+
+/// A partition of places into classes, both numbered from 0 on. The places of a class stand side by side in
+/// `order`, and those that are chosen to be parted off come last among them.
+#[derive(Drop)]
+pub struct Parts {
+    /// Of each place its class.
+    pub(crate) class: Vec<u32>,
+    /// Of each place where it stands in `order`.
+    pub(crate) index: Vec<u32>,
+    /// The places, class by class.
+    pub(crate) order: Vec<u32>,
+    /// Of each class where its places begin in `order`.
+    pub(crate) first: Vec<u32>,
+    /// Of each class where its chosen places begin.
+    pub(crate) middle: Vec<u32>,
+    /// Of each class where its places end.
+    pub(crate) end: Vec<u32>,
+    /// Of each class the one that it was parted off.
+    pub(crate) parent: Vec<u32>,
+}
+
+impl Parts {
+    /// As many places, in one class, or in none where there are no places. `AllocError` comes where memory runs out.
+    pub fn whole(alloc: Global, size: u32) -> Result<Parts, AllocError>
+        ensures { IfOk result (λ p. IsWhole size (layout p)) }
+    {
+        Ok(Parts {
+            class: zeros(alloc, size)?,
+            index: numbers(alloc, size)?,
+            order: numbers(alloc, size)?,
+            first: single(alloc, size, 0)?,
+            middle: single(alloc, size, size)?,
+            end: single(alloc, size, size)?,
+            parent: single(alloc, size, 0)?,
+        })
+    }
+
+    /// How many classes there are.
+    pub fn count(&self) -> usize
+        ensures { result ≡ count (layout self.now) }
+    {
+        self.first.len()
+    }
+
+    /// How many places there are.
+    pub fn len(&self) -> u32
+        requires { IsLaid (layout self.now) }
+        ensures { result ≡ size (layout self.now) }
+    {
+        self.class.len() as u32
+    }
+
+    /// The number of the class of a place.
+    pub fn class(&self, place: u32) -> u32
+        requires { place < size (layout self.now) }
+        ensures { result ≡ class_in (layout self.now) place }
+    {
+        self.class[place as usize]
+    }
+
+    /// The class that a class was parted off. Class 0 was parted off none, and it is 0 there.
+    pub fn parent(&self, class: u32) -> u32
+        requires laid { IsLaid (layout self.now) }
+        requires known { class < count (layout self.now) }
+        ensures { result ≡ parent_of (layout self.now) class }
+    {
+        self.parent[class as usize]
+    }
+
+    /// The places of a class, in no order that is known.
+    pub fn members(&self, class: u32) -> &[u32]
+        requires laid { IsLaid (layout self.now) }
+        requires known { class < count (layout self.now) }
+        ensures { AreMembers (layout self.now) class result.now }
+    {
+        let first = self.first[class as usize];
+        let end = self.end[class as usize];
+        &self.order[first as usize..end as usize]
+    }
+}
+
+/// The numbers below a number, in order.
+fn numbers(alloc: Global, size: u32) -> Result<Vec<u32>, AllocError>
+    ensures length { IfOk result (λ v. length v.items ≡ size) }
+    ensures each { IfOk result (λ v. (k : ℕ) → k < size → slice_index v.items k ≡ k) }
+{
+    let mut all = Vec::with_capacity(alloc, size as usize)?;
+    for i in 0..size {
+        all.push(i)?;
+    }
+    Ok(all)
+}
+
+/// So many zeros.
+fn zeros(alloc: Global, size: u32) -> Result<Vec<u32>, AllocError>
+    ensures length { IfOk result (λ v. length v.items ≡ size) }
+    ensures each { IfOk result (λ v. (k : ℕ) → k < size → slice_index v.items k ≡ 0) }
+{
+    let mut all = Vec::with_capacity(alloc, size as usize)?;
+    for i in 0..size {
+        all.push(0)?;
+        let _index = i;
+    }
+    Ok(all)
+}
+
+/// A list of one number, or of none where there are no places.
+fn single(alloc: Global, size: u32, number: u32) -> Result<Vec<u32>, AllocError>
+    ensures { IfOk result (λ v. v.items ≡ singles size number) }
+{
+    let mut all = Vec::new(alloc);
+    if size > 0 {
+        all.push(number)?;
+    }
+    Ok(all)
+}

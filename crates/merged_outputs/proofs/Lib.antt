@@ -1,0 +1,2 @@
+pub mod FirstMembers
+pub mod MergedRows

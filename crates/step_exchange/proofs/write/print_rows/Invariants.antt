@@ -1,9 +1,0 @@
-use Rattle.std.proofs.Common.{take}
-use Rattle.devices.specs.Prints.{Prints}
-use Rattle.step_exchange.specs.Views.{rows_with}
-use Rattle.step_structures.specs.Normal.{plain_rows}
-use Rattle.step_exchange.proofs.write.print_rows.Given as goal
-
-abbrev pub invariant-loop-i : goal.invariant-loop-i
-invariant-loop-i g l = Prints g.S.Sink.held g.S.Sink.has_failed l.fn.out l.out l.fn.printer l.printer
-    (plain_rows (rows_with (take l.i l.names) (take l.i l.forms)))

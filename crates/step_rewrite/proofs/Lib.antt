@@ -1,0 +1,2 @@
+pub mod FirstHeads
+pub mod Held

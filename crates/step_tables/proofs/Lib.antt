@@ -1,0 +1,4 @@
+pub mod Ordered
+pub mod Partitions
+pub mod Numbered
+pub mod Standard
