@@ -6,7 +6,8 @@ ghost use Rattle.certificate_text.specs.declared.fault.CertFault.TheVariants.{Me
 use std::alloc::AllocError;
 use thiserror::Error;
 
-/// Why a text is no certificate of version 2, or want of memory. It shows as its code and its words.
+/// Why a text is no certificate of version 2, or want of memory. It shows as its
+/// code and its words, want of memory as `memory`.
 #[derive(Clone, Copy, Debug, PartialEq, Eq, Error)]
 pub enum CertFault {
     /// C6: the text is of version 1. Its first line is `STEPCERT 1`, ended by a line feed, whatever

@@ -1,6 +1,6 @@
 //! A certificate, read line by line.
 
-ghost use Rattle.std.specs.Prelude.{◌≡◌, ◌<◌, ◌^◌, ℕ, List, IfOk, IsTrue, ◌↔◌, MatchBool};
+ghost use Rattle.std.specs.Prelude.{◌≡◌, ◌<◌, ◌^◌, ℕ, IfOk, IsTrue, ◌↔◌, MatchBool};
 ghost use Rattle.step_equal.specs.Tables as tables;
 ghost use Rattle.step_equal.specs.TableViews.{origin_of, table_of};
 ghost use Rattle.certificate_text.specs.ComputedParts.{

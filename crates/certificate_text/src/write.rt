@@ -1,6 +1,6 @@
 //! Writing certificates.
 
-ghost use Rattle.std.specs.Prelude.{◌≡◌, ◌++◌, ◌∷◌, [], ℕ, List, map, suc, is_err, false, decimal, codes};
+ghost use Rattle.std.specs.Prelude.{◌≡◌, ◌++◌, ◌∷◌, [], map, is_err, false, decimal};
 ghost use Rattle.devices.specs.Emits.{Emits};
 ghost use Rattle.devices.specs.Prints.{Prints};
 ghost use Rattle.step_equal.specs.TableViews.{table_of, origin_of, member_of};
@@ -10,7 +10,6 @@ ghost use Rattle.certificate_text.specs.Texts.{
   class_lines,
   member_line,
   origin_text,
-  rounds_line,
   table_lines,
   text_of,
 };

@@ -1,5 +1,5 @@
 -- First places of classes, as classes are joined to those that they were parted off.
-use Rattle.std.proofs.Common.{◌≡◌, ◌≢◌, ◌≤◌, ◌<◌, ℕ, ◌+◌, ◌-◌, List, [], ◌∷◌, ◌++◌, refl, sym, ◌∙◌, ap, subst, inl, inr, length, arith, length-append, get_or-set_same, get_or-set_other, length-set, min, max}
+use Rattle.std.proofs.Common.{◌≡◌, ◌≢◌, ◌≤◌, ◌<◌, ℕ, ◌+◌, ◌-◌, List, [], ◌∷◌, ◌++◌, refl, sym, ◌∙◌, ap, subst, inl, inr, length, arith, length-append, get_or-set_same, get_or-set_other, min, max}
 use Rattle.std.specs.Prelude.{◌↔◌, ◌⊎◌, slice_index, slice_set}
 use Rattle.std.proofs.lemmas.Bool.{cases_eq, cases_lt}
 use Rattle.std.proofs.lemmas.List.{get_or_push, get_or_append_left}
@@ -7,12 +7,7 @@ use Rattle.class_parts.specs.Laid.{Layout, size, count, class_in, first_of, pare
 use Rattle.class_parts.specs.Parted.{Above, here, up}
 use Rattle.class_numbers.specs.Firsts.{IsFirstIn, IsFirst}
 use Rattle.class_numbers.specs.Working.{AreFirstPlaces, AreBorn}
-
-pub above_one : (ps : List ℕ) (base c a b : ℕ) → Above ps base c a → Above ps base c b → a ≡ b
-above_one ps base c a b (here d l) (here e m) = refl
-above_one ps base c a b (here d l) (up e f m n rest) = absurd (omega arith)
-above_one ps base c a b (up d e l m rest) (here f n) = absurd (omega arith)
-above_one ps base c a b (up d e l m rest) (up f g n o more) = above_one ps base (slice_index ps d) e g rest more
+use Rattle.class_rounds.proofs.Turns.{above_one}
 
 -- one class fewer
 lower_other : (ps : List ℕ) (e x c : ℕ) → Above ps (e + 1) x c → c ≢ e → Above ps e x c
@@ -243,32 +238,6 @@ pub record AreFirstFrom (p : Layout) (i : ℕ) (ls : List ℕ) : Type 0 where
   pub each : length ls ≡ count p
   pub low : (y : ℕ) → i ≤ y → y < size p → slice_index ls (class_in p y) ≤ y
   pub member : (y : ℕ) → i ≤ y → y < size p → class_in p (slice_index ls (class_in p y)) ≡ class_in p y
-
-pub leads_more : (p : Layout) (i : ℕ) (ls ms : List ℕ) → IsLaid p → i < size p → AreFirstFrom p (i + 1) ls
-    → ms ≡ slice_set ls (class_in p i) i → AreFirstFrom p i ms
-leads_more p i ls ms laid l before is =
-    let known = (laid.within i l).known in
-    let each = before.each in
-    let here_at : slice_index ms (class_in p i) ≡ i =
-    ap (λ l. slice_index l (class_in p i)) is ∙ get_or-set_same ls (class_in p i) i 0 (omega arith) in
-    let other : (d : ℕ) → d ≢ class_in p i → slice_index ms d ≡ slice_index ls d = λ d n.
-    ap (λ l. slice_index l d) is ∙ get_or-set_other ls (class_in p i) d i 0 n in
-    record {
-      each = ap length is ∙ length-set ls (class_in p i) i ∙ each;
-      low = λ y m o. elim (cases_eq (class_in p y) (class_in p i)) [
-        | inl same ↦ let e : slice_index ms (class_in p y) ≡ i = ap (slice_index ms) same ∙ here_at in omega arith
-        | inr n ↦
-            let later : y ≢ i = λ e. n (ap (class_in p) e) in
-            let e = other (class_in p y) n in
-            let b = before.low y (omega arith) o in omega arith
-      ];
-      member = λ y m o. elim (cases_eq (class_in p y) (class_in p i)) [
-        | inl same ↦ ap (class_in p) (ap (slice_index ms) same ∙ here_at) ∙ sym same
-        | inr n ↦
-            let later : y ≢ i = λ e. n (ap (class_in p) e) in
-            ap (class_in p) (other (class_in p y) n) ∙ before.member y (omega arith) o
-      ];
-    }
 
 pub leads_all : (p : Layout) (ls : List ℕ) → IsLaid p → AreFirstFrom p 0 ls → AreFirstPlaces p (count p) ls
 leads_all p ls laid all c l =

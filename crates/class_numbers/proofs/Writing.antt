@@ -1,16 +1,9 @@
 -- Writing at places, one after the other.
-use Rattle.std.proofs.Common.{◌≡◌, ◌≢◌, ◌<◌, ℕ, ◌+◌, List, refl, sym, ◌∙◌, ap, subst, inl, inr, length, arith, get_or-set_same, get_or-set_other, length-set}
+use Rattle.std.proofs.Common.{◌≡◌, ◌≢◌, ◌<◌, ℕ, ◌+◌, List, sym, ◌∙◌, ap, subst, inl, inr, length, arith, get_or-set_same, get_or-set_other, length-set}
 use Rattle.std.specs.Prelude.{slice_index, slice_set}
 use Rattle.std.proofs.lemmas.Bool.{cases_eq}
 use Rattle.class_parts.specs.Parted.{IsAmongFirst}
 use Rattle.class_numbers.specs.Working.{AreWritten}
-
-pub none_written : (P : ℕ → ℕ → Type 0) (old places : List ℕ) → AreWritten P old old places 0
-none_written P old places = record {
-  each = refl;
-  there = λ h a. absurd (let l = a.1 in omega arith);
-  elsewhere = λ h n. refl;
-}
 
 -- one more place
 pub written_more : (P : ℕ → ℕ → Type 0) (old new newer places : List ℕ) (i x v : ℕ) → i < length places

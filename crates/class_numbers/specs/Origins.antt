@@ -3,10 +3,6 @@ use Rattle.std.specs.Prelude.{ℕ, ◌/◌, ◌%◌, ◌==◌, cond, List, slice
 use Rattle.class_numbers.specs.declared.numbering.Origin.{Origin}
 use Rattle.class_numbers.specs.declared.numbering.Origin.TheVariants.{Start, Split}
 
--- the round and the place of a birth
-abbrev pub round_in : ℕ → ℕ
-round_in birth = birth / 4294967296
-
 abbrev pub place_in : ℕ → ℕ
 place_in birth = birth % 4294967296
 

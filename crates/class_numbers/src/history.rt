@@ -1,6 +1,6 @@
 //! The rounds at which places became the first of their class, from the last round back to the first.
 
-ghost use Rattle.std.specs.Prelude.{ℕ, ◌≡◌, ◌<◌, ◌≤◌, ◌+◌, OnOk, length, slice_index};
+ghost use Rattle.std.specs.Prelude.{ℕ, ◌≡◌, ◌<◌, ◌≤◌, ◌+◌, OnOk, length};
 ghost use Rattle.class_parts.specs.Laid.{IsLaid, count};
 ghost use Rattle.class_parts.specs.Parted.{ArePlaces};
 ghost use Rattle.class_parts.specs.Views.{layout};

@@ -1,6 +1,6 @@
 //! The standard numbers of classes.
 
-ghost use Rattle.std.specs.Prelude.{ℕ, ◌≡◌, ◌<◌, ◌/◌, ◌%◌, IfOk, length, map, slice_index};
+ghost use Rattle.std.specs.Prelude.{ℕ, ◌≡◌, ◌<◌, ◌/◌, IfOk, length, map, slice_index};
 ghost use Rattle.class_parts.specs.Laid.{IsLaid, class_in, count, size};
 ghost use Rattle.class_parts.specs.Views.{layout};
 ghost use Rattle.class_numbers.specs.Births.{AreCounts};

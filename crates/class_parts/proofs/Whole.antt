@@ -131,4 +131,13 @@ module _ (p : Layout) (laid : IsLaid p) (c first end : ℕ) (order run : List �
           omega arith,
           in_run (index_in p x - first) (omega arith) ∙ ap (slice_index p.order) back ∙ at,
         );
+    once = λ j k l m e.
+        let n = run_length in let f = fits in
+        let places = laid.places in let lengths = laid.inverse.lengths in
+        let at : slice_index p.order (first + j) ≡ slice_index p.order (first + k) =
+        sym (in_run j (omega arith)) ∙ e ∙ in_run k (omega arith) in
+        let same : first + j ≡ first + k =
+        sym (laid.inverse.at_order (first + j) (omega arith)) ∙ ap (slice_index p.index) at
+        ∙ laid.inverse.at_order (first + k) (omega arith) in
+        omega arith;
   }

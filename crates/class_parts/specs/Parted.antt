@@ -47,10 +47,11 @@ IsAmong xs x = IsAmongFirst xs (length xs) x
 abbrev pub ArePlaces : ℕ → List ℕ → Type 0
 ArePlaces n xs = (k : ℕ) → k < length xs → slice_index xs k < n
 
--- these are the places of class c
+-- these are the places of class c, each once
 pub record AreMembers (p : Layout) (c : ℕ) (xs : List ℕ) : Type 0 where
   pub sound : (x : ℕ) → IsAmong xs x → (x < size p) × (class_in p x ≡ c)
   pub complete : (x : ℕ) → x < size p → class_in p x ≡ c → IsAmong xs x
+  pub once : (j k : ℕ) → j < length xs → k < length xs → slice_index xs j ≡ slice_index xs k → j ≡ k
 
 -- n places in one class
 pub record IsWhole (n : ℕ) (p : Layout) : Type 0 where

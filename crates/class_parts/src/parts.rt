@@ -67,7 +67,7 @@ impl Parts {
         self.class[place as usize]
     }
 
-    /// The class that a class was parted off. Class 0 was parted off none, and it is 0 there.
+    /// The class that a class was parted off. Class 0 was parted off none; what is answered for it says nothing.
     pub fn parent(&self, class: u32) -> u32
         requires laid { IsLaid (layout self.now) }
         requires known { class < count (layout self.now) }
@@ -76,7 +76,7 @@ impl Parts {
         self.parent[class as usize]
     }
 
-    /// The places of a class, in no order that is known.
+    /// The places of a class, each once, in no order that is known.
     pub fn members(&self, class: u32) -> &[u32]
         requires laid { IsLaid (layout self.now) }
         requires known { class < count (layout self.now) }

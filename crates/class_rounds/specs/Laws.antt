@@ -12,7 +12,7 @@ pub record Refines (edges : List Edge) (shapes : List ℕ) (start : Layout) (E :
       ↔ ((E r x z ≡ true) × (slice_index shapes x ≡ slice_index shapes z)
       × AgreeAt edges (λ t u. E r t u ≡ true) x z)
 
--- There is one refinement, and its rounds are those that were counted; the last one is stable ..
+-- What refines round by round is, at the rounds that were counted, what they say, and parts nothing at the next ..
 abbrev pub RoundsAreTheRefinement : Type 0
 RoundsAreTheRefinement = (edges : List Edge) (shapes : List ℕ) (start p : Layout) (counts : List ℕ)
     (E : ℕ → ℕ → ℕ → Bool) → AreEdges (size start) edges → IsRefined edges shapes start p counts
@@ -21,7 +21,7 @@ RoundsAreTheRefinement = (edges : List Edge) (shapes : List ℕ) (start p : Layo
     × ((r x z : ℕ) → r + 1 ≡ length counts → x < size p → z < size p → E r x z ≡ true
     → E (r + 1) x z ≡ true)
 
--- .. and each earlier one parts some pair.
+-- .. and each behind round 0 parts some pair.
 abbrev pub RoundsPart : Type 0
 RoundsPart = (edges : List Edge) (shapes : List ℕ) (start p : Layout) (counts : List ℕ)
     → IsRefined edges shapes start p counts → (r : ℕ) → r + 1 < length counts

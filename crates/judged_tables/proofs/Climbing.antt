@@ -3,7 +3,7 @@ use Rattle.std.proofs.Common.{◌≡◌, ◌<◌, ℕ, List, Some, sym, ap, ◌�
 use Rattle.step_equal.proofs.Ancestors.{climbs}
 use Rattle.step_equal.specs.Standard.{IsParent}
 use Rattle.step_equal.specs.Tables.{start, split, Table, climbed, ancestor, ancestor_of}
-use Rattle.judged_tables.specs.ComputedForms.{AreRoots}
+use Rattle.judged_tables.specs.ComputedParents.{AreRoots}
 
 module _ (t : Table) (c : ℕ) where
   -- a class that is there from round 0 on is its own ancestor

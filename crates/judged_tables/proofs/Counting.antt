@@ -3,9 +3,7 @@ use Rattle.std.proofs.Common.{◌≡◌, ◌≢◌, ℕ, zero, suc, ◌≤◌, B
 use Rattle.std.specs.Prelude.{◌==◌, ◌&&◌}
 use Rattle.std.proofs.lemmas.Bool.{false≢true, and_parts, and_from}
 use Rattle.judged_tables.specs.Counts.{passing, LieTogether, AreWhole, CountsDecide}
-
-some_once : (a b : ℕ) → Some a ≡ Some b → a ≡ b
-some_once a b e = cc
+use Rattle.merged_outputs.proofs.FirstMembers.{some_once}
 
 -- a test that asks more lets fewer pass
 fewer : (p q : ℕ → Bool) → ((x : ℕ) → p x ≡ true → q x ≡ true) → (ms : List ℕ) → passing p ms ≤ passing q ms

@@ -10,7 +10,7 @@ use Rattle.step_equal.specs.declared.table.Origin.{Origin as ProgramOrigin}
 use Rattle.step_equal.specs.TableViews.{origin_of, member_of}
 use Rattle.step_equal.specs.Standard.{IsParent, IsWellFormed}
 use Rattle.step_equal.specs.Tables.{Origin, start, split, Table, began}
-use Rattle.judged_tables.specs.ComputedForms.{HasParent}
+use Rattle.judged_tables.specs.ComputedParents.{HasParent}
 
 module _ (t : Table) (c p r : ℕ) (at : slice_get t.classes c ≡ Some (split p r)) where
   pub none_before : c ≤ p → (false ≡ true) ↔ HasParent t c

@@ -9,13 +9,11 @@ use Rattle.step_equal.specs.Tables.{Origin, start, split, Table, climbed, ancest
 use Rattle.step_equal.proofs.Few.{same_class_back}
 use Rattle.step_equal.proofs.Pairs.{agree_under_back}
 use Rattle.judged_tables.specs.Splits.{IsNext, IsSplitRight, SplitsDecide}
+use Rattle.merged_outputs.proofs.FirstMembers.{some_once}
 
 -- a class begins at a round
 abbrev Begun : List Origin → ℕ → ℕ → Type 0
 Begun classes round c = (parent : ℕ) × (slice_get classes c ≡ Some (split parent round))
-
-some_once : (a b : ℕ) → Some a ≡ Some b → a ≡ b
-some_once a b e = cc
 
 -- from round to round: where there is a class at the one round there is one at the next, the same or one that begins
 record Steps (classes : List Origin) (round n c a : ℕ) : Type 0 where

@@ -1,4 +1,4 @@
 pub mod Splits
 pub mod Counts
-pub mod ComputedForms
+pub mod ComputedParents
 pub mod ComputedStability

@@ -1,6 +1,6 @@
 //! Whether a table is of a population.
 
-ghost use Rattle.std.specs.Prelude.{◌≡◌, ◌↔◌, IsTrue};
+ghost use Rattle.std.specs.Prelude.{◌↔◌, IsTrue};
 ghost use Rattle.step_equal.specs.Tables.{HasMembers};
 ghost use Rattle.step_equal.specs.TableViews.{table_of};
 

@@ -4,7 +4,7 @@ ghost use Rattle.std.specs.Prelude.{◌≡◌, ◌<◌, ℕ, IfOk, Some, length,
 ghost use Rattle.step_equal.specs.Standard.{IsWellFormed};
 ghost use Rattle.step_equal.specs.Tables.{ancestor_of};
 ghost use Rattle.step_equal.specs.TableViews.{table_of};
-ghost use Rattle.judged_tables.specs.ComputedForms.{AreRoots};
+ghost use Rattle.judged_tables.specs.ComputedParents.{AreRoots};
 
 use std::alloc::{AllocError, Global};
 use step_equal::table::{Origin, Table};

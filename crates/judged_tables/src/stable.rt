@@ -1,6 +1,6 @@
 //! Whether the last round of a table is stable.
 
-ghost use Rattle.std.specs.Prelude.{◌≡◌, ◌↔◌, ℕ, IfOk, IsTrue, Some, slice_get, length};
+ghost use Rattle.std.specs.Prelude.{◌≡◌, ◌↔◌, ℕ, IfOk, IsTrue, Some, slice_get};
 ghost use Rattle.step_values.specs.Labels.{AgreeEachBy};
 ghost use Rattle.step_equal.specs.Maps.{is_pinned};
 ghost use Rattle.step_equal.specs.Rows.{Row};

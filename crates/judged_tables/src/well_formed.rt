@@ -1,10 +1,10 @@
 //! Whether a table is well formed.
 
-ghost use Rattle.std.specs.Prelude.{◌≡◌, ◌<◌, ◌↔◌, ℕ, All, IsTrue, length, map};
+ghost use Rattle.std.specs.Prelude.{◌≡◌, ◌<◌, ◌↔◌, ℕ, All, IsTrue, length};
 ghost use Rattle.step_equal.specs.Standard.{IsWellFormed};
 ghost use Rattle.step_equal.specs.Tables.{began};
 ghost use Rattle.step_equal.specs.TableViews.{origin_of, table_of};
-ghost use Rattle.judged_tables.specs.ComputedForms.{HasParent};
+ghost use Rattle.judged_tables.specs.ComputedParents.{HasParent};
 
 use step_equal::table::{Origin, Table};
 

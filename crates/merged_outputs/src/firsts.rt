@@ -1,6 +1,6 @@
 //! The first member of each class.
 
-ghost use Rattle.std.specs.Prelude.{◌≡◌, ◌<◌, ℕ, All, IfOk, length, map, suc};
+ghost use Rattle.std.specs.Prelude.{◌≡◌, ◌<◌, ℕ, All, IfOk, length};
 ghost use Rattle.step_values.specs.Labels.{renaming};
 ghost use Rattle.step_equal.specs.Images.{head_of};
 ghost use Rattle.step_equal.specs.Rows.{names};

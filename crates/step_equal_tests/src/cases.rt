@@ -1,6 +1,6 @@
 //! The cases of all tables.
 
-use crate::{images, judged, labels, populations, rings, tables, values};
+use crate::{images, judged, labels, populations, rings, shaped, tables, values};
 use std::alloc::Global;
 use std::hash::RandomState;
 use std::test::Fail;
@@ -16,6 +16,7 @@ fn wrong_case(alloc: Global, keys: RandomState) -> Option<&'static str> {
         .or(tables::wrong_class(alloc))
         .or(judged::wrong_case(alloc, keys))
         .or(judged::wrong_root(alloc))
+        .or(shaped::wrong_case(alloc, keys))
 }
 
 #[test]

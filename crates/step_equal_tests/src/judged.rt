@@ -338,7 +338,7 @@ fn table_of(alloc: Global, classes: &[Origin], members: &[(u64, u32)]) -> Option
     if is_whole { Some(table) } else { None }
 }
 
-fn names_of(alloc: Global, names: &[u64]) -> Option<BTreeSet<u64>> {
+pub(crate) fn names_of(alloc: Global, names: &[u64]) -> Option<BTreeSet<u64>> {
     let mut set = BTreeSet::new(alloc);
     for name in names {
         if set.insert(*name).is_err() {

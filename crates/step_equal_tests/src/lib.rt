@@ -1,5 +1,5 @@
-//! Tests of `step_equal`, `merged_outputs` and `judged_tables`: populations, images, tables of classes and what is
-//! merged by them, by public items alone.
+//! Tests of `step_equal`, `merged_outputs`, `judged_tables` and `row_shapes`: populations, images, tables of classes and
+//! what is merged by them, kinds and references of rows, by public items alone.
 #![tactic(auto)]
 
 #[cfg(test)]
@@ -14,6 +14,8 @@ mod labels;
 mod populations;
 #[cfg(test)]
 mod rings;
+#[cfg(test)]
+mod shaped;
 #[cfg(test)]
 mod tables;
 #[cfg(test)]

@@ -18,7 +18,8 @@ use Rattle.step_equal.specs.Tables.{Table, last_class, ancestor_of, shares}
 use Rattle.merged_texts.specs.Merged.{merged_file}
 use Rattle.merged_texts.proofs.MergedReads.{merged_text_reads}
 use Rattle.merged_texts.proofs.Bounded.{names_within}
-use Rattle.step_rewrite.specs.Leading.{or_this, at_row, led_by}
+use Rattle.step_rewrite.specs.Firsts.{or_name}
+use Rattle.step_rewrite.specs.Leading.{at_row, led_by}
 use Rattle.step_rewrite.specs.Rewriting.{members, first_of_class, smaller_text}
 use Rattle.step_rewrite.proofs.FirstHeads.{head_out}
 
@@ -67,8 +68,8 @@ pub led_so : (t : Table) (names : List ℕ) (index : RowIndex) (heads : List ℕ
     → led_by index heads y ≡ first_of_class t y
 led_so t names index heads are finds all y = by (place_of (members t) y) refl
   where
-    at : (o : Option ℕ) → place_of (members t) y ≡ o → led_by index heads y ≡ or_this y (at_row heads o)
-    at o e = ap (λ p. or_this y (at_row heads p)) (finds y ∙ ap (λ ns. place_of ns y) (sym are) ∙ e)
+    at : (o : Option ℕ) → place_of (members t) y ≡ o → led_by index heads y ≡ or_name y (at_row heads o)
+    at o e = ap (λ p. or_name y (at_row heads p)) (finds y ∙ ap (λ ns. place_of ns y) (sym are) ∙ e)
 
     by : (o : Option ℕ) → place_of (members t) y ≡ o → led_by index heads y ≡ first_of_class t y
     by None e =
@@ -76,7 +77,7 @@ led_so t names index heads are finds all y = by (place_of (members t) y) refl
         ∙ sym (head_out t (members t) y (ap (ancestor_of t.classes t.rounds) (no_member t.members y e)))
     by (Some i) e =
         at (Some i) e
-        ∙ ap (or_this y) (ap (λ l. slice_get l i) all
+        ∙ ap (or_name y) (ap (λ l. slice_get l i) all
         ∙ mapped_at (first_of_class t) (members t) i y (placed (members t) y i e))
 
 head_within : (ys : List ℕ) (E : ℕ → ℕ → Bool) (x : ℕ) → x < 2 ^ 64 → AllByRecursion (λ n. n < 2 ^ 64) ys

@@ -2,14 +2,11 @@
 use Rattle.std.specs.Prelude.{ℕ, List, Option, None, Some, slice_get}
 use Rattle.population_rows.specs.Index.{found}
 use Rattle.population_rows.specs.declared.index.RowIndex.{RowIndex}
-
-abbrev pub or_this : ℕ → Option ℕ → ℕ
-or_this y None = y
-or_this y (Some z) = z
+use Rattle.step_rewrite.specs.Firsts.{or_name}
 
 abbrev pub at_row : List ℕ → Option ℕ → Option ℕ
 at_row heads None = None
 at_row heads (Some i) = slice_get heads i
 
 abbrev pub led_by : RowIndex → List ℕ → ℕ → ℕ
-led_by index heads y = or_this y (at_row heads (found index y))
+led_by index heads y = or_name y (at_row heads (found index y))

@@ -31,8 +31,8 @@ use step_exchange::structure::Exchange;
 /// to no instance stays, and literals are as they are spelt.
 ///
 /// The table's members are the instances, in order. Where the sink fails, a front of the text went
-/// out, and the fault has its length; where memory runs out, nothing did. Names are hashed by these
-/// keys.
+/// out, and the fault has its length; where memory runs out, nothing did. Where names
+/// are far apart they are hashed by these keys.
 pub fn rewrite<S: Sink>(
     alloc: Global,
     keys: RandomState,

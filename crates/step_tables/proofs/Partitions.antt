@@ -7,7 +7,7 @@ use Rattle.class_rounds.specs.Rounds.{Shared}
 use Rattle.class_numbers.specs.Firsts.{IsFirstOf, IsFirst}
 use Rattle.class_numbers.specs.Births.{AreCounts, IsBirth}
 use Rattle.class_numbers.proofs.Counting.{above_less, above_there}
-use Rattle.class_numbers.proofs.Leading.{above_one}
+use Rattle.class_rounds.proofs.Turns.{above_one}
 use Rattle.class_numbers.proofs.Undoing.{parted_from}
 use Rattle.step_equal.proofs.Births as births
 use Rattle.step_equal.proofs.Births.{ArePartings, first, first_le, first_below, first_same, first_first, one_class, birth_in_time}

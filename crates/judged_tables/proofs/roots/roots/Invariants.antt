@@ -1,5 +1,5 @@
 use Rattle.step_equal.specs.TableViews.{table_of}
-use Rattle.judged_tables.specs.ComputedForms.{AreRoots}
+use Rattle.judged_tables.specs.ComputedParents.{AreRoots}
 use Rattle.judged_tables.proofs.roots.roots.Given as goal
 
 abbrev pub invariant-loop-class : goal.invariant-loop-class

@@ -2,7 +2,7 @@ use Rattle.std.proofs.Common.{sym, ◌∙◌, refl, arith}
 use Rattle.std.proofs.lemmas.Bool.{false≢true}
 use Rattle.std.proofs.lemmas.List.{length-map}
 use Rattle.step_equal.specs.TableViews.{origin_of, table_of}
-use Rattle.judged_tables.specs.ComputedForms.{HasParent}
+use Rattle.judged_tables.specs.ComputedParents.{HasParent}
 use Rattle.judged_tables.proofs.Parents.{one_more_below, split_within}
 use Rattle.judged_tables.proofs.well_formed.have_parents.Goals as goal
 

@@ -1,0 +1,56 @@
+//! References that are tested before classes are found by them.
+
+ghost use Rattle.std.specs.Prelude.{◌≡◌, ◌<◌, IfSome, true, length};
+ghost use Rattle.class_rounds.specs.Edges.{AreEdges};
+ghost use Rattle.class_tests.specs.Order.{GoesOn, IsBehind, IsBetween};
+
+use class_rounds::edges::{Edge, Edges};
+use std::alloc::Global;
+
+/// Whether a reference is of a later place than another, or of the same one at a later position.
+fn is_behind(edge: Edge, other: Edge) -> bool
+    ensures { result ≡ true → IsBehind edge other }
+{
+    edge.source > other.source || edge.source == other.source && edge.position > other.position
+}
+
+/// Whether a reference is one between so many places.
+fn is_between(edge: Edge, size: u32) -> bool
+    ensures { result ≡ true → IsBetween size edge }
+{
+    edge.source < size && edge.target < size
+}
+
+/// Whether the reference at an index is one between so many places, and behind the one before.
+fn goes_on(edges: &[Edge], i: usize, size: u32) -> bool
+    requires { i < length edges.now }
+    ensures { result ≡ true → GoesOn size edges.now i }
+{
+    is_between(edges[i], size) && (i == 0 || is_behind(edges[i], edges[i - 1]))
+}
+
+/// Whether these are references between so many places, in order.
+fn are_edges(edges: &[Edge], size: u32) -> bool
+    ensures { result ≡ true → AreEdges size edges.now }
+{
+    for i in 0..edges.len() {
+        if !goes_on(edges, i, size) {
+            return false;
+        }
+    }
+    true
+}
+
+/// References between so many places; none where they aren't in order, or where memory runs out.
+pub(crate) fn indexed(alloc: Global, edges: &[Edge], size: u32) -> Option<Edges>
+    ensures { IfSome result (AreEdges size) }
+{
+    let edges = edges.to_vec(alloc).ok()?;
+    if !are_edges(&edges, size) {
+        return None;
+    }
+    match Edges::of(alloc, size, edges) {
+        Ok(indexed) => Some(indexed),
+        Err(_) => None,
+    }
+}

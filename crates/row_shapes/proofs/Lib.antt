@@ -1,0 +1,4 @@
+mod Firsts
+mod Numbering
+mod Pending
+mod Referring

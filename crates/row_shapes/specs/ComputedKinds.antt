@@ -1,0 +1,37 @@
+-- What the code computes; no promise stands here. The first free row of each kind, by its place.
+use Rattle.std.specs.Prelude.{◌≡◌, ◌<◌, ℕ, Bool, true, false, cond, List, [], ◌∷◌, length, map, slice_get, Option, None, Some}
+use Rattle.step_values.specs.Views.{word_of}
+use Rattle.step_equal.specs.ComputedKinds.{kind_test}
+use Rattle.step_equal.specs.Rows.{Row, Kind, kind_of}
+use Rattle.row_shapes.specs.declared.kinds.RowKind.{RowKind}
+
+abbrev pub kind_seen : RowKind → Kind
+kind_seen k = (k.section, map word_of k.types.now)
+
+-- the number that stands first beside a kind
+abbrev pub first_in : List (RowKind × ℕ) → Kind → Option ℕ
+first_in [] k = None
+first_in (e ∷ es) k = cond (kind_test k (kind_seen e.0)) (Some e.1) (first_in es k)
+
+-- the number that was noted already, or else this one
+abbrev pub earlier : Option ℕ → ℕ → ℕ
+earlier None n = n
+earlier (Some m) n = m
+
+-- a free row has the number of its kind, and a pinned one that of its place
+pub record IsNumber (pinned : ℕ → Bool) (r : Row) (place number : ℕ) (old new : Kind → Option ℕ) : Type 0 where
+  pub of_pinned : pinned r.name ≡ true → number ≡ place
+  pub kept : pinned r.name ≡ true → (k : Kind) → new k ≡ old k
+  pub of_free : pinned r.name ≡ false → number ≡ earlier (old (kind_of r)) place
+  pub noted : pinned r.name ≡ false → (k : Kind) → new k ≡ cond (kind_test k (kind_of r)) (Some number) (old k)
+
+-- the numbers of the first n rows, and the first free row of each kind among them
+pub record AreNumbers (pinned : ℕ → Bool) (rows : List Row) (numbers : List ℕ) (first : Kind → Option ℕ) (n : ℕ) : Type 0
+  where
+    pub each : length numbers ≡ n
+    pub of_pinned : (i : ℕ) (r : Row) → i < n → slice_get rows i ≡ Some r → pinned r.name ≡ true
+        → slice_get numbers i ≡ Some i
+    pub of_free : (i : ℕ) (r : Row) → i < n → slice_get rows i ≡ Some r → pinned r.name ≡ false
+        → slice_get numbers i ≡ first (kind_of r)
+    pub told : (k : Kind) (m : ℕ) → first k ≡ Some m → (r : Row) × (slice_get rows m ≡ Some r)
+        × (pinned r.name ≡ false) × (kind_of r ≡ k)

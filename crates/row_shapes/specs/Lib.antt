@@ -1,0 +1,3 @@
+pub mod ComputedKinds
+pub mod References
+pub mod ComputedReferences

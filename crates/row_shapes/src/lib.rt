@@ -1,0 +1,6 @@
+//! Populations as partition refinement of places reads them: of each row, by its place, a number for what rows have to
+//! share to be one; and the references between rows, as edges between places.
+#![tactic(auto)]
+
+pub mod kinds;
+pub mod references;

@@ -1,0 +1,123 @@
+//! The kinds of rows, and their references outside bags.
+
+use crate::judged::names_of;
+use crate::populations::{Row, Rows, Sketch, Words, Written, population};
+use class_rounds::edges::Edge;
+use row_shapes::kinds::kinds;
+use row_shapes::references::references;
+use std::alloc::Global;
+use std::collections::BTreeSet;
+use std::hash::RandomState;
+use step_equal::plain::Plain;
+
+/// What is tested, a population, its pinned names, the numbers of its kinds, and its references.
+type Case = (
+    &'static str,
+    Rows,
+    &'static [u64],
+    &'static [u32],
+    &'static [Edge],
+);
+
+const POINT: Words = &[b"POINT"];
+
+const PLACEMENT: Words = &[b"PLACEMENT"];
+
+const ONE: Row<'static> = (1, 0, POINT, &[Sketch::Number(b"1.")]);
+
+const TWO: Row<'static> = (2, 0, POINT, &[Sketch::Number(b"2.")]);
+
+const ELSEWHERE: Row<'static> = (2, 1, POINT, &[Sketch::Number(b"1.")]);
+
+const AT_2: Row<'static> = (3, 0, PLACEMENT, &[Sketch::Reference(2)]);
+
+/// A placement with two points in a bag, and a list of a point and a placement.
+const AT_BOTH: Row<'static> = (
+    4,
+    0,
+    PLACEMENT,
+    &[
+        Sketch::Reference(1),
+        Sketch::Reference(2),
+        Sketch::Bag(2),
+        Sketch::Reference(1),
+        Sketch::Reference(3),
+        Sketch::Sequence(2),
+    ],
+);
+
+const PLACED: Rows = &[ONE, TWO, AT_2, AT_BOTH];
+
+const IN_TWO_SECTIONS: Rows = &[ONE, ELSEWHERE];
+
+const LINKED: &'static [Edge] = &[
+    Edge {
+        position: 0,
+        source: 2,
+        target: 1,
+    },
+    Edge {
+        position: 0,
+        source: 3,
+        target: 0,
+    },
+    Edge {
+        position: 1,
+        source: 3,
+        target: 2,
+    },
+];
+
+const CASES: &'static [Case] = &[
+    ("kinds and references", PLACED, &[], &[0, 0, 2, 2], LINKED),
+    ("a pinned row is alone", PLACED, &[1], &[0, 1, 2, 2], LINKED),
+    ("sections are kinds", IN_TWO_SECTIONS, &[], &[0, 1], &[]),
+];
+
+/// Whether the kinds of a population have these numbers.
+fn has_kinds(
+    alloc: Global,
+    keys: RandomState,
+    input: &Plain<'static>,
+    pinned: &BTreeSet<u64>,
+    numbers: &[u32],
+) -> bool {
+    match kinds(alloc, keys, input, pinned) {
+        Ok(found) => found.as_slice() == numbers,
+        Err(_) => false,
+    }
+}
+
+/// Whether a population has these references.
+fn has_references(alloc: Global, input: &Plain<'static>, edges: &[Edge]) -> bool {
+    match references(alloc, input) {
+        Ok(found) => found.as_slice() == edges,
+        Err(_) => false,
+    }
+}
+
+fn is_found(alloc: Global, keys: RandomState, case: &Case, input: &Plain<'static>) -> bool {
+    match names_of(alloc, case.2) {
+        Some(pinned) => {
+            has_kinds(alloc, keys, input, &pinned, case.3) && has_references(alloc, input, case.4)
+        }
+        None => false,
+    }
+}
+
+fn is_right(alloc: Global, keys: RandomState, case: &Case) -> bool {
+    match population(alloc, keys, Written::Rows(case.1)) {
+        Ok(input) => is_found(alloc, keys, case, &input),
+        Err(_) => false,
+    }
+}
+
+/// What is tested by the first case that isn't answered so.
+pub(crate) fn wrong_case(alloc: Global, keys: RandomState) -> Option<&'static str> {
+    for case in CASES {
+        if !is_right(alloc, keys, case) {
+            return Some(case.0);
+        }
+    }
+    None
+}
