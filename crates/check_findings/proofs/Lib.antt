@@ -1,3 +1,4 @@
 pub mod Behind
 pub mod Ruled
 pub mod Nothing
+pub mod ByVerdict

@@ -3,4 +3,4 @@
 
 pub mod findings;
 pub mod laws;
-mod rules;
+pub mod rules;

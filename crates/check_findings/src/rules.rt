@@ -30,7 +30,7 @@ use std::hash::RandomState;
 use step_extent::extents::Extents;
 
 /// There are functions and lists that say what the schema of these tables says.
-pub(crate) fn schema_is_said(
+pub fn schema_is_said(
     types: &ResolvedTypes<'_, '_>,
     rules: &RuleTables<'_>,
     domain: &DomainTables<'_, '_>,

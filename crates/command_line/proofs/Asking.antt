@@ -1,5 +1,5 @@
 -- What clap makes of the words.
-use Rattle.std.proofs.Common.{◌≡◌, ◌⊎◌, List, [], ◌∷◌, Option, Some, None, Bool, true, false, refl, sym, ap, ap₂, ◌∙◌, inl, inr, codes, option_map, true≢false, subst}
+use Rattle.std.proofs.Common.{arith, ◌≡◌, ◌⊎◌, List, [], ◌∷◌, Option, Some, None, Bool, true, false, refl, sym, ap, ap₂, ◌∙◌, inl, inr, codes, option_map, true≢false, subst}
 use Rattle.std.specs.Str.{bytes_eq}
 use Rattle.clap.specs.Kinds.{HasKind, Kinds}
 use Rattle.clap.specs.Walk.{after_step, Step, subcommand_met, idle, settled, Held, Row, Text, Walk, first_of, nothing_held, walk, walk_from, walked}
@@ -7,7 +7,7 @@ use Rattle.clap.specs.Simple.{HasMatchesOf, subcommand_rows, subcommand_rows_of,
 use Rattle.std.specs.Str.{IsUtf8}
 use Rattle.std.proofs.lemmas.Str.{IsUtf8-string_bytes}
 use Rattle.std.proofs.lemmas.Slice.Eq.{bytes_eq-Decides}
-use Rattle.std.specs.Prelude.{Box, String, map, string_bytes, option_and_then, unwrap_or, is_some}
+use Rattle.std.specs.Prelude.{Box, String, length, map, string_bytes, option_and_then, unwrap_or, is_some}
 use Rattle.clap.specs.Faults.{fault_of, is_simple_and_free, walk_fault, turn_fault}
 use Rattle.clap.specs.declared.error.kind.ErrorKind.TheVariants as kind
 use Rattle.clap.specs.declared.error.Error.{Error}
@@ -17,12 +17,14 @@ use Rattle.clap.specs.declared.parser.matches.ArgMatches.TheViews.{out-SubComman
 use Rattle.clap.specs.Values.{kind_of}
 use Rattle.std.specs.Box.{box_value}
 use Rattle.clap.proofs.OnLiterals.{clap_on_literals}
-use Rattle.command_line.specs.Clap.{file_in, files_in, name_in, stepmin_app}
+use Rattle.command_line.specs.Clap.{HasValues, Values, file_in, files_in, name_in, stepmin_app, values_in, values_of}
 use Rattle.command_line.specs.Requests.{CallFor, CallsFor, is_shown}
 use Rattle.command_line.specs.declared.usage.Refusal.{Refusal}
 use Rattle.command_line.specs.declared.usage.Refusal.TheVariants.{Shown, Usage, Memory}
-use Rattle.command_line.specs.Commands.{AreOperand, AreOperands, AsksCheck, AsksNothing, AsksPlain, IsOperand, dashes}
-use Rattle.command_line.proofs.Walking.{IsValue, at, below, below_check, check_asks, check_below, check_sub, fault_after, first_turn, is_value, names, no_option, none_first, plain_below, simple_and_free, simple_stepmin, some_kind, sub, sub_asks, top, top_asks, waits, walk_check, walk_plain}
+use Rattle.command_line.specs.Commands.{AreOfCommand, AreOperand, AreOperands, AsksCheck, AsksNothing, AsksPlain, Given, IsOperand, dashes, four}
+use Rattle.command_line.proofs.Finishing.{command, given_by, given_fits, merging_fault, merging_values}
+use Rattle.command_line.proofs.Giving.{Fitting}
+use Rattle.command_line.proofs.Walking.{AreTexts, IsValue, at, below, below_check, check_asks, check_below, check_sub, fault_after, first_turn, is_value, names, no_option, none_first, plain_below, simple_and_free, simple_stepmin, some_kind, sub, sub_asks, top, top_asks, waits, walk_check, walk_plain}
 
 -- ---- the words that ask for something
 
@@ -41,9 +43,9 @@ none_at_all e = some_kind _ _ e
 
 -- the first word is a command
 is_command : (program w : Text) (rest : List Text) → IsUtf8 w → fault_of stepmin_app (program ∷ w ∷ rest) ≡ []
-    → (codes "plain" ≡ w) ⊎ (codes "check" ≡ w)
-is_command program w rest text e =
-    go (bytes_eq (codes "plain") w) (bytes_eq (codes "check") w) (bytes_eq (codes "help") w) refl refl refl
+    → (codes "plain" ≡ w) ⊎ ((codes "check" ≡ w) ⊎ ((b : Bool) × (command b ≡ w)))
+is_command program w rest text e = go (bytes_eq (codes "plain") w) (bytes_eq (codes "check") w)
+    (bytes_eq (codes "shrink") w) (bytes_eq (codes "verify") w) (bytes_eq (codes "help") w) refl refl refl refl refl
   where
     turn : turn_fault top names (walk_from nothing_held) w ≡ []
     turn = (first_turn top names (walk_from nothing_held) w rest
@@ -56,12 +58,17 @@ is_command program w rest text e =
       | inr is ↦ some_kind _ _ is.fits
     ]
 
-    go : (p c h : Bool) → bytes_eq (codes "plain") w ≡ p → bytes_eq (codes "check") w ≡ c
-        → bytes_eq (codes "help") w ≡ h → (codes "plain" ≡ w) ⊎ (codes "check" ≡ w)
-    go true c h is _ _ = inl ((bytes_eq-Decides (codes "plain") w).0 is)
-    go false true h _ is _ = inr ((bytes_eq-Decides (codes "check") w).0 is)
-    go false false true no_plain no_check is = absurd (some_kind _ _ (rw (no_plain, no_check, is) at turn))
-    go false false false no_plain no_check no_help = absurd (other (rw (no_plain, no_check, no_help) refl))
+    go : (p c s v h : Bool) → bytes_eq (codes "plain") w ≡ p → bytes_eq (codes "check") w ≡ c
+        → bytes_eq (codes "shrink") w ≡ s → bytes_eq (codes "verify") w ≡ v → bytes_eq (codes "help") w ≡ h
+        → (codes "plain" ≡ w) ⊎ ((codes "check" ≡ w) ⊎ ((b : Bool) × (command b ≡ w)))
+    go true c s v h is _ _ _ _ = inl ((bytes_eq-Decides (codes "plain") w).0 is)
+    go false true s v h _ is _ _ _ = inr (inl ((bytes_eq-Decides (codes "check") w).0 is))
+    go false false true v h _ _ is _ _ = inr (inr (true, (bytes_eq-Decides (codes "shrink") w).0 is))
+    go false false false true h _ _ _ is _ = inr (inr (false, (bytes_eq-Decides (codes "verify") w).0 is))
+    go false false false false true no_plain no_check no_shrink no_verify is =
+        absurd (some_kind _ _ (rw (no_plain, no_check, no_shrink, no_verify, is) at turn))
+    go false false false false false no_plain no_check no_shrink no_verify no_help =
+        absurd (other (rw (no_plain, no_check, no_shrink, no_verify, no_help) refl))
 
 -- the level below holds FILE
 abbrev held : Text → Walk
@@ -87,10 +94,6 @@ not_dashes_alone e = some_kind _ _ e
 not_nothing : below [] ≡ [] → ⊥
 unfolding clap_on_literals
 not_nothing e = some_kind _ _ e
-
-abbrev pub AreTexts : List Text → Type 0
-AreTexts [] = Unit {0}
-AreTexts (w ∷ ws) = IsUtf8 w × AreTexts ws
 
 behind_dashes : (rest : List Text) → below (dashes ∷ rest) ≡ [] → (path : Text) × AreOperand (dashes ∷ rest) path
 behind_dashes [] e = absurd (not_dashes_alone e)
@@ -246,33 +249,43 @@ two_operands (w ∷ rest) texts e =
           before rest ≡ []) (holds_schema w schema) turn.1)
     ]
 
--- the words ask for a file, or for a check
-abbrev pub AsksEither : List Text → Type 0
-AsksEither words = ((path : Text) × AsksPlain words path)
-    ⊎ ((schema : Text) × (file : Text) × AsksCheck words schema file)
+-- the words are those of a command
+pub data AreAny (words : List Text) : Type 0 where
+  any_plain : (path : Text) → AsksPlain words path → AreAny words
+  any_check : (schema file : Text) → AsksCheck words schema file → AreAny words
+  any_merging : (b : Bool) (all : Given) → AreOfCommand words (command b) all → Fitting b all → length all.operands ≡ 4
+      → AreAny words
 
--- where clap finds no fault, they do
-pub asked : (words : List Text) → AreTexts words → fault_of stepmin_app words ≡ [] → AsksEither words
+-- where clap finds no fault, they are
+pub asked : (words : List Text) → AreTexts words → fault_of stepmin_app words ≡ [] → AreAny words
 asked [] texts e = absurd (none_at_all e)
 asked (program ∷ []) texts e = absurd (not_none program e)
 asked (program ∷ w ∷ rest) texts e = elim (is_command program w rest texts.1.0 e) [
-  | inl plain ↦ inl (one plain)
-  | inr check ↦ inr (two check)
+  | inl is ↦ one is
+  | inr (inl is) ↦ two is
+  | inr (inr is) ↦ four is.0 is.1
 ]
   where
-    one : codes "plain" ≡ w → (path : Text) × AsksPlain (program ∷ w ∷ rest) path
-    one plain =
+    one : codes "plain" ≡ w → AreAny (program ∷ w ∷ rest)
+    one is =
         let below_fits = sym (plain_below program rest) ∙ subst (λ v. fault_of stepmin_app (program ∷ v ∷ rest) ≡ [])
-        (sym plain) e in
+        (sym is) e in
         let found = operands rest texts.1.1 below_fits in
-        (found.0, (program, rest, ap (λ v. program ∷ v ∷ rest) (sym plain), found.1))
+        any_plain found.0 (program, rest, ap (λ v. program ∷ v ∷ rest) (sym is), found.1)
 
-    two : codes "check" ≡ w → (schema : Text) × (file : Text) × AsksCheck (program ∷ w ∷ rest) schema file
-    two check =
+    two : codes "check" ≡ w → AreAny (program ∷ w ∷ rest)
+    two is =
         let below_fits = sym (check_below program rest) ∙ subst (λ v. fault_of stepmin_app (program ∷ v ∷ rest) ≡ [])
-        (sym check) e in
+        (sym is) e in
         let found = two_operands rest texts.1.1 below_fits in
-        (found.0, found.1, (program, rest, ap (λ v. program ∷ v ∷ rest) (sym check), found.2))
+        any_check found.0 found.1 (program, rest, ap (λ v. program ∷ v ∷ rest) (sym is), found.2)
+
+    four : (b : Bool) → command b ≡ w → AreAny (program ∷ w ∷ rest)
+    four b is =
+        let fits = sym (merging_fault b program rest) ∙ subst (λ v. fault_of stepmin_app (program ∷ v ∷ rest) ≡ [])
+        (sym is) e in
+        let found = given_by b rest texts.1.1 fits in
+        any_merging b found.0 (program, rest, ap (λ v. program ∷ v ∷ rest) (sym is), found.1) found.2 found.3
 
 -- words ask for one of both
 pub not_both : (words : List Text) (path schema file : Text) → AsksPlain words path → AsksCheck words schema file → ⊥
@@ -390,15 +403,38 @@ checked_once words p q r s a b =
     λ o. unwrap_or (option_and_then (λ x. x.2) o) q in
     (ap first same, ap second same)
 
--- the words ask for something, or for nothing
-pub asks_or_not : (words : List Text) → AreTexts words → AsksEither words ⊎ AsksNothing words
+-- words of a command that merges fit, and give these values
+pub merging_fits : (words : List Text) (b : Bool) (all : Given) → AreOfCommand words (command b) all → Fitting b all
+    → length all.operands ≡ 4 → fault_of stepmin_app words ≡ []
+merging_fits words b all of fits are = subst (λ ws. fault_of stepmin_app ws ≡ []) (sym of.2)
+    (merging_fault b of.0 of.1 ∙ (given_fits b of.1 all of.3 fits are).0)
+
+pub merging_found : (words : List Text) (b : Bool) (all : Given) → AreOfCommand words (command b) all → Fitting b all
+    → length all.operands ≡ 4 → HasValues (subcommand_of stepmin_app words) (command b) (values_of b all)
+merging_found words b all of fits are =
+    subst (λ ws. HasValues (subcommand_of stepmin_app ws) (command b) (values_of b all)) (sym of.2)
+    (merging_values b of.0 of.1 all (given_fits b of.1 all of.3 fits are).1)
+
+-- four operands fit
+pub four_fit : (b : Bool) (schema file output certificate : Text) (merge : Option Text) (strict : Bool)
+    → (b ≡ false → strict ≡ false) → Fitting b (four schema file output certificate merge strict)
+four_fit b schema file output certificate merge strict takes = (omega arith, takes)
+
+-- the words ask for something, or say what can't be meant, or ask for nothing
+pub asks_or_not : (words : List Text) → AreTexts words → AreAny words ⊎ AsksNothing words
 asks_or_not words texts = go (fault_of stepmin_app words) refl
   where
-    go : (kinds : Kinds) → fault_of stepmin_app words ≡ kinds → AsksEither words ⊎ AsksNothing words
+    go : (kinds : Kinds) → fault_of stepmin_app words ≡ kinds → AreAny words ⊎ AsksNothing words
     go [] none = inl (asked words texts none)
     go (k ∷ ks) some = inr (
       (λ path asks. some_kind k ks (sym some ∙ asked_fits words path asks)),
       (λ schema file asks. some_kind k ks (sym some ∙ check_fits words schema file asks)),
+      (λ schema file output certificate merge strict asks. some_kind k ks (sym some
+          ∙ merging_fits words true (four schema file output certificate merge strict) asks.0
+          (four_fit true schema file output certificate merge strict (λ e. absurd (true≢false e))) refl)),
+      (λ schema file output certificate merge asks. some_kind k ks (sym some
+          ∙ merging_fits words false (four schema file output certificate merge false) asks.0
+          (four_fit false schema file output certificate merge false (λ e. refl)) refl)),
     )
 
 pub are_texts : {Z : Type 0} (words : List (String Z)) → AreTexts (map string_bytes words)
@@ -407,12 +443,20 @@ are_texts (w ∷ ws) = (IsUtf8-string_bytes w, are_texts ws)
 
 -- ---- what clap answers
 
--- the words ask for a file, which is what was found, or for a check, and its files were
-abbrev pub Finds : List Text → ArgMatches → Type 0
-Finds words m =
-    ((path : Text) × AsksPlain words path × (file_in (subcommand_rows_of m) ≡ Some (codes "plain", Some path)))
-    ⊎ ((schema : Text) × (file : Text) × AsksCheck words schema file
-    × (files_in (subcommand_rows_of m) ≡ Some (codes "check", Some schema, Some file)))
+-- what is said of the command that was met has its name
+name_of : {T : Type 0} (g : Text × List Row → T) (h : T → Text) (x : T) (o : Option (Text × List Row))
+    → ((p : Text × List Row) → p.0 ≡ h (g p)) → option_map g o ≡ Some x → name_in o ≡ Some (h x)
+name_of g h x None same is = absurd (true≢false (sym (ap is_some is)))
+name_of g h x (Some p) same is = ap Some (same p) ∙ ap (option_map h) is
+
+-- the words are those of a command, and its values were found
+pub data Finds (words : List Text) (m : ArgMatches) : Type 0 where
+  found_plain : (path : Text) → AsksPlain words path → file_in (subcommand_rows_of m) ≡ Some (codes "plain", Some path)
+      → Finds words m
+  found_check : (schema file : Text) → AsksCheck words schema file
+      → files_in (subcommand_rows_of m) ≡ Some (codes "check", Some schema, Some file) → Finds words m
+  found_merging : (b : Bool) (all : Given) → AreOfCommand words (command b) all → Fitting b all → length all.operands ≡ 4
+      → HasValues (subcommand_rows_of m) (command b) (values_of b all) → Finds words m
 
 -- a parse that succeeds is of such words
 pub parsed : (app : App) (words : List Text) (m : ArgMatches) → app ≡ stepmin_app → AreTexts words
@@ -423,19 +467,29 @@ parsed app words m is texts fits matches = by (asked words texts (ap (λ a. faul
     simple : is_simple app ≡ true
     simple = ap is_simple is ∙ simple_stepmin
 
-    by : AsksEither words → Finds words m
-    by (inl found) = inl (
-      found.0,
-      found.1,
-      ap file_in ((matches simple).1 ∙ ap (λ a. subcommand_of a words) is) ∙ asked_file words found.0 found.1,
-    )
-    by (inr check) = inr (
-      check.0,
-      check.1,
-      check.2,
-      ap files_in ((matches simple).1 ∙ ap (λ a. subcommand_of a words) is)
-          ∙ asked_files words check.0 check.1 check.2,
-    )
+    rows : subcommand_rows_of m ≡ subcommand_of stepmin_app words
+    rows = (matches simple).1 ∙ ap (λ a. subcommand_of a words) is
+
+    by : AreAny words → Finds words m
+    by (any_plain path asks) = found_plain path asks (ap file_in rows ∙ asked_file words path asks)
+    by (any_check schema file asks) = found_check schema file asks (ap files_in rows ∙ asked_files words schema file asks)
+    by (any_merging b all of few are) = found_merging b all of few are
+        (subst (λ o. HasValues o (command b) (values_of b all)) (sym rows) (merging_found words b all of few are))
+
+-- the name of the command that was met
+abbrev pub met_name : {words : List Text} {m : ArgMatches} → Finds words m → Text
+met_name (found_plain path asks is) = codes "plain"
+met_name (found_check schema file asks is) = codes "check"
+met_name (found_merging b all of fits are is) = command b
+
+pub met_is : {words : List Text} {m : ArgMatches} (f : Finds words m) → name_in (subcommand_rows_of m) ≡ Some (met_name f)
+met_is {m = m} (found_plain path asks is) = name_of {T = Text × Option Text} (λ p. (p.0, first_of (codes "FILE") p.1)) (λ q. q.0)
+    (codes "plain", Some path) (subcommand_rows_of m) (λ p. refl) is
+met_is {m = m} (found_check schema file asks is) = name_of {T = Text × Option Text × Option Text}
+    (λ p. (p.0, first_of (codes "SCHEMA") p.1, first_of (codes "FILE") p.1)) (λ q. q.0)
+    (codes "check", Some schema, Some file) (subcommand_rows_of m) (λ p. refl) is
+met_is {m = m} (found_merging b all of fits are is) = name_of {T = Text × Values} (λ p. (p.0, values_in p.1)) (λ q. q.0)
+    (command b, values_of b all) (subcommand_rows_of m) (λ p. refl) is
 
 -- a parse that fails does so for want of memory, or by a kind that is due
 fails : (app : App) (words : List Text) (e : Error) → app ≡ stepmin_app
@@ -463,7 +517,7 @@ refused_calls app words e refusal is due = calls refusal (fails app words e is d
     calls (Shown text) (inl memory) shown = absurd (true≢false (sym shown ∙ ap is_shown memory))
     calls (Shown text) (inr among) shown = (kind_of e, among, shown)
     calls (Usage text) (inl memory) other = absurd (other.1 memory)
-    calls (Usage text) (inr among) other = (kind_of e, among, other.0)
+    calls (Usage text) (inr among) other = inl (kind_of e, among, other.0)
     calls Memory among other = tt
 
 -- the matches of the subcommand have its FILE
@@ -481,12 +535,6 @@ pub same_name : {Z : Type 0} (o : Option (Box SubCommand Z))
     → option_map (λ b. (out-SubCommand (box_value b)).name.now) o ≡ name_in (subcommand_rows o)
 same_name None = refl
 same_name (Some b) = refl
-
--- the name of the command whose files were found
-pub checked_name : (o : Option (Text × List Row)) (schema file : Text)
-    → files_in o ≡ Some (codes "check", Some schema, Some file) → name_in o ≡ Some (codes "check")
-checked_name None schema file found = absurd (true≢false (sym (ap is_some found)))
-checked_name (Some p) schema file found = ap (option_map (λ q. q.0)) found
 
 -- the matches of the subcommand have its SCHEMA and its FILE
 pub files_among : (o : Option (Text × List Row)) (schema file : Text) (rows : List Row)

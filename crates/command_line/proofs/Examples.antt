@@ -1,10 +1,10 @@
 -- The words of the command line, on examples.
-use Rattle.std.proofs.Common.{◌≡◌, ℕ, List, [], ◌∷◌, codes, inl, inr, refl}
+use Rattle.std.proofs.Common.{◌≡◌, ℕ, List, [], ◌∷◌, Some, None, true, codes, inl, inr, refl, arith}
 use Rattle.clap.specs.Faults.{fault_of}
 use Rattle.clap.specs.declared.error.kind.ErrorKind.TheVariants as kind
 use Rattle.clap.proofs.OnLiterals.{clap_on_literals}
 use Rattle.command_line.specs.Clap.{stepmin_app}
-use Rattle.command_line.specs.Commands.{AsksPlain}
+use Rattle.command_line.specs.Commands.{AsksPlain, AsksShrink, clash, merge_option, one_operand, only_operands, strict_option}
 
 abbrev program : List ℕ
 program = codes "stepmin"
@@ -45,3 +45,42 @@ version_below = refl
 help_below : fault_of stepmin_app (program ∷ codes "plain" ∷ codes "F" ∷ codes "-h" ∷ []) ≡ kind.DisplayHelp ∷ []
 unfolding clap_on_literals
 help_below = refl
+
+-- `stepmin shrink S --strict F --merge P,Q O -- -C`
+options_anywhere : AsksShrink (program ∷ codes "shrink" ∷ codes "S" ∷ codes "--strict" ∷ codes "F" ∷ codes "--merge"
+    ∷ codes "P,Q" ∷ codes "O" ∷ codes "--" ∷ codes "-C" ∷ []) (codes "S") (codes "F") (codes "O") (codes "-C")
+    (Some (codes "P,Q")) true
+options_anywhere = (
+  (
+    program,
+    _,
+    refl,
+    one_operand tt (strict_option refl (one_operand tt
+        (merge_option refl (λ e. omega (arith, e)) (one_operand tt only_operands)))),
+  ),
+  refl,
+)
+
+one_path_for_both : clash (codes "O") (codes "O") None ≡ Some (codes "error: OUT and CERT are the same\n")
+one_path_for_both = refl
+
+empty_name : clash (codes "O") (codes "C") (Some (codes "P,,Q")) ≡ Some (codes "error: a name in NAMES is empty\n")
+empty_name = refl
+
+no_names : clash (codes "O") (codes "C") (Some []) ≡ Some (codes "error: a name in NAMES is empty\n")
+no_names = refl
+
+strict_verify : fault_of stepmin_app (program ∷ codes "verify" ∷ codes "S" ∷ codes "F" ∷ codes "O" ∷ codes "C"
+    ∷ codes "--strict" ∷ []) ≡ kind.UnknownArgument ∷ []
+unfolding clap_on_literals
+strict_verify = refl
+
+merge_twice : fault_of stepmin_app (program ∷ codes "shrink" ∷ codes "--merge=P" ∷ codes "S" ∷ codes "F" ∷ codes "O"
+    ∷ codes "C" ∷ codes "--merge" ∷ codes "Q" ∷ []) ≡ kind.ArgumentConflict ∷ []
+unfolding clap_on_literals
+merge_twice = refl
+
+names_left_out : fault_of stepmin_app (program ∷ codes "shrink" ∷ codes "S" ∷ codes "F" ∷ codes "O" ∷ codes "C"
+    ∷ codes "--merge" ∷ []) ≡ kind.InvalidValue ∷ []
+unfolding clap_on_literals
+names_left_out = refl

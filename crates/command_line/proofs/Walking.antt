@@ -47,7 +47,7 @@ pub none_first : (a b : Kinds) → or_else a b ≡ [] → a ≡ []
 none_first [] b e = refl
 none_first (k ∷ ks) b e = absurd (some_kind k ks e)
 
-none_second : (a b : Kinds) → or_else a b ≡ [] → b ≡ []
+pub none_second : (a b : Kinds) → or_else a b ≡ [] → b ≡ []
 none_second [] b e = e
 none_second (k ∷ ks) b e = absurd (some_kind k ks e)
 
@@ -56,13 +56,13 @@ none_second (k ∷ ks) b e = absurd (some_kind k ks e)
 abbrev pub stopped : Text → List Text → Walk
 stopped name earlier = record (walk_from nothing_held) { stopped = Some (name, earlier) }
 
-walk_stopped : (s : Shape) (ns : Names) (name : Text) (earlier rest : List Text)
+pub walk_stopped : (s : Shape) (ns : Names) (name : Text) (earlier rest : List Text)
     → walk_fault s ns (stopped name earlier) rest ≡ []
 unfolding walk_fault walked
 walk_stopped s ns name earlier [] = refl
 walk_stopped s ns name earlier (w ∷ ws) = walk_stopped s ns name (earlier ++ w ∷ []) ws
 
-fold_stopped : (c : List Rule) (ns : Names) (name : Text) (earlier rest : List Text)
+pub fold_stopped : (c : List Rule) (ns : Names) (name : Text) (earlier rest : List Text)
     → fold (walked c ns) (stopped name earlier) rest ≡ stopped name (earlier ++ rest)
 unfolding walked
 fold_stopped c ns name earlier [] = ap (stopped name) (sym (append-nil earlier))
@@ -86,7 +86,7 @@ abbrev pub below_check : List Text → Kinds
 below_check operands = level_fault check_sub [] nothing_held operands false []
 
 -- what is left to fail behind a walk over the words
-abbrev after : Walk → Kinds → Kinds
+abbrev pub after : Walk → Kinds → Kinds
 after w faults =
     let a = built stepmin_app in
     or_else faults
@@ -108,7 +108,7 @@ walk_check_fault : (operands : List Text) → walk_fault top names (walk_from no
 unfolding clap_on_literals
 walk_check_fault operands = walk_stopped top names (codes "check") [] operands
 
-only_first : (a : Kinds) → or_else a [] ≡ a
+pub only_first : (a : Kinds) → or_else a [] ≡ a
 only_first [] = refl
 only_first (k ∷ ks) = refl
 
@@ -136,7 +136,7 @@ check_below program operands =
 -- ---- the words that are read
 
 -- how a word begins
-abbrev Begins : Text → Type 0
+abbrev pub Begins : Text → Type 0
 Begins word = IsOperand word ⊎ ((word ≡ dashes) ⊎ (((z : ℕ) × (zs : List ℕ) × (word ≡ 45 ∷ 45 ∷ z ∷ zs))
     ⊎ ((y : ℕ) × (ys : List ℕ) × ((y == 45) ≡ false) × (word ≡ 45 ∷ y ∷ ys))))
 
@@ -150,7 +150,7 @@ begins_hyphen y ys = elim (eqb_tells y 45) [
     second y [] e = inr (inl (ap (λ n. 45 ∷ n ∷ []) e))
     second y (z ∷ zs) e = inr (inr (inl (z, zs, ap (λ n. 45 ∷ n ∷ z ∷ zs) e)))
 
-begins : (word : Text) → Begins word
+pub begins : (word : Text) → Begins word
 begins [] = inl tt
 begins (x ∷ []) = inl tt
 begins (x ∷ y ∷ ys) = elim (eqb_tells x 45) [
@@ -179,12 +179,16 @@ abbrev pub AsksIf : Option Rule → Type 0
 AsksIf None = Unit {0}
 AsksIf (Some flag) = Asks flag
 
+-- each short flag asks for a text
+abbrev pub AsksShort : List Rule → Type 0
+AsksShort c = (x : ℕ) → AsksIf (arg_by_short c x)
+
 -- each flag asks for a text
 pub record AsksOnly (c : List Rule) : Type 0 where
   pub long : (name : Text) → AsksIf (arg_by_long c name)
-  pub short : (x : ℕ) → AsksIf (arg_by_short c x)
+  pub short : AsksShort c
 
-help_asks : Asks (with_index 1 (filled help_rule))
+pub help_asks : Asks (with_index 1 (filled help_rule))
 help_asks = record { alone = refl; used = λ again rows e. some_kind _ _ e }
 
 version_asks : Asks (with_index 1 (filled version_rule))
@@ -227,7 +231,7 @@ asks_refused : (c : List Rule) (again : Bool) (flag : Rule) (h : Held) → Asks 
 asks_refused c again flag h asks e = asks.used again (settled c h).rows (none_second (settle_fault c again h)
     (use_fault again flag [] (settled c h).rows) e)
 
-long_refused : (c : List Rule) (again : Bool) (found : Option Rule) (v : Option Text) (h : Held) → AsksIf found
+pub long_refused : (c : List Rule) (again : Bool) (found : Option Rule) (v : Option Text) (h : Held) → AsksIf found
     → long_fault c again found v h ≡ [] → ⊥
 long_refused c again None v h asks e = some_kind _ _ e
 long_refused c again (Some flag) (Some x) h asks e = some_kind _ _ (rw asks.alone at e)
@@ -240,7 +244,7 @@ short_refused c again (Some flag) rest h next asks e = asks_refused c again flag
     (none_first (react_fault c again flag [] h) (next (reacted c flag [] h)) (rw asks.alone at e))
 
 -- one hyphen begins no option only where no character follows it
-flags_refused : (c : List Rule) (again : Bool) (k : ℕ) (flags : Text) (h : Held) → AsksOnly c
+pub flags_refused : (c : List Rule) (again : Bool) (k : ℕ) (flags : Text) (h : Held) → AsksShort c
     → flags_fault c again (suc k) flags 0 h ≡ [] → slice_get (chars flags) 0 ≡ None
 unfolding flags_fault
 flags_refused c again k flags h only e = go (slice_get (chars flags) 0) e
@@ -248,7 +252,7 @@ flags_refused c again k flags h only e = go (slice_get (chars flags) 0) e
     go : (o : Option ℕ) → bundle_step_fault c again o flags 0 h (flags_fault c again k) ≡ [] → o ≡ None
     go None e = refl
     go (Some x) e = absurd (short_refused c again (arg_by_short c x) (drop (length (encode_utf8 x)) flags) h
-        (flags_fault c again k (drop (length (encode_utf8 x)) flags) 0) (only.short x) e)
+        (flags_fault c again k (drop (length (encode_utf8 x)) flags) 0) (only x) e)
 
 -- ---- a word that is no option
 
@@ -265,12 +269,12 @@ pub record IsValue (s : Shape) (ns : Names) (h : Held) (p : ℕ) (w : Text) : Ty
   pub fits : step_fault s p h value ≡ []
 
 -- one hyphen and more, as clap sees it
-record LooksShort (w flags : Text) : Type 0 where
+pub record LooksShort (w flags : Text) : Type 0 where
   pub long : long_of w ≡ None
   pub short : short_of w ≡ Some flags
   pub dash : bytes_eq w dashes ≡ false
 
-looks_short : (y : ℕ) (ys : List ℕ) → (y == 45) ≡ false → LooksShort (45 ∷ y ∷ ys) (y ∷ ys)
+pub looks_short : (y : ℕ) (ys : List ℕ) → (y == 45) ≡ false → LooksShort (45 ∷ y ∷ ys) (y ∷ ys)
 looks_short y ys e = record { long = rw e refl; short = rw e refl; dash = rw e refl }
 
 no_chars : (xs : List ℕ) → slice_get xs 0 ≡ None → xs ≡ []
@@ -278,7 +282,7 @@ no_chars [] e = refl
 no_chars (x ∷ xs) e = absurd (true≢false (ap is_some e))
 
 -- a character follows
-cut_text : (y : ℕ) (ys : List ℕ) → IsUtf8 (45 ∷ y ∷ ys) → slice_get (chars (y ∷ ys)) 0 ≡ None → ⊥
+pub cut_text : (y : ℕ) (ys : List ℕ) → IsUtf8 (45 ∷ y ∷ ys) → slice_get (chars (y ∷ ys)) 0 ≡ None → ⊥
 unfolding chars
 cut_text y ys text e =
     let all : encodes (45 ∷ chars (y ∷ ys)) ≡ 45 ∷ y ∷ ys = encodes-chars (45 ∷ y ∷ ys) text in
@@ -330,7 +334,7 @@ is_value s ns rows pending p w only text none e = elim (begins w) [
         let sh = looks.short in
         let f : bundle_fault s.rules s.args_override_self (y ∷ ys) (waits rows pending) ≡ [] =
         rw (none, looks.dash, l, sh) at word_fits in
-        cut_text y ys text (flags_refused s.rules s.args_override_self (length ys) (y ∷ ys) (waits rows pending) only f)
+        cut_text y ys text (flags_refused s.rules s.args_override_self (length ys) (y ∷ ys) (waits rows pending) only.short f)
 
 pub first_turn : (s : Shape) (ns : Names) (before : Walk) (w : Text) (rest : List Text)
     → walk_fault s ns before (w ∷ rest) ≡ []
@@ -341,3 +345,7 @@ first_turn s ns before w rest e = (
   none_second (turn_fault s ns before w) _
       e,
 )
+
+abbrev pub AreTexts : List Text → Type 0
+AreTexts [] = Unit {0}
+AreTexts (w ∷ ws) = IsUtf8 w × AreTexts ws

@@ -1,20 +1,25 @@
 -- What the reader of the words answers.
-use Rattle.std.specs.Prelude.{◌≡◌, ℕ, List, Bool, true, false, string_bytes}
+use Rattle.std.specs.Prelude.{◌≡◌, ◌⊎◌, ℕ, List, Bool, true, false, Option, None, Some, Result, Ok, Err, string_bytes}
 use Rattle.clap.specs.Kinds.{IsAmong}
 use Rattle.clap.specs.Faults.{fault_of}
 use Rattle.clap.specs.declared.error.kind.ErrorKind.{ErrorKind}
 use Rattle.clap.specs.declared.error.kind.ErrorKind.TheVariants.{DisplayHelp, DisplayVersion, OutOfMemory}
 use Rattle.command_line.specs.Clap.{stepmin_app}
-use Rattle.command_line.specs.Commands.{AsksPlain, AsksCheck}
+use Rattle.command_line.specs.Commands.{AsksPlain, AsksCheck, AsksShrink, AsksVerify, AsksClashing}
+use Rattle.command_line.specs.AskedMerges.{text_of}
 use Rattle.command_line.specs.declared.usage.Refusal.{Refusal}
 use Rattle.command_line.specs.declared.usage.Refusal.TheVariants.{Shown, Usage, Memory}
 use Rattle.command_line.specs.declared.usage.Request.{Request}
-use Rattle.command_line.specs.declared.usage.Request.TheVariants.{Plain, Check}
+use Rattle.command_line.specs.declared.usage.Request.TheVariants.{Plain, Check, Shrink, Verify}
 
 -- The words ask for this.
 abbrev pub AskFor : List (List ℕ) → Request → Type 0
 AskFor words (Plain path) = AsksPlain words path.now
 AskFor words (Check schema file) = AsksCheck words schema.now file.now
+AskFor words (Shrink asked) = AsksShrink words asked.schema.now asked.file.now asked.output.now asked.certificate.now
+    (text_of asked.merge) asked.strict
+AskFor words (Verify asked) = AsksVerify words asked.schema.now asked.file.now asked.output.now asked.certificate.now
+    (text_of asked.merge)
 
 -- what ends the reading of the words is no mistake, but a call for a text: for help, or for the version
 abbrev pub is_shown : ErrorKind → Bool
@@ -30,10 +35,11 @@ AsksText words = (kind : ErrorKind) × IsAmong kind (fault_of stepmin_app words)
 abbrev pub AsksWrongly : List (List ℕ) → Type 0
 AsksWrongly words = (kind : ErrorKind) × IsAmong kind (fault_of stepmin_app words) × (is_shown kind ≡ false)
 
--- The words call for this refusal. Memory runs out with any.
+-- The words call for this refusal: clap finds a fault in them, or the program itself does, which says so. Memory runs out
+-- with any.
 abbrev pub CallFor : List (List ℕ) → Refusal → Type 0
 CallFor words (Shown text) = AsksText words
-CallFor words (Usage text) = AsksWrongly words
+CallFor words (Usage text) = AsksWrongly words ⊎ AsksClashing words (string_bytes text)
 CallFor words Memory = Unit {0}
 
 -- The same, of the kind of clap's error.
@@ -47,3 +53,8 @@ abbrev pub SaysUsage : List ℕ → Refusal → Type 0
 SaysUsage said (Usage text) = string_bytes text ≡ said
 SaysUsage said Memory = Unit {0}
 SaysUsage said (Shown text) = ⊥
+
+-- The program itself says something of the words, or nothing, and the answer is so.
+abbrev pub Settles : {X : Type 0} → Option (List ℕ) → X → Result X Refusal → Type 0
+Settles said asked (Ok answer) = (said ≡ None) × (answer ≡ asked)
+Settles said asked (Err refusal) = (text : List ℕ) × (said ≡ Some text) × SaysUsage text refusal

@@ -2,4 +2,5 @@
 #![tactic(auto)]
 
 pub mod folder;
+pub mod merging;
 pub mod usage;

@@ -3,7 +3,9 @@
 ghost use Rattle.std.specs.Prelude.{
   ◌≡◌,
   ℕ,
+  Bool,
   List,
+  Option,
   Some,
   false,
   IfOk,
@@ -28,10 +30,19 @@ ghost use Rattle.command_line.specs.Clap.{
   schema_rule,
   stepmin_app,
 };
-ghost use Rattle.command_line.specs.Commands.{AsksCheck, AsksPlain, texts};
-ghost use Rattle.command_line.specs.Requests.{AskFor, CallFor, CallsFor, SaysUsage, is_shown};
+ghost use Rattle.command_line.specs.Commands.{AsksCheck, AsksPlain, AsksShrink, AsksVerify, texts};
+ghost use Rattle.command_line.specs.AskedMerges.{text_of};
+ghost use Rattle.command_line.specs.Requests.{
+  AskFor,
+  CallFor,
+  CallsFor,
+  SaysUsage,
+  Settles,
+  is_shown,
+};
 ghost use Rattle.command_line.specs.declared.usage.Refusal.TheVariants.{Memory};
 
+use crate::merging::{ShrinkRequest, VerifyRequest, clash, shrink, shrink_in, verify, verify_in};
 use clap::error::ErrorKind;
 use clap::{Arg, ArgAction, ArgMatches, Command, Error};
 use std::alloc::{AllocError, Global};
@@ -47,7 +58,8 @@ const STATUSES: &str = "Exit status:\n  \
     2  the text of a file or a schema can't be read\n  \
     3  the words of the command line are wrong\n  \
     4  a device fails\n  \
-    5  memory runs out";
+    5  memory runs out\n  \
+    6  the certificate is refused";
 
 /// What is asked for.
 #[derive(Clone, Copy, Debug, PartialEq, Eq)]
@@ -56,6 +68,10 @@ pub enum Request<'p> {
     Plain(&'p str),
     /// Whether the file of the second path conforms to the schema of the first.
     Check(&'p str, &'p str),
+    /// A smaller file, and its certificate.
+    Shrink(ShrinkRequest<'p>),
+    /// Whether a certificate is one of a file and of a smaller one.
+    Verify(VerifyRequest<'p>),
 }
 
 /// Why nothing is done.
@@ -78,7 +94,7 @@ impl From<AllocError> for Refusal {
 }
 
 // The argument FILE.
-fn file<'a>(alloc: Global) -> Arg<'a>
+pub(crate) fn file<'a>(alloc: Global) -> Arg<'a>
     ensures rule { rule_of result ≡ file_rule }
     ensures local { result.global ≡ false }
 {
@@ -89,7 +105,7 @@ fn file<'a>(alloc: Global) -> Arg<'a>
 }
 
 // The argument SCHEMA.
-fn schema<'a>(alloc: Global) -> Arg<'a>
+pub(crate) fn schema<'a>(alloc: Global) -> Arg<'a>
     ensures rule { rule_of result ≡ schema_rule }
     ensures local { result.global ≡ false }
 {
@@ -126,13 +142,17 @@ fn stepmin<'a>(alloc: Global) -> Result<Command<'a>, AllocError>
 {
     let plain = plain(alloc)?;
     let check = check(alloc)?;
+    let shrink = shrink(alloc)?;
+    let verify = verify(alloc)?;
     Command::new(alloc, "stepmin")
         .about("Reads STEP files (ISO 10303-21)")
         .version(VERSION)
         .after_help(STATUSES)
         .subcommand_required(true)
         .subcommand(plain)?
-        .subcommand(check)
+        .subcommand(check)?
+        .subcommand(shrink)?
+        .subcommand(verify)
 }
 
 // The FILE of `plain`.
@@ -147,7 +167,9 @@ fn path_in<'p>(matches: &ArgMatches<'p>) -> Option<&'p str>
 
 // The SCHEMA and the FILE of `check`.
 fn paths_in<'p>(matches: &ArgMatches<'p>) -> Option<(&'p str, &'p str)>
-    ensures { (schema : List ℕ) → (file : List ℕ)
+    ensures command { IfSome result
+        (λ _. subcommand_name_of matches.now ≡ Some (codes "check")) }
+    ensures files { (schema : List ℕ) → (file : List ℕ)
         → HasFiles (subcommand_rows_of matches.now) schema file
         → IfSome result (λ paths. (paths.0.now ≡ schema) × (paths.1.now ≡ file)) }
 {
@@ -190,6 +212,20 @@ fn usage(alloc: Global, text: &str) -> Refusal
     }
 }
 
+// What is asked for, where the program itself says nothing of it.
+fn settled<'p>(
+    alloc: Global,
+    said: Option<&str>,
+    asked: Request<'p>,
+) -> Result<Request<'p>, Refusal>
+    ensures { Settles (text_of said.entry) asked.entry result }
+{
+    match said {
+        Some(text) => Err(usage(alloc, text)),
+        None => Ok(asked),
+    }
+}
+
 /// Why nothing is done where the system can't give the words: `Memory` where memory ran out, and
 /// else `Usage`, as for a word that is no text.
 pub fn unread_words(alloc: Global, error: &io::Error) -> Refusal
@@ -203,7 +239,8 @@ pub fn unread_words(alloc: Global, error: &io::Error) -> Refusal
 }
 
 /// What the words ask for, the program's own name first. `Shown` comes for `--help`, `help` and
-/// `--version`, `Usage` where the words are no command, and `Memory` where memory runs out.
+/// `--version`, `Usage` where the words are no command, where OUT and CERT are the same text, or
+/// where a name behind `--merge` is empty, and `Memory` where memory runs out.
 pub fn read_words<'p>(alloc: Global, words: &'p [String]) -> Result<Request<'p>, Refusal>
     ensures asked { IfOk result (AskFor (texts words.now)) }
     ensures refused { IfErr result (CallFor (texts words.now)) }
@@ -212,6 +249,14 @@ pub fn read_words<'p>(alloc: Global, words: &'p [String]) -> Result<Request<'p>,
         → IfErr result (λ refusal. refusal ≡ Memory) }
     ensures check_granted { (schema : List ℕ) → (file : List ℕ)
         → AsksCheck (texts words.now) schema file → IfErr result (λ refusal. refusal ≡ Memory) }
+    ensures shrink_granted { (schema : List ℕ) → (file : List ℕ) → (output : List ℕ)
+        → (certificate : List ℕ) → (merge : Option (List ℕ)) → (strict : Bool)
+        → AsksShrink (texts words.now) schema file output certificate merge strict
+        → IfErr result (λ refusal. refusal ≡ Memory) }
+    ensures verify_granted { (schema : List ℕ) → (file : List ℕ) → (output : List ℕ)
+        → (certificate : List ℕ) → (merge : Option (List ℕ))
+        → AsksVerify (texts words.now) schema file output certificate merge
+        → IfErr result (λ refusal. refusal ≡ Memory) }
 {
     let matches = match stepmin(alloc)?.try_get_matches_from(words) {
         Ok(matches) => matches,
@@ -220,8 +265,18 @@ pub fn read_words<'p>(alloc: Global, words: &'p [String]) -> Result<Request<'p>,
     if let Some(path) = path_in(&matches) {
         return Ok(Request::Plain(path));
     }
-    match paths_in(&matches) {
-        Some((schema, file)) => Ok(Request::Check(schema, file)),
+    if let Some((schema, file)) = paths_in(&matches) {
+        return Ok(Request::Check(schema, file));
+    }
+    if let Some(asked) = shrink_in(&matches) {
+        let said = clash(asked.output, asked.certificate, asked.merge);
+        return settled(alloc, said, Request::Shrink(asked));
+    }
+    match verify_in(&matches) {
+        Some(asked) => {
+            let said = clash(asked.output, asked.certificate, asked.merge);
+            settled(alloc, said, Request::Verify(asked))
+        }
         // clap lets no such words pass.
         None => Err(Refusal::Memory),
     }

@@ -1,3 +1,9 @@
 pub mod Failing
 pub mod Answering
+pub mod Endings
+pub mod PlainRuns
+pub mod CheckRuns
+pub mod MergeRuns
+pub mod VerifyRuns
+pub mod Words
 pub mod Running

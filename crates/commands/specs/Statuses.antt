@@ -9,6 +9,8 @@ use Rattle.schema_rules.specs.declared.finding.RuleFinding.{RuleFinding}
 use Rattle.reports.specs.declared.report.Report.{Report}
 use Rattle.checking.specs.declared.fault.CheckFault.{CheckFault}
 use Rattle.checking.specs.declared.fault.CheckFault.TheVariants.{Schema, Other}
+use Rattle.verifying.specs.declared.fault.VerifyFault.{VerifyFault}
+use Rattle.verifying.specs.declared.fault.VerifyFault.TheVariants as refusals
 
 -- the status for a fault
 abbrev pub fault_status : Fault → ℕ
@@ -36,6 +38,13 @@ findings_status (finding ∷ more) broken = 1
 abbrev pub report_status : Report → ℕ
 report_status report = findings_status report.findings.items report.rule_findings.items
 
+-- the status where nothing is proved of an output: 6 where the certificate is refused
+abbrev pub verify_status : VerifyFault → ℕ
+verify_status (refusals.Schema fault) = schema_status fault
+verify_status (refusals.Refused role findings rules) = 1
+verify_status (refusals.Certificate refusal) = 6
+verify_status (refusals.Other fault) = fault_status fault
+
 -- a status that the program has
 abbrev pub IsStatus : ℕ → Type 0
-IsStatus s = (s ≡ 0) ⊎ (s ≡ 1) ⊎ (s ≡ 2) ⊎ (s ≡ 3) ⊎ (s ≡ 4) ⊎ (s ≡ 5)
+IsStatus s = (s ≡ 0) ⊎ (s ≡ 1) ⊎ (s ≡ 2) ⊎ (s ≡ 3) ⊎ (s ≡ 4) ⊎ (s ≡ 5) ⊎ (s ≡ 6)

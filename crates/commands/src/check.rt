@@ -1,8 +1,10 @@
 //! Whether a file conforms to a schema.
 
 ghost use Rattle.std.specs.Prelude.{◌≡◌, ◌⊎◌, false, true};
+ghost use Rattle.reports.specs.Lines.{report_text};
 ghost use Rattle.reports.specs.SchemaLines.{schema_line};
-ghost use Rattle.commands.specs.Runs.{Prints, Reports, RunsCheck, check_line, output, told_by};
+ghost use Rattle.commands.specs.Endings.{EndsAs, Prints, on_output, output, told_by};
+ghost use Rattle.commands.specs.Runs.{RunsCheck, check_line};
 ghost use Rattle.commands.specs.Statuses.{check_status, report_status, schema_status};
 
 use crate::ending::{BROKEN, DEVICE, DONE, MEMORY, TEXT, report};
@@ -39,9 +41,9 @@ fn status_of_report(report: &Report<'_>) -> u8
     }
 }
 
-// Prints the line of a schema's fault, and answers its status, or the device's where the line can't
-// be printed.
-fn report_schema<E: Sink>(fault: &SchemaFault, err: &mut E) -> u8
+/// Prints the line of a schema's fault, and answers its status, or the device's where the line can't
+/// be printed.
+pub fn report_schema<E: Sink>(fault: &SchemaFault, err: &mut E) -> u8
     ensures { Prints (output E.held E.has_failed err.old) (output E.held E.has_failed err.new)
         (schema_line fault.now) (schema_status fault.now) result }
 {
@@ -66,7 +68,7 @@ fn report_fault<E: Sink>(fault: CheckFault, err: &mut E) -> u8
 // Prints a report on `out`, and answers whether there are findings; or tells that the output
 // failed.
 fn print_findings<O: Sink, E: Sink>(findings: &Report<'_>, out: &mut O, err: &mut E) -> u8
-    ensures { Reports findings.now
+    ensures { EndsAs (on_output (report_text findings.now) (report_status findings.now))
         (output O.held O.has_failed out.old) (output O.held O.has_failed out.new)
         (output E.held E.has_failed err.old) (output E.held E.has_failed err.new) result }
 {

@@ -1,32 +1,52 @@
 //! The command line, over any store of files and any outputs.
 
-ghost use Rattle.std.specs.Prelude.{◌≡◌, ◌⊎◌, ℕ, List, Some, false, true};
+ghost use Rattle.std.specs.Prelude.{
+  ◌≡◌,
+  ◌⊎◌,
+  ℕ,
+  List,
+  Option,
+  Bool,
+  IfOk,
+  Some,
+  false,
+  true,
+};
 ghost use Rattle.std.specs.Io.KnownBytes.{Keeps};
-ghost use Rattle.command_line.specs.Commands.{AsksCheck, AsksNothing, AsksPlain, texts};
+ghost use Rattle.command_line.specs.Commands.{
+  AsksCheck,
+  AsksNothing,
+  AsksPlain,
+  AsksShrink,
+  AsksVerify,
+  texts,
+};
+ghost use Rattle.command_line.specs.AskedMerges.{text_of};
 ghost use Rattle.files.specs.Lines.{line_of};
 ghost use Rattle.files.specs.Stores.{stored};
 ghost use Rattle.files.specs.declared.fault.Fault.TheVariants.{Device};
 ghost use Rattle.files.specs.declared.fault.Role.TheVariants.{File};
-ghost use Rattle.commands.specs.Runs.{
-  Does,
-  IsDevices,
-  Prints,
-  Refuses,
-  Runs,
-  RunsCheck,
-  RunsPlain,
-  output,
-};
+ghost use Rattle.pin_choices.specs.Chosen.{choice_of};
+ghost use Rattle.commands.specs.CommandLines.{AsksToWrite, Does, IsDevices, Runs};
+ghost use Rattle.commands.specs.ComputedRequests.{IsApart, IsWritten};
+ghost use Rattle.commands.specs.Endings.{Prints, output};
+ghost use Rattle.commands.specs.Merges.{MakesSmaller, asked_choice};
+ghost use Rattle.commands.specs.Runs.{Refuses, RunsCheck, RunsPlain};
 ghost use Rattle.commands.specs.Statuses.{IsStatus};
+ghost use Rattle.commands.specs.Verifies.{RunsVerify};
 
 use crate::check::run_check;
 use crate::ending::{DONE, USAGE, finish, print, report};
 use crate::plain::plain;
+use crate::shrink::run_shrink;
+use crate::verify::run_verify;
+use command_line::merging::{ShrinkRequest, VerifyRequest, merged_names};
 use command_line::usage::{Refusal, Request, read_words};
 use devices::device::Sink;
 use files::fault::{Fault, Role};
 use files::store::Store;
-use std::alloc::Global;
+use pin_choices::choice::{Choice, Names};
+use std::alloc::{AllocError, Global};
 use std::hash::RandomState;
 
 /// Prints why nothing is done, and answers the status: a text that was asked for on `out`, and
@@ -64,6 +84,128 @@ pub fn refuse_to_read<E: Sink>(err: &mut E) -> u8
     )
 }
 
+// The entities that are chosen: those of NAMES, or the usual ones.
+fn chosen(alloc: Global, merge: Option<&str>, strict: bool) -> Result<Choice, AllocError>
+    ensures names { IfOk result (λ choice. choice_of choice ≡ asked_choice (text_of merge.entry)) }
+    ensures strict { IfOk result (λ choice. choice.strict ≡ strict) }
+{
+    let names = match merge {
+        None => Names::Usual,
+        Some(names) => Names::Given(merged_names(alloc, names)?),
+    };
+    Ok(Choice { names, strict })
+}
+
+// Merges the file that is asked for by this choice, and answers the status.
+fn shrink_by<'p, S: Store<'p>, O: Sink, E: Sink>(
+    alloc: Global,
+    keys: RandomState,
+    asked: ShrinkRequest<'p>,
+    choice: &Choice,
+    store: &mut S,
+    out: &mut O,
+    err: &mut E,
+) -> u8
+    requires apart { asked.output.now ≡ asked.certificate.now → ⊥ }
+    ensures makes { MakesSmaller S.Writer.held (choice_of choice.now) choice.now.strict
+        (stored S.contents S.fails store.old asked.entry.schema.now)
+        (stored S.contents S.fails store.old asked.entry.file.now)
+        (S.contents store.old asked.entry.output.now) (S.contents store.new asked.entry.output.now)
+        (S.contents store.old asked.entry.certificate.now)
+        (S.contents store.new asked.entry.certificate.now)
+        (output O.held O.has_failed out.old) (output O.held O.has_failed out.new)
+        (output E.held E.has_failed err.old) (output E.held E.has_failed err.new) result }
+    ensures kept { (path : List ℕ) → (path ≡ asked.entry.output.now → ⊥)
+        → (path ≡ asked.entry.certificate.now → ⊥)
+        → S.contents store.new path ≡ S.contents store.old path }
+{
+    let mut schema = store.reader(asked.schema);
+    let mut file = store.reader(asked.file);
+    let mut smaller = store.writer(asked.output);
+    let mut certificate = store.writer(asked.certificate);
+    let status = run_shrink(
+        alloc,
+        keys,
+        &mut schema,
+        choice,
+        &mut file,
+        &mut smaller,
+        &mut certificate,
+        out,
+        err,
+    );
+    store.keep(asked.output, smaller);
+    store.keep(asked.certificate, certificate);
+    status
+}
+
+// Merges the file that is asked for, and answers the status.
+fn shrink_asked<'p, S: Store<'p>, O: Sink, E: Sink>(
+    alloc: Global,
+    keys: RandomState,
+    asked: ShrinkRequest<'p>,
+    store: &mut S,
+    out: &mut O,
+    err: &mut E,
+) -> u8
+    requires apart { asked.output.now ≡ asked.certificate.now → ⊥ }
+    ensures makes { MakesSmaller S.Writer.held (asked_choice (text_of asked.entry.merge)) asked.entry.strict
+        (stored S.contents S.fails store.old asked.entry.schema.now)
+        (stored S.contents S.fails store.old asked.entry.file.now)
+        (S.contents store.old asked.entry.output.now) (S.contents store.new asked.entry.output.now)
+        (S.contents store.old asked.entry.certificate.now)
+        (S.contents store.new asked.entry.certificate.now)
+        (output O.held O.has_failed out.old) (output O.held O.has_failed out.new)
+        (output E.held E.has_failed err.old) (output E.held E.has_failed err.new) result }
+    ensures kept { (path : List ℕ) → (path ≡ asked.entry.output.now → ⊥)
+        → (path ≡ asked.entry.certificate.now → ⊥)
+        → S.contents store.new path ≡ S.contents store.old path }
+{
+    match chosen(alloc, asked.merge, asked.strict) {
+        Ok(choice) => shrink_by(alloc, keys, asked, &choice, store, out, err),
+        Err(_) => report(Fault::Memory, err),
+    }
+}
+
+// Verifies the output that is asked for, and answers the status.
+fn verify_asked<'p, S: Store<'p>, O: Sink, E: Sink>(
+    alloc: Global,
+    keys: RandomState,
+    asked: VerifyRequest<'p>,
+    store: &mut S,
+    out: &mut O,
+    err: &mut E,
+) -> u8
+    ensures verifies { RunsVerify (asked_choice (text_of asked.entry.merge))
+        (stored S.contents S.fails store.old asked.entry.schema.now)
+        (stored S.contents S.fails store.old asked.entry.file.now)
+        (stored S.contents S.fails store.old asked.entry.output.now)
+        (stored S.contents S.fails store.old asked.entry.certificate.now)
+        (output O.held O.has_failed out.old) (output O.held O.has_failed out.new)
+        (output E.held E.has_failed err.old) (output E.held E.has_failed err.new) result }
+    ensures kept { (path : List ℕ) → S.contents store.new path ≡ S.contents store.old path }
+{
+    let choice = match chosen(alloc, asked.merge, false) {
+        Ok(choice) => choice,
+        Err(_) => return report(Fault::Memory, err),
+    };
+    let mut schema = store.reader(asked.schema);
+    let mut file = store.reader(asked.file);
+    let mut smaller = store.reader(asked.output);
+    let mut certificate = store.reader(asked.certificate);
+    run_verify(
+        alloc,
+        keys,
+        &mut schema,
+        &choice,
+        &mut file,
+        &mut smaller,
+        &mut certificate,
+        out,
+        err,
+    )
+}
+
 // Does what is asked for, and answers the status.
 fn run<'p, S: Store<'p>, O: Sink, E: Sink>(
     alloc: Global,
@@ -73,11 +215,13 @@ fn run<'p, S: Store<'p>, O: Sink, E: Sink>(
     out: &mut O,
     err: &mut E,
 ) -> u8
-    ensures does { Does request.entry (stored S.contents S.fails store.old)
+    requires apart { IsApart request }
+    ensures does { Does S.Writer.held request.entry (stored S.contents S.fails store.old) (S.contents store.new)
         (output O.held O.has_failed out.old) (output O.held O.has_failed out.new)
         (output E.held E.has_failed err.old) (output E.held E.has_failed err.new) result }
-    // No file changes.
-    ensures kept { (path : List ℕ) → S.contents store.new path ≡ S.contents store.old path }
+    // No other file changes.
+    ensures kept { (path : List ℕ) → (IsWritten request.entry path → ⊥)
+        → S.contents store.new path ≡ S.contents store.old path }
 {
     match request {
         Request::Plain(path) => {
@@ -89,12 +233,18 @@ fn run<'p, S: Store<'p>, O: Sink, E: Sink>(
             let mut file = store.reader(file);
             run_check(alloc, keys, &mut schema, &mut file, out, err)
         }
+        Request::Shrink(asked) => shrink_asked(alloc, keys, asked, store, out, err),
+        Request::Verify(asked) => verify_asked(alloc, keys, asked, store, out, err),
     }
 }
 
 /// Runs the command line of these words, the program's own name first, and answers the exit status:
-/// 0 where all is done, 1 where a file breaks its schema, 2 where the text of a file or a schema
-/// can't be read, 3 where the words are wrong, 4 where a device fails, and 5 where memory runs out.
+/// 0 where all is done, 1 where a file breaks its schema or parts of the schema of a strict choice
+/// aren't checked, 2 where the text of a file or a schema can't be read or a chosen name is no entity,
+/// 3 where the words are wrong, 4 where a device fails, 5 where memory runs out, and 6 where a
+/// certificate is refused.
+///
+/// `shrink` alone writes files, the smaller one and the certificate, each made at its first write.
 ///
 /// A fault is a line on `err`. Where that can't be printed, or the text of `--help` or `--version`
 /// can't, nothing more is.
@@ -107,7 +257,7 @@ pub fn run_command<'p, S: Store<'p>, O: Sink, E: Sink>(
     out: &mut O,
     err: &mut E,
 ) -> u8
-    ensures runs { Runs (texts words.now) (stored S.contents S.fails store.old)
+    ensures runs { Runs S.Writer.held (texts words.now) (stored S.contents S.fails store.old) (S.contents store.new)
         (output O.held O.has_failed out.old) (output O.held O.has_failed out.new)
         (output E.held E.has_failed err.old) (output E.held E.has_failed err.new) result }
     // Where the words ask for the normal text of a file, that is done with what the file holds.
@@ -122,8 +272,29 @@ pub fn run_command<'p, S: Store<'p>, O: Sink, E: Sink>(
         (stored S.contents S.fails store.old file)
         (output O.held O.has_failed out.old) (output O.held O.has_failed out.new)
         (output E.held E.has_failed err.old) (output E.held E.has_failed err.new) result }
-    // No file changes.
-    ensures kept { (path : List ℕ) → S.contents store.new path ≡ S.contents store.old path }
+    // Where they ask for a smaller file and its certificate, these are made of what the schema and
+    // the file hold before, and both paths hold what was written, or what they held.
+    ensures shrink { (schema : List ℕ) → (file : List ℕ) → (smaller : List ℕ)
+        → (certificate : List ℕ) → (merge : Option (List ℕ)) → (strict : Bool)
+        → AsksShrink (texts words.now) schema file smaller certificate merge strict
+        → MakesSmaller S.Writer.held (asked_choice merge) strict (stored S.contents S.fails store.old schema)
+        (stored S.contents S.fails store.old file)
+        (S.contents store.old smaller) (S.contents store.new smaller)
+        (S.contents store.old certificate) (S.contents store.new certificate)
+        (output O.held O.has_failed out.old) (output O.held O.has_failed out.new)
+        (output E.held E.has_failed err.old) (output E.held E.has_failed err.new) result }
+    // Where they ask whether an output is proved, that is verified by what the four files hold.
+    ensures verify { (schema : List ℕ) → (file : List ℕ) → (smaller : List ℕ)
+        → (certificate : List ℕ) → (merge : Option (List ℕ))
+        → AsksVerify (texts words.now) schema file smaller certificate merge
+        → RunsVerify (asked_choice merge) (stored S.contents S.fails store.old schema)
+        (stored S.contents S.fails store.old file) (stored S.contents S.fails store.old smaller)
+        (stored S.contents S.fails store.old certificate)
+        (output O.held O.has_failed out.old) (output O.held O.has_failed out.new)
+        (output E.held E.has_failed err.old) (output E.held E.has_failed err.new) result }
+    // No other file changes than those that a smaller one is asked for by.
+    ensures kept { (path : List ℕ) → (AsksToWrite (texts words.now) path → ⊥)
+        → S.contents store.new path ≡ S.contents store.old path }
     // No file is opened where they ask for none.
     ensures unopened { AsksNothing (texts words.now) → store.new ≡ store.old }
     ensures status { IsStatus result }

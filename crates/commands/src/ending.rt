@@ -3,7 +3,7 @@
 ghost use Rattle.std.specs.Prelude.{◌≡◌, false, OnOk, is_err, MatchResult};
 ghost use Rattle.std.specs.Io.KnownBytes.{Appends};
 ghost use Rattle.files.specs.Lines.{line_of};
-ghost use Rattle.commands.specs.Runs.{AppendsFront, Ends, Prints, output};
+ghost use Rattle.commands.specs.Endings.{AppendsFront, Ends, Prints, output};
 ghost use Rattle.commands.specs.Statuses.{fault_status};
 
 use devices::device::{Failed, Sink};
@@ -12,7 +12,7 @@ use files::fault::{Fault, print_line};
 /// The status where all is done.
 pub const DONE: u8 = 0;
 
-/// The status where a file breaks its schema.
+/// The status where a file breaks its schema, or a strict choice refuses a schema.
 pub const BROKEN: u8 = 1;
 
 /// The status where the text of a file or a schema can't be read.
@@ -26,6 +26,9 @@ pub const DEVICE: u8 = 4;
 
 /// The status where memory runs out.
 pub const MEMORY: u8 = 5;
+
+/// The status where a certificate is refused.
+pub const REFUSED: u8 = 6;
 
 /// The exit status for a fault.
 pub fn status_of(fault: &Fault) -> u8

@@ -5,3 +5,5 @@ pub mod check;
 pub mod command;
 pub mod ending;
 pub mod plain;
+pub mod shrink;
+pub mod verify;

@@ -10,8 +10,9 @@ pub record Stored : Type 0 where
 abbrev pub stored : {S : Type 0} → (S → List ℕ → Option (List ℕ)) → (S → List ℕ → Option Bool) → S → List ℕ → Stored
 stored contents fails store path = record { contents = contents store path; fails = fails store path }
 
--- Where bytes were written, as far as the writer tells them, the file holds these: it is made at the first write.
-abbrev pub HoldsWritten : Option (List ℕ) → Option (List ℕ) → Type 0
-HoldsWritten None holds = Unit {0}
-HoldsWritten (Some []) holds = Unit {0}
-HoldsWritten (Some (byte ∷ bytes)) holds = holds ≡ Some (byte ∷ bytes)
+-- Where bytes were written, as far as the writer tells them, the file holds these: it is made at the first write. Where
+-- none was written it holds what it held.
+abbrev pub HoldsWritten : Option (List ℕ) → Option (List ℕ) → Option (List ℕ) → Type 0
+HoldsWritten None held holds = Unit {0}
+HoldsWritten (Some []) held holds = holds ≡ held
+HoldsWritten (Some (byte ∷ bytes)) held holds = holds ≡ Some (byte ∷ bytes)

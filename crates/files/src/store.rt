@@ -43,13 +43,16 @@ pub trait Store<'p> {
     fn writer(&mut self, path: &'p str) -> Self::Writer
         ensures fresh { Self.Writer.has_failed result ≡ false }
         ensures empty { IfSome (Self.Writer.held result) (λ bytes. bytes ≡ []) }
-        // From here on the file of this path may change, and no other.
-        ensures kept { (other : List ℕ) → (other ≡ path.now → ⊥)
-            → contents self.new other ≡ contents self.old other };
+        // No file changes before the first write, and what a file holds is told when the writer is
+        // taken back.
+        ensures kept { (other : List ℕ) → contents self.new other ≡ contents self.old other }
+        ensures same { (other : List ℕ) → fails self.new other ≡ fails self.old other };
 
-    /// Takes back what `writer` gave for this path: the file holds what was written.
+    /// Takes back what `writer` gave for this path: the file holds what was written, or what it held
+    /// where nothing was.
     fn keep(&mut self, path: &'p str, writer: Self::Writer)
-        ensures written { HoldsWritten (Self.Writer.held writer) (contents self.new path.now) }
+        ensures written { HoldsWritten (Self.Writer.held writer) (contents self.old path.now)
+            (contents self.new path.now) }
         ensures kept { (other : List ℕ) → (other ≡ path.now → ⊥)
             → contents self.new other ≡ contents self.old other };
 }

@@ -4,5 +4,6 @@ pub mod Finding
 pub mod Splitting
 pub mod Counting
 pub mod Parents
+pub mod AtRounds
 pub mod Climbing
 pub mod Naming

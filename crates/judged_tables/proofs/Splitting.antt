@@ -86,12 +86,12 @@ moves t x round a e = by (last_class t.members x) refl e
           same_or_begun = s.same_or_begun;
         }
 
-both : (a b : Option ℕ) → same_class a b ≡ true → (c : ℕ) × (a ≡ Some c) × (b ≡ Some c)
+pub both : (a b : Option ℕ) → same_class a b ≡ true → (c : ℕ) × (a ≡ Some c) × (b ≡ Some c)
 both None b e = absurd (false≢true e)
 both (Some a) None e = absurd (false≢true e)
 both (Some a) (Some b) e = (a, refl, ap Some (sym (eqb-true a b e)))
 
-one_class : (o p : Option ℕ) (c d : ℕ) → o ≡ Some c → p ≡ Some d → c ≡ d → same_class o p ≡ true
+pub one_class : (o p : Option ℕ) (c d : ℕ) → o ≡ Some c → p ≡ Some d → c ≡ d → same_class o p ≡ true
 one_class o p c d e f same = (λ i. same_class (e i) (f i)) ∙ eq-eqb c d same
 
 module _ (P : List Row) (pinned : ℕ → Bool) (t : Table) where

@@ -1,4 +1,5 @@
 pub mod Splits
 pub mod Counts
+pub mod ClassesAt
 pub mod ComputedParents
 pub mod ComputedStability

@@ -1,14 +1,35 @@
-//! Classes as labels of references.
+//! The classes of instances at a round, by place and as labels of references.
 
-ghost use Rattle.std.specs.Prelude.{◌≡◌, IfOk, MatchOption, None, is_some, length, true};
+ghost use Rattle.std.specs.Prelude.{
+  ◌≡◌,
+  ◌<◌,
+  ◌≤◌,
+  ℕ,
+  All,
+  IfOk,
+  MatchOption,
+  None,
+  Some,
+  is_some,
+  length,
+  slice_get,
+  true,
+};
 ghost use Rattle.step_equal.specs.Rows.{row_at};
 ghost use Rattle.step_equal.specs.Maps.{is_pinned};
+ghost use Rattle.step_equal.specs.Standard.{IsWellFormed};
+ghost use Rattle.step_equal.specs.Tables.{HasMembers};
+ghost use Rattle.step_equal.specs.TableViews.{table_of};
+ghost use Rattle.judged_tables.specs.ClassesAt.{AreClassesAt};
+ghost use Rattle.judged_tables.specs.ComputedParents.{led_by_classes};
 ghost use Rattle.judged_tables.specs.ComputedStability.{classes_of, label_by, labels_by};
 ghost use Rattle.merged_outputs.specs.Places.{by_place};
 
+use crate::ancestors::ancestors;
 use std::alloc::{AllocError, Global};
 use std::collections::BTreeSet;
 use step_equal::plain::Plain;
+use step_equal::table::Table;
 use step_values::labels::{Label, Labels};
 
 /// The classes of the instances of a population at a round, by their places, and which instances are
@@ -17,11 +38,49 @@ use step_values::labels::{Label, Labels};
 /// As labels, a reference to a free instance stands for its class, one to a pinned instance for
 /// itself, and so does each in a bag.
 #[derive(Drop)]
-pub(crate) struct Classes<'a, 'p> {
-    pub(crate) input: &'p Plain<'a>,
-    pub(crate) pinned: &'p BTreeSet<u64>,
-    pub(crate) classes: Vec<u32>,
+pub struct Classes<'a, 'p> {
+    pub input: &'p Plain<'a>,
+    pub pinned: &'p BTreeSet<u64>,
+    pub classes: Vec<u32>,
     ghost each: { length classes.items ≡ length input.now },
+}
+
+/// The classes of the instances of a population at a round, by their places.
+///
+/// The members of the table are the names of the population, in order. `AllocError` comes where
+/// memory runs out.
+pub fn classes_at<'a>(
+    alloc: Global,
+    input: &Plain<'a>,
+    table: &Table,
+    round: u32,
+) -> Result<Vec<u32>, AllocError>
+    requires members { HasMembers input.now (table_of table.now) }
+    requires well_formed { IsWellFormed (table_of table.now) }
+    ensures { IfOk result (λ v. AreClassesAt input.now (table_of table.now) round v.items) }
+{
+    // its contract says that no name stands twice
+    let _rows = input.len();
+    let ancestors = ancestors(alloc, table, round)?;
+    led_by_classes(alloc, &table.members, &ancestors)
+}
+
+/// By member, what stands at its class in a list.
+fn led_by_classes(
+    alloc: Global,
+    members: &[(u64, u32)],
+    ancestors: &[usize],
+) -> Result<Vec<u32>, AllocError>
+    requires declared { All (λ (m : ℕ × ℕ). m.1 < length ancestors.now) members.now }
+    requires below { (c a : ℕ) → slice_get ancestors.now c ≡ Some a → a ≤ c }
+    ensures { IfOk result (λ v. v.items ≡ led_by_classes ancestors.now members.now) }
+{
+    let mut classes = Vec::with_capacity(alloc, members.len())?;
+    for member in members {
+        let ancestor = ancestors[member.1 as usize];
+        classes.push(ancestor as u32)?;
+    }
+    Ok(classes)
 }
 
 /// Of each member its class.

@@ -1,11 +1,11 @@
 //! Judging a table of partition refinement against a population, whoever made it: whether it is well
-//! formed, names the instances, and is stable at its last round; what each class was at round 0; and
+//! formed, names the instances, and is stable at its last round; what each class was at a round; and
 //! laws that say which of its splits have to have a ground.
 #![tactic(auto)]
 
-mod classes;
+pub mod ancestors;
+pub mod classes;
 pub mod laws;
 pub mod members;
-pub mod roots;
 pub mod stable;
 pub mod well_formed;

@@ -29,7 +29,8 @@ use Rattle.merged_populations.specs.Laws.{AreRowsOfFile, merged_by}
 use Rattle.merged_populations.specs.Headline.{IsInput, MergesAreLeast, ChecksProve}
 use Rattle.merged_populations.proofs.Whole.{are_of, bags, laid, merged_files_conform, merged_files_are_least}
 
-names_from : (s : Schema) (said : Said s) (k : ℕ) (xs : List Section)
+-- the names of a population are those of the file
+pub names_from : (s : Schema) (said : Said s) (k : ℕ) (xs : List Section)
     → map (λ (i : Instance). i.name) (instances_from s said.domain said.entities k xs)
     ≡ map (λ (r : trees.Row). r.name) (rows_of xs)
 names_from s said k [] = refl

@@ -14,7 +14,7 @@ use Rattle.conformance.specs.Said.{Said}
 use Rattle.merged_populations.specs.Finding.{PinsAreFound}
 
 -- whatever the rules of the schema are said by
-weak_one : (s : Schema) (said : Said s) (chosen : List Name) (is : List Instance) (p q : Rules)
+pub weak_one : (s : Schema) (said : Said s) (chosen : List Name) (is : List Instance) (p q : Rules)
     → AreRules s said.domain p → AreRules s said.domain q → (y : ℕ)
     → IsWeaklyPinned s said.domain said.entities p chosen is y
     → IsWeaklyPinned s said.domain said.entities q chosen is y
@@ -22,7 +22,7 @@ weak_one s said chosen is p q h k y (inl o) =
     inl ((rules_are_one s said.domain said.entities p q said.resolved h k is).4 chosen y o)
 weak_one s said chosen is p q h k y (inr o) = inr o
 
-pub pins_are_found : PinsAreFound
+unfoldable pub pins_are_found : PinsAreFound
 pins_are_found s said chosen is P rules weak gentle t are population weakly valid gently = record {
   weak = weak;
   are_weak = λ y. (

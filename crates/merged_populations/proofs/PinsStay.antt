@@ -5,6 +5,8 @@ use Rattle.std.proofs.Common.{refl, sym, ap, subst, ◌∙◌, inl, inr}
 use Rattle.step_values.specs.Values.{Value, Values, Agree, AgreeEach}
 use Rattle.step_values.specs.References.{renamed, renamed_each, EachBagReferenceOf}
 use Rattle.merged_texts.specs.Merged.{merged_sections}
+use Rattle.step_structures.specs.Normal.{normal_sections}
+use Rattle.step_structures.proofs.NormalLemmas.{normal_stays}
 use Rattle.merged_texts.proofs.Unmerged.{unmerged_text_stays}
 use Rattle.step_equal.specs.Rows.{Row, names, IsName, BagsArePinned}
 use Rattle.step_equal.specs.Keeping.{ValueEqual}
@@ -247,4 +249,5 @@ second_runs_stay law s said chosen f P pinned kept F G file pins equality anew a
     let reduced = quotients_are_reduced P pinned kept F file.population
     (bags s said chosen f P pinned file pins) equality same in
     let stays = first_alone G (λ x z e. ((reduced x z).0 ((again x z).0 e)).1) (names (quotient P F)) in
-    unmerged_text_stays (head_of (names (quotient P F)) G) stays header_bytes (merged_sections h f.sections)
+    unmerged_text_stays (head_of (names (quotient P F)) G) stays header_bytes
+    (normal_sections (merged_sections h f.sections)) ∙ normal_stays header_bytes (merged_sections h f.sections)

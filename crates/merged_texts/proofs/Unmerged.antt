@@ -3,8 +3,7 @@ use Rattle.std.proofs.Common.{◌≡◌, ℕ, Bool, cond, List, [], ◌∷◌, �
 use Rattle.std.specs.Prelude.{◌==◌, filter}
 use Rattle.step_structures.specs.Words.{Word, name}
 use Rattle.step_structures.specs.Trees.{Tree, leaf, typed, group, Trees, none, one, Record, Form, internal, external, Row, Section}
-use Rattle.step_structures.specs.Normal.{plain_text, normal_sections}
-use Rattle.step_structures.proofs.NormalLemmas.{normal_stays}
+use Rattle.step_structures.specs.Normal.{plain_text}
 use Rattle.merged_texts.specs.Merged.{led_word, led_tree, led_trees, led_record, led_form, led_row, merged_rows, merged_section, merged_sections}
 use Rattle.merged_texts.specs.Laws.{UnmergedTextStays}
 
@@ -53,4 +52,4 @@ module _ (h : ℕ → ℕ) (stays : (y : ℕ) → h y ≡ y) where
 
 pub unmerged_text_stays : UnmergedTextStays
 unmerged_text_stays h stays header_bytes sections =
-    ap (plain_text header_bytes) (sections_stay h stays (normal_sections sections)) ∙ normal_stays header_bytes sections
+    ap (plain_text header_bytes) (sections_stay h stays sections)

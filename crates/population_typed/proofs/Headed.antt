@@ -57,14 +57,14 @@ numbered-next xs k x old new lt at h is = record {
 -- heads that grow by one
 heads-joined : (formless : ℕ) (ks ys : List ℕ) (ns : List (Option ℕ)) (k y : ℕ) (n : Option ℕ) → length ks ≡ length ys
     → length ns ≡ length ys → heads_made formless (ks ++ k ∷ []) (ys ++ y ∷ []) (ns ++ n ∷ []) ≡ heads_made formless ks ys
-    ns ++ record { name = y; section = k; kind = unwrap_or n formless } ∷ []
+    ns ++ record { name = y; section = k; type_list = unwrap_or n formless } ∷ []
 heads-joined formless [] [] [] k y n e f = refl
 heads-joined formless [] [] (m ∷ ns) k y n e f = absurd (omega (arith, f))
 heads-joined formless [] (b ∷ ys) ns k y n e f = absurd (omega (arith, e))
 heads-joined formless (a ∷ ks) [] ns k y n e f = absurd (omega (arith, e))
 heads-joined formless (a ∷ ks) (b ∷ ys) [] k y n e f = absurd (omega (arith, f))
 heads-joined formless (a ∷ ks) (b ∷ ys) (m ∷ ns) k y n e f =
-    ap (λ hs. record { name = b; section = a; kind = unwrap_or m formless } ∷ hs)
+    ap (λ hs. record { name = b; section = a; type_list = unwrap_or m formless } ∷ hs)
     (heads-joined formless ks ys ns k y n (omega (arith, e)) (omega (arith, f)))
 
 pub heads-next : (formless : ℕ) (ks ys : List ℕ) (ns : List (Option ℕ)) (i : ℕ) (old new : List RowHead)
@@ -73,7 +73,7 @@ pub heads-next : (formless : ℕ) (ks ys : List ℕ) (ns : List (Option ℕ)) (i
     → new ≡ old ++ record {
       name = get_or ys i 0;
       section = get_or ks i 0;
-      kind = unwrap_or (get_or ns i None) formless;
+      type_list = unwrap_or (get_or ns i None) formless;
     } ∷ []
     → new ≡ heads_made formless (take (i + 1) ks) (take (i + 1) ys) (take (i + 1) ns)
 heads-next formless ks ys ns i old new sections forms lt all is =
@@ -87,7 +87,7 @@ heads-next formless ks ys ns i old new sections forms lt all is =
     ∙ ap (λ hs. hs ++ record {
       name = get_or ys i 0;
       section = get_or ks i 0;
-      kind = unwrap_or (get_or ns i None) formless;
+      type_list = unwrap_or (get_or ns i None) formless;
     } ∷ []) all
     ∙ sym (heads-joined formless (take i ks) (take i ys) (take i ns) (get_or ks i 0) (get_or ys i 0) (get_or ns i None)
     (long-ks ∙ sym long-ys) (long-ns ∙ sym long-ys)))

@@ -208,9 +208,9 @@ module _ (p : Population) (forms : List Form) (forms-are : forms ≡ p.rows.form
     (names-are : ns ≡ p.exchange.now.names) (ks : List ℕ)
     (sections-are : ks ≡ section_numbers 0 0 p.exchange.now.sections.items) (os : List (Option ℕ))
     (numbers-are : os ≡ p.rows.form_of.items) (formless : ℕ) (beyond : formless ≡ length orders) (hs : List RowHead)
-    (heads : hs ≡ heads_made formless ks ns os) (kinds : List (List (List ℕ))) (types : kinds ≡ types_each orders) where
+    (heads : hs ≡ heads_made formless ks ns os) (type_lists : List (List (List ℕ))) (types : type_lists ≡ types_each orders) where
   pub made-rows : (rows : List Values) → rows ≡ rows_picked orders p.rows.form_of.items p.values.rows → (qs : List Row)
-      → AllZip IsSettled (rows_from (heads_seen kinds hs) rows) qs
+      → AllZip IsSettled (rows_from (heads_seen type_lists hs) rows) qs
       → AreRowsOf (schema_of p.types.now.names.schema.now) (population_seen p) qs
   made-rows rows made qs z =
       let k = kept p in
@@ -225,4 +225,4 @@ module _ (p : Population) (forms : List Form) (forms-are : forms ≡ p.rows.form
       (rows_from (heads_seen (types_each orders) gs) (rows_picked orders p.rows.form_of.items p.values.rows)) qs) all-heads
       (subst (λ ts. AllZip IsSettled
       (rows_from (heads_seen ts hs) (rows_picked orders p.rows.form_of.items p.values.rows)) qs) types
-      (subst (λ rs. AllZip IsSettled (rows_from (heads_seen kinds hs) rs) qs) made z)))
+      (subst (λ rs. AllZip IsSettled (rows_from (heads_seen type_lists hs) rs) qs) made z)))

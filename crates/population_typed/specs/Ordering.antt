@@ -73,8 +73,8 @@ abbrev pub types_each : List Order → List (List (List ℕ))
 types_each orders = map (λ (o : Order). map word_of o.types.items) orders
 
 -- What stands before the values of instances, by their sections, their names and the numbers of their forms, which are
--- their kinds; those of no form are of this kind.
+-- the lists of their types; those of no form have this one.
 abbrev pub heads_made : ℕ → List ℕ → List ℕ → List (Option ℕ) → List RowHead
 heads_made formless (k ∷ ks) (y ∷ ys) (n ∷ ns) =
-    record { name = y; section = k; kind = unwrap_or n formless } ∷ heads_made formless ks ys ns
+    record { name = y; section = k; type_list = unwrap_or n formless } ∷ heads_made formless ks ys ns
 heads_made formless ks ys ns = []

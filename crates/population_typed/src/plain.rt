@@ -18,7 +18,7 @@ ghost use Rattle.step_exchange.specs.Sections.{CountsTo};
 ghost use Rattle.step_values.specs.References.{EachReferenceOf};
 ghost use Rattle.step_values.specs.Targets.{LeadTo, ReferTo};
 ghost use Rattle.step_values.specs.Views.{word_of};
-ghost use Rattle.step_equal.specs.Views.{kinds_of};
+ghost use Rattle.step_equal.specs.Views.{type_lists_of};
 ghost use Rattle.population_rows.specs.Index.{found, place_of};
 ghost use Rattle.population_fits.specs.References.{IsFound, AreFound};
 ghost use Rattle.population_typed.specs.Seen.{section_numbers, population_seen};
@@ -139,7 +139,7 @@ fn heads(
         heads.push(RowHead {
             name: names[i],
             section: sections[i],
-            kind: form_of[i].unwrap_or(formless),
+            type_list: form_of[i].unwrap_or(formless),
         })?;
     }
     Ok(heads)
@@ -169,14 +169,17 @@ fn copied<'s: 'c, 'c>(alloc: Global, words: &[Word<'s>]) -> Result<Vec<Word<'c>>
 }
 
 /// The types of each of these orders.
-fn kinds<'s: 'c, 'c>(alloc: Global, orders: &[Order<'s>]) -> Result<Vec<Vec<Word<'c>>>, AllocError>
-    ensures { IfOk result (λ v. kinds_of v.items ≡ types_each orders.now) }
+fn type_lists<'s: 'c, 'c>(
+    alloc: Global,
+    orders: &[Order<'s>],
+) -> Result<Vec<Vec<Word<'c>>>, AllocError>
+    ensures { IfOk result (λ v. type_lists_of v.items ≡ types_each orders.now) }
 {
-    let mut kinds = Vec::with_capacity(alloc, orders.len())?;
+    let mut type_lists = Vec::with_capacity(alloc, orders.len())?;
     for order in orders {
-        kinds.push(copied(alloc, &order.types)?)?;
+        type_lists.push(copied(alloc, &order.types)?)?;
     }
-    Ok(kinds)
+    Ok(type_lists)
 }
 
 impl<'s: 'r, 't, 'r, 'a> Population<'s, 't, 'r, 'a> {
@@ -197,8 +200,8 @@ impl<'s: 'r, 't, 'r, 'a> Population<'s, 't, 'r, 'a> {
         let sections = row_sections(alloc, &self.exchange.sections)?;
         let formless = beyond(&orders)?;
         let heads = heads(alloc, &sections, names, &self.rows.form_of, formless)?;
-        let kinds = kinds(alloc, &orders)?;
-        match Plain::from_parts(alloc, keys, heads, kinds, values) {
+        let type_lists = type_lists(alloc, &orders)?;
+        match Plain::from_parts(alloc, keys, heads, type_lists, values) {
             Ok(plain) => Ok(plain),
             Err(_) => Err(AllocError),
         }

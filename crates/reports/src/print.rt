@@ -49,7 +49,7 @@ fn print_spot<S: Sink>(printer: &mut Printer, out: &mut S, instance: u64, spot: 
 }
 
 // The line of a finding.
-fn print_finding<S: Sink>(printer: &mut Printer, out: &mut S, finding: &Finding)
+pub(crate) fn print_finding<S: Sink>(printer: &mut Printer, out: &mut S, finding: &Finding)
     ensures { Prints S.held S.has_failed out.old out.new printer.old printer.new
         (finding_line finding.now) }
 {
@@ -59,7 +59,11 @@ fn print_finding<S: Sink>(printer: &mut Printer, out: &mut S, finding: &Finding)
 }
 
 // The line of a rule that an instance breaks.
-fn print_rule_finding<S: Sink>(printer: &mut Printer, out: &mut S, finding: &RuleFinding<'_>)
+pub(crate) fn print_rule_finding<S: Sink>(
+    printer: &mut Printer,
+    out: &mut S,
+    finding: &RuleFinding<'_>,
+)
     ensures { Prints S.held S.has_failed out.old out.new printer.old printer.new
         (rule_finding_line finding.now) }
 {
@@ -72,7 +76,7 @@ fn print_rule_finding<S: Sink>(printer: &mut Printer, out: &mut S, finding: &Rul
 }
 
 // A word and a number.
-fn print_count<S: Sink>(printer: &mut Printer, out: &mut S, word: &[u8], number: u64)
+pub(crate) fn print_count<S: Sink>(printer: &mut Printer, out: &mut S, word: &[u8], number: u64)
     ensures { Prints S.held S.has_failed out.old out.new printer.old printer.new
         (count_line word.now number) }
 {
@@ -82,7 +86,7 @@ fn print_count<S: Sink>(printer: &mut Printer, out: &mut S, word: &[u8], number:
 }
 
 // The lines of the parts that aren't checked.
-fn print_parts<S: Sink>(printer: &mut Printer, out: &mut S, parts: &[Unchecked])
+pub(crate) fn print_parts<S: Sink>(printer: &mut Printer, out: &mut S, parts: &[Unchecked])
     ensures { Prints S.held S.has_failed out.old out.new printer.old printer.new
         (flat_map unchecked_line parts.now) }
 {
@@ -112,7 +116,7 @@ fn print_rule_findings<S: Sink>(printer: &mut Printer, out: &mut S, findings: &[
 }
 
 // All lines.
-fn print_lines<S: Sink>(printer: &mut Printer, out: &mut S, report: &Report<'_>)
+pub(crate) fn print_lines<S: Sink>(printer: &mut Printer, out: &mut S, report: &Report<'_>)
     ensures { Prints S.held S.has_failed out.old out.new printer.old printer.new
         (report_text report.now) }
 {

@@ -2,3 +2,6 @@ mod Firsts
 mod Numbering
 mod Pending
 mod Referring
+mod OneShape
+mod FirstPlaces
+mod Shaping

@@ -46,18 +46,18 @@ one_place (s ∷ rows) (suc i) zero p q d a b same =
 one_place (s ∷ rows) (suc i) (suc j) p q d a b same =
     ap suc (one_place rows i j p q (distinct_rest s rows d) a b same)
 
-before : {A : Type 0} (xs : List A) (x : A) (i : ℕ) → i < length xs → slice_get (xs ++ x ∷ []) i ≡ slice_get xs i
+pub before : {A : Type 0} (xs : List A) (x : A) (i : ℕ) → i < length xs → slice_get (xs ++ x ∷ []) i ≡ slice_get xs i
 before [] x i l = absurd (omega (arith, l))
 before (y ∷ xs) x zero l = refl
 before (y ∷ xs) x (suc i) l = before xs x i (omega (arith, l))
 
-behind : {A : Type 0} (xs : List A) (x : A) (i : ℕ) → i ≡ length xs → slice_get (xs ++ x ∷ []) i ≡ Some x
+pub behind : {A : Type 0} (xs : List A) (x : A) (i : ℕ) → i ≡ length xs → slice_get (xs ++ x ∷ []) i ≡ Some x
 behind [] x zero l = refl
 behind [] x (suc i) l = absurd (omega (arith, l))
 behind (y ∷ xs) x zero l = absurd (omega (arith, l))
 behind (y ∷ xs) x (suc i) l = behind xs x i (omega (arith, l))
 
-item_at : {A : Type 0} (xs : List A) (i : ℕ) → i < length xs → (x : A) × (slice_get xs i ≡ Some x)
+pub item_at : {A : Type 0} (xs : List A) (i : ℕ) → i < length xs → (x : A) × (slice_get xs i ≡ Some x)
 item_at [] i l = absurd (omega (arith, l))
 item_at (y ∷ xs) zero l = (y, refl)
 item_at (y ∷ xs) (suc i) l = item_at xs i (omega (arith, l))

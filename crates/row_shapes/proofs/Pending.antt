@@ -1,9 +1,9 @@
 -- A stack of values, and the references in them.
-use Rattle.std.proofs.Common.{◌≡◌, ◌<◌, ◌+◌, ℕ, List, [], ◌∷◌, ◌++◌, Some, refl, sym, ap, ◌∙◌, arith, append_assoc, append-nil}
+use Rattle.std.proofs.Common.{◌≡◌, ◌+◌, ℕ, List, [], ◌∷◌, ◌++◌, Some, refl, sym, ap, ◌∙◌, arith, append_assoc, append-nil}
 use Rattle.step_values.specs.NodeCounts.{nodes_of, nodes_in}
 use Rattle.step_values.specs.Shapes.{outside, outside_each}
 use Rattle.step_values.specs.Slots.{nth}
-use Rattle.step_values.specs.Values.{Value, leaf, reference, typed, sequence, bag, Values}
+use Rattle.step_values.specs.Values.{Value, typed, Values}
 use Rattle.step_values.proofs.Walks.{after, after_at}
 use Rattle.row_shapes.specs.ComputedReferences.{Visits, outside_pending, nodes_pending}
 

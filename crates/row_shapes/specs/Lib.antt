@@ -1,3 +1,5 @@
 pub mod ComputedKinds
 pub mod References
 pub mod ComputedReferences
+pub mod ComputedLabelling
+pub mod ComputedShapes

@@ -4,3 +4,4 @@
 
 pub mod kinds;
 pub mod references;
+pub mod shapes;

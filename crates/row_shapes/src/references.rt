@@ -44,8 +44,10 @@ pub fn references<'a>(alloc: Global, input: &Plain<'a>) -> Result<Vec<Edge>, All
     ensures targets { IfOk result (λ edges. All (λ edge. edge.target < length input.now) edges.items) }
 {
     let mut edges = Vec::new(alloc);
+    let mut named = Vec::new(alloc);
+    let mut pending: Vec<Slot<'_, 'a>> = Vec::new(alloc);
     for place in 0..input.len() {
-        let named = names_outside(alloc, &input.row(place).values)?;
+        names_outside(&input.row(place).values, &mut named, &mut pending)?;
         add_edges(&mut edges, input, place as u32, &named)?;
     }
     Ok(edges)
@@ -90,17 +92,22 @@ fn place_of<'a>(input: &Plain<'a>, name: u64) -> u32
     }
 }
 
-/// The names that values refer to outside bags, in order.
-fn names_outside<'p, 'a>(alloc: Global, values: &Slots<'p, 'a>) -> Result<Vec<u64>, AllocError>
-    ensures { IfOk result (λ named. named.items ≡ outside_each values.now) }
+/// The names that values refer to outside bags, in order, in place of those that were there. What was pending is
+/// forgotten.
+fn names_outside<'p, 'a>(
+    values: &Slots<'p, 'a>,
+    named: &mut Vec<u64>,
+    pending: &mut Vec<Slot<'p, 'a>>,
+) -> Result<(), AllocError>
+    ensures { OnOk result (named.new.items ≡ outside_each values.now) }
 {
-    let mut named = Vec::new(alloc);
-    let mut pending: Vec<Slot<'p, 'a>> = Vec::new(alloc);
-    push_all(&mut pending, values)?;
+    named.clear();
+    pending.clear();
+    push_all(pending, values)?;
     while let Some(value) = pending.pop() {
-        visit(&value, &mut named, &mut pending)?;
+        visit(&value, named, pending)?;
     }
-    Ok(named)
+    Ok(())
 }
 
 /// Notes the name of a reference; what is inside a value that is no bag is pending.

@@ -12,7 +12,7 @@ use Rattle.step_values.specs.Views.{word_of}
 use Rattle.step_values.proofs.References.{each_weaker_of}
 use Rattle.step_equal.specs.declared.row.PlainRow.{PlainRow}
 use Rattle.step_equal.specs.declared.row.RowHead.{RowHead}
-use Rattle.step_equal.specs.ComputedHeads.{kinds_within, numbered_heads}
+use Rattle.step_equal.specs.ComputedHeads.{type_lists_within, numbered_heads}
 use Rattle.step_equal.specs.Rows.{Row, names, row_at, IsName, IsPopulation}
 use Rattle.step_equal.specs.Views.{Head, head_names, head_of, head_seen, heads_seen, or_none, row_from, rows_from, rows_of, types_at, values_within}
 use Rattle.step_equal.proofs.Lookup.{row_cases}
@@ -33,23 +33,23 @@ length_numbered n (r ∷ rows) = ap suc (length_numbered (suc n) rows)
 
 -- one row more
 pub numbered_more : (n : ℕ) (rows : List PlainRow) (r : PlainRow) → numbered_heads n (rows ++ r ∷ []) ≡ numbered_heads n
-    rows ++ record { name = r.name; section = r.section; kind = n + length rows } ∷ []
+    rows ++ record { name = r.name; section = r.section; type_list = n + length rows } ∷ []
 numbered_more n [] r =
-    let same : n ≡ n + 0 = omega arith in λ i. record { name = r.name; section = r.section; kind = same i } ∷ []
+    let same : n ≡ n + 0 = omega arith in λ i. record { name = r.name; section = r.section; type_list = same i } ∷ []
 numbered_more n (q ∷ rows) r =
     let same : suc n + length rows ≡ n + suc (length rows) = omega arith in
-    ap (λ hs. record { name = q.name; section = q.section; kind = n } ∷ hs) (numbered_more (suc n) rows r
-    ∙ ap (λ k. numbered_heads (suc n) rows ++ record { name = r.name; section = r.section; kind = k } ∷ []) same)
+    ap (λ hs. record { name = q.name; section = q.section; type_list = n } ∷ hs) (numbered_more (suc n) rows r
+    ∙ ap (λ k. numbered_heads (suc n) rows ++ record { name = r.name; section = r.section; type_list = k } ∷ []) same)
 
 pub numbered_next : (rows : List PlainRow) (old : List RowHead) (i : ℕ) (r : PlainRow) → i < length rows
     → r ≡ get_or rows i r → old ≡ numbered_heads 0 (take i rows) → (new : List RowHead)
-    → new ≡ old ++ record { name = r.name; section = r.section; kind = i } ∷ []
+    → new ≡ old ++ record { name = r.name; section = r.section; type_list = i } ∷ []
     → new ≡ numbered_heads 0 (take (i + 1) rows)
 numbered_next rows old i r within at done new made =
     let taken : take (i + 1) rows ≡ take i rows ++ r ∷ [] =
     take_more rows i r within ∙ ap (λ q. take i rows ++ q ∷ []) (sym at) in
     let long : i ≡ 0 + length (take i rows) = omega (arith, length-take-le i rows (omega (arith, within))) in
-    made ∙ (λ j. done j ++ record { name = r.name; section = r.section; kind = long j } ∷ [])
+    made ∙ (λ j. done j ++ record { name = r.name; section = r.section; type_list = long j } ∷ [])
     ∙ sym (numbered_more 0 (take i rows) r) ∙ ap (numbered_heads 0) (sym taken)
 
 stands_behind : {A : Type 0} (xs : List A) (y : A) (ys : List A) → slice_get (xs ++ y ∷ ys) (length xs) ≡ Some y
@@ -58,30 +58,30 @@ stands_behind (x ∷ xs) y ys = stands_behind xs y ys
 
 -- each row of a kind of its own has its types
 numbered_seen : (front : List (List (List ℕ))) (rows : List PlainRow)
-    → heads_seen (front ++ kinds_within rows) (numbered_heads (length front) rows) ≡ map head_of rows
+    → heads_seen (front ++ type_lists_within rows) (numbered_heads (length front) rows) ≡ map head_of rows
 numbered_seen front [] = refl
 numbered_seen front (r ∷ rows) =
     let t = map word_of r.types.items in
-    let here : types_at (front ++ t ∷ kinds_within rows) (length front) ≡ t =
-    ap or_none (stands_behind front t (kinds_within rows)) in
+    let here : types_at (front ++ t ∷ type_lists_within rows) (length front) ≡ t =
+    ap or_none (stands_behind front t (type_lists_within rows)) in
     let long : suc (length front) ≡ length (front ++ t ∷ []) =
     omega (arith, length-append front (t ∷ [])) in
-    let same : front ++ t ∷ kinds_within rows ≡ (front ++ t ∷ []) ++ kinds_within rows =
-    sym (append_assoc front (t ∷ []) (kinds_within rows)) in
-    let rest : heads_seen (front ++ t ∷ kinds_within rows) (numbered_heads (suc (length front)) rows) ≡ map head_of rows =
+    let same : front ++ t ∷ type_lists_within rows ≡ (front ++ t ∷ []) ++ type_lists_within rows =
+    sym (append_assoc front (t ∷ []) (type_lists_within rows)) in
+    let rest : heads_seen (front ++ t ∷ type_lists_within rows) (numbered_heads (suc (length front)) rows) ≡ map head_of rows =
     (λ i. heads_seen (same i) (numbered_heads (long i) rows)) ∙ numbered_seen (front ++ t ∷ []) rows in
     λ i. record { name = r.name; section = r.section; types = here i } ∷ rest i
 
-pub heads_numbered : (rows : List PlainRow) → heads_seen (kinds_within rows) (numbered_heads 0 rows) ≡ map head_of rows
+pub heads_numbered : (rows : List PlainRow) → heads_seen (type_lists_within rows) (numbered_heads 0 rows) ≡ map head_of rows
 heads_numbered rows = numbered_seen [] rows
 
-pub names_seen : (kinds : List (List (List ℕ))) (hs : List RowHead) → map (λ (h : Head). h.name) (heads_seen kinds hs)
+pub names_seen : (lists : List (List (List ℕ))) (hs : List RowHead) → map (λ (h : Head). h.name) (heads_seen lists hs)
     ≡ head_names hs
-names_seen kinds [] = refl
-names_seen kinds (h ∷ hs) = ap (λ ns. h.name ∷ ns) (names_seen kinds hs)
+names_seen lists [] = refl
+names_seen lists (h ∷ hs) = ap (λ ns. h.name ∷ ns) (names_seen lists hs)
 
-pub length_seen : (kinds : List (List (List ℕ))) (hs : List RowHead) → length (heads_seen kinds hs) ≡ length hs
-length_seen kinds hs = length-map hs (head_seen kinds)
+pub length_seen : (lists : List (List (List ℕ))) (hs : List RowHead) → length (heads_seen lists hs) ≡ length hs
+length_seen lists hs = length-map hs (head_seen lists)
 
 pub length_from : (hs : List Head) (rows : List Values) → length hs ≡ length rows → length (rows_from hs rows)
     ≡ length hs
@@ -113,11 +113,18 @@ nodes_from (h ∷ hs) (vs ∷ rows) e =
     sum_by-cons nodes_in vs rows ∙ ap (λ n. nodes_in vs + n) (nodes_from hs rows (omega (arith, e)))
     ∙ sym (sum_by-cons (λ r. nodes_in r.values) (row_from h vs) (rows_from hs rows))
 
--- the names of heads that have kinds
-pub names_kept : (kinds : List (List (List ℕ))) (hs : List RowHead) (rows : List Values) → length hs ≡ length rows
-    → names (rows_from (heads_seen kinds hs) rows) ≡ head_names hs
-names_kept kinds hs rows e =
-    names_from (heads_seen kinds hs) rows (length_seen kinds hs ∙ e) ∙ names_seen kinds hs
+pub values_from : (hs : List Head) (rows : List Values) → length hs ≡ length rows → map (λ r. r.values) (rows_from hs rows)
+    ≡ rows
+values_from [] [] e = refl
+values_from [] (vs ∷ rows) e = absurd (omega (arith, e))
+values_from (h ∷ hs) [] e = absurd (omega (arith, e))
+values_from (h ∷ hs) (vs ∷ rows) e = ap (λ rest. vs ∷ rest) (values_from hs rows (omega (arith, e)))
+
+-- the names of heads that have lists of types
+pub names_kept : (lists : List (List (List ℕ))) (hs : List RowHead) (rows : List Values) → length hs ≡ length rows
+    → names (rows_from (heads_seen lists hs) rows) ≡ head_names hs
+names_kept lists hs rows e =
+    names_from (heads_seen lists hs) rows (length_seen lists hs ∙ e) ∙ names_seen lists hs
 
 -- the references of a row are names
 row_refers : (ns : List ℕ) (hs : List Head) (rows : List Values) → ReferTo ns rows → (x : ℕ) (p : Row)

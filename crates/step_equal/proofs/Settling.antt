@@ -24,8 +24,8 @@ use Rattle.step_equal.specs.Rows.{Row, names, row_at, IsName, IsPopulation, AreF
 use Rattle.step_equal.specs.Settled.{AreInOrder, IsSettled}
 use Rattle.step_values.specs.Views.{word_of}
 use Rattle.step_values.specs.Values.{Values}
-use Rattle.step_equal.specs.ComputedHeads.{SettlesHead, SettlesKind}
-use Rattle.step_equal.specs.Views.{Head, heads_seen, kinds_of, rows_from, types_at}
+use Rattle.step_equal.specs.ComputedHeads.{SettlesHead, SettlesTypes}
+use Rattle.step_equal.specs.Views.{Head, heads_seen, type_lists_of, rows_from, types_at}
 use Rattle.step_equal.proofs.Lookup.{row_cases, row_here, row_later, held_name, name_held}
 use Rattle.step_equal.proofs.Placing.{name_stands}
 use Rattle.step_values.proofs.References.{each_weaker_of}
@@ -133,28 +133,28 @@ population_settled rs qs z population = record {
         (sym (name_stands qs y) ∙ ap (list_any (nat_eq y)) (names_settled rs qs z) ∙ name_stands rs y
         ∙ name_held rs y m)
 
--- a step of a loop that settles kinds in place
-module _ {Z : Type 0} (first kinds : List (Vec Word Z)) (i : ℕ) (k j : Vec Word Z) (len : length kinds ≡ length first)
-    (left : drop i kinds ≡ drop i first) (within : i < length kinds) (at : k ≡ get_or kinds i k) where
-  ahead : get_or kinds i k ∷ drop (suc i) kinds ≡ get_or first i k ∷ drop (suc i) first
-  ahead = sym (drop-cons kinds i k within) ∙ left ∙ drop-cons first i k (omega (arith, len, within))
+-- a step of a loop that settles lists in place
+module _ {Z : Type 0} (first lists : List (Vec Word Z)) (i : ℕ) (k j : Vec Word Z) (len : length lists ≡ length first)
+    (left : drop i lists ≡ drop i first) (within : i < length lists) (at : k ≡ get_or lists i k) where
+  ahead : get_or lists i k ∷ drop (suc i) lists ≡ get_or first i k ∷ drop (suc i) first
+  ahead = sym (drop-cons lists i k within) ∙ left ∙ drop-cons first i k (omega (arith, len, within))
 
-  pub settled_len : length (set kinds i j) ≡ length first
-  settled_len = length-set kinds i j ∙ len
+  pub settled_len : length (set lists i j) ≡ length first
+  settled_len = length-set lists i j ∙ len
 
-  pub settled_left : drop (i + 1) (set kinds i j) ≡ drop (i + 1) first
-  settled_left = rw add-one (drop-set-lt (suc i) kinds i j (omega arith) ∙ (let e = ahead in cc))
+  pub settled_left : drop (i + 1) (set lists i j) ≡ drop (i + 1) first
+  settled_left = rw add-one (drop-set-lt (suc i) lists i j (omega arith) ∙ (let e = ahead in cc))
 
-  pub settled_done : AllZip SettlesKind (take i first) (take i kinds) → SettlesKind (get_or kinds i k) j
-      → AllZip SettlesKind (take (i + 1) first) (take (i + 1) (set kinds i j))
+  pub settled_done : AllZip SettlesTypes (take i first) (take i lists) → SettlesTypes (get_or lists i k) j
+      → AllZip SettlesTypes (take (i + 1) first) (take (i + 1) (set lists i j))
   settled_done done settles =
       let here : k ≡ get_or first i k = at ∙ (let e = ahead in cc) in
       let before : take (i + 1) first ≡ take i first ++ k ∷ [] =
       rw add-one (take-suc first i k (omega (arith, len, within)) ∙ ap (λ s. take i first ++ s ∷ []) (sym here)) in
-      let after : take (i + 1) (set kinds i j) ≡ take i kinds ++ j ∷ [] = rw add-one (take-suc-set kinds i j within) in
-      subst (λ (t : List (Vec Word Z)). AllZip SettlesKind t (take (i + 1) (set kinds i j))) (sym before)
-      (subst (λ (t : List (Vec Word Z)). AllZip SettlesKind (take i first ++ k ∷ []) t) (sym after)
-      (AllZip-push SettlesKind (take i first) (take i kinds) k j done (subst (λ (t : Vec Word Z). SettlesKind t j) (sym at)
+      let after : take (i + 1) (set lists i j) ≡ take i lists ++ j ∷ [] = rw add-one (take-suc-set lists i j within) in
+      subst (λ (t : List (Vec Word Z)). AllZip SettlesTypes t (take (i + 1) (set lists i j))) (sym before)
+      (subst (λ (t : List (Vec Word Z)). AllZip SettlesTypes (take i first ++ k ∷ []) t) (sym after)
+      (AllZip-push SettlesTypes (take i first) (take i lists) k j done (subst (λ (t : Vec Word Z). SettlesTypes t j) (sym at)
       settles)))
 
 none_in_order : AreInOrder [] []
@@ -162,19 +162,19 @@ unfolding IsStrictlySortedBy
 none_in_order = record { in_order = tt; same = λ w. refl }
 
 -- the types of a kind
-kind_settled : {Z : Type 0} (ks js : List (Vec Word Z)) → AllZip SettlesKind ks js → (n : ℕ)
-    → AreInOrder (types_at (kinds_of ks) n) (types_at (kinds_of js) n)
-kind_settled [] [] z n = none_in_order
-kind_settled [] (j ∷ js) z n = absurd z
-kind_settled (k ∷ ks) [] z n = absurd z
-kind_settled (k ∷ ks) (j ∷ js) z zero = z.0
-kind_settled (k ∷ ks) (j ∷ js) z (suc n) = kind_settled ks js z.1 n
+types_settled : {Z : Type 0} (ks js : List (Vec Word Z)) → AllZip SettlesTypes ks js → (n : ℕ)
+    → AreInOrder (types_at (type_lists_of ks) n) (types_at (type_lists_of js) n)
+types_settled [] [] z n = none_in_order
+types_settled [] (j ∷ js) z n = absurd z
+types_settled (k ∷ ks) [] z n = absurd z
+types_settled (k ∷ ks) (j ∷ js) z zero = z.0
+types_settled (k ∷ ks) (j ∷ js) z (suc n) = types_settled ks js z.1 n
 
-pub heads_settled : {Z : Type 0} (ks js : List (Vec Word Z)) → AllZip SettlesKind ks js → (hs : List RowHead)
-    → AllZip SettlesHead (heads_seen (kinds_of ks) hs) (heads_seen (kinds_of js) hs)
+pub heads_settled : {Z : Type 0} (ks js : List (Vec Word Z)) → AllZip SettlesTypes ks js → (hs : List RowHead)
+    → AllZip SettlesHead (heads_seen (type_lists_of ks) hs) (heads_seen (type_lists_of js) hs)
 heads_settled ks js z [] = tt
 heads_settled ks js z (h ∷ hs) = (
-  λ vs. record { name = refl; section = refl; types = kind_settled ks js z h.kind; values = refl },
+  λ vs. record { name = refl; section = refl; types = types_settled ks js z h.type_list; values = refl },
   heads_settled ks js z hs,
 )
 
@@ -190,6 +190,6 @@ rows_settled (h ∷ hs) (g ∷ gs) (vs ∷ rows) z = (z.0 vs, rows_settled hs gs
 whole : {A : Type 0} (n : ℕ) (old new : List A) → n ≡ length new → take n (new ++ drop (length new) old) ≡ new
 whole n old new e = ap (λ k. take k (new ++ drop (length new) old)) e ∙ take-append_seam new (drop (length new) old)
 
-pub whole_settled : {Z : Type 0} (n : ℕ) (old new : List (Vec Word Z)) → n ≡ length old → AllZip SettlesKind old new
+pub whole_settled : {Z : Type 0} (n : ℕ) (old new : List (Vec Word Z)) → n ≡ length old → AllZip SettlesTypes old new
     → take n (new ++ drop (length new) old) ≡ new
-whole_settled n old new e z = whole n old new (e ∙ length_all_zip SettlesKind old new z)
+whole_settled n old new e z = whole n old new (e ∙ length_all_zip SettlesTypes old new z)

@@ -32,24 +32,24 @@ head_of r = record { name = r.name; section = r.section; types = map word_of r.t
 abbrev pub values_within : PlainRow → Values
 values_within r = values_of r.values.items
 
--- the types of each kind
-abbrev pub kinds_of : {Z : Type 0} → List (Vec Word Z) → List (List (List ℕ))
-kinds_of kinds = map (λ ws. map word_of ws.items) kinds
+-- lists of types
+abbrev pub type_lists_of : {Z : Type 0} → List (Vec Word Z) → List (List (List ℕ))
+type_lists_of lists = map (λ ws. map word_of ws.items) lists
 
--- .. of one, which has none where it isn't among them
+-- .. the one of a number, which has no types where there is none
 abbrev pub or_none : Option (List (List ℕ)) → List (List ℕ)
 or_none None = []
 or_none (Some types) = types
 
 abbrev pub types_at : List (List (List ℕ)) → ℕ → List (List ℕ)
-types_at kinds n = or_none (slice_get kinds n)
+types_at lists n = or_none (slice_get lists n)
 
--- a head with the types of its kind
+-- a head with its list of types
 abbrev pub head_seen : List (List (List ℕ)) → RowHead → Head
-head_seen kinds h = record { name = h.name; section = h.section; types = types_at kinds h.kind }
+head_seen lists h = record { name = h.name; section = h.section; types = types_at lists h.type_list }
 
 abbrev pub heads_seen : List (List (List ℕ)) → List RowHead → List Head
-heads_seen kinds hs = map (head_seen kinds) hs
+heads_seen lists hs = map (head_seen lists) hs
 
 abbrev pub head_names : List RowHead → List ℕ
 head_names hs = map (λ h. h.name) hs

@@ -38,7 +38,8 @@ pub fn kernels_are_congruences()
     ensures { KernelsAreCongruences }
 {}
 
-/// No image has fewer instances than the quotient by value equality.
+/// No image has fewer instances than the quotient by value equality, where each reference in a bag
+/// names a pinned instance.
 pub fn no_image_has_fewer()
     ensures { NoImageHasFewer }
 {}
@@ -60,12 +61,13 @@ pub fn quotients_are_images()
 {}
 
 /// Value equality on the quotient by value equality is the identity, also under pins that are found
-/// anew.
+/// anew, where each reference in a bag names a pinned instance.
 pub fn quotients_are_reduced()
     ensures { QuotientsAreReduced }
 {}
 
-/// A second quotient by value equality changes nothing, also under pins that are found anew.
+/// A second quotient by value equality changes nothing, also under pins that are found anew, where
+/// each reference in a bag names a pinned instance.
 pub fn quotients_stay()
     ensures { QuotientsStay }
 {}
@@ -95,8 +97,8 @@ pub fn value_equality_exists()
     ensures { ValueEqualityExists }
 {}
 
-/// A valid table, and an output that is the quotient by its last partition, prove that output a
-/// least image, whoever made both.
+/// A valid table, and an output that is the quotient by its last partition, prove that output an
+/// image, whoever made both; and a least one, where each reference in a bag names a pinned instance.
 pub fn certificates_prove()
     ensures { CertificatesProve }
 {}

@@ -1,10 +1,10 @@
-//! Rows in parts: their names, their heads, and the kinds of their types.
+//! Rows in parts: their names, their heads, and the lists of their types.
 
 ghost use Rattle.std.specs.Prelude.{◌≡◌, ◌<◌, length, map, IfOk};
 ghost use Rattle.step_values.specs.Views.{word_of};
-ghost use Rattle.step_equal.specs.ComputedHeads.{kinds_within, numbered_heads};
+ghost use Rattle.step_equal.specs.ComputedHeads.{type_lists_within, numbered_heads};
 ghost use Rattle.step_equal.specs.Rows.{names};
-ghost use Rattle.step_equal.specs.Views.{head_names, kinds_of, rows_of, types_at};
+ghost use Rattle.step_equal.specs.Views.{head_names, type_lists_of, rows_of, types_at};
 
 use crate::row::{PlainRow, RowHead};
 use std::alloc::{AllocError, Global};
@@ -32,7 +32,7 @@ pub(crate) fn head_names(alloc: Global, heads: &[RowHead]) -> Result<Vec<u64>, A
     Ok(names)
 }
 
-/// What stands before the values of each row, which is of a kind of its own.
+/// What stands before the values of each row, which has a list of types of its own.
 pub(crate) fn heads_of<'a>(alloc: Global, rows: &[PlainRow<'a>]) -> Result<Vec<RowHead>, AllocError>
     requires few { length rows.now < 4294967296 }
     ensures { IfOk result (λ heads. heads.items ≡ numbered_heads 0 rows.now) }
@@ -43,32 +43,32 @@ pub(crate) fn heads_of<'a>(alloc: Global, rows: &[PlainRow<'a>]) -> Result<Vec<R
         heads.push(RowHead {
             name: row.name,
             section: row.section,
-            kind: i as u32,
+            type_list: i as u32,
         })?;
     }
     Ok(heads)
 }
 
 /// The types of each row.
-pub(crate) fn kinds_of<'a>(
+pub(crate) fn type_lists_of<'a>(
     alloc: Global,
     rows: Vec<PlainRow<'a>>,
 ) -> Result<Vec<Vec<Word<'a>>>, AllocError>
-    ensures { IfOk result (λ kinds. kinds_of kinds.items ≡ kinds_within rows.entry.items) }
+    ensures { IfOk result (λ lists. type_lists_of lists.items ≡ type_lists_within rows.entry.items) }
 {
-    let mut kinds = Vec::with_capacity(alloc, rows.len())?;
+    let mut type_lists = Vec::with_capacity(alloc, rows.len())?;
     for row in rows {
-        kinds.push(row.types)?;
+        type_lists.push(row.types)?;
     }
-    Ok(kinds)
+    Ok(type_lists)
 }
 
-/// The types of a kind; one beyond the list has none.
-pub(crate) fn types_at<'p, 'a>(kinds: &'p [Vec<Word<'a>>], kind: u32) -> &'p [Word<'a>]
-    ensures { map word_of result.now ≡ types_at (kinds_of kinds.entry.now) kind }
+/// The list of types of a number; there are none for a number beyond all lists.
+pub(crate) fn types_at<'p, 'a>(type_lists: &'p [Vec<Word<'a>>], number: u32) -> &'p [Word<'a>]
+    ensures { map word_of result.now ≡ types_at (type_lists_of type_lists.entry.now) number }
 {
-    if kind as usize >= kinds.len() {
+    if number as usize >= type_lists.len() {
         return &[];
     }
-    &kinds[kind as usize]
+    &type_lists[number as usize]
 }

@@ -6,6 +6,7 @@ ghost use Rattle.std.specs.Prelude.{
   nat_eq,
   is_some,
   length,
+  map,
   slice_get,
   IfOk,
   IfErr,
@@ -16,6 +17,7 @@ ghost use Rattle.std.specs.Prelude.{
 };
 ghost use Rattle.std.specs.List.{IsDistinct, AllZip, sum_by};
 ghost use Rattle.parsing.specs.Nodes.{IsColumn};
+ghost use Rattle.step_values.specs.Building.{AreRunsOf};
 ghost use Rattle.step_values.specs.Cells.{value_nodes};
 ghost use Rattle.step_values.specs.NodeCounts.{nodes_in};
 ghost use Rattle.step_values.specs.Targets.{LeadTo, ReferTo, targets_of};
@@ -27,7 +29,7 @@ ghost use Rattle.step_equal.specs.Settled.{IsSettled};
 ghost use Rattle.step_equal.specs.Views.{
   head_names,
   heads_seen,
-  kinds_of,
+  type_lists_of,
   row_seen,
   rows_from,
   rows_of,
@@ -35,10 +37,10 @@ ghost use Rattle.step_equal.specs.Views.{
 
 use crate::fault::PlainFault;
 use crate::laid::laid_down;
-use crate::parts::{head_names, heads_of, kinds_of, row_names, types_at};
+use crate::parts::{head_names, heads_of, row_names, type_lists_of, types_at};
 use crate::places::{Names, places_of};
 use crate::row::{PlainRow, RowHead, RowSlot};
-use crate::settled::settle_kinds;
+use crate::settled::settle_type_lists;
 use std::alloc::{AllocError, Global};
 use std::hash::RandomState;
 use std::marker::Model;
@@ -48,12 +50,11 @@ use step_values::rows::ValueRows;
 
 /// A population: at most 2^32 - 1 rows, no name stands twice, and each reference names a row.
 ///
-/// The values of all rows stand in one column of cells, and rows of one kind have their types in
-/// common.
+/// The values of all rows stand in one column of cells, and rows may have a list of types in common.
 #[derive(Drop)]
 pub struct Plain<'a> {
     heads: Vec<RowHead>,
-    kinds: Vec<Vec<Word<'a>>>,
+    type_lists: Vec<Vec<Word<'a>>>,
     values: ValueRows<'a>,
     places: Names,
 }
@@ -63,10 +64,10 @@ impl<'a> Model for Plain<'a> {
 
     ghost coded = { coded_rows };
 
-    ghost view = { λ p. rows_from (heads_seen (kinds_of p.kinds.items) p.heads.items) p.values.rows };
+    ghost view = { λ p. rows_from (heads_seen (type_lists_of p.type_lists.items) p.heads.items) p.values.rows };
 
     ghost invariant = { λ p.
-        IsKept (heads_seen (kinds_of p.kinds.items) p.heads.items) p.values p.places.keys };
+        IsKept (heads_seen (type_lists_of p.type_lists.items) p.heads.items) p.values p.places.keys };
 }
 
 impl<'a> Plain<'a> {
@@ -91,15 +92,14 @@ impl<'a> Plain<'a> {
         let places = places_of(alloc, keys, &names)?;
         let values = laid_down(alloc, &names, &places, &rows)?;
         let heads = heads_of(alloc, &rows)?;
-        let kinds = kinds_of(alloc, rows)?;
-        Ok(settled(heads, kinds, values, places)?)
+        let type_lists = type_lists_of(alloc, rows)?;
+        Ok(settled(heads, type_lists, values, places)?)
     }
 
-    /// The population of these heads, each with the types of its kind and, in order, its row of
-    /// values. A kind is a number in the list of kinds, counted from 0; a row of one beyond the list
-    /// has no types. The type words of each kind come in order and none twice. The values were put
-    /// together over the names of the heads, so that each reference in them has the place of its
-    /// row.
+    /// The population of these heads, each with its list of types and, in order, its row of values.
+    /// Lists of types have numbers, counted from 0; a row whose number is beyond them has no types.
+    /// The type words of each list come in order and none twice. The values were put together over
+    /// the names of the heads, so that each reference in them has the place of its row.
     ///
     /// Where there are more than 2^32 - 1 rows the fault is `TooManyRows`, else where a name stands
     /// twice `DuplicateRow`; where memory runs out it is `Memory`.
@@ -109,7 +109,7 @@ impl<'a> Plain<'a> {
         alloc: Global,
         keys: RandomState,
         heads: Vec<RowHead>,
-        kinds: Vec<Vec<Word<'a>>>,
+        type_lists: Vec<Vec<Word<'a>>>,
         values: ValueRows<'a>,
     ) -> Result<Plain<'a>, PlainFault>
         requires each { length heads.items ≡ length values.rows }
@@ -117,16 +117,16 @@ impl<'a> Plain<'a> {
         requires closed { ReferTo (head_names heads.items) values.rows }
         ensures rows { IfOk result
             (λ p. AllZip IsSettled (rows_from
-            (heads_seen (kinds_of kinds.entry.items) heads.items) values.entry.rows) p) }
+            (heads_seen (type_lists_of type_lists.entry.items) heads.items) values.entry.rows) p) }
         ensures population { IfOk result (λ p. IsPopulation p) }
         ensures few { IfOk result (λ p. AreFew p) }
         ensures fault { IfErr result
             (λ e. IsFaultOf (rows_from
-            (heads_seen (kinds_of kinds.entry.items) heads.items) values.entry.rows) e) }
+            (heads_seen (type_lists_of type_lists.entry.items) heads.items) values.entry.rows) e) }
     {
         let names = head_names(alloc, &heads)?;
         let places = places_of(alloc, keys, &names)?;
-        Ok(settled(heads, kinds, values, places)?)
+        Ok(settled(heads, type_lists, values, places)?)
     }
 
     /// How many rows it has.
@@ -143,7 +143,7 @@ impl<'a> Plain<'a> {
         requires { place < length self.now }
         ensures { slice_get self.now place ≡ Some (row_seen result) }
     {
-        row_in(&self.heads, &self.kinds, &self.values, place)
+        row_in(&self.heads, &self.type_lists, &self.values, place)
     }
 
     /// The name of the row at a place.
@@ -169,38 +169,44 @@ impl<'a> Plain<'a> {
         self.places.contains(&name)
     }
 
-    /// The values of all rows as one column: one cell for each node of a value, what is inside each
-    /// before it, and in each reference the place of the row that it names. It takes no memory.
+    /// The values of all rows as one column, those of each row side by side: one cell for each node
+    /// of a value, what is inside each before it, and in each reference the place of the row that it
+    /// names. It takes no memory.
     pub fn cells(&self) -> &[Cell<'a>]
         ensures column { IsColumn value_nodes result.now }
         ensures count { length result.now ≡ sum_by (λ r. nodes_in r.values) self.now }
         ensures references { LeadTo (names self.now) (targets_of result.now) }
+        ensures rows { AreRunsOf result.now (map (λ r. r.values) self.now) }
     {
         self.values.cells()
     }
 }
 
-/// The row of the head and the values at a place, with the types of its kind.
+/// The row of the head and the values at a place, with its list of types.
 fn row_in<'p, 'a>(
     heads: &'p [RowHead],
-    kinds: &'p [Vec<Word<'a>>],
+    type_lists: &'p [Vec<Word<'a>>],
     values: &'p ValueRows<'a>,
     place: usize,
 ) -> RowSlot<'p, 'a>
     requires head { place < length heads.now }
     requires values { place < length values.now.rows }
-    ensures { slice_get (rows_from (heads_seen (kinds_of kinds.entry.now) heads.entry.now)
+    ensures { slice_get (rows_from (heads_seen (type_lists_of type_lists.entry.now) heads.entry.now)
         values.entry.now.rows) place ≡ Some (row_seen result) }
 {
     let head = heads[place];
-    RowSlot::of(head, types_at(kinds, head.kind), values.row(place))
+    RowSlot::of(
+        head,
+        types_at(type_lists, head.type_list),
+        values.row(place),
+    )
 }
 
-/// The population of heads, kinds of types and rows of values, with the type words of each kind in
+/// The population of heads, lists of types and rows of values, with the type words of each list in
 /// order and none twice.
 fn settled<'a>(
     heads: Vec<RowHead>,
-    kinds: Vec<Vec<Word<'a>>>,
+    type_lists: Vec<Vec<Word<'a>>>,
     values: ValueRows<'a>,
     places: Names,
 ) -> Result<Plain<'a>, AllocError>
@@ -212,15 +218,15 @@ fn settled<'a>(
     requires closed { ReferTo places.keys values.rows }
     ensures rows { IfOk result
         (λ p. AllZip IsSettled (rows_from
-        (heads_seen (kinds_of kinds.entry.items) heads.items) values.entry.rows) p) }
+        (heads_seen (type_lists_of type_lists.entry.items) heads.items) values.entry.rows) p) }
     ensures population { IfOk result (λ p. IsPopulation p) }
     ensures few { IfOk result (λ p. AreFew p) }
 {
-    let mut kinds = kinds;
-    settle_kinds(&mut kinds)?;
+    let mut type_lists = type_lists;
+    settle_type_lists(&mut type_lists)?;
     Ok(Plain {
         heads,
-        kinds,
+        type_lists,
         values,
         places,
     })

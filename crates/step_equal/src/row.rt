@@ -25,14 +25,14 @@ pub struct PlainRow<'a> {
 }
 
 /// What a row has before its values: an instance's name, the data section that it stands in, and
-/// the kind of its types, which rows have in common.
+/// the number of the list of its types, which rows have in common.
 #[derive(Clone, Copy, Debug, PartialEq, Eq)]
 pub struct RowHead {
     pub name: u64,
     /// Counted from 0.
     pub section: u32,
-    /// Where its types stand in a list of kinds, counted from 0; beyond the list it has none.
-    pub kind: u32,
+    /// Where its types stand in a list of lists of types, counted from 0; beyond that list it has none.
+    pub type_list: u32,
 }
 
 /// A row as its readers see it, whatever it is kept in.
@@ -46,7 +46,7 @@ pub struct RowSlot<'p, 'a> {
 }
 
 impl<'p, 'a> RowSlot<'p, 'a> {
-    /// The row of a head, the types of its kind, and the values behind it, where they are kept.
+    /// The row of a head, its types, and the values behind it, where they are kept.
     pub fn of(head: RowHead, types: &'p [Word<'a>], values: Slots<'p, 'a>) -> RowSlot<'p, 'a>
         ensures { row_seen result ≡ record {
           name = head.name;

@@ -15,7 +15,7 @@ fn wrong_case(alloc: Global, keys: RandomState) -> Option<&'static str> {
         .or(labels::wrong_case(alloc, keys))
         .or(tables::wrong_class(alloc))
         .or(judged::wrong_case(alloc, keys))
-        .or(judged::wrong_root(alloc))
+        .or(judged::wrong_ancestor(alloc))
         .or(shaped::wrong_case(alloc, keys))
 }
 

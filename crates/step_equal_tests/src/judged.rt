@@ -1,8 +1,8 @@
 //! Tables of classes judged against small populations, and outputs merged by them.
 
 use crate::populations::{Row, Rows, Sketch, Words, Written, population};
+use judged_tables::ancestors::ancestors;
 use judged_tables::members::names_match;
-use judged_tables::roots::roots;
 use judged_tables::stable::is_stable;
 use judged_tables::well_formed::is_well_formed;
 use merged_outputs::merged::is_merged;
@@ -388,25 +388,28 @@ pub(crate) fn wrong_case(alloc: Global, keys: RandomState) -> Option<&'static st
     None
 }
 
-/// Whether the classes have these ancestors at round 0.
-fn has_roots(alloc: Global, table: &Table, ancestors: &[usize]) -> bool {
+/// Whether the classes have these ancestors at a round.
+fn has_ancestors(alloc: Global, table: &Table, round: u32, wanted: &[usize]) -> bool {
     if !is_well_formed(table) {
         return false;
     }
-    match roots(alloc, table) {
-        Ok(found) => found.as_slice() == ancestors,
+    match ancestors(alloc, table, round) {
+        Ok(found) => found.as_slice() == wanted,
         Err(_) => false,
     }
 }
 
 /// What is tested, if the ancestors of classes aren't answered so.
-pub(crate) fn wrong_root(alloc: Global) -> Option<&'static str> {
+pub(crate) fn wrong_ancestor(alloc: Global) -> Option<&'static str> {
     let Some(table) = table_of(alloc, FOUR, APART) else {
         return Some("a table");
     };
-    if has_roots(alloc, &table, &[0, 1, 0, 1]) {
+    if !has_ancestors(alloc, &table, 0, &[0, 1, 0, 1]) {
+        return Some("ancestors at round 0");
+    }
+    if has_ancestors(alloc, &table, 1, &[0, 1, 2, 1]) {
         None
     } else {
-        Some("ancestors at round 0")
+        Some("ancestors at round 1")
     }
 }

@@ -1,20 +1,23 @@
-//! The kinds of rows, and their references outside bags.
+//! The kinds of rows, their shapes, and their references outside bags.
 
 use crate::judged::names_of;
 use crate::populations::{Row, Rows, Sketch, Words, Written, population};
 use class_rounds::edges::Edge;
 use row_shapes::kinds::kinds;
 use row_shapes::references::references;
+use row_shapes::shapes::shapes;
 use std::alloc::Global;
 use std::collections::BTreeSet;
 use std::hash::RandomState;
 use step_equal::plain::Plain;
 
-/// What is tested, a population, its pinned names, the numbers of its kinds, and its references.
+/// What is tested, a population, its pinned names, the numbers of its kinds and of its shapes, and its
+/// references.
 type Case = (
     &'static str,
     Rows,
     &'static [u64],
+    &'static [u32],
     &'static [u32],
     &'static [Edge],
 );
@@ -50,6 +53,30 @@ const PLACED: Rows = &[ONE, TWO, AT_2, AT_BOTH];
 
 const IN_TWO_SECTIONS: Rows = &[ONE, ELSEWHERE];
 
+/// The value of `ONE` in another spelling and under another type; references to both, and to one of them in a
+/// bag.
+const OTHERWISE: Rows = &[
+    ONE,
+    (2, 0, PLACEMENT, &[Sketch::Number(b"1.0")]),
+    (3, 0, PLACEMENT, &[Sketch::Reference(1)]),
+    (4, 0, POINT, &[Sketch::Reference(2)]),
+    (5, 0, POINT, &[Sketch::Reference(1), Sketch::Bag(1)]),
+    (6, 0, POINT, &[Sketch::Reference(2), Sketch::Bag(1)]),
+];
+
+const TO_BOTH: &'static [Edge] = &[
+    Edge {
+        position: 0,
+        source: 2,
+        target: 0,
+    },
+    Edge {
+        position: 0,
+        source: 3,
+        target: 1,
+    },
+];
+
 const LINKED: &'static [Edge] = &[
     Edge {
         position: 0,
@@ -69,9 +96,38 @@ const LINKED: &'static [Edge] = &[
 ];
 
 const CASES: &'static [Case] = &[
-    ("kinds and references", PLACED, &[], &[0, 0, 2, 2], LINKED),
-    ("a pinned row is alone", PLACED, &[1], &[0, 1, 2, 2], LINKED),
-    ("sections are kinds", IN_TWO_SECTIONS, &[], &[0, 1], &[]),
+    (
+        "kinds and references",
+        PLACED,
+        &[],
+        &[0, 0, 2, 2],
+        &[0, 1, 2, 3],
+        LINKED,
+    ),
+    (
+        "a pinned row is alone",
+        PLACED,
+        &[1],
+        &[0, 1, 2, 2],
+        &[0, 1, 2, 3],
+        LINKED,
+    ),
+    (
+        "sections are kinds, and not shapes",
+        IN_TWO_SECTIONS,
+        &[],
+        &[0, 1],
+        &[0, 0],
+        &[],
+    ),
+    (
+        "types and names outside bags are no part of shapes",
+        OTHERWISE,
+        &[],
+        &[0, 1, 1, 0, 0, 0],
+        &[0, 0, 2, 2, 4, 5],
+        TO_BOTH,
+    ),
 ];
 
 /// Whether the kinds of a population have these numbers.
@@ -88,6 +144,14 @@ fn has_kinds(
     }
 }
 
+/// Whether the shapes of a population have these numbers.
+fn has_shapes(alloc: Global, keys: RandomState, input: &Plain<'static>, numbers: &[u32]) -> bool {
+    match shapes(alloc, keys, input) {
+        Ok(found) => found.as_slice() == numbers,
+        Err(_) => false,
+    }
+}
+
 /// Whether a population has these references.
 fn has_references(alloc: Global, input: &Plain<'static>, edges: &[Edge]) -> bool {
     match references(alloc, input) {
@@ -99,7 +163,9 @@ fn has_references(alloc: Global, input: &Plain<'static>, edges: &[Edge]) -> bool
 fn is_found(alloc: Global, keys: RandomState, case: &Case, input: &Plain<'static>) -> bool {
     match names_of(alloc, case.2) {
         Some(pinned) => {
-            has_kinds(alloc, keys, input, &pinned, case.3) && has_references(alloc, input, case.4)
+            has_kinds(alloc, keys, input, &pinned, case.3)
+                && has_shapes(alloc, keys, input, case.4)
+                && has_references(alloc, input, case.5)
         }
         None => false,
     }

@@ -37,6 +37,10 @@ coded_building = code_by (List ℕ × (List Values × List Value))
 abbrev pub rows_by : List Cell → List Run → List Values
 rows_by column runs = map (values_of_run column) runs
 
+-- the rows are runs of a column
+abbrev pub AreRunsOf : List Cell → List Values → Type 0
+AreRunsOf column rows = ∥ ((runs : List Run) × (rows ≡ rows_by column runs)) ∥₁
+
 -- runs end within so many cells
 abbrev pub AreWithin : ℕ → List Run → Type 0
 AreWithin n [] = ⊤

@@ -5,7 +5,7 @@ ghost use Rattle.std.specs.List.{sum_by};
 ghost use Rattle.parsing.specs.Nodes.{IsColumn};
 ghost use Rattle.step_values.specs.Cells.{value_nodes};
 ghost use Rattle.step_values.specs.NodeCounts.{nodes_in};
-ghost use Rattle.step_values.specs.Building.{Holds, rows_by};
+ghost use Rattle.step_values.specs.Building.{AreRunsOf, Holds, rows_by};
 ghost use Rattle.step_values.specs.Targets.{targets_of};
 
 use crate::cell::Cell;
@@ -61,12 +61,13 @@ impl<'a> ValueRows<'a> {
         Slots::of(&self.column, self.runs[index])
     }
 
-    /// The whole column, one cell for each node of a value, what is inside each before it. It takes
-    /// no memory.
+    /// The whole column, the values of each row side by side: one cell for each node of a value,
+    /// what is inside each before it. It takes no memory.
     pub fn cells(&self) -> &[Cell<'a>]
         ensures column { IsColumn value_nodes result.now }
         ensures count { length result.now ≡ sum_by nodes_in self.now.rows }
         ensures targets { targets_of result.now ≡ self.now.targets }
+        ensures rows { AreRunsOf result.now self.now.rows }
     {
         &self.column
     }

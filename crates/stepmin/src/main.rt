@@ -1,5 +1,7 @@
-//! `stepmin` reads STEP files (ISO 10303-21). `stepmin plain FILE` writes a file's normal text, and
-//! `stepmin check SCHEMA FILE` tells where it breaks its schema.
+//! `stepmin` reads STEP files (ISO 10303-21). `stepmin plain FILE` writes a file's normal text,
+//! `stepmin check SCHEMA FILE` tells where it breaks its schema, `stepmin shrink SCHEMA FILE OUT CERT`
+//! writes it with its value-equal instances merged, and a certificate of that, and `stepmin verify`
+//! with the same words tells whether a certificate proves an output.
 #![tactic(auto)]
 
 use command_line::folder::Folder;

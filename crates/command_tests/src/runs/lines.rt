@@ -16,9 +16,11 @@ use step_structures::fault::{FaultKind, LeftOut};
 const HELP: &str = "Reads STEP files (ISO 10303-21)\n\n\
     Usage: stepmin <COMMAND>\n\n\
     Commands:\n  \
-    plain  Writes the normal text of a STEP file\n  \
-    check  Tells where a STEP file breaks its schema\n  \
-    help   Print this message or the help of the given subcommand(s)\n\n\
+    plain   Writes the normal text of a STEP file\n  \
+    check   Tells where a STEP file breaks its schema\n  \
+    shrink  Writes a smaller file, in which equal instances are one, and its certificate\n  \
+    verify  Tells whether CERT is a certificate of FILE and OUT\n  \
+    help    Print this message or the help of the given subcommand(s)\n\n\
     Options:\n  \
     -h, --help     Print help\n  \
     -V, --version  Print version\n\n\
@@ -28,7 +30,8 @@ const HELP: &str = "Reads STEP files (ISO 10303-21)\n\n\
     2  the text of a file or a schema can't be read\n  \
     3  the words of the command line are wrong\n  \
     4  a device fails\n  \
-    5  memory runs out\n";
+    5  memory runs out\n  \
+    6  the certificate is refused\n";
 
 // What `plain --help` prints.
 const PLAIN_HELP: &str = "Writes the normal text of a STEP file\n\n\
@@ -238,7 +241,25 @@ const ASKED: &'static [Asked] = &[
     (&["stepmin"], 3, "error: "),
     (&["stepmin", "check", "GEO"], 3, "error: "),
     (&["stepmin", "check", "GEO", "F", "F"], 3, "error: "),
-    (&["stepmin", "shrink", "GEO", "F", "X", "X"], 3, "error: "),
+    (
+        &["stepmin", "shrink", "GEO", "F", "X", "X"],
+        3,
+        "error: OUT and CERT are the same\n",
+    ),
+    (
+        &[
+            "stepmin",
+            "verify",
+            "GEO",
+            "F",
+            "X",
+            "Y",
+            "--merge",
+            "POINT,,NODE",
+        ],
+        3,
+        "error: a name in NAMES is empty\n",
+    ),
     (&["stepmin", "plain"], 3, "error: "),
     (&["stepmin", "plain", "F", "F"], 3, "error: "),
     (&["stepmin", "plain", "--strict", "F"], 3, "error: "),

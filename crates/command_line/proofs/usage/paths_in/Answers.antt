@@ -7,8 +7,8 @@ use Rattle.clap.proofs.WalkLemmas.{first_value-rows}
 use Rattle.command_line.proofs.Asking.{files_among}
 use Rattle.command_line.proofs.usage.paths_in.Goals as goal
 
-pub returns : goal.returns
-returns c = λ schema file found.
+pub returns-clause-files : goal.returns-clause-files
+returns-clause-files c = λ schema file found.
     let inner = c.in_ok-found.found.now in
     let both = files_among (subcommand_rows_of c.args.matches.now) schema file (rows_of (found_of inner)) found
     c.in_ok-found.ensures.rows in

@@ -14,5 +14,9 @@ returns c =
     ∙ ap needs (ap app_of_fields c.after_help.ensures ∙ ap app_of_fields c.version.ensures ∙ ap shows named) in
     let first = c.in_ok-subcommand.ensures.shape c.in_ok-plain.ensures.local
     ∙ ap₂ with_subcommand top_is (ap (λ (a : App). a.top) c.in_ok-plain.ensures.app) in
-    IfOk-weaker c.subcommand-2.result _ _ (λ r h. h.shape c.in_ok-check.ensures.local ∙ ap₂ with_subcommand first
-    (ap (λ (a : App). a.top) c.in_ok-check.ensures.app)) c.subcommand-2.ensures
+    let second = c.in_ok-subcommand-2.ensures.shape c.in_ok-check.ensures.local
+    ∙ ap₂ with_subcommand first (ap (λ (a : App). a.top) c.in_ok-check.ensures.app) in
+    let third = c.in_ok-subcommand-3.ensures.shape c.in_ok-shrink.ensures.local
+    ∙ ap₂ with_subcommand second (ap (λ (a : App). a.top) c.in_ok-shrink.ensures.app) in
+    IfOk-weaker c.subcommand-4.result _ _ (λ r h. h.shape c.in_ok-verify.ensures.local ∙ ap₂ with_subcommand third
+    (ap (λ (a : App). a.top) c.in_ok-verify.ensures.app)) c.subcommand-4.ensures

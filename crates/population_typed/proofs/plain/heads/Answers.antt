@@ -11,5 +11,5 @@ loop-i-preserved c =
     ∙ ap (λ k. c.loop-i.heads.items ++ record {
       name = get_or c.args.names.now c.loop-i.i 0;
       section = get_or c.args.sections.now c.loop-i.i 0;
-      kind = k;
+      type_list = k;
     } ∷ []) c.unwrap_or.ensures)

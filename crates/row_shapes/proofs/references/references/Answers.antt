@@ -17,7 +17,7 @@ loop-place-init c =
 
 pub add_edges-requires : goal.add_edges-requires
 add_edges-requires c =
-    subst (All (IsName c.args.input.now)) (sym (c.deref.ensures.value ∙ c.in_ok-named.ensures))
+    subst (All (IsName c.args.input.now)) (sym (c.deref.ensures.value ∙ c.in_ok-names_outside.ensures))
     (names_named c.args.input.now c.len-place-end.ensures.population c.loop-place.place (row_seen c.row.result)
     c.row.ensures)
 
@@ -27,7 +27,7 @@ loop-place-preserved c =
     let r = row_seen c.row.result in
     let old = c.loop-place.edges.items in
     let new = c.add_edges.new.edges.items in
-    let ys = c.deref.ensures.value ∙ c.in_ok-named.ensures in
+    let ys = c.deref.ensures.value ∙ c.in_ok-names_outside.ensures in
     let many : length c.deref.result.now ≡ reference_count r = ap length ys in
     let count = c.loop-place.invariant.count in
     let more = c.in_ok-add_edges.ensures.count in

@@ -1,6 +1,6 @@
 use Rattle.std.proofs.Common.{◌∙◌, ap, sym, length, arith}
 use Rattle.std.proofs.lemmas.List.{length-map}
-use Rattle.step_equal.specs.Views.{heads_seen, kinds_of, rows_from}
+use Rattle.step_equal.specs.Views.{heads_seen, type_lists_of, rows_from}
 use Rattle.step_equal.proofs.Parted.{length_from, length_seen, names_from, names_seen, population_from}
 use Rattle.step_equal.proofs.Settling.{heads_settled, names_settled, few_settled, population_settled, rows_settled, whole_settled}
 use Rattle.step_equal.proofs.plain.settled.Goals as goal
@@ -8,18 +8,18 @@ use Rattle.step_equal.proofs.plain.settled.Goals as goal
 pub invariant_of-result : goal.invariant_of-result
 invariant_of-result c =
     let heads = c.args.heads.items in
-    let ks = c.args.kinds.items in
-    let js = c.settle_kinds.new.kinds in
-    let hs = heads_seen (kinds_of ks) heads in
-    let gs = heads_seen (kinds_of js) heads in
+    let ks = c.args.type_lists.items in
+    let js = c.settle_type_lists.new.type_lists in
+    let hs = heads_seen (type_lists_of ks) heads in
+    let gs = heads_seen (type_lists_of js) heads in
     let rows = c.args.values.rows in
-    let settled = rw c.deref_mut.ensures.value at c.in_ok-settle_kinds.ensures in
+    let settled = rw c.deref_mut.ensures.value at c.in_ok-settle_type_lists.ensures in
     let kept = rows_settled hs gs rows (heads_settled ks js settled heads) in
-    let each = length_seen (kinds_of ks) heads ∙ c.requires.each in
-    let named = c.requires.places ∙ sym (names_seen (kinds_of ks) heads) in
+    let each = length_seen (type_lists_of ks) heads ∙ c.requires.each in
+    let named = c.requires.places ∙ sym (names_seen (type_lists_of ks) heads) in
     let population = population_from hs rows each c.args.places.keys named c.requires.distinct c.requires.closed in
-    rw (whole_settled c.args.kinds.len ks js c.args.kinds.ok.0 settled) (record {
-      each = length_seen (kinds_of js) heads ∙ c.requires.each;
+    rw (whole_settled c.args.type_lists.len ks js c.args.type_lists.ok.0 settled) (record {
+      each = length_seen (type_lists_of js) heads ∙ c.requires.each;
       placed = record {
         in_order = named ∙ sym (names_from hs rows each)
             ∙ sym (names_settled (rows_from hs rows) (rows_from gs rows) kept);
@@ -30,7 +30,7 @@ invariant_of-result c =
               c.requires.few,
               ap length c.requires.places,
               length-map heads (λ h. h.name),
-              length_seen (kinds_of ks) heads,
+              length_seen (type_lists_of ks) heads,
               length_from hs rows each,
             ));
       };
@@ -40,11 +40,11 @@ invariant_of-result c =
 pub returns-clause-rows : goal.returns-clause-rows
 returns-clause-rows c =
     let heads = c.args.heads.items in
-    let ks = c.args.kinds.items in
-    let js = c.settle_kinds.new.kinds in
-    let settled = rw c.deref_mut.ensures.value at c.in_ok-settle_kinds.ensures in
-    rw (whole_settled c.args.kinds.len ks js c.args.kinds.ok.0 settled)
-    (rows_settled (heads_seen (kinds_of ks) heads) (heads_seen (kinds_of js) heads) c.args.values.rows
+    let ks = c.args.type_lists.items in
+    let js = c.settle_type_lists.new.type_lists in
+    let settled = rw c.deref_mut.ensures.value at c.in_ok-settle_type_lists.ensures in
+    rw (whole_settled c.args.type_lists.len ks js c.args.type_lists.ok.0 settled)
+    (rows_settled (heads_seen (type_lists_of ks) heads) (heads_seen (type_lists_of js) heads) c.args.values.rows
     (heads_settled ks js settled heads))
 
 pub returns-clause-population : goal.returns-clause-population

@@ -6,7 +6,7 @@ use Rattle.step_exchange.specs.Sections.{CountsTo}
 use Rattle.step_values.specs.Targets.{LeadTo, ReferTo}
 use Rattle.population_rows.specs.Index.{place_of}
 use Rattle.step_exchange.proofs.Counts.{counts-prop}
-use Rattle.step_equal.specs.Views.{kinds_of}
+use Rattle.step_equal.specs.Views.{type_lists_of}
 use Rattle.population_typed.specs.Seen.{section_numbers}
 use Rattle.population_typed.specs.Whole.{AreNumbered}
 use Rattle.population_typed.specs.Ordering.{rows_picked, types_each}
@@ -88,7 +88,7 @@ returns-in-Ok c =
     (c.deref-6.ensures.value ∙ c.in_ok-sections.ensures ∙ ap (section_numbers 0 0) c.deref-4.ensures.value)
     c.deref-7.result.now c.deref-7.ensures.value c.in_ok-formless.formless
     (c.in_ok-formless.ensures ∙ ap length c.deref-5.ensures.value) c.in_ok-heads.heads.items c.in_ok-heads.ensures
-    (kinds_of c.in_ok-kinds.kinds.items) (c.in_ok-kinds.ensures ∙ ap types_each c.deref-8.ensures.value)
+    (type_lists_of c.in_ok-type_lists.type_lists.items) (c.in_ok-type_lists.ensures ∙ ap types_each c.deref-8.ensures.value)
     c.in_ok-values.values.rows
     (c.in_ok-values.ensures.rows
     ∙ ap (λ os. rows_picked os p.rows.form_of.items p.values.rows) c.deref-3.ensures.value)

@@ -39,4 +39,4 @@ returns-clause-rows c =
     let values = rw c.deref-4.ensures.value at c.in_ok-values.ensures.rows in
     let heads = rw c.deref-5.ensures.value at c.in_ok-heads.ensures in
     rw (sym (rows_parted c.args.rows.items), sym (heads_numbered c.args.rows.items))
-    (rw (c.in_ok-kinds.ensures, heads, values) at c.in_ok-settled.ensures.rows)
+    (rw (c.in_ok-type_lists.ensures, heads, values) at c.in_ok-settled.ensures.rows)

@@ -1,12 +1,12 @@
 use Rattle.std.proofs.Common.{◌∙◌, ap, sym, length}
-use Rattle.step_equal.specs.Views.{heads_seen, kinds_of}
+use Rattle.step_equal.specs.Views.{heads_seen, type_lists_of}
 use Rattle.step_equal.proofs.Parted.{length_from, length_seen}
 use Rattle.step_equal.proofs.plain.Plain.len.Goals as goal
 
 pub returns-clause-length : goal.returns-clause-length
 returns-clause-length c =
     let v = c.self.inside in
-    let hs = heads_seen (kinds_of v.kinds.items) v.heads.items in
-    c.len.ensures ∙ v.heads.ok.0 ∙ sym (length_seen (kinds_of v.kinds.items) v.heads.items)
+    let hs = heads_seen (type_lists_of v.type_lists.items) v.heads.items in
+    c.len.ensures ∙ v.heads.ok.0 ∙ sym (length_seen (type_lists_of v.type_lists.items) v.heads.items)
     ∙ sym (length_from hs v.values.rows c.self.invariant.each)
     ∙ ap length c.self.view_is

@@ -1,16 +1,16 @@
 use Rattle.std.proofs.Common.{◌≡◌, ◌∙◌, ap, sym, length, arith}
 use Rattle.std.specs.Prelude.{slice_get}
-use Rattle.step_equal.specs.Views.{heads_seen, kinds_of, rows_from}
+use Rattle.step_equal.specs.Views.{heads_seen, type_lists_of, rows_from}
 use Rattle.step_equal.proofs.Parted.{length_from, length_seen}
 use Rattle.step_equal.proofs.plain.Plain.row.Goals as goal
 
 pub row_in-requires : goal.row_in-requires
 row_in-requires c =
     let v = c.self.inside in
-    let hs = heads_seen (kinds_of v.kinds.items) v.heads.items in
+    let hs = heads_seen (type_lists_of v.type_lists.items) v.heads.items in
     let all : length (rows_from hs v.values.rows) ≡ length c.args.self.now = ap length c.self.view_is in
     let kept = length_from hs v.values.rows c.self.invariant.each in
-    let seen = length_seen (kinds_of v.kinds.items) v.heads.items in
+    let seen = length_seen (type_lists_of v.type_lists.items) v.heads.items in
     let each = c.self.invariant.each in
     let within = c.requires in
     rw c.deref.ensures.value (record {

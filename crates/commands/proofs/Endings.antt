@@ -1,0 +1,236 @@
+-- How runs end: what their statuses say of the outputs.
+use Rattle.std.proofs.Common.{◌≡◌, Bool, true, false, List, ℕ, Option, None, Some, Result, Ok, Err, inl, inr, refl, sym, ap, subst, ◌∙◌, true≢false}
+use Rattle.std.specs.Prelude.{◌⊎◌, MatchBool, MatchResult, is_err}
+use Rattle.std.specs.Io.KnownBytes.{Appends, Keeps}
+use Rattle.devices.specs.declared.device.WriteFault.{WriteFault}
+use Rattle.files.specs.Faults.{write_fault}
+use Rattle.files.specs.Lines.{line_of}
+use Rattle.files.specs.declared.fault.Role.TheVariants as roles
+use Rattle.files.specs.declared.fault.Fault.{Fault}
+use Rattle.files.specs.declared.fault.Fault.TheVariants as faults
+use Rattle.commands.specs.Endings.{AppendsFront, Closes, Ending, Ends, EndsAs, Output, Prints, Tells, on_both, on_error, on_output}
+use Rattle.commands.specs.Statuses.{IsStatus, fault_status}
+
+-- ---- one output
+
+pub failed_twice : {A : Type 0} (old new : Output) → new ≡ old → old.has_failed ≡ false → new.has_failed ≡ true → A
+failed_twice old new same fresh fails =
+    absurd (true≢false (sym fails ∙ ap (λ (o : Output). o.has_failed) same ∙ fresh))
+
+keeps_self : (held : Option (List ℕ)) → Keeps held held
+keeps_self None = tt
+keeps_self (Some xs) = refl
+
+pub keeps_same : (old new : Output) → new ≡ old → Keeps old.held new.held
+keeps_same old new same = subst (λ (o : Output). Keeps old.held o.held) (sym same) (keeps_self old.held)
+
+-- ---- one text
+
+abbrev Sent : Bool → Output → Output → List ℕ → ℕ → ℕ → Type 0
+Sent fails old new text wanted status = MatchBool fails ((status ≡ 4) × AppendsFront old.held new.held text)
+    ((status ≡ wanted) × Appends old.held new.held text)
+
+-- the status is the one that is wanted, or a device's
+pub status_printed : (old new : Output) (text : List ℕ) (wanted status : ℕ) → Prints old new text wanted status
+    → (status ≡ wanted) ⊎ (status ≡ 4)
+status_printed old new text wanted status p = go p.fails p.sent
+  where
+    go : (b : Bool) → Sent b old new text wanted status → (status ≡ wanted) ⊎ (status ≡ 4)
+    go true s = inr s.0
+    go false s = inl s.0
+
+-- where the output fails the status is a device's
+pub failure_printed : (old new : Output) (text : List ℕ) (wanted status : ℕ) → Prints old new text wanted status
+    → old.has_failed ≡ false → new.has_failed ≡ true → status ≡ 4
+failure_printed old new text wanted status p fresh fails = go p.fails (sym (p.told fresh) ∙ fails) p.sent
+  where
+    go : (b : Bool) → b ≡ true → Sent b old new text wanted status → status ≡ 4
+    go true e s = s.0
+    go false e s = absurd (true≢false (sym e))
+
+-- where it is a device's, and another is wanted, the output has failed
+pub device_printed : (old new : Output) (text : List ℕ) (wanted status : ℕ) → Prints old new text wanted status
+    → (wanted ≡ 4 → ⊥) → status ≡ 4 → old.has_failed ≡ false → new.has_failed ≡ true
+device_printed old new text wanted status p other is fresh = go p.fails refl p.sent
+  where
+    go : (b : Bool) → p.fails ≡ b → Sent b old new text wanted status → new.has_failed ≡ true
+    go true e s = p.told fresh ∙ e
+    go false e s = absurd (other (sym s.0 ∙ is))
+
+pub four : (status : ℕ) → (status ≡ 4) ⊎ (status ≡ 4) → status ≡ 4
+four status (inl e) = e
+four status (inr e) = e
+
+-- ---- the line of a fault
+
+pub fault_is_status : (fault : Fault) (status : ℕ) → (status ≡ fault_status fault) ⊎ (status ≡ 4) → IsStatus status
+fault_is_status (faults.Text role kind place) status (inl e) = inr (inr (inl e))
+fault_is_status (faults.Device role written) status (inl e) = inr (inr (inr (inr (inl e))))
+fault_is_status faults.Memory status (inl e) = inr (inr (inr (inr (inr (inl e)))))
+fault_is_status fault status (inr e) = inr (inr (inr (inr (inl e))))
+
+pub ends_in_status : (outcome : Result Unit Fault) (err err' : Output) (status : ℕ) → Ends outcome err err' status
+    → IsStatus status
+ends_in_status (Ok x) err err' status e = inl e.0
+ends_in_status (Err fault) err err' status e = fault_is_status fault status
+    (status_printed err err' (line_of fault) (fault_status fault) status e)
+
+pub ends_failing : (outcome : Result Unit Fault) (err err' : Output) (status : ℕ) → Ends outcome err err' status
+    → err.has_failed ≡ false → err'.has_failed ≡ true → status ≡ 4
+ends_failing (Ok x) err err' status e fresh fails = failed_twice err err' e.1 fresh fails
+ends_failing (Err fault) err err' status e fresh fails = failure_printed err err' (line_of fault) (fault_status fault)
+    status e fresh fails
+
+-- ---- an end of any kind
+
+-- what goes out where the status isn't that of a run that was done, or of a device
+abbrev pub Unwritten : Option (List ℕ) → Option (List ℕ) → ℕ → Type 0
+Unwritten old new status = (status ≡ 0) ⊎ (status ≡ 1) ⊎ (status ≡ 4) ⊎ Keeps old new
+
+-- the status that is wanted
+abbrev pub wanted_of : Ending → ℕ
+wanted_of (on_output text wanted) = wanted
+wanted_of (on_error line wanted) = wanted
+wanted_of (on_both text line wanted) = wanted
+
+-- A text goes out only where all is done, or the file breaks its schema.
+abbrev pub IsFit : Ending → Type 0
+IsFit (on_output text wanted) = (wanted ≡ 0) ⊎ (wanted ≡ 1)
+IsFit (on_error line wanted) = IsStatus wanted
+IsFit (on_both text line wanted) = (wanted ≡ 0) ⊎ (wanted ≡ 1)
+
+-- What is said beside what was done, but of devices.
+pub record SaysAs (out out' err err' : Output) (status : ℕ) : Type 0 where
+  pub is_status : IsStatus status
+  pub unwritten : Unwritten out.held out'.held status
+  pub out_failed : out.has_failed ≡ false → out'.has_failed ≡ true → status ≡ 4
+  pub err_failed : err.has_failed ≡ false → err'.has_failed ≡ true → status ≡ 4
+
+-- a line or none: the status is the one that is wanted, or a device's, where the error output fails or where it has
+close_status : (line : Option (List ℕ)) (wanted : ℕ) (err err' : Output) (status : ℕ)
+    → Closes line wanted err err' status → (status ≡ wanted) ⊎ (status ≡ 4)
+close_status None wanted err err' status c = inl c.0
+close_status (Some line) wanted err err' status c = status_printed err err' line wanted status c
+
+close_failing : (line : Option (List ℕ)) (wanted : ℕ) (err err' : Output) (status : ℕ)
+    → Closes line wanted err err' status → err.has_failed ≡ false → err'.has_failed ≡ true → status ≡ 4
+close_failing None wanted err err' status c fresh fails = failed_twice err err' c.1 fresh fails
+close_failing (Some line) wanted err err' status c fresh fails =
+    failure_printed err err' line wanted status c fresh fails
+
+close_device : (line : Option (List ℕ)) (wanted : ℕ) (err err' : Output) (status : ℕ)
+    → Closes line wanted err err' status → (wanted ≡ 4 → ⊥) → status ≡ 4 → err.has_failed ≡ false
+    → err'.has_failed ≡ true
+close_device None wanted err err' status c other is fresh = absurd (other (sym c.0 ∙ is))
+close_device (Some line) wanted err err' status c other is fresh =
+    device_printed err err' line wanted status c other is fresh
+
+-- a text and perhaps a line
+module _ (text : List ℕ) (line : Option (List ℕ)) (wanted : ℕ) (out out' err err' : Output) (status : ℕ) where
+  abbrev Behind : Result Unit WriteFault → Type 0
+  Behind sent = MatchResult sent (λ _. Closes line wanted err err' status)
+      (λ fault. Ends (Err (write_fault roles.Output fault)) err err' status)
+
+  is_device : (fault : WriteFault) → Ends (Err (write_fault roles.Output fault)) err err' status → status ≡ 4
+  is_device fault ends =
+      four status (status_printed err err' (line_of (write_fault roles.Output fault)) 4 status ends)
+
+  told_status : (wanted ≡ 0) ⊎ (wanted ≡ 1) → (status ≡ wanted) ⊎ (status ≡ 4)
+      → IsStatus status × Unwritten out.held out'.held status
+  told_status (inl zero) (inl e) = (inl (e ∙ zero), inl (e ∙ zero))
+  told_status (inr one) (inl e) = (inr (inl (e ∙ one)), inr (inl (e ∙ one)))
+  told_status fit (inr e) = (inr (inr (inr (inr (inl e)))), inr (inr (inl e)))
+
+  tells_say : (wanted ≡ 0) ⊎ (wanted ≡ 1) → Tells text line wanted out out' err err' status
+      → SaysAs out out' err err' status
+  tells_say fit t = go t.sent t.output_fails t.ends
+    where
+      go : (sent : Result Unit WriteFault) → (out.has_failed ≡ false → out'.has_failed ≡ is_err sent) → Behind sent
+          → SaysAs out out' err err' status
+      go (Ok x) told ends =
+          let s = told_status fit (close_status line wanted err err' status ends) in
+          record {
+            is_status = s.0;
+            unwritten = s.1;
+            out_failed = (λ fresh fails. absurd (true≢false (sym fails ∙ told fresh)));
+            err_failed = close_failing line wanted err err' status ends;
+          }
+      go (Err fault) told ends =
+          let device = is_device fault ends in
+          record {
+            is_status = inr (inr (inr (inr (inl device))));
+            unwritten = inr (inr (inl device));
+            out_failed = (λ fresh fails. device);
+            err_failed = (λ fresh fails. device);
+          }
+
+  tells_in : Tells text line wanted out out' err err' status → (status ≡ wanted) ⊎ (status ≡ 4)
+  tells_in t = go t.sent t.ends
+    where
+      go : (sent : Result Unit WriteFault) → Behind sent → (status ≡ wanted) ⊎ (status ≡ 4)
+      go (Ok x) ends = close_status line wanted err err' status ends
+      go (Err fault) ends = inr (is_device fault ends)
+
+  tells_device : (wanted ≡ 4 → ⊥) → Tells text line wanted out out' err err' status → status ≡ 4
+      → out.has_failed ≡ false → err.has_failed ≡ false → (out'.has_failed ≡ true) ⊎ (err'.has_failed ≡ true)
+  tells_device other t is fresh clean = go t.sent (t.output_fails fresh) t.ends
+    where
+      go : (sent : Result Unit WriteFault) → out'.has_failed ≡ is_err sent → Behind sent
+          → (out'.has_failed ≡ true) ⊎ (err'.has_failed ≡ true)
+      go (Ok x) told ends = inr (close_device line wanted err err' status ends other is clean)
+      go (Err fault) told ends = inl told
+
+-- what is said where a run ends so
+pub ends_say : (e : Ending) (out out' err err' : Output) (status : ℕ) → IsFit e → EndsAs e out out' err err' status
+    → SaysAs out out' err err' status
+ends_say (on_output text wanted) out out' err err' status fit ends =
+    tells_say text None wanted out out' err err' status fit ends
+ends_say (on_both text line wanted) out out' err err' status fit ends =
+    tells_say text (Some line) wanted out out' err err' status fit ends
+ends_say (on_error line wanted) out out' err err' status fit ends = record {
+  is_status = by (status_printed err err' line wanted status ends.1);
+  unwritten = inr (inr (inr (keeps_same out out' ends.0)));
+  out_failed = (λ fresh fails. failed_twice out out' ends.0 fresh fails);
+  err_failed = failure_printed err err' line wanted status ends.1;
+}
+  where
+    by : (status ≡ wanted) ⊎ (status ≡ 4) → IsStatus status
+    by (inl e) = subst IsStatus (sym e) fit
+    by (inr e) = inr (inr (inr (inr (inl e))))
+
+-- the status is the one that is wanted, or a device's
+pub ends_in : (e : Ending) (out out' err err' : Output) (status : ℕ) → EndsAs e out out' err err' status
+    → (status ≡ wanted_of e) ⊎ (status ≡ 4)
+ends_in (on_output text wanted) out out' err err' status ends =
+    tells_in text None wanted out out' err err' status ends
+ends_in (on_both text line wanted) out out' err err' status ends =
+    tells_in text (Some line) wanted out out' err err' status ends
+ends_in (on_error line wanted) out out' err err' status ends = status_printed err err' line wanted status ends.1
+
+-- a device's, where another is wanted, says that an output has failed
+pub ends_device : (e : Ending) (out out' err err' : Output) (status : ℕ) → EndsAs e out out' err err' status
+    → (wanted_of e ≡ 4 → ⊥) → status ≡ 4 → out.has_failed ≡ false → err.has_failed ≡ false
+    → (out'.has_failed ≡ true) ⊎ (err'.has_failed ≡ true)
+ends_device (on_output text wanted) out out' err err' status ends other is fresh clean =
+    tells_device text None wanted out out' err err' status other ends is fresh clean
+ends_device (on_both text line wanted) out out' err err' status ends other is fresh clean =
+    tells_device text (Some line) wanted out out' err err' status other ends is fresh clean
+ends_device (on_error line wanted) out out' err err' status ends other is fresh clean =
+    inr (device_printed err err' line wanted status ends.1 other is clean)
+
+-- what holds of the status that is wanted, and of a device's, holds of the status
+pub ends_among : (P : ℕ → Type 0) (e : Ending) (out out' err err' : Output) (status : ℕ)
+    → EndsAs e out out' err err' status → P (wanted_of e) → P 4 → P status
+ends_among P e out out' err err' status ends wanted device =
+    elim (ends_in e out out' err err' status ends) [
+      | inl is ↦ subst P (sym is) wanted
+      | inr is ↦ subst P (sym is) device
+    ]
+
+-- a device's comes of what was met, or an output has failed
+pub ends_by_devices : (A : Type 0) (e : Ending) (out out' err err' : Output) (status : ℕ)
+    → EndsAs e out out' err err' status → A ⊎ (wanted_of e ≡ 4 → ⊥) → status ≡ 4 → out.has_failed ≡ false
+    → err.has_failed ≡ false → A ⊎ ((out'.has_failed ≡ true) ⊎ (err'.has_failed ≡ true))
+ends_by_devices A e out out' err err' status ends (inl met) is fresh clean = inl met
+ends_by_devices A e out out' err err' status ends (inr other) is fresh clean =
+    inr (ends_device e out out' err err' status ends other is fresh clean)

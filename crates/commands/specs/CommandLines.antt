@@ -1,0 +1,103 @@
+-- What a run of the command line comes to.
+use Rattle.std.specs.Prelude.{◌≡◌, ◌⊎◌, ℕ, List, Option, Some, Bool, true, false}
+use Rattle.command_line.specs.Commands.{AsksCheck, AsksNothing, AsksPlain, AsksShrink, AsksVerify}
+use Rattle.command_line.specs.AskedMerges.{text_of}
+use Rattle.command_line.specs.Requests.{CallFor}
+use Rattle.command_line.specs.declared.usage.Request.{Request}
+use Rattle.command_line.specs.declared.usage.Request.TheVariants as requests
+use Rattle.command_line.specs.declared.usage.Refusal.{Refusal}
+use Rattle.files.specs.Stores.{Stored}
+use Rattle.commands.specs.Endings.{Output}
+use Rattle.commands.specs.Merges.{MakesSmaller, asked_choice}
+use Rattle.commands.specs.Runs.{Refuses, RunsCheck, RunsPlain}
+use Rattle.commands.specs.Verifies.{RunsVerify}
+
+-- What is asked for was done, in a store of these files, which hold this behind it, and of writers that hold this.
+abbrev pub Does : {W : Type 0} → (W → Option (List ℕ)) → Request → (List ℕ → Stored) → (List ℕ → Option (List ℕ)) → Output → Output → Output → Output → ℕ
+    → Type 0
+Does held (requests.Plain path) files holds out out' err err' status = RunsPlain (files path.now) out out' err err' status
+Does held (requests.Check schema file) files holds out out' err err' status = RunsCheck (files schema.now) (files file.now) out
+    out' err err' status
+Does held (requests.Shrink asked) files holds out out' err err' status =
+    MakesSmaller held (asked_choice (text_of asked.merge)) asked.strict (files asked.schema.now) (files asked.file.now)
+    (files asked.output.now).contents (holds asked.output.now)
+    (files asked.certificate.now).contents (holds asked.certificate.now) out out' err err' status
+Does held (requests.Verify asked) files holds out out' err err' status =
+    RunsVerify (asked_choice (text_of asked.merge)) (files asked.schema.now) (files asked.file.now)
+    (files asked.output.now) (files asked.certificate.now) out out' err err' status
+
+-- Nothing was done, and this was said for which the words call.
+abbrev pub RunsNothing : List (List ℕ) → Output → Output → Output → Output → ℕ → Type 0
+RunsNothing words out out' err err' status = (refusal : Refusal) × CallFor words refusal × Refuses refusal out out' err
+    err' status
+
+-- The words ask for a check, and the file was checked against the schema.
+abbrev pub RunsChecked : List (List ℕ) → (List ℕ → Stored) → Output → Output → Output → Output → ℕ → Type 0
+RunsChecked words files out out' err err' status = (schema : List ℕ) × (file : List ℕ) × AsksCheck words schema file
+    × RunsCheck (files schema) (files file) out out' err err' status
+
+-- The words ask for a smaller file and its certificate, and both were made of the file.
+pub record RunsMerged {W : Type 0} (held : W → Option (List ℕ)) (words : List (List ℕ)) (files : List ℕ → Stored) (holds : List ℕ → Option (List ℕ))
+    (out out' err err' : Output) (status : ℕ) : Type 0 where
+  pub schema : List ℕ
+  pub file : List ℕ
+  pub output : List ℕ
+  pub certificate : List ℕ
+  pub merge : Option (List ℕ)
+  pub strict : Bool
+  pub asks : AsksShrink words schema file output certificate merge strict
+  pub makes : MakesSmaller held (asked_choice merge) strict (files schema) (files file) (files output).contents (holds output)
+      (files certificate).contents (holds certificate) out out' err err' status
+
+-- The words ask whether an output is proved, and that was verified.
+abbrev pub RunsVerified : List (List ℕ) → (List ℕ → Stored) → Output → Output → Output → Output → ℕ → Type 0
+RunsVerified words files out out' err err' status = (schema : List ℕ) × (file : List ℕ) × (output : List ℕ)
+    × (certificate : List ℕ) × (merge : Option (List ℕ)) × AsksVerify words schema file output certificate merge
+    × RunsVerify (asked_choice merge) (files schema) (files file) (files output) (files certificate) out out' err err'
+    status
+
+-- The words ask for the normal text of a file, for a check, for a smaller file, or whether one is proved, and that was
+-- run; or they ask for nothing.
+abbrev pub Runs : {W : Type 0} → (W → Option (List ℕ)) → List (List ℕ) → (List ℕ → Stored) → (List ℕ → Option (List ℕ)) → Output → Output → Output → Output
+    → ℕ → Type 0
+Runs held words files holds out out' err err' status = ((path : List ℕ) × AsksPlain words path × RunsPlain (files path) out
+    out' err err' status)
+    ⊎ RunsChecked words files out out' err err' status
+    ⊎ RunsMerged held words files holds out out' err err' status
+    ⊎ RunsVerified words files out out' err err' status
+    ⊎ (AsksNothing words × RunsNothing words out out' err err' status)
+
+-- A file can fail: it isn't told that no read of it does.
+abbrev pub CanFail : Stored → Type 0
+CanFail file = file.fails ≡ Some false → ⊥
+
+-- The words ask for a smaller file.
+abbrev pub AsksSmaller : List (List ℕ) → Type 0
+AsksSmaller words = (schema : List ℕ) × (file : List ℕ) × (output : List ℕ) × (certificate : List ℕ)
+    × (merge : Option (List ℕ)) × (strict : Bool) × AsksShrink words schema file output certificate merge strict
+
+-- The words ask to verify by four files of which one can fail.
+abbrev pub AsksVerifyFailing : List (List ℕ) → (List ℕ → Stored) → Type 0
+AsksVerifyFailing words files = (schema : List ℕ) × (file : List ℕ) × (output : List ℕ) × (certificate : List ℕ)
+    × (merge : Option (List ℕ)) × AsksVerify words schema file output certificate merge
+    × (CanFail (files schema) ⊎ CanFail (files file) ⊎ CanFail (files output) ⊎ CanFail (files certificate))
+
+-- The words ask for a file that can fail, for a check of two of which one can, to verify by four of which one can, or for
+-- one that is written, as each of these can.
+abbrev pub AsksFailing : List (List ℕ) → (List ℕ → Stored) → Type 0
+AsksFailing words files = ((path : List ℕ) × AsksPlain words path × CanFail (files path))
+    ⊎ ((schema : List ℕ) × (file : List ℕ) × AsksCheck words schema file
+    × (CanFail (files schema) ⊎ CanFail (files file)))
+    ⊎ AsksVerifyFailing words files
+    ⊎ AsksSmaller words
+
+-- Where no output has failed before, a device's status comes only where one has failed then, or a file can.
+abbrev pub IsDevices : List (List ℕ) → (List ℕ → Stored) → Output → Output → Output → Output → Type 0
+IsDevices words files out out' err err' = out.has_failed ≡ false → err.has_failed ≡ false
+    → (out'.has_failed ≡ true) ⊎ (err'.has_failed ≡ true) ⊎ AsksFailing words files
+
+-- The words ask for a smaller file, or a certificate, of this path.
+abbrev pub AsksToWrite : List (List ℕ) → List ℕ → Type 0
+AsksToWrite words path = (schema : List ℕ) × (file : List ℕ) × (output : List ℕ) × (certificate : List ℕ)
+    × (merge : Option (List ℕ)) × (strict : Bool) × AsksShrink words schema file output certificate merge strict
+    × ((path ≡ output) ⊎ (path ≡ certificate))

@@ -1,0 +1,161 @@
+//! A smaller file, in which value-equal instances are one, and its certificate.
+
+ghost use Rattle.std.specs.Prelude.{◌≡◌, ◌⊎◌, false, flat_map, length, true};
+ghost use Rattle.pin_choices.specs.Chosen.{choice_of};
+ghost use Rattle.reports.specs.Lines.{report_text, unchecked_line};
+ghost use Rattle.reports.specs.MergeLines.{merge_text, strict_line};
+ghost use Rattle.commands.specs.Endings.{EndsAs, Prints, on_both, on_output, output, told_by};
+ghost use Rattle.commands.specs.Merges.{RunsShrink, shrink_fault_ending};
+
+use crate::check::report_schema;
+use crate::ending::{BROKEN, DEVICE, DONE, report};
+use devices::device::{Sink, Source};
+use files::fault::{Fault, Role};
+use pin_choices::choice::Choice;
+use reports::merge::{print_merge, print_strict, print_unchecked_parts};
+use reports::print::print_report;
+use reports::report::Report;
+use schema_parts::list::Unchecked;
+use shrinking::fault::ShrinkFault;
+use shrinking::shrink::shrink;
+use shrinking::summary::Summary;
+use std::alloc::Global;
+use std::hash::RandomState;
+
+// Prints what is said of a file that is merged, on `out`; or tells that the output failed.
+fn tell_merge<O: Sink, E: Sink>(summary: &Summary<'_>, out: &mut O, err: &mut E) -> u8
+    ensures { EndsAs (on_output (merge_text summary.now.report summary.now.kept summary.now.rounds) 0)
+        (output O.held O.has_failed out.old) (output O.held O.has_failed out.new)
+        (output E.held E.has_failed err.old) (output E.held E.has_failed err.new) result }
+{
+    match print_merge(out, &summary.report, summary.kept, summary.rounds) {
+        Ok(()) => DONE,
+        Err(fault) => report(Fault::of_write(Role::Output, fault), err),
+    }
+}
+
+// Prints the report of a file that breaks its schema, on `out`; or tells that the output failed.
+fn tell_findings<O: Sink, E: Sink>(findings: &Report<'_>, out: &mut O, err: &mut E) -> u8
+    ensures { EndsAs (on_output (report_text findings.now) 1)
+        (output O.held O.has_failed out.old) (output O.held O.has_failed out.new)
+        (output E.held E.has_failed err.old) (output E.held E.has_failed err.new) result }
+{
+    match print_report(out, findings) {
+        Ok(()) => BROKEN,
+        Err(fault) => report(Fault::of_write(Role::Output, fault), err),
+    }
+}
+
+// Prints that so many parts of a schema aren't checked.
+fn refuse_parts<E: Sink>(count: u64, err: &mut E) -> u8
+    ensures { Prints (output E.held E.has_failed err.old) (output E.held E.has_failed err.new)
+        (strict_line count) 1 result }
+{
+    match print_strict(err, count) {
+        Ok(()) => BROKEN,
+        Err(_) => DEVICE,
+    }
+}
+
+// Prints the parts of a schema that a strict choice refuses, on `out`, and then on `err` how many
+// there are; or tells that the output failed.
+fn tell_parts<O: Sink, E: Sink>(parts: &Vec<Unchecked>, out: &mut O, err: &mut E) -> u8
+    ensures { EndsAs (on_both (flat_map unchecked_line parts.now.items) (strict_line (length parts.now.items)) 1)
+        (output O.held O.has_failed out.old) (output O.held O.has_failed out.new)
+        (output E.held E.has_failed err.old) (output E.held E.has_failed err.new) result }
+{
+    match print_unchecked_parts(out, parts) {
+        Ok(()) => refuse_parts(parts.len() as u64, err),
+        Err(fault) => report(Fault::of_write(Role::Output, fault), err),
+    }
+}
+
+// Tells why a file isn't merged.
+fn tell_fault<O: Sink, E: Sink>(fault: &ShrinkFault<'_>, out: &mut O, err: &mut E) -> u8
+    ensures { EndsAs (shrink_fault_ending fault.now)
+        (output O.held O.has_failed out.old) (output O.held O.has_failed out.new)
+        (output E.held E.has_failed err.old) (output E.held E.has_failed err.new) result }
+{
+    match fault {
+        ShrinkFault::Schema(fault) => report_schema(fault, err),
+        ShrinkFault::Unchecked(parts) => tell_parts(parts, out, err),
+        ShrinkFault::Text { kind, place } => report(
+            Fault::Text {
+                role: Role::File,
+                kind: *kind,
+                place: *place,
+            },
+            err,
+        ),
+        ShrinkFault::Findings(findings) => tell_findings(findings, out, err),
+        ShrinkFault::Device { role, written } => report(
+            Fault::Device {
+                role: *role,
+                written: *written,
+            },
+            err,
+        ),
+        ShrinkFault::Memory => report(Fault::Memory, err),
+    }
+}
+
+/// Merges a file by a schema and a choice of its entities, writes what comes of it to `smaller` and
+/// its certificate to `certificate`, prints the report and the numbers of the merge on `out`, and
+/// answers the status, 0. Schema and file are read to their ends before the first byte is written.
+///
+/// Where the file breaks its schema the report stands on `out`, and the status is 1. Where the choice
+/// is strict and parts of the schema aren't checked, these stand on `out`, and the status is 1 with a
+/// line on `err`. In all other cases the line of the fault stands on `err` alone, and the status is 2
+/// for the text of either, a name of the schema or one that is chosen and no entity, 4 for a device,
+/// and 5 where memory runs out. Nothing is written but where the status is 0, or where the output or
+/// the certificate fails. Names are hashed by these keys.
+pub fn run_shrink<S: Source, F: Source, W: Sink, C: Sink, O: Sink, E: Sink>(
+    alloc: Global,
+    keys: RandomState,
+    schema: &mut S,
+    choice: &Choice,
+    file: &mut F,
+    smaller: &mut W,
+    certificate: &mut C,
+    out: &mut O,
+    err: &mut E,
+) -> u8
+    ensures runs { RunsShrink (choice_of choice.now) choice.now.strict
+        (told_by S.to_come S.fails schema.old) (told_by F.to_come F.fails file.old)
+        (output W.held W.has_failed smaller.old) (output W.held W.has_failed smaller.new)
+        (output C.held C.has_failed certificate.old) (output C.held C.has_failed certificate.new)
+        (output O.held O.has_failed out.old) (output O.held O.has_failed out.new)
+        (output E.held E.has_failed err.old) (output E.held E.has_failed err.new) result }
+    // A device's status comes only where one fails in the run, if none had before.
+    ensures device { result ≡ 4
+        → S.has_failed schema.old ≡ false → F.has_failed file.old ≡ false
+        → W.has_failed smaller.old ≡ false → C.has_failed certificate.old ≡ false
+        → O.has_failed out.old ≡ false → E.has_failed err.old ≡ false
+        → (S.has_failed schema.new ≡ true) ⊎ (F.has_failed file.new ≡ true)
+        ⊎ (W.has_failed smaller.new ≡ true) ⊎ (C.has_failed certificate.new ≡ true)
+        ⊎ (O.has_failed out.new ≡ true) ⊎ (E.has_failed err.new ≡ true) }
+    // Where a device fails in the run, the status says so.
+    ensures schema_failed { S.has_failed schema.old ≡ false → S.has_failed schema.new ≡ true
+        → result ≡ 4 }
+    ensures file_failed { F.has_failed file.old ≡ false → F.has_failed file.new ≡ true
+        → result ≡ 4 }
+    ensures smaller_failed { W.has_failed smaller.old ≡ false → W.has_failed smaller.new ≡ true
+        → result ≡ 4 }
+    ensures certificate_failed { C.has_failed certificate.old ≡ false
+        → C.has_failed certificate.new ≡ true → result ≡ 4 }
+{
+    let mut text = Vec::new(alloc);
+    match shrink(
+        alloc,
+        keys,
+        schema,
+        &mut text,
+        choice,
+        file,
+        smaller,
+        certificate,
+    ) {
+        Ok(summary) => tell_merge(&summary, out, err),
+        Err(fault) => tell_fault(&fault, out, err),
+    }
+}

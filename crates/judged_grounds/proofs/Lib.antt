@@ -1,0 +1,4 @@
+mod Noting
+mod Starting
+mod Going
+mod Judging

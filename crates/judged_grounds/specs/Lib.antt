@@ -1,0 +1,4 @@
+pub mod TableFaults
+pub mod ComputedNotes
+pub mod ComputedRounds
+pub mod ComputedSplits

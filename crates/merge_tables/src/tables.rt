@@ -1,0 +1,85 @@
+//! The tables of a population: under its weak pins, and under the gentle ones that these give.
+
+ghost use Rattle.std.specs.Prelude.{IfOk};
+ghost use Rattle.express_syntax.specs.SchemaViews.{schema_of};
+ghost use Rattle.schema_types.specs.Made.{IsMade};
+ghost use Rattle.step_equal.specs.Rows.{IsPopulation};
+ghost use Rattle.step_equal.specs.Standard.{IsStandard};
+ghost use Rattle.step_equal.specs.TableViews.{table_of};
+ghost use Rattle.conformance.specs.PlainRows.{AreRowsOf};
+ghost use Rattle.population_typed.specs.Seen.{population_seen};
+ghost use Rattle.step_pins.specs.Pinned.{is_pinned};
+ghost use Rattle.merge_tables.specs.ComputedTables.{AreGentle, AreTablesUnder};
+
+use population_typed::population::Population;
+use std::alloc::{AllocError, Global};
+use std::hash::RandomState;
+use step_classes::classes::refine;
+use step_equal::plain::Plain;
+use step_equal::table::Table;
+use step_pins::pins::Pins;
+
+/// The rows of a population.
+fn plain_rows<'s: 'r, 't, 'r, 'a>(
+    alloc: Global,
+    keys: RandomState,
+    population: &Population<'s, 't, 'r, 'a>,
+) -> Result<Plain<'r>, AllocError>
+    ensures rows { IfOk result (λ p. AreRowsOf
+        (schema_of population.now.types.now.names.schema.now) (population_seen population.now) p) }
+    ensures population { IfOk result (λ p. IsPopulation p) }
+{
+    let rows = population.plain(alloc, keys)?;
+    let _count = rows.len();
+    Ok(rows)
+}
+
+/// The table of partition refinement of rows under these pins.
+fn standard_table(
+    alloc: Global,
+    keys: RandomState,
+    rows: &Plain<'_>,
+    pinned: &Pins,
+) -> Result<Table, AllocError>
+    ensures { IfOk result (λ t. IsStandard rows.now (is_pinned pinned.now) (table_of t)) }
+{
+    let classes = refine(alloc, keys, rows, pinned.names())?;
+    Ok(classes.into_table())
+}
+
+/// The gentle pins of a population, by the classes of the table under its weak ones. Neither the
+/// population nor the weak pins are needed then.
+fn gentle_pins(
+    alloc: Global,
+    population: Population<'_, '_, '_, '_>,
+    weak: Pins,
+    first: &Table,
+) -> Result<Pins, AllocError>
+    requires made { IsMade population.types.now }
+    ensures { IfOk result (λ t. AreGentle
+        (schema_of population.entry.types.now.names.schema.now) (population_seen population.entry)
+        (is_pinned weak) (table_of first.now) (is_pinned t)) }
+{
+    let gentle = weak.gentle(alloc, &population, first)?;
+    Ok(gentle)
+}
+
+/// The table of a population under its weak pins, and the one under the gentle pins by the classes of
+/// the first. Names and keys are hashed by these keys.
+pub(crate) fn standard_tables<'s: 'r, 't, 'r, 'a>(
+    alloc: Global,
+    keys: RandomState,
+    population: Population<'s, 't, 'r, 'a>,
+    weak: Pins,
+) -> Result<(Table, Table), AllocError>
+    requires made { IsMade population.types.now }
+    ensures { IfOk result (λ t. AreTablesUnder
+        (schema_of population.entry.types.now.names.schema.now) (population_seen population.entry)
+        (is_pinned weak) (table_of t.0) (table_of t.1)) }
+{
+    let rows = plain_rows(alloc, keys, &population)?;
+    let first = standard_table(alloc, keys, &rows, &weak)?;
+    let gentle = gentle_pins(alloc, population, weak, &first)?;
+    let second = standard_table(alloc, keys, &rows, &gentle)?;
+    Ok((first, second))
+}

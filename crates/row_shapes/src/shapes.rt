@@ -1,0 +1,103 @@
+//! Numbers for the shapes of rows, by place.
+
+ghost use Rattle.std.specs.Prelude.{
+  ◌≡◌,
+  ◌↔◌,
+  ℕ,
+  cond,
+  length,
+  slice_get,
+  slice_index,
+  unwrap_or,
+  IfOk,
+  Some,
+};
+ghost use Rattle.indexmap.specs.IndexMap.{get};
+ghost use Rattle.step_equal.specs.Rows.{Row};
+ghost use Rattle.step_values.specs.Shapes.{HaveOneShape};
+ghost use Rattle.row_shapes.specs.ComputedLabelling.{of_one_class};
+ghost use Rattle.row_shapes.specs.ComputedShapes.{IsShapeOf, same_shape};
+ghost use Rattle.row_shapes.specs.declared.shapes.Shape.{Shape};
+
+use indexmap::IndexMap;
+use std::alloc::{AllocError, Global};
+use std::hash::RandomState;
+use step_equal::plain::Plain;
+use step_values::labels::{Label, Labels};
+use step_values::normal::{Normal, normal_forms};
+use step_values::slot::Slots;
+
+/// All references outside SETs and BAGs are of one class; one inside stands for itself.
+#[derive(Clone, Copy)]
+struct OneClass;
+
+impl Labels for OneClass {
+    ghost labelling = { λ _. of_one_class };
+
+    fn outside(&self, _: u64) -> Label {
+        Label::Class(0)
+    }
+
+    fn inside(&self, name: u64) -> u64 {
+        name
+    }
+}
+
+/// The shape of values: their normal forms, with one label for all references outside SETs and BAGs.
+#[derive(PartialEq, Eq, Hash, Drop)]
+pub(crate) struct Shape<'a> {
+    forms: Vec<Normal<'a>>,
+}
+
+/// Shapes, each with the place of its first row. They are hashed by keys that the author of a text doesn't know, so that
+/// nobody can choose shapes that are slow to find.
+type FirstPlaces<'a> = IndexMap<Shape<'a>, u32, RandomState>;
+
+/// By place, a number for the shape of each row's values. Two rows have one number exactly where their values have one
+/// shape: they agree, whatever their references outside SETs and BAGs name. Names, types and sections of rows play no
+/// part.
+///
+/// It takes time by the size of all values, as long as no bag is large, whose members are sorted. Beside the numbers it
+/// keeps each shape once, so it takes memory by the sizes of the shapes. Shapes are hashed by these keys. `AllocError`
+/// comes where memory runs out.
+pub fn shapes<'a>(
+    alloc: Global,
+    keys: RandomState,
+    input: &Plain<'a>,
+) -> Result<Vec<u32>, AllocError>
+    ensures length { IfOk result (λ v. length v.items ≡ length input.now) }
+    ensures shapes { IfOk result (λ v. (i j : ℕ) (r s : Row) → slice_get input.now i ≡ Some r
+        → slice_get input.now j ≡ Some s → (slice_index v.items i ≡ slice_index v.items j)
+        ↔ HaveOneShape r.values s.values) }
+{
+    let mut firsts = IndexMap::with_hasher(alloc, keys);
+    let mut numbers = Vec::with_capacity(alloc, input.len())?;
+    for place in 0..input.len() {
+        let shape = shape_of(alloc, &input.row(place).values)?;
+        let number = first_of(&mut firsts, shape, place as u32)?;
+        numbers.push(number)?;
+    }
+    Ok(numbers)
+}
+
+/// The shape of values.
+fn shape_of<'p, 'a: 'c, 'c>(alloc: Global, values: &Slots<'p, 'a>) -> Result<Shape<'c>, AllocError>
+    ensures { IfOk result (λ shape. IsShapeOf values.now shape) }
+{
+    let forms = normal_forms(alloc, &OneClass, values)?;
+    Ok(Shape { forms })
+}
+
+/// The place of the first row of a shape, which is this one where there was none.
+fn first_of<'a>(
+    firsts: &mut FirstPlaces<'a>,
+    shape: Shape<'a>,
+    place: u32,
+) -> Result<u32, AllocError>
+    ensures first { IfOk result
+        (λ number. number ≡ unwrap_or (get same_shape firsts.old shape.entry) place) }
+    ensures noted { IfOk result (λ number. (s : Shape) → get same_shape firsts.new s
+        ≡ cond (same_shape shape.entry s) (Some number) (get same_shape firsts.old s)) }
+{
+    Ok(*firsts.entry(shape)?.or_insert(place))
+}

@@ -1,0 +1,30 @@
+use Rattle.std.proofs.Common.{rules, length, vec_len, ◌≡◌, ◌∙◌, ◌<◌, sym, subst, arith}
+use Rattle.express_syntax.specs.SchemaViews.{schema_of}
+use Rattle.population_typed.specs.Seen.{population_seen}
+use Rattle.step_population.proofs.Verdicts.{empty-so, full-so}
+use Rattle.ruled_populations.specs.Ruling.{AreFound}
+use Rattle.ruled_populations.proofs.ruled.ruled_by_extents.Goals as goal
+
+pub pins-requires-clause-made : goal.pins-requires-clause-made
+pins-requires-clause-made c = c.requires.ready.made
+
+pub pins-requires-clause-numbered : goal.pins-requires-clause-numbered
+pins-requires-clause-numbered c = c.requires.ready.rules.numbered
+
+pub returns-then-broken-gt0 : goal.returns-then-broken-gt0
+returns-then-broken-gt0 c =
+    let found = c.in_ok-report.report.findings in
+    let more : 0 < c.len-broken.result = omega arith in
+    let whole : length found.items ≡ vec_len found = search rules in
+    (full-so found.items c.len-broken.result (c.len-broken.ensures ∙ sym whole) more, c.in_ok-report.ensures)
+
+pub returns : goal.returns
+returns c =
+    let e = c.args.extents.now in
+    let found = c.in_ok-report.report.findings in
+    let whole : length found.items ≡ vec_len found = search rules in
+    let none = empty-so found.items c.len-broken.result (c.len-broken.ensures ∙ sym whole) (omega arith) in (
+      subst (λ l. AreFound (schema_of e.population.now.types.now.names.schema.now) (population_seen e.population.now) l
+          c.in_ok-report.report.unknown) none c.in_ok-report.ensures,
+      c.in_ok-weak.ensures,
+    )

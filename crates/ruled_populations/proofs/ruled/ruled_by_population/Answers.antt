@@ -1,0 +1,29 @@
+use Rattle.std.proofs.Common.{sym, subst}
+use Rattle.express_syntax.specs.SchemaViews.{schema_of}
+use Rattle.population_typed.specs.Seen.{population_seen}
+use Rattle.check_findings.specs.Ruling.{AreReady}
+use Rattle.ruled_populations.specs.Ruling.{IsRuled}
+use Rattle.ruled_populations.proofs.ruled.ruled_by_population.Goals as goal
+
+pub ruled_by_extents-requires : goal.ruled_by_extents-requires
+ruled_by_extents-requires c =
+    let e = c.in_ok-extents.extents in
+    let graph = c.args.graph.now in
+    let tables = c.args.tables.now in
+    let settings = c.args.settings.now in
+    record {
+      ready = subst (λ t. AreReady e.population.now.types.now t graph.domain graph.judged.firsts.items tables settings)
+          (sym c.in_ok-extents.ensures.rules)
+          (subst (λ q. AreReady q.types.now graph.rules graph.domain graph.judged.firsts.items tables settings)
+          (sym c.in_ok-extents.ensures.population) c.requires.ready);
+    }
+
+pub returns : goal.returns
+returns c =
+    let e = c.in_ok-extents.extents in
+    let chosen = c.args.chosen.now in
+    let ruled = c.in_ok-ruled.ruled in
+    subst (λ q. IsRuled (schema_of q.types.now.names.schema.now) (population_seen q) c.args.graph.now.rules chosen ruled)
+    c.in_ok-extents.ensures.population
+    (subst (λ t. IsRuled (schema_of e.population.now.types.now.names.schema.now) (population_seen e.population.now) t chosen ruled)
+    c.in_ok-extents.ensures.rules c.in_ok-ruled.ensures)

@@ -1,0 +1,95 @@
+-- A run on what a run wrote.
+use Rattle.std.specs.Prelude.{◌≡◌, ◌≤◌, ◌<◌, ◌^◌, ℕ, Bool, List, length, Result, Ok, Err, None}
+use Rattle.std.specs.String.{string_bytes}
+use Rattle.std.proofs.Common.{sym, subst, ◌∙◌, arith, inl, inr}
+use Rattle.step_structures.specs.Trees.{File}
+use Rattle.step_structures.proofs.Once as texts
+use Rattle.express_syntax.specs.Schemas.{Schema}
+use Rattle.express_syntax.specs.declared.fault.SchemaFault.{SchemaFault}
+use Rattle.express_syntax.specs.declared.fault.SchemaFault.TheVariants as schemas
+use Rattle.express_syntax.proofs.UniqueSchemas.{one_schema}
+use Rattle.express_syntax.proofs.FirstFault.{reads_no_fault}
+use Rattle.schema_semantics.specs.Names.{Name}
+use Rattle.schema_semantics.specs.Faults.{IsFault}
+use Rattle.schema_semantics.specs.Parts.{AreUnchecked}
+use Rattle.schema_semantics.proofs.Faults.{faults-are-one}
+use Rattle.schema_parts.specs.Adding.{unchecked_in}
+use Rattle.conformance.specs.Choices.{Choice, chosen_names, unknown_choice}
+use Rattle.conformance.specs.Said.{FileConforms}
+use Rattle.check_findings.specs.Findings.{ConformsWhereNothingIsFound}
+use Rattle.merged_populations.specs.Headline.{SecondMergesStay}
+use Rattle.checking.specs.Checks.{HasSchema, HasSchemaFault}
+use Rattle.checking.specs.Reporting.{IsReport}
+use Rattle.shrinking.specs.declared.summary.Summary.{Summary}
+use Rattle.shrinking.specs.declared.fault.ShrinkFault.{ShrinkFault}
+use Rattle.shrinking.specs.declared.fault.ShrinkFault.TheVariants as faults
+use Rattle.shrinking.specs.Shrinking.{Passes, IsUnknown, IsDone, Answers}
+use Rattle.shrinking.specs.Laws.{OwnOutputsPass, SecondRunsStay, Stays}
+use Rattle.shrinking.proofs.Refusing.{none_unchecked}
+
+pub own_outputs_pass : ConformsWhereNothingIsFound → OwnOutputsPass
+own_outputs_pass law s chosen bytes output merged =
+    let said = merged.some_said in
+    let header_bytes = (merged.merge said).input.header_bytes in
+    let least = merged.least said in (
+      λ kind place o. elim o [
+        | inl long ↦ long.0
+        | inr short ↦ absurd (texts.reads_no_fault output header_bytes least.file kind place least.reads short.1)
+      ],
+      λ f r has report.
+          let one = texts.reads_once output has.header_bytes header_bytes f least.file has.reads least.reads in
+          (law s said f r.findings.items r.rule_findings.items r.unknown report.findings).1
+          (subst (FileConforms s said) (sym one.1) least.conforms),
+    )
+
+-- a schema that is resolved has no fault
+pub no_schema_fault : (s : Schema) (text : List ℕ) → HasSchema s text → (f : SchemaFault) → HasSchemaFault f text → ⊥
+no_schema_fault s text has (schemas.Text kind place) (inl h) =
+    let more : 2 ^ 40 < length text = h.0 in
+    let less : length text ≤ 2 ^ 40 = has.within in
+    omega (arith, more, less)
+no_schema_fault s text has (schemas.Text kind place) (inr h) = reads_no_fault text s kind place has.reads h.1
+no_schema_fault s text has (schemas.Name kind name) h =
+    let one = one_schema text h.1.0 s h.1.1 has.reads in
+    (faults-are-one s).1 kind (string_bytes name) (subst (λ t. IsFault t kind (string_bytes name)) one h.1.2) has.resolved
+no_schema_fault s text has schemas.Memory h = h
+
+module _ (c : Choice) (strict : Bool) (text bytes output certificate : List ℕ) (s : Schema) (m : Summary)
+    (has : HasSchema s text) (passes : Passes strict s) (known : unknown_choice s c ≡ None)
+    (done : IsDone s (chosen_names s c) bytes output certificate m) where
+  -- the second run reads the same schema
+  one : (t : Schema) → HasSchema t text → t ≡ s
+  one t other = one_schema text t s other.reads has.reads
+
+  not_unknown : (t : Schema) (f : SchemaFault) → t ≡ s → IsUnknown t c f → ⊥
+  not_unknown t (schemas.Name kind name) e h =
+      let no = subst (λ u. IsUnknown u c (schemas.Name kind name)) e h in
+      absurd (let clash = sym known ∙ no.1 in cc)
+  not_unknown t (schemas.Text kind place) e h = h
+  not_unknown t schemas.Memory e h = h
+
+  stays : OwnOutputsPass → SecondMergesStay → (again recertified : List ℕ) (r : Result Summary ShrinkFault)
+      → Answers c strict text output again recertified r → Stays output again r
+  stays own stay again recertified (Ok n) h =
+      let redone : IsDone s (chosen_names s c) output again recertified n =
+      subst (λ u. IsDone u (chosen_names u c) output again recertified n) (one h.0 h.1) h.4 in
+      let said = done.merged.some_said in
+      stay s said (chosen_names s c) bytes output again (done.merged.merge said) (redone.merged.merge said)
+  stays own stay again recertified (Err (faults.Schema f)) (inl h, none) = absurd (no_schema_fault s text has f h)
+  stays own stay again recertified (Err (faults.Schema f)) (inr h, none) = absurd (not_unknown h.0 f (one h.0 h.1) h.3)
+  stays own stay again recertified (Err (faults.Unchecked us)) (h, none) =
+      absurd (none_unchecked s us.items (passes h.2)
+      (subst (λ u. ∥ AreUnchecked u (unchecked_in us.items) ∥₁) (one h.0 h.1) h.3) h.4)
+  stays own stay again recertified (Err (faults.Text kind place)) h =
+      (own s (chosen_names s c) bytes output done.merged).0 kind place h.4.0
+  stays own stay again recertified (Err (faults.Findings r)) h =
+      let f : File = h.4.0.0 in
+      absurd (h.4.0.3 ((own s (chosen_names s c) bytes output done.merged).1 f r h.4.0.1
+      (subst (λ u. IsReport u f r) (one h.0 h.1) h.4.0.2)))
+  stays own stay again recertified (Err (faults.Device role written)) h = tt
+  stays own stay again recertified (Err faults.Memory) h = tt
+
+pub second_runs_stay : OwnOutputsPass → SecondMergesStay → SecondRunsStay
+second_runs_stay own stay c strict text bytes output certificate again recertified m result first =
+    stays c strict text bytes output certificate first.0 m first.1 first.2 first.3 first.4 own stay again recertified
+    result

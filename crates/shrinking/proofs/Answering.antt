@@ -1,0 +1,324 @@
+-- What is answered on the way, by what was read and written.
+use Rattle.std.specs.Prelude.{◌≡◌, ◌≤◌, ◌<◌, ◌^◌, ℕ, suc, Bool, List, [], length, replicate, Option, None, Some, IfSome, Result, Ok, Err}
+use Rattle.std.proofs.Common.{refl, sym, ◌∙◌, subst, inl, inr, arith, append-nil}
+use Rattle.std.proofs.lemmas.List.{length-replicate}
+use Rattle.std.proofs.KnownBytes.{Appends-nil, Consumes-whole}
+use Rattle.std.specs.Io.KnownBytes.{Appends, Keeps, Consumes, IsAtEnd}
+use Rattle.step_structures.specs.declared.fault.TextFault.{TextFault}
+use Rattle.step_structures.specs.declared.fault.TextFault.TheVariants as texts
+use Rattle.step_structures.specs.Texts.{IsFaultOf}
+use Rattle.express_syntax.specs.Schemas.{Schema}
+use Rattle.express_syntax.specs.Texts as schema_texts
+use Rattle.express_syntax.specs.declared.fault.SchemaFault.{SchemaFault}
+use Rattle.express_syntax.specs.declared.fault.SchemaFault.TheVariants as schemas
+use Rattle.schema_types.specs.Resolving.{IsNameFault}
+use Rattle.schema_semantics.specs.Names.{Name}
+use Rattle.conformance.specs.Choices.{Choice, chosen_names, unknown_choice}
+use Rattle.pin_choices.specs.Chosen.{IsChoiceFault}
+use Rattle.files.specs.Faults.{read_fault, text_fault}
+use Rattle.files.specs.Reads.{IsBeyond}
+use Rattle.files.specs.declared.read.ReadFault.{ReadFault}
+use Rattle.files.specs.declared.read.ReadFault.TheVariants as reads
+use Rattle.files.specs.declared.fault.Role.TheVariants as roles
+use Rattle.files.specs.declared.fault.Fault.{Fault}
+use Rattle.files.specs.declared.fault.Fault.TheVariants as devices
+use Rattle.checking.specs.Checks.{HasSchema}
+use Rattle.shrinking.specs.declared.summary.Summary.{Summary}
+use Rattle.shrinking.specs.declared.fault.ShrinkFault.{ShrinkFault}
+use Rattle.shrinking.specs.declared.fault.ShrinkFault.TheVariants as faults
+use Rattle.shrinking.specs.Faults.{of_fault, of_schema, of_schema_source}
+use Rattle.shrinking.specs.Shrinking.{Passes, IsDone, FileAnswers, Answers, Shrinks}
+use Rattle.shrinking.specs.ComputedAnswers.{Writes, FileShrinks, SourceShrinks}
+
+-- what stays grows by nothing
+kept_appends : (a b : Option (List ℕ)) → Keeps a b → Appends a b []
+kept_appends None b h = tt
+kept_appends (Some xs) None h = absurd h
+kept_appends (Some xs) (Some ys) h = h ∙ sym (append-nil xs)
+
+-- bytes that are to come where that is told, else any
+some_text : (told : Option (List ℕ)) → (text : List ℕ) × IfSome told (λ t. t ≡ text)
+some_text None = ([], tt)
+some_text (Some text) = (text, refl)
+
+-- .. that are too many
+long_text : (limit : ℕ) (told : Option (List ℕ)) → IsBeyond limit told
+    → (text : List ℕ) × IfSome told (λ t. t ≡ text) × (limit < length text)
+long_text limit None h =
+    let many = length-replicate {A = ℕ} (suc limit) 0 in (replicate (suc limit) 0, tt, omega (arith, many))
+long_text limit (Some text) h = (text, refl, h)
+
+module _ (s : Schema) (chosen : List Name) (bytes : List ℕ) where
+  -- nothing was written
+  pub idle : (out cert : Option (List ℕ)) (r : Result Summary ShrinkFault) → FileAnswers s chosen bytes [] [] r
+      → FileShrinks s chosen bytes out out cert cert r
+  idle out cert r h = record {
+    output = [];
+    certificate = [];
+    answers = h;
+    written = Appends-nil out;
+    certified = Appends-nil cert;
+  }
+
+  -- both texts were
+  pub all_written : (out out' cert cert' : Option (List ℕ)) (text certified : List ℕ) (m : Summary)
+      → IsDone s chosen bytes text certified m → Appends out out' text → Appends cert cert' certified
+      → FileShrinks s chosen bytes out out' cert cert' (Ok m)
+  all_written out out' cert cert' text certified m h a b = record {
+    output = text;
+    certificate = certified;
+    answers = h;
+    written = a;
+    certified = b;
+  }
+
+  -- .. or a front of them
+  pub cut : (out out' cert cert' : Option (List ℕ)) (text certified : List ℕ) (m : Summary) (f : Fault) (r : ShrinkFault)
+      → r ≡ of_fault f → IsDone s chosen bytes text certified m → Writes out out' cert cert' text certified (Err f)
+      → FileShrinks s chosen bytes out out' cert cert' (Err r)
+  cut out out' cert cert' text certified m f r e done h =
+      subst (λ (x : ShrinkFault). FileShrinks s chosen bytes out out' cert cert' (Err x)) (sym e) (by f h)
+    where
+      by : (f : Fault) → Writes out out' cert cert' text certified (Err f)
+          → FileShrinks s chosen bytes out out' cert cert' (Err (of_fault f))
+      by (devices.Text role kind place) h = absurd h
+      by (devices.Device roles.Schema written) h = absurd h
+      by (devices.Device roles.File written) h = absurd h
+      by (devices.Device roles.Output written) h = record {
+        output = h.0.sent;
+        certificate = [];
+        answers = (
+          text,
+          certified,
+          m,
+          done,
+          record { left = h.0.left; text_is = h.0.front; count = h.0.count },
+          refl,
+        );
+        written = h.0.told;
+        certified = kept_appends cert cert' h.1;
+      }
+      by (devices.Device roles.Certificate written) h = record {
+        output = text;
+        certificate = h.1.sent;
+        answers = (
+          certified,
+          m,
+          done,
+          record { left = h.1.left; text_is = h.1.front; count = h.1.count },
+        );
+        written = h.0;
+        certified = h.1.told;
+      }
+      by devices.Memory h = record {
+        output = [];
+        certificate = [];
+        answers = (refl, refl);
+        written = kept_appends out out' h.0;
+        certified = kept_appends cert cert' h.1;
+      }
+
+  -- the text of the file isn't read
+  pub unread : (out cert : Option (List ℕ)) (e : TextFault) (f : Fault) (r : ShrinkFault)
+      → f ≡ text_fault roles.File e → r ≡ of_fault f → length bytes ≤ 2 ^ 40 → IsFaultOf bytes e
+      → FileShrinks s chosen bytes out out cert cert (Err r)
+  unread out cert e f r is so within h =
+      subst (λ (x : ShrinkFault). FileShrinks s chosen bytes out out cert cert (Err x))
+      (sym (so ∙ (λ i. of_fault (is i)))) (by e h)
+    where
+      by : (e : TextFault) → IsFaultOf bytes e
+          → FileShrinks s chosen bytes out out cert cert (Err (of_fault (text_fault roles.File e)))
+      by (texts.Fault kind place) h =
+          idle out cert (Err (faults.Text kind place)) (inr (within, h), (refl, refl))
+      by texts.Memory h = idle out cert (Err faults.Memory) (refl, refl)
+
+-- bytes that a source gave to its end
+pub given : (s : Schema) (chosen : List Name) (file left : Option (List ℕ)) (bytes : List ℕ)
+    (out out' cert cert' : Option (List ℕ)) (r : Result Summary ShrinkFault)
+    → Consumes file left bytes × IsAtEnd left → FileShrinks s chosen bytes out out' cert cert' r
+    → SourceShrinks s chosen file out out' cert cert' r
+given s chosen file left bytes out out' cert cert' r h k = record {
+  bytes = bytes;
+  bytes_are = Consumes-whole file left bytes (λ b. b ≡ bytes) h.0 h.1 refl;
+  shrinks = k;
+}
+
+-- the file isn't read to its end
+pub not_given : (s : Schema) (chosen : List Name) (file out cert : Option (List ℕ)) (e : ReadFault) (f : Fault)
+    (r : ShrinkFault) → f ≡ read_fault roles.File e → r ≡ of_fault f → (e ≡ reads.TooLarge → IsBeyond (2 ^ 40) file)
+    → SourceShrinks s chosen file out out cert cert (Err r)
+not_given s chosen file out cert e f r is so beyond =
+    subst (λ (x : ShrinkFault). SourceShrinks s chosen file out out cert cert (Err x))
+    (sym (so ∙ (λ i. of_fault (is i)))) (by e beyond)
+  where
+    any : (x : ShrinkFault) → ((bytes : List ℕ) → FileAnswers s chosen bytes [] [] (Err x))
+        → SourceShrinks s chosen file out out cert cert (Err x)
+    any x h =
+        let text = some_text file in
+        record { bytes = text.0; bytes_are = text.1; shrinks = idle s chosen text.0 out cert (Err x) (h text.0) }
+
+    by : (e : ReadFault) → (e ≡ reads.TooLarge → IsBeyond (2 ^ 40) file)
+        → SourceShrinks s chosen file out out cert cert (Err (of_fault (read_fault roles.File e)))
+    by reads.Device h = any (faults.Device roles.File 0) (λ bytes. (refl, (refl, refl)))
+    by reads.TooLarge h =
+        let text = long_text (2 ^ 40) file (h refl) in
+        record {
+          bytes = text.0;
+          bytes_are = text.1;
+          shrinks = idle s chosen text.0 out cert _ (inl (text.2, refl, refl), (refl, refl));
+        }
+    by reads.Memory h = any faults.Memory (λ bytes. (refl, refl))
+
+-- what is answered to a file is answered to a schema that lets it pass
+file_answered : (c : Choice) (strict : Bool) (s : Schema) (text bytes output certificate : List ℕ) → HasSchema s text
+    → Passes strict s → unknown_choice s c ≡ None → (r : Result Summary ShrinkFault)
+    → FileAnswers s (chosen_names s c) bytes output certificate r
+    → Answers c strict text bytes output certificate r
+file_answered c strict s text bytes output certificate has passes known (Ok m) h = (s, has, passes, known, h)
+file_answered c strict s text bytes output certificate has passes known (Err (faults.Schema f)) h = absurd h
+file_answered c strict s text bytes output certificate has passes known (Err (faults.Unchecked us)) h = absurd h
+file_answered c strict s text bytes output certificate has passes known (Err (faults.Text kind place)) h =
+    (s, has, passes, known, h)
+file_answered c strict s text bytes output certificate has passes known (Err (faults.Findings r)) h =
+    (s, has, passes, known, h)
+file_answered c strict s text bytes output certificate has passes known (Err (faults.Device roles.Schema written)) h =
+    absurd h
+file_answered c strict s text bytes output certificate has passes known (Err (faults.Device roles.File written)) h =
+    (s, has, passes, known, h)
+file_answered c strict s text bytes output certificate has passes known (Err (faults.Device roles.Output written)) h =
+    (s, has, passes, known, h)
+file_answered c strict s text bytes output certificate has passes known (Err (faults.Device roles.Certificate written)) h =
+    (s, has, passes, known, h)
+file_answered c strict s text bytes output certificate has passes known (Err faults.Memory) h = h
+
+module _ (c : Choice) (strict : Bool) (text : List ℕ) where
+  pub settled : (s : Schema) (file out out' cert cert' : Option (List ℕ)) (r : Result Summary ShrinkFault)
+      → HasSchema s text → Passes strict s → unknown_choice s c ≡ None
+      → SourceShrinks s (chosen_names s c) file out out' cert cert' r
+      → Shrinks c strict (Some text) file out out' cert cert' r
+  settled s file out out' cert cert' r has passes known h =
+      let k = h.shrinks in
+      record {
+        text = text;
+        bytes = h.bytes;
+        output = k.output;
+        certificate = k.certificate;
+        text_is = refl;
+        bytes_are = h.bytes_are;
+        answers = file_answered c strict s text h.bytes k.output k.certificate has passes known r k.answers;
+        written = k.written;
+        certified = k.certified;
+      }
+
+  -- the file isn't looked at
+  pub unlooked : (file out cert : Option (List ℕ)) (r : ShrinkFault)
+      → ((bytes : List ℕ) → Answers c strict text bytes [] [] (Err r))
+      → Shrinks c strict (Some text) file out out cert cert (Err r)
+  unlooked file out cert r h =
+      let bytes = some_text file in
+      record {
+        text = text;
+        bytes = bytes.0;
+        output = [];
+        certificate = [];
+        text_is = refl;
+        bytes_are = bytes.1;
+        answers = h bytes.0;
+        written = Appends-nil out;
+        certified = Appends-nil cert;
+      }
+
+  -- a chosen name is no entity
+  pub unknown : (s : Schema) (file out cert : Option (List ℕ)) (f : SchemaFault) (r : ShrinkFault) → r ≡ of_schema f
+      → HasSchema s text → Passes strict s → IsChoiceFault s c f
+      → Shrinks c strict (Some text) file out out cert cert (Err r)
+  unknown s file out cert f r is has passes h =
+      subst (λ (x : ShrinkFault). Shrinks c strict (Some text) file out out cert cert (Err x)) (sym is) (by f h)
+    where
+      by : (f : SchemaFault) → IsChoiceFault s c f
+          → Shrinks c strict (Some text) file out out cert cert (Err (of_schema f))
+      by (schemas.Text kind place) h = absurd h
+      by (schemas.Name kind name) h = unlooked file out cert (faults.Schema (schemas.Name kind name))
+          (λ bytes. (inr (s, has, passes, h), (refl, refl)))
+      by schemas.Memory h = unlooked file out cert faults.Memory (λ bytes. (refl, refl))
+
+  -- the text of the schema isn't read
+  pub schema_unread : (file out cert : Option (List ℕ)) (f : SchemaFault) (r : ShrinkFault) → r ≡ of_schema f
+      → length text ≤ 2 ^ 40 → schema_texts.IsFaultOf text f
+      → Shrinks c strict (Some text) file out out cert cert (Err r)
+  schema_unread file out cert f r is within h =
+      subst (λ (x : ShrinkFault). Shrinks c strict (Some text) file out out cert cert (Err x)) (sym is) (by f h)
+    where
+      by : (f : SchemaFault) → schema_texts.IsFaultOf text f
+          → Shrinks c strict (Some text) file out out cert cert (Err (of_schema f))
+      by (schemas.Text kind place) h = unlooked file out cert (faults.Schema (schemas.Text kind place))
+          (λ bytes. (inl (inr (within, h)), (refl, refl)))
+      by (schemas.Name kind name) h = absurd h
+      by schemas.Memory h = unlooked file out cert faults.Memory (λ bytes. (refl, refl))
+
+  -- .. or a name in it is at fault
+  pub unresolved : (s : Schema) (file out cert : Option (List ℕ)) (f : SchemaFault) (r : ShrinkFault) → r ≡ of_schema f
+      → length text ≤ 2 ^ 40 → schema_texts.ReadsAs text s → IsNameFault s f
+      → Shrinks c strict (Some text) file out out cert cert (Err r)
+  unresolved s file out cert f r is within reads h =
+      subst (λ (x : ShrinkFault). Shrinks c strict (Some text) file out out cert cert (Err x)) (sym is) (by f h)
+    where
+      by : (f : SchemaFault) → IsNameFault s f
+          → Shrinks c strict (Some text) file out out cert cert (Err (of_schema f))
+      by (schemas.Text kind place) h = absurd h
+      by (schemas.Name kind name) h = unlooked file out cert (faults.Schema (schemas.Name kind name))
+          (λ bytes. (inl (within, (s, reads, h)), (refl, refl)))
+      by schemas.Memory h = unlooked file out cert faults.Memory (λ bytes. (refl, refl))
+
+-- the schema's bytes are those of a source that gave them
+pub of_source : (c : Choice) (strict : Bool) (schema left : Option (List ℕ)) (bytes : List ℕ)
+    (file out out' cert cert' : Option (List ℕ)) (r : Result Summary ShrinkFault)
+    → Consumes schema left bytes × IsAtEnd left → Shrinks c strict (Some bytes) file out out' cert cert' r
+    → Shrinks c strict schema file out out' cert cert' r
+of_source c strict schema left bytes file out out' cert cert' r h k = record {
+  text = k.text;
+  bytes = k.bytes;
+  output = k.output;
+  certificate = k.certificate;
+  text_is = Consumes-whole schema left bytes (λ t. t ≡ k.text) h.0 h.1 k.text_is;
+  bytes_are = k.bytes_are;
+  answers = k.answers;
+  written = k.written;
+  certified = k.certified;
+}
+
+-- .. which isn't read to its end
+pub schema_not_given : (c : Choice) (strict : Bool) (schema file out cert : Option (List ℕ)) (e : ReadFault)
+    (r : ShrinkFault) → r ≡ of_schema_source e → (e ≡ reads.TooLarge → IsBeyond (2 ^ 40) schema)
+    → Shrinks c strict schema file out out cert cert (Err r)
+schema_not_given c strict schema file out cert e r is beyond =
+    subst (λ (x : ShrinkFault). Shrinks c strict schema file out out cert cert (Err x)) (sym is) (by e beyond)
+  where
+    with_text : (text : List ℕ) → IfSome schema (λ t. t ≡ text) → (x : ShrinkFault)
+        → ((bytes : List ℕ) → Answers c strict text bytes [] [] (Err x))
+        → Shrinks c strict schema file out out cert cert (Err x)
+    with_text text told x h =
+        let bytes = some_text file in
+        record {
+          text = text;
+          bytes = bytes.0;
+          output = [];
+          certificate = [];
+          text_is = told;
+          bytes_are = bytes.1;
+          answers = h bytes.0;
+          written = Appends-nil out;
+          certified = Appends-nil cert;
+        }
+
+    by : (e : ReadFault) → (e ≡ reads.TooLarge → IsBeyond (2 ^ 40) schema)
+        → Shrinks c strict schema file out out cert cert (Err (of_schema_source e))
+    by reads.Device h =
+        let text = some_text schema in
+        with_text text.0 text.1 (faults.Device roles.Schema 0) (λ bytes. (refl, (refl, refl)))
+    by reads.TooLarge h =
+        let text = long_text (2 ^ 40) schema (h refl) in
+        with_text text.0 text.1 _ (λ bytes. (inl (inl (text.2, refl, refl)), (refl, refl)))
+    by reads.Memory h =
+        let text = some_text schema in
+        with_text text.0 text.1 faults.Memory (λ bytes. (refl, refl))

@@ -1,0 +1,51 @@
+-- What is answered to an exchange structure, by its findings or its tables.
+use Rattle.std.specs.Prelude.{◌≡◌, ◌≤◌, ◌^◌, ℕ, List, length, Option, Err}
+use Rattle.std.proofs.Common.{refl, sym, ◌∙◌, subst}
+use Rattle.step_structures.specs.Texts.{ReadsAs}
+use Rattle.step_exchange.specs.Exchanges.{structure}
+use Rattle.step_exchange.specs.declared.structure.Exchange.{Exchange}
+use Rattle.step_equal.specs.TableViews.{table_of}
+use Rattle.step_equal.specs.declared.table.Table.{Table}
+use Rattle.express_syntax.specs.Schemas.{Schema}
+use Rattle.schema_semantics.specs.Names.{Name}
+use Rattle.check_findings.specs.Findings.{AreFindings}
+use Rattle.check_findings.specs.declared.findings.Found.{Found}
+use Rattle.merge_tables.specs.Merges.{Merges}
+use Rattle.merge_tables.specs.declared.merging.Merging.{Merging}
+use Rattle.merge_tables.specs.declared.merging.Merging.TheVariants.{Faulty, Clean}
+use Rattle.reports.specs.declared.report.Report.{Report}
+use Rattle.checking.specs.Reporting.{IsReport}
+use Rattle.shrinking.specs.declared.fault.ShrinkFault.TheVariants.{Findings}
+use Rattle.shrinking.specs.ComputedAnswers.{FileShrinks}
+use Rattle.shrinking.proofs.Answering.{idle}
+use Rattle.shrinking.proofs.Merging.{IsTabled}
+
+-- something is found
+pub faulty : (s : Schema) (chosen : List Name) (bytes : List ℕ) (x : Exchange) (out cert : Option (List ℕ)) (m : Merging)
+    (found : Found) (r : Report) → m ≡ Faulty found → Merges s chosen (structure x) m → length bytes ≤ 2 ^ 40
+    → ReadsAs bytes x.header_bytes.now (structure x)
+    → (AreFindings s (structure x) found.findings.items found.rules.findings.items found.rules.unknown
+    → IsReport s (structure x) r) → r.findings ≡ found.findings → r.rule_findings ≡ found.rules.findings
+    → FileShrinks s chosen bytes out out cert cert (Err (Findings r))
+faulty s chosen bytes x out cert m found r is merges within reads report same same_rules =
+    let found_all = subst (Merges s chosen (structure x)) is merges in
+    let items : r.findings.items ≡ found.findings.items = λ i. (same i).items in
+    let rules : r.rule_findings.items ≡ found.rules.findings.items = λ i. (same_rules i).items in
+    idle s chosen bytes out cert (Err (Findings r)) (
+      (
+        structure x,
+        record { within = within; header_bytes = x.header_bytes.now; reads = reads },
+        report found_all.0,
+        λ clean. found_all.1 (sym items ∙ clean.0, sym rules ∙ clean.1),
+      ),
+      (refl, refl),
+    )
+
+-- nothing is
+pub is_tabled : (s : Schema) (chosen : List Name) (bytes : List ℕ) (x : Exchange) (m : Merging) (unknown : ℕ)
+    (first second : Table) → m ≡ Clean unknown first second → Merges s chosen (structure x) m
+    → ReadsAs bytes x.header_bytes.now (structure x)
+    → IsTabled s chosen bytes x unknown (table_of first) (table_of second)
+is_tabled s chosen bytes x m unknown first second is merges reads =
+    let all = subst (Merges s chosen (structure x)) is merges in
+    record { reads = reads; found = all.0; tables = all.1 }

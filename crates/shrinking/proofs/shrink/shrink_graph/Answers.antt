@@ -1,0 +1,42 @@
+use Rattle.std.proofs.Common.{refl, subst}
+use Rattle.express_syntax.specs.SchemaViews.{schema_of}
+use Rattle.schema_semantics.specs.Parts.{AreUnchecked}
+use Rattle.schema_parts.specs.Adding.{unchecked_in}
+use Rattle.conformance.specs.Choices.{chosen_names}
+use Rattle.pin_choices.specs.Chosen.{choice_of}
+use Rattle.shrinking.specs.declared.fault.ShrinkFault.TheVariants.{Unchecked}
+use Rattle.shrinking.proofs.Answering.{settled, unknown, unlooked}
+use Rattle.shrinking.proofs.shrink.shrink_graph.Goals as goal
+
+pub returns-then-is_refused-clause-shrinks : goal.returns-then-is_refused-clause-shrinks
+returns-then-is_refused-clause-shrinks g c = λ text has.
+    let s = schema_of c.args.graph.types.names.schema.now in
+    let refused = c.if-is_refused.ensures in
+    unlooked (choice_of c.args.choice.now) c.args.choice.now.strict text (g.F.Source.to_come c.args.file.now)
+    (g.O.Sink.held c.args.out.now) (g.C.Sink.held c.args.certificate.now) (Unchecked c.into_unchecked.result)
+    (λ bytes. (
+      (
+        s,
+        has,
+        refused.0,
+        c.into_unchecked.ensures,
+        λ none. refused.1 (subst (λ us. ∥ AreUnchecked s (unchecked_in us) ∥₁) none c.into_unchecked.ensures),
+      ),
+      (refl, refl),
+    ))
+
+pub returns-in-Ok-clause-shrinks : goal.returns-in-Ok-clause-shrinks
+returns-in-Ok-clause-shrinks g c = λ text has.
+    let s = schema_of c.args.graph.types.names.schema.now in
+    let choice = choice_of c.args.choice.now in
+    settled choice c.args.choice.now.strict text s (g.F.Source.to_come c.args.file.now)
+    (g.O.Sink.held c.args.out.now) (g.O.Sink.held c.shrink_source.new.out) (g.C.Sink.held c.args.certificate.now)
+    (g.C.Sink.held c.shrink_source.new.certificate) c.shrink_source.result has c.if-is_refused.ensures
+    c.in-Ok.ensures.0 (c.shrink_source.ensures.shrinks (chosen_names s choice) c.in-Ok.ensures.1.0)
+
+pub returns-clause-shrinks : goal.returns-clause-shrinks
+returns-clause-shrinks g c = λ text has.
+    unknown (choice_of c.args.choice.now) c.args.choice.now.strict text
+    (schema_of c.args.graph.types.names.schema.now) (g.F.Source.to_come c.args.file.now)
+    (g.O.Sink.held c.args.out.now) (g.C.Sink.held c.args.certificate.now) c.in-Err.fault c.of_schema.result
+    c.of_schema.ensures has c.if-is_refused.ensures c.in-Err.ensures

@@ -1,0 +1,5 @@
+pub mod Shrinking
+pub mod Devices
+pub mod Laws
+pub mod Faults
+pub mod ComputedAnswers

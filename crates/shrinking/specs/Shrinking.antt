@@ -1,0 +1,135 @@
+-- What `shrink` answers to the texts of a schema and of a file, and what it writes.
+use Rattle.std.specs.Prelude.{◌≡◌, ◌≢◌, ◌≤◌, ◌-◌, ◌^◌, ◌++◌, ◌⊎◌, ℕ, min, Bool, true, List, [], length, Option, None, IfSome, Result, Ok, Err}
+use Rattle.std.specs.Io.KnownBytes.{Appends}
+use Rattle.step_structures.specs.Trees.{File, rows_of}
+use Rattle.express_syntax.specs.Schemas.{Schema}
+use Rattle.express_syntax.specs.declared.fault.SchemaFault.{SchemaFault}
+use Rattle.express_syntax.specs.declared.fault.SchemaFault.TheVariants as schemas
+use Rattle.schema_semantics.specs.Names.{Name}
+use Rattle.schema_semantics.specs.Parts.{AreUnchecked}
+use Rattle.schema_parts.specs.Adding.{unchecked_in}
+use Rattle.conformance.specs.Choices.{Choice, chosen_names, unknown_choice}
+use Rattle.conformance.specs.Said.{Said}
+use Rattle.pin_choices.specs.Chosen.{IsChoiceFault}
+use Rattle.step_equal.specs.Tables.{Table}
+use Rattle.step_equal.specs.Standard.{IsStandard}
+use Rattle.certificate_text.specs.Texts.{IsCertificate}
+use Rattle.merged_populations.specs.Headline.{IsMergeOf, IsLeast}
+use Rattle.files.specs.declared.fault.Role.TheVariants as roles
+use Rattle.reports.specs.declared.report.Report.{Report}
+use Rattle.checking.specs.Reporting.{IsReport}
+use Rattle.checking.specs.Checks.{HasSchema, HasSchemaFault, HasFile, HasFileFault}
+use Rattle.shrinking.specs.declared.summary.Summary.{Summary}
+use Rattle.shrinking.specs.declared.fault.ShrinkFault.{ShrinkFault}
+use Rattle.shrinking.specs.declared.fault.ShrinkFault.TheVariants as faults
+
+-- nothing is found of the file
+abbrev pub IsClean : Report → Type 0
+IsClean r = (r.findings.items ≡ []) × (r.rule_findings.items ≡ [])
+
+-- What is merged: the input conforms, the output is its text with exactly its value-equal instances merged, pinned ones
+-- told by identity; it reads as their quotient, conforms too, and no image has fewer instances. That holds whichever
+-- functions are those of the schema, and there are some.
+pub record IsMerged (s : Schema) (chosen : List Name) (bytes output : List ℕ) : Type 0 where
+  pub some_said : Said s
+  pub merge : (said : Said s) → IsMergeOf s said chosen bytes output
+  pub least : (said : Said s) → IsLeast s said chosen bytes output (merge said)
+
+-- What is certified: the certificate is that of the two tables that partition refinement makes of the instances, by the
+-- weak pins and by the pins.
+pub record IsCertified (s : Schema) (chosen : List Name) (bytes output : List ℕ) (merged : IsMerged s chosen bytes output)
+    (first second : Table) (certificate : List ℕ) : Type 0 where
+  pub first_is : (said : Said s)
+      → IsStandard (merged.merge said).input.rows (merged.merge said).input.pins.weak first
+  pub second_is : (said : Said s)
+      → IsStandard (merged.merge said).input.rows (merged.merge said).input.pinned second
+  pub certificate_is : IsCertificate certificate first second
+
+-- What is reported: the report of the file, of which nothing is found, as many instances as the output has, and the rounds
+-- of the second table. Neither table has more rounds than the file has instances.
+pub record IsReported (s : Schema) (chosen : List Name) (bytes output : List ℕ) (merged : IsMerged s chosen bytes output)
+    (first second : Table) (m : Summary) : Type 0 where
+  pub file : File
+  pub has_file : HasFile file bytes
+  pub report : IsReport s file m.report
+  pub clean : IsClean m.report
+  pub kept : (said : Said s) → m.kept ≡ length (rows_of (merged.least said).file.sections)
+  pub rounds : m.rounds ≡ second.rounds
+  pub first_few : first.rounds ≤ m.report.instances
+  pub second_few : second.rounds ≤ m.report.instances
+
+-- By a schema, of which these entities are chosen, this is the output of a file of these bytes, this its certificate, and
+-- this is said of it.
+pub record IsDone (s : Schema) (chosen : List Name) (bytes output certificate : List ℕ) (m : Summary) : Type 0 where
+  pub merged : IsMerged s chosen bytes output
+  pub first : Table
+  pub second : Table
+  pub certified : IsCertified s chosen bytes output merged first second certificate
+  pub reported : IsReported s chosen bytes output merged first second m
+
+-- a front of a text was written, of so many bytes, as far as 2^64 - 1
+pub record IsFront (sent text : List ℕ) (written : ℕ) : Type 0 where
+  pub left : List ℕ
+  pub text_is : text ≡ sent ++ left
+  pub count : written ≡ min (length sent) (2 ^ 64 - 1)
+
+-- nothing was written
+abbrev pub AreUnwritten : List ℕ → List ℕ → Type 0
+AreUnwritten output certificate = (output ≡ []) × (certificate ≡ [])
+
+-- What is answered to a file of these bytes, where the entities that are chosen of the schema are these, and what is
+-- written as output and as certificate: nothing but where all is checked, and the certificate behind all of the output.
+abbrev pub FileAnswers : Schema → List Name → List ℕ → List ℕ → List ℕ → Result Summary ShrinkFault → Type 0
+FileAnswers s chosen bytes output certificate (Ok m) = IsDone s chosen bytes output certificate m
+FileAnswers s chosen bytes output certificate (Err (faults.Text kind place)) =
+    HasFileFault kind place bytes × AreUnwritten output certificate
+FileAnswers s chosen bytes output certificate (Err (faults.Findings r)) =
+    ((f : File) × HasFile f bytes × IsReport s f r × (IsClean r → ⊥)) × AreUnwritten output certificate
+FileAnswers s chosen bytes output certificate (Err (faults.Device roles.File written)) =
+    (written ≡ 0) × AreUnwritten output certificate
+FileAnswers s chosen bytes output certificate (Err (faults.Device roles.Output written)) =
+    (whole : List ℕ) × (certified : List ℕ) × (m : Summary) × IsDone s chosen bytes whole certified m
+    × IsFront output whole written × (certificate ≡ [])
+FileAnswers s chosen bytes output certificate (Err (faults.Device roles.Certificate written)) =
+    (whole : List ℕ) × (m : Summary) × IsDone s chosen bytes output whole m × IsFront certificate whole written
+FileAnswers s chosen bytes output certificate (Err faults.Memory) = AreUnwritten output certificate
+FileAnswers s chosen bytes output certificate (Err f) = ⊥
+
+-- where the choice is strict, all of the schema is checked
+abbrev pub Passes : Bool → Schema → Type 0
+Passes strict s = strict ≡ true → ∥ AreUnchecked s [] ∥₁
+
+-- The first chosen name that is no entity is this, in capitals.
+abbrev pub IsUnknown : Schema → Choice → SchemaFault → Type 0
+IsUnknown s c (schemas.Name kind name) = IsChoiceFault s c (schemas.Name kind name)
+IsUnknown s c f = ⊥
+
+-- What is answered to a schema of this text and a file of these bytes. A fault of the schema comes before that of a strict
+-- choice, that before a chosen name that is no entity, and all of them before what is said of the file.
+abbrev pub Answers : Choice → Bool → List ℕ → List ℕ → List ℕ → List ℕ → Result Summary ShrinkFault → Type 0
+Answers c strict text bytes output certificate (Err (faults.Schema f)) =
+    (HasSchemaFault f text ⊎ ((s : Schema) × HasSchema s text × Passes strict s × IsUnknown s c f))
+    × AreUnwritten output certificate
+Answers c strict text bytes output certificate (Err (faults.Unchecked us)) =
+    ((s : Schema) × HasSchema s text × (strict ≡ true) × ∥ AreUnchecked s (unchecked_in us.items) ∥₁ × (us.items ≢ []))
+    × AreUnwritten output certificate
+Answers c strict text bytes output certificate (Err (faults.Device roles.Schema written)) =
+    (written ≡ 0) × AreUnwritten output certificate
+Answers c strict text bytes output certificate (Err faults.Memory) = AreUnwritten output certificate
+Answers c strict text bytes output certificate r =
+    (s : Schema) × HasSchema s text × Passes strict s × (unknown_choice s c ≡ None)
+    × FileAnswers s (chosen_names s c) bytes output certificate r
+
+-- That is answered of texts which are those that are to come, where the sources tell them, and what is written stands
+-- behind what the sinks held, where they tell that.
+pub record Shrinks (c : Choice) (strict : Bool) (schema file out out' cert cert' : Option (List ℕ))
+    (result : Result Summary ShrinkFault) : Type 0 where
+  pub text : List ℕ
+  pub bytes : List ℕ
+  pub output : List ℕ
+  pub certificate : List ℕ
+  pub text_is : IfSome schema (λ t. t ≡ text)
+  pub bytes_are : IfSome file (λ b. b ≡ bytes)
+  pub answers : Answers c strict text bytes output certificate result
+  pub written : Appends out out' output
+  pub certified : Appends cert cert' certificate

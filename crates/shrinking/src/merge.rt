@@ -1,0 +1,151 @@
+//! Merging an exchange structure by its schema.
+
+ghost use Rattle.std.specs.Prelude.{◌≡◌, ◌≤◌, ◌^◌, ℕ, List, [], false, length};
+ghost use Rattle.express_syntax.specs.SchemaViews.{schema_of};
+ghost use Rattle.express_types.specs.Judging.{AreDomainTables};
+ghost use Rattle.schema_rules.specs.Ruled.{AreRuleTables};
+ghost use Rattle.schema_derivations.specs.Firsts.{AreFirsts};
+ghost use Rattle.schema_semantics.specs.Names.{Name};
+ghost use Rattle.schema_types.specs.Made.{IsMade};
+ghost use Rattle.step_equal.specs.TableViews.{table_of};
+ghost use Rattle.step_structures.specs.Texts.{ReadsAs};
+ghost use Rattle.step_exchange.specs.Exchanges.{structure};
+ghost use Rattle.pin_choices.specs.Chosen.{AreChosen};
+ghost use Rattle.check_findings.specs.Findings.{AreFindings};
+ghost use Rattle.checking.specs.Reporting.{IsReport};
+ghost use Rattle.files.specs.declared.fault.Role.TheVariants as roles;
+ghost use Rattle.shrinking.specs.ComputedAnswers.{FileShrinks};
+ghost use Rattle.shrinking.specs.Devices.{is_device};
+ghost use Rattle.shrinking.specs.Shrinking.{IsClean};
+
+use crate::fault::{ShrinkFault, of_fault};
+use crate::summary::Summary;
+use crate::write::write_both;
+use check_findings::findings::Found;
+use check_findings::laws::conforms_where_nothing_is_found;
+use devices::device::Sink;
+use express_rules::report::RuleReport;
+use express_types::graph::TypeGraph;
+use merge_tables::merging::{Merging, merge_tables};
+use merged_populations::laws::merges_are_least;
+use pin_choices::choice::Chosen;
+use reports::report::Report;
+use std::alloc::Global;
+use std::hash::RandomState;
+use step_equal::table::Table;
+use step_exchange::structure::Exchange;
+
+/// What is said of a file of which this is found.
+fn report<'s>(graph: TypeGraph<'s, '_>, found: Found<'s>, exchange: &Exchange<'_>) -> Report<'s>
+    ensures report { AreFindings (schema_of graph.entry.types.names.schema.now)
+        (structure exchange.now) found.entry.findings.items found.entry.rules.findings.items
+        found.entry.rules.unknown
+        → IsReport (schema_of graph.entry.types.names.schema.now) (structure exchange.now) result }
+    ensures findings { result.findings ≡ found.entry.findings }
+    ensures rules { result.rule_findings ≡ found.entry.rules.findings }
+{
+    let instances = exchange.names.len() as u64;
+    let Found { findings, rules } = found;
+    let RuleReport {
+        findings: rule_findings,
+        unknown,
+    } = rules;
+    Report {
+        unchecked: graph.into_unchecked(),
+        findings,
+        rule_findings,
+        instances,
+        unknown,
+    }
+}
+
+/// What is found of a file of which nothing is, but that for so many pairs of an instance and a
+/// domain rule it isn't known whether the instance keeps the rule.
+fn nothing_found<'s>(alloc: Global, unknown: u64) -> Found<'s>
+    ensures findings { result.findings.items ≡ [] }
+    ensures rules { result.rules.findings.items ≡ [] }
+    ensures unknown { result.rules.unknown ≡ unknown }
+{
+    Found {
+        findings: Vec::new(alloc),
+        rules: RuleReport {
+            findings: Vec::new(alloc),
+            unknown,
+        },
+    }
+}
+
+/// What is said of a file that is merged by this table.
+fn summary<'s>(
+    alloc: Global,
+    graph: TypeGraph<'s, '_>,
+    exchange: &Exchange<'_>,
+    unknown: u64,
+    second: &Table,
+) -> Summary<'s>
+    ensures report { AreFindings (schema_of graph.entry.types.names.schema.now)
+        (structure exchange.now) [] [] unknown
+        → IsReport (schema_of graph.entry.types.names.schema.now) (structure exchange.now)
+        result.report }
+    ensures clean { IsClean result.report }
+    ensures kept { result.kept ≡ length (table_of second.now).classes }
+    ensures rounds { result.rounds ≡ (table_of second.now).rounds }
+{
+    let report = report(graph, nothing_found(alloc, unknown), exchange);
+    Summary {
+        report,
+        kept: second.classes.len() as u64,
+        rounds: second.rounds,
+    }
+}
+
+/// Writes the smaller file of an exchange structure, and its certificate, where nothing is found of
+/// it.
+pub(crate) fn shrink_exchange<'s, O: Sink, C: Sink>(
+    alloc: Global,
+    keys: RandomState,
+    graph: TypeGraph<'s, '_>,
+    chosen: &Chosen,
+    exchange: &Exchange<'_>,
+    out: &mut O,
+    certificate: &mut C,
+) -> Result<Summary<'s>, ShrinkFault<'s>>
+    requires made { IsMade graph.types }
+    requires rules { AreRuleTables (schema_of graph.types.names.schema.now) graph.rules }
+    requires domain { AreDomainTables (schema_of graph.types.names.schema.now) graph.domain }
+    requires firsts { AreFirsts (schema_of graph.types.names.schema.now)
+        graph.judged.firsts.items }
+    ensures shrinks { (names : List Name)
+        → AreChosen (schema_of graph.entry.types.names.schema.now) names chosen.now
+        → (bytes : List ℕ) → length bytes ≤ 2 ^ 40
+        → ReadsAs bytes exchange.now.header_bytes.now (structure exchange.now)
+        → FileShrinks (schema_of graph.entry.types.names.schema.now) names bytes
+        (O.held out.old) (O.held out.new) (C.held certificate.old) (C.held certificate.new) result }
+    ensures no_schema_fault { is_device roles.Schema result ≡ false }
+    ensures no_file_fault { is_device roles.File result ≡ false }
+    ensures output_fault { O.has_failed out.old ≡ false
+        → O.has_failed out.new ≡ is_device roles.Output result }
+    ensures certificate_fault { C.has_failed certificate.old ≡ false
+        → C.has_failed certificate.new ≡ is_device roles.Certificate result }
+{
+    conforms_where_nothing_is_found();
+    merges_are_least();
+    let merging = match merge_tables(alloc, keys, &graph, chosen, exchange) {
+        Ok(merging) => merging,
+        Err(_) => return Err(ShrinkFault::Memory),
+    };
+    match merging {
+        Merging::Faulty(found) => Err(ShrinkFault::Findings(report(graph, found, exchange))),
+        Merging::Clean {
+            unknown,
+            first,
+            second,
+        } => {
+            let summary = summary(alloc, graph, exchange, unknown, &second);
+            match write_both(alloc, keys, exchange, &first, &second, out, certificate) {
+                Ok(()) => Ok(summary),
+                Err(fault) => Err(of_fault(fault)),
+            }
+        }
+    }
+}

@@ -1,0 +1,241 @@
+//! Merging the value-equal instances of a file.
+
+ghost use Rattle.std.specs.Prelude.{
+  ◌≡◌,
+  ◌≤◌,
+  ◌^◌,
+  ℕ,
+  List,
+  IfSome,
+  MatchBool,
+  Some,
+  false,
+  length,
+};
+ghost use Rattle.express_syntax.specs.SchemaViews.{schema_of};
+ghost use Rattle.express_types.specs.Judging.{AreDomainTables};
+ghost use Rattle.schema_rules.specs.Ruled.{AreRuleTables};
+ghost use Rattle.schema_derivations.specs.Firsts.{AreFirsts};
+ghost use Rattle.schema_semantics.specs.Names.{Name};
+ghost use Rattle.schema_types.specs.Made.{IsMade};
+ghost use Rattle.pin_choices.specs.Chosen.{AreChosen, choice_of};
+ghost use Rattle.checking.specs.Checks.{HasSchema};
+ghost use Rattle.files.specs.declared.fault.Role.TheVariants as roles;
+ghost use Rattle.shrinking.specs.ComputedAnswers.{FileShrinks, IsRefused, SourceShrinks};
+ghost use Rattle.shrinking.specs.Devices.{FileFailsAs, SchemaFailsAs, is_device};
+ghost use Rattle.shrinking.specs.Shrinking.{Passes, Shrinks};
+
+use crate::fault::{ShrinkFault, of_fault, of_schema, of_schema_source};
+use crate::merge::shrink_exchange;
+use crate::summary::Summary;
+use devices::device::{Sink, Source};
+use express_text::read_schema;
+use express_types::graph::TypeGraph;
+use express_types::resolving::resolve;
+use files::fault::{Fault, LIMIT, Role};
+use files::read::read_whole;
+use pin_choices::choice::{Choice, Chosen};
+use std::alloc::Global;
+use std::hash::RandomState;
+use step_exchange::exchange::read_exchange;
+
+/// Merges a file of these bytes.
+fn shrink_file<'s, O: Sink, C: Sink>(
+    alloc: Global,
+    keys: RandomState,
+    graph: TypeGraph<'s, '_>,
+    chosen: &Chosen,
+    bytes: &[u8],
+    out: &mut O,
+    certificate: &mut C,
+) -> Result<Summary<'s>, ShrinkFault<'s>>
+    requires made { IsMade graph.types }
+    requires rules { AreRuleTables (schema_of graph.types.names.schema.now) graph.rules }
+    requires domain { AreDomainTables (schema_of graph.types.names.schema.now) graph.domain }
+    requires firsts { AreFirsts (schema_of graph.types.names.schema.now)
+        graph.judged.firsts.items }
+    requires within { length bytes.now ≤ 2 ^ 40 }
+    ensures shrinks { (names : List Name)
+        → AreChosen (schema_of graph.entry.types.names.schema.now) names chosen.now
+        → FileShrinks (schema_of graph.entry.types.names.schema.now) names bytes.now
+        (O.held out.old) (O.held out.new) (C.held certificate.old) (C.held certificate.new) result }
+    ensures no_schema_fault { is_device roles.Schema result ≡ false }
+    ensures no_file_fault { is_device roles.File result ≡ false }
+    ensures output_fault { O.has_failed out.old ≡ false
+        → O.has_failed out.new ≡ is_device roles.Output result }
+    ensures certificate_fault { C.has_failed certificate.old ≡ false
+        → C.has_failed certificate.new ≡ is_device roles.Certificate result }
+{
+    match read_exchange(alloc, keys, bytes) {
+        Ok(exchange) => shrink_exchange(alloc, keys, graph, chosen, &exchange, out, certificate),
+        Err(fault) => Err(of_fault(Fault::of_text(Role::File, fault))),
+    }
+}
+
+/// Merges the file of a source.
+fn shrink_source<'s, F: Source, O: Sink, C: Sink>(
+    alloc: Global,
+    keys: RandomState,
+    graph: TypeGraph<'s, '_>,
+    chosen: &Chosen,
+    file: &mut F,
+    out: &mut O,
+    certificate: &mut C,
+) -> Result<Summary<'s>, ShrinkFault<'s>>
+    requires made { IsMade graph.types }
+    requires rules { AreRuleTables (schema_of graph.types.names.schema.now) graph.rules }
+    requires domain { AreDomainTables (schema_of graph.types.names.schema.now) graph.domain }
+    requires firsts { AreFirsts (schema_of graph.types.names.schema.now)
+        graph.judged.firsts.items }
+    ensures shrinks { (names : List Name)
+        → AreChosen (schema_of graph.entry.types.names.schema.now) names chosen.now
+        → SourceShrinks (schema_of graph.entry.types.names.schema.now) names (F.to_come file.old)
+        (O.held out.old) (O.held out.new) (C.held certificate.old) (C.held certificate.new) result }
+    ensures no_schema_fault { is_device roles.Schema result ≡ false }
+    ensures file_fault { F.has_failed file.old ≡ false
+        → F.has_failed file.new ≡ is_device roles.File result }
+    ensures output_fault { O.has_failed out.old ≡ false
+        → O.has_failed out.new ≡ is_device roles.Output result }
+    ensures certificate_fault { C.has_failed certificate.old ≡ false
+        → C.has_failed certificate.new ≡ is_device roles.Certificate result }
+    ensures file_told { IfSome (F.fails file.old) (FileFailsAs result) }
+{
+    match read_whole(alloc, file, LIMIT) {
+        Ok(bytes) => shrink_file(alloc, keys, graph, chosen, &bytes, out, certificate),
+        Err(fault) => Err(of_fault(Fault::of_read(Role::File, fault))),
+    }
+}
+
+/// Whether a choice refuses a schema, since not all of it is checked.
+fn is_refused(choice: &Choice, graph: &TypeGraph<'_, '_>) -> bool
+    ensures { MatchBool result
+        (IsRefused choice.now.strict (schema_of graph.now.types.names.schema.now))
+        (Passes choice.now.strict (schema_of graph.now.types.names.schema.now)) }
+{
+    choice.strict && !graph.unchecked().is_empty()
+}
+
+/// Merges the file of a source by a schema whose names are resolved.
+fn shrink_graph<'s, F: Source, O: Sink, C: Sink>(
+    alloc: Global,
+    keys: RandomState,
+    graph: TypeGraph<'s, '_>,
+    choice: &Choice,
+    file: &mut F,
+    out: &mut O,
+    certificate: &mut C,
+) -> Result<Summary<'s>, ShrinkFault<'s>>
+    requires made { IsMade graph.types }
+    requires rules { AreRuleTables (schema_of graph.types.names.schema.now) graph.rules }
+    requires domain { AreDomainTables (schema_of graph.types.names.schema.now) graph.domain }
+    requires firsts { AreFirsts (schema_of graph.types.names.schema.now)
+        graph.judged.firsts.items }
+    ensures shrinks { (text : List ℕ)
+        → HasSchema (schema_of graph.entry.types.names.schema.now) text
+        → Shrinks (choice_of choice.now) choice.now.strict (Some text) (F.to_come file.old)
+        (O.held out.old) (O.held out.new) (C.held certificate.old) (C.held certificate.new) result }
+    ensures no_schema_fault { is_device roles.Schema result ≡ false }
+    ensures file_fault { F.has_failed file.old ≡ false
+        → F.has_failed file.new ≡ is_device roles.File result }
+    ensures output_fault { O.has_failed out.old ≡ false
+        → O.has_failed out.new ≡ is_device roles.Output result }
+    ensures certificate_fault { C.has_failed certificate.old ≡ false
+        → C.has_failed certificate.new ≡ is_device roles.Certificate result }
+    ensures file_told { IfSome (F.fails file.old) (FileFailsAs result) }
+{
+    if is_refused(choice, &graph) {
+        return Err(ShrinkFault::Unchecked(graph.into_unchecked()));
+    }
+    match choice.settle(alloc, &graph.types) {
+        Ok(chosen) => shrink_source(alloc, keys, graph, &chosen, file, out, certificate),
+        Err(fault) => Err(of_schema(fault)),
+    }
+}
+
+/// Merges the file of a source by a schema of these bytes.
+fn shrink_by<'s, F: Source, O: Sink, C: Sink>(
+    alloc: Global,
+    keys: RandomState,
+    schema: &'s [u8],
+    choice: &Choice,
+    file: &mut F,
+    out: &mut O,
+    certificate: &mut C,
+) -> Result<Summary<'s>, ShrinkFault<'s>>
+    requires within { length schema.now ≤ 2 ^ 40 }
+    ensures shrinks { Shrinks (choice_of choice.now) choice.now.strict (Some schema.now)
+        (F.to_come file.old) (O.held out.old) (O.held out.new)
+        (C.held certificate.old) (C.held certificate.new) result }
+    ensures no_schema_fault { is_device roles.Schema result ≡ false }
+    ensures file_fault { F.has_failed file.old ≡ false
+        → F.has_failed file.new ≡ is_device roles.File result }
+    ensures output_fault { O.has_failed out.old ≡ false
+        → O.has_failed out.new ≡ is_device roles.Output result }
+    ensures certificate_fault { C.has_failed certificate.old ≡ false
+        → C.has_failed certificate.new ≡ is_device roles.Certificate result }
+    ensures file_told { IfSome (F.fails file.old) (FileFailsAs result) }
+{
+    let tree = match read_schema(alloc, schema) {
+        Ok(tree) => tree,
+        Err(fault) => return Err(of_schema(fault)),
+    };
+    match resolve(alloc, keys, &tree) {
+        Ok(graph) => shrink_graph(alloc, keys, graph, choice, file, out, certificate),
+        Err(fault) => Err(of_schema(fault)),
+    }
+}
+
+/// Merges exactly the value-equal instances of a file by its schema, those of the chosen entities
+/// that nothing pins: writes the smaller file to `out`, and behind all of it the certificate of that
+/// to `certificate`. The smaller file conforms to the schema as the file does, and no image of the
+/// file has fewer instances.
+///
+/// Both are read to their ends, the schema first, whose text is put into `text`, so that what is
+/// said can have names from there. The error is the first of these, and nothing was written where it
+/// is none of the last two:
+///
+/// - `Schema`: the text of the schema isn't read, or a name in it is at fault;
+/// - `Unchecked`: the choice is strict, and parts of the schema aren't checked;
+/// - `Schema` with `UnknownName`: a chosen name is no entity of the schema;
+/// - `Text`: the text of the file isn't read;
+/// - `Findings`: the file breaks its schema;
+/// - `Device` of the output: a front of the smaller file was written;
+/// - `Device` of the certificate: the smaller file was written, and a front of the certificate.
+///
+/// `Device` of the schema or the file comes where that one is read and its source fails, and `Memory`
+/// where memory runs out. Names are hashed by these keys.
+pub fn shrink<'s, S: Source, F: Source, O: Sink, C: Sink>(
+    alloc: Global,
+    keys: RandomState,
+    schema: &mut S,
+    text: &'s mut Vec<u8>,
+    choice: &Choice,
+    file: &mut F,
+    out: &mut O,
+    certificate: &mut C,
+) -> Result<Summary<'s>, ShrinkFault<'s>>
+    // What is answered and written is what the two texts and the choice say.
+    ensures shrinks { Shrinks (choice_of choice.now) choice.now.strict
+        (S.to_come schema.old) (F.to_come file.old) (O.held out.old) (O.held out.new)
+        (C.held certificate.old) (C.held certificate.new) result }
+    // The fault is a device's exactly where that one failed.
+    ensures schema_fault { S.has_failed schema.old ≡ false
+        → S.has_failed schema.new ≡ is_device roles.Schema result }
+    ensures file_fault { F.has_failed file.old ≡ false
+        → F.has_failed file.new ≡ is_device roles.File result }
+    ensures output_fault { O.has_failed out.old ≡ false
+        → O.has_failed out.new ≡ is_device roles.Output result }
+    ensures certificate_fault { C.has_failed certificate.old ≡ false
+        → C.has_failed certificate.new ≡ is_device roles.Certificate result }
+    // A source that can't fail has no fault, and one that can't but fail has one where it is read.
+    ensures schema_told { IfSome (S.fails schema.old) (SchemaFailsAs result) }
+    ensures file_told { IfSome (F.fails file.old) (FileFailsAs result) }
+{
+    match read_whole(alloc, schema, LIMIT) {
+        Ok(bytes) => {
+            *text = bytes;
+            shrink_by(alloc, keys, text, choice, file, out, certificate)
+        }
+        Err(fault) => Err(of_schema_source(fault)),
+    }
+}

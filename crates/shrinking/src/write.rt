@@ -1,0 +1,62 @@
+//! Writing the smaller file and its certificate.
+
+ghost use Rattle.std.specs.Prelude.{◌≡◌, false};
+ghost use Rattle.step_equal.specs.TableViews.{table_of};
+ghost use Rattle.files.specs.declared.fault.Role.TheVariants as roles;
+ghost use Rattle.step_rewrite.specs.Rewriting.{members, smaller_text};
+ghost use Rattle.certificate_text.specs.Texts.{certificate_text};
+ghost use Rattle.shrinking.specs.ComputedAnswers.{Writes, is_written};
+ghost use Rattle.shrinking.specs.Faults.{rewrite_fault};
+
+use certificate_text::write::write_certificate;
+use devices::device::Sink;
+use files::fault::{Fault, Role};
+use std::alloc::Global;
+use std::hash::RandomState;
+use step_equal::table::Table;
+use step_exchange::structure::Exchange;
+use step_rewrite::fault::RewriteFault;
+use step_rewrite::rewrite::rewrite;
+
+/// The fault where the smaller file isn't written.
+fn of_rewrite(fault: RewriteFault) -> Fault
+    ensures { result ≡ rewrite_fault fault }
+{
+    match fault {
+        RewriteFault::Device { written } => Fault::Device {
+            role: Role::Output,
+            written,
+        },
+        RewriteFault::Memory => Fault::Memory,
+    }
+}
+
+/// Writes the smaller file of an exchange structure by the second table, and behind all of it the
+/// certificate of both. Names are hashed by these keys.
+pub(crate) fn write_both<O: Sink, C: Sink>(
+    alloc: Global,
+    keys: RandomState,
+    exchange: &Exchange<'_>,
+    first: &Table,
+    second: &Table,
+    out: &mut O,
+    certificate: &mut C,
+) -> Result<(), Fault>
+    requires members { members (table_of second.now) ≡ exchange.now.names }
+    ensures writes { Writes (O.held out.old) (O.held out.new)
+        (C.held certificate.old) (C.held certificate.new)
+        (smaller_text exchange.now (table_of second.now))
+        (certificate_text (table_of first.now) (table_of second.now)) result }
+    ensures output_fault { O.has_failed out.old ≡ false
+        → O.has_failed out.new ≡ is_written roles.Output result }
+    ensures certificate_fault { C.has_failed certificate.old ≡ false
+        → C.has_failed certificate.new ≡ is_written roles.Certificate result }
+{
+    if let Err(fault) = rewrite(alloc, keys, exchange, second, out) {
+        return Err(of_rewrite(fault));
+    }
+    match write_certificate(first, second, certificate) {
+        Ok(()) => Ok(()),
+        Err(fault) => Err(Fault::of_write(Role::Certificate, fault)),
+    }
+}

@@ -1,0 +1,94 @@
+-- What the steps find.
+use Rattle.std.proofs.Common.{◌≡◌, ◌≤◌, ◌<◌, ℕ, ◌+◌, ◌^◌, Bool, List, length, sym, subst, arith}
+use Rattle.std.specs.Prelude.{◌↔◌, slice_index, IsPermutation}
+use Rattle.std.proofs.lemmas.List.{length-map}
+use Rattle.std.proofs.lemmas.List.Sorted.{Contains-permutation, IsPermutation-sym}
+use Rattle.class_parts.specs.Laid.{Layout, size}
+use Rattle.class_rounds.specs.declared.edges.Edge.{Edge}
+use Rattle.class_rounds.specs.Edges.{AreEdges, HasEdge}
+use Rattle.class_rounds.specs.Rounds.{IsStarted}
+use Rattle.class_numbers.specs.declared.numbering.Origin.{Origin}
+use Rattle.class_numbers.specs.Births.{AreCounts}
+use Rattle.class_numbers.specs.Numbers.{IsNumbering}
+use Rattle.step_equal.specs.Keeping.{AreAlike}
+use Rattle.step_equal.specs.Rows.{Row, AreFew, IsPopulation, names}
+use Rattle.step_equal.specs.Standard.{IsStandard}
+use Rattle.step_equal.specs.Tables.{Table}
+use Rattle.step_equal.proofs.Few.{rounds_are_few}
+use Rattle.step_tables.specs.Laws.{origin_in, table_of}
+use Rattle.row_shapes.specs.References.{Refers}
+use Rattle.step_classes.specs.ComputedRounds.{AreReferences, IsByKinds, IsByValues, IsFound}
+use Rattle.step_classes.proofs.Refining.{numbers_are_those}
+use Rattle.step_classes.proofs.Firsts.{classes_few, firsts_are}
+
+pub started_by_kinds : (rows : List Row) (pinned : ℕ → Bool) (kinds : List ℕ) (p : Layout) → length kinds ≡ length rows
+    → ((i j : ℕ) → i < length rows → j < length rows → (slice_index kinds i ≡ slice_index kinds j)
+    ↔ AreAlike rows pinned (slice_index (names rows) i) (slice_index (names rows) j))
+    → IsStarted kinds p → IsByKinds rows pinned p
+started_by_kinds rows pinned kinds p each tell is =
+    let places = is.places in record {
+      laid = is.laid;
+      settled = is.settled;
+      places = omega (arith, places, each);
+      parts = λ x z l m.
+          let parts = is.parts x z l m in
+          let alike = tell x z (omega (arith, l, places, each)) (omega (arith, m, places, each)) in
+          (λ e. alike.0 (parts.0 e), λ a. parts.1 (alike.1 a));
+    }
+
+-- edges in another order
+pub moved : (rows : List Row) (edges found : List Edge) → AreEdges (length rows) edges
+    → ((x i t : ℕ) → HasEdge edges x i t ↔ Refers rows x i t) → IsPermutation edges found → AreReferences rows found
+moved rows edges found are refer is =
+    let back : (x i t : ℕ) → HasEdge found x i t → HasEdge edges x i t = λ x i t h.
+    Contains-permutation found edges (record { position = i; source = x; target = t })
+    (IsPermutation-sym edges found is) h in
+    record {
+      are = record {
+        inside = λ x i t h. are.inside x i t (back x i t h);
+        one = λ x i t u h g. are.one x i t u (back x i t h) (back x i u g);
+      };
+      refer = λ x i t. (
+        λ h. (refer x i t).0 (back x i t h),
+        λ r. Contains-permutation edges found (record { position = i; source = x; target = t }) is ((refer x i t).1 r),
+      );
+    }
+
+-- numbers of refined places
+pub all_found : (rows : List Row) (pinned : ℕ → Bool) (start p : Layout) (counts firsts : List ℕ)
+    (origins : List Origin) (members : List ℕ) (last : ℕ) → IsPopulation rows → IsByKinds rows pinned start
+    → IsByValues rows start p counts → AreCounts p counts → IsNumbering p counts firsts origins members
+    → last + 1 ≡ length counts → IsFound rows pinned last firsts origins members
+all_found rows pinned start p counts firsts origins members last population kinds values counted numbered rounds =
+    let laid = values.refined.laid in
+    let size_is : size p ≡ length rows =
+    (let a = values.refined.places in let b = kinds.places in omega (arith, a, b)) in
+    let standard =
+    numbers_are_those rows pinned population start p counts kinds values firsts origins members last rounds counted
+    numbered in
+    record {
+      each = let places = numbered.places in omega (arith, places, size_is);
+      few = classes_few p counts firsts origins members laid counted numbered last rounds;
+      standard = standard;
+      firsts_are = firsts_are p counts firsts origins members laid counted numbered last rounds rows pinned population
+          size_is standard;
+    }
+
+-- .. and the table of these
+module _ (rows : List Row) (pinned : ℕ → Bool) (last : ℕ) (firsts : List ℕ) (origins : List Origin) (members : List ℕ)
+    (is : IsFound rows pinned last firsts origins members) (t : Table)
+    (e : t ≡ table_of (names rows) last origins members) where
+  pub table_stands : IsStandard rows pinned t
+  table_stands = subst (IsStandard rows pinned) (sym e) is.standard
+
+  pub rounds_within : IsPopulation rows → t.rounds ≤ length rows
+  rounds_within population = rounds_are_few rows pinned t population table_stands
+
+  pub rounds_short : IsPopulation rows → AreFew rows → t.rounds < 2 ^ 32
+  rounds_short population few = let within = rounds_within population in omega (arith, within, few)
+
+  pub classes_short : length t.classes < 2 ^ 32
+  classes_short =
+      let few = is.few in
+      let long = length-map origins origin_in in
+      subst (λ (s : Table). length s.classes < 2 ^ 32) (sym e) (omega (arith, few, long))

@@ -1,0 +1,8 @@
+mod Naming
+mod Zipping
+mod Agreeing
+mod Refining
+mod Firsts
+mod Writing
+mod Heading
+mod Finding

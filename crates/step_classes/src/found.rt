@@ -1,0 +1,95 @@
+//! The classes of places, by rounds, and their numbers.
+
+ghost use Rattle.std.specs.Prelude.{◌≡◌, IfOk, length};
+ghost use Rattle.class_parts.specs.Laid.{IsLaid, NoneIsChosen, size};
+ghost use Rattle.class_parts.specs.Views.{layout};
+ghost use Rattle.step_equal.specs.Maps.{is_pinned};
+ghost use Rattle.step_classes.specs.ComputedRounds.{AreReferences, IsByKinds, IsByValues, IsFound};
+
+use class_numbers::laws::refined_are_counted;
+use class_numbers::numbering::{Numbering, number};
+use class_parts::parts::Parts;
+use class_rounds::edges::Edges;
+use class_rounds::rounds::{Rounds, refine, start};
+use row_shapes::kinds::kinds;
+use row_shapes::references::references;
+use row_shapes::shapes::shapes;
+use std::alloc::{AllocError, Global};
+use std::collections::BTreeSet;
+use std::hash::RandomState;
+use step_equal::plain::Plain;
+
+/// The classes of a population's places, by their standard numbers.
+#[derive(Drop)]
+pub(crate) struct Found {
+    /// The last round.
+    pub(crate) last: u32,
+    pub(crate) numbering: Numbering,
+    /// How much was looked at.
+    pub(crate) signed: u64,
+}
+
+/// Finds the classes of a population's places, with these names pinned.
+pub(crate) fn find<'a>(
+    alloc: Global,
+    keys: RandomState,
+    input: &Plain<'a>,
+    pinned: &BTreeSet<u64>,
+) -> Result<Found, AllocError>
+    ensures { IfOk result (λ f. IsFound input.now (is_pinned pinned.now) f.last f.numbering.firsts.items
+        f.numbering.origins.items f.numbering.members.items) }
+{
+    // its contract says that no name stands twice
+    let _rows = input.len();
+    let mut parts = by_kinds(alloc, keys, input, pinned)?;
+    let rounds = by_values(alloc, keys, input, &mut parts)?;
+    refined_are_counted();
+    let numbering = number(alloc, &parts, &rounds.counts)?;
+    Ok(Found {
+        last: rounds.counts.len() as u32 - 1,
+        numbering,
+        signed: rounds.signed,
+    })
+}
+
+/// Round 0: two places share a class exactly where their rows are alike.
+fn by_kinds<'a>(
+    alloc: Global,
+    keys: RandomState,
+    input: &Plain<'a>,
+    pinned: &BTreeSet<u64>,
+) -> Result<Parts, AllocError>
+    ensures { IfOk result (λ p. IsByKinds input.now (is_pinned pinned.now) (layout p)) }
+{
+    // its contract says that there are fewer than 2^32
+    let _rows = input.len();
+    let kinds = kinds(alloc, keys, input, pinned)?;
+    start(alloc, &kinds)
+}
+
+/// The rounds behind it, until one parts nothing.
+fn by_values<'a>(
+    alloc: Global,
+    keys: RandomState,
+    input: &Plain<'a>,
+    parts: &mut Parts,
+) -> Result<Rounds, AllocError>
+    requires laid { IsLaid (layout parts.old) }
+    requires settled { NoneIsChosen (layout parts.old) }
+    requires each { size (layout parts.old) ≡ length input.now }
+    ensures { IfOk result (λ rounds.
+        IsByValues input.now (layout parts.old) (layout parts.new) rounds.counts.items) }
+{
+    let edges = indexed(alloc, input)?;
+    let shapes = shapes(alloc, keys, input)?;
+    refine(alloc, parts, &edges, &shapes)
+}
+
+/// The references of rows, found by the place that is referred to.
+fn indexed<'a>(alloc: Global, input: &Plain<'a>) -> Result<Edges, AllocError>
+    ensures { IfOk result (λ edges. AreReferences input.now edges) }
+{
+    let size = input.len() as u32;
+    let edges = references(alloc, input)?;
+    Edges::of(alloc, size, edges)
+}

@@ -1,0 +1,81 @@
+//! Numbers of places as the table of a population.
+
+ghost use Rattle.std.specs.Prelude.{◌≡◌, ◌<◌, ◌^◌, All, IfOk, length, map};
+ghost use Rattle.step_equal.specs.Rows.{names};
+ghost use Rattle.step_equal.specs.TableViews.{member_of, origin_of};
+ghost use Rattle.step_tables.specs.Laws.{members_of, origin_in, table_of};
+ghost use Rattle.step_classes.specs.ComputedFirsts.{AreFirsts};
+
+use crate::classes::Classes;
+use crate::found::Found;
+use class_numbers::numbering;
+use std::alloc::{AllocError, Global};
+use step_equal::plain::Plain;
+use step_equal::table::{Origin, Table};
+
+/// The classes of a population by the numbers of its places.
+pub(crate) fn classes_of<'a>(
+    alloc: Global,
+    input: &Plain<'a>,
+    found: Found,
+) -> Result<Classes, AllocError>
+    requires each { length found.numbering.members.items ≡ length input.now }
+    requires firsts { AreFirsts (table_of (names input.now) found.last found.numbering.origins.items
+        found.numbering.members.items) found.numbering.firsts.items }
+    ensures table { IfOk result (λ t. t ≡ table_of (names input.now) found.last found.numbering.origins.items
+        found.numbering.members.items) }
+    ensures names { IfOk result (λ t. All (λ m. m.0 < 2 ^ 64) t.members) }
+{
+    let rounds = found.last;
+    let signed = found.signed;
+    let numbering = found.numbering;
+    let classes = origins(alloc, &numbering.origins)?;
+    let members = members(alloc, input, &numbering.members)?;
+    Ok(Classes {
+        table: Table {
+            rounds,
+            classes,
+            members,
+        },
+        firsts: numbering.firsts,
+        signed,
+    })
+}
+
+/// How classes began, as a table has it.
+fn origins(alloc: Global, origins: &[numbering::Origin]) -> Result<Vec<Origin>, AllocError>
+    ensures { IfOk result (λ v. map origin_of v.items ≡ map origin_in origins.now) }
+{
+    let mut classes = Vec::with_capacity(alloc, origins.len())?;
+    for origin in origins {
+        classes.push(origin_from(*origin))?;
+    }
+    Ok(classes)
+}
+
+/// How a class began, as a table has it.
+fn origin_from(origin: numbering::Origin) -> Origin
+    ensures { origin_of result ≡ origin_in origin }
+{
+    match origin {
+        numbering::Origin::Start => Origin::Start,
+        numbering::Origin::Split { parent, round } => Origin::Split { parent, round },
+    }
+}
+
+/// Each name with the number at its place.
+fn members<'a>(
+    alloc: Global,
+    input: &Plain<'a>,
+    numbers: &[u32],
+) -> Result<Vec<(u64, u32)>, AllocError>
+    requires { length numbers.now ≡ length input.now }
+    ensures members { IfOk result (λ v. map member_of v.items ≡ members_of (names input.now) numbers.now) }
+    ensures names { IfOk result (λ v. All (λ m. m.0 < 2 ^ 64) (map member_of v.items)) }
+{
+    let mut members = Vec::with_capacity(alloc, numbers.len())?;
+    for place in 0..numbers.len() {
+        members.push((input.name(place), numbers[place]))?;
+    }
+    Ok(members)
+}

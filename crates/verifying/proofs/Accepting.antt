@@ -1,0 +1,72 @@
+-- Where both tables hold and the output is the image that they give, that is proved of it.
+use Rattle.std.specs.Prelude.{◌≡◌, ℕ, List, length}
+use Rattle.std.proofs.Common.{refl}
+use Rattle.step_structures.specs.Trees.{File}
+use Rattle.step_equal.specs.Rows.{Row}
+use Rattle.step_equal.specs.Tables.{shares}
+use Rattle.step_equal.proofs.Rounds.{tables_decide}
+use Rattle.express_syntax.specs.Schemas.{Schema}
+use Rattle.schema_semantics.specs.Names.{Name}
+use Rattle.conformance.specs.Said.{Said}
+use Rattle.merged_populations.specs.Headline.{IsChecked, ChecksProve}
+use Rattle.verifying.specs.declared.proof.Proof.{Proof}
+use Rattle.verifying.specs.Verifying.{IsInput, IsOutput, AreRows, BothHold, IsMerged, Proves}
+
+module _ (s : Schema) (chosen : List Name) (input output certificate : List ℕ) (f g : File) (reads : IsInput s input f)
+    (out : IsOutput s output g) (b : BothHold s chosen f certificate) (image : List Row) (are : AreRows s g image)
+    (merged : IsMerged s chosen f certificate b g image) where
+  checked : (said : Said s) → IsChecked s said chosen input output
+  checked said =
+      let j = b.held.judged in
+      record {
+        input = record {
+          header_bytes = reads.header_bytes;
+          file = f;
+          reads = reads.reads;
+          conforms = reads.conforms said;
+          rows = j.rows;
+          are_rows = j.are_rows.are said;
+          population = j.are_rows.population;
+          pinned = b.held.gentle;
+          pins = record {
+            weak = j.weak;
+            are_weak = j.are_weak said;
+            classes = shares j.first j.first.rounds;
+            are_classes = tables_decide j.rows j.weak j.first j.are_rows.population b.held.valid;
+            are_gentle = b.held.are_gentle said;
+          };
+        };
+        header_bytes = out.header_bytes;
+        file = g;
+        reads = out.reads;
+        nothing = out.nothing said;
+        rows = image;
+        are_rows = are.are said;
+        population = are.population;
+        first = j.first;
+        second = j.second;
+        first_valid = b.held.valid;
+        gentle = refl;
+        second_valid = b.valid;
+        same = merged.0;
+      }
+
+  pub proves : ChecksProve → (p : Proof) → p.instances ≡ length b.held.judged.rows → p.kept ≡ length image
+      → p.rounds ≡ b.held.judged.second.rounds → Proves s chosen input output certificate p
+  unfolding checked
+  proves law p instances kept rounds = record {
+    first = b.held.judged.first;
+    second = b.held.judged.second;
+    certificate_is = b.held.judged.certificate_is;
+    some = reads.some;
+    accepted = λ said. record {
+      checked = checked said;
+      first_is = refl;
+      second_is = refl;
+      headings = merged.1;
+      proved = law s said chosen input output (checked said);
+      instances = instances;
+      kept = kept;
+      rounds = rounds;
+    };
+  }

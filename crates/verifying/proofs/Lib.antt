@@ -1,0 +1,4 @@
+mod Judging
+mod Accepting
+mod Answering
+mod Weak

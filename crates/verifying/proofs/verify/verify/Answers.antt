@@ -1,0 +1,55 @@
+use Rattle.std.proofs.Common.{◌≡◌, None, subst, sym, Err}
+use Rattle.express_syntax.specs.SchemaViews.{schema_of}
+use Rattle.conformance.specs.Choices.{chosen_names, unknown_choice}
+use Rattle.pin_choices.specs.Chosen.{choice_of, AreChosen, AreOfEntities, IsChoiceFault}
+use Rattle.verifying.specs.Verifying.{Verifies}
+use Rattle.verifying.specs.ComputedPassing.{AnswersSettled}
+use Rattle.verifying.proofs.Answering.{unread_schema, unresolved, unsettled}
+use Rattle.verifying.proofs.verify.verify.Goals as goal
+
+pub returns-in-Err : goal.returns-in-Err
+returns-in-Err c =
+    let schema = c.args.schema.now in
+    let input = c.args.input.now in
+    let output = c.args.output.now in
+    let certificate = c.args.certificate.now in
+    let choice = choice_of c.args.choice.now in
+    subst (λ e. Verifies schema input output certificate choice (Err e)) (sym c.of_schema.ensures)
+    (unread_schema schema input output certificate choice c.in-Err.fault c.in-Err.ensures.fault)
+
+pub returns-in-Err-resolve : goal.returns-in-Err-resolve
+returns-in-Err-resolve c =
+    let schema = c.args.schema.now in
+    let input = c.args.input.now in
+    let output = c.args.output.now in
+    let certificate = c.args.certificate.now in
+    let choice = choice_of c.args.choice.now in
+    subst (λ e. Verifies schema input output certificate choice (Err e)) (sym c.of_schema-in-Err-resolve.ensures)
+    (unresolved schema input output certificate choice (schema_of c.in-Ok.tree) c.in-Ok.ensures.found
+    c.in-Err-resolve.fault c.in-Err-resolve.ensures.resolved)
+
+pub returns-in-Err-settle : goal.returns-in-Err-settle
+returns-in-Err-settle c =
+    let schema = c.args.schema.now in
+    let input = c.args.input.now in
+    let output = c.args.output.now in
+    let certificate = c.args.certificate.now in
+    let choice = choice_of c.args.choice.now in
+    subst (λ e. Verifies schema input output certificate choice (Err e)) (sym c.of_schema-in-Err-settle.ensures)
+    (unsettled schema input output certificate choice (schema_of c.in-Ok.tree) c.in-Ok.ensures.found
+    c.in-Ok-resolve.ensures.resolved c.in-Err-settle.fault
+    (subst (λ t. IsChoiceFault (schema_of t) choice c.in-Err-settle.fault) c.in-Ok-resolve.ensures.same
+    c.in-Err-settle.ensures))
+
+pub returns : goal.returns
+returns c =
+    let schema = c.args.schema.now in
+    let choice = choice_of c.args.choice.now in
+    let chosen = c.in-Ok-settle.chosen in
+    let same = c.in-Ok-resolve.ensures.same in
+    let (known, are) = subst (λ t. (unknown_choice (schema_of t) choice ≡ None)
+    × (AreChosen (schema_of t) (chosen_names (schema_of t) choice) chosen × AreOfEntities (schema_of t) chosen)) same
+    c.in-Ok-settle.ensures in
+    subst (λ t. AnswersSettled (schema_of t) c.args.output.now c.args.certificate.now c.verify_input.result chosen
+    c.args.input.now) same c.verify_input.ensures schema choice
+    (record { reads = c.in-Ok.ensures.found; resolved = c.in-Ok-resolve.ensures.resolved; known = known }) are.0

@@ -1,0 +1,10 @@
+//! Whether a certificate proves that an output is the least image of an input, whoever made the two:
+//! from four texts and a choice of entities.
+#![tactic(auto)]
+
+pub mod fault;
+mod input;
+mod output;
+pub mod proof;
+mod tables;
+pub mod verify;

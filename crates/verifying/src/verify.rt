@@ -1,0 +1,56 @@
+//! Verifying an output, from four texts and a choice.
+
+ghost use Rattle.pin_choices.specs.Chosen.{choice_of};
+ghost use Rattle.verifying.specs.Verifying.{Verifies};
+
+use crate::fault::{VerifyFault, of_schema};
+use crate::input::verify_input;
+use crate::output::Claim;
+use crate::proof::Proof;
+use express_text::read_schema;
+use express_types::resolving::resolve;
+use pin_choices::choice::Choice;
+use std::alloc::Global;
+use std::hash::RandomState;
+
+/// What a certificate proves of an output, by the text of a schema and a choice of its entities: that
+/// the output conforms, and is the least image of the input, of which instances of the chosen entities
+/// may be merged. Who made output and certificate plays no part, nor does whether the choice is strict.
+///
+/// The fault is the first of these that is due: that of the schema's text, then of its names, then the
+/// first chosen name that is no entity (`Schema`); the fault of the input's text (`Other`); what is
+/// found of the input, of rules too (`Refused`); the fault of the output's text (`Other`); what is
+/// wrong with the output's instances one by one (`Refused`); that the certificate is of version 1, or
+/// no certificate, or its first table not that of the input under the weak pins, or its second one not
+/// under the gentle pins that the first one gives, or the output not what comes of the input by the
+/// second one (`Certificate`). Want of memory may come in place of any, as `Memory` in `Other`. The
+/// limits of 2^40 bytes are the caller's to test. Names, and keys of rules, are hashed by these keys.
+pub fn verify<'s>(
+    alloc: Global,
+    keys: RandomState,
+    schema: &'s [u8],
+    input: &[u8],
+    output: &[u8],
+    choice: &Choice,
+    certificate: &[u8],
+) -> Result<Proof, VerifyFault<'s>>
+    ensures { Verifies schema.now input.now output.now certificate.now (choice_of choice.now) result }
+{
+    let claim = Claim {
+        output,
+        certificate,
+    };
+    let tree = match read_schema(alloc, schema) {
+        Ok(tree) => tree,
+        Err(fault) => return Err(of_schema(fault)),
+    };
+    let graph = match resolve(alloc, keys, &tree) {
+        Ok(graph) => graph,
+        Err(fault) => return Err(of_schema(fault)),
+    };
+    let chosen = match choice.settle(alloc, &graph.types) {
+        Ok(chosen) => chosen,
+        Err(fault) => return Err(of_schema(fault)),
+    };
+    verify_input(alloc, keys, &graph, &chosen, input, &claim)
+}
