@@ -1,7 +1,10 @@
 #!/usr/bin/env python3
 """Builds `stepmin` as it stands, before any proof, to see what a change is worth before it is proved.
 
-    tools/unproved.py OUT
+    tools/unproved.py OUT [MAIN CRATE..]
+
+With MAIN, a program of bench/ (as bench/classes/main.rt.in), it builds that one over these crates, of the repository
+and of the toolchain.
 
 `rattle-try` lowers the program from its sources in two minutes. This lends it a folder of tools whose `clang` keeps
 the module that it is given and ends, takes the checks of a trial (of overflow, alignment and the like) out of the
@@ -13,6 +16,7 @@ nothing of it is proved.
 import glob
 import os
 import re
+import shutil
 import subprocess
 import sys
 import tempfile
@@ -30,13 +34,11 @@ NEVER_INLINED = re.compile(r"#\[inline\(never\)\]\s*(?:#\[.*\]\s*)*(?:pub(?:\(\w
 DEFINED = re.compile(r'define [^"]*@"([^"]+)"\(.*\) #\d+ \{$')
 
 
-def sources(kit):
-    """The words that name all libraries below the program, as sources."""
+def sources(kit, stands_on):
+    """The words that name all libraries below a program that stands on these, as sources."""
     crates = manifest()
-    words, ported = [], ["std"]
-    for name in needed(crates, ["stepmin"]):
-        if name == "stepmin":
-            continue
+    words, ported = [], ["std", *(name for name in stands_on if name not in crates)]
+    for name in needed(crates, stands_on):
         uses = dict.fromkeys(["core", "std", *crates[name]])
         words += ["--lib", f"{name}:{','.join(uses)}={CRATES}/{name}/src/lib.rt"]
     for below in crates.values():
@@ -75,8 +77,8 @@ def run(words):
         sys.exit(ran.stderr)
 
 
-def lower(kit, folder):
-    """The module of the program, as text without the checks of a trial."""
+def lower(kit, folder, main, stands_on):
+    """The module of a program, as text without the checks of a trial."""
     os.makedirs(f"{folder}/bin")
     for name in ("ld.lld", "llvm-ar", "rattle-x64"):
         os.symlink(f"{kit}/toolchain/bin/{name}", f"{folder}/bin/{name}")
@@ -85,7 +87,8 @@ def lower(kit, folder):
         file.write(KEEPING_CLANG.format(folder=folder, kit=kit))
     os.chmod(f"{folder}/bin/clang", 0o755)
     words = [f"{kit}/bin/rattle-try", "--toolchain", folder, "--asan", f"{kit}/c/asan.a", "--stdin", os.devnull]
-    words += ["--crate-name", "stepmin", f"{CRATES}/stepmin/src/main.rt", *sources(kit)]
+    shutil.copy(main, f"{folder}/main.rt")
+    words += ["--crate-name", "program", f"{folder}/main.rt", *sources(kit, stands_on)]
     ran = subprocess.run(words, cwd=folder, env={**os.environ, "TMPDIR": folder}, capture_output=True, text=True, check=False)
     if not os.path.exists(f"{folder}/program.bc"):
         sys.exit(ran.stderr)
@@ -96,11 +99,11 @@ def lower(kit, folder):
         kept.writelines(as_built(line, apart) for line in every if not CHECK.search(line))
 
 
-def build(out):
-    """Builds the program, as the file `out`."""
+def build(out, main=f"{CRATES}/stepmin/src/main.rt", stands_on=()):
+    """Builds a program over these crates, as the file `out`: `stepmin`, where none is given."""
     kit = os.path.dirname(subprocess.run(["rt", "doc"], capture_output=True, text=True, check=True).stdout.strip())
     with tempfile.TemporaryDirectory() as folder:
-        lower(kit, folder)
+        lower(kit, folder, main, list(stands_on) or manifest()["stepmin"])
         compiling = [f"{kit}/toolchain/bin/clang", *TARGET, f"--sysroot={folder}", *BUILD, "-c", "-x", "ir"]
         run([*compiling, f"{folder}/program.ll", "-o", f"{folder}/program.o"])
         linking = [f"{kit}/bin/rattle-link", "--target", "x86_64-unknown-linux-gnu", "--toolchain", f"{kit}/toolchain"]
@@ -109,9 +112,9 @@ def build(out):
 
 
 def main():
-    if len(sys.argv) != 2:
+    if len(sys.argv) < 2 or len(sys.argv) == 3:
         sys.exit(__doc__)
-    build(os.path.abspath(sys.argv[1]))
+    build(*(os.path.abspath(path) for path in sys.argv[1:3]), stands_on=sys.argv[3:])
 
 
 if __name__ == "__main__":

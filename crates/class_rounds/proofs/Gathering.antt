@@ -123,10 +123,10 @@ edges_from n edges are k d l =
     let e : Edge = get_or edges k d in
     (are.inside e.source e.position e.target (k, l, get_or_default edges k e d l)).0
 
-pub gathers_more : (edges : List Edge) (p : Layout) (low c : ℕ) (ps qs : List Pair) (members : List ℕ) → low ≤ c
-    → Gathers edges p low c ps → AreMembers p c members → Adds p c (IsInto edges members) ps qs
-    → Gathers edges p low (c + 1) qs
-gathers_more edges p low c ps qs members order g m adds = record {
+pub gathers_more : (edges : List Edge) (p groups : Layout) (low c : ℕ) (ps qs : List Pair) (members : List ℕ) → low ≤ c
+    → Gathers edges p groups low c ps → AreMembers p c members → Adds groups c (IsInto edges members) ps qs
+    → Gathers edges p groups low (c + 1) qs
+gathers_more edges p groups low c ps qs members order g m adds = record {
   sound = λ d i x h. elim (adds.sound d i x h) [
     | inl old ↦ let s = g.sound d i x old in let b = s.1 in (s.0, omega arith, s.2, s.3, s.4, s.5)
     | inr new ↦
@@ -142,9 +142,9 @@ gathers_more edges p low c ps qs members order g m adds = record {
   ];
 }
 
-pub gathered_places : (edges : List Edge) (p : Layout) (low high n : ℕ) (ps : List Pair)
-    → Gathers edges p low high ps → AreEdges n edges → All (λ a. a.place < n) ps
-gathered_places edges p low high n ps g are k d l =
+pub gathered_places : (edges : List Edge) (p groups : Layout) (low high n : ℕ) (ps : List Pair)
+    → Gathers edges p groups low high ps → AreEdges n edges → All (λ a. a.place < n) ps
+gathered_places edges p groups low high n ps g are k d l =
     let a : Pair = get_or ps k d in
     let s = g.sound a.class a.position a.place (k, l, get_or_default ps k a d l) in
     (are.inside a.place a.position s.2 s.5).0

@@ -84,9 +84,11 @@ starts kinds p q ps n n_is whole keyed parted =
           );
     }
 
-module _ (edges : List Edge) (p : Layout) (low : ℕ) (ps : List Pair) (known : (x : ℕ) → x < size p → class_in p x < count p)
-    (are : AreEdges (size p) edges) (g : Gathers edges p low (count p) ps) where
-  agree_self : (x : ℕ) → AgreeAt edges (OneClass p) x x
+-- pairs of the classes from `low` on, by which the places of a group are parted
+module _ (edges : List Edge) (p groups : Layout) (low : ℕ) (ps : List Pair)
+    (known : (x : ℕ) → x < size p → class_in p x < count p) (are : AreEdges (size p) edges)
+    (g : Gathers edges p groups low (count p) ps) where
+  pub agree_self : (x : ℕ) → AgreeAt edges (OneClass p) x x
   agree_self x = record { there = λ i t e. (t, e, refl); back = λ i u e. (u, e, refl) }
 
   agree_back : (x z : ℕ) → AgreeAt edges (OneClass p) x z → AgreeAt edges (OneClass p) z x
@@ -96,7 +98,7 @@ module _ (edges : List Edge) (p : Layout) (low : ℕ) (ps : List Pair) (known : 
   }
 
   -- what a pair says of another place
-  other : (x z i t : ℕ) → (IsAlone p x → ⊥) → HaveSamePairs ps x z → HasEdge edges x i t → low ≤ class_in p t
+  other : (x z i t : ℕ) → (IsAlone groups x → ⊥) → HaveSamePairs ps x z → HasEdge edges x i t → low ≤ class_in p t
       → (u : ℕ) × HasEdge edges z i u × (class_in p t ≡ class_in p u)
   other x z i t a h e from =
       let inside = are.inside x i t e in
@@ -107,7 +109,7 @@ module _ (edges : List Edge) (p : Layout) (low : ℕ) (ps : List Pair) (known : 
   flipped : (x z : ℕ) → HaveSamePairs ps x z → HaveSamePairs ps z x
   flipped x z h c i = ((h c i).1, (h c i).0)
 
-  agree_there : (x z : ℕ) → (IsAlone p x → ⊥) → (IsAlone p z → ⊥) → HaveSamePairs ps x z
+  agree_there : (x z : ℕ) → (IsAlone groups x → ⊥) → (IsAlone groups z → ⊥) → HaveSamePairs ps x z
       → AgreeBelow edges p low x z → (i t : ℕ) → HasEdge edges x i t
       → (u : ℕ) × HasEdge edges z i u × (class_in p t ≡ class_in p u)
   agree_there x z a b h below i t e = elim (cases_lt (class_in p t) low) [
@@ -125,7 +127,7 @@ module _ (edges : List Edge) (p : Layout) (low : ℕ) (ps : List Pair) (known : 
         ]
   ]
 
-  agree_pairs : (x z : ℕ) → (IsAlone p z → ⊥) → AgreeAt edges (OneClass p) x z → (c i : ℕ) → HasPair ps c i x
+  agree_pairs : (x z : ℕ) → (IsAlone groups z → ⊥) → AgreeAt edges (OneClass p) x z → (c i : ℕ) → HasPair ps c i x
       → HasPair ps c i z
   agree_pairs x z b a c i h =
       let s = g.sound c i x h in
@@ -136,16 +138,16 @@ module _ (edges : List Edge) (p : Layout) (low : ℕ) (ps : List Pair) (known : 
       subst (λ d. HasPair ps d i z) (sym same ∙ class_is)
       (g.complete z i f.0 inside.1 (omega arith) (omega arith) f.1 b)
 
-  -- of two places in one class none is alone
-  not_alone : (x z : ℕ) → x ≢ z → z < size p → class_in p x ≡ class_in p z → IsAlone p x → ⊥
+  -- of two places in one group none is alone
+  not_alone : (x z : ℕ) → x ≢ z → z < size groups → class_in groups x ≡ class_in groups z → IsAlone groups x → ⊥
   not_alone x z n m same a = n (sym (a z m (sym same)))
 
-  pairs_agree : (x z : ℕ) → x ≢ z → x < size p → z < size p → class_in p x ≡ class_in p z
+  pub pairs_agree : (x z : ℕ) → x ≢ z → x < size groups → z < size groups → class_in groups x ≡ class_in groups z
       → AgreeBelow edges p low x z → AgreeBelow edges p low z x
       → HaveSamePairs ps x z ↔ AgreeAt edges (OneClass p) x z
   pairs_agree x z n l m same one two =
-      let a : IsAlone p x → ⊥ = not_alone x z n m same in
-      let b : IsAlone p z → ⊥ = not_alone z x (λ e. n (sym e)) l (sym same) in (
+      let a : IsAlone groups x → ⊥ = not_alone x z n m same in
+      let b : IsAlone groups z → ⊥ = not_alone z x (λ e. n (sym e)) l (sym same) in (
         λ h. record {
           there = agree_there x z a b h one;
           back = λ i u e. let f = agree_there z x b a (flipped x z h) two i u e in (f.0, f.1, sym f.2);
@@ -153,6 +155,9 @@ module _ (edges : List Edge) (p : Layout) (low : ℕ) (ps : List Pair) (known : 
         λ h c i. (agree_pairs x z b h c i, agree_pairs z x a (agree_back x z h) c i),
       )
 
+-- .. where these are the classes themselves
+module _ (edges : List Edge) (p : Layout) (low : ℕ) (ps : List Pair) (known : (x : ℕ) → x < size p → class_in p x < count p)
+    (are : AreEdges (size p) edges) (g : Gathers edges p p low (count p) ps) where
   pub rounds_part : (q : Layout) → IsPartedByPairs p q ps → IsRound edges low p q
   rounds_part q parted = record {
     laid = parted.laid;
@@ -161,9 +166,9 @@ module _ (edges : List Edge) (p : Layout) (low : ℕ) (ps : List Pair) (known : 
     parts = λ x z l m same one two.
         let by = parted.parts x z l m in
         elim (cases_eq x z) [
-          | inl e ↦ (λ _. subst (AgreeAt edges (OneClass p) x) e (agree_self x), λ _. ap (class_in q) e)
+          | inl e ↦ (λ _. subst (AgreeAt edges (OneClass p) x) e (agree_self edges p p low ps known are g x), λ _. ap (class_in q) e)
           | inr n ↦
-              let agree = pairs_agree x z n l m same one two in
+              let agree = pairs_agree edges p p low ps known are g x z n l m same one two in
               (λ e. agree.0 (by.0 e).1, λ a. by.1 (same, agree.1 a))
         ];
   }
@@ -186,16 +191,19 @@ module _ (edges : List Edge) (p : Layout) (low : ℕ) (ps : List Pair) (known : 
                 λ _. (
                   ap (class_in p) e,
                   ap (slice_index shapes) e,
-                  subst (AgreeAt edges (OneClass p) x) e (agree_self x),
+                  subst (AgreeAt edges (OneClass p) x) e (agree_self edges p p low ps known are g x),
                 ),
                 λ _. ap (class_in r) e,
               )
               | inr n ↦ (
                 λ e.
                     let f = b.0 e in
-                    let g = a.0 f.0 in
-                    (g.0, same.0 g.1, (pairs_agree x z n l m g.0 (none x z) (none z x)).0 f.1),
-                λ h. b.1 (a.1 (h.0, same.1 h.1), (pairs_agree x z n l m h.0 (none x z) (none z x)).1 h.2),
+                    let both = a.0 f.0 in (
+                      both.0,
+                      same.0 both.1,
+                      (pairs_agree edges p p low ps known are g x z n l m both.0 (none x z) (none z x)).0 f.1,
+                    ),
+                λ h. b.1 (a.1 (h.0, same.1 h.1), (pairs_agree edges p p low ps known are g x z n l m h.0 (none x z) (none z x)).1 h.2),
               )
             ];
       }

@@ -28,12 +28,13 @@ pub record Adds (p : Layout) (c : ℕ) (S : Edge → Type 0) (old new : List Pai
   pub complete : (x i t : ℕ) → S (record { position = i; source = x; target = t }) → (IsAlone p x → ⊥)
       → HasPair new c i x
 
--- pairs of the references to the classes from `low` on below `high`
-pub record Gathers (edges : List Edge) (p : Layout) (low high : ℕ) (ps : List Pair) : Type 0 where
+-- pairs of the references to the classes from `low` on below `high`, but those from places that are alone in their group
+-- may be left out
+pub record Gathers (edges : List Edge) (p groups : Layout) (low high : ℕ) (ps : List Pair) : Type 0 where
   pub sound : (c i x : ℕ) → HasPair ps c i x → (low ≤ c) × (c < high)
       × (t : ℕ) × (t < size p) × (class_in p t ≡ c) × HasEdge edges x i t
   pub complete : (x i t : ℕ) → t < size p → low ≤ class_in p t → class_in p t < high → HasEdge edges x i t
-      → (IsAlone p x → ⊥) → HasPair ps (class_in p t) i x
+      → (IsAlone groups x → ⊥) → HasPair ps (class_in p t) i x
 
 -- each index with its number, in place of a class, at position 0
 pub record AreKeyed (numbers : List ℕ) (ps : List Pair) : Type 0 where

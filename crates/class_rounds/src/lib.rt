@@ -4,6 +4,6 @@
 #![tactic(auto)]
 
 pub mod edges;
-mod gather;
+pub mod gather;
 pub mod laws;
 pub mod rounds;

@@ -107,7 +107,7 @@ fn first_round(
     ensures { OnOk result (IsFirstRound edges.now shapes.now (layout parts.old) (layout parts.new)) }
 {
     let high = class_count(parts);
-    let pairs = gather(alloc, parts, edges, 0, high)?;
+    let pairs = gather(alloc, parts, parts, edges, 0, high)?;
     let shapes = keyed(alloc, shapes)?;
     parts.part_by_pairs(shapes)?;
     parts.part_by_pairs(pairs)
@@ -123,7 +123,7 @@ fn next_round(alloc: Global, parts: &mut Parts, edges: &Edges, low: u32) -> Resu
     ensures { OnOk result (IsRound edges.now low (layout parts.old) (layout parts.new)) }
 {
     let high = class_count(parts);
-    let pairs = gather(alloc, parts, edges, low, high)?;
+    let pairs = gather(alloc, parts, parts, edges, low, high)?;
     let gathered = pairs.len() as u64;
     parts.part_by_pairs(pairs)?;
     Ok(gathered)

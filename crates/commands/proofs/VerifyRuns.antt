@@ -1,5 +1,5 @@
 -- What a run comes to that verifies an output.
-use Rattle.std.proofs.Common.{◌≡◌, true, List, ℕ, Option, Result, Ok, Err, IfSome, inl, inr, refl, sym, ap, ◌∙◌, subst, true≢false, arith}
+use Rattle.std.proofs.Common.{◌≡◌, Bool, true, false, List, ℕ, Option, Result, Ok, Err, IfSome, inl, inr, refl, sym, ap, ◌∙◌, subst, true≢false, arith}
 use Rattle.std.specs.Prelude.{◌⊎◌}
 use Rattle.express_syntax.specs.declared.fault.SchemaFault.TheVariants as schemas
 use Rattle.conformance.specs.Choices.{Choice}
@@ -11,6 +11,7 @@ use Rattle.files.specs.Stores.{Stored}
 use Rattle.files.specs.declared.fault.Role.{Role}
 use Rattle.files.specs.declared.fault.Role.TheVariants as roles
 use Rattle.files.specs.declared.fault.Fault.TheVariants as faults
+use Rattle.verifying.specs.Sources.{FirstUnread, IsUnread, VerifiesAll, is_device, no_certificate, no_file, no_output, no_schema, too_large}
 use Rattle.verifying.specs.Verifying.{Verifies}
 use Rattle.verifying.specs.declared.fault.VerifyFault.{VerifyFault}
 use Rattle.verifying.specs.declared.fault.VerifyFault.TheVariants.{Certificate, Other, Refused, Schema}
@@ -18,9 +19,9 @@ use Rattle.verifying.specs.declared.proof.Proof.{Proof}
 use Rattle.commands.specs.CommandLines.{CanFail, IsDevices}
 use Rattle.commands.specs.Endings.{Output, Prints}
 use Rattle.commands.specs.Runs.{Refuses}
-use Rattle.commands.specs.Verifies.{FirstUnread, IsUnread, RunsVerify, VerifiesAll, no_certificate, no_file, no_output, no_schema, too_large, verify_ending, verify_lines}
+use Rattle.commands.specs.Verifies.{RunsVerify, verify_ending, verify_lines}
 use Rattle.commands.specs.Statuses.{verify_status}
-use Rattle.commands.proofs.Endings.{IsFit, SaysAs, ends_by_devices, ends_say, wanted_of}
+use Rattle.commands.proofs.Endings.{IsFit, SaysAs, device_printed, ends_by_devices, ends_say, wanted_of}
 
 pub verify_fit : (outcome : Result Proof VerifyFault) → IsFit (verify_ending outcome)
 verify_fit (Ok proof) = inl refl
@@ -50,6 +51,35 @@ status_four (Certificate refusal) = inr (λ never. omega (arith, never))
 status_four (Other (faults.Text role kind place)) = inr (λ never. omega (arith, never))
 status_four (Other (faults.Device role written)) = inl refl
 status_four (Other faults.Memory) = inr (λ never. omega (arith, never))
+
+-- where the status is a device's, one of four has failed, by the fault, or the error output
+pub one_failed : (fault : VerifyFault) (err err' : Output) (text : List ℕ) (status : ℕ) (s f o c : Bool)
+    → s ≡ is_device {T = Proof} roles.Schema (Err fault) → f ≡ is_device {T = Proof} roles.File (Err fault)
+    → o ≡ is_device {T = Proof} roles.Output (Err fault) → c ≡ is_device {T = Proof} roles.Certificate (Err fault)
+    → Prints err err' text (verify_status fault) status → status ≡ 4 → err.has_failed ≡ false
+    → (s ≡ true) ⊎ (f ≡ true) ⊎ (o ≡ true) ⊎ (c ≡ true) ⊎ (err'.has_failed ≡ true)
+one_failed fault err err' text status s f o c es ef eo ec p is fresh = by fault es ef eo ec p
+  where
+    Failed : Type 0
+    Failed = (s ≡ true) ⊎ (f ≡ true) ⊎ (o ≡ true) ⊎ (c ≡ true) ⊎ (err'.has_failed ≡ true)
+
+    other : (wanted : ℕ) → (wanted ≡ 4 → ⊥) → Prints err err' text wanted status → Failed
+    other wanted differs q = inr (inr (inr (inr (device_printed err err' text wanted status q differs is fresh))))
+
+    by : (v : VerifyFault) → s ≡ is_device {T = Proof} roles.Schema (Err v)
+        → f ≡ is_device {T = Proof} roles.File (Err v) → o ≡ is_device {T = Proof} roles.Output (Err v)
+        → c ≡ is_device {T = Proof} roles.Certificate (Err v) → Prints err err' text (verify_status v) status → Failed
+    by (Schema (schemas.Text kind place)) a b d e q = other 2 (λ never. omega (arith, never)) q
+    by (Schema (schemas.Name kind name)) a b d e q = other 2 (λ never. omega (arith, never)) q
+    by (Schema schemas.Memory) a b d e q = other 5 (λ never. omega (arith, never)) q
+    by (Refused role findings rules) a b d e q = other 1 (λ never. omega (arith, never)) q
+    by (Certificate refusal) a b d e q = other 6 (λ never. omega (arith, never)) q
+    by (Other (faults.Text role kind place)) a b d e q = other 2 (λ never. omega (arith, never)) q
+    by (Other (faults.Device roles.Schema written)) a b d e q = inl a
+    by (Other (faults.Device roles.File written)) a b d e q = inr (inl b)
+    by (Other (faults.Device roles.Output written)) a b d e q = inr (inr (inl d))
+    by (Other (faults.Device roles.Certificate written)) a b d e q = inr (inr (inr (inl e)))
+    by (Other faults.Memory) a b d e q = other 5 (λ never. omega (arith, never)) q
 
 -- what is answered to four texts is no device's fault
 texts_wanted : (choice : Choice) (text bytes smaller proof : List ℕ) (outcome : Result Proof VerifyFault)
@@ -119,17 +149,7 @@ verify_device words files s f o c m choice out out' err err' status asks r is = 
       | inr (inr failed) ↦ inr (inl failed)
     ]
 
--- ---- what isn't read, and want of memory
-
-pub unread_runs : (fault : VerifyFault) (choice : Choice) (schema file output certificate : Stored)
-    (out err err' : Output) (status : ℕ) → FirstUnread schema file output certificate fault
-    → Prints err err' (verify_lines fault) (verify_status fault) status
-    → RunsVerify choice schema file output certificate out out err err' status
-unread_runs fault choice schema file output certificate out err err' status first prints = record {
-  outcome = Err fault;
-  verifies = inl (fault, refl, first);
-  ends = (refl, prints);
-}
+-- ---- want of memory
 
 pub memory_verifies : (choice : Choice) (schema file output certificate : Stored) (out out' err err' : Output)
     (status : ℕ) → out' ≡ out → Prints err err' (line_of faults.Memory) 5 status

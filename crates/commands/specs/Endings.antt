@@ -5,7 +5,6 @@ use Rattle.devices.specs.Emits.{Emits}
 use Rattle.devices.specs.declared.device.WriteFault.{WriteFault}
 use Rattle.files.specs.Faults.{write_fault}
 use Rattle.files.specs.Lines.{line_of}
-use Rattle.files.specs.Stores.{Stored}
 use Rattle.files.specs.declared.fault.Fault.{Fault}
 use Rattle.files.specs.declared.fault.Role.TheVariants as roles
 use Rattle.commands.specs.Statuses.{fault_status}
@@ -17,10 +16,6 @@ pub record Output : Type 0 where
 
 abbrev pub output : {S : Type 0} → (S → Option (List ℕ)) → (S → Bool) → S → Output
 output held has_failed sink = record { held = held sink; has_failed = has_failed sink }
-
--- a source as a store tells its file
-abbrev pub told_by : {S : Type 0} → (S → Option (List ℕ)) → (S → Option Bool) → S → Stored
-told_by to_come fails source = record { contents = to_come source; fails = fails source }
 
 -- A front of the text went out.
 abbrev pub AppendsFront : Option (List ℕ) → Option (List ℕ) → List ℕ → Type 0

@@ -6,4 +6,3 @@ pub mod Merges
 pub mod Verifies
 pub mod CommandLines
 pub mod ComputedRequests
-pub mod ComputedVerifies

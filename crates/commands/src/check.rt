@@ -3,7 +3,8 @@
 ghost use Rattle.std.specs.Prelude.{◌≡◌, ◌⊎◌, false, true};
 ghost use Rattle.reports.specs.Lines.{report_text};
 ghost use Rattle.reports.specs.SchemaLines.{schema_line};
-ghost use Rattle.commands.specs.Endings.{EndsAs, Prints, on_output, output, told_by};
+ghost use Rattle.files.specs.Stores.{told_by};
+ghost use Rattle.commands.specs.Endings.{EndsAs, Prints, on_output, output};
 ghost use Rattle.commands.specs.Runs.{RunsCheck, check_line};
 ghost use Rattle.commands.specs.Statuses.{check_status, report_status, schema_status};
 

@@ -4,7 +4,8 @@ ghost use Rattle.std.specs.Prelude.{◌≡◌, ◌⊎◌, false, flat_map, lengt
 ghost use Rattle.pin_choices.specs.Chosen.{choice_of};
 ghost use Rattle.reports.specs.Lines.{report_text, unchecked_line};
 ghost use Rattle.reports.specs.MergeLines.{merge_text, strict_line};
-ghost use Rattle.commands.specs.Endings.{EndsAs, Prints, on_both, on_output, output, told_by};
+ghost use Rattle.files.specs.Stores.{told_by};
+ghost use Rattle.commands.specs.Endings.{EndsAs, Prints, on_both, on_output, output};
 ghost use Rattle.commands.specs.Merges.{RunsShrink, shrink_fault_ending};
 
 use crate::check::report_schema;

@@ -2,43 +2,24 @@
 
 ghost use Rattle.std.specs.Prelude.{
   ◌≡◌,
-  ◌≤◌,
   ◌⊎◌,
   ◌++◌,
-  ◌^◌,
   codes,
   decimal,
   false,
   flat_map,
   is_err,
-  length,
-  MatchResult,
   true,
 };
 ghost use Rattle.devices.specs.Emits.{Emits};
 ghost use Rattle.devices.specs.Prints as printers;
 ghost use Rattle.pin_choices.specs.Chosen.{choice_of};
 ghost use Rattle.files.specs.Lines.{role_text};
-ghost use Rattle.files.specs.declared.fault.Fault.TheVariants.{Text};
-ghost use Rattle.files.specs.declared.fault.Role.TheVariants as roles;
-ghost use Rattle.step_structures.specs.declared.fault.FaultKind.TheVariants as kinds;
-ghost use Rattle.step_structures.specs.declared.fault.LeftOut.TheVariants as left_out;
+ghost use Rattle.files.specs.Stores.{told_by};
 ghost use Rattle.reports.specs.Lines.{finding_line, rule_finding_line};
 ghost use Rattle.reports.specs.MergeLines.{proof_text, role_line};
-ghost use Rattle.commands.specs.ComputedVerifies.{VerifiesTexts, is_device, unread_fault};
-ghost use Rattle.commands.specs.Endings.{EndsAs, Prints, on_output, output, told_by};
-ghost use Rattle.commands.specs.Verifies.{
-  IsRead,
-  IsUnread,
-  RunsVerify,
-  AreRead,
-  FirstUnread,
-  refusal_line,
-  refusal_text,
-  too_large,
-  verify_lines,
-};
-ghost use Rattle.verifying.specs.declared.fault.VerifyFault.TheVariants.{Other};
+ghost use Rattle.commands.specs.Endings.{EndsAs, Prints, on_output, output};
+ghost use Rattle.commands.specs.Verifies.{RunsVerify, refusal_line, refusal_text, verify_lines};
 ghost use Rattle.commands.specs.Statuses.{verify_status};
 
 use crate::check::report_schema;
@@ -46,117 +27,15 @@ use crate::ending::{BROKEN, DEVICE, DONE, REFUSED, report};
 use conformance::finding::Finding;
 use devices::device::{Sink, Source, WriteFault};
 use devices::printer::Printer;
-use express_syntax::fault::{FaultKind as SchemaKind, LeftOut as SchemaLeftOut, SchemaFault};
-use files::fault::{Fault, LIMIT, Role};
-use files::read::{ReadFault, read_whole};
+use files::fault::{Fault, Role};
 use pin_choices::choice::Choice;
 use reports::merge::{print_findings_of, print_proof};
 use schema_rules::finding::RuleFinding;
 use std::alloc::Global;
 use std::hash::RandomState;
-use step_structures::fault::{FaultKind, LeftOut};
 use verifying::fault::{Refusal, VerifyFault};
 use verifying::proof::Proof;
-use verifying::verify::verify;
-
-// The texts of four files.
-#[derive(Drop)]
-struct Texts {
-    schema: Vec<u8>,
-    file: Vec<u8>,
-    smaller: Vec<u8>,
-    certificate: Vec<u8>,
-}
-
-// The fault of a text that isn't a schema, and has too many bytes.
-fn large_text<'s>(role: Role) -> VerifyFault<'s>
-    ensures { result ≡ Other (Text role (kinds.LeftOut left_out.TooLarge) (2 ^ 40)) }
-{
-    VerifyFault::Other(Fault::Text {
-        role,
-        kind: FaultKind::LeftOut(LeftOut::TooLarge),
-        place: LIMIT,
-    })
-}
-
-// The fault of a file of this role that has too many bytes.
-fn too_large<'s>(role: Role) -> VerifyFault<'s>
-    ensures { result ≡ too_large role }
-{
-    match role {
-        Role::Schema => VerifyFault::Schema(SchemaFault::Text {
-            kind: SchemaKind::LeftOut(SchemaLeftOut::TooLarge),
-            place: LIMIT,
-        }),
-        Role::File => large_text(role),
-        Role::Output => large_text(role),
-        Role::Certificate => large_text(role),
-    }
-}
-
-// The fault where a file of this role isn't read.
-fn unread<'s>(role: Role, fault: ReadFault) -> VerifyFault<'s>
-    ensures { result ≡ unread_fault role fault }
-{
-    match fault {
-        ReadFault::Device => VerifyFault::Other(Fault::Device { role, written: 0 }),
-        ReadFault::TooLarge => too_large(role),
-        ReadFault::Memory => VerifyFault::Other(Fault::Memory),
-    }
-}
-
-// All bytes of a file of this role.
-fn read<'s, S: Source>(
-    alloc: Global,
-    role: Role,
-    source: &mut S,
-) -> Result<Vec<u8>, VerifyFault<'s>>
-    ensures read { MatchResult result
-        (λ bytes. IsRead (told_by S.to_come S.fails source.old) bytes.items)
-        (IsUnread role (told_by S.to_come S.fails source.old)) }
-    ensures failed { S.has_failed source.old ≡ false
-        → S.has_failed source.new ≡ is_device role result }
-{
-    match read_whole(alloc, source, LIMIT) {
-        Ok(bytes) => Ok(bytes),
-        Err(fault) => Err(unread(role, fault)),
-    }
-}
-
-// The texts of four files.
-fn read_all<'s, S: Source, F: Source, W: Source, C: Source>(
-    alloc: Global,
-    schema: &mut S,
-    file: &mut F,
-    smaller: &mut W,
-    certificate: &mut C,
-) -> Result<Texts, VerifyFault<'s>>
-    ensures read { MatchResult result
-        (λ texts. AreRead (told_by S.to_come S.fails schema.old) (told_by F.to_come F.fails file.old)
-        (told_by W.to_come W.fails smaller.old) (told_by C.to_come C.fails certificate.old)
-        texts.schema.items texts.file.items texts.smaller.items texts.certificate.items)
-        (FirstUnread (told_by S.to_come S.fails schema.old) (told_by F.to_come F.fails file.old)
-        (told_by W.to_come W.fails smaller.old) (told_by C.to_come C.fails certificate.old)) }
-    ensures schema_failed { S.has_failed schema.old ≡ false
-        → S.has_failed schema.new ≡ is_device roles.Schema result }
-    ensures file_failed { F.has_failed file.old ≡ false
-        → F.has_failed file.new ≡ is_device roles.File result }
-    ensures smaller_failed { W.has_failed smaller.old ≡ false
-        → W.has_failed smaller.new ≡ is_device roles.Output result }
-    ensures certificate_failed { C.has_failed certificate.old ≡ false
-        → C.has_failed certificate.new ≡ is_device roles.Certificate result }
-{
-    let schema = read(alloc, Role::Schema, schema)?;
-    let file = read(alloc, Role::File, file)?;
-    let smaller = read(alloc, Role::Output, smaller)?;
-    let certificate = read(alloc, Role::Certificate, certificate)?;
-    Ok(Texts {
-        schema,
-        file,
-        smaller,
-        certificate,
-    })
-}
+use verifying::sources::verify_files;
 
 // Prints what is proved, on `out`; or tells that the output failed.
 fn tell_proof<O: Sink, E: Sink>(proof: &Proof, out: &mut O, err: &mut E) -> u8
@@ -252,34 +131,6 @@ fn tell_fault<E: Sink>(fault: &VerifyFault<'_>, err: &mut E) -> u8
     }
 }
 
-// Verifies by these texts.
-fn verify_texts<O: Sink, E: Sink>(
-    alloc: Global,
-    keys: RandomState,
-    choice: &Choice,
-    texts: &Texts,
-    out: &mut O,
-    err: &mut E,
-) -> u8
-    ensures verifies { VerifiesTexts (choice_of choice.now) texts.now.schema.items texts.now.file.items
-        texts.now.smaller.items texts.now.certificate.items
-        (output O.held O.has_failed out.old) (output O.held O.has_failed out.new)
-        (output E.held E.has_failed err.old) (output E.held E.has_failed err.new) result }
-{
-    match verify(
-        alloc,
-        keys,
-        &texts.schema,
-        &texts.file,
-        &texts.smaller,
-        choice,
-        &texts.certificate,
-    ) {
-        Ok(proof) => tell_proof(&proof, out, err),
-        Err(fault) => tell_fault(&fault, err),
-    }
-}
-
 /// Verifies an output of a file by a schema, a choice of its entities and a certificate, prints what
 /// is proved on `out`, and answers the status, 0. All four are read to their ends, the schema first,
 /// then the file, the output and the certificate.
@@ -323,8 +174,18 @@ pub fn run_verify<S: Source, F: Source, W: Source, C: Source, O: Sink, E: Sink>(
     ensures certificate_failed { C.has_failed certificate.old ≡ false
         → C.has_failed certificate.new ≡ true → result ≡ 4 }
 {
-    match read_all(alloc, schema, file, smaller, certificate) {
-        Ok(texts) => verify_texts(alloc, keys, choice, &texts, out, err),
+    let mut text = Vec::new(alloc);
+    match verify_files(
+        alloc,
+        keys,
+        schema,
+        &mut text,
+        choice,
+        file,
+        smaller,
+        certificate,
+    ) {
+        Ok(proof) => tell_proof(&proof, out, err),
         Err(fault) => tell_fault(&fault, err),
     }
 }

@@ -10,6 +10,10 @@ pub record Stored : Type 0 where
 abbrev pub stored : {S : Type 0} → (S → List ℕ → Option (List ℕ)) → (S → List ℕ → Option Bool) → S → List ℕ → Stored
 stored contents fails store path = record { contents = contents store path; fails = fails store path }
 
+-- a source as a store tells its file
+abbrev pub told_by : {S : Type 0} → (S → Option (List ℕ)) → (S → Option Bool) → S → Stored
+told_by to_come fails source = record { contents = to_come source; fails = fails source }
+
 -- Where bytes were written, as far as the writer tells them, the file holds these: it is made at the first write. Where
 -- none was written it holds what it held.
 abbrev pub HoldsWritten : Option (List ℕ) → Option (List ℕ) → Option (List ℕ) → Type 0

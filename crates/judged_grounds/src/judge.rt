@@ -5,6 +5,7 @@ ghost use Rattle.step_equal.specs.Maps.{is_pinned};
 ghost use Rattle.step_equal.specs.Standard.{IsWellFormed};
 ghost use Rattle.step_equal.specs.Tables.{HasMembers, IsGrounded, IsValid, shares};
 ghost use Rattle.step_equal.specs.TableViews.{table_of};
+ghost use Rattle.row_shapes.specs.Signatures.{AreSignatures};
 ghost use Rattle.judged_grounds.specs.TableFaults.{IsFaultOf};
 
 use crate::fault::TableFault;
@@ -12,6 +13,7 @@ use crate::splits::splits_have_grounds;
 use crate::starts::starts_together;
 use judged_tables::members::names_match;
 use judged_tables::stable::is_stable;
+use row_shapes::signatures::{Signatures, signatures_of};
 use std::alloc::{AllocError, Global};
 use std::collections::BTreeSet;
 use std::hash::RandomState;
@@ -36,6 +38,26 @@ pub fn judge<'a>(
         (λ _. IsValid input.now (is_pinned pinned.now) (table_of table.now))
         (IsFaultOf input.now (is_pinned pinned.now) (table_of table.now)) }
 {
+    let signatures = signatures_of(alloc, keys, input)?;
+    judge_by(alloc, keys, input, pinned, &signatures, table)
+}
+
+/// Judges a table as [`judge`] does, where the shapes and references of the rows are known.
+pub fn judge_by<'a>(
+    alloc: Global,
+    keys: RandomState,
+    input: &Plain<'a>,
+    pinned: &BTreeSet<u64>,
+    signatures: &Signatures,
+    table: &Table,
+) -> Result<(), TableFault>
+    requires well_formed { IsWellFormed (table_of table.now) }
+    requires signatures { AreSignatures input.now signatures.now }
+    ensures { MatchResult result
+        (λ _. IsValid input.now (is_pinned pinned.now) (table_of table.now))
+        (IsFaultOf input.now (is_pinned pinned.now) (table_of table.now)) }
+{
+    let _shapes = signatures.shapes.len();
     if !names_match(input, table) {
         return Err(TableFault::Members);
     }

@@ -1,6 +1,6 @@
 //! The tables of a population: under its weak pins, and under the gentle ones that these give.
 
-ghost use Rattle.std.specs.Prelude.{IfOk};
+ghost use Rattle.std.specs.Prelude.{◌≡◌, IfOk};
 ghost use Rattle.express_syntax.specs.SchemaViews.{schema_of};
 ghost use Rattle.schema_types.specs.Made.{IsMade};
 ghost use Rattle.step_equal.specs.Rows.{IsPopulation};
@@ -8,13 +8,15 @@ ghost use Rattle.step_equal.specs.Standard.{IsStandard};
 ghost use Rattle.step_equal.specs.TableViews.{table_of};
 ghost use Rattle.conformance.specs.PlainRows.{AreRowsOf};
 ghost use Rattle.population_typed.specs.Seen.{population_seen};
+ghost use Rattle.row_shapes.specs.Signatures.{AreSignatures};
 ghost use Rattle.step_pins.specs.Pinned.{is_pinned};
 ghost use Rattle.merge_tables.specs.ComputedTables.{AreGentle, AreTablesUnder};
 
 use population_typed::population::Population;
+use row_shapes::signatures::{Signatures, signatures_of};
 use std::alloc::{AllocError, Global};
 use std::hash::RandomState;
-use step_classes::classes::refine;
+use step_classes::classes::refine_by;
 use step_equal::plain::Plain;
 use step_equal::table::Table;
 use step_pins::pins::Pins;
@@ -40,28 +42,87 @@ fn standard_table(
     keys: RandomState,
     rows: &Plain<'_>,
     pinned: &Pins,
+    signatures: &Signatures,
 ) -> Result<Table, AllocError>
+    requires { AreSignatures rows.now signatures.now }
     ensures { IfOk result (λ t. IsStandard rows.now (is_pinned pinned.now) (table_of t)) }
 {
-    let classes = refine(alloc, keys, rows, pinned.names())?;
+    let classes = refine_by(alloc, keys, rows, pinned.names(), signatures)?;
     Ok(classes.into_table())
 }
 
-/// The gentle pins of a population, by the classes of the table under its weak ones. Neither the
-/// population nor the weak pins are needed then.
+/// A copy of a table.
+fn copied(alloc: Global, table: &Table) -> Result<Table, AllocError>
+    ensures { IfOk result (λ t. table_of t ≡ table_of table.now) }
+{
+    let classes = Vec::from_slice(alloc, &table.classes)?;
+    let members = Vec::from_slice(alloc, &table.members)?;
+    Ok(Table {
+        rounds: table.rounds,
+        classes,
+        members,
+    })
+}
+
+/// The gentle pins of a population, by the classes of the table under its weak ones. The population
+/// isn't needed then.
 fn gentle_pins(
     alloc: Global,
     population: Population<'_, '_, '_, '_>,
-    weak: Pins,
+    weak: &Pins,
     first: &Table,
 ) -> Result<Pins, AllocError>
     requires made { IsMade population.types.now }
     ensures { IfOk result (λ t. AreGentle
         (schema_of population.entry.types.now.names.schema.now) (population_seen population.entry)
-        (is_pinned weak) (table_of first.now) (is_pinned t)) }
+        (is_pinned weak.now) (table_of first.now) (is_pinned t)) }
 {
     let gentle = weak.gentle(alloc, &population, first)?;
     Ok(gentle)
+}
+
+/// The table under the gentle pins. Where these are the weak ones it is the one under the weak ones.
+fn second_table(
+    alloc: Global,
+    keys: RandomState,
+    rows: &Plain<'_>,
+    weak: &Pins,
+    gentle: &Pins,
+    signatures: &Signatures,
+    first: &Table,
+) -> Result<Table, AllocError>
+    requires signatures { AreSignatures rows.now signatures.now }
+    requires first { IsStandard rows.now (is_pinned weak.now) (table_of first.now) }
+    ensures { IfOk result (λ t. IsStandard rows.now (is_pinned gentle.now) (table_of t)) }
+{
+    if weak.are_same(gentle) {
+        return copied(alloc, first);
+    }
+    standard_table(alloc, keys, rows, gentle, signatures)
+}
+
+/// The tables of a population with these rows under its weak pins and under the gentle ones.
+fn tables_by(
+    alloc: Global,
+    keys: RandomState,
+    population: Population<'_, '_, '_, '_>,
+    rows: &Plain<'_>,
+    weak: &Pins,
+    signatures: &Signatures,
+) -> Result<(Table, Table), AllocError>
+    requires made { IsMade population.types.now }
+    requires rows { AreRowsOf (schema_of population.types.now.names.schema.now)
+        (population_seen population) rows.now }
+    requires population { IsPopulation rows.now }
+    requires signatures { AreSignatures rows.now signatures.now }
+    ensures { IfOk result (λ t. AreTablesUnder
+        (schema_of population.entry.types.now.names.schema.now) (population_seen population.entry)
+        (is_pinned weak.now) (table_of t.0) (table_of t.1)) }
+{
+    let first = standard_table(alloc, keys, rows, weak, signatures)?;
+    let gentle = gentle_pins(alloc, population, weak, &first)?;
+    let second = second_table(alloc, keys, rows, weak, &gentle, signatures, &first)?;
+    Ok((first, second))
 }
 
 /// The table of a population under its weak pins, and the one under the gentle pins by the classes of
@@ -78,8 +139,6 @@ pub(crate) fn standard_tables<'s: 'r, 't, 'r, 'a>(
         (is_pinned weak) (table_of t.0) (table_of t.1)) }
 {
     let rows = plain_rows(alloc, keys, &population)?;
-    let first = standard_table(alloc, keys, &rows, &weak)?;
-    let gentle = gentle_pins(alloc, population, weak, &first)?;
-    let second = standard_table(alloc, keys, &rows, &gentle)?;
-    Ok((first, second))
+    let signatures = signatures_of(alloc, keys, &rows)?;
+    tables_by(alloc, keys, population, &rows, &weak, &signatures)
 }

@@ -8,8 +8,11 @@ use Rattle.std.proofs.lemmas.List.Quantifiers.{position-Some}
 use Rattle.step_values.specs.Shapes.{HaveOneShape}
 use Rattle.step_values.specs.Values.{Values, none}
 use Rattle.row_shapes.specs.declared.shapes.Shape.{Shape}
-use Rattle.row_shapes.specs.ComputedShapes.{AreFirsts, IsShapeOf, first_place, same_shape, shape_test}
-use Rattle.row_shapes.proofs.OneShape.{forms_decide, one_shape_between, own_shape, same_answers, test_back, test_decides}
+use Rattle.std.specs.declared.random_state.RandomState.{RandomState}
+use Rattle.row_shapes.specs.ComputedFlat.{shape_test}
+use Rattle.row_shapes.specs.ComputedShapes.{AreFirsts, IsShapeOf, first_place, same_shape}
+use Rattle.row_shapes.specs.ShapeLaws.{one_shape_between, own_shape, same_answers, test_back, test_decides}
+use Rattle.row_shapes.proofs.OneShape.{shapes_decide}
 
 -- what stands last is found where nothing before it is
 module _ {A : Type 0} (test : A → Bool) where
@@ -56,8 +59,8 @@ or_else None n = refl
 or_else (Some m) n = refl
 
 -- the shape of values behind others is noted
-module _ (before : List Values) (vs : Values) (s : Shape) (is : IsShapeOf vs s) (place n : ℕ)
-    (count : length before ≡ place) (old new : List (Shape × ℕ)) (firsts : AreFirsts before old)
+module _ (keys : RandomState) (before : List Values) (vs : Values) (s : Shape) (is : IsShapeOf keys vs s) (place n : ℕ)
+    (count : length before ≡ place) (old new : List (Shape × ℕ)) (firsts : AreFirsts keys before old)
     (first : n ≡ unwrap_or (lookup (same_shape s) old) place)
     (noted : (t : Shape) → lookup (same_shape t) new
     ≡ cond (same_shape s t) (Some n) (lookup (same_shape t) old)) where
@@ -78,7 +81,7 @@ module _ (before : List Values) (vs : Values) (s : Shape) (is : IsShapeOf vs s) 
       ∙ (λ i. option_or (first_place before ws) (cond ((test_back ws vs ∙ e) i) (Some (0 + length before)) None))
       ∙ or_none (first_place before ws))
 
-  pub one_more_first : AreFirsts (before ++ vs ∷ []) new
+  pub one_more_first : AreFirsts keys (before ++ vs ∷ []) new
   one_more_first ws t shape =
-      noted t ∙ (λ i. cond (forms_decide vs ws s t is shape i) (Some n) (firsts ws t shape i))
+      noted t ∙ (λ i. cond (shapes_decide keys vs ws s t is shape i) (Some n) (firsts ws t shape i))
       ∙ others ws (shape_test vs ws) refl

@@ -2,6 +2,8 @@ mod Firsts
 mod Numbering
 mod Pending
 mod Referring
+mod Alike
 mod OneShape
 mod FirstPlaces
 mod Shaping
+mod Indexing

@@ -1,19 +1,21 @@
 -- Shapes are equal exactly where the values have one.
-use Rattle.std.proofs.Common.{◌≡◌, ℕ, Bool, true, refl, ap, ◌∙◌}
-use Rattle.std.specs.Prelude.{◌==◌, ◌↔◌}
+use Rattle.std.proofs.Common.{◌≡◌, ℕ, Bool, true, false, refl, sym, ap, ◌∙◌, eq-eqb}
+use Rattle.std.specs.Prelude.{◌==◌, ◌&&◌}
+use Rattle.std.specs.declared.random_state.RandomState.{RandomState}
 use Rattle.step_values.specs.ComputedAgreement.{agree_each_by}
 use Rattle.step_values.specs.ComputedLabels.{each_labelled}
 use Rattle.step_values.specs.Labels.{one_label, renamed_in_bags, each_renamed_in_bags}
-use Rattle.step_values.specs.Shapes.{HaveOneShape}
 use Rattle.step_values.specs.Values.{Value, leaf, reference, typed, sequence, bag, Values, none, more}
-use Rattle.step_values.proofs.Agreement.{agree_each_back, agree_each_grows, agree_each_trans, same_each_refl}
-use Rattle.step_values.proofs.Deciding.{each_by_complete, each_by_sound, same_bool}
 use Rattle.step_values.proofs.Labelled.{same_each_labelled}
 use Rattle.step_values.proofs.NormalForms.{lists_same}
 use Rattle.step_values.proofs.Renaming.{each_renamed_itself}
 use Rattle.row_shapes.specs.declared.shapes.Shape.{Shape}
+use Rattle.row_shapes.specs.declared.shapes.Shape.TheVariants.{Flat, Forms}
+use Rattle.row_shapes.specs.ComputedFlat.{IsHash, alike_each, bagless_each, shape_test}
 use Rattle.row_shapes.specs.ComputedLabelling.{of_one_class}
-use Rattle.row_shapes.specs.ComputedShapes.{IsShapeOf, same_shape, shape_test}
+use Rattle.row_shapes.specs.ComputedShapes.{IsShapeOf, same_shape}
+use Rattle.row_shapes.specs.ShapeLaws.{test_back, test_decides}
+use Rattle.row_shapes.proofs.Alike.{alike_itself, same_bagless, same_hash}
 
 -- references in bags stand for themselves
 mutual
@@ -28,40 +30,35 @@ mutual
   each_in_bags_itself none = refl
   each_in_bags_itself (more v vs) = λ i. more (in_bags_itself v i) (each_in_bags_itself vs i)
 
-pub forms_decide : (vs ws : Values) (s t : Shape) → IsShapeOf vs s → IsShapeOf ws t → same_shape s t ≡ shape_test vs ws
-forms_decide vs ws s t p q =
-    lists_same (each_labelled of_one_class vs) (each_labelled of_one_class ws) s.forms.items t.forms.items p q
+-- values of which in one alone a bag stands have two shapes
+two_shapes : (vs ws : Values) → bagless_each vs ≡ true → bagless_each ws ≡ false → shape_test vs ws ≡ false
+two_shapes vs ws p q = by (shape_test vs ws) refl
+  where
+    by : (b : Bool) → shape_test vs ws ≡ b → shape_test vs ws ≡ false
+    by true e = let same = same_bagless vs ws ((test_decides vs ws).0 e) in absurd (cc)
+    by false e = e
+
+hashed_alike : (keys : RandomState) (vs ws : Values) (h k : ℕ) → IsHash keys vs h → IsHash keys ws k
+    → ((h == k) && shape_test vs ws) ≡ shape_test vs ws
+hashed_alike keys vs ws h k p q = by (shape_test vs ws) refl
+  where
+    and_false : (b : Bool) → (b && false) ≡ false
+    and_false true = refl
+    and_false false = refl
+
+    by : (b : Bool) → shape_test vs ws ≡ b → ((h == k) && b) ≡ b
+    by true e = ap (λ a. a && true) (eq-eqb h k (same_hash keys vs ws h k ((test_decides vs ws).0 e) p q))
+    by false e = and_false (h == k)
+
+pub shapes_decide : (keys : RandomState) (vs ws : Values) (s t : Shape) → IsShapeOf keys vs s → IsShapeOf keys ws t
+    → same_shape s t ≡ shape_test vs ws
+shapes_decide keys vs ws (Flat f) (Flat g) p q =
+    (λ i. (f.hash == g.hash) && alike_each (p.1 i) (q.1 i))
+    ∙ ap (λ b. (f.hash == g.hash) && b) (alike_itself vs ws p.0 q.0)
+    ∙ hashed_alike keys vs ws f.hash g.hash p.2 q.2
+shapes_decide keys vs ws (Flat f) (Forms ns) p q = sym (two_shapes vs ws p.0 q.0)
+shapes_decide keys vs ws (Forms ms) (Flat g) p q = sym (test_back vs ws ∙ two_shapes ws vs q.0 p.0)
+shapes_decide keys vs ws (Forms ms) (Forms ns) p q =
+    lists_same (each_labelled of_one_class vs) (each_labelled of_one_class ws) ms.items ns.items p.1 q.1
     ∙ same_each_labelled of_one_class of_one_class vs ws
     ∙ (λ i. agree_each_by (one_label of_one_class of_one_class) (each_in_bags_itself vs i) (each_in_bags_itself ws i))
-
-abbrev any : ℕ → ℕ → Bool
-any y z = true
-
-pub test_decides : (vs ws : Values) → (shape_test vs ws ≡ true) ↔ HaveOneShape vs ws
-test_decides vs ws = (each_by_sound any vs ws, each_by_complete any vs ws)
-
-pub own_shape : (vs : Values) → shape_test vs vs ≡ true
-own_shape vs = (test_decides vs vs).1 (agree_each_grows (◌==◌) any (λ y z e. refl) vs vs (same_each_refl vs))
-
-one_shape_back : (vs ws : Values) → HaveOneShape vs ws → HaveOneShape ws vs
-one_shape_back = agree_each_back any any (λ y z e. e)
-
-one_shape_trans : (us vs ws : Values) → HaveOneShape us vs → HaveOneShape vs ws → HaveOneShape us ws
-one_shape_trans = agree_each_trans any any any (λ x y z e f. e)
-
--- values that have one shape with the same have one
-pub one_shape_between : (us vs ws : Values) → shape_test us ws ≡ true → shape_test vs ws ≡ true → HaveOneShape us vs
-one_shape_between us vs ws e f =
-    one_shape_trans us ws vs ((test_decides us ws).0 e) (one_shape_back vs ws ((test_decides vs ws).0 f))
-
--- values of one shape answer the test alike
-pub same_answers : (us vs : Values) → HaveOneShape us vs → (ws : Values) → shape_test us ws ≡ shape_test vs ws
-same_answers us vs h ws =
-    same_bool _ _
-    (λ e. (test_decides vs ws).1 (one_shape_trans vs us ws (one_shape_back us vs h) ((test_decides us ws).0 e)))
-    (λ e. (test_decides us ws).1 (one_shape_trans us vs ws h ((test_decides vs ws).0 e)))
-
-pub test_back : (vs ws : Values) → shape_test vs ws ≡ shape_test ws vs
-test_back vs ws =
-    same_bool _ _ (λ e. (test_decides ws vs).1 (one_shape_back vs ws ((test_decides vs ws).0 e)))
-    (λ e. (test_decides vs ws).1 (one_shape_back ws vs ((test_decides ws vs).0 e)))

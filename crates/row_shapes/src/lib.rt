@@ -2,6 +2,9 @@
 //! share to be one; and the references between rows, as edges between places.
 #![tactic(auto)]
 
+mod feeding;
+mod flat;
 pub mod kinds;
 pub mod references;
 pub mod shapes;
+pub mod signatures;

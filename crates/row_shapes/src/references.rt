@@ -3,6 +3,7 @@
 ghost use Rattle.std.specs.Prelude.{
   ◌≡◌,
   ◌<◌,
+  ◌≤◌,
   ◌++◌,
   ◌+◌,
   ◌↔◌,
@@ -18,6 +19,7 @@ ghost use Rattle.class_rounds.specs.Edges.{AreEdges, HasEdge};
 ghost use Rattle.step_equal.specs.Rows.{IsName, names};
 ghost use Rattle.step_values.specs.NodeCounts.{nodes_in};
 ghost use Rattle.step_values.specs.Shapes.{outside_each};
+ghost use Rattle.step_values.specs.Targets.{target_of, targets_of};
 ghost use Rattle.row_shapes.specs.ComputedReferences.{
   AddsEdges,
   Visits,
@@ -29,12 +31,13 @@ ghost use Rattle.row_shapes.specs.References.{Refers};
 use class_rounds::edges::Edge;
 use std::alloc::{AllocError, Global};
 use step_equal::plain::Plain;
+use step_values::cell::Cell;
 use step_values::slot::{Node, Slot, Slots};
 
 /// The references that stand in no bag, each as one edge from the place of the row that refers to the place of the row
 /// that is named. Their positions are counted from 0 within the row, in the order of its values.
 ///
-/// `AllocError` comes where memory runs out.
+/// They take memory by the number of all references, those in bags too. `AllocError` comes where memory runs out.
 pub fn references<'a>(alloc: Global, input: &Plain<'a>) -> Result<Vec<Edge>, AllocError>
     ensures edges { IfOk result (λ edges. AreEdges (length input.now) edges.items) }
     ensures references { IfOk result (λ edges. (x i t : ℕ) → HasEdge edges.items x i t
@@ -43,7 +46,7 @@ pub fn references<'a>(alloc: Global, input: &Plain<'a>) -> Result<Vec<Edge>, All
         ≡ sum_by (λ r. length (outside_each r.values)) input.now) }
     ensures targets { IfOk result (λ edges. All (λ edge. edge.target < length input.now) edges.items) }
 {
-    let mut edges = Vec::new(alloc);
+    let mut edges = Vec::with_capacity(alloc, reference_count(input.cells()))?;
     let mut named = Vec::new(alloc);
     let mut pending: Vec<Slot<'_, 'a>> = Vec::new(alloc);
     for place in 0..input.len() {
@@ -51,6 +54,28 @@ pub fn references<'a>(alloc: Global, input: &Plain<'a>) -> Result<Vec<Edge>, All
         add_edges(&mut edges, input, place as u32, &named)?;
     }
     Ok(edges)
+}
+
+/// How many references these cells are; some may stand in bags.
+fn reference_count<'a>(cells: &[Cell<'a>]) -> usize
+    ensures { result ≡ length (targets_of cells.now) }
+{
+    let mut count = 0;
+    for place in 0..cells.len() {
+        count += references_at(&cells[place]);
+    }
+    count
+}
+
+/// How many references a cell is.
+fn references_at<'a>(cell: &Cell<'a>) -> usize
+    ensures exact { result ≡ length (target_of cell.now) }
+    ensures one { result ≤ 1 }
+{
+    match cell {
+        Cell::Reference { .. } => 1,
+        _ => 0,
+    }
 }
 
 /// Adds edges from a place to those of the rows with these names.

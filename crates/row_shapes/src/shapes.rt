@@ -16,12 +16,13 @@ ghost use Rattle.indexmap.specs.IndexMap.{get};
 ghost use Rattle.step_equal.specs.Rows.{Row};
 ghost use Rattle.step_values.specs.Shapes.{HaveOneShape};
 ghost use Rattle.row_shapes.specs.ComputedLabelling.{of_one_class};
-ghost use Rattle.row_shapes.specs.ComputedShapes.{IsShapeOf, same_shape};
-ghost use Rattle.row_shapes.specs.declared.shapes.Shape.{Shape};
+ghost use Rattle.row_shapes.specs.ComputedShapes.{IsShapeOf};
 
+use crate::feeding::hash_of;
+use crate::flat::FlatValues;
 use indexmap::IndexMap;
 use std::alloc::{AllocError, Global};
-use std::hash::RandomState;
+use std::hash::{Hash, RandomState};
 use step_equal::plain::Plain;
 use step_values::labels::{Label, Labels};
 use step_values::normal::{Normal, normal_forms};
@@ -43,23 +44,26 @@ impl Labels for OneClass {
     }
 }
 
-/// The shape of values: their normal forms, with one label for all references outside SETs and BAGs.
+/// The shape of values.
 #[derive(PartialEq, Eq, Hash, Drop)]
-pub(crate) struct Shape<'a> {
-    forms: Vec<Normal<'a>>,
+pub(crate) enum Shape<'p, 'a> {
+    /// That of values without SETs and BAGs: the values, where they are kept.
+    Flat(FlatValues<'p, 'a>),
+    /// That of others: their normal forms, with one label for all references outside SETs and BAGs.
+    Forms(Vec<Normal<'a>>),
 }
 
 /// Shapes, each with the place of its first row. They are hashed by keys that the author of a text doesn't know, so that
 /// nobody can choose shapes that are slow to find.
-type FirstPlaces<'a> = IndexMap<Shape<'a>, u32, RandomState>;
+type FirstPlaces<'p, 'a> = IndexMap<Shape<'p, 'a>, u32, RandomState>;
 
 /// By place, a number for the shape of each row's values. Two rows have one number exactly where their values have one
 /// shape: they agree, whatever their references outside SETs and BAGs name. Names, types and sections of rows play no
 /// part.
 ///
 /// It takes time by the size of all values, as long as no bag is large, whose members are sorted. Beside the numbers it
-/// keeps each shape once, so it takes memory by the sizes of the shapes. Shapes are hashed by these keys. `AllocError`
-/// comes where memory runs out.
+/// takes memory by the number of shapes, and by the sizes of those with SETs or BAGs. Shapes are hashed by these keys.
+/// `AllocError` comes where memory runs out.
 pub fn shapes<'a>(
     alloc: Global,
     keys: RandomState,
@@ -70,34 +74,39 @@ pub fn shapes<'a>(
         → slice_get input.now j ≡ Some s → (slice_index v.items i ≡ slice_index v.items j)
         ↔ HaveOneShape r.values s.values) }
 {
-    let mut firsts = IndexMap::with_hasher(alloc, keys);
+    let mut firsts: FirstPlaces<'_, 'a> = IndexMap::with_hasher(alloc, keys);
     let mut numbers = Vec::with_capacity(alloc, input.len())?;
     for place in 0..input.len() {
-        let shape = shape_of(alloc, &input.row(place).values)?;
+        let shape = shape_of(alloc, keys, input.row(place).values)?;
         let number = first_of(&mut firsts, shape, place as u32)?;
         numbers.push(number)?;
     }
     Ok(numbers)
 }
 
-/// The shape of values.
-fn shape_of<'p, 'a: 'c, 'c>(alloc: Global, values: &Slots<'p, 'a>) -> Result<Shape<'c>, AllocError>
-    ensures { IfOk result (λ shape. IsShapeOf values.now shape) }
+/// The shape of values. It takes no memory where no SET or BAG stands in them.
+fn shape_of<'p, 'a>(
+    alloc: Global,
+    keys: RandomState,
+    values: Slots<'p, 'a>,
+) -> Result<Shape<'p, 'a>, AllocError>
+    ensures { IfOk result (λ shape. IsShapeOf keys values.entry shape) }
 {
-    let forms = normal_forms(alloc, &OneClass, values)?;
-    Ok(Shape { forms })
+    match hash_of(keys, &values) {
+        Some(hash) => Ok(Shape::Flat(FlatValues { hash, values })),
+        None => Ok(Shape::Forms(normal_forms(alloc, &OneClass, &values)?)),
+    }
 }
 
 /// The place of the first row of a shape, which is this one where there was none.
-fn first_of<'a>(
-    firsts: &mut FirstPlaces<'a>,
-    shape: Shape<'a>,
+fn first_of<K: Eq + Hash + Drop>(
+    firsts: &mut IndexMap<K, u32, RandomState>,
+    shape: K,
     place: u32,
 ) -> Result<u32, AllocError>
-    ensures first { IfOk result
-        (λ number. number ≡ unwrap_or (get same_shape firsts.old shape.entry) place) }
-    ensures noted { IfOk result (λ number. (s : Shape) → get same_shape firsts.new s
-        ≡ cond (same_shape shape.entry s) (Some number) (get same_shape firsts.old s)) }
+    ensures first { IfOk result (λ number. number ≡ unwrap_or (get K.eq firsts.old shape) place) }
+    ensures noted { IfOk result (λ number. (s : K) → get K.eq firsts.new s
+        ≡ cond (K.eq shape s) (Some number) (get K.eq firsts.old s)) }
 {
     Ok(*firsts.entry(shape)?.or_insert(place))
 }

@@ -13,7 +13,7 @@ use Rattle.step_values.proofs.ByShapes.{agreement_is_by_shapes, same_counts}
 use Rattle.step_equal.specs.Keeping.{under, AreAlike, AgreeUnder}
 use Rattle.step_equal.specs.Rows.{Row, IsName, IsPopulation, names, row_at}
 use Rattle.step_equal.proofs.Lookup.{same_row}
-use Rattle.step_classes.specs.ComputedRounds.{AreReferences, AreShapes}
+use Rattle.row_shapes.specs.Signatures.{AreReferences, AreShapes}
 use Rattle.step_classes.proofs.Naming.{once, row_stands, IsPlaced, placed, stands}
 use Rattle.step_classes.proofs.Zipping.{zip_there, zip_back, zip_from}
 

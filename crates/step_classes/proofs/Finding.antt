@@ -1,11 +1,8 @@
 -- What the steps find.
 use Rattle.std.proofs.Common.{◌≡◌, ◌≤◌, ◌<◌, ℕ, ◌+◌, ◌^◌, Bool, List, length, sym, subst, arith}
-use Rattle.std.specs.Prelude.{◌↔◌, slice_index, IsPermutation}
+use Rattle.std.specs.Prelude.{◌↔◌, slice_index}
 use Rattle.std.proofs.lemmas.List.{length-map}
-use Rattle.std.proofs.lemmas.List.Sorted.{Contains-permutation, IsPermutation-sym}
 use Rattle.class_parts.specs.Laid.{Layout, size}
-use Rattle.class_rounds.specs.declared.edges.Edge.{Edge}
-use Rattle.class_rounds.specs.Edges.{AreEdges, HasEdge}
 use Rattle.class_rounds.specs.Rounds.{IsStarted}
 use Rattle.class_numbers.specs.declared.numbering.Origin.{Origin}
 use Rattle.class_numbers.specs.Births.{AreCounts}
@@ -16,8 +13,7 @@ use Rattle.step_equal.specs.Standard.{IsStandard}
 use Rattle.step_equal.specs.Tables.{Table}
 use Rattle.step_equal.proofs.Few.{rounds_are_few}
 use Rattle.step_tables.specs.Laws.{origin_in, table_of}
-use Rattle.row_shapes.specs.References.{Refers}
-use Rattle.step_classes.specs.ComputedRounds.{AreReferences, IsByKinds, IsByValues, IsFound}
+use Rattle.step_classes.specs.ComputedRounds.{IsByKinds, IsByValues, IsFound}
 use Rattle.step_classes.proofs.Refining.{numbers_are_those}
 use Rattle.step_classes.proofs.Firsts.{classes_few, firsts_are}
 
@@ -34,24 +30,6 @@ started_by_kinds rows pinned kinds p each tell is =
           let parts = is.parts x z l m in
           let alike = tell x z (omega (arith, l, places, each)) (omega (arith, m, places, each)) in
           (λ e. alike.0 (parts.0 e), λ a. parts.1 (alike.1 a));
-    }
-
--- edges in another order
-pub moved : (rows : List Row) (edges found : List Edge) → AreEdges (length rows) edges
-    → ((x i t : ℕ) → HasEdge edges x i t ↔ Refers rows x i t) → IsPermutation edges found → AreReferences rows found
-moved rows edges found are refer is =
-    let back : (x i t : ℕ) → HasEdge found x i t → HasEdge edges x i t = λ x i t h.
-    Contains-permutation found edges (record { position = i; source = x; target = t })
-    (IsPermutation-sym edges found is) h in
-    record {
-      are = record {
-        inside = λ x i t h. are.inside x i t (back x i t h);
-        one = λ x i t u h g. are.one x i t u (back x i t h) (back x i u g);
-      };
-      refer = λ x i t. (
-        λ h. (refer x i t).0 (back x i t h),
-        λ r. Contains-permutation edges found (record { position = i; source = x; target = t }) is ((refer x i t).1 r),
-      );
     }
 
 -- numbers of refined places

@@ -1,28 +1,15 @@
 -- What the code computes; no promise stands here. What is known of a population's places in between.
-use Rattle.std.specs.Prelude.{◌≡◌, ◌<◌, ◌^◌, ◌↔◌, ℕ, Bool, List, Some, length, slice_get, slice_index}
+use Rattle.std.specs.Prelude.{◌≡◌, ◌<◌, ◌^◌, ◌↔◌, ℕ, Bool, List, length, slice_index}
 use Rattle.class_parts.specs.Laid.{Layout, size, class_in, IsLaid, NoneIsChosen}
 use Rattle.class_rounds.specs.declared.edges.Edge.{Edge}
-use Rattle.class_rounds.specs.Edges.{AreEdges, HasEdge}
 use Rattle.class_rounds.specs.Rounds.{IsRefined}
 use Rattle.class_numbers.specs.declared.numbering.Origin.{Origin}
-use Rattle.step_values.specs.Shapes.{HaveOneShape}
 use Rattle.step_equal.specs.Keeping.{AreAlike}
 use Rattle.step_equal.specs.Rows.{Row, names}
 use Rattle.step_equal.specs.Standard.{IsStandard}
 use Rattle.step_tables.specs.Laws.{table_of}
-use Rattle.row_shapes.specs.References.{Refers}
+use Rattle.row_shapes.specs.Signatures.{AreReferences, AreShapes}
 use Rattle.step_classes.specs.ComputedFirsts.{AreFirsts}
-
--- the edges are the references of rows
-pub record AreReferences (rows : List Row) (edges : List Edge) : Type 0 where
-  pub are : AreEdges (length rows) edges
-  pub refer : (x i t : ℕ) → HasEdge edges x i t ↔ Refers rows x i t
-
--- the numbers tell shapes apart
-pub record AreShapes (rows : List Row) (shapes : List ℕ) : Type 0 where
-  pub each : length shapes ≡ length rows
-  pub tell : (i j : ℕ) (r s : Row) → slice_get rows i ≡ Some r → slice_get rows j ≡ Some s
-      → (slice_index shapes i ≡ slice_index shapes j) ↔ HaveOneShape r.values s.values
 
 -- places share a class where their rows are alike
 pub record IsByKinds (rows : List Row) (pinned : ℕ → Bool) (p : Layout) : Type 0 where

@@ -4,10 +4,13 @@ ghost use Rattle.std.specs.Prelude.{◌≡◌, ◌≤◌, ◌<◌, ◌^◌, All,
 ghost use Rattle.step_equal.specs.Maps.{is_pinned};
 ghost use Rattle.step_equal.specs.Standard.{IsStandard};
 ghost use Rattle.step_equal.specs.TableViews.{table_of};
+ghost use Rattle.step_equal.specs.Tables.{class_at};
+ghost use Rattle.row_shapes.specs.Signatures.{AreSignatures};
 ghost use Rattle.step_classes.specs.Heads.{IsHead};
 
 use crate::found::find;
 use crate::tables::classes_of;
+use row_shapes::signatures::{Signatures, signatures_of};
 use std::alloc::{AllocError, Global};
 use std::collections::BTreeSet;
 use std::hash::RandomState;
@@ -59,9 +62,29 @@ pub fn refine<'a>(
     ensures short_classes { IfOk result (λ t. length t.classes < 2 ^ 32) }
     ensures short_names { IfOk result (λ t. All (λ m. m.0 < 2 ^ 64) t.members) }
 {
+    let signatures = signatures_of(alloc, keys, input)?;
+    refine_by(alloc, keys, input, pinned, &signatures)
+}
+
+/// The classes of a population's value-equal instances, with these names pinned, where the shapes and
+/// references of its rows are known: those of [`refine`].
+pub fn refine_by<'a>(
+    alloc: Global,
+    keys: RandomState,
+    input: &Plain<'a>,
+    pinned: &BTreeSet<u64>,
+    signatures: &Signatures,
+) -> Result<Classes, AllocError>
+    requires { AreSignatures input.now signatures.now }
+    ensures standard { IfOk result (λ t. IsStandard input.now (is_pinned pinned.now) t) }
+    ensures rounds { IfOk result (λ t. t.rounds ≤ length input.now) }
+    ensures short_rounds { IfOk result (λ t. t.rounds < 2 ^ 32) }
+    ensures short_classes { IfOk result (λ t. length t.classes < 2 ^ 32) }
+    ensures short_names { IfOk result (λ t. All (λ m. m.0 < 2 ^ 64) t.members) }
+{
     // its contract says that no name stands twice, and that there are fewer than 2^32
     let _rows = input.len();
-    let found = find(alloc, keys, input, pinned)?;
+    let found = find(alloc, keys, input, pinned, signatures)?;
     classes_of(alloc, input, found)
 }
 
@@ -87,6 +110,16 @@ impl Classes {
     {
         let place = *self.firsts.get(class as usize)?;
         Some(self.table.members[place as usize].0)
+    }
+
+    /// The class of the instance of this name after the last round. It is None where no instance has this name.
+    ///
+    /// The members stand in the order of the population, so they are searched from the first on, in time by their number:
+    /// who asks for many goes over the table once.
+    pub fn class_of(&self, name: u64) -> Option<u32>
+        ensures { result ≡ class_at self.now name self.now.rounds }
+    {
+        Table::class_at(&self.table, name, self.table.rounds)
     }
 
     /// How much was looked at while the classes were found: one for each instance that shares its class of round 0 with

@@ -4,16 +4,15 @@ ghost use Rattle.std.specs.Prelude.{◌≡◌, IfOk, length};
 ghost use Rattle.class_parts.specs.Laid.{IsLaid, NoneIsChosen, size};
 ghost use Rattle.class_parts.specs.Views.{layout};
 ghost use Rattle.step_equal.specs.Maps.{is_pinned};
-ghost use Rattle.step_classes.specs.ComputedRounds.{AreReferences, IsByKinds, IsByValues, IsFound};
+ghost use Rattle.row_shapes.specs.Signatures.{AreSignatures};
+ghost use Rattle.step_classes.specs.ComputedRounds.{IsByKinds, IsByValues, IsFound};
 
 use class_numbers::laws::refined_are_counted;
 use class_numbers::numbering::{Numbering, number};
 use class_parts::parts::Parts;
-use class_rounds::edges::Edges;
 use class_rounds::rounds::{Rounds, refine, start};
 use row_shapes::kinds::kinds;
-use row_shapes::references::references;
-use row_shapes::shapes::shapes;
+use row_shapes::signatures::Signatures;
 use std::alloc::{AllocError, Global};
 use std::collections::BTreeSet;
 use std::hash::RandomState;
@@ -29,20 +28,22 @@ pub(crate) struct Found {
     pub(crate) signed: u64,
 }
 
-/// Finds the classes of a population's places, with these names pinned.
+/// Finds the classes of a population's places, with these names pinned, by its signatures.
 pub(crate) fn find<'a>(
     alloc: Global,
     keys: RandomState,
     input: &Plain<'a>,
     pinned: &BTreeSet<u64>,
+    signatures: &Signatures,
 ) -> Result<Found, AllocError>
+    requires { AreSignatures input.now signatures.now }
     ensures { IfOk result (λ f. IsFound input.now (is_pinned pinned.now) f.last f.numbering.firsts.items
         f.numbering.origins.items f.numbering.members.items) }
 {
     // its contract says that no name stands twice
     let _rows = input.len();
     let mut parts = by_kinds(alloc, keys, input, pinned)?;
-    let rounds = by_values(alloc, keys, input, &mut parts)?;
+    let rounds = by_values(alloc, input, &mut parts, signatures)?;
     refined_are_counted();
     let numbering = number(alloc, &parts, &rounds.counts)?;
     Ok(Found {
@@ -70,26 +71,18 @@ fn by_kinds<'a>(
 /// The rounds behind it, until one parts nothing.
 fn by_values<'a>(
     alloc: Global,
-    keys: RandomState,
     input: &Plain<'a>,
     parts: &mut Parts,
+    signatures: &Signatures,
 ) -> Result<Rounds, AllocError>
+    requires signatures { AreSignatures input.now signatures.now }
     requires laid { IsLaid (layout parts.old) }
     requires settled { NoneIsChosen (layout parts.old) }
     requires each { size (layout parts.old) ≡ length input.now }
     ensures { IfOk result (λ rounds.
         IsByValues input.now (layout parts.old) (layout parts.new) rounds.counts.items) }
 {
-    let edges = indexed(alloc, input)?;
-    let shapes = shapes(alloc, keys, input)?;
-    refine(alloc, parts, &edges, &shapes)
-}
-
-/// The references of rows, found by the place that is referred to.
-fn indexed<'a>(alloc: Global, input: &Plain<'a>) -> Result<Edges, AllocError>
-    ensures { IfOk result (λ edges. AreReferences input.now edges) }
-{
-    let size = input.len() as u32;
-    let edges = references(alloc, input)?;
-    Edges::of(alloc, size, edges)
+    // its contract is about the rows that the signatures are of
+    let _rows = input.len();
+    refine(alloc, parts, &signatures.edges, &signatures.shapes)
 }

@@ -1,17 +1,19 @@
 -- Values that are laid down, or refused.
-use Rattle.std.proofs.Common.{◌≡◌, ◌<◌, ℕ, zero, suc, Bool, true, false, List, [], ◌∷◌, length, get_or, nat_eq, refl, sym, ◌∙◌, ap, subst, arith}
-use Rattle.std.specs.Prelude.{◌==◌, ◌&&◌}
-use Rattle.std.specs.List.{IsDistinct, list_any}
+use Rattle.std.proofs.Common.{◌≡◌, ◌<◌, ℕ, zero, suc, Bool, true, false, List, [], ◌∷◌, length, get_or, nat_eq, refl, sym, ◌∙◌, ap, arith}
+use Rattle.std.specs.Prelude.{◌&&◌, is_some}
+use Rattle.std.specs.List.{IsDistinct}
+use Rattle.population_rows.specs.declared.index.RowIndex.{RowIndex}
 use Rattle.step_values.specs.declared.value.PlainValue.{PlainValue}
 use Rattle.step_values.specs.Views.{value_of, values_of}
 use Rattle.step_equal.specs.declared.fault.PlainFault.{PlainFault}
 use Rattle.step_equal.specs.declared.fault.PlainFault.TheVariants.{TooManyRows, DuplicateRow, UnknownReference, Memory}
 use Rattle.step_equal.specs.declared.row.PlainRow.{PlainRow}
 use Rattle.step_equal.specs.ComputedClosure.{IsRefusal, references_pass, all_references_pass, rows_pass}
+use Rattle.step_equal.specs.ComputedPlaces.{Finds, is_found}
 use Rattle.step_equal.specs.Faults.{IsFaultOf}
 use Rattle.step_equal.specs.Rows.{Row, names, AreFew}
 use Rattle.step_equal.specs.Views.{rows_of}
-use Rattle.step_equal.proofs.Placing.{passes}
+use Rattle.step_equal.proofs.Placing.{name_placed, passes}
 
 -- what is refused is refused in more
 refused_too : (a b : Bool) → (a ≡ false → b ≡ false) → (e : PlainFault) → IsRefusal a e → IsRefusal b e
@@ -59,16 +61,17 @@ module _ (p : ℕ → Bool) where
       (row_fails rows i r l at)
 
 -- rows that are refused, with few names of which none stands twice, are no population
-pub refused_rows : (places : List ℕ) (rows : List Row) → places ≡ names rows → AreFew rows → IsDistinct nat_eq places
-    → (e : PlainFault) → IsRefusal (rows_pass (λ y. list_any (nat_eq y) places) rows) e → IsFaultOf rows e
-refused_rows places rows same few distinct TooManyRows r = absurd r
-refused_rows places rows same few distinct DuplicateRow r = absurd r
-refused_rows places rows same few distinct UnknownReference r = (
+pub refused_rows : (index : RowIndex) (rows : List Row) → Finds index (names rows) → AreFew rows
+    → IsDistinct nat_eq (names rows) → (e : PlainFault) → IsRefusal (rows_pass (is_found index) rows) e
+    → IsFaultOf rows e
+refused_rows index rows finds few distinct TooManyRows r = absurd r
+refused_rows index rows finds few distinct DuplicateRow r = absurd r
+refused_rows index rows finds few distinct UnknownReference r = (
   few,
-  subst (IsDistinct (◌==◌)) same distinct,
-  λ population. both_ways _ (passes places rows same population) r,
+  distinct,
+  λ population. both_ways _ (passes (is_found index) rows (λ y. ap is_some (finds y) ∙ name_placed rows y) population) r,
 )
   where
     both_ways : (t : Bool) → t ≡ true → t ≡ false → ⊥
     both_ways t h f = absurd (cc)
-refused_rows places rows same few distinct Memory r = tt
+refused_rows index rows finds few distinct Memory r = tt

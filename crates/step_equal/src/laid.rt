@@ -6,14 +6,12 @@ ghost use Rattle.std.specs.Prelude.{
   ◌++◌,
   ◌∷◌,
   [],
-  nat_eq,
   length,
   map,
   IfOk,
   IfErr,
   OnOk,
 };
-ghost use Rattle.indexmap.specs.IndexSet.{contains};
 ghost use Rattle.step_values.specs.Targets.{LeadTo, ReferTo};
 ghost use Rattle.step_values.specs.Values.{reference};
 ghost use Rattle.step_values.specs.Views.{value_of, values_of};
@@ -23,11 +21,12 @@ ghost use Rattle.step_equal.specs.ComputedClosure.{
   all_references_pass,
   rows_pass,
 };
+ghost use Rattle.step_equal.specs.ComputedPlaces.{Finds, is_found};
 ghost use Rattle.step_equal.specs.Views.{rows_of, values_within};
 
 use crate::fault::PlainFault;
-use crate::places::Names;
 use crate::row::PlainRow;
+use population_rows::index::RowIndex;
 use std::alloc::Global;
 use step_values::row_builder::RowBuilder;
 use step_values::rows::ValueRows;
@@ -40,16 +39,16 @@ use step_values::value::PlainValue;
 pub(crate) fn laid_down<'a>(
     alloc: Global,
     names: &[u64],
-    places: &Names,
+    places: &RowIndex,
     rows: &[PlainRow<'a>],
 ) -> Result<ValueRows<'a>, PlainFault>
-    requires places { places.now.keys ≡ names.now }
+    requires places { Finds places.now names.now }
     requires few { length names.now < 4294967296 }
     ensures rows { IfOk result (λ v. v.rows ≡ map values_within rows.now) }
     ensures leads { IfOk result (λ v. LeadTo names.now v.targets) }
     ensures closed { IfOk result (λ v. ReferTo names.now v.rows) }
     ensures fault { IfErr result
-        (IsRefusal (rows_pass (contains nat_eq places.now) (rows_of rows.now))) }
+        (IsRefusal (rows_pass (is_found places.now) (rows_of rows.now))) }
 {
     let mut builder = RowBuilder::new(alloc, names);
     builder.reserve(rows.len(), rows.len())?;
@@ -64,16 +63,16 @@ pub(crate) fn laid_down<'a>(
 #[cycle(push)]
 fn push_value<'n, 'a>(
     builder: &mut RowBuilder<'n, 'a>,
-    places: &Names,
+    places: &RowIndex,
     value: &PlainValue<'a>,
 ) -> Result<(), PlainFault>
-    requires places { places.now.keys ≡ builder.old.names }
+    requires places { Finds places.now builder.old.names }
     requires few { length builder.old.names < 4294967296 }
     ensures pushed { OnOk result (builder.new ≡ record builder.old {
       pending = builder.old.pending ++ value_of value.now ∷ [];
     }) }
     ensures fault { IfErr result
-        (IsRefusal (references_pass (contains nat_eq places.now) (value_of value.now))) }
+        (IsRefusal (references_pass (is_found places.now) (value_of value.now))) }
 {
     match value {
         PlainValue::Unset => builder.push_unset()?,
@@ -105,16 +104,16 @@ fn push_value<'n, 'a>(
 #[cycle(push)]
 fn push_values<'n, 'a>(
     builder: &mut RowBuilder<'n, 'a>,
-    places: &Names,
+    places: &RowIndex,
     values: &[PlainValue<'a>],
 ) -> Result<(), PlainFault>
-    requires places { places.now.keys ≡ builder.old.names }
+    requires places { Finds places.now builder.old.names }
     requires few { length builder.old.names < 4294967296 }
     ensures pushed { OnOk result (builder.new ≡ record builder.old {
       pending = builder.old.pending ++ map value_of values.now;
     }) }
     ensures fault { IfErr result
-        (IsRefusal (all_references_pass (contains nat_eq places.now) (values_of values.now))) }
+        (IsRefusal (all_references_pass (is_found places.now) (values_of values.now))) }
 {
     for value in values {
         push_value(builder, places, value)?;
@@ -125,18 +124,18 @@ fn push_values<'n, 'a>(
 /// Pushes a reference to the row of a name.
 fn push_reference<'n, 'a>(
     builder: &mut RowBuilder<'n, 'a>,
-    places: &Names,
+    places: &RowIndex,
     name: u64,
 ) -> Result<(), PlainFault>
-    requires places { places.now.keys ≡ builder.old.names }
+    requires places { Finds places.now builder.old.names }
     requires few { length builder.old.names < 4294967296 }
     ensures pushed { OnOk result (builder.new ≡ record builder.old {
       pending = builder.old.pending ++ reference name ∷ [];
     }) }
-    ensures fault { IfErr result (IsRefusal (contains nat_eq places.now name)) }
+    ensures fault { IfErr result (IsRefusal (is_found places.now name)) }
 {
-    match places.get_index_of(&name) {
+    match places.find(name) {
         None => Err(PlainFault::UnknownReference),
-        Some(place) => Ok(builder.push_reference(name, place as u32)?),
+        Some(place) => Ok(builder.push_reference(name, place)?),
     }
 }

@@ -1,12 +1,23 @@
-//! The names of rows, found by hashing.
+//! The places of rows by their names, of which none stands twice.
 
-ghost use Rattle.std.specs.Prelude.{◌≡◌, ◌<◌, nat_eq, length, IfOk, IfErr, List};
+ghost use Rattle.std.specs.Prelude.{
+  ◌≡◌,
+  ◌<◌,
+  ◌↔◌,
+  nat_eq,
+  length,
+  IfOk,
+  IfErr,
+  IsTrue,
+  List,
+};
 ghost use Rattle.std.specs.List.{IsDistinct};
+ghost use Rattle.step_equal.specs.ComputedPlaces.{Finds};
 ghost use Rattle.step_equal.specs.Faults.{IsFaultOf};
 ghost use Rattle.step_equal.specs.Rows.{Row, names as names_of};
 
 use crate::fault::PlainFault;
-use indexmap::IndexSet;
+use population_rows::index::RowIndex;
 use std::alloc::Global;
 use std::hash::RandomState;
 
@@ -14,11 +25,7 @@ use std::hash::RandomState;
 /// 32 bits.
 const MOST_ROWS: usize = 4_294_967_295;
 
-/// The names of rows, in order. They are hashed by keys that the author of a text doesn't know, so
-/// that nobody can choose names that are slow to find.
-pub(crate) type Names = IndexSet<u64, RandomState>;
-
-/// The names as a set.
+/// The places of these names, in order. Where they are hashed, it is by these keys.
 ///
 /// Where there are more than 2^32 - 1 the fault is `TooManyRows`, else where one stands twice
 /// `DuplicateRow`; where memory runs out it is `Memory`.
@@ -26,8 +33,8 @@ pub(crate) fn places_of(
     alloc: Global,
     keys: RandomState,
     names: &[u64],
-) -> Result<Names, PlainFault>
-    ensures places { IfOk result (λ s. s.keys ≡ names.now) }
+) -> Result<RowIndex, PlainFault>
+    ensures places { IfOk result (λ index. Finds index names.now) }
     ensures few { IfOk result (λ _. length names.now < 4294967296) }
     ensures distinct { IfOk result (λ _. IsDistinct nat_eq names.now) }
     ensures fault { IfErr result (λ e. (rows : List Row) → names_of rows ≡ names.now
@@ -36,11 +43,25 @@ pub(crate) fn places_of(
     if names.len() > MOST_ROWS {
         return Err(PlainFault::TooManyRows);
     }
-    let mut places = IndexSet::with_capacity_and_hasher(alloc, names.len(), keys)?;
-    for name in names {
-        if !places.insert(*name)? {
-            return Err(PlainFault::DuplicateRow);
-        }
+    let places = RowIndex::of(alloc, keys, names)?;
+    if !is_each_in_place(&places, names) {
+        return Err(PlainFault::DuplicateRow);
     }
     Ok(places)
+}
+
+/// Whether each name is found where it stands. Of one that stands twice the first is found.
+fn is_each_in_place(places: &RowIndex, names: &[u64]) -> bool
+    requires places { Finds places.now names.now }
+    ensures { IsTrue result ↔ IsDistinct nat_eq names.now }
+{
+    for n in 0..names.len() {
+        let Some(place) = places.find(names[n]) else {
+            return false;
+        };
+        if place as usize != n {
+            return false;
+        }
+    }
+    true
 }

@@ -22,7 +22,7 @@ ghost use Rattle.step_values.specs.Cells.{value_nodes};
 ghost use Rattle.step_values.specs.NodeCounts.{nodes_in};
 ghost use Rattle.step_values.specs.Targets.{LeadTo, ReferTo, targets_of};
 ghost use Rattle.step_equal.specs.ComputedCodes.{coded_rows};
-ghost use Rattle.step_equal.specs.ComputedPlaces.{IsKept};
+ghost use Rattle.step_equal.specs.ComputedPlaces.{Finds, IsKept};
 ghost use Rattle.step_equal.specs.Faults.{IsFaultOf};
 ghost use Rattle.step_equal.specs.Rows.{Row, AreFew, IsPopulation, names, row_at};
 ghost use Rattle.step_equal.specs.Settled.{IsSettled};
@@ -38,9 +38,10 @@ ghost use Rattle.step_equal.specs.Views.{
 use crate::fault::PlainFault;
 use crate::laid::laid_down;
 use crate::parts::{head_names, heads_of, row_names, type_lists_of, types_at};
-use crate::places::{Names, places_of};
+use crate::places::places_of;
 use crate::row::{PlainRow, RowHead, RowSlot};
 use crate::settled::settle_type_lists;
+use population_rows::index::RowIndex;
 use std::alloc::{AllocError, Global};
 use std::hash::RandomState;
 use std::marker::Model;
@@ -56,7 +57,7 @@ pub struct Plain<'a> {
     heads: Vec<RowHead>,
     type_lists: Vec<Vec<Word<'a>>>,
     values: ValueRows<'a>,
-    places: Names,
+    places: RowIndex,
 }
 
 impl<'a> Model for Plain<'a> {
@@ -67,7 +68,7 @@ impl<'a> Model for Plain<'a> {
     ghost view = { λ p. rows_from (heads_seen (type_lists_of p.type_lists.items) p.heads.items) p.values.rows };
 
     ghost invariant = { λ p.
-        IsKept (heads_seen (type_lists_of p.type_lists.items) p.heads.items) p.values p.places.keys };
+        IsKept (heads_seen (type_lists_of p.type_lists.items) p.heads.items) p.values p.places };
 }
 
 impl<'a> Plain<'a> {
@@ -159,14 +160,17 @@ impl<'a> Plain<'a> {
         ensures { MatchOption result (row_at self.now name ≡ None)
             (λ i. (i < length self.now) × (slice_get self.now i ≡ row_at self.now name)) }
     {
-        self.places.get_index_of(&name)
+        let Some(place) = self.places.find(name) else {
+            return None;
+        };
+        Some(place as usize)
     }
 
     /// Whether a row has this name.
     pub fn contains(&self, name: u64) -> bool
         ensures { result ≡ is_some (row_at self.now name) }
     {
-        self.places.contains(&name)
+        self.places.find(name).is_some()
     }
 
     /// The values of all rows as one column, those of each row side by side: one cell for each node
@@ -208,14 +212,14 @@ fn settled<'a>(
     heads: Vec<RowHead>,
     type_lists: Vec<Vec<Word<'a>>>,
     values: ValueRows<'a>,
-    places: Names,
+    places: RowIndex,
 ) -> Result<Plain<'a>, AllocError>
     requires each { length heads.items ≡ length values.rows }
-    requires places { places.keys ≡ head_names heads.items }
-    requires few { length places.keys < 4294967296 }
-    requires distinct { IsDistinct nat_eq places.keys }
-    requires leads { LeadTo places.keys values.targets }
-    requires closed { ReferTo places.keys values.rows }
+    requires places { Finds places (head_names heads.items) }
+    requires few { length (head_names heads.items) < 4294967296 }
+    requires distinct { IsDistinct nat_eq (head_names heads.items) }
+    requires leads { LeadTo (head_names heads.items) values.targets }
+    requires closed { ReferTo (head_names heads.items) values.rows }
     ensures rows { IfOk result
         (λ p. AllZip IsSettled (rows_from
         (heads_seen (type_lists_of type_lists.entry.items) heads.items) values.entry.rows) p) }

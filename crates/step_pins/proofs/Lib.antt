@@ -1,4 +1,5 @@
 pub mod Pinning
+pub mod SameNames
 pub mod Listing
 pub mod Walking
 pub mod Classmates

@@ -41,6 +41,16 @@ impl Pins {
         self.names.contains(&name)
     }
 
+    /// Whether exactly the same names are pinned by others. It takes no memory.
+    pub fn are_same(&self, other: &Pins) -> bool
+        ensures { IsTrue result ↔ ((y : ℕ) → is_pinned self.now y ≡ is_pinned other.now y) }
+    {
+        // their contracts say that the names ascend
+        let _these = self.names.len();
+        let _others = other.names.len();
+        self.names == other.names
+    }
+
     /// These pins and, of each LIST or ARRAY OF UNIQUE of the population, the elements that have
     /// another instance of their class at the table's last round beside them
     /// (ISO 10303-11, 8.2.1 and 8.2.2).

@@ -1,11 +1,10 @@
 -- What is answered, where what comes before has passed.
-use Rattle.std.specs.Prelude.{◌≡◌, ℕ, List, Err}
+use Rattle.std.specs.Prelude.{◌≡◌, ℕ, List, Result, Ok, Err}
 use Rattle.std.proofs.Common.{inl, inr}
 use Rattle.step_structures.specs.Trees.{File}
 use Rattle.step_structures.specs.Texts as texts
 use Rattle.step_structures.specs.declared.fault.TextFault.{TextFault}
 use Rattle.step_structures.specs.declared.fault.TextFault.TheVariants as text_faults
-use Rattle.step_equal.specs.Rows.{Row}
 use Rattle.express_syntax.specs.Schemas.{Schema}
 use Rattle.express_syntax.specs.Texts as schema_texts
 use Rattle.express_syntax.specs.declared.fault.SchemaFault.{SchemaFault}
@@ -13,13 +12,28 @@ use Rattle.express_syntax.specs.declared.fault.SchemaFault.TheVariants as schema
 use Rattle.schema_semantics.specs.Faults.{IsResolved}
 use Rattle.schema_types.specs.Resolving.{IsNameFault}
 use Rattle.conformance.specs.Choices.{Choice, chosen_names}
+use Rattle.conformance.specs.Populations.{Instance}
 use Rattle.pin_choices.specs.Chosen.{IsChoiceFault}
+use Rattle.step_population.specs.Verdicts.{IsTyped}
+use Rattle.merged_populations.specs.Headline.{ChecksProve}
 use Rattle.files.specs.declared.fault.Role.TheVariants as roles
 use Rattle.verifying.specs.declared.fault.TablesFault.{TablesFault}
 use Rattle.verifying.specs.declared.fault.TablesFault.TheVariants as tables
+use Rattle.verifying.specs.declared.proof.Proof.{Proof}
+use Rattle.verifying.specs.declared.tables.Judged.{Judged}
 use Rattle.verifying.specs.Faults.{schema_fault, text_fault, tables_fault}
 use Rattle.verifying.specs.Verifying.{Settles, IsInput, IsOutput, Verifies}
-use Rattle.verifying.specs.ComputedPassing.{IsJudgement}
+use Rattle.verifying.specs.ComputedPassing.{AnswersTyped, IsAnswer, IsJudgement}
+use Rattle.verifying.proofs.Accepting.{proves}
+
+-- nothing is wrong with the output's instances one by one
+output_is : (s : Schema) (output header_bytes : List ℕ) (g : File) (js : List Instance) → texts.ReadsAs output header_bytes g
+    → IsTyped s g js → IsOutput s output g
+output_is s output header_bytes g js reads typed = record {
+  header_bytes = header_bytes;
+  reads = reads;
+  nothing = λ said. (typed.1 said.domain said.entities said.is_domain said.are_entities).0;
+}
 
 module _ (schema input output certificate : List ℕ) (choice : Choice) where
   pub unread_schema : (e : SchemaFault) → schema_texts.IsFaultOf schema e
@@ -53,8 +67,26 @@ module _ (schema input output certificate : List ℕ) (choice : Choice) where
         unread_output (text_faults.Fault kind place) h = (s, settles, (f, reads, h))
         unread_output text_faults.Memory h = tt
 
-        pub refused : (g : File) → IsOutput s output g → (rows image : List Row) → (e : TablesFault)
-            → IsJudgement s (chosen_names s choice) f g rows image certificate (Err e)
-            → Verifies schema input output certificate choice (Err (tables_fault e))
-        refused g out rows image (tables.Refused refusal) h = (s, settles, (f, reads, (g, out, h)))
-        refused g out rows image tables.Memory h = tt
+        module _ (j : Result Judged TablesFault) (judged : IsJudgement s (chosen_names s choice) f certificate j)
+            (header_bytes : List ℕ) (g : File) (out : texts.ReadsAs output header_bytes g) (js : List Instance)
+            (typed : IsTyped s g js) where
+          answered : (r : Result Proof TablesFault) → AnswersTyped s f j g js r
+              → IsAnswer s (chosen_names s choice) f certificate g r
+          answered r h = h (chosen_names s choice) certificate judged
+              (λ said. (typed.1 said.domain said.entities said.is_domain said.are_entities).1)
+
+          pub refused : (e : TablesFault) → AnswersTyped s f j g js (Err e)
+              → Verifies schema input output certificate choice (Err (tables_fault e))
+          refused (tables.Refused refusal) h =
+              (s, settles, (f, reads, (g, output_is s output header_bytes g js out typed, answered (Err (tables.Refused refusal)) h)))
+          refused tables.Memory h = tt
+
+          pub proved : ChecksProve → (p : Proof) → AnswersTyped s f j g js (Ok p)
+              → Verifies schema input output certificate choice (Ok p)
+          proved law p h = let a = answered (Ok p) h in (
+            s,
+            settles,
+            proves s (chosen_names s choice) input output certificate f g reads
+                (output_is s output header_bytes g js out typed) a.both a.image a.are_rows a.merged law p a.instances
+                a.kept a.rounds,
+          )

@@ -1,4 +1,11 @@
 mod Judging
+mod Comparing
 mod Accepting
 mod Answering
 mod Weak
+mod Reading
+mod Told
+mod Levels
+mod Reached
+mod Refusals
+mod Oneness

@@ -117,6 +117,17 @@ impl<'s> From<AllocError> for VerifyFault<'s> {
     }
 }
 
+impl<'s> From<TablesFault> for VerifyFault<'s> {
+    ghost from_gives = { λ fault e. e ≡ tables_fault fault };
+
+    fn from(fault: TablesFault) -> VerifyFault<'s> {
+        match fault {
+            TablesFault::Refused(refusal) => VerifyFault::Certificate(refusal),
+            TablesFault::Memory => VerifyFault::Other(Fault::Memory),
+        }
+    }
+}
+
 /// The fault of a schema that isn't read or resolved, or that lacks a chosen name.
 pub(crate) fn of_schema<'s>(fault: SchemaFault) -> VerifyFault<'s>
     ensures { result ≡ schema_fault fault }
@@ -134,15 +145,5 @@ pub(crate) fn of_text<'s>(role: Role, fault: TextFault) -> VerifyFault<'s>
     match fault {
         TextFault::Memory => VerifyFault::Other(Fault::Memory),
         TextFault::Fault { kind, place } => VerifyFault::Other(Fault::Text { role, kind, place }),
-    }
-}
-
-/// The fault where the two tables aren't accepted.
-pub(crate) fn of_tables<'s>(fault: TablesFault) -> VerifyFault<'s>
-    ensures { result ≡ tables_fault fault }
-{
-    match fault {
-        TablesFault::Refused(refusal) => VerifyFault::Certificate(refusal),
-        TablesFault::Memory => VerifyFault::Other(Fault::Memory),
     }
 }

@@ -4,7 +4,10 @@
 
 pub mod fault;
 mod input;
+pub mod laws;
 mod output;
 pub mod proof;
+mod rows;
+pub mod sources;
 mod tables;
 pub mod verify;

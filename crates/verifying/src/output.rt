@@ -1,117 +1,158 @@
-//! An output, and the certificate that says that it is the least image of an input.
+//! An output, compared with what comes of an input.
 
-ghost use Rattle.std.specs.Prelude.{◌≡◌};
+ghost use Rattle.std.specs.Prelude.{◌↔◌, IfOk, IsTrue, Ok};
 ghost use Rattle.express_syntax.specs.SchemaViews.{schema_of};
 ghost use Rattle.schema_types.specs.Made.{IsMade};
 ghost use Rattle.step_exchange.specs.Exchanges.{structure};
-ghost use Rattle.step_pins.specs.Pinned.{is_pinned};
+ghost use Rattle.step_equal.specs.Images.{quotient};
+ghost use Rattle.step_equal.specs.Rows.{SamePopulation};
+ghost use Rattle.step_equal.specs.Tables.{shares};
+ghost use Rattle.step_equal.specs.TableViews.{table_of};
+ghost use Rattle.step_headings.specs.Headings.{SameHeadings};
 ghost use Rattle.population_layouts.specs.Tables.{AreTables};
 ghost use Rattle.population_typed.specs.Seen.{population_seen};
-ghost use Rattle.verifying.specs.ComputedPassing.{AnswersClean, AnswersOutput};
+ghost use Rattle.verifying.specs.ComputedPassing.{
+  AnswersClean,
+  AnswersOutput,
+  AnswersTyped,
+  IsReady,
+};
 
-use crate::fault::{VerifyFault, of_tables, of_text};
+use crate::fault::{Refusal, TablesFault, VerifyFault, of_text};
 use crate::proof::Proof;
-use crate::tables::{Side, judge_certificate};
+use crate::rows::plain_rows;
+use crate::tables::Judged;
 use files::fault::Role;
+use merged_outputs::merged::is_merged;
 use merged_populations::laws::checks_prove;
 use population_layouts::tables::SchemaTables;
 use population_typed::population::Population;
-use std::alloc::Global;
+use schema_types::types::ResolvedTypes;
+use std::alloc::{AllocError, Global};
 use std::hash::RandomState;
 use step_equal::plain::Plain;
 use step_exchange::exchange::read_exchange;
-use step_pins::pins::Pins;
+use step_exchange::structure::Exchange;
+use step_headings::headings::same_headings;
 use step_population::populate::{Verdict, populate_by};
 
-/// The texts of an output and of its certificate.
-#[derive(Clone, Copy)]
-pub(crate) struct Claim<'o> {
-    pub output: &'o [u8],
-    pub certificate: &'o [u8],
+/// Whether an output with these rows is what comes of the input where the classes of its table are
+/// merged, with the headings of the input's sections.
+fn is_image<'a, 'r, 'b, 'q>(
+    alloc: Global,
+    input: &Exchange<'a>,
+    judged: &Judged<'r>,
+    output: &Exchange<'b>,
+    rows: &Plain<'q>,
+) -> Result<bool, AllocError>
+    requires { IsReady judged.now }
+    ensures { IfOk result (λ b. IsTrue b ↔ (SamePopulation rows.now
+        (quotient judged.now.rows (shares (table_of judged.now.table) judged.now.table.rounds))
+        × SameHeadings (structure input.now) (structure output.now))) }
+{
+    if !is_merged(alloc, &judged.rows, &judged.table, rows)? {
+        return Ok(false);
+    }
+    Ok(same_headings(input, output))
 }
 
-/// A file of which nothing is found: its population, the rows of it, and its weak pins.
-#[derive(Clone, Copy)]
-pub(crate) struct Input<'s, 't, 'r, 'a, 'e> {
-    pub population: &'e Population<'s, 't, 'r, 'a>,
-    pub rows: &'e Plain<'r>,
-    pub weak: &'e Pins,
-}
-
-/// What is proved by a certificate of an output with this population.
-fn verify_image<'s>(
+/// What is proved of an output with this population, where the tables of its certificate hold.
+fn compare<'s: 'r, 't, 'r, 'a, 'b, 'q>(
     alloc: Global,
     keys: RandomState,
-    input: &Input<'s, '_, '_, '_, '_>,
-    image: &Population<'_, '_, '_, '_>,
-    claim: &Claim<'_>,
-) -> Result<Proof, VerifyFault<'s>>
-    requires made { IsMade input.now.population.now.types.now }
-    requires same { image.now.types.now ≡ input.now.population.now.types.now }
-    ensures { AnswersOutput (schema_of input.now.population.now.types.now.names.schema.now)
-        claim.now.output.now claim.now.certificate.now result
-        (structure input.now.population.now.exchange.now)
-        (population_seen input.now.population.now) input.now.rows.now (is_pinned input.now.weak.now)
-        (structure image.now.exchange.now) (population_seen image.now) }
+    population: Population<'s, 't, 'r, 'a>,
+    input: &Exchange<'b>,
+    judged: &Judged<'q>,
+) -> Result<Proof, TablesFault>
+    requires { IsReady judged.now }
+    ensures { AnswersTyped (schema_of population.entry.types.now.names.schema.now)
+        (structure input.now) (Ok judged.now) (structure population.entry.exchange.now)
+        (population_seen population.entry) result }
 {
-    checks_prove();
-    let rows = image.plain(alloc, keys)?;
-    let instances = input.rows.len() as u64;
+    let output = population.exchange;
+    let rows = plain_rows(alloc, keys, population)?;
+    let instances = judged.rows.len() as u64;
     let kept = rows.len() as u64;
-    let from = Side {
-        exchange: input.population.exchange,
-        rows: input.rows,
-    };
-    let to = Side {
-        exchange: image.exchange,
-        rows: &rows,
-    };
-    let judgement = judge_certificate(
-        alloc,
-        keys,
-        input.population,
-        input.weak,
-        &from,
-        &to,
-        claim.certificate,
-    );
-    match judgement {
-        Ok(rounds) => Ok(Proof {
-            instances,
-            kept,
-            rounds,
-        }),
-        Err(fault) => Err(of_tables(fault)),
+    if !is_image(alloc, input, judged, output, &rows)? {
+        return Err(TablesFault::Refused(Refusal::NotTheImage));
+    }
+    Ok(Proof {
+        instances,
+        kept,
+        rounds: judged.table.rounds,
+    })
+}
+
+/// What is proved of an output with this population, or else what was found of the tables of its
+/// certificate.
+fn answer<'s: 'r, 't, 'r, 'a, 'b, 'q>(
+    alloc: Global,
+    keys: RandomState,
+    population: Population<'s, 't, 'r, 'a>,
+    input: &Exchange<'b>,
+    judged: &Result<Judged<'q>, TablesFault>,
+) -> Result<Proof, TablesFault>
+    requires { IfOk judged.now IsReady }
+    ensures { AnswersTyped (schema_of population.entry.types.now.names.schema.now)
+        (structure input.now) judged.now (structure population.entry.exchange.now)
+        (population_seen population.entry) result }
+{
+    match judged {
+        Ok(judged) => compare(alloc, keys, population, input, judged),
+        Err(fault) => Err(*fault),
     }
 }
 
-/// What is proved of an output by its certificate.
-pub(crate) fn verify_output<'s>(
+/// What is proved of an output that reads as this structure.
+fn verify_image<'s: 'r, 't, 'r, 'b, 'q>(
     alloc: Global,
     keys: RandomState,
+    types: &'r ResolvedTypes<'s, 't>,
     tables: &SchemaTables,
-    input: &Input<'s, '_, '_, '_, '_>,
-    claim: &Claim<'_>,
+    image: &'r Exchange<'_>,
+    input: &Exchange<'b>,
+    judged: &Result<Judged<'q>, TablesFault>,
 ) -> Result<Proof, VerifyFault<'s>>
-    requires made { IsMade input.now.population.now.types.now }
-    requires tables { AreTables input.now.population.now.types.now tables.now }
-    ensures { AnswersClean (schema_of input.now.population.now.types.now.names.schema.now)
-        claim.now.output.now claim.now.certificate.now result
-        (structure input.now.population.now.exchange.now)
-        (population_seen input.now.population.now) input.now.rows.now
-        (is_pinned input.now.weak.now) }
+    requires made { IsMade types.now }
+    requires tables { AreTables types.now tables.now }
+    requires ready { IfOk judged.now IsReady }
+    ensures { AnswersOutput (schema_of types.entry.now.names.schema.now) (structure input.now)
+        judged.now result (structure image.entry.now) }
 {
-    let exchange = match read_exchange(alloc, keys, claim.output) {
-        Ok(exchange) => exchange,
-        Err(fault) => return Err(of_text(Role::Output, fault)),
-    };
-    let verdict = populate_by(alloc, keys, input.population.types, tables, &exchange)?;
+    checks_prove();
+    let verdict = populate_by(alloc, keys, types, tables, image)?;
     match verdict {
-        Verdict::Typed(image) => verify_image(alloc, keys, input, &image, claim),
+        Verdict::Typed(population) => {
+            let proof = answer(alloc, keys, population, input, judged)?;
+            Ok(proof)
+        }
         Verdict::Faulty(findings) => Err(VerifyFault::Refused {
             role: Role::Output,
             findings,
             rules: Vec::new(alloc),
         }),
+    }
+}
+
+/// What is proved of an output, where nothing is found of the input, which reads as this structure,
+/// and this is found of the certificate's tables.
+pub(crate) fn verify_output<'s>(
+    alloc: Global,
+    keys: RandomState,
+    types: &ResolvedTypes<'s, '_>,
+    tables: &SchemaTables,
+    input: &Exchange<'_>,
+    judged: &Result<Judged<'_>, TablesFault>,
+    output: &[u8],
+) -> Result<Proof, VerifyFault<'s>>
+    requires made { IsMade types.now }
+    requires tables { AreTables types.now tables.now }
+    requires ready { IfOk judged.now IsReady }
+    ensures { AnswersClean (schema_of types.now.names.schema.now) (structure input.now) judged.now
+        result output.now }
+{
+    match read_exchange(alloc, keys, output) {
+        Ok(image) => verify_image(alloc, keys, types, tables, &image, input, judged),
+        Err(fault) => Err(of_text(Role::Output, fault)),
     }
 }

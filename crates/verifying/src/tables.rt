@@ -1,147 +1,176 @@
-//! The tables of a certificate.
+//! The tables of a certificate, judged by the input alone.
 
-ghost use Rattle.std.specs.Prelude.{ℕ, ◌↔◌, IfOk, IsTrue, List, MatchResult};
+ghost use Rattle.std.specs.Prelude.{◌≡◌, ℕ, IfOk, List, MatchResult};
+ghost use Rattle.std.specs.Bool.{OnTrue};
 ghost use Rattle.certificate_text.specs.Texts.{IsCertificate};
 ghost use Rattle.express_syntax.specs.SchemaViews.{schema_of};
+ghost use Rattle.conformance.specs.PlainRows.{AreRowsOf};
 ghost use Rattle.schema_semantics.specs.Names.{Name};
 ghost use Rattle.schema_types.specs.Made.{IsMade};
 ghost use Rattle.step_exchange.specs.Exchanges.{structure};
-ghost use Rattle.step_equal.specs.Images.{quotient};
-ghost use Rattle.step_equal.specs.Rows.{SamePopulation};
+ghost use Rattle.step_equal.specs.Rows.{IsPopulation};
 ghost use Rattle.step_equal.specs.Standard.{IsWellFormed};
-ghost use Rattle.step_equal.specs.Tables.{HasMembers, IsValid, shares};
+ghost use Rattle.step_equal.specs.Tables.{IsValid};
 ghost use Rattle.step_equal.specs.TableViews.{table_of};
-ghost use Rattle.step_headings.specs.Headings.{SameHeadings};
+ghost use Rattle.row_shapes.specs.Signatures.{AreSignatures};
 ghost use Rattle.step_pins.specs.Pinned.{is_pinned};
 ghost use Rattle.population_typed.specs.Seen.{population_seen};
-ghost use Rattle.verifying.specs.Verifying.{AreRows};
 ghost use Rattle.verifying.specs.ComputedPassing.{
   AddBeside,
+  AreFaulty,
   AreKnown,
+  AreValid,
   IsJudgement,
+  IsReady,
   IsTableFault,
 };
 
-use crate::fault::{Refusal, TablesFault};
+use crate::fault::TablesFault;
+use crate::rows::plain_rows;
 use certificate_text::read::read_certificate;
-use judged_grounds::judge::judge;
-use merged_outputs::merged::is_merged;
+use judged_grounds::judge::judge_by;
 use population_typed::population::Population;
+use row_shapes::signatures::{Signatures, signatures_of};
 use std::alloc::{AllocError, Global};
 use std::hash::RandomState;
+use step_equal::laws::equal_tables_are_the_same;
 use step_equal::plain::Plain;
 use step_equal::table::Table;
-use step_exchange::structure::Exchange;
-use step_headings::headings::same_headings;
 use step_pins::pins::Pins;
 
-/// A file that is read, and the rows of its instances.
-#[derive(Clone, Copy)]
-pub(crate) struct Side<'a, 'r, 'e> {
-    pub exchange: &'e Exchange<'a>,
-    pub rows: &'e Plain<'r>,
+/// The rows of an input, and the table by whose classes they are merged.
+#[derive(Drop)]
+pub(crate) struct Judged<'r> {
+    pub rows: Plain<'r>,
+    pub table: Table,
 }
 
-/// The gentle pins that the first table gives, where it is valid under the weak ones.
-fn gentle_pins(
+/// The rows of an input, and its gentle pins by the classes of a table. Its population isn't needed
+/// then.
+fn pinned_rows<'s: 'r, 't, 'r, 'a>(
     alloc: Global,
     keys: RandomState,
-    population: &Population<'_, '_, '_, '_>,
+    population: Population<'s, 't, 'r, 'a>,
+    weak: &Pins,
+    first: &Table,
+) -> Result<(Plain<'r>, Pins), AllocError>
+    requires made { IsMade population.types.now }
+    ensures rows { IfOk result (λ p. AreRowsOf
+        (schema_of population.entry.types.now.names.schema.now) (population_seen population.entry)
+        p.0) }
+    ensures population { IfOk result (λ p. IsPopulation p.0) }
+    ensures pins { IfOk result (λ p. AddBeside
+        (schema_of population.entry.types.now.names.schema.now) (population_seen population.entry)
+        (is_pinned weak.now) (table_of first.now) (is_pinned p.1)) }
+{
+    let gentle = weak.gentle(alloc, &population, first)?;
+    let rows = plain_rows(alloc, keys, population)?;
+    Ok((rows, gentle))
+}
+
+/// Whether a table is valid under these pins.
+fn judge_under(
+    alloc: Global,
+    keys: RandomState,
+    rows: &Plain<'_>,
+    pins: &Pins,
+    signatures: &Signatures,
+    table: &Table,
+) -> Result<(), TablesFault>
+    requires well_formed { IsWellFormed (table_of table.now) }
+    requires signatures { AreSignatures rows.now signatures.now }
+    ensures { MatchResult result
+        (λ _. IsValid rows.now (is_pinned pins.now) (table_of table.now))
+        (IsTableFault rows.now (is_pinned pins.now) (table_of table.now)) }
+{
+    judge_by(alloc, keys, rows, pins.names(), signatures, table)?;
+    Ok(())
+}
+
+/// Whether one table is another, and the same is pinned: what is found of the one is found of the
+/// other.
+fn is_judged(weak: &Pins, gentle: &Pins, first: &Table, second: &Table) -> bool
+    ensures pins { OnTrue result (is_pinned gentle.now ≡ is_pinned weak.now) }
+    ensures tables { OnTrue result (table_of second.now ≡ table_of first.now) }
+{
+    equal_tables_are_the_same();
+    weak.are_same(gentle) && first == second
+}
+
+/// Whether the first table is valid under the weak pins, and the second one under the gentle pins.
+fn judge_tables(
+    alloc: Global,
+    keys: RandomState,
     rows: &Plain<'_>,
     weak: &Pins,
-    first: &Table,
-) -> Result<Pins, TablesFault>
-    requires made { IsMade population.now.types.now }
-    requires well_formed { IsWellFormed (table_of first.now) }
-    ensures { MatchResult result
-        (λ pins. IsValid rows.now (is_pinned weak.now) (table_of first.now)
-        × AddBeside (schema_of population.now.types.now.names.schema.now)
-        (population_seen population.now) (is_pinned weak.now) (table_of first.now) (is_pinned pins))
-        (IsTableFault rows.now (is_pinned weak.now) (table_of first.now)) }
-{
-    judge(alloc, keys, rows, weak.names(), first)?;
-    let gentle = weak.gentle(alloc, population, first)?;
-    Ok(gentle)
-}
-
-/// Whether the output is what comes of the input where the classes of a table are merged, with the
-/// headings of the input's sections.
-fn is_image<'a, 'r, 'b, 'q>(
-    alloc: Global,
-    input: &Side<'a, 'r, '_>,
-    table: &Table,
-    output: &Side<'b, 'q, '_>,
-) -> Result<bool, AllocError>
-    requires members { HasMembers input.now.rows.now (table_of table.now) }
-    requires well_formed { IsWellFormed (table_of table.now) }
-    ensures { IfOk result (λ b. IsTrue b ↔ (SamePopulation output.now.rows.now
-        (quotient input.now.rows.now (shares (table_of table.now) table.now.rounds))
-        × SameHeadings (structure input.now.exchange.now) (structure output.now.exchange.now))) }
-{
-    if !is_merged(alloc, input.rows, table, output.rows)? {
-        return Ok(false);
-    }
-    Ok(same_headings(input.exchange, output.exchange))
-}
-
-/// The last round of the second table, where both tables are valid, the second one under the gentle
-/// pins that the first one gives, and the output is what comes of the input where the classes of the
-/// second one are merged.
-fn judge_tables<'a, 'r, 'b, 'q>(
-    alloc: Global,
-    keys: RandomState,
-    population: &Population<'_, '_, '_, '_>,
-    weak: &Pins,
-    input: &Side<'a, 'r, '_>,
-    output: &Side<'b, 'q, '_>,
+    gentle: &Pins,
     first: &Table,
     second: &Table,
-) -> Result<u32, TablesFault>
-    requires made { IsMade population.now.types.now }
+) -> Result<(), TablesFault>
     requires first { IsWellFormed (table_of first.now) }
     requires second { IsWellFormed (table_of second.now) }
-    ensures { (chosen : List Name) (certificate : List ℕ)
-        → IsCertificate certificate (table_of first.now) (table_of second.now)
-        → AreKnown (schema_of population.now.types.now.names.schema.now) chosen
-        (structure input.now.exchange.now) (population_seen population.now) input.now.rows.now
-        (is_pinned weak.now)
-        → AreRows (schema_of population.now.types.now.names.schema.now)
-        (structure output.now.exchange.now) output.now.rows.now
-        → IsJudgement (schema_of population.now.types.now.names.schema.now) chosen
-        (structure input.now.exchange.now) (structure output.now.exchange.now)
-        input.now.rows.now output.now.rows.now certificate result }
+    ensures { MatchResult result
+        (λ _. AreValid rows.now (is_pinned weak.now) (is_pinned gentle.now) (table_of first.now)
+        (table_of second.now))
+        (AreFaulty rows.now (is_pinned weak.now) (is_pinned gentle.now) (table_of first.now)
+        (table_of second.now)) }
 {
-    let gentle = gentle_pins(alloc, keys, population, input.rows, weak, first)?;
-    judge(alloc, keys, input.rows, gentle.names(), second)?;
-    if !is_image(alloc, input, second, output)? {
-        return Err(TablesFault::Refused(Refusal::NotTheImage));
+    let signatures = signatures_of(alloc, keys, rows)?;
+    judge_under(alloc, keys, rows, weak, &signatures, first)?;
+    if is_judged(weak, gentle, first, second) {
+        return Ok(());
     }
-    Ok(second.rounds)
+    judge_under(alloc, keys, rows, gentle, &signatures, second)
 }
 
-/// .. of the tables of a certificate.
-pub(crate) fn judge_certificate<'a, 'r, 'b, 'q>(
+/// What is merged by these tables of a certificate, where both are valid, the second one under the
+/// gentle pins that the first one gives.
+fn judge_pair<'s: 'r, 't, 'r, 'a>(
     alloc: Global,
     keys: RandomState,
-    population: &Population<'_, '_, '_, '_>,
+    population: Population<'s, 't, 'r, 'a>,
     weak: &Pins,
-    input: &Side<'a, 'r, '_>,
-    output: &Side<'b, 'q, '_>,
-    certificate: &[u8],
-) -> Result<u32, TablesFault>
-    requires made { IsMade population.now.types.now }
-    ensures { (chosen : List Name)
-        → AreKnown (schema_of population.now.types.now.names.schema.now) chosen
-        (structure input.now.exchange.now) (population_seen population.now) input.now.rows.now
+    first: &Table,
+    second: Table,
+) -> Result<Judged<'r>, TablesFault>
+    requires made { IsMade population.types.now }
+    requires first { IsWellFormed (table_of first.now) }
+    requires second { IsWellFormed (table_of second) }
+    ensures judged { (chosen : List Name) (certificate : List ℕ)
+        → IsCertificate certificate (table_of first.now) (table_of second)
+        → AreKnown (schema_of population.entry.types.now.names.schema.now) chosen
+        (structure population.entry.exchange.now) (population_seen population.entry)
         (is_pinned weak.now)
-        → AreRows (schema_of population.now.types.now.names.schema.now)
-        (structure output.now.exchange.now) output.now.rows.now
-        → IsJudgement (schema_of population.now.types.now.names.schema.now) chosen
-        (structure input.now.exchange.now) (structure output.now.exchange.now)
-        input.now.rows.now output.now.rows.now certificate.now result }
+        → IsJudgement (schema_of population.entry.types.now.names.schema.now) chosen
+        (structure population.entry.exchange.now) certificate result }
+    ensures ready { IfOk result IsReady }
 {
-    let tables = read_certificate(alloc, certificate)?;
-    judge_tables(
-        alloc, keys, population, weak, input, output, &tables.0, &tables.1,
-    )
+    let (rows, gentle) = pinned_rows(alloc, keys, population, weak, first)?;
+    judge_tables(alloc, keys, &rows, weak, &gentle, first, &second)?;
+    Ok(Judged {
+        rows,
+        table: second,
+    })
+}
+
+/// What is merged of an input with this population and these weak pins by a certificate, where its
+/// tables hold.
+pub(crate) fn judge_certificate<'s: 'r, 't, 'r, 'a>(
+    alloc: Global,
+    keys: RandomState,
+    population: Population<'s, 't, 'r, 'a>,
+    weak: &Pins,
+    certificate: &[u8],
+) -> Result<Judged<'r>, TablesFault>
+    requires made { IsMade population.types.now }
+    ensures judged { (chosen : List Name)
+        → AreKnown (schema_of population.entry.types.now.names.schema.now) chosen
+        (structure population.entry.exchange.now) (population_seen population.entry)
+        (is_pinned weak.now)
+        → IsJudgement (schema_of population.entry.types.now.names.schema.now) chosen
+        (structure population.entry.exchange.now) certificate.now result }
+    ensures ready { IfOk result IsReady }
+{
+    let (first, second) = read_certificate(alloc, certificate)?;
+    judge_pair(alloc, keys, population, weak, &first, second)
 }

@@ -4,8 +4,7 @@ ghost use Rattle.pin_choices.specs.Chosen.{choice_of};
 ghost use Rattle.verifying.specs.Verifying.{Verifies};
 
 use crate::fault::{VerifyFault, of_schema};
-use crate::input::verify_input;
-use crate::output::Claim;
+use crate::input::{Claim, verify_input};
 use crate::proof::Proof;
 use express_text::read_schema;
 use express_types::resolving::resolve;

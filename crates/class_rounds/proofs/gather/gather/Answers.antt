@@ -1,21 +1,23 @@
-use Rattle.std.proofs.Common.{◌≡◌, arith, subst}
+use Rattle.std.proofs.Common.{◌≡◌, arith, subst, sym}
 use Rattle.class_parts.specs.Laid.{size}
 use Rattle.class_parts.specs.Views.{layout}
 use Rattle.class_rounds.specs.Steps.{Gathers}
+use Rattle.class_rounds.specs.Steps.{AreFrom}
 use Rattle.class_rounds.proofs.Gathering.{edges_from, gathers_more}
 use Rattle.class_rounds.proofs.gather.gather.Goals as goal
 
 pub push_members-requires-clause-there : goal.push_members-requires-clause-there
 push_members-requires-clause-there c =
-    edges_from (size (layout c.args.parts.now)) c.args.edges.now c.requires.edges
+    subst (λ n. AreFrom n c.args.edges.now) (sym c.requires.places)
+    (edges_from (size (layout c.args.parts.now)) c.args.edges.now c.requires.edges)
 
 pub loop-class-preserved : goal.loop-class-preserved
 loop-class-preserved c =
-    gathers_more c.args.edges.now (layout c.args.parts.now) c.args.low c.loop-class.class _ _ c.members.result.now
+    gathers_more c.args.edges.now (layout c.args.parts.now) (layout c.args.groups.now) c.args.low c.loop-class.class _ _ c.members.result.now
     (omega arith) c.loop-class.invariant c.members.ensures c.in_ok-push_members.ensures
 
 pub returns : goal.returns
 returns c =
     let done : c.loop-class.class ≡ c.args.high = omega arith in
-    subst (λ k. Gathers c.args.edges.now (layout c.args.parts.now) c.args.low k c.loop-class.pairs.items) done
-    c.loop-class.invariant
+    subst (λ k. Gathers c.args.edges.now (layout c.args.parts.now) (layout c.args.groups.now) c.args.low k
+    c.loop-class.pairs.items) done c.loop-class.invariant

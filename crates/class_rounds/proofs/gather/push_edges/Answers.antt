@@ -10,12 +10,12 @@ loop-edge-preserved c =
     let es : List Edge = c.args.edges.now in
     let k : ℕ = c.loop-edge.edge-index in
     let inside : k < length es = omega arith in
-    adds_both (layout c.args.parts.now) c.args.class _ _ (IsFirst es (k + 1)) _ _ _ c.loop-edge.invariant
+    adds_both (layout c.args.groups.now) c.args.class _ _ (IsFirst es (k + 1)) _ _ _ c.loop-edge.invariant
     c.in_ok-push_edge.ensures (λ e. first_more es k _ (record { position = 0; source = 0; target = 0 }) e inside refl)
 
 pub returns : goal.returns
 returns c =
     let es : List Edge = c.args.edges.now in
     let done : c.loop-edge.edge-index ≡ length es = omega arith in
-    subst (λ k. Adds (layout c.args.parts.now) c.args.class (IsFirst es k) c.args.pairs.now.items c.loop-edge.pairs.items)
+    subst (λ k. Adds (layout c.args.groups.now) c.args.class (IsFirst es k) c.args.pairs.now.items c.loop-edge.pairs.items)
     done c.loop-edge.invariant

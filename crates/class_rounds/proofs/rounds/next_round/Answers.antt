@@ -9,7 +9,7 @@ use Rattle.class_rounds.proofs.rounds.next_round.Goals as goal
 pub part_by_pairs-requires-clause-places : goal.part_by_pairs-requires-clause-places
 part_by_pairs-requires-clause-places c =
     let p : Layout = layout c.args.parts.now in
-    gathered_places c.args.edges.now p c.args.low c.class_count-high.result (size p) c.in_ok-pairs.pairs.items
+    gathered_places c.args.edges.now p p c.args.low c.class_count-high.result (size p) c.in_ok-pairs.pairs.items
     c.in_ok-pairs.ensures c.requires.edges
 
 pub returns : goal.returns
@@ -18,5 +18,5 @@ returns c =
     let high_is : c.class_count-high.result ≡ count p = c.class_count-high.ensures in
     rounds_part c.args.edges.now p c.args.low c.in_ok-pairs.pairs.items
     (λ x l. (c.requires.laid.within x l).known) c.requires.edges
-    (subst (λ k. Gathers c.args.edges.now p c.args.low k c.in_ok-pairs.pairs.items) high_is c.in_ok-pairs.ensures)
+    (subst (λ k. Gathers c.args.edges.now p p c.args.low k c.in_ok-pairs.pairs.items) high_is c.in_ok-pairs.ensures)
     (layout c.part_by_pairs.new.self) c.in_ok-part_by_pairs.ensures

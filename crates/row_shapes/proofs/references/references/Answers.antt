@@ -9,9 +9,9 @@ use Rattle.row_shapes.proofs.references.references.Goals as goal
 
 pub loop-place-init : goal.loop-place-init
 loop-place-init c =
-    let empty = ap length c.new-edges.ensures.items in
+    let empty = ap length c.in_ok-edges.ensures.items in
     record {
-      edges = subst (AreOfFirst c.args.input.now 0) (sym c.new-edges.ensures.items) (of_none c.args.input.now);
+      edges = subst (AreOfFirst c.args.input.now 0) (sym c.in_ok-edges.ensures.items) (of_none c.args.input.now);
       count = omega (arith, empty);
     }
 

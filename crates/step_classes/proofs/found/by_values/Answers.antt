@@ -8,10 +8,11 @@ pub returns : goal.returns
 returns c =
     let start = layout c.args.parts.now in
     let end = layout c.refine.new.parts in
+    let signatures = c.args.signatures.now in
     IfOk-weaker c.refine.result _ _ (λ rounds h. record {
-      edges = c.in_ok-edges.edges;
-      shapes = c.in_ok-shapes.shapes.items;
-      references = c.in_ok-edges.ensures;
-      shaped = record { each = c.in_ok-shapes.ensures.length; tell = c.in_ok-shapes.ensures.shapes };
-      refined = subst (λ ns. IsRefined c.in_ok-edges.edges ns start end rounds.counts.items) c.deref.ensures.value h;
+      edges = signatures.edges;
+      shapes = signatures.shapes.items;
+      references = c.requires.signatures.references;
+      shaped = c.requires.signatures.shaped;
+      refined = subst (λ ns. IsRefined signatures.edges ns start end rounds.counts.items) c.deref.ensures.value h;
     }) c.refine.ensures

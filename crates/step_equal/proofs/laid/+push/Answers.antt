@@ -1,11 +1,10 @@
-use Rattle.std.proofs.Common.{nat_eq}
 use Rattle.std.proofs.lemmas.Result.{err_from_is_err_and}
-use Rattle.indexmap.specs.IndexSet.{contains}
+use Rattle.step_equal.specs.ComputedPlaces.{is_found}
 use Rattle.step_equal.proofs.Laying.{value_refused}
 use Rattle.step_equal.proofs.laid.+push.Goals as goal
 
 pub push_values-returns-in_err-push_value-clause-fault : goal.push_values-returns-in_err-push_value-clause-fault
 push_values-returns-in_err-push_value-clause-fault t c =
     let p = err_from_is_err_and c.from_residual.result c.from_residual.ensures.1 in
-    rw (p.1, p.2) (value_refused (contains nat_eq c.args.places.now) c.args.values.now c.loop-value.value-index
+    rw (p.1, p.2) (value_refused (is_found c.args.places.now) c.args.values.now c.loop-value.value-index
     c.value-item.result c.loop-value-test.true c.value-item.is _ c.in_err-push_value.ensures.fault)

@@ -1,6 +1,5 @@
-use Rattle.std.proofs.Common.{nat_eq}
 use Rattle.std.proofs.lemmas.Result.{err_from_is_err_and}
-use Rattle.indexmap.specs.IndexSet.{contains}
+use Rattle.step_equal.specs.ComputedPlaces.{is_found}
 use Rattle.step_equal.proofs.Laying.{row_refused}
 use Rattle.step_equal.proofs.laid.laid_down.Goals as goal
 
@@ -8,6 +7,6 @@ pub returns-in_err-push_values-clause-fault : goal.returns-in_err-push_values-cl
 returns-in_err-push_values-clause-fault c =
     let p = err_from_is_err_and c.from_residual-in_err-push_values.result c.from_residual-in_err-push_values.ensures.1
     in
-    rw (p.1, p.2) (row_refused (contains nat_eq c.args.places.now) c.args.rows.now c.loop-row.row-index
+    rw (p.1, p.2) (row_refused (is_found c.args.places.now) c.args.rows.now c.loop-row.row-index
     c.row-item.result c.loop-row-test.true c.row-item.is _
     (rw c.deref.ensures.value at c.in_err-push_values.ensures.fault))

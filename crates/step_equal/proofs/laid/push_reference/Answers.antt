@@ -1,9 +1,8 @@
-use Rattle.std.proofs.Common.{◌∙◌, ap, sym}
-use Rattle.std.specs.Prelude.{slice_get}
-use Rattle.step_equal.proofs.Placing.{name_found}
+use Rattle.std.proofs.Common.{◌∙◌, sym}
+use Rattle.step_equal.proofs.Placing.{place_there}
 use Rattle.step_equal.proofs.laid.push_reference.Goals as goal
 
 pub push_reference-requires : goal.push_reference-requires
 push_reference-requires c =
-    ap (λ ns. slice_get ns c.in-Some.place) (sym c.requires.places)
-    ∙ name_found c.args.places.now.keys c.args.name c.in-Some.place (sym c.get_index_of.ensures.index ∙ c.in-Some.is)
+    place_there c.args.builder.now.names c.args.name c.in-Some.place
+    (sym (c.requires.places c.args.name) ∙ sym c.find.ensures ∙ c.in-Some.is)

@@ -1,8 +1,11 @@
-use Rattle.std.proofs.Common.{◌∙◌, ap, sym, length, arith}
+use Rattle.std.proofs.Common.{◌≡◌, ◌∙◌, sym, subst, arith}
 use Rattle.std.proofs.lemmas.List.{length-map}
-use Rattle.step_equal.specs.Views.{heads_seen, type_lists_of, rows_from}
-use Rattle.step_equal.proofs.Parted.{length_from, length_seen, names_from, names_seen, population_from}
-use Rattle.step_equal.proofs.Settling.{heads_settled, names_settled, few_settled, population_settled, rows_settled, whole_settled}
+use Rattle.step_values.specs.Targets.{LeadTo}
+use Rattle.step_equal.specs.ComputedPlaces.{Finds}
+use Rattle.step_equal.specs.Rows.{names}
+use Rattle.step_equal.specs.Views.{head_names, heads_seen, type_lists_of, rows_from}
+use Rattle.step_equal.proofs.Parted.{length_from, length_seen, names_kept, names_seen, population_from}
+use Rattle.step_equal.proofs.Settling.{heads_settled, few_settled, population_settled, rows_settled, whole_settled}
 use Rattle.step_equal.proofs.plain.settled.Goals as goal
 
 pub invariant_of-result : goal.invariant_of-result
@@ -16,25 +19,25 @@ invariant_of-result c =
     let settled = rw c.deref_mut.ensures.value at c.in_ok-settle_type_lists.ensures in
     let kept = rows_settled hs gs rows (heads_settled ks js settled heads) in
     let each = length_seen (type_lists_of ks) heads ∙ c.requires.each in
-    let named = c.requires.places ∙ sym (names_seen (type_lists_of ks) heads) in
-    let population = population_from hs rows each c.args.places.keys named c.requires.distinct c.requires.closed in
+    let population = population_from hs rows each (head_names heads) (sym (names_seen (type_lists_of ks) heads))
+    c.requires.distinct c.requires.closed in
+    let named : head_names heads ≡ names (rows_from gs rows) =
+    sym (names_kept (type_lists_of js) heads rows c.requires.each) in
     rw (whole_settled c.args.type_lists.len ks js c.args.type_lists.ok.0 settled) (record {
       each = length_seen (type_lists_of js) heads ∙ c.requires.each;
       placed = record {
-        in_order = named ∙ sym (names_from hs rows each)
-            ∙ sym (names_settled (rows_from hs rows) (rows_from gs rows) kept);
+        finds = subst (Finds c.args.places) named c.requires.places;
         population = population_settled (rows_from hs rows) (rows_from gs rows) kept population;
         few = few_settled (rows_from hs rows) (rows_from gs rows) kept
             (omega (
               arith,
               c.requires.few,
-              ap length c.requires.places,
               length-map heads (λ h. h.name),
               length_seen (type_lists_of ks) heads,
               length_from hs rows each,
             ));
       };
-      leads = c.requires.leads;
+      leads = subst (λ ns. LeadTo ns c.args.values.targets) named c.requires.leads;
     })
 
 pub returns-clause-rows : goal.returns-clause-rows

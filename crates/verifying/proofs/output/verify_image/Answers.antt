@@ -1,63 +1,70 @@
-use Rattle.std.proofs.Common.{subst, sym, ap, ◌∙◌, length, Err}
+use Rattle.std.proofs.Common.{Ok, Err, subst}
 use Rattle.std.proofs.lemmas.Result.{err_from_is_err_and}
 use Rattle.express_syntax.specs.SchemaViews.{schema_of}
-use Rattle.conformance.specs.Choices.{chosen_names}
-use Rattle.conformance.specs.PlainRows.{AreRowsOf}
 use Rattle.step_exchange.specs.Exchanges.{structure}
 use Rattle.population_typed.specs.Seen.{population_seen}
-use Rattle.verifying.specs.Verifying.{AreRows, Verifies}
-use Rattle.verifying.specs.ComputedPassing.{IsJudgement}
-use Rattle.verifying.proofs.Accepting.{proves}
-use Rattle.verifying.proofs.Answering.{refused}
+use Rattle.step_population.specs.Verdicts.{IsVerdict}
+use Rattle.verifying.specs.ComputedPassing.{AnswersTyped}
+use Rattle.verifying.proofs.Answering.{refused, proved}
 use Rattle.verifying.proofs.output.verify_image.Goals as goal
 
-pub returns-in_err-rows : goal.returns-in_err-rows
-returns-in_err-rows c schema input choice settles reads known out same =
+pub returns-in_err-verdict : goal.returns-in_err-verdict
+returns-in_err-verdict c schema input output certificate header_bytes choice settles reads judged out =
     let p = err_from_is_err_and c.from_residual.result c.from_residual.ensures.1 in
     rw (p.1, p.2) tt
 
-pub returns-in-Ok : goal.returns-in-Ok
-returns-in-Ok c schema input choice settles reads known out same =
-    let q = c.args.input.now.population.now in
-    let image = c.args.image.now in
-    let rows = c.in_ok-rows.rows in
-    let s = schema_of q.types.now.names.schema.now in
-    let names = chosen_names s choice in
-    let f = structure q.exchange.now in
-    let g = structure image.exchange.now in
-    let certificate = c.args.claim.now.certificate.now in
-    let are : AreRows s g rows = record {
-      are = λ said. subst (λ l. AreRowsOf s l rows) (same said)
-          (subst (λ t. AreRowsOf (schema_of t.names.schema.now) (population_seen image) rows) c.requires.same
-          c.in_ok-rows.ensures);
-      population = c.len-kept.ensures.population;
-    } in
-    let (b, same_rows, rounds, merged) = subst (IsJudgement s names f g c.args.input.now.rows.now rows certificate) c.in-Ok.is
-    (c.judge_certificate-judgement.ensures names known are) in (
-      s,
-      settles,
-      proves s names input c.args.claim.now.output.now certificate f g reads out b rows are merged
-          c.checks_prove.ensures _ (c.len-instances.ensures.length ∙ ap length (sym same_rows)) c.len-kept.ensures.length rounds,
-    )
+pub returns-in_err-proof-in-Typed : goal.returns-in_err-proof-in-Typed
+returns-in_err-proof-in-Typed c schema input output certificate header_bytes choice settles reads judged out =
+    let types = c.args.types.now in
+    let s = schema_of types.names.schema.now in
+    let f = structure c.args.input.now in
+    let g = structure c.args.image.now in
+    let j = c.args.judged.now in
+    let q = c.in-Typed.population in
+    let e = c.in_err-proof-in-Typed.field-0.0 in
+    let (same, image, typed) = subst (IsVerdict types c.args.image.now) c.in-Typed.is c.in_ok-verdict.ensures in
+    let h : AnswersTyped s f j g (population_seen q) (Err e) =
+    subst (λ x. AnswersTyped s f j (structure x) (population_seen q) (Err e)) image
+    (subst (λ t. AnswersTyped (schema_of t.names.schema.now) f j (structure q.exchange.now) (population_seen q) (Err e))
+    same c.in_err-proof-in-Typed.ensures) in
+    let p = err_from_is_err_and c.from_residual-in_err-proof-in-Typed.result c.from_residual-in_err-proof-in-Typed.ensures.1 in
+    rw (p.1, p.2) (refused schema input output certificate choice s settles f reads j judged header_bytes g out
+    (population_seen q) typed e h)
 
-pub returns : goal.returns
-returns c schema input choice settles reads known out same =
-    let q = c.args.input.now.population.now in
-    let image = c.args.image.now in
-    let rows = c.in_ok-rows.rows in
-    let s = schema_of q.types.now.names.schema.now in
-    let names = chosen_names s choice in
-    let f = structure q.exchange.now in
-    let g = structure image.exchange.now in
-    let output = c.args.claim.now.output.now in
-    let certificate = c.args.claim.now.certificate.now in
-    let are : AreRows s g rows = record {
-      are = λ said. subst (λ l. AreRowsOf s l rows) (same said)
-          (subst (λ t. AreRowsOf (schema_of t.names.schema.now) (population_seen image) rows) c.requires.same
-          c.in_ok-rows.ensures);
-      population = c.len-kept.ensures.population;
-    } in
-    subst (λ e. Verifies schema input output certificate choice (Err e)) (sym c.of_tables.ensures)
-    (refused schema input output certificate choice s settles f reads g out c.args.input.now.rows.now rows c.in-Err.fault
-    (subst (IsJudgement s names f g c.args.input.now.rows.now rows certificate) c.in-Err.is
-    (c.judge_certificate-judgement.ensures names known are)))
+pub returns-in_ok-proof-in-Typed : goal.returns-in_ok-proof-in-Typed
+returns-in_ok-proof-in-Typed c schema input output certificate header_bytes choice settles reads judged out =
+    let types = c.args.types.now in
+    let s = schema_of types.names.schema.now in
+    let f = structure c.args.input.now in
+    let g = structure c.args.image.now in
+    let j = c.args.judged.now in
+    let q = c.in-Typed.population in
+    let p = c.in_ok-proof-in-Typed.proof in
+    let (same, image, typed) = subst (IsVerdict types c.args.image.now) c.in-Typed.is c.in_ok-verdict.ensures in
+    let h : AnswersTyped s f j g (population_seen q) (Ok p) =
+    subst (λ x. AnswersTyped s f j (structure x) (population_seen q) (Ok p)) image
+    (subst (λ t. AnswersTyped (schema_of t.names.schema.now) f j (structure q.exchange.now) (population_seen q) (Ok p))
+    same c.in_ok-proof-in-Typed.ensures) in
+    proved schema input output certificate choice s settles f reads j judged header_bytes g out (population_seen q)
+    typed c.checks_prove.ensures p h
+
+pub returns-in-Faulty : goal.returns-in-Faulty
+returns-in-Faulty c schema input output certificate header_bytes choice settles reads judged out =
+    let types = c.args.types.now in
+    let g = structure c.args.image.now in
+    let (functions, all, some) = subst (IsVerdict types c.args.image.now) c.in-Faulty.is c.in_ok-verdict.ensures in (
+      schema_of types.names.schema.now,
+      settles,
+      (
+        structure c.args.input.now,
+        reads,
+        (
+          header_bytes,
+          g,
+          out,
+          (λ said. all said.domain said.entities said.is_domain said.are_entities),
+          some,
+          c.new.ensures.items,
+        ),
+      ),
+    )

@@ -4,12 +4,13 @@ use Rattle.step_exchange.specs.Exchanges.{structure}
 use Rattle.verifying.proofs.Judging.{unread}
 use Rattle.verifying.proofs.tables.judge_certificate.Goals as goal
 
-pub returns-in_err-tables : goal.returns-in_err-tables
-returns-in_err-tables c chosen known are =
+pub returns-in_err-first-clause-judged : goal.returns-in_err-first-clause-judged
+returns-in_err-first-clause-judged c chosen known =
+    let q = c.args.population in
     let p = err_from_is_err_and c.from_residual.result c.from_residual.ensures.1 in
-    rw (p.1, p.2) (unread (schema_of c.args.population.now.types.now.names.schema.now) chosen
-    (structure c.args.input.now.exchange.now) (structure c.args.output.now.exchange.now) c.args.input.now.rows.now
-    c.args.output.now.rows.now c.args.certificate.now _ c.in_err-tables.ensures.fault)
+    rw (p.1, p.2) (unread (schema_of q.types.now.names.schema.now) chosen (structure q.exchange.now)
+    c.args.certificate.now _ c.in_err-first.ensures.fault)
 
-pub returns : goal.returns
-returns c chosen known are = c.judge_tables.ensures chosen c.args.certificate.now c.in_ok-tables.ensures.tables known are
+pub returns-clause-judged : goal.returns-clause-judged
+returns-clause-judged c chosen known =
+    c.judge_pair.ensures.judged chosen c.args.certificate.now c.in_ok-first.ensures.tables known

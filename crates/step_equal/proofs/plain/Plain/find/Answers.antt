@@ -1,14 +1,22 @@
-use Rattle.std.proofs.Common.{◌≡◌, subst, length}
-use Rattle.std.specs.Prelude.{List, slice_get, None, MatchOption, ◌<◌}
-use Rattle.step_equal.specs.Rows.{Row, row_at}
+use Rattle.std.proofs.Common.{◌≡◌, ◌<◌, ◌∙◌, sym, subst, length, slice_get, Some, None}
+use Rattle.step_equal.specs.Rows.{row_at}
 use Rattle.step_equal.specs.Views.{heads_seen, type_lists_of, rows_from}
 use Rattle.step_equal.proofs.Placing.{found_at}
 use Rattle.step_equal.proofs.plain.Plain.find.Goals as goal
 
+pub returns-in_default : goal.returns-in_default
+returns-in_default c =
+    let v = c.self.inside in
+    let y = c.args.name in
+    let rows = rows_from (heads_seen (type_lists_of v.type_lists.items) v.heads.items) v.values.rows in
+    subst (λ rs. row_at rs y ≡ None) c.self.view_is
+    (found_at rows y None (sym c.in_default.is ∙ c.find.ensures ∙ c.self.invariant.placed.finds y))
+
 pub returns : goal.returns
 returns c =
-    subst (λ (rows : List Row). MatchOption c.get_index_of.result (row_at rows c.args.name ≡ None)
-    (λ i. (i < length rows) × (slice_get rows i ≡ row_at rows c.args.name))) c.self.view_is
-    (found_at (rows_from (heads_seen (type_lists_of c.self.inside.type_lists.items) c.self.inside.heads.items) c.self.inside.values.rows) c.self.inside.places.keys
-    c.self.invariant.placed.in_order c.args.name c.get_index_of.result c.get_index_of.ensures.index
-    c.get_index_of.ensures.found c.get_index_of.ensures.within)
+    let v = c.self.inside in
+    let y = c.args.name in
+    let i = c.in-Some.place in
+    let rows = rows_from (heads_seen (type_lists_of v.type_lists.items) v.heads.items) v.values.rows in
+    subst (λ rs. (i < length rs) × (slice_get rs i ≡ row_at rs y)) c.self.view_is
+    (found_at rows y (Some i) (sym c.in-Some.is ∙ c.find.ensures ∙ c.self.invariant.placed.finds y))

@@ -1,8 +1,10 @@
-use Rattle.std.proofs.Common.{◌∙◌, sym, ap, length, nat_eq, subst}
+use Rattle.std.proofs.Common.{◌<◌, ◌∙◌, sym, ap, length, nat_eq, subst}
 use Rattle.std.specs.List.{IsDistinct}
 use Rattle.std.proofs.lemmas.List.{length-map}
 use Rattle.std.proofs.lemmas.Result.{err_from_is_err_and}
-use Rattle.step_equal.specs.Views.{rows_of, values_within}
+use Rattle.step_values.specs.Targets.{LeadTo, ReferTo}
+use Rattle.step_equal.specs.ComputedPlaces.{Finds}
+use Rattle.step_equal.specs.Views.{head_names, rows_of, values_within}
 use Rattle.step_equal.proofs.Laying.{refused_rows}
 use Rattle.step_equal.proofs.Parted.{heads_numbered, length_numbered, names_numbered, rows_parted}
 use Rattle.step_equal.proofs.Placing.{few_rows}
@@ -15,9 +17,10 @@ returns-in_err-values-clause-fault c =
     let placed = rw c.deref-2.ensures.value at c.in_ok-places.ensures.places in
     let few = rw c.deref-2.ensures.value at c.in_ok-places.ensures.few in
     let distinct = rw c.deref-2.ensures.value at c.in_ok-places.ensures.distinct in
-    rw (p.1, p.2) (refused_rows c.in_ok-places.places.keys (rows_of c.args.rows.items) (placed ∙ named)
+    rw (p.1, p.2) (refused_rows c.in_ok-places.places (rows_of c.args.rows.items)
+    (subst (Finds c.in_ok-places.places) named placed)
     (few_rows (rows_of c.args.rows.items) c.in_ok-names.names.items (sym named) few)
-    (subst (IsDistinct nat_eq) (sym placed) distinct) _
+    (subst (IsDistinct nat_eq) named distinct) _
     (rw c.deref-4.ensures.value at c.in_err-values.ensures.fault))
 
 pub settled-requires-clause-each : goal.settled-requires-clause-each
@@ -30,9 +33,42 @@ settled-requires-clause-each c =
 pub settled-requires-clause-places : goal.settled-requires-clause-places
 settled-requires-clause-places c =
     let named = rw c.deref.ensures.value at c.in_ok-names.ensures in
-    let placed = rw c.deref-2.ensures.value at c.in_ok-places.ensures.places in
     let heads = rw c.deref-5.ensures.value at c.in_ok-heads.ensures in
-    rw heads (placed ∙ named ∙ sym (names_numbered 0 c.args.rows.items))
+    let same = named ∙ sym (names_numbered 0 c.args.rows.items) ∙ ap head_names (sym heads) in
+    subst (Finds c.in_ok-places.places) same
+    (rw c.deref-2.ensures.value at c.in_ok-places.ensures.places)
+
+pub settled-requires-clause-few : goal.settled-requires-clause-few
+settled-requires-clause-few c =
+    let named = rw c.deref.ensures.value at c.in_ok-names.ensures in
+    let heads = rw c.deref-5.ensures.value at c.in_ok-heads.ensures in
+    let same = named ∙ sym (names_numbered 0 c.args.rows.items) ∙ ap head_names (sym heads) in
+    subst (λ ns. length ns < 4294967296) same
+    (rw c.deref-2.ensures.value at c.in_ok-places.ensures.few)
+
+pub settled-requires-clause-distinct : goal.settled-requires-clause-distinct
+settled-requires-clause-distinct c =
+    let named = rw c.deref.ensures.value at c.in_ok-names.ensures in
+    let heads = rw c.deref-5.ensures.value at c.in_ok-heads.ensures in
+    let same = named ∙ sym (names_numbered 0 c.args.rows.items) ∙ ap head_names (sym heads) in
+    subst (IsDistinct nat_eq) same
+    (rw c.deref-2.ensures.value at c.in_ok-places.ensures.distinct)
+
+pub settled-requires-clause-leads : goal.settled-requires-clause-leads
+settled-requires-clause-leads c =
+    let named = rw c.deref.ensures.value at c.in_ok-names.ensures in
+    let heads = rw c.deref-5.ensures.value at c.in_ok-heads.ensures in
+    let same = named ∙ sym (names_numbered 0 c.args.rows.items) ∙ ap head_names (sym heads) in
+    subst (λ ns. LeadTo ns c.in_ok-values.values.targets) same
+    (rw c.deref-3.ensures.value at c.in_ok-values.ensures.leads)
+
+pub settled-requires-clause-closed : goal.settled-requires-clause-closed
+settled-requires-clause-closed c =
+    let named = rw c.deref.ensures.value at c.in_ok-names.ensures in
+    let heads = rw c.deref-5.ensures.value at c.in_ok-heads.ensures in
+    let same = named ∙ sym (names_numbered 0 c.args.rows.items) ∙ ap head_names (sym heads) in
+    subst (λ ns. ReferTo ns c.in_ok-values.values.rows) same
+    (rw c.deref-3.ensures.value at c.in_ok-values.ensures.closed)
 
 pub returns-clause-rows : goal.returns-clause-rows
 returns-clause-rows c =

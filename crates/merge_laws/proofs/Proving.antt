@@ -1,0 +1,50 @@
+-- What a merge writes is proved, and nothing else is answered of it.
+use Rattle.std.specs.Prelude.{◌≡◌, ◌≢◌, ◌⊎◌, Result, Ok, Err}
+use Rattle.std.proofs.Common.{refl, sym, subst, inl, inr}
+use Rattle.conformance.specs.Choices.{chosen_names}
+use Rattle.merged_populations.specs.Headline.{ChecksProve}
+use Rattle.files.specs.declared.fault.Fault.TheVariants as faults
+use Rattle.shrinking.specs.Shrinking.{Answers}
+use Rattle.verifying.specs.declared.fault.VerifyFault.{VerifyFault}
+use Rattle.verifying.specs.declared.fault.VerifyFault.TheVariants as refusals
+use Rattle.verifying.specs.declared.proof.Proof.{Proof}
+use Rattle.verifying.specs.Laws.{AnswersAreOne, SayTheSame}
+use Rattle.verifying.specs.Verifying.{Verifies}
+use Rattle.merge_laws.specs.Laws.{proof_of, OwnOutputsAreProved, OwnFilesAreProved}
+use Rattle.merge_laws.proofs.Accepting.{proves}
+
+abbrev no_memory : Result Proof VerifyFault
+no_memory = Err (refusals.Other faults.Memory)
+
+-- what says the same as a proof is that proof
+or_memory : (p : Proof) (r : Result Proof VerifyFault) → (r ≢ no_memory → SayTheSame r (Ok p))
+    → (r ≡ Ok p) ⊎ (r ≡ no_memory)
+or_memory p (Ok q) h = let same = h (λ e. cc) in inl (λ i. Ok (same i))
+or_memory p (Err (refusals.Other faults.Memory)) h = inr refl
+or_memory p (Err (refusals.Other (faults.Text role kind place))) h = absurd (h (λ e. cc))
+or_memory p (Err (refusals.Other (faults.Device role written))) h = absurd (h (λ e. cc))
+or_memory p (Err (refusals.Schema fault)) h = absurd (h (λ e. cc))
+or_memory p (Err (refusals.Refused role fs gs)) h = absurd (h (λ e. cc))
+or_memory p (Err (refusals.Certificate refusal)) h = absurd (h (λ e. cc))
+
+pub own_outputs_are_proved : ChecksProve → AnswersAreOne → OwnOutputsAreProved
+own_outputs_are_proved law one c strict schema file output certificate m (s, has, passes, known, done) =
+    let p = proof_of m in
+    let proved : Verifies schema file output certificate c (Ok p) = (
+      s,
+      record { reads = has.reads; resolved = has.resolved; known = known },
+      proves s (chosen_names s c) file output certificate m done law,
+    ) in (
+      proved,
+      λ r h. or_memory p r
+          (λ n. one schema file output certificate c r (Ok p) h proved n (λ e. cc)),
+    )
+
+pub own_files_are_proved : OwnOutputsAreProved → OwnFilesAreProved
+own_files_are_proved law c strict schema file output certificate m shrinks =
+    law c strict schema file output certificate m
+    (subst (λ t. Answers c strict schema file output t (Ok m)) (sym shrinks.certified)
+    (subst (λ t. Answers c strict schema file t shrinks.certificate (Ok m)) (sym shrinks.written)
+    (subst (λ t. Answers c strict schema t shrinks.output shrinks.certificate (Ok m)) (sym shrinks.bytes_are)
+    (subst (λ t. Answers c strict t shrinks.bytes shrinks.output shrinks.certificate (Ok m)) (sym shrinks.text_is)
+    shrinks.answers))))

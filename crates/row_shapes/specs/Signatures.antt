@@ -1,0 +1,23 @@
+-- What refinement of rows goes by: their shapes, and their references outside bags.
+use Rattle.std.specs.Prelude.{◌≡◌, ◌↔◌, ℕ, List, Some, length, slice_get, slice_index}
+use Rattle.class_rounds.specs.declared.edges.Edge.{Edge}
+use Rattle.class_rounds.specs.Edges.{AreEdges, HasEdge}
+use Rattle.step_values.specs.Shapes.{HaveOneShape}
+use Rattle.step_equal.specs.Rows.{Row}
+use Rattle.row_shapes.specs.References.{Refers}
+use Rattle.row_shapes.specs.declared.signatures.Signatures.{Signatures}
+
+-- the edges are the references of rows
+pub record AreReferences (rows : List Row) (edges : List Edge) : Type 0 where
+  pub are : AreEdges (length rows) edges
+  pub refer : (x i t : ℕ) → HasEdge edges x i t ↔ Refers rows x i t
+
+-- the numbers tell shapes apart
+pub record AreShapes (rows : List Row) (shapes : List ℕ) : Type 0 where
+  pub each : length shapes ≡ length rows
+  pub tell : (i j : ℕ) (r s : Row) → slice_get rows i ≡ Some r → slice_get rows j ≡ Some s
+      → (slice_index shapes i ≡ slice_index shapes j) ↔ HaveOneShape r.values s.values
+
+pub record AreSignatures (rows : List Row) (s : Signatures) : Type 0 where
+  pub references : AreReferences rows s.edges
+  pub shaped : AreShapes rows s.shapes.items

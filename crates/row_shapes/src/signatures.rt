@@ -1,0 +1,48 @@
+//! What refinement of rows goes by, beside their kinds.
+
+ghost use Rattle.std.specs.Prelude.{IfOk};
+ghost use Rattle.row_shapes.specs.Signatures.{AreReferences, AreSignatures};
+
+use crate::references::references;
+use crate::shapes::shapes;
+use class_rounds::edges::Edges;
+use std::alloc::{AllocError, Global};
+use std::hash::RandomState;
+use step_equal::plain::Plain;
+
+/// What refinement of the rows of a population goes by, beside their kinds: whatever the pins, it is
+/// the same.
+#[derive(Drop)]
+pub struct Signatures {
+    /// By place, a number for the shape of each row's values: two rows have one number exactly where
+    /// their values agree, whatever their references outside SETs and BAGs name.
+    pub shapes: Vec<u32>,
+    /// The references outside SETs and BAGs, found by the place that is referred to.
+    pub edges: Edges,
+}
+
+/// The shapes and references of the rows of a population.
+///
+/// It takes time by the size of all values, as long as no bag is large, whose members are sorted, and
+/// by the number of references and its logarithm. Shapes are hashed by these keys. `AllocError` comes
+/// where memory runs out.
+pub fn signatures_of<'a>(
+    alloc: Global,
+    keys: RandomState,
+    input: &Plain<'a>,
+) -> Result<Signatures, AllocError>
+    ensures { IfOk result (λ s. AreSignatures input.now s) }
+{
+    let shapes = shapes(alloc, keys, input)?;
+    let edges = indexed(alloc, input)?;
+    Ok(Signatures { shapes, edges })
+}
+
+/// The references of rows, found by the place that is referred to.
+fn indexed<'a>(alloc: Global, input: &Plain<'a>) -> Result<Edges, AllocError>
+    ensures { IfOk result (λ edges. AreReferences input.now edges) }
+{
+    let size = input.len() as u32;
+    let edges = references(alloc, input)?;
+    Edges::of(alloc, size, edges)
+}

@@ -1,0 +1,11 @@
+//! Tests of `step_classes`: tables of drawn populations beside those of a plain refinement, and chains.
+#![tactic(auto)]
+
+#[cfg(test)]
+mod cases;
+#[cfg(test)]
+mod chains;
+#[cfg(test)]
+mod drawn;
+#[cfg(test)]
+mod plainly;

@@ -1,0 +1,119 @@
+-- Where an answer stops: at each step it is refused there, or passes it.
+use Rattle.std.specs.Prelude.{◌≡◌, ◌≢◌, ◌⊎◌, ◌↔◌, ℕ, Bool, IsTrue, List, [], length, Result, Ok, Err}
+use Rattle.step_structures.specs.Trees.{File}
+use Rattle.step_structures.specs.Texts.{ReadsAs, IsFirstFault}
+use Rattle.step_structures.specs.declared.fault.FaultKind.{FaultKind}
+use Rattle.step_equal.specs.Rows.{Row, SamePopulation}
+use Rattle.step_equal.specs.Images.{quotient}
+use Rattle.step_equal.specs.Tables.{Table, shares, IsValid}
+use Rattle.express_syntax.specs.Schemas.{Schema}
+use Rattle.express_syntax.specs.declared.fault.SchemaFault.{SchemaFault}
+use Rattle.schema_semantics.specs.Names.{Name}
+use Rattle.conformance.specs.Choices.{Choice, chosen_names}
+use Rattle.conformance.specs.Findings.{findings}
+use Rattle.conformance.specs.PlainRows.{AreRowsOf}
+use Rattle.conformance.specs.Pins.{IsWeaklyPinned, IsGentlyPinned}
+use Rattle.conformance.specs.Said.{Said, instances}
+use Rattle.step_headings.specs.Headings.{SameHeadings}
+use Rattle.check_findings.specs.Findings.{AreFindings}
+use Rattle.certificate_text.specs.Texts.{IsCertificate}
+use Rattle.certificate_text.specs.Faults.{IsOld, IsBadLine}
+use Rattle.files.specs.declared.fault.Role.TheVariants as roles
+use Rattle.files.specs.declared.fault.Fault.TheVariants as faults
+use Rattle.verifying.specs.declared.fault.Refusal.{Refusal}
+use Rattle.verifying.specs.declared.fault.Refusal.TheVariants.{OldVersion, BadText, NotTheImage}
+use Rattle.verifying.specs.declared.fault.VerifyFault.{VerifyFault}
+use Rattle.verifying.specs.declared.fault.VerifyFault.TheVariants.{Refused, Certificate, Other}
+use Rattle.verifying.specs.declared.fault.VerifyFault.TheVariants as refusals
+use Rattle.verifying.specs.declared.proof.Proof.{Proof}
+use Rattle.verifying.specs.Verifying.{Settles, IsSchemaFault, IsInput, IsOutput, Lacks}
+
+-- The certificate of an output, by some functions that say what the schema says: each refusal, or a proof.
+module _ (s : Schema) (said : Said s) (chosen : List Name) (f g : File) (r : Result Proof VerifyFault) where
+  abbrev pub IsRefusedBy : Refusal → Type 0
+  IsRefusedBy refusal = r ≡ Err (Certificate refusal)
+
+  abbrev pub AreWeakBy : (ℕ → Bool) → Type 0
+  AreWeakBy weak = (y : ℕ) → IsTrue (weak y)
+      ↔ IsWeaklyPinned s said.domain said.entities said.rules chosen (instances s said f) y
+
+  abbrev pub AreGentleBy : Table → (ℕ → Bool) → Type 0
+  AreGentleBy t gentle = (y : ℕ) → IsTrue (gentle y)
+      ↔ IsGentlyPinned s said.domain said.entities said.rules chosen (instances s said f) (shares t t.rounds) y
+
+  abbrev pub AreImage : List Row → Table → List Row → Type 0
+  AreImage rows second image =
+      SamePopulation image (quotient rows (shares second second.rounds)) × SameHeadings f g
+
+  -- the rows of the output
+  abbrev pub AtImage : List Row → Table → Type 0
+  AtImage rows second =
+      (IsRefusedBy NotTheImage × (image : List Row) × AreRowsOf s (instances s said g) image
+      × (AreImage rows second image → ⊥))
+      ⊎ ((p : Proof) × (r ≡ Ok p) × (image : List Row) × AreRowsOf s (instances s said g) image
+      × AreImage rows second image × (p.instances ≡ length rows) × (p.kept ≡ length image)
+      × (p.rounds ≡ second.rounds))
+
+  -- the second table
+  abbrev pub AtSecond : List Row → Table → (ℕ → Bool) → Type 0
+  AtSecond rows second gentle =
+      ((refusal : Refusal) × IsRefusedBy refusal × Lacks rows gentle second refusal)
+      ⊎ (IsValid rows gentle second × AtImage rows second)
+
+  -- the first table
+  abbrev pub AtFirst : List Row → (ℕ → Bool) → Table → Table → Type 0
+  AtFirst rows weak first second =
+      ((refusal : Refusal) × IsRefusedBy refusal × Lacks rows weak first refusal)
+      ⊎ (IsValid rows weak first × (gentle : ℕ → Bool) × AreGentleBy first gentle × AtSecond rows second gentle)
+
+  -- the text of the certificate
+  module _ (certificate : List ℕ) where
+    abbrev pub AtTables : Type 0
+    AtTables = (first : Table) × (second : Table) × IsCertificate certificate first second × (rows : List Row)
+        × AreRowsOf s (instances s said f) rows × (weak : ℕ → Bool) × AreWeakBy weak × AtFirst rows weak first second
+
+    abbrev pub AtLines : Type 0
+    AtLines = ((line : ℕ) × IsRefusedBy (BadText line) × (IsOld certificate → ⊥) × IsBadLine certificate line) ⊎ AtTables
+
+    abbrev pub AtText : Type 0
+    AtText = (IsRefusedBy OldVersion × IsOld certificate) ⊎ AtLines
+
+module _ (schema input output certificate : List ℕ) (choice : Choice) (r : Result Proof VerifyFault) where
+  module _ (s : Schema) where
+    -- the certificate
+    abbrev pub AtCertificate : File → File → Type 0
+    AtCertificate f g = (said : Said s) → AtText s said (chosen_names s choice) f g r certificate
+
+    -- what is found of the output
+    abbrev pub AtOutputFound : File → File → Type 0
+    AtOutputFound f g =
+        ((fs : _) × (gs : _) × (r ≡ Err (Refused roles.Output fs gs))
+        × ((said : Said s) → fs.items ≡ findings s said.domain said.entities g) × (fs.items ≢ []) × (gs.items ≡ []))
+        ⊎ (IsOutput s output g × AtCertificate f g)
+
+    -- the text of the output
+    abbrev pub AtOutput : File → Type 0
+    AtOutput f =
+        ((kind : FaultKind) × (place : ℕ) × (r ≡ Err (Other (faults.Text roles.Output kind place)))
+        × IsFirstFault output kind place)
+        ⊎ ((header_bytes : List ℕ) × (g : File) × ReadsAs output header_bytes g × AtOutputFound f g)
+
+    -- what is found of the input
+    abbrev pub AtInputFound : File → Type 0
+    AtInputFound f =
+        ((fs : _) × (gs : _) × (r ≡ Err (Refused roles.File fs gs))
+        × (unknown : ℕ) × AreFindings s f fs.items gs.items unknown × ((fs.items ≡ []) × (gs.items ≡ []) → ⊥))
+        ⊎ (IsInput s input f × AtOutput f)
+
+    -- the text of the input
+    abbrev pub AtInput : Type 0
+    AtInput =
+        ((kind : FaultKind) × (place : ℕ) × (r ≡ Err (Other (faults.Text roles.File kind place)))
+        × IsFirstFault input kind place)
+        ⊎ ((header_bytes : List ℕ) × (f : File) × ReadsAs input header_bytes f × AtInputFound f)
+
+  -- the schema and the choice
+  abbrev pub AtSchema : Type 0
+  AtSchema =
+      ((fault : SchemaFault) × (r ≡ Err (refusals.Schema fault)) × IsSchemaFault schema choice fault)
+      ⊎ ((s : Schema) × Settles schema choice s × AtInput s)

@@ -1,0 +1,40 @@
+use Rattle.std.proofs.Common.{inl, inr, refl, sym, ◌∙◌}
+use Rattle.files.specs.declared.fault.Role.TheVariants as roles
+use Rattle.pin_choices.specs.Chosen.{choice_of}
+use Rattle.verifying.proofs.Reading.{no_device}
+use Rattle.verifying.proofs.sources.verify_files.Goals as goal
+
+pub returns-in-Ok-clause-verifies : goal.returns-in-Ok-clause-verifies
+returns-in-Ok-clause-verifies g c =
+    let texts = c.in-Ok.texts in
+    inr (
+      texts.schema.items,
+      texts.file.items,
+      texts.smaller.items,
+      texts.certificate.items,
+      c.in-Ok.ensures.read,
+      c.verify_texts.ensures,
+    )
+
+pub returns-in-Err-clause-verifies : goal.returns-in-Err-clause-verifies
+returns-in-Err-clause-verifies g c = inl (c.in-Err.fault, refl, c.in-Err.ensures.read)
+
+pub returns-in-Ok-clause-schema_failed : goal.returns-in-Ok-clause-schema_failed
+returns-in-Ok-clause-schema_failed g c = λ fresh.
+    c.in-Ok.ensures.schema_failed fresh
+    ∙ sym (no_device _ _ _ _ (choice_of c.args.choice.now) roles.Schema c.verify_texts.result c.verify_texts.ensures)
+
+pub returns-in-Ok-clause-file_failed : goal.returns-in-Ok-clause-file_failed
+returns-in-Ok-clause-file_failed g c = λ fresh.
+    c.in-Ok.ensures.file_failed fresh
+    ∙ sym (no_device _ _ _ _ (choice_of c.args.choice.now) roles.File c.verify_texts.result c.verify_texts.ensures)
+
+pub returns-in-Ok-clause-smaller_failed : goal.returns-in-Ok-clause-smaller_failed
+returns-in-Ok-clause-smaller_failed g c = λ fresh.
+    c.in-Ok.ensures.smaller_failed fresh
+    ∙ sym (no_device _ _ _ _ (choice_of c.args.choice.now) roles.Output c.verify_texts.result c.verify_texts.ensures)
+
+pub returns-in-Ok-clause-certificate_failed : goal.returns-in-Ok-clause-certificate_failed
+returns-in-Ok-clause-certificate_failed g c = λ fresh.
+    c.in-Ok.ensures.certificate_failed fresh
+    ∙ sym (no_device _ _ _ _ (choice_of c.args.choice.now) roles.Certificate c.verify_texts.result c.verify_texts.ensures)

@@ -1,0 +1,41 @@
+-- Answers to the same texts.
+use Rattle.std.specs.Prelude.{◌≡◌, ◌≢◌, ℕ, List, map, Result, Ok, Err}
+use Rattle.std.specs.String.{string_bytes}
+use Rattle.express_syntax.specs.declared.fault.SchemaFault.{SchemaFault}
+use Rattle.express_syntax.specs.declared.fault.SchemaFault.TheVariants as schemas
+use Rattle.schema_semantics.specs.Names.{Name}
+use Rattle.schema_parts.specs.Adding.{said}
+use Rattle.schema_rules.specs.declared.finding.RuleFinding.{RuleFinding}
+use Rattle.schema_rules.specs.declared.finding.RuleFindingKind.{RuleFindingKind}
+use Rattle.conformance.specs.Choices.{Choice}
+use Rattle.files.specs.declared.fault.Fault.TheVariants.{Memory}
+use Rattle.verifying.specs.declared.fault.VerifyFault.{VerifyFault}
+use Rattle.verifying.specs.declared.fault.VerifyFault.TheVariants.{Schema, Refused, Certificate, Other}
+use Rattle.verifying.specs.declared.proof.Proof.{Proof}
+use Rattle.verifying.specs.Verifying.{Verifies}
+
+-- the same fault of a schema; of a name, whichever string tells it
+abbrev pub SameFault : SchemaFault → SchemaFault → Type 0
+SameFault (schemas.Name kind name) (schemas.Name other again) = (kind ≡ other) × (string_bytes name ≡ string_bytes again)
+SameFault f g = f ≡ g
+
+-- what a finding of a rule says: its kind, the instance, and what the rule is called
+abbrev pub told : RuleFinding → RuleFindingKind × ℕ × Name
+told f = (f.kind, f.instance, said f.rule)
+
+-- Two answers say the same.
+abbrev pub SayTheSame : Result Proof VerifyFault → Result Proof VerifyFault → Type 0
+SayTheSame (Ok p) (Ok q) = p ≡ q
+SayTheSame (Err (Schema f)) (Err (Schema g)) = SameFault f g
+SayTheSame (Err (Refused role fs gs)) (Err (Refused other hs ks)) =
+    (role ≡ other) × (fs.items ≡ hs.items) × (map told gs.items ≡ map told ks.items)
+SayTheSame (Err (Certificate refusal)) (Err (Certificate other)) = refusal ≡ other
+SayTheSame (Err (Other f)) (Err (Other g)) = f ≡ g
+SayTheSame r q = ⊥
+
+-- No four texts and choice have two answers, but that want of memory may come in place of the one that they have: not a
+-- proof and a refusal, nor two proofs or two refusals that say different things.
+abbrev pub AnswersAreOne : Type 0
+AnswersAreOne = (schema input output certificate : List ℕ) (choice : Choice) (r q : Result Proof VerifyFault)
+    → Verifies schema input output certificate choice r → Verifies schema input output certificate choice q
+    → r ≢ Err (Other Memory) → q ≢ Err (Other Memory) → SayTheSame r q

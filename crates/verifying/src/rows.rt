@@ -1,0 +1,29 @@
+//! The rows of a population.
+
+ghost use Rattle.std.specs.Prelude.{IfOk};
+ghost use Rattle.express_syntax.specs.SchemaViews.{schema_of};
+ghost use Rattle.conformance.specs.PlainRows.{AreRowsOf};
+ghost use Rattle.step_equal.specs.Rows.{IsPopulation};
+ghost use Rattle.population_typed.specs.Seen.{population_seen};
+
+use population_typed::population::Population;
+use std::alloc::{AllocError, Global};
+use std::hash::RandomState;
+use step_equal::plain::Plain;
+
+/// The rows of a population, which isn't needed then.
+pub(crate) fn plain_rows<'s: 'r, 't, 'r, 'a>(
+    alloc: Global,
+    keys: RandomState,
+    population: Population<'s, 't, 'r, 'a>,
+) -> Result<Plain<'r>, AllocError>
+    ensures rows { IfOk result (λ p. AreRowsOf
+        (schema_of population.entry.types.now.names.schema.now) (population_seen population.entry)
+        p) }
+    ensures population { IfOk result (λ p. IsPopulation p) }
+{
+    let rows = population.plain(alloc, keys)?;
+    // its contract says that no name stands twice and each reference names a row
+    let _count = rows.len();
+    Ok(rows)
+}
