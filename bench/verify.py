@@ -5,9 +5,9 @@
 
 Makes the files of bench/shrink.py, of that size (20 if none is given), shrinks each, and verifies what was written,
 the best of five runs. Prints the time of `verify` as a multiple of that of `shrink`, and its memory beside the sum of
-the file and the output. Then three certificates for points of 40 bytes, which differ all, each beside one that
-`shrink` wrote: one that names 2^32 - 1 rounds; one that parts one point off a class at each round; and one in which
-each class is the parent of the next.
+the file and the output. Then four certificates for points of 40 bytes, which differ all, each beside one that
+`shrink` wrote: one that names 2^32 - 1 rounds; one that parts one point off a class at each round; one in which each
+class is the parent of the next; and one that parts each class in two halves at each round.
 """
 import argparse
 import os
@@ -44,15 +44,17 @@ def certificate(lines):
 
 
 def hostile(count):
-    """By name, certificates of so many points that differ."""
+    """By name, certificates that hold of so many points that differ."""
     late = [f"C{c}=C0@4294967295\n" for c in range(1, count)]
     one_off = [f"C{c}=C0@{c}\n" for c in range(1, count)]
     parents = [f"C{c}=C{c - 1}@{c}\n" for c in range(1, count)]
+    halves = [f"C{c}=C{c - (1 << c.bit_length() - 1)}@{c.bit_length()}\n" for c in range(1, count)]
     first = ["C0\n"]
     return {
-        "2^32 - 1 rounds": (certificate(table(2**32 - 1, first + late, range(count))), 6),
-        "one off at each round": (certificate(table(count - 1, first + one_off, range(count))), 6),
-        "a chain of parents": (certificate(table(count - 1, first + parents, range(count))), 6),
+        "2^32 - 1 rounds": certificate(table(2**32 - 1, first + late, range(count))),
+        "one off at each round": certificate(table(count - 1, first + one_off, range(count))),
+        "a chain of parents": certificate(table(count - 1, first + parents, range(count))),
+        "halves at each round": certificate(table(count.bit_length(), first + halves, range(count))),
     }
 
 
@@ -63,11 +65,11 @@ def measure_hostile(size, program, schema, folder):
     words = ["verify", schema, path, out]
     run([program, "shrink", schema, path, out, own, "--merge", "POINT"])
     plain, _ = run([program, *words, own, "--merge", "POINT"])
-    for name, (lines, status) in hostile(count).items():
+    for name, lines in hostile(count).items():
         claimed = os.path.join(folder, "claimed.txt")
         with open(claimed, "w", encoding="ascii") as file:
             file.writelines(lines)
-        seconds, _ = run([program, *words, claimed, "--merge", "POINT"], status)
+        seconds, _ = run([program, *words, claimed, "--merge", "POINT"])
         ratio = os.path.getsize(claimed) / os.path.getsize(own)
         print(f"{name}, {ratio:.1f} times as long a certificate: {seconds:.2f} s, {seconds / plain:.2f} times "
               f"the own one ({plain:.2f} s)", flush=True)

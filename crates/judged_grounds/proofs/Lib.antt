@@ -1,4 +1,6 @@
 mod Noting
 mod Starting
-mod Going
-mod Judging
+mod SplitOff
+mod Sharing
+mod Standing
+mod Owning

@@ -1,133 +1,91 @@
--- Numbers that are noted by key, one place more.
-use Rattle.std.proofs.Common.{◌≡◌, ◌≢◌, ◌<◌, ◌+◌, ℕ, Bool, true, false, cond, List, Option, Some, None, slice_get, refl, sym, ap, ◌∙◌, subst, arith, eqb-true, eq-eqb, ◌⊎◌, inl, inr}
-use Rattle.std.specs.Prelude.{◌==◌, ◌↔◌}
-use Rattle.std.specs.Cmp.{IsEquivalence}
-use Rattle.std.proofs.lemmas.Bool.{false≢true}
+-- Places of one kind have one number exactly where each number is the one that was noted of its kind.
+use Rattle.std.proofs.Common.{◌≡◌, ◌<◌, ◌≤◌, ◌+◌, ℕ, Bool, true, false, cond, List, length, Option, None, Some, refl, sym, ap, ◌∙◌, arith, eqb-true, eq-eqb, ◌⊎◌, inl, inr}
+use Rattle.std.specs.Prelude.{◌==◌, slice_index}
+use Rattle.std.proofs.lemmas.Bool.{cases_eq, false≢true}
 use Rattle.merged_outputs.proofs.FirstMembers.{some_once}
-use Rattle.judged_grounds.specs.ComputedNotes.{Notes, AreNoted, LieTogether}
-
-pub last_or_before : (i n : ℕ) → i < n + 1 → (i ≡ n) ⊎ (i < n)
-last_or_before i n lt = by (i == n) refl
-  where
-    by : (b : Bool) → (i == n) ≡ b → (i ≡ n) ⊎ (i < n)
-    by true e = inl (eqb-true i n e)
-    by false e = inr (let other : i ≢ n = (λ q. false≢true (sym e ∙ eq-eqb i n q)) in omega (arith, lt, other))
+use Rattle.judged_grounds.specs.ComputedNotes.{Notes, AreNoted, Determine}
 
 some_or_none : (o : Option ℕ) → (o ≡ None) ⊎ ((n : ℕ) × (o ≡ Some n))
 some_or_none None = inl refl
 some_or_none (Some n) = inr (n, refl)
 
-module _ {K : Type 0} (eq : K → K → Bool) (IsKey : ℕ → K → Type 0) (counts : ℕ → Bool) (numbers : List ℕ) where
-  abbrev Noted : (K → Option ℕ) → ℕ → Type 0
-  Noted noted n = AreNoted eq IsKey counts numbers noted n
+clash : (o : Option ℕ) (v : ℕ) → o ≡ None → o ≡ Some v → ⊥
+clash o v e f = absurd (cc)
 
-  pub none_noted : (noted : K → Option ℕ) → ((k : K) → noted k ≡ None) → Noted noted 0
+module _ (kinds numbers : List ℕ) where
+  pub none_noted : (noted : ℕ → Option ℕ) → ((k : ℕ) → noted k ≡ None) → AreNoted kinds numbers noted 0
   none_noted noted none = record {
-    keyed = λ i lt. absurd (omega (arith, lt));
-    each = λ i k v lt. absurd (omega (arith, lt));
-    told = λ k v e. absurd (clash v (sym (none k) ∙ e));
+    each = λ i lt. absurd (omega (arith, lt));
+    told = λ k v e. absurd (clash (noted k) v (none k) e);
   }
-    where
-      clash : (v : ℕ) → None ≡ Some v → ⊥
-      clash v q = absurd (cc)
 
-  -- a place that doesn't count
-  pub skipped : (old new : K → Option ℕ) (n : ℕ) → counts n ≡ false → ((k : K) → new k ≡ old k) → Noted old n
-      → Noted new (n + 1)
-  skipped old new n out same all = record {
-    keyed = λ i lt c. all.keyed i (before i lt c) c;
-    each = λ i k v lt c key at. same k ∙ all.each i k v (before i lt c) c key at;
-    told = λ k v e. (let t = all.told k v (sym (same k) ∙ e) in
-        (t.0, (let lt = t.1 in omega (arith, lt)), t.2, t.3, t.4));
-  }
-    where
-      before : (i : ℕ) → i < n + 1 → counts i ≡ true → i < n
-      before i lt c = elim (last_or_before i n lt) [
-        | inl same ↦ absurd (false≢true (sym out ∙ ap counts (sym same) ∙ c))
-        | inr less ↦ less
-      ]
+  -- each kind has one number where all are noted
+  pub together : (noted : ℕ → Option ℕ) (n : ℕ) → AreNoted kinds numbers noted n → length kinds ≤ n
+      → Determine kinds numbers
+  together noted n all whole i j li lj same =
+      some_once (slice_index numbers i) (slice_index numbers j)
+      (sym (all.each i (omega (arith, li, whole))) ∙ ap noted same ∙ all.each j (omega (arith, lj, whole)))
 
-  -- one that counts
-  module _ (laws : IsEquivalence eq) (Same : ℕ → ℕ → Type 0)
-      (decides : (i j : ℕ) (k l : K) → IsKey i k → IsKey j l → (eq k l ≡ true) ↔ Same i j)
-      (old : K → Option ℕ) (alike : (k l : K) → eq k l ≡ true → old k ≡ old l)
-      (n : ℕ) (all : Noted old n) where
-    one_number : (i j v w : ℕ) (k l : K) → i < n → j < n → counts i ≡ true → counts j ≡ true → IsKey i k → IsKey j l
-        → eq k l ≡ true → slice_get numbers i ≡ Some v → slice_get numbers j ≡ Some w → v ≡ w
-    one_number i j v w k l li lj ci cj ki kj same at there =
-        some_once v w (sym (all.each i k v li ci ki at) ∙ alike k l same ∙ all.each j l w lj cj kj there)
+  module _ (old new : ℕ → Option ℕ) (n : ℕ) (all : AreNoted kinds numbers old n) where
+    abbrev kind : ℕ
+    kind = slice_index kinds n
 
-    pub together : ((i : ℕ) (j : ℕ) → Same i j → (i < n) × (j < n)) → LieTogether Same counts numbers
-    together within i j v w ci cj same at there =
-        let lt = within i j same in
-        let k = all.keyed i lt.0 ci in
-        let l = all.keyed j lt.1 cj in
-        one_number i j v w k.0 l.0 lt.0 lt.1 ci cj k.1 l.1 ((decides i j k.0 l.0 k.1 l.1).1 same) at there
+    abbrev number : ℕ
+    number = slice_index numbers n
 
-    module _ (counted : counts n ≡ true) (k : K) (key : IsKey n k) (number : ℕ) (at : slice_get numbers n ≡ Some number)
-        (new : K → Option ℕ) where
-      own : (l : K) → IsKey n l → eq k l ≡ true
-      own l other = (decides n n k l key other).1 ((decides n n k k key key).0 (laws.refl k))
+    -- the kind of the next place was noted with its number
+    kept : old kind ≡ Some number → ((q : ℕ) → new q ≡ old q) → AreNoted kinds numbers new (n + 1)
+    kept known same = record {
+      each = λ i lt. elim (cases_eq i n) [
+        | inl last ↦ same (slice_index kinds i) ∙ ap (λ k. old (slice_index kinds k)) last ∙ known
+            ∙ ap (λ k. Some (slice_index numbers k)) (sym last)
+        | inr other ↦ same (slice_index kinds i) ∙ all.each i (omega (arith, lt, other))
+      ];
+      told = λ k v e. (let t = all.told k v (sym (same k) ∙ e) in
+          (t.0, (let lt = t.1 in omega (arith, lt)), t.2, t.3));
+    }
 
-      -- its key was noted with its number
-      kept : old k ≡ Some number → ((q : K) → new q ≡ old q) → Noted new (n + 1)
-      kept known same = record {
-        keyed = λ i lt c. elim (last_or_before i n lt) [
-          | inl last ↦ subst (λ x. (l : K) × IsKey x l) (sym last) (k, key)
-          | inr less ↦ all.keyed i less c
-        ];
-        each = λ i l v lt c other there. elim (last_or_before i n lt) [
-          | inl last ↦ same l ∙ sym (alike k l (own l (subst (λ x. IsKey x l) last other))) ∙ known
-              ∙ sym at ∙ ap (slice_get numbers) (sym last) ∙ there
-          | inr less ↦ same l ∙ all.each i l v less c other there
-        ];
-        told = λ l v e. (let t = all.told l v (sym (same l) ∙ e) in
-            (t.0, (let lt = t.1 in omega (arith, lt)), t.2, t.3, t.4));
-      }
+    -- .. or wasn't noted
+    added : old kind ≡ None → ((q : ℕ) → new q ≡ cond (kind == q) (Some number) (old q))
+        → AreNoted kinds numbers new (n + 1)
+    added unknown grown = record {
+      each = λ i lt. elim (cases_eq i n) [
+        | inl last ↦ grown (slice_index kinds i)
+            ∙ ap (λ b. cond b (Some number) (old (slice_index kinds i)))
+            (eq-eqb kind (slice_index kinds i) (ap (slice_index kinds) (sym last)))
+            ∙ ap (λ k. Some (slice_index numbers k)) (sym last)
+        | inr other ↦ grown (slice_index kinds i)
+            ∙ stays i (kind == slice_index kinds i) refl (all.each i (omega (arith, lt, other)))
+      ];
+      told = λ k v e. from k v (kind == k) refl (sym (grown k) ∙ e);
+    }
+      where
+        stays : (i : ℕ) (b : Bool) → (kind == slice_index kinds i) ≡ b
+            → old (slice_index kinds i) ≡ Some (slice_index numbers i)
+            → cond b (Some number) (old (slice_index kinds i)) ≡ Some (slice_index numbers i)
+        stays i true e h = absurd (clash (old kind) (slice_index numbers i) unknown
+            (ap old (eqb-true kind (slice_index kinds i) e) ∙ h))
+        stays i false e h = h
 
-      -- .. or wasn't noted
-      added : old k ≡ None → ((q : K) → new q ≡ cond (eq k q) (Some number) (old q)) → Noted new (n + 1)
-      added unknown grown = record {
-        keyed = λ i lt c. elim (last_or_before i n lt) [
-          | inl last ↦ subst (λ x. (l : K) × IsKey x l) (sym last) (k, key)
-          | inr less ↦ all.keyed i less c
-        ];
-        each = λ i l v lt c other there. elim (last_or_before i n lt) [
-          | inl last ↦ grown l ∙ ap (λ b. cond b (Some number) (old l)) (own l (subst (λ x. IsKey x l) last other))
-              ∙ sym at ∙ ap (slice_get numbers) (sym last) ∙ there
-          | inr less ↦ grown l ∙ stays l v (eq k l) refl (all.each i l v less c other there)
-        ];
-        told = λ l v e. from l v (eq k l) refl (sym (grown l) ∙ e);
-      }
-        where
-          clash : (v : ℕ) → None ≡ Some v → ⊥
-          clash v q = absurd (cc)
+        from : (k v : ℕ) (b : Bool) → (kind == k) ≡ b → cond b (Some number) (old k) ≡ Some v
+            → (i : ℕ) × (i < n + 1) × (slice_index kinds i ≡ k) × (slice_index numbers i ≡ v)
+        from k v true e h = (n, omega arith, eqb-true kind k e, some_once number v h)
+        from k v false e h = let t = all.told k v h in (t.0, (let lt = t.1 in omega (arith, lt)), t.2, t.3)
 
-          stays : (l : K) (v : ℕ) (b : Bool) → eq k l ≡ b → old l ≡ Some v → cond b (Some number) (old l) ≡ Some v
-          stays l v true e h = absurd (clash v (sym unknown ∙ alike k l e ∙ h))
-          stays l v false e h = h
+    -- one place more
+    pub more : Notes old kind number true new → AreNoted kinds numbers new (n + 1)
+    more notes = elim (some_or_none (old kind)) [
+      | inl none ↦ added none (notes.unknown none).1
+      | inr some ↦ (let known = notes.known some.0 some.1 in
+          kept (some.1 ∙ ap Some (eqb-true some.0 number (sym known.0))) known.1)
+    ]
 
-          from : (l : K) (v : ℕ) (b : Bool) → eq k l ≡ b → cond b (Some number) (old l) ≡ Some v
-              → (i : ℕ) × (i < n + 1) × (counts i ≡ true) × ((m : K) × IsKey i m × (eq l m ≡ true))
-              × (slice_get numbers i ≡ Some v)
-          from l v true e h = (n, omega arith, counted, (k, key, sym (laws.symm k l) ∙ e), at ∙ h)
-          from l v false e h =
-              let t = all.told l v h in (t.0, (let lt = t.1 in omega (arith, lt)), t.2, t.3, t.4)
-
-      -- one place more
-      pub more : Notes eq old k number true new → Noted new (n + 1)
-      more notes = elim (some_or_none (old k)) [
-        | inl none ↦ added none (notes.unknown none).1
-        | inr some ↦ (let known = notes.known some.0 some.1 in
-            kept (some.1 ∙ ap Some (eqb-true some.0 number (sym known.0))) known.1)
-      ]
-
-      -- another number was noted
-      pub refuted : Notes eq old k number false new → LieTogether Same counts numbers → ⊥
-      refuted notes lie = elim (some_or_none (old k)) [
-        | inl none ↦ false≢true (notes.unknown none).0
-        | inr some ↦ (let t = all.told k some.0 some.1 in
-            let same = (decides n t.0 k t.3.0 key t.3.1).0 t.3.2 in
-            let one = lie n t.0 number some.0 counted t.2 same at t.4 in
-            false≢true ((notes.known some.0 some.1).0 ∙ eq-eqb some.0 number (sym one)))
-      ]
+    -- another number was noted
+    pub refuted : Notes old kind number false new → n < length kinds → Determine kinds numbers → ⊥
+    refuted notes lt determine = elim (some_or_none (old kind)) [
+      | inl none ↦ false≢true (notes.unknown none).0
+      | inr some ↦ (let t = all.told kind some.0 some.1 in
+          let before = t.1 in
+          let one = sym t.3 ∙ determine t.0 n (omega (arith, before, lt)) lt t.2 in
+          false≢true ((notes.known some.0 some.1).0 ∙ eq-eqb some.0 number one))
+    ]

@@ -1,27 +1,17 @@
 -- What the code computes; no promise stands here. Numbers that are noted by key, so that each key has one.
-use Rattle.std.specs.Prelude.{◌≡◌, ◌<◌, ℕ, ◌==◌, Bool, true, cond, List, Option, None, Some, slice_get}
+use Rattle.std.specs.Prelude.{◌≡◌, ◌<◌, ℕ, ◌==◌, Bool, true, cond, List, Option, None, Some, length, slice_index}
 
 -- what is noted of a key goes on: whether it was this number, where one was noted, and else that it is now
-pub record Notes {K : Type 0} (eq : K → K → Bool) (old : K → Option ℕ) (k : K) (number : ℕ) (b : Bool)
-    (new : K → Option ℕ) : Type 0 where
-  pub known : (n : ℕ) → old k ≡ Some n → (b ≡ (n == number)) × ((q : K) → new q ≡ old q)
-  pub unknown : old k ≡ None → (b ≡ true) × ((q : K) → new q ≡ cond (eq k q) (Some number) (old q))
+pub record Notes (old : ℕ → Option ℕ) (k number : ℕ) (b : Bool) (new : ℕ → Option ℕ) : Type 0 where
+  pub known : (n : ℕ) → old k ≡ Some n → (b ≡ (n == number)) × ((q : ℕ) → new q ≡ old q)
+  pub unknown : old k ≡ None → (b ≡ true) × ((q : ℕ) → new q ≡ cond (k == q) (Some number) (old q))
 
--- of the first n places, those that count each have a key, and the number of each is noted
-pub record AreNoted {K : Type 0} (eq : K → K → Bool) (IsKey : ℕ → K → Type 0) (counts : ℕ → Bool) (numbers : List ℕ)
-    (noted : K → Option ℕ) (n : ℕ) : Type 0 where
-  pub keyed : (i : ℕ) → i < n → counts i ≡ true → (k : K) × IsKey i k
-  pub each : (i : ℕ) (k : K) (v : ℕ) → i < n → counts i ≡ true → IsKey i k → slice_get numbers i ≡ Some v
-      → noted k ≡ Some v
-  pub told : (k : K) (v : ℕ) → noted k ≡ Some v → (i : ℕ) × (i < n) × (counts i ≡ true)
-      × ((l : K) × IsKey i l × (eq k l ≡ true)) × (slice_get numbers i ≡ Some v)
+-- of the first n places the number of each is noted by its kind, and nothing else
+pub record AreNoted (kinds numbers : List ℕ) (noted : ℕ → Option ℕ) (n : ℕ) : Type 0 where
+  pub each : (i : ℕ) → i < n → noted (slice_index kinds i) ≡ Some (slice_index numbers i)
+  pub told : (k v : ℕ) → noted k ≡ Some v → (i : ℕ) × (i < n) × (slice_index kinds i ≡ k) × (slice_index numbers i ≡ v)
 
--- places that are the same have one number
-abbrev pub LieTogether : (ℕ → ℕ → Type 0) → (ℕ → Bool) → List ℕ → Type 0
-LieTogether Same counts numbers = (i j v w : ℕ) → counts i ≡ true → counts j ≡ true → Same i j
-    → slice_get numbers i ≡ Some v → slice_get numbers j ≡ Some w → v ≡ w
-
--- .. those with one number in another list
+-- places of one kind have one number
 abbrev pub Determine : List ℕ → List ℕ → Type 0
-Determine kinds numbers = (i j k v w : ℕ) → slice_get kinds i ≡ Some k → slice_get kinds j ≡ Some k
-    → slice_get numbers i ≡ Some v → slice_get numbers j ≡ Some w → v ≡ w
+Determine kinds numbers = (i j : ℕ) → i < length kinds → j < length kinds → slice_index kinds i ≡ slice_index kinds j
+    → slice_index numbers i ≡ slice_index numbers j

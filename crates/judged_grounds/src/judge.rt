@@ -25,7 +25,7 @@ use step_equal::table::Table;
 ///
 /// Where the members aren't the names of the instances, in order, the fault is `Members`; else where
 /// a start or a split has no ground, `Ground`; else where the last round isn't stable, `Stable`.
-/// Where memory runs out it is `Memory`. Values are hashed by these keys.
+/// Where memory runs out it is `Memory`. Kinds and values are hashed by these keys.
 pub fn judge<'a>(
     alloc: Global,
     keys: RandomState,
@@ -42,7 +42,11 @@ pub fn judge<'a>(
     judge_by(alloc, keys, input, pinned, &signatures, table)
 }
 
-/// Judges a table as [`judge`] does, where the shapes and references of the rows are known.
+/// Judges a table as [`judge`] does, where the signatures of the rows are known.
+///
+/// Where the members aren't the names of the instances, in order, the fault is `Members`; else where
+/// a start or a split has no ground, `Ground`; else where the last round isn't stable, `Stable`.
+/// Where memory runs out it is `Memory`. Kinds are hashed by these keys.
 pub fn judge_by<'a>(
     alloc: Global,
     keys: RandomState,
@@ -57,11 +61,10 @@ pub fn judge_by<'a>(
         (λ _. IsValid input.now (is_pinned pinned.now) (table_of table.now))
         (IsFaultOf input.now (is_pinned pinned.now) (table_of table.now)) }
 {
-    let _shapes = signatures.shapes.len();
     if !names_match(input, table) {
         return Err(TableFault::Members);
     }
-    if !has_grounds(alloc, keys, input, pinned, table)? {
+    if !has_grounds(alloc, keys, input, pinned, signatures, table)? {
         return Err(TableFault::Ground);
     }
     if !is_stable(alloc, input, pinned, table)? {
@@ -76,15 +79,17 @@ fn has_grounds<'a>(
     keys: RandomState,
     input: &Plain<'a>,
     pinned: &BTreeSet<u64>,
+    signatures: &Signatures,
     table: &Table,
 ) -> Result<bool, AllocError>
     requires members { HasMembers input.now (table_of table.now) }
     requires well_formed { IsWellFormed (table_of table.now) }
+    requires signatures { AreSignatures input.now signatures.now }
     ensures { IfOk result (λ b. IsTrue b ↔ IsGrounded input.now (is_pinned pinned.now)
         (shares (table_of table.now)) table.now.rounds) }
 {
     if !starts_together(alloc, keys, input, pinned, table)? {
         return Ok(false);
     }
-    splits_have_grounds(alloc, keys, input, pinned, table)
+    splits_have_grounds(alloc, input, pinned, signatures, table)
 }

@@ -2,8 +2,10 @@
 //! is alike starts in one class, each split has a ground, and the last round is stable.
 #![tactic(auto)]
 
+mod births;
 pub mod fault;
 pub mod judge;
 mod noted;
+mod own;
 pub mod splits;
 pub mod starts;

@@ -1,21 +1,17 @@
--- The classes of instances at a round, by place, decide which of them share one.
-use Rattle.std.proofs.Common.{◌≡◌, ◌<◌, ◌≤◌, ℕ, zero, suc, Bool, true, false, List, [], ◌∷◌, length, map, slice_get, Some, None, refl, sym, ap, ◌∙◌, subst, arith}
-use Rattle.std.specs.Prelude.{◌==◌, All, slice_index, unwrap_or}
+-- The classes of instances at a round, by place.
+use Rattle.std.proofs.Common.{◌≡◌, ◌<◌, ◌≤◌, ℕ, suc, true, false, List, length, slice_get, Option, Some, None, refl, sym, ap, ◌∙◌, subst, arith, eqb-true, eq-eqb}
+use Rattle.std.specs.Prelude.{◌==◌, slice_index}
 use Rattle.std.specs.List.{IsDistinct}
+use Rattle.std.proofs.lemmas.Bool.{false≢true}
 use Rattle.std.proofs.lemmas.List.{length-map}
 use Rattle.std.proofs.lemmas.Option.{slice_get_within, slice_get-get_or, get_or_from_slice_get}
-use Rattle.step_equal.specs.Rows.{Row, names, row_at, IsName}
+use Rattle.step_equal.specs.Rows.{Row, names}
 use Rattle.step_equal.specs.Standard.{IsWellFormed}
 use Rattle.step_equal.specs.Tables.{Origin, Table, HasMembers, IsAncestor, itself, through, shares, class_at, same_class, ancestor_of}
 use Rattle.step_equal.proofs.Ancestors.{ancestor_is}
-use Rattle.step_equal.proofs.Lookup.{row_name}
-use Rattle.merged_outputs.specs.Places.{by_place}
-use Rattle.merged_outputs.proofs.FirstMembers.{place_of, member_at, last_of, get_map, by_place_at, some_once}
+use Rattle.merged_outputs.proofs.FirstMembers.{member_at, last_of, get_map}
 use Rattle.judged_tables.specs.ClassesAt.{AreClassesAt}
 use Rattle.judged_tables.specs.ComputedParents.{led_by_classes}
-
-item_at : (xs : List ℕ) (i : ℕ) → i < length xs → (x : ℕ) × (slice_get xs i ≡ Some x)
-item_at xs i lt = (slice_index xs i, slice_get-get_or xs i 0 lt)
 
 -- an ancestor doesn't stand behind the class
 below : (classes : List Origin) (round c a : ℕ) → IsAncestor classes round c a → a ≤ c
@@ -51,22 +47,11 @@ module _ (P : List Row) (t : Table) (round : ℕ) (members : HasMembers P t) (we
         ∙ ap (λ x. class_at t x round) m.2);
   }
 
--- the class of an instance is the number at its place
-module _ (P : List Row) (t : Table) (round : ℕ) (distinct : IsDistinct (◌==◌) (names P)) (cs : List ℕ)
-    (are : AreClassesAt P t round cs) where
-  pub class_by_place : (y : ℕ) → IsName P y → class_at t y round ≡ Some (by_place P cs y)
-  class_by_place y n =
-      let i = place_of P y n.0 n.1 in
-      let inside = slice_get_within P i.0 n.0 i.1 in
-      let each = are.each in
-      let x = item_at cs i.0 (omega (arith, inside, each)) in
-      let name : n.0.name ≡ y = row_name P y n.0 n.1 in
-      let class : class_at t y round ≡ Some x.0 =
-      ap (λ z. class_at t z round) (sym name) ∙ sym (are.class i.0 n.0 i.1) ∙ x.1 in
-      let told : by_place P cs y ≡ x.0 =
-      subst (λ z. by_place P cs z ≡ x.0) name (by_place_at P cs i.0 n.0 distinct i.1 ∙ ap (λ o. unwrap_or o n.0.name) x.1)
-      in class ∙ ap Some (sym told)
+-- what shares a class has one
+pub both : (a b : Option ℕ) → same_class a b ≡ true → (c : ℕ) × (a ≡ Some c) × (b ≡ Some c)
+both None b e = absurd (false≢true e)
+both (Some a) None e = absurd (false≢true e)
+both (Some a) (Some b) e = (a, refl, ap Some (sym (eqb-true a b e)))
 
-  pub shares_by_place : (y z : ℕ) → IsName P y → IsName P z → shares t round y z
-      ≡ (by_place P cs y == by_place P cs z)
-  shares_by_place y z n m = λ i. same_class (class_by_place y n i) (class_by_place z m i)
+pub one_class : (o p : Option ℕ) (c d : ℕ) → o ≡ Some c → p ≡ Some d → c ≡ d → same_class o p ≡ true
+one_class o p c d e f same = (λ i. same_class (e i) (f i)) ∙ eq-eqb c d same

@@ -1,8 +1,6 @@
 pub mod Agreeing
 pub mod Stability
 pub mod Finding
-pub mod Splitting
-pub mod Counting
 pub mod Parents
 pub mod AtRounds
 pub mod Climbing

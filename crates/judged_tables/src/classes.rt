@@ -12,6 +12,7 @@ ghost use Rattle.std.specs.Prelude.{
   Some,
   is_some,
   length,
+  map,
   slice_get,
   true,
 };
@@ -22,7 +23,7 @@ ghost use Rattle.step_equal.specs.Tables.{HasMembers};
 ghost use Rattle.step_equal.specs.TableViews.{table_of};
 ghost use Rattle.judged_tables.specs.ClassesAt.{AreClassesAt};
 ghost use Rattle.judged_tables.specs.ComputedParents.{led_by_classes};
-ghost use Rattle.judged_tables.specs.ComputedStability.{classes_of, label_by, labels_by};
+ghost use Rattle.judged_tables.specs.ComputedStability.{label_by, labels_by};
 ghost use Rattle.merged_outputs.specs.Places.{by_place};
 
 use crate::ancestors::ancestors;
@@ -83,9 +84,9 @@ fn led_by_classes(
     Ok(classes)
 }
 
-/// Of each member its class.
-pub(crate) fn classes_of(alloc: Global, members: &[(u64, u32)]) -> Result<Vec<u32>, AllocError>
-    ensures { IfOk result (λ v. v.items ≡ classes_of members.now) }
+/// Of each member of a table its class at the last round. `AllocError` comes where memory runs out.
+pub fn classes_of(alloc: Global, members: &[(u64, u32)]) -> Result<Vec<u32>, AllocError>
+    ensures { IfOk result (λ v. v.items ≡ map (λ (m : ℕ × ℕ). m.1) members.now) }
 {
     let mut classes = Vec::with_capacity(alloc, members.len())?;
     for member in members {

@@ -15,7 +15,7 @@ const PLACES: u32 = 50;
 const NODES: u32 = 5000;
 
 /// The last round of a chain of two nodes more: one node is parted off at each round.
-const ROUNDS: u32 = 1000;
+const ROUNDS: u32 = 5000;
 
 /// Points at a few places in turn, with names that are far apart.
 fn points(alloc: Global) -> Result<String, AllocError> {
@@ -97,9 +97,9 @@ pub(crate) fn a_ring_is_merged(alloc: Global, keys: RandomState) -> bool {
 /// Whether all nodes of a chain are kept, and one is parted off at each round.
 pub(crate) fn a_chain_is_parted(alloc: Global, keys: RandomState) -> bool {
     let wanted = Proof {
-        instances: 1003,
-        kept: 1003,
-        rounds: 1000,
+        instances: 5003,
+        kept: 5003,
+        rounds: 5000,
     };
     match chain(alloc) {
         Ok(lines) => comes_to(alloc, keys, "NODE", &lines, wanted),

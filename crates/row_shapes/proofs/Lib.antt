@@ -7,3 +7,6 @@ mod OneShape
 mod FirstPlaces
 mod Shaping
 mod Indexing
+pub mod Naming
+pub mod Zipping
+pub mod Agreeing

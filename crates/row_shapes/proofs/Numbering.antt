@@ -1,50 +1,17 @@
 -- Numbers tell kinds apart.
 use Rattle.std.proofs.Common.{◌≡◌, ◌≢◌, ◌<◌, ◌+◌, ℕ, zero, suc, Bool, true, false, cond, List, [], ◌∷◌, ◌++◌, length, Option, Some, None, refl, sym, ap, ◌∙◌, subst, arith, slice_get, eqb-true, eq-eqb, ◌⊎◌, inl, inr}
 use Rattle.std.specs.Prelude.{◌==◌, ◌||◌, ◌↔◌, slice_index}
-use Rattle.std.specs.List.{IsDistinct, AllByRecursion}
+use Rattle.std.specs.List.{IsDistinct}
 use Rattle.std.proofs.lemmas.Bool.{false≢true}
 use Rattle.std.proofs.lemmas.Option.{get_or_from_slice_get}
 use Rattle.step_equal.specs.ComputedKinds.{kind_test}
 use Rattle.step_equal.specs.Keeping.{AreAlike}
 use Rattle.step_equal.specs.Rows.{Row, Kind, kind_of, names, row_at}
-use Rattle.step_equal.proofs.Lookup.{row_here, row_under, distinct_rest, same_row}
+use Rattle.step_equal.proofs.Lookup.{same_row}
 use Rattle.step_equal.proofs.OneKind.{kinds_decide}
 use Rattle.step_equal.proofs.Placing.{stands_at, name_at}
+use Rattle.row_shapes.proofs.Naming.{item_at, once, one_place, row_stands}
 use Rattle.row_shapes.specs.ComputedKinds.{IsNumber, AreNumbers, earlier}
-
-pub once : {A : Type 0} (x y : A) → Some x ≡ Some y → x ≡ y
-once x y e = cc
-
--- the row at a place stands under its name
-pub stands : (rows : List Row) (i : ℕ) (r : Row) → IsDistinct (◌==◌) (names rows) → slice_get rows i ≡ Some r
-    → row_at rows r.name ≡ Some r
-stands [] i r d at = absurd (cc)
-stands (s ∷ rows) zero r d at =
-    let same : s ≡ r = once s r at in row_here s rows r.name (ap (λ (q : Row). q.name) same) ∙ at
-stands (s ∷ rows) (suc i) r d at = row_under s rows r.name r d (stands rows i r (distinct_rest s rows d) at)
-
-apart_from : (x : ℕ) (rows : List Row) (i : ℕ) (r : Row) → AllByRecursion (λ y. (x == y) ≡ false) (names rows)
-    → slice_get rows i ≡ Some r → (x == r.name) ≡ false
-apart_from x [] i r d at = absurd (cc)
-apart_from x (s ∷ rows) zero r d at = ap (λ (q : Row). x == q.name) (sym (once s r at)) ∙ d.0
-apart_from x (s ∷ rows) (suc i) r d at = apart_from x rows i r d.1 at
-
-apart : (s : Row) (rows : List Row) (i : ℕ) (r : Row) → IsDistinct (◌==◌) (names (s ∷ rows))
-    → slice_get rows i ≡ Some r → s.name ≢ r.name
-unfolding IsDistinct
-apart s rows i r d at same = false≢true (sym (apart_from s.name rows i r d.0 at) ∙ eq-eqb s.name r.name same)
-
--- a name stands at one place
-pub one_place : (rows : List Row) (i j : ℕ) (p q : Row) → IsDistinct (◌==◌) (names rows) → slice_get rows i ≡ Some p
-    → slice_get rows j ≡ Some q → p.name ≡ q.name → i ≡ j
-one_place [] i j p q d a b same = absurd (cc)
-one_place (s ∷ rows) zero zero p q d a b same = refl
-one_place (s ∷ rows) zero (suc j) p q d a b same =
-    absurd (apart s rows j q d b (ap (λ (r : Row). r.name) (once s p a) ∙ same))
-one_place (s ∷ rows) (suc i) zero p q d a b same =
-    absurd (apart s rows i p d a (ap (λ (r : Row). r.name) (once s q b) ∙ sym same))
-one_place (s ∷ rows) (suc i) (suc j) p q d a b same =
-    ap suc (one_place rows i j p q (distinct_rest s rows d) a b same)
 
 pub before : {A : Type 0} (xs : List A) (x : A) (i : ℕ) → i < length xs → slice_get (xs ++ x ∷ []) i ≡ slice_get xs i
 before [] x i l = absurd (omega (arith, l))
@@ -56,11 +23,6 @@ behind [] x zero l = refl
 behind [] x (suc i) l = absurd (omega (arith, l))
 behind (y ∷ xs) x zero l = absurd (omega (arith, l))
 behind (y ∷ xs) x (suc i) l = behind xs x i (omega (arith, l))
-
-pub item_at : {A : Type 0} (xs : List A) (i : ℕ) → i < length xs → (x : A) × (slice_get xs i ≡ Some x)
-item_at [] i l = absurd (omega (arith, l))
-item_at (y ∷ xs) zero l = (y, refl)
-item_at (y ∷ xs) (suc i) l = item_at xs i (omega (arith, l))
 
 pub last_or_before : (i n : ℕ) → i < n + 1 → (i ≡ n) ⊎ (i < n)
 last_or_before i n lt = by (i == n) refl
@@ -188,8 +150,8 @@ module _ (pinned : ℕ → Bool) (rows : List Row) (distinct : IsDistinct (◌==
   alike kind same = record {
     left = p;
     right = q;
-    left_is = stands rows i p distinct at;
-    right_is = stands rows j q distinct there;
+    left_is = row_stands rows i p distinct at;
+    right_is = row_stands rows j q distinct there;
     same_kind = kind;
     same_if_pinned = same;
   }
@@ -219,8 +181,8 @@ module _ (pinned : ℕ → Bool) (rows : List Row) (distinct : IsDistinct (◌==
           ∙ other)
 
       kind : kind_of p ≡ kind_of q
-      kind = ap kind_of (same_row (row_at rows p.name) (stands rows i p distinct at) h.left_is) ∙ h.same_kind
-          ∙ ap kind_of (same_row (row_at rows q.name) h.right_is (stands rows j q distinct there))
+      kind = ap kind_of (same_row (row_at rows p.name) (row_stands rows i p distinct at) h.left_is) ∙ h.same_kind
+          ∙ ap kind_of (same_row (row_at rows q.name) h.right_is (row_stands rows j q distinct there))
 
       by : (c d : Bool) → pinned p.name ≡ c → pinned q.name ≡ d → a ≡ b
       by true d f g = same (ap (λ x. x || pinned q.name) f)

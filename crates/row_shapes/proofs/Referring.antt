@@ -15,7 +15,8 @@ use Rattle.step_equal.proofs.Lookup.{items_from, named, row_name}
 use Rattle.step_equal.proofs.Placing.{name_at}
 use Rattle.row_shapes.specs.ComputedReferences.{AddsEdges, AreOfFirst, IsEdge}
 use Rattle.row_shapes.specs.References.{Refers}
-use Rattle.row_shapes.proofs.Numbering.{last_or_before, one_place, once, stands}
+use Rattle.row_shapes.proofs.Naming.{once, one_place, row_stands}
+use Rattle.row_shapes.proofs.Numbering.{last_or_before}
 
 -- what holds of each reference holds of those outside bags
 mutual
@@ -26,7 +27,7 @@ mutual
   outside_hold P (sequence vs) h = each_outside_holds P vs h
   outside_hold P (bag vs) h = All-nil P
 
-  pub each_outside_holds : (P : ℕ → Type 0) (vs : Values) → EachReferenceOf P vs → All P (outside_each vs)
+  each_outside_holds : (P : ℕ → Type 0) (vs : Values) → EachReferenceOf P vs → All P (outside_each vs)
   each_outside_holds P none h = All-nil P
   each_outside_holds P (more v vs) h = All-append P (outside v) (outside_each vs) (outside_hold P v h.0)
       (each_outside_holds P vs h.1)
@@ -36,7 +37,7 @@ pub names_named : (rows : List Row) → IsPopulation rows → (i : ℕ) (r : Row
     → All (IsName rows) (outside_each r.values)
 names_named rows population i r at =
     each_outside_holds (IsName rows) r.values
-    (population.closed r.name r (stands rows i r population.distinct at))
+    (population.closed r.name r (row_stands rows i r population.distinct at))
 
 -- a name at two places
 same_place : (rows : List Row) (t u y : ℕ) → IsDistinct (◌==◌) (names rows) → slice_get (names rows) t ≡ Some y

@@ -1,5 +1,5 @@
 -- Numbers tell shapes apart.
-use Rattle.std.proofs.Common.{◌≡◌, ◌<◌, ◌+◌, ℕ, List, [], ◌∷◌, ◌++◌, length, take, Some, refl, sym, ap, ◌∙◌, subst, arith, slice_get, inl, inr}
+use Rattle.std.proofs.Common.{◌≡◌, ◌<◌, ◌+◌, ℕ, List, [], ◌∷◌, ◌++◌, length, take, Some, sym, ap, ◌∙◌, subst, arith, slice_get, inl, inr}
 use Rattle.std.specs.Prelude.{◌↔◌, cond, slice_index, unwrap_or}
 use Rattle.std.specs.Map.{lookup}
 use Rattle.std.specs.declared.random_state.RandomState.{RandomState}
@@ -10,15 +10,9 @@ use Rattle.step_equal.specs.Rows.{Row}
 use Rattle.row_shapes.specs.declared.shapes.Shape.{Shape}
 use Rattle.row_shapes.specs.ComputedShapes.{AreFirsts, AreShapeNumbers, IsShapeOf, first_place, same_shape, values_before}
 use Rattle.row_shapes.proofs.FirstPlaces.{first_stays, first_tells, one_more_first, own_first, same_first}
-use Rattle.row_shapes.proofs.Numbering.{before, behind, item_at, last_or_before, once}
+use Rattle.row_shapes.proofs.Naming.{item_at, once}
+use Rattle.row_shapes.proofs.Numbering.{before, behind, last_or_before}
 use Rattle.row_shapes.proofs.Referring.{longer}
-
-pub none_shaped : (keys : RandomState) (rows : List Row) → AreShapeNumbers keys rows [] [] 0
-none_shaped keys rows = record {
-  each = refl;
-  firsts = λ vs s is. refl;
-  numbered = λ i r lt. absurd (omega (arith, lt));
-}
 
 count_before : (n : ℕ) (rows : List Row) → n < length rows → length (values_before n rows) ≡ n
 count_before n rows lt =

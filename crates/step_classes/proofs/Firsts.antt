@@ -23,7 +23,7 @@ use Rattle.step_equal.proofs.Ancestors.{classes_are_ancestors}
 use Rattle.step_equal.proofs.Unique.{apart_at}
 use Rattle.step_tables.specs.Laws.{members_of, origin_in, table_of}
 use Rattle.step_classes.specs.ComputedFirsts.{AreFirsts}
-use Rattle.step_classes.proofs.Naming.{once, names_long}
+use Rattle.row_shapes.proofs.Naming.{once, names_long}
 
 item_at : {A : Type 0} (xs : List A) (i : ℕ) → i < length xs → (x : A) × (slice_get xs i ≡ Some x)
 item_at [] i l = absurd (omega (arith, l))

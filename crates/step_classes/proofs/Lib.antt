@@ -1,5 +1,3 @@
-mod Naming
-mod Zipping
 mod Agreeing
 mod Refining
 mod Firsts

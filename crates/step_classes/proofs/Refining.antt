@@ -17,8 +17,8 @@ use Rattle.step_equal.proofs.Rounds.{own}
 use Rattle.step_tables.specs.Laws.{table_of}
 use Rattle.step_tables.proofs.Standard.{end_is, numbers_stand}
 use Rattle.step_classes.specs.ComputedRounds.{IsByKinds, IsByValues}
-use Rattle.step_classes.proofs.Naming.{names_long, stands}
-use Rattle.step_classes.proofs.Agreeing.{agree_by_places}
+use Rattle.row_shapes.proofs.Naming.{names_long, stands}
+use Rattle.step_classes.proofs.Agreeing.{agree_by_related}
 
 module _ (P : List Row) (pinned : ℕ → Bool) (population : IsPopulation P) where
   abbrev at : ℕ → ℕ
@@ -49,7 +49,7 @@ module _ (P : List Row) (pinned : ℕ → Bool) (population : IsPopulation P) wh
                 let parts = kinds.parts x z l m in
                 (λ h. parts.1 (first.0 h), λ e. first.1 (parts.0 e));
             next = λ r x z l m.
-                let agree = agree_by_places P pinned (parted P pinned r) (round_own r) (alike_at r) population
+                let agree = agree_by_related P pinned (parted P pinned r) (round_own r) (alike_at r) population
                 values.edges values.references values.shapes values.shaped x z (omega (arith, l, places))
                 (omega (arith, m, places)) in (
                   λ h. (let parts = next_from r (at x) (at z) h in

@@ -6,7 +6,7 @@ use Rattle.std.proofs.lemmas.List.Elements.{All-push}
 use Rattle.std.proofs.lemmas.List.{map_push, take_all}
 use Rattle.step_equal.specs.TableViews.{member_of}
 use Rattle.step_tables.specs.Laws.{members_of}
-use Rattle.step_classes.proofs.Naming.{once}
+use Rattle.row_shapes.proofs.Naming.{once}
 
 -- one name more
 members_next : (ys ms : List ℕ) (k y : ℕ) → k < length ms → slice_get ys k ≡ Some y

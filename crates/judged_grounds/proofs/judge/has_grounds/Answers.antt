@@ -1,4 +1,4 @@
-use Rattle.std.proofs.Common.{◌≡◌, true, refl, sym, ◌∙◌}
+use Rattle.std.proofs.Common.{true, sym, ◌∙◌}
 use Rattle.std.proofs.lemmas.Bool.{false≢true}
 use Rattle.judged_tables.proofs.Finding.{through_ok}
 use Rattle.judged_grounds.proofs.judge.has_grounds.Goals as goal

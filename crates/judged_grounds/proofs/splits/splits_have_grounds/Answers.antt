@@ -1,52 +1,65 @@
-use Rattle.std.proofs.Common.{◌≡◌, ◌<◌, ℕ, true, false, refl, sym, ap, ◌∙◌, arith, length, slice_get, nat_eq}
-use Rattle.std.specs.List.{list_any}
-use Rattle.std.proofs.lemmas.Bool.{false≢true}
+use Rattle.std.proofs.Common.{◌≡◌, ◌<◌, ◌∙◌, ℕ, List, map, length, sym, subst, ap, arith}
+use Rattle.std.specs.List.{All}
 use Rattle.std.proofs.lemmas.List.{length-map}
+use Rattle.std.proofs.lemmas.List.Elements.{All-map}
+use Rattle.class_rounds.specs.Edges.{AreEdges}
+use Rattle.class_splits.specs.Births.{AreBirths}
 use Rattle.step_equal.specs.Maps.{is_pinned}
 use Rattle.step_equal.specs.TableViews.{origin_of, table_of}
-use Rattle.judged_tables.proofs.Parents.{one_more_below}
-use Rattle.judged_grounds.specs.ComputedRounds.{HasGround, HasGrounds}
-use Rattle.judged_grounds.proofs.Judging.{next_where}
+use Rattle.merged_outputs.proofs.FirstMembers.{map_members}
+use Rattle.judged_tables.proofs.Finding.{through_ok}
+use Rattle.row_shapes.specs.Signatures.{AreShapes}
+use Rattle.judged_grounds.specs.ComputedSplits.{AreBirthsOf, AreOwn}
+use Rattle.judged_grounds.proofs.Sharing.{as_many}
+use Rattle.judged_grounds.proofs.SplitOff.{are_births}
+use Rattle.judged_grounds.proofs.Standing.{grounds_where}
 use Rattle.judged_grounds.proofs.splits.splits_have_grounds.Goals as goal
 
-pub loop-class-init : goal.loop-class-init
-loop-class-init c = record {
-  rounds = λ r e. absurd (false≢true (sym (ap (list_any (nat_eq r)) c.with_hasher-done.ensures.empty) ∙ e));
-  classes = λ k lt. absurd (omega (arith, lt));
-}
+abbrev classes_of : List (ℕ × ℕ) → List ℕ
+classes_of ms = map (λ (m : ℕ × ℕ). m.1) ms
 
-pub returns-then-not-branch : goal.returns-then-not-branch
-returns-then-not-branch c =
-    let t = table_of c.args.table.now in
-    let same = length-map c.args.table.now.classes.items origin_of in
-    let lt : c.loop-class.class < length t.classes = omega (arith, same, c.len-class-end.ensures, c.loop-class-test.true) in (
-      λ q. absurd (false≢true q),
-      λ next. absurd ((c.in_ok-has_ground.ensures c.loop-class.invariant.rounds).1 c.if-not-branch.true
-          ((next_where c.args.input.now (is_pinned c.args.pinned.now) t c.requires.well_formed).1 next
-          c.loop-class.class lt)),
-    )
+pub have_grounds-requires-clause-births : goal.have_grounds-requires-clause-births
+have_grounds-requires-clause-births c =
+    let long = length-map c.args.table.now.classes.items origin_of in
+    let same : length (table_of c.args.table.now).classes ≡ c.len-classes.result =
+    omega (arith, long, c.len-classes.ensures) in
+    subst (λ n. AreBirths n c.in_ok-births.births.items) same
+    (are_births (table_of c.args.table.now) c.requires.well_formed c.in_ok-births.births.items
+    (subst (λ os. AreBirthsOf (map origin_of os) c.in_ok-births.births.items) c.deref.ensures.value
+    c.in_ok-births.ensures))
 
-pub loop-class-preserved : goal.loop-class-preserved
-loop-class-preserved c =
+pub have_grounds-requires-clause-known : goal.have_grounds-requires-clause-known
+have_grounds-requires-clause-known c =
     let t = table_of c.args.table.now in
-    let good = (c.in_ok-has_ground.ensures c.loop-class.invariant.rounds).0 c.if-not-branch.false in
-    record {
-      rounds = good.0;
-      classes = one_more_below (λ k. HasGround (HasGrounds c.args.input.now (is_pinned c.args.pinned.now) t)
-          (slice_get t.classes k)) c.loop-class.class c.loop-class.invariant.classes good.1;
-    }
+    let last_is = c.deref-3.ensures.value ∙ c.in_ok-last.ensures ∙ ap classes_of c.deref-2.ensures.value
+    ∙ ap classes_of (sym (map_members c.args.table.now.members.items)) in
+    let long = length-map c.args.table.now.classes.items origin_of in
+    let same : length t.classes ≡ c.len-classes.result = omega (arith, long, c.len-classes.ensures) in
+    subst (All (λ k. k < c.len-classes.result)) (sym last_is)
+    (All-map (λ k. k < c.len-classes.result) (λ (m : ℕ × ℕ). m.1) t.members
+    (subst (λ n. All (λ (m : ℕ × ℕ). m.1 < n) t.members) same c.requires.well_formed.declared))
+
+pub have_grounds-requires-clause-edges : goal.have_grounds-requires-clause-edges
+have_grounds-requires-clause-edges c =
+    let t = table_of c.args.table.now in
+    let last_is = c.deref-3.ensures.value ∙ c.in_ok-last.ensures ∙ ap classes_of c.deref-2.ensures.value
+    ∙ ap classes_of (sym (map_members c.args.table.now.members.items)) in
+    subst (λ n. AreEdges n c.args.signatures.now.edges)
+    (sym (as_many c.args.input.now t c.deref-3.result.now c.requires.members last_is))
+    c.requires.signatures.references.are
 
 pub returns : goal.returns
 returns c =
+    let P = c.args.input.now in
+    let pinned = is_pinned c.args.pinned.now in
     let t = table_of c.args.table.now in
-    let same = length-map c.args.table.now.classes.items origin_of in (
-      λ _. (next_where c.args.input.now (is_pinned c.args.pinned.now) t c.requires.well_formed).0
-          (λ k lt. c.loop-class.invariant.classes k (omega (
-            arith,
-            lt,
-            same,
-            c.len-class-end.ensures,
-            c.loop-class-test.false,
-          ))),
-      λ _. refl,
-    )
+    let births = c.in_ok-births.births.items in
+    let last_is = c.deref-3.ensures.value ∙ c.in_ok-last.ensures ∙ ap classes_of c.deref-2.ensures.value
+    ∙ ap classes_of (sym (map_members c.args.table.now.members.items)) in
+    through_ok c.have_grounds.result c.have_grounds.ensures
+    (grounds_where P pinned t c.len-rows.ensures.population c.requires.members c.requires.well_formed births
+    (subst (λ os. AreBirthsOf (map origin_of os) births) c.deref.ensures.value c.in_ok-births.ensures)
+    c.deref-3.result.now last_is c.deref-4.result.now
+    (subst (λ ns. AreOwn P pinned ns (length P)) (sym c.deref-4.ensures.value) c.in_ok-own.ensures)
+    c.args.signatures.now.edges c.requires.signatures.references c.deref-5.result.now
+    (subst (AreShapes P) (sym c.deref-5.ensures.value) c.requires.signatures.shaped))

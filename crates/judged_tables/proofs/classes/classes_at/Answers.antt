@@ -1,7 +1,7 @@
-use Rattle.std.proofs.Common.{◌≡◌, ◌≤◌, ◌∙◌, ℕ, Some, sym, subst, ap, map, length, slice_get}
+use Rattle.std.proofs.Common.{◌≡◌, ◌≤◌, ◌∙◌, ℕ, Some, sym, subst, ap, length, slice_get}
 use Rattle.std.proofs.lemmas.List.{length-map}
 use Rattle.std.proofs.lemmas.Result.{IfOk-weaker}
-use Rattle.step_equal.specs.TableViews.{origin_of, member_of, table_of}
+use Rattle.step_equal.specs.TableViews.{origin_of, table_of}
 use Rattle.merged_outputs.proofs.FirstMembers.{map_members}
 use Rattle.judged_tables.specs.ComputedParents.{led_by_classes}
 use Rattle.judged_tables.proofs.AtRounds.{ancestors_below, led_are_classes}

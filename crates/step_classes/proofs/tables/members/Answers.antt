@@ -4,7 +4,7 @@ use Rattle.std.specs.List.{All}
 use Rattle.std.proofs.lemmas.List.Elements.{All-nil}
 use Rattle.step_equal.specs.Rows.{names}
 use Rattle.step_equal.specs.TableViews.{member_of}
-use Rattle.step_classes.proofs.Naming.{names_long}
+use Rattle.row_shapes.proofs.Naming.{names_long}
 use Rattle.step_classes.proofs.Writing.{members_more, members_whole, named_more}
 use Rattle.step_classes.proofs.tables.members.Goals as goal
 

@@ -1,0 +1,6 @@
+pub mod Births
+pub mod Grounds
+pub mod Moves
+pub mod ComputedMembers
+pub mod ComputedUndoing
+pub mod ComputedWalk
