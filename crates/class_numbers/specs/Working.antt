@@ -1,10 +1,10 @@
 -- What the code computes; no promise stands here.
 use Rattle.std.specs.Prelude.{◌≡◌, ◌↔◌, ◌⊎◌, ℕ, ◌+◌, ◌-◌, ◌*◌, ◌%◌, ◌<◌, ◌≤◌, List, length, slice_index}
 use Rattle.std.specs.List.{Contains}
-use Rattle.class_parts.specs.Laid.{Layout, size, count, class_in, parent_of}
+use Rattle.class_parts.specs.Laid.{Layout, IsLaid, size, count, class_in, parent_of}
 use Rattle.class_parts.specs.Parted.{Above, IsAmong, IsAmongFirst}
 use Rattle.class_numbers.specs.Firsts.{IsFirstOf, IsFirstIn, IsFirst}
-use Rattle.class_numbers.specs.Births.{IsBirth}
+use Rattle.class_numbers.specs.Births.{AreCounts, IsBirth}
 
 -- the first places of the classes below `base`, when there were so many
 abbrev pub AreFirstPlaces : Layout → ℕ → List ℕ → Type 0
@@ -58,6 +58,14 @@ pub record IsUndone (p : Layout) (counts rounds before : List ℕ) : Type 0 wher
 pub record AreHeads (p : Layout) (heads : List ℕ) : Type 0 where
   pub each : length heads ≡ size p
   pub first : (x : ℕ) → x < size p → IsFirstOf p (count p) x (slice_index heads x)
+
+-- all that the rounds say of n places
+pub record IsTraced (p : Layout) (counts rounds before heads : List ℕ) (n : ℕ) : Type 0 where
+  pub laid : IsLaid p
+  pub counted : AreCounts p counts
+  pub places : size p ≡ n
+  pub undone : IsUndone p counts rounds before
+  pub headed : AreHeads p heads
 
 -- a round and a place in one number
 abbrev pub key_of : ℕ → ℕ → ℕ

@@ -1,12 +1,12 @@
 //! The standard numbers of classes.
 
 ghost use Rattle.std.specs.Prelude.{ℕ, ◌≡◌, ◌<◌, ◌/◌, IfOk, length, map, slice_index};
-ghost use Rattle.class_parts.specs.Laid.{IsLaid, class_in, count, size};
+ghost use Rattle.class_parts.specs.Laid.{Layout, IsLaid, class_in, count, size};
 ghost use Rattle.class_parts.specs.Views.{layout};
 ghost use Rattle.class_numbers.specs.Births.{AreCounts};
 ghost use Rattle.class_numbers.specs.Numbers.{IsNumbering};
 ghost use Rattle.class_numbers.specs.Origins.{origin_of, place_in};
-ghost use Rattle.class_numbers.specs.Working.{AreHeads, IsUndone};
+ghost use Rattle.class_numbers.specs.Working.{IsTraced};
 
 use crate::first_places::{filled, first_places};
 use crate::history::undo_rounds;
@@ -35,34 +35,68 @@ pub struct Numbering {
     pub members: Vec<u32>,
 }
 
-/// Numbers the classes of a refinement. `counts` has the number of classes after each round, that of round 0 first, as
-/// `refine` of `class_rounds` answers it.
+/// When places became the first of a class, and what they were part of then.
+#[derive(Drop)]
+struct History {
+    /// By place, the round; the number of rounds where it never did.
+    rounds: Vec<u32>,
+    /// By place, the first place of the class that it was parted off.
+    before: Vec<u32>,
+    /// By place, the first place of its class after the last round.
+    heads: Vec<u32>,
+}
+
+/// Numbers the classes of a refinement, which aren't needed any more. `counts` has the number of classes after each round,
+/// that of round 0 first, as `refine` of `class_rounds` answers it.
 ///
 /// It takes time by the number of places times its logarithm.
 ///
 /// # Errors
 ///
 /// `AllocError` where memory runs out.
-pub fn number(alloc: Global, parts: &Parts, counts: &[u32]) -> Result<Numbering, AllocError>
-    requires laid { IsLaid (layout parts.now) }
-    requires counts { AreCounts (layout parts.now) counts.now }
+pub fn number(alloc: Global, parts: Parts, counts: &[u32]) -> Result<Numbering, AllocError>
+    requires laid { IsLaid (layout parts) }
+    requires counts { AreCounts (layout parts) counts.now }
     ensures { IfOk result
-        (λ n. IsNumbering (layout parts.now) counts.now n.firsts.items n.origins.items n.members.items) }
+        (λ n. IsNumbering (layout parts) counts.now n.firsts.items n.origins.items n.members.items) }
 {
     let size = parts.len();
-    let mut first_places = first_places(alloc, parts)?;
-    let heads = heads(alloc, parts, &first_places)?;
+    let history = history_of(alloc, parts, counts)?;
+    in_order(
+        alloc,
+        size,
+        counts,
+        &history.rounds,
+        &history.before,
+        &history.heads,
+    )
+}
+
+/// Goes back over the rounds of a refinement, from the last to the first.
+fn history_of(alloc: Global, parts: Parts, counts: &[u32]) -> Result<History, AllocError>
+    requires laid { IsLaid (layout parts) }
+    requires counts { AreCounts (layout parts) counts.now }
+    ensures { IfOk result (λ h. IsTraced (layout parts) counts.now h.rounds.items h.before.items h.heads.items
+        (size (layout parts))) }
+{
+    let size = parts.len();
+    let mut first_places = first_places(alloc, &parts)?;
+    let heads = heads(alloc, &parts, &first_places)?;
     let mut rounds = filled(alloc, size as usize, counts.len() as u32)?;
     let mut before = filled(alloc, size as usize, 0)?;
     undo_rounds(
         alloc,
-        parts,
+        &parts,
         counts,
         &mut first_places,
         &mut rounds,
         &mut before,
     )?;
-    in_order(alloc, parts, counts, &rounds, &before, &heads)
+    Ok(History {
+        rounds,
+        before,
+        heads,
+    })
 }
 
 /// By place, the first place of its class.
@@ -83,21 +117,18 @@ fn heads(alloc: Global, parts: &Parts, first_places: &[u32]) -> Result<Vec<u32>,
 /// Numbers the births of classes in order.
 fn in_order(
     alloc: Global,
-    parts: &Parts,
+    size: u32,
     counts: &[u32],
     rounds: &[u32],
     before: &[u32],
     heads: &[u32],
 ) -> Result<Numbering, AllocError>
-    requires laid { IsLaid (layout parts.now) }
-    requires counts { AreCounts (layout parts.now) counts.now }
-    requires undone { IsUndone (layout parts.now) counts.now rounds.now before.now }
-    requires heads { AreHeads (layout parts.now) heads.now }
-    ensures { IfOk result
-        (λ n. IsNumbering (layout parts.now) counts.now n.firsts.items n.origins.items n.members.items) }
+    requires { (p : Layout) × IsTraced p counts.now rounds.now before.now heads.now size }
+    ensures { (p : Layout) → IsTraced p counts.now rounds.now before.now heads.now size → IfOk result
+        (λ n. IsNumbering p counts.now n.firsts.items n.origins.items n.members.items) }
 {
     let births = births(alloc, rounds, counts.len() as u32)?;
-    let numbers = numbers(alloc, &births, parts.len())?;
+    let numbers = numbers(alloc, &births, size)?;
     Ok(Numbering {
         firsts: firsts(alloc, &births)?,
         origins: origins(alloc, &births, &numbers, before)?,

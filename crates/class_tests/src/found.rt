@@ -29,7 +29,7 @@ fn numbered(alloc: Global, kinds: &[u32], shapes: &[u32], edges: &Edges) -> Opti
     let mut parts = start(alloc, kinds).ok()?;
     let rounds = refine(alloc, &mut parts, edges, shapes).ok()?;
     refined_are_counted();
-    let numbering = number(alloc, &parts, &rounds.counts).ok()?;
+    let numbering = number(alloc, parts, &rounds.counts).ok()?;
     Some(Found {
         counts: rounds.counts,
         signed: rounds.signed,

@@ -45,7 +45,7 @@ pub(crate) fn find<'a>(
     let mut parts = by_kinds(alloc, keys, input, pinned)?;
     let rounds = by_values(alloc, input, &mut parts, signatures)?;
     refined_are_counted();
-    let numbering = number(alloc, &parts, &rounds.counts)?;
+    let numbering = number(alloc, parts, &rounds.counts)?;
     Ok(Found {
         last: rounds.counts.len() as u32 - 1,
         numbering,

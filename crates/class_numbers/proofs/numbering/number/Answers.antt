@@ -1,18 +1,27 @@
-use Rattle.std.proofs.Common.{◌∙◌, ap, length, arith}
-use Rattle.std.specs.Prelude.{slice_index}
-use Rattle.class_parts.specs.Laid.{class_in}
+use Rattle.std.proofs.Common.{◌≡◌, ℕ, List, subst, sym}
+use Rattle.class_parts.specs.Laid.{Layout}
 use Rattle.class_parts.specs.Views.{layout}
-use Rattle.class_numbers.proofs.Counting.{rounds_few}
-use Rattle.class_numbers.proofs.Table.{heads_are}
+use Rattle.class_numbers.specs.Working.{IsTraced}
 use Rattle.class_numbers.proofs.numbering.number.Goals as goal
 
-pub overflow_cast-counts : goal.overflow_cast-counts
-overflow_cast-counts c =
-    let few = rounds_few (layout c.args.parts.now) c.args.counts.now c.requires.laid c.requires.counts in omega arith
+-- equal lists say the same
+traced : (p : Layout) (counts rounds others before befores heads firsts : List ℕ) (n m : ℕ) → others ≡ rounds
+    → befores ≡ before → firsts ≡ heads → m ≡ n → IsTraced p counts rounds before heads n
+    → IsTraced p counts others befores firsts m
+traced p counts rounds others before befores heads firsts n m a b d e h =
+    subst (λ rs. IsTraced p counts rs befores firsts m) (sym a)
+    (subst (λ bs. IsTraced p counts rounds bs firsts m) (sym b)
+    (subst (λ hs. IsTraced p counts rounds before hs m) (sym d)
+    (subst (IsTraced p counts rounds before heads) (sym e) h)))
 
-pub in_order-requires-clause-heads : goal.in_order-requires-clause-heads
-in_order-requires-clause-heads c =
-    heads_are (layout c.args.parts.now) c.in_ok-first_places.first_places.items c.deref-4.result.now c.requires.laid
-    c.in_ok-first_places.ensures.first_places (ap length c.deref-4.ensures.value ∙ c.in_ok-heads.ensures.length)
-    (λ x l. ap (λ xs. slice_index xs x) c.deref-4.ensures.value ∙ c.in_ok-heads.ensures.each x l
-    ∙ ap (λ xs. slice_index xs (class_in (layout c.args.parts.now) x)) c.deref.ensures.value)
+pub in_order-requires : goal.in_order-requires
+in_order-requires c = (
+  layout c.args.parts,
+  traced _ _ _ _ _ _ _ _ _ _ c.deref.ensures.value c.deref-2.ensures.value c.deref-3.ensures.value c.len-size.ensures
+      c.in_ok-history.ensures,
+)
+
+pub returns : goal.returns
+returns c =
+    c.in_order.ensures (layout c.args.parts) (traced _ _ _ _ _ _ _ _ _ _ c.deref.ensures.value c.deref-2.ensures.value
+    c.deref-3.ensures.value c.len-size.ensures c.in_ok-history.ensures)
