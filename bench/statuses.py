@@ -5,7 +5,8 @@
 
 Without PROGRAM, `stepmin` is proved and built in a copy of the repository. Each run has its words, its
 outputs and, where memory is to run out, its limit of memory (`ulimit -v`); the status, the standard output
-and the standard error that it has to come to are written beside them. A device that is full is /dev/full.
+and the standard error that it has to come to are written beside them, and the files that it has to have made.
+A device that is full is /dev/full. `.ci/run` runs this behind the gate, on the program that the gate has built.
 
 Status 0: each run came to that. 1: one didn't. 2: the words are wrong.
 """
@@ -46,6 +47,17 @@ CUT = text_of("crates", "stepmin", "data", "cut.stp")
 SMALL = FRAME % "#1=POINT((0.,1.));\n"
 BROKEN = FRAME % "#1=POINT();\n"
 SCHEMA = text_of("examples", "geo.exp")
+EQUAL = """#1=POINT((0.,1.));
+#2=POINT((0.0,1.E0));
+#3=PLACEMENT(#1,$);
+#4=PLACEMENT(#2,$);
+"""
+SMALLER = FRAME % """#1=POINT((0.,1.));
+#3=PLACEMENT(#1,$);
+"""
+TABLE = "rounds 0\nC0\nC1\n#1=C0\n#2=C0\n#3=C1\n#4=C1\n"
+CERTIFICATE = f"STEPCERT 2\ntable 1\n{TABLE}table 2\n{TABLE}end\n"
+PROCEDURE = SCHEMA.replace("END_SCHEMA;", "PROCEDURE nothing; END_PROCEDURE;\nEND_SCHEMA;")
 LARGE = FRAME % "".join(f"#{name}=POINT((0.,1.));\n" for name in range(1, 1_000_000))
 
 STATUSES = """Exit status:
@@ -55,6 +67,7 @@ STATUSES = """Exit status:
   3  the words of the command line are wrong
   4  a device fails
   5  memory runs out
+  6  the certificate is refused
 """
 
 
@@ -68,7 +81,61 @@ class Run(NamedTuple):
     full_out: bool = False
     full_err: bool = False
     megabytes: Optional[int] = None
+    stdin: Optional[str] = None
+    closed_out: bool = False
+    made: Optional[dict] = None
 
+
+# The words of `shrink`, and what they come to; where no file is named, none is made.
+MERGE = ["--merge", "POINT,PLACEMENT"]
+SHRUNK = "instances 4\nunknown 2\nfindings 0\nkept 2\nrounds 0\n"
+BOTH = {"out.stp": SMALLER, "out.cert": CERTIFICATE}
+WRITTEN = ["out.stp", "out.cert"]
+SHRINKING = [
+    (["geo.exp", "equal.stp", *WRITTEN, *MERGE], 0, {"out": SHRUNK, "made": BOTH}),
+    (["--merge=POINT,PLACEMENT", "geo.exp", "equal.stp", *WRITTEN], 0, {"out": SHRUNK, "made": BOTH}),
+    (["geo.exp", "self.stp", "self.stp", "out.cert", *MERGE], 0,
+     {"out": SHRUNK, "made": {"self.stp": SMALLER, "out.cert": CERTIFICATE}}),
+    (["geo.exp", "/dev/stdin", *WRITTEN, *MERGE], 0, {"stdin": "equal.stp", "out": SHRUNK, "made": BOTH}),
+    (["geo.exp", "broken.stp", *WRITTEN], 1,
+     {"out": "F5 ParameterCount #1 0\ninstances 1\nunknown 0\nfindings 1\n"}),
+    (["procedure.exp", "equal.stp", *WRITTEN, *MERGE], 0,
+     {"out": "unchecked PROCEDURE NOTHING Skipped\n" + SHRUNK, "made": BOTH}),
+    (["procedure.exp", "equal.stp", *WRITTEN, *MERGE, "--strict"], 1,
+     {"out": "unchecked PROCEDURE NOTHING Skipped\n", "err": "strict: 1 unchecked\n"}),
+    (["geo.exp", "cut.stp", *WRITTEN], 2, {"err": f"file: E6 Expected at byte {len(CUT)}\n"}),
+    (["cut.exp", "equal.stp", *WRITTEN], 2, {"err": "schema: S2 Expected at byte ...\n"}),
+    (["geo.exp", "equal.stp", *WRITTEN, "--merge", "PONIT"], 2, {"err": "schema: S3 UnknownName PONIT\n"}),
+    (["geo.exp", "equal.stp", "out.stp"], 3, {"err": "error: ...\n"}),
+    (["geo.exp", "equal.stp", "out.stp", "out.stp"], 3, {"err": "error: ...\n"}),
+    (["geo.exp", "equal.stp", *WRITTEN, "--merge", "POINT,"], 3, {"err": "error: ...\n"}),
+    (["missing.exp", "equal.stp", *WRITTEN], 4, {"err": "device: schema\n"}),
+    (["geo.exp", "missing.stp", *WRITTEN], 4, {"err": "device: file\n"}),
+    (["geo.exp", "equal.stp", "missing/out.stp", "out.cert", *MERGE], 4,
+     {"err": "device: output after 0 bytes\n"}),
+    (["geo.exp", "equal.stp", "/dev/full", "out.cert", *MERGE], 4, {"err": "device: output after 0 bytes\n"}),
+    (["geo.exp", "equal.stp", "out.stp", "missing/out.cert", *MERGE], 4,
+     {"err": "device: certificate after 0 bytes\n", "made": {"out.stp": SMALLER}}),
+    (["geo.exp", "large.stp", *WRITTEN, "--merge", "POINT"], 5, {"megabytes": 96, "err": "memory\n"}),
+]
+FOUR = ["geo.exp", "equal.stp", "smaller.stp", "right.cert", *MERGE]
+VERIFIED = "instances 4\nkept 2\nrounds 0\ncertificate holds\n"
+VERIFYING = [
+    (FOUR, 0, {"out": VERIFIED}),
+    (["geo.exp", "equal.stp", "smaller.stp", "/dev/stdin", *MERGE], 0, {"stdin": "right.cert", "out": VERIFIED}),
+    (["geo.exp", "broken.stp", *FOUR[2:]], 1, {"err": "file: F5 ParameterCount #1 0\n"}),
+    (["geo.exp", "equal.stp", "broken.stp", *FOUR[3:]], 1, {"err": "output: F5 ParameterCount #1 0\n"}),
+    (["geo.exp", "cut.stp", *FOUR[2:]], 2, {"err": f"file: E6 Expected at byte {len(CUT)}\n"}),
+    (["geo.exp", "equal.stp", "cut.stp", *FOUR[3:]], 2, {"err": f"output: E6 Expected at byte {len(CUT)}\n"}),
+    (FOUR[:3], 3, {"err": "error: ...\n"}),
+    ([*FOUR, "--strict"], 3, {"err": "error: ...\n"}),
+    (["geo.exp", "missing.stp", *FOUR[2:]], 4, {"err": "device: file\n"}),
+    (FOUR, 4, {"full_out": True, "err": "device: output after 0 bytes\n"}),
+    (["geo.exp", "large.stp", "large.stp", "right.cert"], 5, {"megabytes": 96, "err": "memory\n"}),
+    (["geo.exp", "equal.stp", "equal.stp", *FOUR[3:]], 6, {"err": "certificate: C5 NotTheImage\n"}),
+    ([*FOUR[:3], "old.cert", *MERGE], 6, {"err": "certificate: C6 OldVersion\n"}),
+    ([*FOUR[:3], "bad.cert", *MERGE], 6, {"err": "certificate: C1 BadText at line 3\n"}),
+]
 
 RUNS = [
     Run(["plain", "spelt.stp"], 0, out=NORMAL),
@@ -104,7 +171,40 @@ RUNS = [
     Run(["check", "geo.exp", "missing.stp"], 4, err="device: file\n"),
     Run(["check", "geo.exp", "broken.stp"], 4, full_out=True, err="device: output after 0 bytes\n"),
     Run(["check", "geo.exp", "large.stp"], 5, megabytes=96, err="memory\n"),
+    Run(["plain", "/dev/stdin"], 0, stdin="spelt.stp", out=NORMAL),
+    Run(["check", "/dev/stdin", "small.stp"], 0, stdin="geo.exp", out="instances 1\nunknown 0\nfindings 0\n"),
+    Run(["check", "geo.exp", "/dev/stdin"], 0, stdin="small.stp", out="instances 1\nunknown 0\nfindings 0\n"),
+    Run(["plain", "spelt.stp"], 4, closed_out=True, err="device: output after 0 bytes\n"),
+    *(Run(["shrink", *words], status, **wanted) for words, status, wanted in SHRINKING),
+    *(Run(["verify", *words], status, **wanted) for words, status, wanted in VERIFYING),
 ]
+
+
+FILES = {
+    "spelt.stp": SPELT, "normal.stp": NORMAL, "cut.stp": CUT, "large.stp": LARGE, "small.stp": SMALL, "broken.stp": BROKEN,
+    "equal.stp": FRAME % EQUAL, "self.stp": FRAME % EQUAL, "smaller.stp": SMALLER,
+    "geo.exp": SCHEMA, "cut.exp": SCHEMA[:len(SCHEMA) // 2], "procedure.exp": PROCEDURE,
+    "right.cert": CERTIFICATE, "old.cert": "STEPCERT 1\nrounds 0\nend\n", "bad.cert": "STEPCERT 2\ntable 1\nrounds 00\n",
+}
+
+
+def write_files(folder):
+    """Makes the files anew that aren't there as they should be, and removes all others."""
+    for name in files_wrong(folder, FILES):
+        if name not in FILES:
+            os.remove(os.path.join(folder, name))
+            continue
+        with open(os.path.join(folder, name), "w", encoding="ascii") as file:
+            file.write(FILES[name])
+
+
+def files_wrong(folder, wanted):
+    """The names of files that are missing, that have another text, or that shouldn't be there."""
+    found = {}
+    for name in os.listdir(folder):
+        with open(os.path.join(folder, name), encoding="ascii", errors="replace") as file:
+            found[name] = file.read()
+    return [name for name in sorted({*wanted, *found}) if found.get(name) != wanted.get(name)]
 
 
 def comes_to(wanted, found):
@@ -121,14 +221,18 @@ def faults_of(program, folder, run):
     def limit():
         if run.megabytes:
             resource.setrlimit(resource.RLIMIT_AS, (run.megabytes << 20, run.megabytes << 20))
+        if run.closed_out:
+            os.close(1)
 
-    with open("/dev/full", "wb") as full:
+    write_files(folder)
+    with open("/dev/full", "wb") as full, open(os.path.join(folder, run.stdin or os.devnull), "rb") as given:
         done = subprocess.run(
-            [program, *run.words], cwd=folder, stdin=subprocess.DEVNULL, preexec_fn=limit, timeout=60,
+            [program, *run.words], cwd=folder, stdin=given, preexec_fn=limit, timeout=60,
             stdout=full if run.full_out else subprocess.PIPE, stderr=full if run.full_err else subprocess.PIPE)
     texts = [(name, wanted, (text or b"").decode("utf-8", "replace"))
              for name, wanted, text in (("output", run.out, done.stdout), ("error", run.err, done.stderr))]
     faults = [f"the standard {name} is {found[:200]!r}" for name, wanted, found in texts if not comes_to(wanted, found)]
+    faults += [f"the file {name} is wrong" for name in files_wrong(folder, {**FILES, **(run.made or {})})]
     return faults if done.returncode == run.status else [f"the status is {done.returncode}", *faults]
 
 
@@ -138,11 +242,6 @@ def main(words):
         return 0 if words in (["-h"], ["--help"]) else 2
     with tempfile.TemporaryDirectory(prefix="statuses-") as folder:
         program = os.path.abspath(words[0]) if words else build_crate(os.path.join(folder, "copy"), "stepmin")
-        files = {"spelt.stp": SPELT, "normal.stp": NORMAL, "cut.stp": CUT, "large.stp": LARGE, "small.stp": SMALL,
-                 "broken.stp": BROKEN, "geo.exp": SCHEMA, "cut.exp": SCHEMA[:len(SCHEMA) // 2]}
-        for name, text in files.items():
-            with open(os.path.join(folder, name), "w", encoding="ascii") as file:
-                file.write(text)
         wrong = 0
         for run in RUNS:
             faults = faults_of(program, folder, run)
