@@ -188,14 +188,14 @@ FILES = {
 }
 
 
-def write_files(folder):
+def write_files(folder, files):
     """Makes the files anew that aren't there as they should be, and removes all others."""
-    for name in files_wrong(folder, FILES):
-        if name not in FILES:
+    for name in files_wrong(folder, files):
+        if name not in files:
             os.remove(os.path.join(folder, name))
             continue
         with open(os.path.join(folder, name), "w", encoding="ascii") as file:
-            file.write(FILES[name])
+            file.write(files[name])
 
 
 def files_wrong(folder, wanted):
@@ -224,7 +224,7 @@ def faults_of(program, folder, run):
         if run.closed_out:
             os.close(1)
 
-    write_files(folder)
+    write_files(folder, FILES)
     with open("/dev/full", "wb") as full, open(os.path.join(folder, run.stdin or os.devnull), "rb") as given:
         done = subprocess.run(
             [program, *run.words], cwd=folder, stdin=given, preexec_fn=limit, timeout=60,

@@ -1,0 +1,167 @@
+#!/usr/bin/env python3
+"""Has each growth of memory and each call of the system fail in turn, and looks at what the program says and leaves.
+
+    bench/failing.py PROGRAM
+
+Runs each command on the files of bench/statuses.py with a small library before the C library, which `cc` makes: it
+refuses the Nth block of memory, or fails the Nth call that opens, reads or writes a file or asks for random bytes, for
+each N; and once it reads and writes one byte a call.
+
+Where memory is refused the program has to say `memory`, with status 5, and to have written nothing; or to do all that
+it does where nothing is refused, since some blocks are only asked for ahead or made smaller. Where a call fails it has
+to say which device fails, with status 4, and what it has written has to be a front of the right text. One byte a call
+has to change nothing.
+
+Status 0: all of it is so. 1: something isn't. 2: the words are wrong.
+"""
+import os
+import subprocess
+import sys
+import tempfile
+from typing import NamedTuple
+
+from statuses import FILES, FOUR, MERGE, WRITTEN, write_files
+
+LIBRARY = """
+#define _GNU_SOURCE
+#include <dlfcn.h>
+#include <errno.h>
+#include <fcntl.h>
+#include <stdarg.h>
+#include <stdio.h>
+#include <stdlib.h>
+#include <sys/types.h>
+
+static long blocks, calls;
+static long number(const char *name) { const char *text = getenv(name); return text ? atol(text) : -1; }
+static int refused(void) { if (++blocks != number("FAILING_BLOCK")) return 0; errno = ENOMEM; return 1; }
+static int failed(void) { if (++calls != number("FAILING_CALL")) return 0; errno = EIO; return 1; }
+static size_t part(size_t size) { return size > 1 && number("FAILING_SIZE") == 1 ? 1 : size; }
+#define NEXT(name) ((__typeof__(&name))dlsym(RTLD_NEXT, #name))
+
+void *malloc(size_t size) { return refused() ? NULL : NEXT(malloc)(size); }
+void *realloc(void *block, size_t size) { return refused() ? NULL : NEXT(realloc)(block, size); }
+ssize_t read(int file, void *into, size_t size) { return failed() ? -1 : NEXT(read)(file, into, part(size)); }
+ssize_t write(int file, const void *from, size_t size) { return failed() ? -1 : NEXT(write)(file, from, part(size)); }
+ssize_t __write(int file, const void *from, size_t size) { return write(file, from, size); }
+int getentropy(void *into, size_t size) { return failed() ? -1 : NEXT(getentropy)(into, size); }
+int open(const char *path, int flags, ...) {
+    va_list rest;
+    va_start(rest, flags);
+    int mode = va_arg(rest, int);
+    va_end(rest);
+    return failed() ? -1 : NEXT(open)(path, flags, mode);
+}
+__attribute__((destructor)) static void count(void) {
+    const char *path = getenv("FAILING_COUNTS");
+    if (!path) return;
+    FILE *file = fopen(path, "w");
+    if (file) { fprintf(file, "%ld %ld", blocks, calls); fclose(file); }
+}
+"""
+
+COMMANDS = [
+    ["plain", "spelt.stp"],
+    ["check", "geo.exp", "equal.stp"],
+    ["check", "geo.exp", "broken.stp"],
+    ["shrink", "geo.exp", "equal.stp", *WRITTEN, *MERGE],
+    ["shrink", "geo.exp", "self.stp", "self.stp", "out.cert", *MERGE],
+    ["verify", *FOUR],
+]
+SMALL = {name: text for name, text in FILES.items() if name != "large.stp"}
+
+
+class Answer(NamedTuple):
+    """What a run came to, and the files that aren't as they were."""
+
+    status: int
+    out: str
+    err: str
+    made: dict
+
+
+def changed(folder):
+    """The texts of the files that were made, or that are others now."""
+    texts = {}
+    for name in os.listdir(folder):
+        with open(os.path.join(folder, name), encoding="ascii") as file:
+            texts[name] = file.read()
+    return {name: text for name, text in texts.items() if SMALL.get(name) != text}
+
+
+class Trial(NamedTuple):
+    """The program, the library that stands before the C library, and a folder of files."""
+
+    program: str
+    library: str
+    folder: str
+
+    def run(self, words, name="", number=0):
+        write_files(self.folder, SMALL)
+        environment = {**os.environ, "LD_PRELOAD": self.library}
+        if name:
+            environment[name] = str(number)
+        done = subprocess.run([self.program, *words], cwd=self.folder, stdin=subprocess.DEVNULL, env=environment,
+                              capture_output=True, text=True, timeout=60, check=False)
+        return Answer(done.returncode, done.stdout, done.stderr, changed(self.folder))
+
+
+def is_refused(answer, whole):
+    """Whether memory ran out before anything was written, or nothing was missing."""
+    return answer in (whole, Answer(5, "", "memory\n", {}))
+
+
+def is_front(answer, whole):
+    """Whether a device failed, and what was written is a front of the right text."""
+    fronts = all(whole.made.get(name, "").startswith(text) for name, text in answer.made.items())
+    said = answer.err.startswith("device: ") and answer.err.count("\n") == 1
+    return answer.status == 4 and said and fronts and whole.out.startswith(answer.out)
+
+
+def counts(trial, words):
+    """How many blocks of memory are asked for, and how many calls there are."""
+    path = trial.library + ".counts"
+    trial.run(words, "FAILING_COUNTS", path)
+    with open(path, encoding="ascii") as file:
+        return map(int, file.read().split())
+
+
+def failures(trial, words, whole, name, count, is_right):
+    """How often all was done though something failed; none where an answer is wrong."""
+    done = 0
+    for number in range(1, count + 1):
+        answer = trial.run(words, name, number)
+        if not is_right(answer, whole):
+            print(f"{words}, {name} {number}: {answer}")
+            return None
+        done += answer == whole
+    return done
+
+
+def is_robust(trial, words):
+    whole = trial.run(words)
+    blocks, calls = counts(trial, words)
+    done = failures(trial, words, whole, "FAILING_BLOCK", blocks, is_refused)
+    if done is None or failures(trial, words, whole, "FAILING_CALL", calls, is_front) is None:
+        return False
+    print(f"{' '.join(words)}: {blocks} blocks of memory, all is done without each of {done}; {calls} calls", flush=True)
+    if trial.run(words, "FAILING_SIZE", 1) != whole:
+        print(f"{words}: one byte a call makes a difference")
+        return False
+    return True
+
+
+def main(words):
+    if len(words) != 1 or words[0].startswith("-"):
+        print(__doc__.strip())
+        return 0 if words in (["-h"], ["--help"]) else 2
+    with tempfile.TemporaryDirectory() as folder, tempfile.TemporaryDirectory() as files:
+        library = os.path.join(folder, "failing.so")
+        subprocess.run(["cc", "-O1", "-shared", "-fPIC", "-x", "c", "-", "-o", library, "-ldl"], input=LIBRARY, text=True,
+                       check=True)
+        trial = Trial(os.path.abspath(words[0]), library, files)
+        return 0 if all([is_robust(trial, command) for command in COMMANDS]) else 1
+
+
+if __name__ == "__main__":
+    sys.exit(main(sys.argv[1:]))
