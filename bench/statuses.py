@@ -43,8 +43,8 @@ NORMAL = FRAME % """#1=POINT((0.,1.));
 #4=(MARKED(.ROUGH.)SHAPE('it''s a
  bracket')SOLID(LEN_M(1.)));
 """
-CUT = text_of("crates", "stepmin", "data", "cut.stp")
 SMALL = FRAME % "#1=POINT((0.,1.));\n"
+CUT = SMALL.replace("END-ISO-10303-21;\n", "")
 BROKEN = FRAME % "#1=POINT();\n"
 SCHEMA = text_of("examples", "geo.exp")
 EQUAL = """#1=POINT((0.,1.));
