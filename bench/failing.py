@@ -4,11 +4,12 @@
     bench/failing.py PROGRAM
 
 Runs each command on the files of bench/statuses.py with a small library before the C library, which `cc` makes: it
-refuses the Nth block of memory, or fails the Nth call that opens, reads or writes a file or asks for random bytes, for
-each N; and once it reads and writes one byte a call.
+refuses the Nth block of memory, or fails the Nth call that opens, reads, writes, keeps, renames or asks about a file,
+or asks for random bytes, for each N; and once it reads and writes one byte a call.
 
 Where memory is refused the program has to say `memory`, with status 5, and to have written nothing; or to do all that
-it does where nothing is refused, since some blocks are only asked for ahead or made smaller. Where a call fails it has
+it does where nothing is refused, since some blocks are only asked for ahead or made smaller; or that the output or the
+certificate can't be made, where it is the name of the file beside the one that stands there. Where a call fails it has
 to say which device fails, with status 4, and what it has written has to be a front of the right text. One byte a call
 has to change nothing.
 
@@ -30,6 +31,7 @@ LIBRARY = """
 #include <stdarg.h>
 #include <stdio.h>
 #include <stdlib.h>
+#include <sys/stat.h>
 #include <sys/types.h>
 
 static long blocks, calls;
@@ -52,6 +54,12 @@ int open(const char *path, int flags, ...) {
     va_end(rest);
     return failed() ? -1 : NEXT(open)(path, flags, mode);
 }
+int fsync(int file) { return failed() ? -1 : NEXT(fsync)(file); }
+int fchmod(int file, mode_t mode) { return failed() ? -1 : NEXT(fchmod)(file, mode); }
+int statx(int folder, const char *path, int flags, unsigned mask, struct statx *into) {
+    return failed() ? -1 : NEXT(statx)(folder, path, flags, mask, into);
+}
+int rename(const char *from, const char *to) { return failed() ? -1 : NEXT(rename)(from, to); }
 __attribute__((destructor)) static void count(void) {
     const char *path = getenv("FAILING_COUNTS");
     if (!path) return;
@@ -61,13 +69,16 @@ __attribute__((destructor)) static void count(void) {
 """
 
 COMMANDS = [
+    ["--help"],
+    ["plain", "a", "b"],
     ["plain", "spelt.stp"],
     ["check", "geo.exp", "equal.stp"],
     ["check", "geo.exp", "broken.stp"],
     ["shrink", "geo.exp", "equal.stp", *WRITTEN, *MERGE],
-    ["shrink", "geo.exp", "self.stp", "self.stp", "out.cert", *MERGE],
+    ["shrink", "geo.exp", "self.stp", "self.stp", "bad.cert", *MERGE],
     ["verify", *FOUR],
 ]
+ROLES = ["output", "certificate"]
 SMALL = {name: text for name, text in FILES.items() if name != "large.stp"}
 
 
@@ -107,14 +118,16 @@ class Trial(NamedTuple):
 
 
 def is_refused(answer, whole):
-    """Whether memory ran out before anything was written, or nothing was missing."""
-    return answer in (whole, Answer(5, "", "memory\n", {}))
+    """Whether memory ran out before anything was written, or nothing was missing; or a file had no name."""
+    unmade = answer._replace(made={}) in [Answer(4, "", f"device: {role} after 0 bytes\n", {}) for role in ROLES]
+    return answer in (whole, Answer(5, "", "memory\n", {})) or unmade and is_front(answer, whole)
 
 
 def is_front(answer, whole):
     """Whether a device failed, and what was written is a front of the right text."""
     fronts = all(whole.made.get(name, "").startswith(text) for name, text in answer.made.items())
-    said = answer.err.startswith("device: ") and answer.err.count("\n") == 1
+    is_text = whole.status == 3 or whole.out.startswith("Reads STEP files")
+    said = not answer.err if is_text else answer.err.startswith("device: ") and answer.err.count("\n") == 1
     return answer.status == 4 and said and fronts and whole.out.startswith(answer.out)
 
 

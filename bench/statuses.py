@@ -97,6 +97,8 @@ SHRINKING = [
     (["geo.exp", "self.stp", "self.stp", "out.cert", *MERGE], 0,
      {"out": SHRUNK, "made": {"self.stp": SMALLER, "out.cert": CERTIFICATE}}),
     (["geo.exp", "/dev/stdin", *WRITTEN, *MERGE], 0, {"stdin": "equal.stp", "out": SHRUNK, "made": BOTH}),
+    (["geo.exp", "equal.stp", "small.stp", "bad.cert", *MERGE], 0,
+     {"out": SHRUNK, "made": {"small.stp": SMALLER, "bad.cert": CERTIFICATE}}),
     (["geo.exp", "broken.stp", *WRITTEN], 1,
      {"out": "F5 ParameterCount #1 0\ninstances 1\nunknown 0\nfindings 1\n"}),
     (["procedure.exp", "equal.stp", *WRITTEN, *MERGE], 0,
@@ -116,6 +118,11 @@ SHRINKING = [
     (["geo.exp", "equal.stp", "/dev/full", "out.cert", *MERGE], 4, {"err": "device: output after 0 bytes\n"}),
     (["geo.exp", "equal.stp", "out.stp", "missing/out.cert", *MERGE], 4,
      {"err": "device: certificate after 0 bytes\n", "made": {"out.stp": SMALLER}}),
+    (["geo.exp", "self.stp", "self.stp", "missing/out.cert", *MERGE], 4,
+     {"err": "device: certificate after 0 bytes\n"}),
+    (["geo.exp", "self.stp", "self.stp", "/dev/full", *MERGE], 4, {"err": "device: certificate after 0 bytes\n"}),
+    (["geo.exp", "self.stp", "self.stp", "bad.cert", *MERGE], 4,
+     {"full_out": True, "err": "device: output after 0 bytes\n"}),
     (["geo.exp", "large.stp", *WRITTEN, "--merge", "POINT"], 5, {"megabytes": 96, "err": "memory\n"}),
 ]
 FOUR = ["geo.exp", "equal.stp", "smaller.stp", "right.cert", *MERGE]

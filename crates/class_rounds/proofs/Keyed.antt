@@ -10,7 +10,7 @@ use Rattle.class_parts.specs.Laid.{Layout, size, count, class_in}
 use Rattle.class_parts.specs.Parted.{HasPair, HaveSamePairs, IsPartedByPairs, IsWhole}
 use Rattle.class_parts.proofs.Sets.{finer_trans}
 use Rattle.class_rounds.specs.declared.edges.Edge.{Edge}
-use Rattle.class_rounds.specs.Edges.{HasEdge, AreEdges, AgreeAt}
+use Rattle.class_rounds.specs.Edges.{HasEdge, AreEdges, AgreeAt, ReferAlike}
 use Rattle.class_rounds.specs.Rounds.{IsStarted, OneClass}
 use Rattle.class_rounds.specs.Steps.{AgreeBelow, AreKeyed, Gathers, IsAlone, IsRound, IsFirstRound}
 use Rattle.class_rounds.proofs.Gathering.{pair, one_more}
@@ -173,11 +173,17 @@ module _ (edges : List Edge) (p : Layout) (low : ℕ) (ps : List Pair) (known : 
         ];
   }
 
-  pub first_parts : (q r : Layout) (shapes : List ℕ) (ks : List Pair) → low ≡ 0 → length shapes ≡ size p
-      → AreKeyed shapes ks → IsPartedByPairs p q ks → IsPartedByPairs q r ps → IsFirstRound edges shapes p r
-  first_parts q r shapes ks low_is each keyed one two =
-      let none : (x z : ℕ) → AgreeBelow edges p low x z = λ x z i t e l. absurd (omega arith) in
+  pub first_parts : (q r : Layout) (shapes : List ℕ) (ks : List Pair) → low ≤ 1 → length shapes ≡ size p
+      → ReferAlike edges shapes → AreKeyed shapes ks → IsPartedByPairs p q ks → IsPartedByPairs q r ps
+      → IsFirstRound edges shapes p r
+  first_parts q r shapes ks low_is each alike keyed one two =
       let sizes = one.finer.places in
+      -- there is but one class below
+      let below : (x z : ℕ) → x < size p → z < size p → slice_index shapes x ≡ slice_index shapes z
+      → AgreeBelow edges p low x z =
+      λ x z l m shape i t e under.
+      let f = alike x z i t (omega arith) (omega arith) shape e in
+      (f.0, f.1, λ under_too. omega arith) in
       record {
         laid = two.laid;
         finer = finer_trans p q r one.finer two.finer;
@@ -186,6 +192,10 @@ module _ (edges : List Edge) (p : Layout) (low : ℕ) (ps : List Pair) (known : 
             let a = one.parts x z l m in
             let b = two.parts x z (omega arith) (omega arith) in
             let same = same_numbers shapes ks x z keyed (omega arith) (omega arith) in
+            let agree : x ≢ z → class_in p x ≡ class_in p z → slice_index shapes x ≡ slice_index shapes z
+            → HaveSamePairs ps x z ↔ AgreeAt edges (OneClass p) x z =
+            λ n classes shape. pairs_agree edges p p low ps known are g x z n l m classes (below x z l m shape)
+            (below z x m l (sym shape)) in
             elim (cases_eq x z) [
               | inl e ↦ (
                 λ _. (
@@ -198,12 +208,10 @@ module _ (edges : List Edge) (p : Layout) (low : ℕ) (ps : List Pair) (known : 
               | inr n ↦ (
                 λ e.
                     let f = b.0 e in
-                    let both = a.0 f.0 in (
-                      both.0,
-                      same.0 both.1,
-                      (pairs_agree edges p p low ps known are g x z n l m both.0 (none x z) (none z x)).0 f.1,
-                    ),
-                λ h. b.1 (a.1 (h.0, same.1 h.1), (pairs_agree edges p p low ps known are g x z n l m h.0 (none x z) (none z x)).1 h.2),
+                    let both = a.0 f.0 in
+                    let shape = same.0 both.1 in
+                    (both.0, shape, (agree n both.0 shape).0 f.1),
+                λ h. b.1 (a.1 (h.0, same.1 h.1), (agree n h.0 h.1).1 h.2),
               )
             ];
       }

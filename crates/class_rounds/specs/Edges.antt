@@ -1,5 +1,5 @@
 -- Which places refer to which, and at which positions.
-use Rattle.std.specs.Prelude.{◌≡◌, ℕ, ◌<◌, ◌↔◌, List}
+use Rattle.std.specs.Prelude.{◌≡◌, ℕ, ◌<◌, ◌↔◌, List, length, slice_index}
 use Rattle.std.specs.List.{Contains}
 use Rattle.class_rounds.specs.declared.edges.Edge.{Edge}
 
@@ -12,6 +12,11 @@ HasEdge edges x i t = Contains edges (record { position = i; source = x; target 
 pub record AreEdges (n : ℕ) (edges : List Edge) : Type 0 where
   pub inside : (x i t : ℕ) → HasEdge edges x i t → (x < n) × (t < n)
   pub one : (x i t u : ℕ) → HasEdge edges x i t → HasEdge edges x i u → t ≡ u
+
+-- places of one shape refer at the same positions
+abbrev pub ReferAlike : List Edge → List ℕ → Type 0
+ReferAlike edges shapes = (x z i t : ℕ) → x < length shapes → z < length shapes
+    → slice_index shapes x ≡ slice_index shapes z → HasEdge edges x i t → (u : ℕ) × HasEdge edges z i u
 
 -- these are the references to t
 abbrev pub AreInto : List Edge → ℕ → List Edge → Type 0

@@ -3,7 +3,7 @@
 ghost use Rattle.std.specs.Prelude.{◌≡◌, ◌<◌, ◌≤◌, OnOk, IfOk, length};
 ghost use Rattle.class_parts.specs.Laid.{IsLaid, size, count, NoneIsChosen};
 ghost use Rattle.class_parts.specs.Views.{layout};
-ghost use Rattle.class_rounds.specs.Edges.{AreEdges};
+ghost use Rattle.class_rounds.specs.Edges.{AreEdges, ReferAlike};
 ghost use Rattle.class_rounds.specs.Rounds.{IsRefined, IsStarted};
 ghost use Rattle.class_rounds.specs.Steps.{AreKeyed, IsFirstRound, IsRound};
 
@@ -36,7 +36,8 @@ pub struct Rounds {
     pub signed: u64,
 }
 
-/// Parts the places of a round 0, round by round until a round parts nothing.
+/// Parts the places of a round 0, round by round until a round parts nothing. Places of one shape refer at the same
+/// positions.
 ///
 /// A round leaves two places in one class exactly where they were in one and refer, at each position, to places that
 /// were in one; the first round parts those of unequal shapes too. All is told by `Rounds::counts` and `Parts`: a
@@ -54,6 +55,7 @@ pub fn refine(
     requires settled { NoneIsChosen (layout parts.old) }
     requires edges { AreEdges (size (layout parts.old)) edges.now }
     requires each { length shapes.now ≡ size (layout parts.old) }
+    requires alike { ReferAlike edges.now shapes.now }
     ensures { IfOk result (λ rounds.
         IsRefined edges.now shapes.now (layout parts.old) (layout parts.new) rounds.counts.items) }
 {
@@ -93,7 +95,8 @@ fn class_count(parts: &Parts) -> u32
     parts.count() as u32
 }
 
-/// The first round: all references count, and all shapes.
+/// The first round: all shapes count, and all references but those to class 0. Places that refer to other classes at
+/// the same positions, and have one shape, refer to class 0 at the same ones too.
 fn first_round(
     alloc: Global,
     parts: &mut Parts,
@@ -104,10 +107,11 @@ fn first_round(
     requires settled { NoneIsChosen (layout parts.old) }
     requires edges { AreEdges (size (layout parts.old)) edges.now }
     requires each { length shapes.now ≡ size (layout parts.old) }
+    requires alike { ReferAlike edges.now shapes.now }
     ensures { OnOk result (IsFirstRound edges.now shapes.now (layout parts.old) (layout parts.new)) }
 {
     let high = class_count(parts);
-    let pairs = gather(alloc, parts, parts, edges, 0, high)?;
+    let pairs = gather(alloc, parts, parts, edges, high.min(1), high)?;
     let shapes = keyed(alloc, shapes)?;
     parts.part_by_pairs(shapes)?;
     parts.part_by_pairs(pairs)

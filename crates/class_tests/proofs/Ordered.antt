@@ -1,13 +1,14 @@
 -- References in order are at one position of a place one at most.
 use Rattle.std.proofs.Common.{◌≡◌, ◌<◌, ℕ, zero, suc, ◌+◌, ◌-◌, List, sym, ◌∙◌, ap, subst, inl, inr, length, get_or, arith}
+use Rattle.std.specs.Prelude.{slice_index}
 use Rattle.std.specs.List.{All}
 use Rattle.std.specs.List.Sorted.{IsPermutation}
 use Rattle.std.proofs.lemmas.Bool.{cases_lt}
 use Rattle.std.proofs.lemmas.List.{get_or_default}
 use Rattle.std.proofs.lemmas.List.Sorted.{Contains-permutation, IsPermutation-sym}
 use Rattle.class_rounds.specs.declared.edges.Edge.{Edge}
-use Rattle.class_rounds.specs.Edges.{AreEdges, HasEdge}
-use Rattle.class_tests.specs.Order.{GoesOn, IsBehind, edge_at}
+use Rattle.class_rounds.specs.Edges.{AreEdges, HasEdge, ReferAlike}
+use Rattle.class_tests.specs.Order.{GoesOn, IsBehind, SharesPosition, edge_at}
 
 behind_trans : (a b c : Edge) → IsBehind a b → IsBehind b c → IsBehind a c
 behind_trans a b c (inl l) (inl m) = inl (omega arith)
@@ -78,15 +79,20 @@ targets_are_places n edges are k d l =
     let e = get_or edges k d in
     (are.inside e.source e.position e.target (k, l, get_or_default edges k e d l)).1
 
--- in another order they are references still
-pub permuted_are_edges : (n : ℕ) (edges others : List Edge) → IsPermutation edges others → AreEdges n edges
-    → AreEdges n others
-permuted_are_edges n edges others moved are = record {
-  inside = λ x i t h. are.inside x i t (back x i t h);
-  one = λ x i t u h m. are.one x i t u (back x i t h) (back x i u m);
-}
-  where
-    back : (x i t : ℕ) → HasEdge others x i t → HasEdge edges x i t
-    back x i t =
-        Contains-permutation others edges (record { position = i; source = x; target = t })
-        (IsPermutation-sym edges others moved)
+-- in another order places of one shape refer at the same positions still
+pub permuted_refer_alike : (shapes : List ℕ) (edges others : List Edge) → IsPermutation edges others
+    → ReferAlike edges shapes → ReferAlike others shapes
+permuted_refer_alike shapes edges others moved alike x z i t l m same e =
+    let back = Contains-permutation others edges (record { position = i; source = x; target = t })
+    (IsPermutation-sym edges others moved) e in
+    let f = alike x z i t l m same back in
+    (f.0, Contains-permutation edges others (record { position = i; source = z; target = f.0 }) moved f.1)
+
+-- what is so of each reference is so of all
+pub each_alike : (shapes : List ℕ) (edges : List Edge) → ((k : ℕ) → k < length edges → SharesPosition edges shapes k)
+    → ReferAlike edges shapes
+each_alike shapes edges all x z i t l m same e =
+    let at : edge_at edges e.0 ≡ record { position = i; source = x; target = t } =
+    get_or_default edges e.0 none (record { position = i; source = x; target = t }) e.1 ∙ e.2 in
+    subst (λ (d : Edge). (u : ℕ) × HasEdge edges z d.position u) at
+    (all e.0 e.1 z m (subst (λ (d : Edge). slice_index shapes d.source ≡ slice_index shapes z) (sym at) same))

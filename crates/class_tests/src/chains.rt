@@ -7,8 +7,8 @@ use class_numbers::numbering::Origin;
 use class_rounds::edges::Edge;
 use std::alloc::{AllocError, Global};
 
-/// How many places there are, all of one kind and shape.
-const SIZE: u32 = 2000;
+/// How many places there are, all of one kind. Those that refer are of one shape, and the others of another.
+const SIZE: u32 = 400;
 
 /// How they refer to each other, at position 0.
 #[derive(Clone, Copy)]
@@ -131,19 +131,27 @@ fn is_right(found: &Found, chain: Chain) -> bool {
         && are_members(found, chain)
 }
 
-/// Whether the classes of these references are found.
-fn is_found_by(alloc: Global, chain: Chain, edges: &[Edge]) -> bool {
-    let alike = [0; SIZE as usize];
-    match find(alloc, &alike, &alike, edges) {
-        Some(found) => is_right(&found, chain),
-        None => false,
+/// By place, the number of its shape.
+fn shapes(alloc: Global, chain: Chain) -> Result<Vec<u32>, AllocError> {
+    let mut shapes = Vec::new(alloc);
+    for place in 0..SIZE {
+        shapes.push(target(chain, place).is_none() as u32)?;
     }
+    Ok(shapes)
+}
+
+/// Finds the classes of a chain.
+fn found(alloc: Global, chain: Chain) -> Option<Found> {
+    let kinds = [0; SIZE as usize];
+    let shapes = shapes(alloc, chain).ok()?;
+    let edges = edges(alloc, chain).ok()?;
+    find(alloc, &kinds, &shapes, &edges)
 }
 
 /// Whether the classes of a chain are found.
 pub(crate) fn is_found(alloc: Global, chain: Chain) -> bool {
-    match edges(alloc, chain) {
-        Ok(edges) => is_found_by(alloc, chain, &edges),
-        Err(_) => false,
+    match found(alloc, chain) {
+        Some(found) => is_right(&found, chain),
+        None => false,
     }
 }

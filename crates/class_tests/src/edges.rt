@@ -1,6 +1,7 @@
 //! References that are tested before classes are found by them.
 
 ghost use Rattle.std.specs.Prelude.{◌≡◌, ◌<◌, IfSome, true, length};
+ghost use Rattle.std.specs.List.Sorted.{IsPermutation};
 ghost use Rattle.class_rounds.specs.Edges.{AreEdges};
 ghost use Rattle.class_tests.specs.Order.{GoesOn, IsBehind, IsBetween};
 
@@ -41,11 +42,22 @@ fn are_edges(edges: &[Edge], size: u32) -> bool
     true
 }
 
+/// A copy of these references; none where memory runs out.
+fn copied(alloc: Global, edges: &[Edge]) -> Option<Vec<Edge>>
+    ensures { IfSome result (λ copy. copy.items ≡ edges.now) }
+{
+    match edges.to_vec(alloc) {
+        Ok(copy) => Some(copy),
+        Err(_) => None,
+    }
+}
+
 /// References between so many places; none where they aren't in order, or where memory runs out.
 pub(crate) fn indexed(alloc: Global, edges: &[Edge], size: u32) -> Option<Edges>
-    ensures { IfSome result (AreEdges size) }
+    ensures edges { IfSome result (AreEdges size) }
+    ensures same { IfSome result (IsPermutation edges.entry.now) }
 {
-    let edges = edges.to_vec(alloc).ok()?;
+    let edges = copied(alloc, edges)?;
     if !are_edges(&edges, size) {
         return None;
     }

@@ -11,4 +11,6 @@ mod edges;
 #[cfg(test)]
 mod found;
 #[cfg(test)]
+mod positions;
+#[cfg(test)]
 mod tables;

@@ -143,7 +143,7 @@ const TABLES: &'static [(&'static str, Places, Classes)] = &[
         "a ring of two, and two that refer to each other at other positions",
         Places {
             kinds: &[0, 0, 0, 0],
-            shapes: &[0, 0, 0, 0],
+            shapes: &[0, 0, 1, 2],
             edges: CROSSED,
         },
         Classes {

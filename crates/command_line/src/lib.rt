@@ -1,6 +1,5 @@
-//! What the words of a command line ask for, and the file system as the store of its files.
+//! What the words of a command line ask for.
 #![tactic(auto)]
 
-pub mod folder;
 pub mod merging;
 pub mod usage;

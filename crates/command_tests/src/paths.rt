@@ -1,15 +1,18 @@
-//! Paths that lead nowhere.
+//! Paths that lead nowhere, and paths under which a file stands.
 
-use command_line::folder::Folder;
 use devices::device::{Failed, Sink, Source};
+use file_store::folder::Folder;
 use files::store::Store;
+use std::alloc::Global;
 use std::rt::Files;
+use std::test::Fail;
+use std::{fs, io};
 
 const NOWHERE: &str = "no such folder/file";
 
 // Whether a file that isn't there fails at its first read, and not before.
-fn fails_at_a_read<R: Files>(rt: &R) -> bool {
-    let mut store = Folder::new(rt);
+fn fails_at_a_read<R: Files>(rt: &R, alloc: Global) -> bool {
+    let mut store = Folder::new(alloc, rt);
     let mut reader = store.reader(NOWHERE);
     let early = Source::failed(&reader);
     let read = reader.take(&mut [0; 4]);
@@ -17,8 +20,8 @@ fn fails_at_a_read<R: Files>(rt: &R) -> bool {
 }
 
 // Whether a file that can't be made fails at its first write, and not before.
-fn fails_at_a_write<R: Files>(rt: &R) -> bool {
-    let mut store = Folder::new(rt);
+fn fails_at_a_write<R: Files>(rt: &R, alloc: Global) -> bool {
+    let mut store = Folder::new(alloc, rt);
     let mut writer = store.writer(NOWHERE);
     let early = Sink::failed(&writer);
     let written = writer.put(b"text");
@@ -29,6 +32,61 @@ fn fails_at_a_write<R: Files>(rt: &R) -> bool {
 
 #[test]
 fn a_path_that_leads_nowhere_fails_at_its_use(rt: HostRuntime) {
-    assert!(rt; fails_at_a_read(&rt));
-    assert!(rt; fails_at_a_write(&rt));
+    assert!(rt; fails_at_a_read(&rt, rt.alloc()));
+    assert!(rt; fails_at_a_write(&rt, rt.alloc()));
+}
+
+// Where a file stands for a while.
+const STANDING: &str = "a-standing-file.stp";
+
+// Whether the file that stands holds this.
+fn holds<R: Files>(rt: &R, alloc: Global, text: &str) -> bool {
+    let Ok(file) = fs::open(rt, STANDING) else {
+        return false;
+    };
+    match io::read_to_string(alloc, file) {
+        Ok(held) => held.as_str() == text,
+        Err(_) => false,
+    }
+}
+
+// A store in which this was written under the path of the file that stands, which is there as it was.
+fn written<'p, R: Files>(rt: &'p R, alloc: Global, text: &str) -> Option<Folder<'p, R>> {
+    let mut store = Folder::new(alloc, rt);
+    let mut writer = store.writer(STANDING);
+    let put = writer.put(text.as_bytes());
+    store.keep(STANDING, writer);
+    if put == Ok(text.len()) && holds(rt, alloc, "old") {
+        Some(store)
+    } else {
+        None
+    }
+}
+
+// Whether a file stays where a run isn't done.
+fn stays<R: Files>(rt: &R, alloc: Global) -> bool {
+    let Some(store) = written(rt, alloc, "new") else {
+        return false;
+    };
+    store.abandon();
+    holds(rt, alloc, "old")
+}
+
+// Whether a file is another one once a run is done.
+fn is_replaced<R: Files>(rt: &R, alloc: Global) -> bool {
+    let Some(store) = written(rt, alloc, "new") else {
+        return false;
+    };
+    store.finish().is_ok() && holds(rt, alloc, "new")
+}
+
+#[test]
+fn a_file_that_stands_is_replaced_as_a_whole(rt: HostRuntime) -> Result<(), Fail> {
+    fs::write(&rt, STANDING, "old")?;
+    let stays = stays(&rt, rt.alloc());
+    let is_replaced = is_replaced(&rt, rt.alloc());
+    fs::remove_file(&rt, STANDING)?;
+    assert!(rt; stays);
+    assert!(rt; is_replaced);
+    Ok(())
 }

@@ -1,10 +1,10 @@
 -- Values agree under a relation exactly where their shapes are one and their references agree place by place.
-use Rattle.std.proofs.Common.{◌≡◌, ◌<◌, ℕ, Bool, true, List, length, Some, sym, ◌∙◌, ap, subst}
+use Rattle.std.proofs.Common.{◌≡◌, ◌<◌, ℕ, Bool, true, false, List, length, Some, sym, ◌∙◌, ap, subst, arith}
 use Rattle.std.specs.Prelude.{◌↔◌, slice_get, slice_index}
 use Rattle.std.specs.List.{All, AllZip}
 use Rattle.std.proofs.lemmas.Option.{slice_get_within, get_or_from_slice_get}
 use Rattle.class_rounds.specs.declared.edges.Edge.{Edge}
-use Rattle.class_rounds.specs.Edges.{AgreeAt, HasEdge}
+use Rattle.class_rounds.specs.Edges.{AgreeAt, HasEdge, ReferAlike}
 use Rattle.step_values.specs.Shapes.{outside_each, HaveOneShape}
 use Rattle.step_values.specs.Values.{AgreeEach}
 use Rattle.step_values.proofs.ByShapes.{agreement_is_by_shapes, same_counts}
@@ -138,3 +138,16 @@ module _ (P : List Row) (pinned : ℕ → Bool) (R : ℕ → ℕ → Bool) (popu
         λ a. (let parts = agree_to x z p q a in (tell.1 parts.0, parts.1)),
         λ h. agree_from x z p q (tell.0 h.0) h.1,
       )
+
+-- rows of one shape refer at the same positions
+pub refer_alike : (P : List Row) → IsPopulation P → (edges : List Edge) → AreReferences P edges → (shapes : List ℕ)
+    → AreShapes P shapes → ReferAlike edges shapes
+refer_alike P population edges are shapes shaped x z i t l m same e =
+    let each = shaped.each in
+    let p = placed P x (omega arith) in
+    let q = placed P z (omega arith) in
+    let any : ℕ → ℕ → Bool = λ _ _. true in
+    let shape = (shaped.tell x z p.row q.row p.row_is q.row_is).0 same in
+    let all = ((agreement_is_by_shapes any p.row.values q.row.values).0 shape).1 in
+    let there = (at_places P (λ _. false) any population edges are x z p q all).there i t e in
+    (there.0, there.1)

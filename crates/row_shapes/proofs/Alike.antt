@@ -3,9 +3,8 @@ use Rattle.std.proofs.Common.{◌≡◌, ◌≢◌, ◌≤◌, ◌+◌, ℕ, suc
 use Rattle.std.specs.Prelude.{◌&&◌}
 use Rattle.std.specs.Cmp.{signed_Decides}
 use Rattle.std.specs.Hash as fed
-use Rattle.std.specs.Hash.DefaultHasher as sip
-use Rattle.std.specs.RandomState.{initial_hasher}
-use Rattle.std.specs.declared.random_state.RandomState.{RandomState}
+use Rattle.std.specs.Hash.FoldHasher as folding
+use Rattle.std.specs.declared.hash.FoldHasher.{FoldHasher}
 use Rattle.std.proofs.lemmas.Bool.{and_parts}
 use Rattle.step_literals.specs.DecimalKeys.{units_of}
 use Rattle.step_literals.specs.DecimalKeyLemmas.{key_respects_eq}
@@ -138,10 +137,10 @@ module _ {S : Type 0} (write : S → List ℕ → S) where
   fed_all all start i s l left = left s (subst (λ vs. FeedsEach write vs s s) (sym (after_all all i l)) refl)
 
 -- .. so they have one hash
-pub same_hash : (keys : RandomState) (vs ws : Values) (h k : ℕ) → HaveOneShape vs ws → IsHash keys vs h
-    → IsHash keys ws k → h ≡ k
-same_hash keys vs ws h k e p q =
-    p.2 ∙ ap sip.finish (same_feed sip.write vs ws e (initial_hasher keys) p.0 q.0 p.1 q.1) ∙ sym q.2
+pub same_hash : (start : FoldHasher) (vs ws : Values) (h k : ℕ) → HaveOneShape vs ws → IsHash start vs h
+    → IsHash start ws k → h ≡ k
+same_hash start vs ws h k e p q =
+    p.2 ∙ ap folding.finish (same_feed folding.write vs ws e start p.0 q.0 p.1 q.1) ∙ sym q.2
 
 -- what is left decides whether no bag stands there
 pub bagless_from : (vs : Values) (i : ℕ) (v : Value) (b : Bool) → nth vs i ≡ Some v

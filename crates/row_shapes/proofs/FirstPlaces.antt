@@ -8,7 +8,7 @@ use Rattle.std.proofs.lemmas.List.Quantifiers.{position-Some}
 use Rattle.step_values.specs.Shapes.{HaveOneShape}
 use Rattle.step_values.specs.Values.{Values, none}
 use Rattle.row_shapes.specs.declared.shapes.Shape.{Shape}
-use Rattle.std.specs.declared.random_state.RandomState.{RandomState}
+use Rattle.std.specs.declared.hash.FoldHasher.{FoldHasher}
 use Rattle.row_shapes.specs.ComputedFlat.{shape_test}
 use Rattle.row_shapes.specs.ComputedShapes.{AreFirsts, IsShapeOf, first_place, same_shape}
 use Rattle.row_shapes.specs.ShapeLaws.{one_shape_between, own_shape, same_answers, test_back, test_decides}
@@ -59,8 +59,8 @@ or_else None n = refl
 or_else (Some m) n = refl
 
 -- the shape of values behind others is noted
-module _ (keys : RandomState) (before : List Values) (vs : Values) (s : Shape) (is : IsShapeOf keys vs s) (place n : ℕ)
-    (count : length before ≡ place) (old new : List (Shape × ℕ)) (firsts : AreFirsts keys before old)
+module _ (start : FoldHasher) (before : List Values) (vs : Values) (s : Shape) (is : IsShapeOf start vs s) (place n : ℕ)
+    (count : length before ≡ place) (old new : List (Shape × ℕ)) (firsts : AreFirsts start before old)
     (first : n ≡ unwrap_or (lookup (same_shape s) old) place)
     (noted : (t : Shape) → lookup (same_shape t) new
     ≡ cond (same_shape s t) (Some n) (lookup (same_shape t) old)) where
@@ -81,7 +81,7 @@ module _ (keys : RandomState) (before : List Values) (vs : Values) (s : Shape) (
       ∙ (λ i. option_or (first_place before ws) (cond ((test_back ws vs ∙ e) i) (Some (0 + length before)) None))
       ∙ or_none (first_place before ws))
 
-  pub one_more_first : AreFirsts keys (before ++ vs ∷ []) new
+  pub one_more_first : AreFirsts start (before ++ vs ∷ []) new
   one_more_first ws t shape =
-      noted t ∙ (λ i. cond (shapes_decide keys vs ws s t is shape i) (Some n) (firsts ws t shape i))
+      noted t ∙ (λ i. cond (shapes_decide start vs ws s t is shape i) (Some n) (firsts ws t shape i))
       ∙ others ws (shape_test vs ws) refl

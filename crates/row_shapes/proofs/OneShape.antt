@@ -1,7 +1,7 @@
 -- Shapes are equal exactly where the values have one.
 use Rattle.std.proofs.Common.{◌≡◌, ℕ, Bool, true, false, refl, sym, ap, ◌∙◌, eq-eqb}
 use Rattle.std.specs.Prelude.{◌==◌, ◌&&◌}
-use Rattle.std.specs.declared.random_state.RandomState.{RandomState}
+use Rattle.std.specs.declared.hash.FoldHasher.{FoldHasher}
 use Rattle.step_values.specs.ComputedAgreement.{agree_each_by}
 use Rattle.step_values.specs.ComputedLabels.{each_labelled}
 use Rattle.step_values.specs.Labels.{one_label, renamed_in_bags, each_renamed_in_bags}
@@ -38,27 +38,27 @@ two_shapes vs ws p q = by (shape_test vs ws) refl
     by true e = let same = same_bagless vs ws ((test_decides vs ws).0 e) in absurd (cc)
     by false e = e
 
-hashed_alike : (keys : RandomState) (vs ws : Values) (h k : ℕ) → IsHash keys vs h → IsHash keys ws k
+hashed_alike : (start : FoldHasher) (vs ws : Values) (h k : ℕ) → IsHash start vs h → IsHash start ws k
     → ((h == k) && shape_test vs ws) ≡ shape_test vs ws
-hashed_alike keys vs ws h k p q = by (shape_test vs ws) refl
+hashed_alike start vs ws h k p q = by (shape_test vs ws) refl
   where
     and_false : (b : Bool) → (b && false) ≡ false
     and_false true = refl
     and_false false = refl
 
     by : (b : Bool) → shape_test vs ws ≡ b → ((h == k) && b) ≡ b
-    by true e = ap (λ a. a && true) (eq-eqb h k (same_hash keys vs ws h k ((test_decides vs ws).0 e) p q))
+    by true e = ap (λ a. a && true) (eq-eqb h k (same_hash start vs ws h k ((test_decides vs ws).0 e) p q))
     by false e = and_false (h == k)
 
-pub shapes_decide : (keys : RandomState) (vs ws : Values) (s t : Shape) → IsShapeOf keys vs s → IsShapeOf keys ws t
+pub shapes_decide : (start : FoldHasher) (vs ws : Values) (s t : Shape) → IsShapeOf start vs s → IsShapeOf start ws t
     → same_shape s t ≡ shape_test vs ws
-shapes_decide keys vs ws (Flat f) (Flat g) p q =
+shapes_decide start vs ws (Flat f) (Flat g) p q =
     (λ i. (f.hash == g.hash) && alike_each (p.1 i) (q.1 i))
     ∙ ap (λ b. (f.hash == g.hash) && b) (alike_itself vs ws p.0 q.0)
-    ∙ hashed_alike keys vs ws f.hash g.hash p.2 q.2
-shapes_decide keys vs ws (Flat f) (Forms ns) p q = sym (two_shapes vs ws p.0 q.0)
-shapes_decide keys vs ws (Forms ms) (Flat g) p q = sym (test_back vs ws ∙ two_shapes ws vs q.0 p.0)
-shapes_decide keys vs ws (Forms ms) (Forms ns) p q =
+    ∙ hashed_alike start vs ws f.hash g.hash p.2 q.2
+shapes_decide start vs ws (Flat f) (Forms ns) p q = sym (two_shapes vs ws p.0 q.0)
+shapes_decide start vs ws (Forms ms) (Flat g) p q = sym (test_back vs ws ∙ two_shapes ws vs q.0 p.0)
+shapes_decide start vs ws (Forms ms) (Forms ns) p q =
     lists_same (each_labelled of_one_class vs) (each_labelled of_one_class ws) ms.items ns.items p.1 q.1
     ∙ same_each_labelled of_one_class of_one_class vs ws
     ∙ (λ i. agree_each_by (one_label of_one_class of_one_class) (each_in_bags_itself vs i) (each_in_bags_itself ws i))

@@ -2,7 +2,7 @@
 use Rattle.std.proofs.Common.{◌≡◌, ◌<◌, ◌+◌, ℕ, List, [], ◌∷◌, ◌++◌, length, take, Some, sym, ap, ◌∙◌, subst, arith, slice_get, inl, inr}
 use Rattle.std.specs.Prelude.{◌↔◌, cond, slice_index, unwrap_or}
 use Rattle.std.specs.Map.{lookup}
-use Rattle.std.specs.declared.random_state.RandomState.{RandomState}
+use Rattle.std.specs.declared.hash.FoldHasher.{FoldHasher}
 use Rattle.std.proofs.lemmas.List.{length-map, length-take-le, map_more}
 use Rattle.std.proofs.lemmas.Option.{get_or_from_slice_get, slice_get_within}
 use Rattle.step_values.specs.Shapes.{HaveOneShape}
@@ -19,9 +19,9 @@ count_before n rows lt =
     length-map (take n rows) (λ r. r.values) ∙ length-take-le n rows (omega (arith, lt))
 
 -- one row more
-module _ (keys : RandomState) (rows : List Row) (ns : List ℕ) (es next : List (Shape × ℕ)) (n m : ℕ) (r : Row)
-    (at : slice_get rows n ≡ Some r) (all : AreShapeNumbers keys rows ns es n) (shape : Shape)
-    (is : IsShapeOf keys r.values shape) (first : m ≡ unwrap_or (lookup (same_shape shape) es) n)
+module _ (start : FoldHasher) (rows : List Row) (ns : List ℕ) (es next : List (Shape × ℕ)) (n m : ℕ) (r : Row)
+    (at : slice_get rows n ≡ Some r) (all : AreShapeNumbers start rows ns es n) (shape : Shape)
+    (is : IsShapeOf start r.values shape) (first : m ≡ unwrap_or (lookup (same_shape shape) es) n)
     (noted : (s : Shape) → lookup (same_shape s) next
     ≡ cond (same_shape shape s) (Some m) (lookup (same_shape s) es)) where
   within : n < length rows
@@ -34,18 +34,18 @@ module _ (keys : RandomState) (rows : List Row) (ns : List ℕ) (es next : List 
 
   own : Some m ≡ first_place (values_before n rows ++ r.values ∷ []) r.values
   own =
-      sym (own_first keys (values_before n rows) r.values shape is n m (count_before n rows within) es next all.firsts
+      sym (own_first start (values_before n rows) r.values shape is n m (count_before n rows within) es next all.firsts
       first noted)
 
-  firsts_then : AreFirsts keys (values_before n rows ++ r.values ∷ []) next
+  firsts_then : AreFirsts start (values_before n rows ++ r.values ∷ []) next
   firsts_then =
-      one_more_first keys (values_before n rows) r.values shape is n m (count_before n rows within) es next all.firsts
+      one_more_first start (values_before n rows) r.values shape is n m (count_before n rows within) es next all.firsts
       first noted
 
-  pub one_more_shape : AreShapeNumbers keys rows (ns ++ m ∷ []) next (n + 1)
+  pub one_more_shape : AreShapeNumbers start rows (ns ++ m ∷ []) next (n + 1)
   one_more_shape = record {
     each = longer ns m ∙ ap (λ k. k + 1) all.each;
-    firsts = subst (λ vs. AreFirsts keys vs next) (sym more_before) firsts_then;
+    firsts = subst (λ vs. AreFirsts start vs next) (sym more_before) firsts_then;
     numbered = λ i s lt h. among i s (elim (last_or_before i n lt) [
       | inl e ↦
           behind ns m i (e ∙ sym all.each) ∙ own
@@ -70,10 +70,10 @@ module _ (keys : RandomState) (rows : List Row) (ns : List ℕ) (es next : List 
           (sym (all.numbered i s l h) ∙ item.1))
 
 -- So two rows have one number exactly where their values have one shape.
-pub shapes_told : (keys : RandomState) (rows : List Row) (ns : List ℕ) (es : List (Shape × ℕ))
-    → AreShapeNumbers keys rows ns es (length rows) → (i j : ℕ) (r s : Row) → slice_get rows i ≡ Some r → slice_get rows j ≡ Some s
+pub shapes_told : (start : FoldHasher) (rows : List Row) (ns : List ℕ) (es : List (Shape × ℕ))
+    → AreShapeNumbers start rows ns es (length rows) → (i j : ℕ) (r s : Row) → slice_get rows i ≡ Some r → slice_get rows j ≡ Some s
     → (slice_index ns i ≡ slice_index ns j) ↔ HaveOneShape r.values s.values
-shapes_told keys rows ns es all i j r s at there =
+shapes_told start rows ns es all i j r s at there =
     let each = all.each in
     let lt = slice_get_within rows i r at in
     let less = slice_get_within rows j s there in

@@ -1,10 +1,9 @@
 -- What the code computes; no promise stands here. Values without bags, which are compared and hashed where they are kept.
 use Rattle.std.specs.Prelude.{◌≡◌, ℕ, ◌&&◌, Bool, true, false, List, ◌++◌}
 use Rattle.std.specs.Hash as fed
-use Rattle.std.specs.Hash.DefaultHasher as sip
+use Rattle.std.specs.Hash.FoldHasher as folding
 use Rattle.std.specs.List.{flat_map, fold}
-use Rattle.std.specs.RandomState.{initial_hasher}
-use Rattle.std.specs.declared.random_state.RandomState.{RandomState}
+use Rattle.std.specs.declared.hash.FoldHasher.{FoldHasher}
 use Rattle.step_literals.specs.declared.literal.Decimal.{Decimal}
 use Rattle.step_literals.specs.Bits.{fed_bits}
 use Rattle.step_literals.specs.DecimalKeys.{key_writes, units_of}
@@ -83,6 +82,6 @@ abbrev mutual
 abbrev pub IsHashFrom : {S : Type 0} → (S → List ℕ → S) → (S → ℕ) → S → Values → ℕ → Type 0
 IsHashFrom {S} write finish start vs hash = (t : S) × FeedsEach write vs start t × (hash ≡ finish t)
 
--- .. by these keys
-abbrev pub IsHash : RandomState → Values → ℕ → Type 0
-IsHash keys vs hash = IsHashFrom sip.write sip.finish (initial_hasher keys) vs hash
+-- .. of a hasher that begins so
+abbrev pub IsHash : FoldHasher → Values → ℕ → Type 0
+IsHash start vs hash = IsHashFrom folding.write folding.finish start vs hash

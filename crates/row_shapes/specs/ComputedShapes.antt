@@ -2,7 +2,7 @@
 use Rattle.std.specs.Prelude.{◌≡◌, ◌<◌, ℕ, Bool, true, false, List, length, map, take, slice_get, Option, Some}
 use Rattle.std.specs.List.{position_from}
 use Rattle.std.specs.Map.{lookup}
-use Rattle.std.specs.declared.random_state.RandomState.{RandomState}
+use Rattle.std.specs.declared.hash.FoldHasher.{FoldHasher}
 use Rattle.step_values.specs.ComputedForms.{AreNormal}
 use Rattle.step_values.specs.ComputedLabels.{each_labelled}
 use Rattle.step_values.specs.Values.{Values}
@@ -13,10 +13,10 @@ use Rattle.row_shapes.specs.contracts.shapes.ShapePartialEq.TheImpl.{ghosts}
 use Rattle.row_shapes.specs.declared.shapes.Shape.{Shape}
 use Rattle.row_shapes.specs.declared.shapes.Shape.TheVariants.{Flat, Forms}
 
--- the shape holds these values and their hash by the keys, or, where a bag stands in them, their normal forms
-abbrev pub IsShapeOf : RandomState → Values → Shape → Type 0
-IsShapeOf keys vs (Flat f) = (bagless_each vs ≡ true) × (f.values ≡ vs) × IsHash keys vs f.hash
-IsShapeOf keys vs (Forms ns) = (bagless_each vs ≡ false) × AreNormal (each_labelled of_one_class vs) ns.items
+-- the shape holds these values and their hash by a hasher that begins so, or, where a bag stands in them, their normal forms
+abbrev pub IsShapeOf : FoldHasher → Values → Shape → Type 0
+IsShapeOf start vs (Flat f) = (bagless_each vs ≡ true) × (f.values ≡ vs) × IsHash start vs f.hash
+IsShapeOf start vs (Forms ns) = (bagless_each vs ≡ false) × AreNormal (each_labelled of_one_class vs) ns.items
 
 -- the derived equality
 abbrev pub same_shape : Shape → Shape → Bool
@@ -27,16 +27,16 @@ abbrev pub first_place : List Values → Values → Option ℕ
 first_place all vs = position_from (shape_test vs) 0 all
 
 -- beside each shape stands the place of the first that have it, if any do
-abbrev pub AreFirsts : RandomState → List Values → List (Shape × ℕ) → Type 0
-AreFirsts keys all es = (vs : Values) (s : Shape) → IsShapeOf keys vs s → lookup (same_shape s) es ≡ first_place all vs
+abbrev pub AreFirsts : FoldHasher → List Values → List (Shape × ℕ) → Type 0
+AreFirsts start all es = (vs : Values) (s : Shape) → IsShapeOf start vs s → lookup (same_shape s) es ≡ first_place all vs
 
 abbrev pub values_before : ℕ → List Row → List Values
 values_before n rows = map (λ r. r.values) (take n rows)
 
 -- the numbers of the first n rows
-pub record AreShapeNumbers (keys : RandomState) (rows : List Row) (numbers : List ℕ) (es : List (Shape × ℕ)) (n : ℕ)
+pub record AreShapeNumbers (start : FoldHasher) (rows : List Row) (numbers : List ℕ) (es : List (Shape × ℕ)) (n : ℕ)
     : Type 0 where
   pub each : length numbers ≡ n
-  pub firsts : AreFirsts keys (values_before n rows) es
+  pub firsts : AreFirsts start (values_before n rows) es
   pub numbered : (i : ℕ) (r : Row) → i < n → slice_get rows i ≡ Some r
       → slice_get numbers i ≡ first_place (values_before n rows) r.values

@@ -17,16 +17,24 @@ ghost use Rattle.row_shapes.specs.ComputedFlat.{
   word_writes,
 };
 
-use std::hash::{BuildHasher, Hash, Hasher, RandomState};
+use std::hash::{BuildHasher, FoldHasher, Hash, Hasher, RandomState};
 use step_literals::literal::{Bits, Decimal, Text, Word};
 use step_values::slot::{Node, Slot, Slots};
 
-/// A number that values of one shape have in common, by these keys; none where a SET or a BAG stands in one of them.
-pub(crate) fn hash_of<'p, 'a>(keys: RandomState, values: &Slots<'p, 'a>) -> Option<u64>
+/// A hasher at its beginning, which the author of a text doesn't know.
+pub(crate) fn start_of(keys: RandomState) -> FoldHasher {
+    let mut start = FoldHasher::default();
+    start.write_u64(keys.hash_one(0u64));
+    start
+}
+
+/// A number that values of one shape have in common, by a hasher that begins so; none where a SET or a BAG stands in one
+/// of them.
+pub(crate) fn hash_of<'p, 'a>(start: FoldHasher, values: &Slots<'p, 'a>) -> Option<u64>
     ensures { MatchOption result (bagless_each values.now ≡ false)
-        (λ hash. (bagless_each values.now ≡ true) × IsHash keys values.now hash) }
+        (λ hash. (bagless_each values.now ≡ true) × IsHash start values.now hash) }
 {
-    let mut state = keys.build_hasher();
+    let mut state = start;
     if feed_each(values, &mut state) {
         Some(state.finish())
     } else {

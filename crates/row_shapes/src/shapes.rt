@@ -18,11 +18,11 @@ ghost use Rattle.step_values.specs.Shapes.{HaveOneShape};
 ghost use Rattle.row_shapes.specs.ComputedLabelling.{of_one_class};
 ghost use Rattle.row_shapes.specs.ComputedShapes.{IsShapeOf};
 
-use crate::feeding::hash_of;
+use crate::feeding::{hash_of, start_of};
 use crate::flat::FlatValues;
 use indexmap::IndexMap;
 use std::alloc::{AllocError, Global};
-use std::hash::{Hash, RandomState};
+use std::hash::{FoldHasher, Hash, RandomState};
 use step_equal::plain::Plain;
 use step_values::labels::{Label, Labels};
 use step_values::normal::{Normal, normal_forms};
@@ -74,10 +74,11 @@ pub fn shapes<'a>(
         → slice_get input.now j ≡ Some s → (slice_index v.items i ≡ slice_index v.items j)
         ↔ HaveOneShape r.values s.values) }
 {
+    let start = start_of(keys);
     let mut firsts: FirstPlaces<'_, 'a> = IndexMap::with_hasher(alloc, keys);
     let mut numbers = Vec::with_capacity(alloc, input.len())?;
     for place in 0..input.len() {
-        let shape = shape_of(alloc, keys, input.row(place).values)?;
+        let shape = shape_of(alloc, start, input.row(place).values)?;
         let number = first_of(&mut firsts, shape, place as u32)?;
         numbers.push(number)?;
     }
@@ -87,12 +88,12 @@ pub fn shapes<'a>(
 /// The shape of values. It takes no memory where no SET or BAG stands in them.
 fn shape_of<'p, 'a>(
     alloc: Global,
-    keys: RandomState,
+    start: FoldHasher,
     values: Slots<'p, 'a>,
 ) -> Result<Shape<'p, 'a>, AllocError>
-    ensures { IfOk result (λ shape. IsShapeOf keys values.entry shape) }
+    ensures { IfOk result (λ shape. IsShapeOf start values.entry shape) }
 {
-    match hash_of(keys, &values) {
+    match hash_of(start, &values) {
         Some(hash) => Ok(Shape::Flat(FlatValues { hash, values })),
         None => Ok(Shape::Forms(normal_forms(alloc, &OneClass, &values)?)),
     }

@@ -1,6 +1,6 @@
 //! The cases of all tests.
 
-use crate::{chains, drawn};
+use crate::{chains, drawn, worked};
 use std::hash::RandomState;
 use std::test::Fail;
 
@@ -15,5 +15,12 @@ fn drawn_populations_have_the_tables_of_a_plain_refinement(rt: HostRuntime) -> R
 fn a_chain_parts_one_row_a_round(rt: HostRuntime) -> Result<(), Fail> {
     let keys = RandomState::new(&rt)?;
     assert!(rt; chains::is_parted(rt.alloc(), keys));
+    Ok(())
+}
+
+#[test]
+fn a_worked_row_is_parted_with_little_work(rt: HostRuntime) -> Result<(), Fail> {
+    let keys = RandomState::new(&rt)?;
+    assert!(rt; worked::is_parted(rt.alloc(), keys));
     Ok(())
 }

@@ -11,7 +11,7 @@ use step_literals::literal::{Decimal, Word};
 use step_values::value::PlainValue;
 
 /// How many populations are drawn.
-const POPULATIONS: u64 = 300;
+const POPULATIONS: u64 = 10_000;
 
 /// Lots, by a linear congruence.
 #[derive(Drop)]

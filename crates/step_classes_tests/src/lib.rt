@@ -1,4 +1,5 @@
-//! Tests of `step_classes`: tables of drawn populations beside those of a plain refinement, and chains.
+//! Tests of `step_classes`: tables of drawn populations beside those of a plain refinement, chains,
+//! and a worked row.
 #![tactic(auto)]
 
 #[cfg(test)]
@@ -9,3 +10,5 @@ mod chains;
 mod drawn;
 #[cfg(test)]
 mod plainly;
+#[cfg(test)]
+mod worked;

@@ -1,7 +1,9 @@
 -- Digits, one by one.
-use Rattle.std.proofs.Common.{◌≡◌, ℕ, zero, suc, ◌+◌, ◌-◌, ◌*◌, ◌%◌, ◌^◌, ◌<◌, ◌≤◌, Bool, true, false, cond, not, List, [], ◌∷◌, ◌++◌, length, get_or, drop, min, ltb, refl, sym, ap, ◌∙◌, arith, add-one, one-add}
-use Rattle.std.specs.Prelude.{◌==◌, ◌&&◌, ◌||◌}
+use Rattle.std.proofs.Common.{◌≡◌, ℕ, zero, suc, ◌+◌, ◌-◌, ◌*◌, ◌%◌, ◌^◌, ◌<◌, ◌≤◌, Bool, true, false, cond, not, List, [], ◌∷◌, ◌++◌, length, get_or, drop, fold, min, ltb, refl, sym, ap, ◌∙◌, arith, add-one, one-add, append-nil, eq-eqb, eqb-true}
+use Rattle.std.specs.Prelude.{◌==◌, ◌&&◌, ◌||◌, if◌then◌else◌}
 use Rattle.std.specs.Char.{digit_value}
+use Rattle.std.specs.Hash as fed
+use Rattle.std.specs.Hash.{fed_then}
 use Rattle.std.specs.List.{list_all, prefix_len}
 use Rattle.std.specs.declared.cmp.Ordering.{Ordering}
 use Rattle.std.specs.declared.cmp.Ordering.TheVariants.{Less, Equal, Greater}
@@ -14,6 +16,7 @@ use Rattle.std.proofs.lemmas.Bool.{lt-ltb}
 use Rattle.std.proofs.lemmas.Bool.Decides.{nat_tests}
 use Rattle.step_literals.specs.Bytes.{is_digit}
 use Rattle.step_literals.specs.Decimals.{is_negative}
+use Rattle.step_literals.specs.DecimalKeys.{front_write, front_writes}
 use Rattle.step_literals.specs.DigitStrings.{significant, is_significant, has_digit, digit, front_value, end_of, significant_digits, is_below_zero}
 use Rattle.step_literals.specs.MagnitudeLemmas.{both, all_digits}
 
@@ -123,3 +126,27 @@ pub order_told : (r : Ordering) (a b x y : ℕ) → r ≡ nat_cmp a b → (a ≡
     → r ≡ nat_cmp x y
 order_told r a b x y h apart less greater = h ∙ nat_cmp_is x y (nat_cmp a b)
     (matched (nat_cmp a b) (ranks a b) less (λ e. absurd (apart e)) greater)
+
+-- digits that a hasher is fed: one more, at which it is told a number ..
+module _ {S : Type 0} (write : S → List ℕ → S) (start s t : S) (xs : List ℕ) (n : ℕ)
+    (fed_before : s ≡ fold write start (front_writes n xs)) where
+  one_more_write : (b : Bool) → (n % 19 == 18) ≡ b
+      → front_writes (n + 1) xs ≡ front_writes n xs ++ (if b then front_write (n + 1) xs else [])
+  one_more_write b e = rw add-one (ap (λ c. front_writes n xs ++ (if c then front_write (suc n) xs else [])) e)
+
+  pub fed_at : (v : ℕ) → n % 19 ≡ 18 → v ≡ front_value (n + 1) xs % 2 ^ 64 → t ≡ fold write s (fed.u64 v)
+      → t ≡ fold write start (front_writes (n + 1) xs)
+  fed_at v at worth feeds =
+      fed_then write start s t (front_writes n xs) (fed.u64 v) fed_before feeds
+      ∙ ap (λ k. fold write start (front_writes n xs ++ fed.u64 k)) worth
+      ∙ ap (fold write start) (sym (one_more_write true (eq-eqb (n % 19) 18 at)))
+
+  -- .. and one at which it isn't
+  pub fed_before_it : (n % 19 ≡ 18 → ⊥) → t ≡ s → t ≡ fold write start (front_writes (n + 1) xs)
+  fed_before_it other same = by (n % 19 == 18) refl
+    where
+      by : (b : Bool) → (n % 19 == 18) ≡ b → t ≡ fold write start (front_writes (n + 1) xs)
+      by true e = absurd (other (eqb-true (n % 19) 18 e))
+      by false e =
+          same ∙ fed_before ∙ ap (fold write start)
+          (sym (append-nil (front_writes n xs)) ∙ sym (one_more_write false e))

@@ -1,17 +1,17 @@
 -- Lemmas for the laws of the traits; no promise stands here.
 -- Numbers worth the same feed a hasher the same.
-use Rattle.std.proofs.Common.{◌≡◌, ℕ, ◌%◌, ◌^◌, ◌<◌, Bool, true, false, cond, List, [], ◌∷◌, ◌++◌, refl, sym, ap, ◌∙◌, arith, IsTrue, inl, inr}
-use Rattle.std.specs.Prelude.{◌⊎◌, ◌&&◌}
+use Rattle.std.proofs.Common.{◌≡◌, ℕ, zero, suc, ◌+◌, ◌-◌, ◌*◌, ◌%◌, ◌^◌, ◌<◌, length, Bool, true, false, cond, List, [], ◌∷◌, ◌++◌, refl, sym, ap, ◌∙◌, arith, IsTrue, inl, inr}
+use Rattle.std.specs.Prelude.{◌⊎◌, ◌&&◌, ◌==◌, if◌then◌else◌}
 use Rattle.std.specs.Hash as fed
 use Rattle.std.specs.Ordering.{on, int_eq}
 use Rattle.std.specs.Cmp.{signed_Decides}
 use Rattle.std.proofs.lemmas.Bool.{cases_order}
 use Rattle.step_literals.specs.declared.literal.Decimal.{Decimal}
 use Rattle.step_literals.specs.Decimals.{is_negative, units}
-use Rattle.step_literals.specs.DigitStrings.{is_significant, has_digit, magnitude, top, core_value, significant_digits, shift_of, is_below_zero}
-use Rattle.step_literals.specs.DecimalKeys.{units_of, key, key_writes}
-use Rattle.step_literals.specs.MagnitudeLemmas.{magnitude_none, less_by_top}
-use Rattle.step_literals.specs.NormalFormLemmas.{signed_same, units_by_digits, digits_significant, normal_unique, magnitude_end, end_last, end_some, magnitude_some}
+use Rattle.step_literals.specs.DigitStrings.{is_significant, has_digit, magnitude, top, end_of, front_value, significant_digits, shift_of, is_below_zero}
+use Rattle.step_literals.specs.DecimalKeys.{units_of, front_writes, digit_writes, key, key_writes}
+use Rattle.step_literals.specs.MagnitudeLemmas.{digit_small, magnitude_none, less_by_top}
+use Rattle.step_literals.specs.NormalFormLemmas.{signed_same, units_by_digits, digits_significant, normal_unique, magnitude_end, end_within, end_last, end_some, magnitude_some}
 
 and_false : (b : Bool) → (b && false) ≡ false
 and_false true = refl
@@ -27,18 +27,40 @@ module _ (xs ys : List ℕ) (a b : ℕ) (hx : is_significant xs ≡ true) (hy : 
   same_top : top xs a ≡ top ys b
   same_top = same_top_of (cases_order (top xs a) (top ys b))
 
-  core_of_some : 0 < magnitude xs a → core_value xs ≡ core_value ys
-  core_of_some h =
-      let n = normal_unique _ _ _ _ (end_last xs a hx (end_some xs a hx h))
+  same_fronts : 0 < magnitude xs a → (front_value (end_of (length xs) xs) xs ≡ front_value (end_of (length ys) ys) ys)
+      × (length xs - end_of (length xs) xs + a ≡ length ys - end_of (length ys) ys + b)
+  same_fronts h =
+      normal_unique _ _ _ _ (end_last xs a hx (end_some xs a hx h))
       (end_last ys b hy (end_some ys b hy (omega (arith, e, h)))) (sym (magnitude_end xs a hx) ∙ e
-      ∙ magnitude_end ys b hy) in
-      ap (λ v. v % 2 ^ 64) n.0
+      ∙ magnitude_end ys b hy)
 
-same_core : (xs ys : List ℕ) (a b : ℕ) → is_significant xs ≡ true → is_significant ys ≡ true
-    → magnitude xs a ≡ magnitude ys b → core_value xs ≡ core_value ys
-same_core [] [] a b hx hy e = refl
-same_core [] (y ∷ ys) a b hx hy e = absurd (omega (arith, e, magnitude_none a, magnitude_some y ys b hy))
-same_core (x ∷ xs) ys a b hx hy e = core_of_some (x ∷ xs) ys a b hx hy e (magnitude_some x xs a hx)
+-- where n digits write one number, so do fewer
+module _ (xs ys : List ℕ) (hx : is_significant xs ≡ true) (hy : is_significant ys ≡ true) where
+  same_front_writes : (n : ℕ) → front_value n xs ≡ front_value n ys → front_writes n xs ≡ front_writes n ys
+  same_front_writes zero e = refl
+  same_front_writes (suc n) e =
+      let fewer : front_value n xs ≡ front_value n ys = omega (arith, e, digit_small xs hx n, digit_small ys hy n) in
+      λ i. same_front_writes n fewer i ++ (if n % 19 == 18 then fed.u64 (e i % 2 ^ 64) else [])
+
+  same_digit_writes : (n m : ℕ) → n ≡ m → front_value n xs ≡ front_value m ys
+      → (n ≡ m) × (digit_writes n xs ≡ digit_writes m ys)
+  same_digit_writes n m same e =
+      let one : front_value n xs ≡ front_value n ys = e ∙ ap (λ k. front_value k ys) (sym same) in
+      (same, (λ i. same_front_writes n one i ++ fed.u64 (one i % 2 ^ 64)) ∙ ap (λ k. digit_writes k ys) same)
+
+same_digits : (xs ys : List ℕ) (a b : ℕ) → is_significant xs ≡ true → is_significant ys ≡ true
+    → magnitude xs a ≡ magnitude ys b → (end_of (length xs) xs ≡ end_of (length ys) ys)
+    × (digit_writes (end_of (length xs) xs) xs ≡ digit_writes (end_of (length ys) ys) ys)
+same_digits [] [] a b hx hy e = (refl, refl)
+same_digits [] (y ∷ ys) a b hx hy e = absurd (omega (arith, e, magnitude_none a, magnitude_some y ys b hy))
+same_digits (x ∷ xs) [] a b hx hy e = absurd (omega (arith, e, magnitude_none b, magnitude_some x xs a hx))
+same_digits (x ∷ xs) (y ∷ ys) a b hx hy e =
+    let fronts = same_fronts (x ∷ xs) (y ∷ ys) a b hx hy e (magnitude_some x xs a hx) in
+    let tops = same_top (x ∷ xs) (y ∷ ys) a b hx hy e in
+    let one = end_within (x ∷ xs) a hx in
+    let two = end_within (y ∷ ys) b hy in
+    same_digit_writes (x ∷ xs) (y ∷ ys) hx hy (end_of (length (x ∷ xs)) (x ∷ xs)) (end_of (length (y ∷ ys)) (y ∷ ys))
+    (omega (arith, fronts.1, tops, one, two)) fronts.0
 
 same_sign : (xs ys : List ℕ) (a b : ℕ) (p q : Bool) → is_significant xs ≡ true → is_significant ys ≡ true
     → magnitude xs a ≡ magnitude ys b
@@ -55,10 +77,10 @@ key_same s t e =
     let u = signed_same (is_below_zero s) (is_below_zero t) (magnitude xs a) (magnitude ys b) (sym (units_by_digits s)
     ∙ e ∙ units_by_digits t) in
     let sign = same_sign xs ys a b (is_negative s) (is_negative t) hx hy u.0 u.1 in
-    let core = same_core xs ys a b hx hy u.0 in
+    let digits = same_digits xs ys a b hx hy u.0 in
     let tops = same_top xs ys a b hx hy u.0 in
-    (λ i. (cond (sign i) 1 0, core i, tops i))
+    (λ i. (2 * digits.0 i + cond (sign i) 1 0, digits.1 i, tops i))
 
 pub key_respects_eq : (x y : Decimal) → IsTrue (on units_of int_eq x y) → key_writes x ≡ key_writes y
-key_respects_eq x y h = ap (λ (k : ℕ × ℕ × ℕ). fed.u8 k.0 ++ (fed.u64 k.1 ++ fed.u64 k.2))
+key_respects_eq x y h = ap (λ (k : ℕ × List (List ℕ) × ℕ). fed.u32 k.0 ++ (k.1 ++ fed.u64 k.2))
     (key_same x.text.now y.text.now ((signed_Decides (units x.text.now) (units y.text.now)).0 h))

@@ -1,5 +1,5 @@
 -- Strings of digits, read as numbers times a power of ten.
-use Rattle.std.specs.Prelude.{ℕ, zero, suc, Bool, true, false, not, ◌==◌, ◌&&◌, ◌+◌, ◌*◌, ◌%◌, ◌^◌, List, [], ◌∷◌, length, slice_index_or, pos, ◌+ℤ◌, unsigned_abs, if◌then◌else◌}
+use Rattle.std.specs.Prelude.{ℕ, zero, suc, Bool, true, false, not, ◌==◌, ◌&&◌, ◌+◌, ◌*◌, ◌^◌, List, [], ◌∷◌, length, slice_index_or, pos, ◌+ℤ◌, unsigned_abs, if◌then◌else◌}
 use Rattle.std.specs.List.{list_all}
 use Rattle.std.specs.Char.{digit_value}
 use Rattle.std.specs.Str.Parse.{digits_value}
@@ -41,10 +41,6 @@ end_of (suc n) xs = if digit xs n == 0 then end_of n xs else suc n
 abbrev pub top : List ℕ → ℕ → ℕ
 top [] shift = 0
 top (x ∷ xs) shift = length (x ∷ xs) + shift
-
--- the digits between the zeros, as a number below 2^64
-abbrev pub core_value : List ℕ → ℕ
-core_value xs = front_value (end_of (length xs) xs) xs % 2 ^ 64
 
 -- the digits of a number that count, the power of ten of the last in units, and whether it is below zero
 abbrev pub significant_digits : List ℕ → List ℕ

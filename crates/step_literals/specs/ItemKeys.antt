@@ -1,5 +1,5 @@
 -- Strings compared by their characters: each as its kind and two numbers.
-use Rattle.std.specs.Prelude.{◌≡◌, ℕ, List, [], ◌∷◌, ◌++◌, nat_eq}
+use Rattle.std.specs.Prelude.{◌≡◌, ℕ, List, [], ◌∷◌, ◌++◌, nat_eq, nat_lt, if◌then◌else◌}
 use Rattle.std.specs.Bool.{Decides}
 use Rattle.std.specs.Cmp.Lexicographic.{pointwise}
 use Rattle.std.specs.Hash as fed
@@ -27,11 +27,15 @@ text_key t = items_key (text_items t)
 abbrev pub TextsAreTheirItems : Type 0
 TextsAreTheirItems = (s t : Text) → Decides (on text_key (pointwise nat_eq) s t) (text_items s ≡ text_items t)
 
--- what a hasher is fed: each character, and then a byte that shows the end
+-- what a hasher is fed: each character, so that what is fed of one never begins what is fed of another, and then a byte
+-- that shows the end
+abbrev pub code_writes : ℕ → List (List ℕ)
+code_writes c = if nat_lt c 128 then fed.u8 c else (fed.u8 128 ++ fed.u32 c)
+
 abbrev pub item_writes : Item → List (List ℕ)
-item_writes (Code c) = fed.u32 c
-item_writes (Page p b) = fed.u8 p ++ fed.u8 b
-item_writes (Raw b) = fed.u8 b
+item_writes (Code c) = code_writes c
+item_writes (Page p b) = fed.u8 129 ++ (fed.u8 p ++ fed.u8 b)
+item_writes (Raw b) = fed.u8 130 ++ fed.u8 b
 
 abbrev pub text_writes : Text → List (List ℕ)
 text_writes t = flat_map item_writes (text_items t) ++ fed.u8 255

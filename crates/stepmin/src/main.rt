@@ -4,14 +4,24 @@
 //! with the same words tells whether a certificate proves an output.
 #![tactic(auto)]
 
-use command_line::folder::Folder;
-use command_line::usage::unread_words;
+use command_line::usage::{read_words, unread_words};
 use commands::command::{refuse, refuse_to_read, run_command};
 use devices::counted::Counted;
+use devices::device::Sink;
+use file_store::folder::Folder;
+use files::fault::print_line;
 use std::env::Env;
 use std::hash::RandomState;
 use std::io;
 use std::process::ExitCode;
+use std::random::RandomSource;
+use std::rt::Files;
+
+/// The status where all is done.
+const DONE: u8 = 0;
+
+/// The status where a device fails.
+const DEVICE: u8 = 4;
 
 // The words of the command line. An error is `OutOfMemory` where memory runs out.
 fn words<R: Env + AllocGlobal>(rt: &R) -> io::Result<Vec<String>> {
@@ -19,17 +29,46 @@ fn words<R: Env + AllocGlobal>(rt: &R) -> io::Result<Vec<String>> {
     Ok(words)
 }
 
+// Puts the files of a run that ended with this status in their places, or takes them away where not all is done. A file
+// that can't be put there is a device that fails.
+fn settled<R: Files, E: Sink>(store: Folder<'_, R>, status: u8, err: &mut E) -> u8 {
+    if status != DONE {
+        store.abandon();
+        return status;
+    }
+    match store.finish() {
+        Ok(()) => DONE,
+        Err(fault) => {
+            let _printed = print_line(err, fault);
+            DEVICE
+        }
+    }
+}
+
+// Does what is asked for by these words, and answers the status. The system is asked for the keys by which names are
+// hashed only where there is a file to be read.
+fn run<R: AllocGlobal + RandomSource + Files, O: Sink, E: Sink>(
+    rt: &R,
+    words: &[String],
+    out: &mut O,
+    err: &mut E,
+) -> u8 {
+    if let Err(refusal) = read_words(rt.alloc(), words) {
+        return refuse(refusal, out, err);
+    }
+    let Ok(keys) = RandomState::new(rt) else {
+        return refuse_to_read(err);
+    };
+    let mut store = Folder::new(rt.alloc(), rt);
+    let status = run_command(rt.alloc(), keys, words, &mut store, out, err);
+    settled(store, status, err)
+}
+
 fn main(rt: HostRuntime) -> ExitCode {
     let mut out = Counted::new(io::writer(&rt));
     let mut err = Counted::new(rt.stderr());
     let status = match words(&rt) {
-        Ok(words) => match RandomState::new(&rt) {
-            Ok(keys) => {
-                let mut store = Folder::new(&rt);
-                run_command(rt.alloc(), keys, &words, &mut store, &mut out, &mut err)
-            }
-            Err(_) => refuse_to_read(&mut err),
-        },
+        Ok(words) => run(&rt, &words, &mut out, &mut err),
         Err(error) => refuse(unread_words(rt.alloc(), &error), &mut out, &mut err),
     };
     ExitCode::from(status)

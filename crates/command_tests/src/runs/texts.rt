@@ -1,8 +1,8 @@
 //! A large file in the file system, and its normal text.
 
 use super::{FILE, add_words, run_in};
-use command_line::folder::Folder;
 use devices::device::Sink;
+use file_store::folder::Folder;
 use files::store::Store;
 use std::alloc::Global;
 use std::fs;
@@ -43,12 +43,12 @@ fn large_file(alloc: Global, behind: &str) -> Option<String> {
 }
 
 // Whether the text can be laid into the file system.
-fn is_laid<R: Files>(rt: &R, text: &str) -> bool {
-    let mut folder = Folder::new(rt);
+fn is_laid<R: Files>(rt: &R, alloc: Global, text: &str) -> bool {
+    let mut folder = Folder::new(alloc, rt);
     let mut writer = folder.writer(LARGE);
     let put = writer.put(text.as_bytes());
     folder.keep(LARGE, writer);
-    put == Ok(text.len())
+    put == Ok(text.len()) && folder.finish().is_ok()
 }
 
 // Whether the file that lies there has this normal text.
@@ -59,7 +59,7 @@ fn is_normal_there<'x, R: Files>(
     words: &'x [String],
     text: &str,
 ) -> bool {
-    let mut folder = Folder::new(rt);
+    let mut folder = Folder::new(alloc, rt);
     let run = run_in(alloc, keys, words, &mut folder, usize::MAX, usize::MAX);
     run.comes_to(0, text.as_bytes(), b"")
 }
@@ -76,7 +76,7 @@ fn wrong_of<R: Files>(
     if !add_words(alloc, &mut words, &["stepmin", "plain", LARGE]) {
         return Some("the words");
     }
-    if !is_laid(rt, file) {
+    if !is_laid(rt, alloc, file) {
         return Some("the file in the file system");
     }
     if !is_normal_there(rt, alloc, keys, &words, text) {

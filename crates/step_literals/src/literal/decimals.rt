@@ -22,7 +22,7 @@ ghost use Rattle.std.specs.Prelude.{
   MatchOption,
 };
 ghost use Rattle.std.specs.Int.{w64};
-ghost use Rattle.std.specs.List.{prefix_len};
+ghost use Rattle.std.specs.List.{fold, prefix_len};
 ghost use Rattle.std.specs.Ordering.{int_cmp, int_eq, nat_cmp, on, as_partial_cmp};
 ghost use Rattle.std.specs.Cmp.Rules.{comparing};
 ghost use Rattle.std.proofs.Common.{rules};
@@ -37,6 +37,7 @@ ghost use Rattle.step_literals.specs.Decimals.{
   ten_to,
   turned,
 };
+ghost use Rattle.step_literals.specs.DecimalKeys.{digit_writes};
 ghost use Rattle.step_literals.specs.DigitStrings.{
   is_significant,
   has_digit,
@@ -60,6 +61,9 @@ const FINEST: u32 = 1_000_400;
 
 /// No number of more digits than this is within the range of `i64`.
 const LONGEST_WHOLE: usize = 19;
+
+/// How many digits a number of 64 bits tells.
+const TOLD: usize = 19;
 
 /// The digits of a number from the first that isn't 0 on, before and behind the point.
 #[derive(Clone, Copy)]
@@ -115,6 +119,7 @@ impl<'a> Digits<'a> {
     fn end(&self) -> usize
         ensures end { result ≡ end_of (length (digits_of self.now)) (digits_of self.now) }
         ensures within { result ≤ length (digits_of self.now) }
+        ensures short { result ≤ 400 }
     {
         let mut end = self.len();
         while end > 0 && self.digit(end - 1) == 0 {
@@ -134,6 +139,22 @@ impl<'a> Digits<'a> {
                 .wrapping_add(u64::from(self.digit(i)));
         }
         value
+    }
+
+    /// Feeds a hasher the first digits: each nineteen of them, which a number of 64 bits tells, and those that are left.
+    fn feed<H: Hasher>(&self, len: usize, state: &mut H)
+        ensures { state.new ≡ fold H.write state.old (digit_writes len (digits_of self.now)) }
+    {
+        let mut value = 0u64;
+        for i in 0..len {
+            value = value
+                .wrapping_mul(10)
+                .wrapping_add(u64::from(self.digit(i)));
+            if i % TOLD == TOLD - 1 {
+                state.write_u64(value);
+            }
+        }
+        state.write_u64(value);
     }
 
     /// The number with its sign turned, if that is asked for.
@@ -392,8 +413,9 @@ impl<'a> Hash for Decimal<'a> {
 
     fn hash<H: Hasher>(&self, state: &mut H) {
         let digits = self.digits();
-        state.write_u8(u8::from(digits.below_zero));
-        state.write_u64(digits.front_value(digits.end()));
+        let end = digits.end();
+        state.write_u32(2 * end as u32 + u32::from(digits.below_zero));
+        digits.feed(end, state);
         state.write_u64(digits.top() as u64);
     }
 }

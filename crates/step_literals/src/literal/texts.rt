@@ -2,8 +2,10 @@
 ghost use Rattle.std.specs.Prelude.{◌≡◌, nat_eq};
 ghost use Rattle.std.specs.Cmp.Lexicographic.{slice_cmp, pointwise};
 ghost use Rattle.std.specs.Cmp.Rules.{comparing};
+ghost use Rattle.std.specs.List.{fold};
 ghost use Rattle.std.specs.Ordering.{on, as_partial_cmp, nat_cmp};
 ghost use Rattle.std.proofs.Common.{rules};
+ghost use Rattle.step_literals.specs.ItemKeys.{code_writes};
 
 use super::Text;
 use super::items::{Item, Items};
@@ -13,6 +15,16 @@ use std::hash::{Hash, Hasher};
 
 /// Fed behind a string, so that strings that follow one another in one hash stay apart.
 const END: u8 = 0xFF;
+
+/// A code below this one is fed as one byte.
+const WIDE: u32 = 0x80;
+
+/// Fed before the other codes, before characters of a page, and before bytes, so that no two characters are fed alike.
+const CODE: u8 = 0x80;
+
+const PAGE: u8 = 0x81;
+
+const RAW: u8 = 0x82;
 
 impl<'a> Text<'a> {
     ghost use Rattle.step_literals.specs.Items.{text_items};
@@ -95,14 +107,30 @@ impl<'a> Hash for Text<'a> {
     fn hash<H: Hasher>(&self, state: &mut H) {
         for item in self.items() {
             match item {
-                Item::Code(code) => state.write_u32(code),
+                Item::Code(code) => feed_code(code, state),
                 Item::Page(page, byte) => {
+                    state.write_u8(PAGE);
                     state.write_u8(page);
                     state.write_u8(byte);
                 }
-                Item::Raw(byte) => state.write_u8(byte),
+                Item::Raw(byte) => {
+                    state.write_u8(RAW);
+                    state.write_u8(byte);
+                }
             }
         }
         state.write_u8(END);
+    }
+}
+
+/// Feeds a hasher the code of a character.
+fn feed_code<H: Hasher>(code: u32, state: &mut H)
+    ensures { state.new ≡ fold H.write state.old (code_writes code) }
+{
+    if code < WIDE {
+        state.write_u8(code as u8);
+    } else {
+        state.write_u8(CODE);
+        state.write_u32(code);
     }
 }

@@ -1,4 +1,4 @@
-use Rattle.std.proofs.Common.{◌≡◌, subst, sym, refl}
+use Rattle.std.proofs.Common.{◌≡◌, ℕ, subst, sym, arith}
 use Rattle.std.proofs.lemmas.Result.{on_ok_weaker}
 use Rattle.class_parts.specs.Laid.{Layout, size, count}
 use Rattle.class_parts.specs.Views.{layout}
@@ -17,7 +17,7 @@ part_by_pairs-requires-2-clause-places c =
     let p : Layout = layout c.args.parts.now in
     let q : Layout = layout c.part_by_pairs.new.self in
     let sizes : size q ≡ size p = c.in_ok-part_by_pairs.ensures.finer.places in
-    gathered_places c.args.edges.now p p 0 c.class_count-high.result (size q) c.in_ok-pairs.pairs.items
+    gathered_places c.args.edges.now p p c.min.result c.class_count-high.result (size q) c.in_ok-pairs.pairs.items
     c.in_ok-pairs.ensures (subst (λ n. AreEdges n c.args.edges.now) (sym sizes) c.requires.edges)
 
 pub returns : goal.returns
@@ -26,9 +26,12 @@ returns c =
     let q : Layout = layout c.part_by_pairs.new.self in
     let r : Layout = layout c.part_by_pairs-2.new.self in
     let high_is : c.class_count-high.result ≡ count p = c.class_count-high.ensures in
+    let low : ℕ = c.min.result in
+    let low_is = c.min.ensures in
     on_ok_weaker c.part_by_pairs-2.result
-    (first_parts c.args.edges.now p 0 c.in_ok-pairs.pairs.items
+    (first_parts c.args.edges.now p low c.in_ok-pairs.pairs.items
     (λ x l. (c.requires.laid.within x l).known) c.requires.edges
-    (subst (λ k. Gathers c.args.edges.now p p 0 k c.in_ok-pairs.pairs.items) high_is c.in_ok-pairs.ensures)
-    q r c.args.shapes.now _ refl c.requires.each c.in_ok-shapes.ensures c.in_ok-part_by_pairs.ensures)
+    (subst (λ k. Gathers c.args.edges.now p p low k c.in_ok-pairs.pairs.items) high_is c.in_ok-pairs.ensures)
+    q r c.args.shapes.now _ (omega arith) c.requires.each c.requires.alike c.in_ok-shapes.ensures
+    c.in_ok-part_by_pairs.ensures)
     c.part_by_pairs-2.ensures

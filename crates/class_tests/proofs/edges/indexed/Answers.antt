@@ -2,7 +2,8 @@ use Rattle.std.proofs.Common.{subst}
 use Rattle.std.specs.Prelude.{IfOk}
 use Rattle.std.specs.List.Sorted.{IsPermutation}
 use Rattle.class_rounds.specs.Edges.{AreEdges}
-use Rattle.class_tests.proofs.Ordered.{permuted_are_edges, targets_are_places}
+use Rattle.class_rounds.proofs.Searching.{edges_permuted}
+use Rattle.class_tests.proofs.Ordered.{targets_are_places}
 use Rattle.class_tests.proofs.edges.indexed.Goals as goal
 
 pub of-requires : goal.of-requires
@@ -12,6 +13,10 @@ of-requires c =
 
 pub returns-in-Ok : goal.returns-in-Ok
 returns-in-Ok c =
-    permuted_are_edges c.args.size c.in_ok-edges.edges.items c.in-Ok.indexed
-    (subst (λ r. IfOk r (λ x. IsPermutation c.in_ok-edges.edges.items x)) c.in-Ok.is c.of.ensures)
-    (subst (AreEdges c.args.size) c.deref.ensures.value (c.are_edges.ensures c.if-not-are_edges.false))
+    let items = c.in_ok-edges.edges.items in
+    let moved = subst (λ r. IfOk r (λ x. IsPermutation items x)) c.in-Ok.is c.of.ensures in
+    record {
+      edges = edges_permuted c.args.size items c.in-Ok.indexed moved
+          (subst (AreEdges c.args.size) c.deref.ensures.value (c.are_edges.ensures c.if-not-are_edges.false));
+      same = subst (λ es. IsPermutation es c.in-Ok.indexed) c.in_ok-edges.ensures moved;
+    }

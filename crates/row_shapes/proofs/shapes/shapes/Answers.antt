@@ -8,8 +8,8 @@ pub loop-place-preserved : goal.loop-place-preserved
 loop-place-preserved c =
     let rows = c.args.input.now in
     let next = c.first_of.new.firsts.entries in
-    subst (λ ns. AreShapeNumbers c.args.keys rows ns next (c.loop-place.place + 1)) (sym {A = List ℕ} c.in_ok-push.ensures.items)
-    (one_more_shape c.args.keys rows c.loop-place.numbers.items c.loop-place.firsts.entries next c.loop-place.place
+    subst (λ ns. AreShapeNumbers c.start_of-start.result rows ns next (c.loop-place.place + 1)) (sym {A = List ℕ} c.in_ok-push.ensures.items)
+    (one_more_shape c.start_of-start.result rows c.loop-place.numbers.items c.loop-place.firsts.entries next c.loop-place.place
     c.in_ok-number.number (row_seen c.row.result) c.row.ensures c.loop-place.invariant c.in_ok-shape.shape
     c.in_ok-shape.ensures c.in_ok-number.ensures.first c.in_ok-number.ensures.noted)
 
@@ -20,4 +20,4 @@ returns-clause-shapes c =
     let es = c.loop-place.firsts.entries in
     let whole : c.loop-place.place ≡ length rows =
     omega (arith, c.loop-place-test.false, c.loop-place.auto.place-end, c.len-place-end.ensures.length) in
-    shapes_told c.args.keys rows ns es (subst (AreShapeNumbers c.args.keys rows ns es) whole c.loop-place.invariant)
+    shapes_told c.start_of-start.result rows ns es (subst (AreShapeNumbers c.start_of-start.result rows ns es) whole c.loop-place.invariant)

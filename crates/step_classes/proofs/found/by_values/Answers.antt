@@ -1,8 +1,17 @@
-use Rattle.std.proofs.Common.{subst}
+use Rattle.std.proofs.Common.{subst, sym}
 use Rattle.std.proofs.lemmas.Result.{IfOk-weaker}
 use Rattle.class_parts.specs.Views.{layout}
+use Rattle.class_rounds.specs.Edges.{ReferAlike}
 use Rattle.class_rounds.specs.Rounds.{IsRefined}
+use Rattle.row_shapes.proofs.Agreeing.{refer_alike}
 use Rattle.step_classes.proofs.found.by_values.Goals as goal
+
+pub refine-requires-clause-alike : goal.refine-requires-clause-alike
+refine-requires-clause-alike c =
+    let signatures = c.args.signatures.now in
+    subst (ReferAlike signatures.edges) (sym c.deref.ensures.value)
+    (refer_alike c.args.input.now c.len-rows.ensures.population signatures.edges c.requires.signatures.references
+    signatures.shapes.items c.requires.signatures.shaped)
 
 pub returns : goal.returns
 returns c =

@@ -1,0 +1,107 @@
+//! The file system as a store.
+
+use crate::making::Making;
+use crate::opening::Opening;
+use devices::counted::Counted;
+use devices::device::WriteFault;
+use files::fault::{Fault, Role};
+use files::store::Store;
+use std::alloc::Global;
+use std::rt::Files;
+
+/// The file system as a store.
+#[derive(Drop)]
+pub struct Folder<'p, R: Files> {
+    alloc: Global,
+    rt: &'p R,
+    /// The file that was taken back first.
+    output: Option<Making<'p, R>>,
+    /// The one behind it.
+    certificate: Option<Making<'p, R>>,
+}
+
+/// Puts a file in its place, where one was taken back. A fault is told by its role.
+fn take_place<R: Files>(making: Option<Making<'_, R>>, role: Role) -> Result<(), Fault> {
+    let Some(making) = making else {
+        return Ok(());
+    };
+    match making.take_place() {
+        Ok(()) => Ok(()),
+        Err(fault) => Err(Fault::of_write(role, fault)),
+    }
+}
+
+/// Takes a file away, where one was taken back and another one stands under its path.
+fn remove<R: Files>(making: Option<Making<'_, R>>) {
+    if let Some(making) = making {
+        making.remove();
+    }
+}
+
+impl<'p, R: Files> Folder<'p, R> {
+    /// The files that this runtime reaches. Where memory runs out for the name of a file that is to take the place of
+    /// another, it can't be made.
+    pub fn new(alloc: Global, rt: &'p R) -> Folder<'p, R> {
+        Folder {
+            alloc,
+            rt,
+            output: None,
+            certificate: None,
+        }
+    }
+
+    /// Puts the files that were written in the places of those that stand under their paths: the output, which was taken
+    /// back first, and then the certificate. `Device` comes where not all of one can be kept, or where it can't be
+    /// renamed; what stands under its path stays then, and so does what stands under that of the one behind it.
+    pub fn finish(self) -> Result<(), Fault> {
+        let Folder {
+            output,
+            certificate,
+            ..
+        } = self;
+        if let Err(fault) = take_place(output, Role::Output) {
+            remove(certificate);
+            return Err(fault);
+        }
+        take_place(certificate, Role::Certificate)
+    }
+
+    /// Takes away the files that were written, where others stand under their paths, which stay.
+    pub fn abandon(self) {
+        let Folder {
+            output,
+            certificate,
+            ..
+        } = self;
+        remove(output);
+        remove(certificate);
+    }
+}
+
+impl<'p, R: Files> Store<'p> for Folder<'p, R> {
+    type Reader = Counted<Opening<'p, R>>;
+
+    type Writer = Counted<Making<'p, R>>;
+
+    fn reader(&mut self, path: &'p str) -> Counted<Opening<'p, R>> {
+        Counted::new(Opening {
+            rt: self.rt,
+            path,
+            file: None,
+        })
+    }
+
+    fn writer(&mut self, path: &'p str) -> Counted<Making<'p, R>> {
+        Counted::new(Making::new(self.alloc, self.rt, path))
+    }
+
+    // What was written takes its place once all is done.
+    fn keep(&mut self, _path: &'p str, writer: Counted<Making<'p, R>>) {
+        let making = writer.into_inner();
+        if self.output.is_none() {
+            self.output = Some(making);
+        } else {
+            self.certificate = Some(making);
+        }
+    }
+}

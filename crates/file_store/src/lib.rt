@@ -1,0 +1,8 @@
+//! The file system as a store of files. A file that stands under the path of one that is written stays as it is until all
+//! of the new one is written.
+#![tactic(auto)]
+
+pub mod folder;
+mod making;
+mod opening;
+mod replacement;

@@ -1,0 +1,100 @@
+//! Files that take the place of others in their folders.
+
+use std::alloc::{AllocError, Global};
+use std::fs::{OpenFile, OpenOptions, Permissions};
+use std::io::ErrorKind;
+use std::os::unix::fs::OpenOptionsExt;
+use std::path::{Path, PathBuf};
+use std::rt::Files;
+use std::{fs, io};
+
+/// How many names are tried for a file beside another one.
+const NAMES: u32 = 10000;
+
+/// The paths of a file that is written, and of the one in the same folder whose place it is to take.
+#[derive(Drop)]
+pub(crate) struct Replacement {
+    beside: PathBuf,
+    standing: PathBuf,
+}
+
+/// The path of the file itself, where this may be a link to it.
+fn followed<R: Files>(alloc: Global, rt: &R, path: &str) -> io::Result<PathBuf> {
+    if fs::symlink_metadata(rt, path)?.is_symlink() {
+        return rt.canonicalize(alloc, path);
+    }
+    Ok(PathBuf::from_str(alloc, path)?)
+}
+
+/// The path of a file in the same folder, by a number.
+fn path_beside(alloc: Global, standing: &PathBuf, number: u32) -> Result<PathBuf, AllocError> {
+    let mut name = String::from_str(alloc, ".stepmin-")?;
+    let mut digits = itoa::Buffer::new();
+    name.push_str(digits.format(number))?;
+    standing.with_file_name(alloc, name.as_str())
+}
+
+/// Makes a file that nobody else reads, where none of this path is there.
+fn make_new<R: Files>(rt: &R, path: &str) -> io::Result<R::File> {
+    OpenOptions::new()
+        .write(true)
+        .create_new(true)
+        .mode(0o600)
+        .open(rt, path)
+}
+
+/// Makes a file beside this one, under the first name that is free.
+fn make_beside<R: Files>(
+    alloc: Global,
+    rt: &R,
+    standing: &PathBuf,
+) -> io::Result<(R::File, PathBuf)> {
+    for number in 0..NAMES {
+        let beside = path_beside(alloc, standing, number)?;
+        match make_new(rt, beside.as_str()) {
+            Ok(file) => return Ok((file, beside)),
+            Err(error) if error.kind() == ErrorKind::AlreadyExists => {}
+            Err(error) => return Err(error),
+        }
+    }
+    Err(io::Error::from(ErrorKind::AlreadyExists))
+}
+
+impl Replacement {
+    /// Makes a file beside the one of this path, with these permissions.
+    pub(crate) fn make<R: Files>(
+        alloc: Global,
+        rt: &R,
+        path: &str,
+        permissions: Permissions,
+    ) -> io::Result<(R::File, Replacement)> {
+        let standing = followed(alloc, rt, path)?;
+        let (file, beside) = make_beside(alloc, rt, &standing)?;
+        let replacement = Replacement { beside, standing };
+        if let Err(error) = file.set_permissions(permissions) {
+            replacement.remove(rt);
+            return Err(error);
+        }
+        Ok((file, replacement))
+    }
+
+    /// Puts the file in the place of the other, once the device has all of it.
+    fn rename<R: Files>(&self, rt: &R, file: R::File) -> io::Result<()> {
+        file.sync_all()?;
+        fs::rename(rt, &self.beside, &self.standing)
+    }
+
+    /// Puts the file in the place of the other. Where that fails it is removed.
+    pub(crate) fn take_place<R: Files>(&self, rt: &R, file: R::File) -> io::Result<()> {
+        let renamed = self.rename(rt, file);
+        if renamed.is_err() {
+            self.remove(rt);
+        }
+        renamed
+    }
+
+    /// Removes the file. One that can't be removed is left, which changes no other.
+    pub(crate) fn remove<R: Files>(&self, rt: &R) {
+        let _left = fs::remove_file(rt, &self.beside);
+    }
+}
