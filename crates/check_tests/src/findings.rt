@@ -291,7 +291,7 @@ impl Write for Paper {
     }
 }
 
-fn add_file(text: &mut Vec<u8>, schema: &[u8], instances: &[u8]) -> bool {
+pub(crate) fn add_file(text: &mut Vec<u8>, schema: &[u8], instances: &[u8]) -> bool {
     text.extend_from_slice(START).is_ok()
         && text.extend_from_slice(schema).is_ok()
         && text.extend_from_slice(DATA).is_ok()
@@ -310,7 +310,7 @@ fn is_printed(alloc: Global, report: &Report<'_>, wanted: &[u8]) -> bool {
 }
 
 // Whether this is the report on a file.
-fn is_reported(alloc: Global, keys: RandomState, file: &[u8], wanted: &[u8]) -> bool {
+pub(crate) fn is_reported(alloc: Global, keys: RandomState, file: &[u8], wanted: &[u8]) -> bool {
     let mut schema = SCHEMA;
     let mut source = file;
     let mut text = Vec::new(alloc);

@@ -12,7 +12,9 @@ ghost use Rattle.std.specs.Prelude.{
   IfErr,
   IfSome,
   codes,
+  is_some,
   option_map,
+  true,
 };
 ghost use Rattle.std.specs.IoError.{error_kind};
 ghost use Rattle.clap.specs.Matches.{subcommand_name_of};
@@ -172,6 +174,8 @@ fn paths_in<'p>(matches: &ArgMatches<'p>) -> Option<(&'p str, &'p str)>
     ensures files { (schema : List ℕ) → (file : List ℕ)
         → HasFiles (subcommand_rows_of matches.now) schema file
         → IfSome result (λ paths. (paths.0.now ≡ schema) × (paths.1.now ≡ file)) }
+    ensures found { (schema : List ℕ) → (file : List ℕ)
+        → HasFiles (subcommand_rows_of matches.now) schema file → is_some result ≡ true }
 {
     let found = matches.subcommand_matches("check")?;
     let schema = found.get_str("SCHEMA")?;

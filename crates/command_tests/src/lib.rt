@@ -5,3 +5,5 @@
 mod paths;
 #[cfg(test)]
 mod runs;
+#[cfg(test)]
+mod torn;

@@ -2,6 +2,7 @@
 
 use crate::making::Making;
 use crate::opening::Opening;
+use crate::paths::{PathMaker, PathOpener, remove, take_place};
 use devices::counted::Counted;
 use devices::device::WriteFault;
 use files::fault::{Fault, Role};
@@ -15,26 +16,26 @@ pub struct Folder<'p, R: Files> {
     alloc: Global,
     rt: &'p R,
     /// The file that was taken back first.
-    output: Option<Making<'p, R>>,
+    output: Option<Making<PathMaker<'p, R>>>,
     /// The one behind it.
-    certificate: Option<Making<'p, R>>,
+    certificate: Option<Making<PathMaker<'p, R>>>,
 }
 
 /// Puts a file in its place, where one was taken back. A fault is told by its role.
-fn take_place<R: Files>(making: Option<Making<'_, R>>, role: Role) -> Result<(), Fault> {
+fn replace<R: Files>(making: Option<Making<PathMaker<'_, R>>>, role: Role) -> Result<(), Fault> {
     let Some(making) = making else {
         return Ok(());
     };
-    match making.take_place() {
+    match take_place(making) {
         Ok(()) => Ok(()),
         Err(fault) => Err(Fault::of_write(role, fault)),
     }
 }
 
 /// Takes a file away, where one was taken back and another one stands under its path.
-fn remove<R: Files>(making: Option<Making<'_, R>>) {
+fn discard<R: Files>(making: Option<Making<PathMaker<'_, R>>>) {
     if let Some(making) = making {
-        making.remove();
+        remove(making);
     }
 }
 
@@ -59,11 +60,11 @@ impl<'p, R: Files> Folder<'p, R> {
             certificate,
             ..
         } = self;
-        if let Err(fault) = take_place(output, Role::Output) {
-            remove(certificate);
+        if let Err(fault) = replace(output, Role::Output) {
+            discard(certificate);
             return Err(fault);
         }
-        take_place(certificate, Role::Certificate)
+        replace(certificate, Role::Certificate)
     }
 
     /// Takes away the files that were written, where others stand under their paths, which stay.
@@ -73,30 +74,26 @@ impl<'p, R: Files> Folder<'p, R> {
             certificate,
             ..
         } = self;
-        remove(output);
-        remove(certificate);
+        discard(output);
+        discard(certificate);
     }
 }
 
 impl<'p, R: Files> Store<'p> for Folder<'p, R> {
-    type Reader = Counted<Opening<'p, R>>;
+    type Reader = Counted<Opening<PathOpener<'p, R>>>;
 
-    type Writer = Counted<Making<'p, R>>;
+    type Writer = Counted<Making<PathMaker<'p, R>>>;
 
-    fn reader(&mut self, path: &'p str) -> Counted<Opening<'p, R>> {
-        Counted::new(Opening {
-            rt: self.rt,
-            path,
-            file: None,
-        })
+    fn reader(&mut self, path: &'p str) -> Counted<Opening<PathOpener<'p, R>>> {
+        Counted::new(Opening::new(PathOpener { rt: self.rt, path }))
     }
 
-    fn writer(&mut self, path: &'p str) -> Counted<Making<'p, R>> {
-        Counted::new(Making::new(self.alloc, self.rt, path))
+    fn writer(&mut self, path: &'p str) -> Counted<Making<PathMaker<'p, R>>> {
+        Counted::new(Making::new(PathMaker::new(self.alloc, self.rt, path)))
     }
 
     // What was written takes its place once all is done.
-    fn keep(&mut self, _path: &'p str, writer: Counted<Making<'p, R>>) {
+    fn keep(&mut self, _path: &'p str, writer: Counted<Making<PathMaker<'p, R>>>) {
         let making = writer.into_inner();
         if self.output.is_none() {
             self.output = Some(making);

@@ -3,6 +3,7 @@
 #![tactic(auto)]
 
 pub mod folder;
-mod making;
-mod opening;
+pub mod making;
+pub mod opening;
+mod paths;
 mod replacement;
