@@ -3,3 +3,4 @@ pub mod Least
 pub mod Telling
 pub mod Counted
 mod Ruleless
+mod Stating

@@ -27,7 +27,6 @@ use crate::report::{RuleReport, empty_report};
 use express_logic::logical::Logical;
 use rule_plans::limit::rank_limit;
 use rule_plans::plan::{Plan, plan_of, types_at};
-use rule_plans::wanted::table_at;
 use rule_settings::setting::Setting;
 use schema_conditions::rule::{DomainRule, RuleHolder};
 use schema_rules::finding::{RuleFinding, RuleFindingKind};
@@ -110,16 +109,7 @@ fn add_instance<'p, 'e, 'r, 't, 's: 'r, 'a>(
 {
     for number in tried.numbers {
         let rule = &plan.rules[*number];
-        let table = table_at(&plan.tables, *number);
-        let outcome = outcome(
-            alloc,
-            asked,
-            tried.row,
-            tried.name,
-            rule,
-            table,
-            tried.types,
-        )?;
+        let outcome = outcome(alloc, asked, tried.row, tried.name, rule, plan, tried.types)?;
         add_outcome(asked.setting, report, tried.name, rule, outcome)?;
     }
     Ok(())

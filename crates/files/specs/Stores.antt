@@ -1,5 +1,5 @@
 -- Files by their names.
-use Rattle.std.specs.Prelude.{◌≡◌, ℕ, List, [], ◌∷◌, Option, Some, None, Bool}
+use Rattle.std.specs.Prelude.{◌≡◌, ◌++◌, ℕ, List, [], ◌∷◌, Option, Some, None, Bool}
 
 -- A file as a store tells it: what it holds, and whether each read of it fails or none does.
 pub record Stored : Type 0 where
@@ -20,3 +20,14 @@ abbrev pub HoldsWritten : Option (List ℕ) → Option (List ℕ) → Option (Li
 HoldsWritten None held holds = Unit {0}
 HoldsWritten (Some []) held holds = holds ≡ held
 HoldsWritten (Some (byte ∷ bytes)) held holds = holds ≡ Some (byte ∷ bytes)
+
+-- A file of this path is opened to be read, or made to be written: what reads or writes it does so at its first read or
+-- write, and once.
+pub data Access : Type 0 where
+  to_read : List ℕ → Access
+  to_write : List ℕ → Access
+
+-- These files were opened behind those before, in this order, as far as that is told.
+abbrev pub Opens : Option (List Access) → Option (List Access) → List Access → Type 0
+Opens None new files = Unit {0}
+Opens (Some before) new files = new ≡ Some (before ++ files)

@@ -7,11 +7,12 @@ ghost use Rattle.std.specs.Prelude.{
   [],
   Option,
   None,
+  ◌∷◌,
   Bool,
   false,
   IfSome,
 };
-ghost use Rattle.files.specs.Stores.{HoldsWritten};
+ghost use Rattle.files.specs.Stores.{Access, HoldsWritten, Opens, to_read, to_write};
 
 use devices::device::{Sink, Source};
 
@@ -24,6 +25,9 @@ pub trait Store<'p> {
     // whether each read of the file of this path fails, or none does, where the store tells it
     ghost fails: { Self → List ℕ → Option Bool } = { λ _ _. None };
 
+    // the files that were opened, in turn, where the store tells them
+    ghost opened: { Self → Option (List Access) } = { λ _. None };
+
     /// A file that is read.
     type Reader: Source + Drop;
 
@@ -35,6 +39,7 @@ pub trait Store<'p> {
         ensures fresh { Self.Reader.has_failed result ≡ false }
         ensures contents { Self.Reader.to_come result ≡ contents self.old path.now }
         ensures fails { Self.Reader.fails result ≡ fails self.old path.now }
+        ensures opened { Opens (opened self.old) (opened self.new) (to_read path.now ∷ []) }
         // Opening a file changes none, nor what is told of it.
         ensures kept { (other : List ℕ) → contents self.new other ≡ contents self.old other }
         ensures same { (other : List ℕ) → fails self.new other ≡ fails self.old other };
@@ -43,6 +48,7 @@ pub trait Store<'p> {
     fn writer(&mut self, path: &'p str) -> Self::Writer
         ensures fresh { Self.Writer.has_failed result ≡ false }
         ensures empty { IfSome (Self.Writer.held result) (λ bytes. bytes ≡ []) }
+        ensures opened { Opens (opened self.old) (opened self.new) (to_write path.now ∷ []) }
         // No file changes before the first write, and what a file holds is told when the writer is
         // taken back.
         ensures kept { (other : List ℕ) → contents self.new other ≡ contents self.old other }
@@ -53,6 +59,7 @@ pub trait Store<'p> {
     fn keep(&mut self, path: &'p str, writer: Self::Writer)
         ensures written { HoldsWritten (Self.Writer.held writer) (contents self.old path.now)
             (contents self.new path.now) }
+        ensures opened { opened self.new ≡ opened self.old }
         ensures kept { (other : List ℕ) → (other ≡ path.now → ⊥)
             → contents self.new other ≡ contents self.old other };
 }

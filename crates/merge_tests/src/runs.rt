@@ -119,7 +119,10 @@ pub(crate) fn verified(
     output: &[u8],
     certificate: &[u8],
 ) -> Option<Result<Proof, Refusal>> {
-    match verify(alloc, keys, SCHEMA, file, output, choice, certificate) {
+    let Ok(text) = Vec::from_slice(alloc, certificate) else {
+        return None;
+    };
+    match verify(alloc, keys, SCHEMA, file, output, choice, text) {
         Ok(proof) => Some(Ok(proof)),
         Err(VerifyFault::Certificate(refusal)) => Some(Err(refusal)),
         Err(_) => None,

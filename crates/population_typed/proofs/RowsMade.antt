@@ -1,5 +1,5 @@
 -- The rows of a population, by what they are made of.
-use Rattle.std.specs.Prelude.{◌≡◌, ℕ, zero, suc, ◌<◌, true, false, ◌||◌, List, [], ◌∷◌, length, map, flat_map, Option, None, Some, slice_get, ◌⊎◌}
+use Rattle.std.specs.Prelude.{◌≡◌, ℕ, zero, suc, ◌<◌, true, false, ◌||◌, List, [], ◌∷◌, length, map, flat_map, Option, None, Some, Result, Ok, Err, IfOk, slice_get, ◌⊎◌}
 use Rattle.std.specs.List.{AllZip, list_any}
 use Rattle.std.specs.Option.{option_map, unwrap_or}
 use Rattle.std.specs.Str.{bytes_eq}
@@ -181,16 +181,6 @@ heads-names formless (k ∷ ks) (n ∷ ns) [] b c = absurd (omega (arith, c))
 heads-names formless (k ∷ ks) (n ∷ ns) (o ∷ os) b c =
     ap (λ ys. n ∷ ys) (heads-names formless ks ns os (omega (arith, b)) (omega (arith, c)))
 
--- .. of a population
-pub made-names : (p : Population) (ns : List ℕ) → ns ≡ p.exchange.now.names → (ks : List ℕ)
-    → ks ≡ section_numbers 0 0 p.exchange.now.sections.items → (os : List (Option ℕ)) → os ≡ p.rows.form_of.items
-    → (formless : ℕ) (hs : List RowHead) → hs ≡ heads_made formless ks ns os → head_names hs ≡ ns
-made-names p ns names ks sections os numbers formless hs heads =
-    let k = kept p in
-    ap head_names heads
-    ∙ heads-names formless ks ns os (ap length sections ∙ k.sections ∙ ap length (sym names))
-    (ap length numbers ∙ k.forms ∙ ap length (sym names))
-
 pub mapped-length : {A B : Type 0} (f : A → B) (xs : List A) → length (map f xs) ≡ length xs
 mapped-length f [] = refl
 mapped-length f (x ∷ xs) = ap suc (mapped-length f xs)
@@ -226,3 +216,20 @@ module _ (p : Population) (forms : List Form) (forms-are : forms ≡ p.rows.form
       (subst (λ ts. AllZip IsSettled
       (rows_from (heads_seen ts hs) (rows_picked orders p.rows.form_of.items p.values.rows)) qs) types
       (subst (λ rs. AllZip IsSettled (rows_from (heads_seen type_lists hs) rs) qs) made z)))
+
+-- what is answered where the values of a population stand in these orders, which are those of its forms
+pub plain-rows : {E : Type 0} (p : Population) (orders first last : List Order)
+    → AreOrders (schema_of p.types.now.names.schema.now) p.rows.forms.items orders → first ≡ orders → last ≡ orders
+    → (os : List (Option ℕ)) → os ≡ p.rows.form_of.items → (rows : List Values)
+    → rows ≡ rows_picked first p.rows.form_of.items p.values.rows → (r : Result (List Row) E)
+    → IfOk r (λ q. AllZip IsSettled (rows_from (heads_seen (types_each last) (heads_made (length last)
+    (section_numbers 0 0 p.exchange.now.sections.items) p.exchange.now.names os)) rows) q)
+    → IfOk r (λ q. AreRowsOf (schema_of p.types.now.names.schema.now) (population_seen p) q)
+plain-rows p orders first last ordered same behind os numbers rows made (Ok q) z =
+    made-rows p p.rows.forms.items refl last
+    (subst (AreOrders (schema_of p.types.now.names.schema.now) p.rows.forms.items) (sym behind) ordered)
+    p.exchange.now.names refl (section_numbers 0 0 p.exchange.now.sections.items) refl os numbers (length last) refl
+    (heads_made (length last) (section_numbers 0 0 p.exchange.now.sections.items) p.exchange.now.names os) refl
+    (types_each last) refl rows
+    (made ∙ ap (λ l. rows_picked l p.rows.form_of.items p.values.rows) (same ∙ sym behind)) q z
+plain-rows p orders first last ordered same behind os numbers rows made (Err e) z = tt

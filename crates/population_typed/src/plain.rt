@@ -13,17 +13,20 @@ ghost use Rattle.std.specs.Prelude.{
   OnOk,
   option_copied,
 };
+ghost use Rattle.std.specs.List.{AllZip};
 ghost use Rattle.express_syntax.specs.SchemaViews.{schema_of};
 ghost use Rattle.step_exchange.specs.Sections.{CountsTo};
 ghost use Rattle.step_values.specs.References.{EachReferenceOf};
 ghost use Rattle.step_values.specs.Targets.{LeadTo, ReferTo};
 ghost use Rattle.step_values.specs.Views.{word_of};
-ghost use Rattle.step_equal.specs.Views.{type_lists_of};
+ghost use Rattle.step_equal.specs.Settled.{IsSettled};
+ghost use Rattle.step_equal.specs.Views.{heads_seen, rows_from, type_lists_of};
 ghost use Rattle.population_rows.specs.Index.{found, place_of};
 ghost use Rattle.population_fits.specs.References.{IsFound, AreFound};
 ghost use Rattle.population_typed.specs.Seen.{section_numbers, population_seen};
 ghost use Rattle.conformance.specs.PlainRows.{AreRowsOf};
 ghost use Rattle.population_typed.specs.Ordering.{
+  AreOrders,
   order_among,
   row_picked,
   rows_picked,
@@ -42,6 +45,7 @@ use std::hash::RandomState;
 use step_equal::plain::Plain;
 use step_equal::row::RowHead;
 use step_exchange::section::Section;
+use step_exchange::structure::Exchange;
 use step_literals::literal::Word;
 use step_values::row_builder::RowBuilder;
 use step_values::rows::ValueRows;
@@ -182,7 +186,82 @@ fn type_lists<'s: 'c, 'c>(
     Ok(type_lists)
 }
 
+/// What stands before the values of the instances of an exchange structure, by the numbers of their
+/// forms; those of no form have this one.
+fn heads_of(
+    alloc: Global,
+    exchange: &Exchange<'_>,
+    form_of: &[Option<u32>],
+    formless: u32,
+) -> Result<Vec<RowHead>, AllocError>
+    requires sections { length (section_numbers 0 0 exchange.now.sections.items)
+        ≡ length exchange.now.names }
+    requires forms { length form_of.now ≡ length exchange.now.names }
+    ensures { IfOk result (λ v. v.items ≡ heads_made formless
+        (section_numbers 0 0 exchange.now.sections.items) exchange.now.names form_of.now) }
+{
+    let sections = row_sections(alloc, &exchange.sections)?;
+    heads(
+        alloc,
+        &sections,
+        exchange.names.as_slice(),
+        form_of,
+        formless,
+    )
+}
+
+/// The rows of an exchange structure whose instances have these values, in order, by the numbers of
+/// their forms and by the order of each form.
+fn rows_with<'s: 'r, 'r>(
+    alloc: Global,
+    keys: RandomState,
+    exchange: &Exchange<'_>,
+    form_of: &[Option<u32>],
+    orders: &[Order<'s>],
+    values: ValueRows<'r>,
+) -> Result<Plain<'r>, AllocError>
+    requires sections { length (section_numbers 0 0 exchange.now.sections.items)
+        ≡ length exchange.now.names }
+    requires forms { length form_of.now ≡ length exchange.now.names }
+    requires each { length values.rows ≡ length exchange.now.names }
+    requires leads { LeadTo exchange.now.names values.targets }
+    requires refers { ReferTo exchange.now.names values.rows }
+    ensures { IfOk result (λ p. AllZip IsSettled (rows_from (heads_seen (types_each orders.now)
+        (heads_made (length orders.now) (section_numbers 0 0 exchange.now.sections.items)
+        exchange.now.names form_of.now)) values.entry.rows) p) }
+{
+    let formless = beyond(orders)?;
+    let heads = heads_of(alloc, exchange, form_of, formless)?;
+    let type_lists = type_lists(alloc, orders)?;
+    match Plain::from_parts(alloc, keys, heads, type_lists, values) {
+        Ok(plain) => Ok(plain),
+        Err(_) => Err(AllocError),
+    }
+}
+
 impl<'s: 'r, 't, 'r, 'a> Population<'s, 't, 'r, 'a> {
+    /// The order of each form.
+    fn orders(&self, alloc: Global) -> Result<Vec<Order<'s>>, AllocError>
+        ensures { IfOk result (λ v. AreOrders (schema_of self.now.types.now.names.schema.now)
+            self.now.rows.forms.items v.items) }
+    {
+        let types = &self.types.names;
+        let explicit = explicit_attributes(alloc, types.schema)?;
+        orders(alloc, types, &explicit.own, &self.rows.forms)
+    }
+
+    /// The values of all instances, each in the order of its form.
+    fn in_order(&self, alloc: Global, orders: &[Order<'_>]) -> Result<ValueRows<'r>, AllocError>
+        ensures rows { IfOk result (λ v. v.rows ≡ rows_picked orders.now
+            self.now.rows.form_of.items self.now.values.rows) }
+        ensures each { IfOk result (λ v. length v.rows ≡ length self.now.exchange.now.names) }
+        ensures leads { IfOk result (λ v. LeadTo self.now.exchange.now.names v.targets) }
+        ensures refers { IfOk result (λ v. ReferTo self.now.exchange.now.names v.rows) }
+    {
+        let names = self.exchange.names.as_slice();
+        ordered_values(alloc, names, &self.rows, &self.values, orders)
+    }
+
     /// The population as rows, in the order of the file: of each instance its name, its data
     /// section, its types in the order of their letters, and the values of the attributes that they
     /// declare, type by type, those of each as it declares them. Names are hashed by these keys.
@@ -192,18 +271,35 @@ impl<'s: 'r, 't, 'r, 'a> Population<'s, 't, 'r, 'a> {
         ensures { IfOk result (λ p. AreRowsOf (schema_of self.now.types.now.names.schema.now)
             (population_seen self.now) p) }
     {
-        let types = &self.types.names;
-        let explicit = explicit_attributes(alloc, types.schema)?;
-        let orders = orders(alloc, types, &explicit.own, &self.rows.forms)?;
-        let names = self.exchange.names.as_slice();
-        let values = ordered_values(alloc, names, &self.rows, &self.values, &orders)?;
-        let sections = row_sections(alloc, &self.exchange.sections)?;
-        let formless = beyond(&orders)?;
-        let heads = heads(alloc, &sections, names, &self.rows.form_of, formless)?;
-        let type_lists = type_lists(alloc, &orders)?;
-        match Plain::from_parts(alloc, keys, heads, type_lists, values) {
-            Ok(plain) => Ok(plain),
-            Err(_) => Err(AllocError),
-        }
+        let orders = self.orders(alloc)?;
+        let values = self.in_order(alloc, &orders)?;
+        rows_with(
+            alloc,
+            keys,
+            self.exchange,
+            &self.rows.form_of,
+            &orders,
+            values,
+        )
+    }
+
+    /// The rows that `plain` gives, where the population isn't needed any more: its values are let go
+    /// of as soon as they stand in order.
+    ///
+    /// `AllocError` comes where memory runs out.
+    pub fn into_plain(self, alloc: Global, keys: RandomState) -> Result<Plain<'r>, AllocError>
+        ensures { IfOk result (λ p. AreRowsOf
+            (schema_of self.entry.types.now.names.schema.now) (population_seen self.entry) p) }
+    {
+        let orders = self.orders(alloc)?;
+        let in_order = self.in_order(alloc, &orders)?;
+        let Population {
+            exchange,
+            rows,
+            values,
+            ..
+        } = self;
+        drop(values);
+        rows_with(alloc, keys, exchange, &rows.form_of, &orders, in_order)
     }
 }

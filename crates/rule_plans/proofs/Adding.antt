@@ -6,11 +6,11 @@ use Rattle.std.proofs.lemmas.List.{map-append}
 use Rattle.std.proofs.lemmas.List.Folds.{list_any-append}
 use Rattle.digraph.specs.Graphs.{has}
 use Rattle.express_logic.specs.Data.{Datum}
-use Rattle.rule_values.specs.declared.element.Element.{Element}
 use Rattle.rule_values.specs.Parts.{element_datum}
+use Rattle.rule_plans.specs.declared.found.Typed.{Typed}
 use Rattle.rule_plans.specs.declared.found.Found.{Found}
 use Rattle.rule_plans.specs.Coded.{Told}
-use Rattle.rule_plans.specs.Seeking.{worth, number, Adds}
+use Rattle.rule_plans.specs.Seeking.{number, told_in, Adds}
 
 or-false : (b : Bool) → (b || false) ≡ b
 or-false true = refl
@@ -26,17 +26,19 @@ noted-before xs n i h = grind (arith, nat_tests)
 pub adds-nothing : (old : Found) → Adds [] old old
 adds-nothing old = record {
   keeps = refl;
-  values = λ k. sym (append-nil (map element_datum old.values.items));
+  values = λ k. sym (append-nil (map told_in old.values.items));
   types = λ k i. sym (or-false (has old.types.items i));
 }
 
 -- a value that is kept, and one whose type is noted
-pub adds-value : (n : ℕ) (d : Datum) (x : Element) (old new : Found) → new.keeps ≡ old.keeps → old.keeps ≡ true
-    → new.values.items ≡ old.values.items ++ x ∷ [] → element_datum x ≡ d → Adds ((n, d) ∷ []) old new
-adds-value n d x old new same keeps is e = record {
+pub adds-value : (n : ℕ) (d : Datum) (x : Typed) (old new : Found) → new.keeps ≡ old.keeps → old.keeps ≡ true
+    → new.values.items ≡ old.values.items ++ x ∷ [] → x.number ≡ n → element_datum x.element ≡ d
+    → Adds ((n, d) ∷ []) old new
+adds-value n d x old new same keeps is e f = record {
   keeps = same;
-  values = λ k. ap (map element_datum) is ∙ map-append element_datum old.values.items (x ∷ [])
-      ∙ ap (λ (y : Datum). map element_datum old.values.items ++ y ∷ []) e;
+  values = λ k. ap (map told_in) is ∙ map-append told_in old.values.items (x ∷ [])
+      ∙ ap (λ (i : ℕ). map told_in old.values.items ++ (i, element_datum x.element) ∷ []) e
+      ∙ ap (λ (y : Datum). map told_in old.values.items ++ (n, y) ∷ []) f;
   types = λ k i. absurd (let no : true ≡ false = sym keeps ∙ k in cc);
 }
 
@@ -51,9 +53,8 @@ adds-type n d old new same keeps h = record {
 pub adds-both : (ts us : List Told) (old mid new : Found) → Adds ts old mid → Adds us mid new → Adds (ts ++ us) old new
 adds-both ts us old mid new h k = record {
   keeps = k.keeps ∙ h.keeps;
-  values = λ e. k.values (h.keeps ∙ e) ∙ ap (λ (l : List Datum). l ++ map worth us) (h.values e)
-      ∙ append_assoc (map element_datum old.values.items) (map worth ts) (map worth us)
-      ∙ ap (λ (l : List Datum). map element_datum old.values.items ++ l) (sym (map-append worth ts us));
+  values = λ e. k.values (h.keeps ∙ e) ∙ ap (λ (l : List Told). l ++ us) (h.values e)
+      ∙ append_assoc (map told_in old.values.items) ts us;
   types = λ e i. k.types (h.keeps ∙ e) i ∙ ap (λ b. b || has (map number us) i) (h.types e i)
       ∙ assoc (has old.types.items i) (has (map number ts) i) (has (map number us) i)
       ∙ ap (λ b. has old.types.items i || b)

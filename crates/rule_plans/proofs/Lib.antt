@@ -8,6 +8,7 @@ pub mod Sifting
 pub mod Testing
 pub mod Walking
 pub mod Limiting
+mod Renaming
 pub mod Wanting
 pub mod Covering
 pub mod Numbers

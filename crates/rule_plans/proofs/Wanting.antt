@@ -1,83 +1,151 @@
--- Tables of defined types, number by number.
-use Rattle.std.specs.Prelude.{◌≡◌, ℕ, zero, suc, ◌+◌, ◌<◌, ◌==◌, Bool, true, false, ◌||◌, List, [], ◌∷◌, ◌++◌, length, take, eqb, Some, slice_get}
+-- The defined types that state rules, and those that are defined by them.
+use Rattle.std.specs.Prelude.{◌≡◌, ℕ, zero, suc, ◌+◌, ◌<◌, Bool, true, false, ◌||◌, List, [], ◌∷◌, ◌++◌, length, take, get_or, set, replicate, eqb, Some, slice_get, ◌⊎◌, ◌↔◌}
 use Rattle.std.specs.List.{list_any}
-use Rattle.std.proofs.Common.{refl, sym, ap, subst, ◌∙◌, arith}
+use Rattle.std.proofs.Common.{refl, inl, inr, sym, ap, subst, ◌∙◌, arith, length-set}
 use Rattle.std.proofs.lemmas.Bool.Decides.{nat_tests}
-use Rattle.std.proofs.lemmas.List.Folds.{list_any-append}
-use Rattle.schema_uses.proofs.Going.{take-at}
-use Rattle.digraph.specs.Graphs.{has}
+use Rattle.std.proofs.lemmas.Bool.{cases_eq}
+use Rattle.std.proofs.lemmas.List.{get_or-replicate, length-replicate}
+use Rattle.digraph.specs.Graphs.{Graph, has}
+use Rattle.digraph.proofs.Gathered.{set-here, set-elsewhere}
 use Rattle.express_syntax.specs.Schemas.{Schema}
+use Rattle.express_syntax.specs.Profile.{Every}
+use Rattle.schema_semantics.specs.Names.{OneOf}
+use Rattle.schema_names.specs.Numbers.{HasNumber}
+use Rattle.schema_names.proofs.Edges.{number-within}
+use Rattle.schema_bases.specs.Seen.{name_at}
+use Rattle.schema_conditions.specs.declared.rule.RuleHolder.{RuleHolder}
+use Rattle.schema_conditions.specs.declared.rule.RuleHolder.TheVariants as holders
 use Rattle.schema_conditions.specs.declared.rule.DomainRule.{DomainRule}
-use Rattle.rule_plans.specs.Coded.{is_wanted}
-use Rattle.rule_plans.specs.Wanted.{IsTableOf, AreTablesOf, in_any, table_by}
+use Rattle.schema_conditions.specs.Seen.{IsNumbered, IsNumberedHolder}
+use Rattle.forests.specs.Forests.{IsForest, IsUnder}
+use Rattle.forests.specs.Marking.{AreSpread}
+use Rattle.rule_plans.specs.Coded.{is_wanted, or_false}
+use Rattle.rule_plans.specs.Renamings.{AreRenamings, IsDefinedBy}
+use Rattle.rule_plans.specs.Wanted.{States, notes_within, notes_holder, AreStated, IsUnion}
+use Rattle.rule_plans.proofs.Renaming.{under-is}
 
-wanted-before : (ws : List Bool) (b : Bool) (i : ℕ) → i < length ws → is_wanted (ws ++ b ∷ []) i ≡ is_wanted ws i
-wanted-before [] b i lt = absurd (omega (arith, lt))
-wanted-before (w ∷ ws) b zero lt = refl
-wanted-before (w ∷ ws) b (suc i) lt = wanted-before ws b i (omega (arith, lt))
+-- the defined type that states a rule is numbered
+pub states-numbered : (s : Schema) (rules : List DomainRule) (t : ℕ) → Every (IsNumbered s) rules → States rules t
+    → HasNumber s (name_at s t) t
+states-numbered s [] t h m = elim m [ ]
+states-numbered s (r ∷ rules) t h (inl e) = subst (IsNumberedHolder s) e h.0
+states-numbered s (r ∷ rules) t h (inr m) = states-numbered s rules t h.1 m
 
-wanted-last : (ws : List Bool) (b : Bool) (i : ℕ) → i ≡ length ws → is_wanted (ws ++ b ∷ []) i ≡ b
-wanted-last [] b zero e = refl
-wanted-last [] b (suc i) e = absurd (omega (arith, e))
-wanted-last (w ∷ ws) b zero e = absurd (omega (arith, e))
-wanted-last (w ∷ ws) b (suc i) e = wanted-last ws b i (omega (arith, e))
+pub noted-within : (s : Schema) (k : RuleHolder) (n : ℕ) → n ≡ length s.declarations → IsNumberedHolder s k
+    → notes_within k n
+noted-within s (holders.Entity i) n is h = tt
+noted-within s (holders.Type t) n is h =
+    let lt = number-within s (name_at s t) t h in
+    omega (arith, lt, is)
 
-longer : (ws : List Bool) (b : Bool) → length (ws ++ b ∷ []) ≡ length ws + 1
-longer [] b = omega arith
-longer (w ∷ ws) b = let h = longer ws b in omega (arith, h)
+pub noted-length : (k : RuleHolder) (stated : List Bool) → length (notes_holder k stated) ≡ length stated
+noted-length (holders.Entity i) stated = refl
+noted-length (holders.Type t) stated = length-set stated t true
 
-same-number : (i n : ℕ) → (i == n) ≡ true → i ≡ n
-same-number i n e = grind (arith, nat_tests)
-
-lesser-number : (i n : ℕ) → i < n + 1 → (i == n) ≡ false → i < n
-lesser-number i n lt e = grind (arith, nat_tests)
-
--- Up to n each number has a test of which this holds.
-pub record Fills (P : ℕ → Bool → Type 0) (ws : List Bool) (n : ℕ) : Type 0 where
-  pub many : length ws ≡ n
-  pub each : (i : ℕ) → i < n → P i (is_wanted ws i)
-
-pub fills-none : (P : ℕ → Bool → Type 0) (ws : List Bool) → ws ≡ [] → Fills P ws 0
-fills-none P ws e = record {
-  many = ap length e ∙ omega arith;
-  each = λ i lt. absurd (omega (arith, lt));
-}
-
-pub fills-more : (P : ℕ → Bool → Type 0) (ws new : List Bool) (n : ℕ) (b : Bool) → Fills P ws n → P n b
-    → new ≡ ws ++ b ∷ [] → Fills P new (n + 1)
-fills-more P ws new n b h p is = record {
-  many = ap length is ∙ longer ws b ∙ ap (λ k. k + 1) h.many;
-  each = λ i lt. subst (λ vs. P i (is_wanted vs i)) (sym is) (by i (i == n) refl lt);
-}
+-- one rule more
+states-last : (rules : List DomainRule) (r : DomainRule) (t : ℕ)
+    → States (rules ++ r ∷ []) t ↔ (States rules t ⊎ (r.holder ≡ holders.Type t))
+states-last [] r t = (forth, back)
   where
-    by : (i : ℕ) (t : Bool) → (i == n) ≡ t → i < n + 1 → P i (is_wanted (ws ++ b ∷ []) i)
-    by i true e lt =
-        subst (P i) (sym (wanted-last ws b i (same-number i n e ∙ sym h.many)))
-        (subst (λ k. P k b) (sym (same-number i n e)) p)
-    by i false e lt =
-        let less = lesser-number i n lt e in
-        let many = h.many in
-        subst (P i) (sym (wanted-before ws b i (omega (arith, less, many)))) (h.each i less)
+    forth : States (r ∷ []) t → States [] t ⊎ (r.holder ≡ holders.Type t)
+    forth (inl e) = inr e
+    forth (inr m) = elim m [ ]
 
--- tables in turn
-or-right : (a b : Bool) → b ≡ true → (a || b) ≡ true
-or-right true b e = refl
-or-right false b e = e
+    back : States [] t ⊎ (r.holder ≡ holders.Type t) → States (r ∷ []) t
+    back (inl m) = elim m [ ]
+    back (inr e) = inl e
+states-last (q ∷ rules) r t = let rest = states-last rules r t in (forth rest.0, back rest.1)
+  where
+    forth : (States (rules ++ r ∷ []) t → States rules t ⊎ (r.holder ≡ holders.Type t))
+        → States (q ∷ (rules ++ r ∷ [])) t → States (q ∷ rules) t ⊎ (r.holder ≡ holders.Type t)
+    forth more (inl e) = inl (inl e)
+    forth more (inr m) = by (more m)
+      where
+        by : States rules t ⊎ (r.holder ≡ holders.Type t) → States (q ∷ rules) t ⊎ (r.holder ≡ holders.Type t)
+        by (inl k) = inl (inr k)
+        by (inr e) = inr e
 
-pub found-one : (ts : List (List Bool)) (i n : ℕ) (t : List Bool) → slice_get ts i ≡ Some t → is_wanted t n ≡ true
-    → in_any ts n ≡ true
-found-one [] i n t at k = absurd (cc)
-found-one (u ∷ ts) zero n t at k =
-    let same : u ≡ t = cc in
-    ap (λ b. b || in_any ts n) (ap (λ v. is_wanted v n) same ∙ k)
-found-one (u ∷ ts) (suc i) n t at k = or-right (is_wanted u n) (in_any ts n) (found-one ts i n t at k)
+    back : (States rules t ⊎ (r.holder ≡ holders.Type t) → States (rules ++ r ∷ []) t)
+        → States (q ∷ rules) t ⊎ (r.holder ≡ holders.Type t) → States (q ∷ (rules ++ r ∷ [])) t
+    back more (inl (inl e)) = inl e
+    back more (inl (inr m)) = inr (more (inl m))
+    back more (inr e) = inr (more (inr e))
 
-pub none-more : (ts : List (List Bool)) (i n : ℕ) (t : List Bool) → slice_get ts i ≡ Some t
-    → in_any (take i ts) n ≡ false → is_wanted t n ≡ false → in_any (take (i + 1) ts) n ≡ false
-none-more ts i n t at h k =
-    ap (λ l. in_any l n) (take-at ts i t at)
-    ∙ list_any-append (λ v. is_wanted v n) (take i ts) (t ∷ [])
-    ∙ ap (λ b. b || (is_wanted t n || false)) h ∙ ap (λ b. b || false) k
+pub stated-first : (n : ℕ) (stated : List Bool) → stated ≡ replicate n false → AreStated [] stated
+stated-first n stated is t = ((λ e. absurd (none (sym (ap (λ l. get_or l t false) is) ∙ e))), (λ m. elim m [ ]))
+  where
+    all-false : (n t : ℕ) → get_or (replicate n false) t false ≡ false
+    all-false zero t = refl
+    all-false (suc n) zero = refl
+    all-false (suc n) (suc t) = all-false n t
+
+    none : get_or (replicate n false) t false ≡ true → ⊥
+    none e = absurd (let no : true ≡ false = sym e ∙ all-false n t in cc)
+
+pub stated-next : (rules more : List DomainRule) (r : DomainRule) (stated : List Bool) → more ≡ rules ++ r ∷ []
+    → notes_within r.holder (length stated) → AreStated rules stated → AreStated more (notes_holder r.holder stated)
+stated-next rules more r stated is within h t =
+    subst (λ l. (get_or (notes_holder r.holder stated) t false ≡ true) ↔ States l t) (sym is)
+    (let last = states-last rules r t in (forth last.1, back last.0))
+  where
+    noted : (k : RuleHolder) → notes_within k (length stated)
+        → (get_or (notes_holder k stated) t false ≡ true) ↔ ((get_or stated t false ≡ true) ⊎ (k ≡ holders.Type t))
+    noted (holders.Entity i) w = ((λ e. inl e), by)
+      where
+        by : (get_or stated t false ≡ true) ⊎ (holders.Entity i ≡ holders.Type t) → get_or stated t false ≡ true
+        by (inl e) = e
+        by (inr e) = absurd (cc)
+    noted (holders.Type k) w = (to (cases_eq t k), from (cases_eq t k))
+      where
+        to : (t ≡ k) ⊎ (t ≡ k → ⊥) → get_or (set stated k true) t false ≡ true
+            → (get_or stated t false ≡ true) ⊎ (holders.Type k ≡ holders.Type t)
+        to (inl e) m = inr (ap holders.Type (sym e))
+        to (inr differ) m = inl (sym (set-elsewhere stated k true t false differ) ∙ m)
+
+        from : (t ≡ k) ⊎ (t ≡ k → ⊥) → (get_or stated t false ≡ true) ⊎ (holders.Type k ≡ holders.Type t)
+            → get_or (set stated k true) t false ≡ true
+        from (inl e) m = ap (λ j. get_or (set stated k true) j false) e ∙ set-here stated k true false w
+        from (inr differ) (inl m) = set-elsewhere stated k true t false differ ∙ m
+        from (inr differ) (inr e) = absurd (differ (let same : k ≡ t = cc in sym same))
+
+    forth : (States rules t ⊎ (r.holder ≡ holders.Type t) → States (rules ++ r ∷ []) t)
+        → get_or (notes_holder r.holder stated) t false ≡ true → States (rules ++ r ∷ []) t
+    forth join e = by ((noted r.holder within).0 e)
+      where
+        by : (get_or stated t false ≡ true) ⊎ (r.holder ≡ holders.Type t) → States (rules ++ r ∷ []) t
+        by (inl m) = join (inl ((h t).0 m))
+        by (inr k) = join (inr k)
+
+    back : (States (rules ++ r ∷ []) t → States rules t ⊎ (r.holder ≡ holders.Type t))
+        → States (rules ++ r ∷ []) t → get_or (notes_holder r.holder stated) t false ≡ true
+    back split m = by (split m)
+      where
+        by : States rules t ⊎ (r.holder ≡ holders.Type t) → get_or (notes_holder r.holder stated) t false ≡ true
+        by (inl k) = (noted r.holder within).1 (inl ((h t).1 k))
+        by (inr e) = (noted r.holder within).1 (inr e)
+
+wanted-is : (xs : List Bool) (i : ℕ) → is_wanted xs i ≡ get_or xs i false
+wanted-is [] i = refl
+wanted-is (x ∷ xs) zero = refl
+wanted-is (x ∷ xs) (suc i) = wanted-is xs i
+
+-- marks that went down are on these types
+pub union-is : (s : Schema) (g : Graph) (rules : List DomainRule) (stated union : List Bool) → AreRenamings s g
+    → Every (IsNumbered s) rules → AreStated rules stated → AreSpread g stated union → IsUnion s rules union
+union-is s g rules stated union rows numbered are spread i h =
+    let low = number-within s (name_at s i) i h in
+    let many = rows.many in
+    let marks = spread i (omega (arith, low, many)) in
+    ((λ e. forth (marks.0 (sym (wanted-is union i) ∙ e))), (λ m. wanted-is union i ∙ marks.1 (back m)))
+  where
+    forth : ((b : ℕ) × (get_or stated b false ≡ true) × IsUnder g i b) → (t : ℕ) × States rules t × IsDefinedBy s i t
+    forth (b, m, under) =
+        let said = (are b).0 m in
+        (b, said, (under-is s g rows i b h (states-numbered s rules b numbered said)).0 under)
+
+    back : ((t : ℕ) × States rules t × IsDefinedBy s i t) → (b : ℕ) × (get_or stated b false ≡ true) × IsUnder g i b
+    back (t, said, defined) =
+        (t, (are t).1 said, (under-is s g rows i t h (states-numbered s rules t numbered said)).1 defined)
 
 -- a number of a list of which none passes doesn't pass
 pub none-passes : (p : ℕ → Bool) (xs : List ℕ) → list_any p xs ≡ false → (i : ℕ) → has xs i ≡ true → p i ≡ false
@@ -95,13 +163,3 @@ none-passes p (x ∷ xs) h i e = by (p x) refl h (none-passes p xs)
         → (list_any p xs ≡ false → (j : ℕ) → has xs j ≡ true → p j ≡ false) → p i ≡ false
     by true k h more = absurd (cc)
     by false k h more = there k (eqb i x) refl e (more h i)
-
--- the table of a rule
-pub table-there : (s : Schema) (rules : List DomainRule) (tables : List (List Bool)) (n : ℕ) (r : DomainRule)
-    → AreTablesOf s rules tables → slice_get rules n ≡ Some r → IsTableOf s r.holder (table_by tables n)
-table-there s [] tables n r h at = absurd (cc)
-table-there s (q ∷ rules) [] n r h at = elim h [ ]
-table-there s (q ∷ rules) (t ∷ tables) zero r h at =
-    let same : q ≡ r = cc in
-    subst (λ (u : DomainRule). IsTableOf s u.holder t) same h.0
-table-there s (q ∷ rules) (t ∷ tables) (suc n) r h at = table-there s rules tables n r h.1 at

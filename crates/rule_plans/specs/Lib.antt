@@ -5,5 +5,6 @@ pub mod Speaking
 pub mod Unsought
 pub mod Limits
 pub mod Applying
+pub mod Renamings
 pub mod Wanted
 pub mod Planning

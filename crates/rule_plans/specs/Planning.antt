@@ -1,5 +1,5 @@
 -- What is made once of rules and forms, and what the types of values tell of rules.
-use Rattle.std.specs.Prelude.{◌≡◌, ⊤, ℕ, Bool, true, false, List, [], map, length}
+use Rattle.std.specs.Prelude.{◌≡◌, ⊤, ℕ, Bool, true, false, List, [], map}
 use Rattle.std.specs.List.{list_any}
 use Rattle.digraph.specs.Graphs.{has}
 use Rattle.express_syntax.specs.Profile.{Every}
@@ -16,14 +16,15 @@ use Rattle.rule_plans.specs.Speaking.{is_of, values_of}
 use Rattle.rule_plans.specs.Unsought.{forms_in, AreTables}
 use Rattle.rule_plans.specs.declared.plan.Plan.{Plan}
 use Rattle.rule_plans.specs.Applying.{numbers_by}
-use Rattle.rule_plans.specs.Wanted.{is_type_rule, AreTablesOf, IsUnion}
+use Rattle.rule_plans.specs.Renamings.{TellsTypes}
+use Rattle.rule_plans.specs.Wanted.{is_type_rule, IsUnion}
 
 -- It is made of its rules, for instances of the forms of a population.
 pub record IsPlan (S : Setting) (p : Plan) : Type 0 where
   pub numbered : Every (IsNumbered (schema_in S)) p.rules.now
   pub rows : map (λ v. v.items) p.rows.items ≡ map (numbers_by p.rules.now 0) (forms_in S)
-  pub tables : AreTablesOf (schema_in S) p.rules.now (map (λ v. v.items) p.tables.items)
-  pub union : IsUnion (length (schema_in S).declarations) (map (λ v. v.items) p.tables.items) p.union.items
+  pub renamed : TellsTypes (schema_in S) p.renamed
+  pub union : IsUnion (schema_in S) p.rules.now p.union.items
   pub seeks : p.seeks ≡ list_any is_type_rule p.rules.now
   pub unsought : p.seeks ≡ true → AreTables S p.union.items p.unsought
 

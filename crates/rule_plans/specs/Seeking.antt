@@ -10,6 +10,7 @@ use Rattle.schema_bases.specs.Seen.{name_at}
 use Rattle.express_logic.specs.Data.{Datum}
 use Rattle.rule_values.specs.Parts.{element_datum}
 use Rattle.rule_plans.specs.declared.sought.Seeker.{Seeker}
+use Rattle.rule_plans.specs.declared.found.Typed.{Typed}
 use Rattle.rule_plans.specs.declared.found.Found.{Found}
 use Rattle.rule_plans.specs.Coded.{schema_in, is_wanted, Told}
 
@@ -47,10 +48,13 @@ worth t = t.1
 abbrev pub number : Told → ℕ
 number t = t.0
 
+-- a value with the number of its type, as it is kept
+abbrev pub told_in : Typed → Told
+told_in v = (v.number, element_datum v.element)
+
 -- These values are found more: themselves where they are kept, else the numbers of their types.
 pub record Adds (ts : List Told) (old new : Found) : Type 0 where
   pub keeps : new.keeps ≡ old.keeps
-  pub values : old.keeps ≡ true
-      → map element_datum new.values.items ≡ map element_datum old.values.items ++ map worth ts
+  pub values : old.keeps ≡ true → map told_in new.values.items ≡ map told_in old.values.items ++ ts
   pub types : old.keeps ≡ false
       → (i : ℕ) → has new.types.items i ≡ (has old.types.items i || has (map number ts) i)

@@ -1,14 +1,14 @@
 -- For the values of which defined types rules are tried.
-use Rattle.std.specs.Prelude.{◌≡◌, ℕ, ◌<◌, Bool, true, false, List, [], map, Option, None, Some, slice_get, ◌↔◌, IsTrue}
-use Rattle.std.specs.List.{list_any, AllZip}
-use Rattle.express_syntax.specs.Schemas.{Schema, named}
-use Rattle.schema_semantics.specs.Names.{IsOrLeads, Renames}
+use Rattle.std.specs.Prelude.{◌≡◌, ⊤, ℕ, ◌<◌, Bool, true, false, List, get_or, set, ◌↔◌}
+use Rattle.express_syntax.specs.Schemas.{Schema}
+use Rattle.schema_semantics.specs.Names.{OneOf}
 use Rattle.schema_names.specs.Numbers.{HasNumber}
 use Rattle.schema_bases.specs.Seen.{name_at}
 use Rattle.schema_conditions.specs.declared.rule.RuleHolder.{RuleHolder}
 use Rattle.schema_conditions.specs.declared.rule.RuleHolder.TheVariants as holders
 use Rattle.schema_conditions.specs.declared.rule.DomainRule.{DomainRule}
 use Rattle.rule_plans.specs.Coded.{is_wanted}
+use Rattle.rule_plans.specs.Renamings.{IsDefinedBy}
 
 abbrev pub is_type : RuleHolder → Bool
 is_type (holders.Entity i) = false
@@ -18,34 +18,26 @@ is_type (holders.Type i) = true
 abbrev pub is_type_rule : DomainRule → Bool
 is_type_rule r = is_type r.holder
 
--- one is the other, or is defined by it
-abbrev pub IsDefinedBy : Schema → ℕ → ℕ → Type 0
-IsDefinedBy s i t = IsOrLeads (Renames s) (named (name_at s i)) (named (name_at s t))
+-- the defined type t states one of these rules
+abbrev pub States : List DomainRule → ℕ → Type 0
+States rules t = OneOf (λ (r : DomainRule). r.holder ≡ holders.Type t) rules
 
--- These are, by number, the defined type t and those that are defined by it.
-abbrev pub IsTableFor : Schema → ℕ → List Bool → Type 0
-IsTableFor s t wanted = (i : ℕ) → HasNumber s (name_at s i) i → IsTrue (is_wanted wanted i) ↔ IsDefinedBy s i t
+-- the defined type that states a rule is one of so many declarations
+abbrev pub notes_within : RuleHolder → ℕ → Type 0
+notes_within (holders.Entity i) n = ⊤
+notes_within (holders.Type t) n = t < n
 
-abbrev pub IsTableOf : Schema → RuleHolder → List Bool → Type 0
-IsTableOf s (holders.Entity i) wanted = wanted ≡ []
-IsTableOf s (holders.Type t) wanted = IsTableFor s t wanted
+-- .. and is marked
+abbrev pub notes_holder : RuleHolder → List Bool → List Bool
+notes_holder (holders.Entity i) stated = stated
+notes_holder (holders.Type t) stated = set stated t true
 
--- .. by rule
-abbrev pub AreTablesOf : Schema → List DomainRule → List (List Bool) → Type 0
-AreTablesOf s rules tables = AllZip (IsTableOf s) (map (λ (r : DomainRule). r.holder) rules) tables
+-- The marks are on the defined types that state one of these rules.
+abbrev pub AreStated : List DomainRule → List Bool → Type 0
+AreStated rules stated = (t : ℕ) → (get_or stated t false ≡ true) ↔ States rules t
 
--- a number is in one of the tables
-abbrev pub in_any : List (List Bool) → ℕ → Bool
-in_any tables i = list_any (λ t. is_wanted t i) tables
-
--- It has the numbers of all tables, up to n.
-abbrev pub IsUnion : ℕ → List (List Bool) → List Bool → Type 0
-IsUnion n tables union = (i : ℕ) → i < n → is_wanted union i ≡ in_any tables i
-
-abbrev pub or_empty : Option (List Bool) → List Bool
-or_empty None = []
-or_empty (Some t) = t
-
--- the table of a number; an empty one where there is none
-abbrev pub table_by : List (List Bool) → ℕ → List Bool
-table_by tables n = or_empty (slice_get tables n)
+-- These are the defined types that state one of these rules, and those that are defined by one of them.
+abbrev pub IsUnion : Schema → List DomainRule → List Bool → Type 0
+IsUnion s rules union =
+    (i : ℕ) → HasNumber s (name_at s i) i
+    → (is_wanted union i ≡ true) ↔ ((t : ℕ) × States rules t × IsDefinedBy s i t)

@@ -12,12 +12,19 @@ use schema_bases::base::Base;
 use std::alloc::AllocError;
 use step_values::slot::Slot;
 
+/// A value, and the number of the defined type that it is of.
+#[derive(Drop)]
+pub struct Typed<'p, 'r> {
+    pub number: u32,
+    pub element: Element<'p, 'r>,
+}
+
 /// The values that are sought, or the types that they are of.
 #[derive(Drop)]
 pub(crate) struct Found<'p, 'r> {
     /// The values are kept, else the numbers of their types alone.
     pub keeps: bool,
-    pub values: Vec<Element<'p, 'r>>,
+    pub values: Vec<Typed<'p, 'r>>,
     /// Each once.
     pub types: Vec<u32>,
 }
@@ -45,7 +52,10 @@ pub(crate) fn add<'p, 'r>(
     ensures { OnOk result (Adds ((number, coded_datum types.entry.now base.now value.entry) ∷ []) found.old found.new) }
 {
     if found.keeps {
-        found.values.push(Element::Value { types, base, value })?;
+        found.values.push(Typed {
+            number,
+            element: Element::Value { types, base, value },
+        })?;
         return Ok(());
     }
     note(&mut found.types, number)

@@ -4,9 +4,10 @@
 
 mod applying;
 mod flat;
-mod found;
+pub mod found;
 pub mod limit;
 pub mod plan;
+mod renamings;
 mod sought;
 pub mod sought_types;
 mod typed_values;

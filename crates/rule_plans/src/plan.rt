@@ -9,9 +9,11 @@ ghost use Rattle.rule_plans.specs.Unsought.{AreTables};
 ghost use Rattle.rule_plans.specs.Planning.{IsPlan, TellAll};
 
 use crate::applying::numbers_by_form;
+use crate::renamings::{forest_of, renamings};
 use crate::unsought::{Unsought, unsought_by_form};
 use crate::values::value_types;
-use crate::wanted::{has_type_rule, tables_of, union_of};
+use crate::wanted::{has_type_rule, union_of};
+use forests::forest::Forest;
 use rule_settings::setting::Setting;
 use schema_conditions::rule::DomainRule;
 use std::alloc::{AllocError, Global};
@@ -22,9 +24,9 @@ pub struct Plan<'s, 't, 'n> {
     pub rules: &'n [DomainRule<'s, 't>],
     /// By form, the numbers of the rules that may have a value of SELF at its instances.
     pub rows: Vec<Vec<usize>>,
-    /// By rule, by declaration, whether it is tried for the values of that defined type.
-    pub tables: Vec<Vec<bool>>,
-    /// By declaration, whether some rule is.
+    /// Which defined types are defined by which.
+    pub renamed: Forest,
+    /// By declaration, whether some rule is tried for the values of that defined type.
     pub union: Vec<bool>,
     /// A defined type states one of the rules.
     pub seeks: bool,
@@ -65,15 +67,16 @@ pub fn plan_of<'n, 't, 's>(
 {
     let population = setting.extents.population;
     let names = &population.types.names;
-    let tables = tables_of(alloc, names, rules)?;
-    let union = union_of(alloc, names, &tables)?;
+    let edges = renamings(alloc, names)?;
+    let renamed = forest_of(alloc, names, &edges)?;
+    let union = union_of(alloc, names, &edges, rules)?;
     let rows = numbers_by_form(alloc, rules, population.forms())?;
     let seeks = has_type_rule(rules);
     let unsought = unsought_where(alloc, setting, &union, seeks)?;
     Ok(Plan {
         rules,
         rows,
-        tables,
+        renamed,
         union,
         seeks,
         unsought,

@@ -8,6 +8,8 @@ ghost use Rattle.std.specs.Prelude.{
   ◌∷◌,
   ◌&&◌,
   true,
+  ℕ,
+  Bool,
   List,
   Some,
   length,
@@ -27,7 +29,6 @@ ghost use Rattle.conformance.specs.Fitting.{among};
 ghost use Rattle.conformance.specs.Populations.{Instance};
 ghost use Rattle.population_typed.specs.Seen.{population_seen};
 ghost use Rattle.population_typed.specs.Whole.{form_among, types_by_form};
-ghost use Rattle.rule_values.specs.Parts.{element_datum};
 ghost use Rattle.rule_settings.specs.Settings.{IsSetting, Meant, schema_in, population_in};
 ghost use Rattle.rule_plans.specs.Coded.{
   Told,
@@ -39,19 +40,18 @@ ghost use Rattle.rule_plans.specs.Coded.{
   coded_slots,
 };
 ghost use Rattle.rule_plans.specs.Flat.{is_flat_at};
-ghost use Rattle.rule_plans.specs.Seeking.{Tells, Adds};
+ghost use Rattle.rule_plans.specs.Seeking.{Agrees, Covers, those, told_in, Adds};
 ghost use Rattle.rule_plans.specs.Speaking.{is_of, values_of, AreFound, TypesTell};
 ghost use Rattle.rule_plans.specs.Unsought.{is_unsought_place, AreUnsought, AreRight, IsRight};
 
 use crate::flat::is_flat_at;
-use crate::found::Found;
+use crate::found::{Found, Typed};
 use crate::sought::{Seeker, Sought};
 use crate::typed_values::add_values;
 use crate::unsought::{Unsought, says_form, table_by};
 use population_rows::form::{Form, SlotForm};
 use population_typed::population::Population;
 use rule_settings::setting::Setting;
-use rule_values::element::Element;
 use schema_bases::base::Base;
 use schema_uses::uses::{AttributeUse, Uses};
 use std::alloc::{AllocError, Global};
@@ -295,9 +295,10 @@ pub fn is_of_entity(population: &Population<'_, '_, '_, '_>, row: usize, entity:
     types_at(population.forms(), instance.form).contains(&entity)
 }
 
-/// The values of defined types that the instance of a row has, at any depth, in order, for which
-/// the rules of a defined type are tried: those of the types that are wanted, by number of a
-/// declaration (ISO 10303-11, 9.1).
+/// The values of defined types that the instance of a row has, at any depth, in order, each with
+/// the number of its type: those of the types that are wanted, by number of a declaration. The
+/// rule of a defined type is tried for those of its number, and of those of types that are defined
+/// by it, where all these are wanted (ISO 10303-11, 9.1).
 ///
 /// An error says that memory ran out.
 pub fn self_values<'p, 'e, 'r, 't, 's: 'r, 'a>(
@@ -305,13 +306,14 @@ pub fn self_values<'p, 'e, 'r, 't, 's: 'r, 'a>(
     setting: &Setting<'s, 't, 'r, 'a, 'e, 'p>,
     row: usize,
     wanted: &[bool],
-) -> Result<Vec<Element<'p, 'r>>, AllocError>
+) -> Result<Vec<Typed<'p, 'r>>, AllocError>
     requires setting { IsSetting setting.now }
     requires within { row < length (population_in setting.now) }
     ensures { IfOk result (λ v. (m : Meant setting.now) → (x : Instance)
-        → slice_get (population_in setting.now) row ≡ Some x → (t : Name)
-        → Tells (schema_in setting.now) wanted.now (is_of setting.now m t)
-        → map element_datum v.items ≡ values_of setting.now m x t) }
+        → slice_get (population_in setting.now) row ≡ Some x → (t : Name) → (p : ℕ → Bool)
+        → Agrees (schema_in setting.now) p (is_of setting.now m t)
+        → Covers (schema_in setting.now) wanted.now (is_of setting.now m t)
+        → those p (map told_in v.items) ≡ values_of setting.now m x t) }
 {
     let mut found = Found {
         keeps: true,

@@ -1,28 +1,26 @@
 //! The defined types whose values rules are tried for.
 
-ghost use Rattle.std.specs.Prelude.{◌≡◌, length, map, IfOk};
+ghost use Rattle.std.specs.Prelude.{◌≡◌, length, IfOk};
 ghost use Rattle.std.specs.List.{list_any};
 ghost use Rattle.express_syntax.specs.Profile.{Every};
 ghost use Rattle.express_syntax.specs.SchemaViews.{schema_of};
+ghost use Rattle.digraph.specs.Graphs.{graph_of};
 ghost use Rattle.schema_semantics.specs.Faults.{IsResolved};
-ghost use Rattle.schema_conditions.specs.Seen.{IsNumbered, IsNumberedHolder};
-ghost use Rattle.schema_names.specs.Numbers.{HasNumber};
-ghost use Rattle.schema_bases.specs.Seen.{name_at};
-ghost use Rattle.rule_plans.specs.Coded.{is_wanted};
+ghost use Rattle.schema_conditions.specs.Seen.{IsNumbered};
+ghost use Rattle.rule_plans.specs.Renamings.{AreRenamings};
+ghost use Rattle.forests.specs.Telling.{is_under};
 ghost use Rattle.rule_plans.specs.Wanted.{
   is_type_rule,
-  IsTableFor,
-  IsTableOf,
-  AreTablesOf,
-  in_any,
+  notes_within,
+  notes_holder,
+  AreStated,
   IsUnion,
-  table_by,
 };
 
-use crate::sought_types::is_wanted;
+use forests::forest::Forest;
+use forests::marks::spread;
 use schema_conditions::rule::{DomainRule, RuleHolder};
 use schema_names::names::Names;
-use schema_sources::defined::is_defined_by;
 use std::alloc::{AllocError, Global};
 
 /// Whether a defined type states a rule.
@@ -42,96 +40,56 @@ pub fn has_type_rule(rules: &[DomainRule<'_, '_>]) -> bool
     rules.iter().any(|rule| is_type_rule(rule))
 }
 
-/// By declaration, whether it is a defined type or is defined by it.
-fn table_for(alloc: Global, names: &Names<'_, '_>, declared: u32) -> Result<Vec<bool>, AllocError>
-    requires resolved { IsResolved (schema_of names.now.schema.now) }
-    requires numbered { HasNumber (schema_of names.now.schema.now)
-        (name_at (schema_of names.now.schema.now) declared) declared }
-    ensures { IfOk result (λ t. IsTableFor (schema_of names.now.schema.now) declared t.items) }
-{
-    let mut table = Vec::new(alloc);
-    for number in 0..names.len() {
-        table.push(is_defined_by(names, number as u32, declared))?;
-    }
-    Ok(table)
-}
-
-/// By declaration, whether a rule of this holder is tried for its values.
-fn table_of(
-    alloc: Global,
-    names: &Names<'_, '_>,
-    holder: RuleHolder,
-) -> Result<Vec<bool>, AllocError>
-    requires resolved { IsResolved (schema_of names.now.schema.now) }
-    requires numbered { IsNumberedHolder (schema_of names.now.schema.now) holder }
-    ensures { IfOk result (λ t. IsTableOf (schema_of names.now.schema.now) holder t.items) }
+/// Marks the defined type that states a rule.
+fn note_holder(stated: &mut Vec<bool>, holder: RuleHolder)
+    requires { notes_within holder (length stated.old.items) }
+    ensures { stated.new.items ≡ notes_holder holder stated.old.items }
 {
     match holder {
-        RuleHolder::Entity(_) => Ok(Vec::new(alloc)),
-        RuleHolder::Type(declared) => table_for(alloc, names, declared),
+        RuleHolder::Entity(_) => {}
+        RuleHolder::Type(declared) => stated[declared as usize] = true,
     }
 }
 
-/// By rule, for which declarations it is tried.
-pub fn tables_of(
+/// By declaration, whether it is a defined type that states a rule.
+fn stated_types(
     alloc: Global,
     names: &Names<'_, '_>,
     rules: &[DomainRule<'_, '_>],
-) -> Result<Vec<Vec<bool>>, AllocError>
-    requires resolved { IsResolved (schema_of names.now.schema.now) }
+) -> Result<Vec<bool>, AllocError>
     requires numbered { Every (IsNumbered (schema_of names.now.schema.now)) rules.now }
-    ensures { IfOk result (λ t. AreTablesOf (schema_of names.now.schema.now) rules.now
-        (map (λ v. v.items) t.items)) }
+    ensures length { IfOk result (λ v. length v.items
+        ≡ length (schema_of names.now.schema.now).declarations) }
+    ensures stated { IfOk result (λ v. AreStated rules.now v.items) }
 {
-    let mut tables = Vec::new(alloc);
-    for n in 0..rules.len() {
-        let table = table_of(alloc, names, rules[n].holder)?;
-        tables.push(table)?;
+    let mut stated = vec![in alloc; false; names.len()]?;
+    for rule in rules {
+        note_holder(&mut stated, rule.holder);
     }
-    Ok(tables)
+    Ok(stated)
 }
 
-/// Whether one of these tables has a number.
-fn is_in_any(tables: &[Vec<bool>], number: u32) -> bool
-    ensures { result ≡ in_any (map (λ v. v.items) tables.now) number }
-{
-    for i in 0..tables.len() {
-        if is_wanted(&tables[i], number) {
-            return true;
-        }
-    }
-    false
-}
-
-/// By declaration, whether one of these tables has it.
-pub fn union_of(
+/// By declaration, whether it is a defined type that states a rule, or is defined by one that does.
+pub(crate) fn union_of(
     alloc: Global,
     names: &Names<'_, '_>,
-    tables: &[Vec<bool>],
+    edges: &[Vec<u32>],
+    rules: &[DomainRule<'_, '_>],
 ) -> Result<Vec<bool>, AllocError>
-    ensures { IfOk result (λ t. IsUnion (length (schema_of names.now.schema.now).declarations)
-        (map (λ v. v.items) tables.now) t.items) }
+    requires resolved { IsResolved (schema_of names.now.schema.now) }
+    requires edges { AreRenamings (schema_of names.now.schema.now) (graph_of edges.now) }
+    requires numbered { Every (IsNumbered (schema_of names.now.schema.now)) rules.now }
+    ensures { IfOk result (λ v. IsUnion (schema_of names.now.schema.now) rules.now v.items) }
 {
-    let mut union = Vec::new(alloc);
-    for number in 0..names.len() {
-        union.push(is_in_any(tables, number as u32))?;
-    }
-    Ok(union)
+    let stated = stated_types(alloc, names, rules)?;
+    spread(alloc, edges, &stated)
 }
 
-/// Whether a table has one of these numbers.
-pub fn has_one_of(table: &[bool], numbers: &[u32]) -> bool
-    ensures { result ≡ list_any (is_wanted table.now) numbers.now }
+/// Whether one of these types is a defined type, or is defined by it.
+pub fn has_one_under(forest: &Forest, types: &[u32], declared: u32) -> bool
+    ensures { result ≡ list_any (λ i. is_under forest.now i declared) types.now }
 {
-    numbers.iter().any(|number| is_wanted(table, *number))
-}
-
-/// The table of a rule, by its number; an empty one where there is none.
-pub fn table_at(tables: &[Vec<bool>], number: usize) -> &[bool]
-    ensures { result.now ≡ table_by (map (λ v. v.items) tables.now) number }
-{
-    match tables.get(number) {
-        Some(table) => table,
-        None => &[],
-    }
+    types
+        .iter()
+        .any(|number| forest.is_under(*number, declared))
 }

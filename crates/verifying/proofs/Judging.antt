@@ -34,13 +34,15 @@ of_judge rows pinned t table_faults.Ground h = h
 of_judge rows pinned t table_faults.Stable h = h
 of_judge rows pinned t table_faults.Memory h = tt
 
--- What is valid is so under the same pins, in each table that is the same.
-pub valid_again : (rows : List Row) (weak gentle : ℕ → Bool) (first second : Table) → gentle ≡ weak → second ≡ first
-    → IsValid rows weak first → AreValid rows weak gentle first second
-valid_again rows weak gentle first second pins tables valid = (
-  valid,
-  subst (λ p. IsValid rows p second) (sym pins) (subst (IsValid rows weak) (sym tables) valid),
+-- What is found of the second table is found of the first one and of both, where they and their pins are the same.
+pub valid_same : (rows : List Row) (weak gentle : ℕ → Bool) (first second : Table) (r : Result Unit TablesFault)
+    → gentle ≡ weak → second ≡ first → MatchResult r (λ _. IsValid rows weak second) (IsTableFault rows weak second)
+    → MatchResult r (λ _. AreValid rows weak gentle first second) (AreFaulty rows weak gentle first second)
+valid_same rows weak gentle first second (Ok u) pins tables h = (
+  subst (IsValid rows weak) tables h,
+  subst (λ p. IsValid rows p second) (sym pins) h,
 )
+valid_same rows weak gentle first second (Err e) pins tables h = inl (subst (λ t. IsTableFault rows weak t e) tables h)
 
 -- what is found of the second table, where the first one is valid
 pub valid_first : (rows : List Row) (weak gentle : ℕ → Bool) (first second : Table) (r : Result Unit TablesFault)

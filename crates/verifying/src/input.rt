@@ -41,10 +41,10 @@ use step_exchange::structure::Exchange;
 use step_population::populate::{Verdict, populate_by};
 
 /// The texts of an output and of its certificate.
-#[derive(Clone, Copy)]
+#[derive(Drop)]
 pub(crate) struct Claim<'o> {
     pub output: &'o [u8],
-    pub certificate: &'o [u8],
+    pub certificate: Vec<u8>,
 }
 
 /// What is found of a certificate's tables, where nothing is wrong with the input's instances one by
@@ -57,13 +57,13 @@ fn judge_typed<'r, 't, 's: 'r, 'a>(
     settings: &SettingTables<'r, 's>,
     chosen: &Chosen,
     population: Population<'s, 't, 'r, 'a>,
-    certificate: &[u8],
+    certificate: Vec<u8>,
 ) -> Result<Result<Judged<'r>, TablesFault>, VerifyFault<'s>>
     requires said { Said (schema_of population.types.now.names.schema.now) }
     requires ready { AreReady population.types.now graph.now.rules graph.now.domain
         graph.now.judged.firsts.items tables.now settings.now }
     ensures finds { FindsTyped (schema_of population.entry.types.now.names.schema.now)
-        certificate.now result chosen.now (structure population.entry.exchange.now)
+        certificate.items result chosen.now (structure population.entry.exchange.now)
         (population_seen population.entry) }
     ensures ready { IfOk result (λ judged. IfOk judged IsReady) }
 {
@@ -95,11 +95,12 @@ fn judge_by_settings<'r, 't, 's: 'r>(
     settings: &SettingTables<'r, 's>,
     chosen: &Chosen,
     exchange: &'r Exchange<'_>,
-    certificate: &[u8],
+    certificate: Vec<u8>,
 ) -> Result<Result<Judged<'r>, TablesFault>, VerifyFault<'s>>
     requires ready { AreReady graph.now.types graph.now.rules graph.now.domain
         graph.now.judged.firsts.items tables.now settings.now }
-    ensures finds { Finds (schema_of graph.entry.now.types.names.schema.now) certificate.now result
+    ensures finds { Finds (schema_of graph.entry.now.types.names.schema.now)
+        certificate.items result
         chosen.now (structure exchange.entry.now) }
     ensures ready { IfOk result (λ judged. IfOk judged IsReady) }
 {
@@ -141,7 +142,7 @@ fn judge_input<'r, 't, 's: 'r>(
     tables: &'r SchemaTables,
     chosen: &Chosen,
     exchange: &'r Exchange<'_>,
-    certificate: &[u8],
+    certificate: Vec<u8>,
 ) -> Result<Result<Judged<'r>, TablesFault>, VerifyFault<'s>>
     requires made { IsMade graph.now.types }
     requires rules { AreRuleTables (schema_of graph.now.types.names.schema.now) graph.now.rules }
@@ -150,7 +151,8 @@ fn judge_input<'r, 't, 's: 'r>(
     requires firsts { AreFirsts (schema_of graph.now.types.names.schema.now)
         graph.now.judged.firsts.items }
     requires tables { AreTables graph.now.types tables.now }
-    ensures finds { Finds (schema_of graph.entry.now.types.names.schema.now) certificate.now result
+    ensures finds { Finds (schema_of graph.entry.now.types.names.schema.now)
+        certificate.items result
         chosen.now (structure exchange.entry.now) }
     ensures ready { IfOk result (λ judged. IfOk judged IsReady) }
 {
@@ -175,7 +177,7 @@ fn verify_read<'r, 't, 's: 'r>(
     tables: &'r SchemaTables,
     chosen: &Chosen,
     exchange: &'r Exchange<'_>,
-    claim: &Claim<'_>,
+    claim: Claim<'_>,
 ) -> Result<Proof, VerifyFault<'s>>
     requires made { IsMade graph.now.types }
     requires rules { AreRuleTables (schema_of graph.now.types.names.schema.now) graph.now.rules }
@@ -185,27 +187,15 @@ fn verify_read<'r, 't, 's: 'r>(
         graph.now.judged.firsts.items }
     requires tables { AreTables graph.now.types tables.now }
     ensures { AnswersRead (schema_of graph.entry.now.types.names.schema.now)
-        claim.now.output.now claim.now.certificate.now result chosen.now
+        claim.entry.output.now claim.entry.certificate.items result chosen.now
         (structure exchange.entry.now) }
 {
-    let judged = judge_input(
-        alloc,
-        keys,
-        graph,
-        tables,
-        chosen,
-        exchange,
-        claim.certificate,
-    )?;
-    verify_output(
-        alloc,
-        keys,
-        &graph.types,
-        tables,
-        exchange,
-        &judged,
-        claim.output,
-    )
+    let Claim {
+        output,
+        certificate,
+    } = claim;
+    let judged = judge_input(alloc, keys, graph, tables, chosen, exchange, certificate)?;
+    verify_output(alloc, keys, &graph.types, tables, exchange, &judged, output)
 }
 
 /// What is proved of an output by its certificate, where the schema is read and the choice settled.
@@ -215,7 +205,7 @@ pub(crate) fn verify_input<'s>(
     graph: &TypeGraph<'s, '_>,
     chosen: &Chosen,
     input: &[u8],
-    claim: &Claim<'_>,
+    claim: Claim<'_>,
 ) -> Result<Proof, VerifyFault<'s>>
     requires made { IsMade graph.now.types }
     requires rules { AreRuleTables (schema_of graph.now.types.names.schema.now) graph.now.rules }
@@ -223,8 +213,8 @@ pub(crate) fn verify_input<'s>(
         graph.now.domain }
     requires firsts { AreFirsts (schema_of graph.now.types.names.schema.now)
         graph.now.judged.firsts.items }
-    ensures { AnswersSettled (schema_of graph.now.types.names.schema.now) claim.now.output.now
-        claim.now.certificate.now result chosen.now input.now }
+    ensures { AnswersSettled (schema_of graph.now.types.names.schema.now) claim.entry.output.now
+        claim.entry.certificate.items result chosen.now input.now }
 {
     let exchange = match read_exchange(alloc, keys, input) {
         Ok(exchange) => exchange,

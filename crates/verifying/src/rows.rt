@@ -22,7 +22,7 @@ pub(crate) fn plain_rows<'s: 'r, 't, 'r, 'a>(
         p) }
     ensures population { IfOk result (λ p. IsPopulation p) }
 {
-    let rows = population.plain(alloc, keys)?;
+    let rows = population.into_plain(alloc, keys)?;
     // its contract says that no name stands twice and each reference names a row
     let _count = rows.len();
     Ok(rows)

@@ -149,7 +149,7 @@ fn verify_texts<'s>(
         certificate,
     } = texts;
     *text = schema;
-    verify(alloc, keys, text, &file, &smaller, choice, &certificate)
+    verify(alloc, keys, text, &file, &smaller, choice, certificate)
 }
 
 /// What a certificate proves of an output, as [`verify`] does, by the texts of four sources: all are

@@ -104,22 +104,24 @@ fn judge_tables(
     rows: &Plain<'_>,
     weak: &Pins,
     gentle: &Pins,
-    first: &Table,
+    first: Table,
     second: &Table,
 ) -> Result<(), TablesFault>
-    requires first { IsWellFormed (table_of first.now) }
+    requires first { IsWellFormed (table_of first) }
     requires second { IsWellFormed (table_of second.now) }
     ensures { MatchResult result
-        (λ _. AreValid rows.now (is_pinned weak.now) (is_pinned gentle.now) (table_of first.now)
+        (λ _. AreValid rows.now (is_pinned weak.now) (is_pinned gentle.now) (table_of first)
         (table_of second.now))
-        (AreFaulty rows.now (is_pinned weak.now) (is_pinned gentle.now) (table_of first.now)
+        (AreFaulty rows.now (is_pinned weak.now) (is_pinned gentle.now) (table_of first)
         (table_of second.now)) }
 {
     let signatures = signatures_of(alloc, keys, rows)?;
-    judge_under(alloc, keys, rows, weak, &signatures, first)?;
-    if is_judged(weak, gentle, first, second) {
-        return Ok(());
+    if is_judged(weak, gentle, &first, second) {
+        drop(first);
+        return judge_under(alloc, keys, rows, weak, &signatures, second);
     }
+    judge_under(alloc, keys, rows, weak, &signatures, &first)?;
+    drop(first);
     judge_under(alloc, keys, rows, gentle, &signatures, second)
 }
 
@@ -130,14 +132,14 @@ fn judge_pair<'s: 'r, 't, 'r, 'a>(
     keys: RandomState,
     population: Population<'s, 't, 'r, 'a>,
     weak: &Pins,
-    first: &Table,
+    first: Table,
     second: Table,
 ) -> Result<Judged<'r>, TablesFault>
     requires made { IsMade population.types.now }
-    requires first { IsWellFormed (table_of first.now) }
+    requires first { IsWellFormed (table_of first) }
     requires second { IsWellFormed (table_of second) }
     ensures judged { (chosen : List Name) (certificate : List ℕ)
-        → IsCertificate certificate (table_of first.now) (table_of second)
+        → IsCertificate certificate (table_of first) (table_of second)
         → AreKnown (schema_of population.entry.types.now.names.schema.now) chosen
         (structure population.entry.exchange.now) (population_seen population.entry)
         (is_pinned weak.now)
@@ -145,7 +147,7 @@ fn judge_pair<'s: 'r, 't, 'r, 'a>(
         (structure population.entry.exchange.now) certificate result }
     ensures ready { IfOk result IsReady }
 {
-    let (rows, gentle) = pinned_rows(alloc, keys, population, weak, first)?;
+    let (rows, gentle) = pinned_rows(alloc, keys, population, weak, &first)?;
     judge_tables(alloc, keys, &rows, weak, &gentle, first, &second)?;
     Ok(Judged {
         rows,
@@ -160,7 +162,7 @@ pub(crate) fn judge_certificate<'s: 'r, 't, 'r, 'a>(
     keys: RandomState,
     population: Population<'s, 't, 'r, 'a>,
     weak: &Pins,
-    certificate: &[u8],
+    certificate: Vec<u8>,
 ) -> Result<Judged<'r>, TablesFault>
     requires made { IsMade population.types.now }
     ensures judged { (chosen : List Name)
@@ -168,9 +170,10 @@ pub(crate) fn judge_certificate<'s: 'r, 't, 'r, 'a>(
         (structure population.entry.exchange.now) (population_seen population.entry)
         (is_pinned weak.now)
         → IsJudgement (schema_of population.entry.types.now.names.schema.now) chosen
-        (structure population.entry.exchange.now) certificate.now result }
+        (structure population.entry.exchange.now) certificate.items result }
     ensures ready { IfOk result IsReady }
 {
-    let (first, second) = read_certificate(alloc, certificate)?;
-    judge_pair(alloc, keys, population, weak, &first, second)
+    let (first, second) = read_certificate(alloc, &certificate)?;
+    drop(certificate);
+    judge_pair(alloc, keys, population, weak, first, second)
 }

@@ -23,7 +23,8 @@ use std::hash::RandomState;
 /// no certificate, or its first table not that of the input under the weak pins, or its second one not
 /// under the gentle pins that the first one gives, or the output not what comes of the input by the
 /// second one (`Certificate`). Want of memory may come in place of any, as `Memory` in `Other`. The
-/// limits of 2^40 bytes are the caller's to test. Names, and keys of rules, are hashed by these keys.
+/// limits of 2^40 bytes are the caller's to test. The certificate is let go of once its tables are
+/// read. Names, and keys of rules, are hashed by these keys.
 pub fn verify<'s>(
     alloc: Global,
     keys: RandomState,
@@ -31,9 +32,9 @@ pub fn verify<'s>(
     input: &[u8],
     output: &[u8],
     choice: &Choice,
-    certificate: &[u8],
+    certificate: Vec<u8>,
 ) -> Result<Proof, VerifyFault<'s>>
-    ensures { Verifies schema.now input.now output.now certificate.now (choice_of choice.now) result }
+    ensures { Verifies schema.now input.now output.now certificate.items (choice_of choice.now) result }
 {
     let claim = Claim {
         output,
@@ -51,5 +52,5 @@ pub fn verify<'s>(
         Ok(chosen) => chosen,
         Err(fault) => return Err(of_schema(fault)),
     };
-    verify_input(alloc, keys, &graph, &chosen, input, &claim)
+    verify_input(alloc, keys, &graph, &chosen, input, claim)
 }

@@ -8,9 +8,8 @@ use Rattle.schema_conditions.specs.Seen.{IsNumbered}
 use Rattle.rule_settings.specs.Settings.{schema_in}
 use Rattle.express_rules.specs.Counting.{Counts, broken_by, open_by, broken_of, open_of, of_one, of_number, broken_at, open_at}
 use Rattle.rule_plans.specs.Planning.{Tell}
-use Rattle.rule_plans.specs.Wanted.{IsTableOf, table_by}
 use Rattle.express_rules.proofs.Counted.{counts-none, counts-joined}
-use Rattle.rule_plans.proofs.Wanting.{table-there}
+use Rattle.express_rules.proofs.Stating.{at-among}
 use Rattle.express_rules.proofs.check.add_instance.Goals as goal
 
 pub loop-number-init : goal.loop-number-init
@@ -28,21 +27,16 @@ outcome-requires-clause-numbered c =
     let within = every-at (λ l. l < length rules) ns k n c.requires.within here in
     every-at (IsNumbered s) rules n _ c.requires.plan.numbered (slice_get-get_or rules n r within)
 
-pub outcome-requires-clause-table : goal.outcome-requires-clause-table
-outcome-requires-clause-table c =
-    let s = schema_in c.args.asked.now.setting.now in
+pub outcome-requires-clause-among : goal.outcome-requires-clause-among
+outcome-requires-clause-among c =
     let rules = c.args.plan.now.rules.now in
-    let tables = map (λ v. v.items) c.args.plan.now.tables.items in
     let ns = c.args.tried.now.numbers.now in
     let k = c.loop-number.number-index in
     let n = slice_index_or ns k 0 in
     let r = c.index-plan-number.result in
     let here = slice_get-get_or ns k 0 c.loop-number-test.true in
     let within = every-at (λ l. l < length rules) ns k n c.requires.within here in
-    let q = slice_index_or rules n r in
-    subst (IsTableOf s q.holder)
-    (sym (c.table_at-table.ensures ∙ ap (λ ts. table_by (map (λ v. v.items) ts) n) c.deref.ensures.value))
-    (table-there s rules tables n q c.requires.plan.tables (slice_get-get_or rules n r within))
+    at-among rules n _ (slice_get-get_or rules n r within)
 
 pub returns : goal.returns
 returns c m x at same tell =

@@ -3,17 +3,20 @@ use Rattle.std.proofs.lemmas.Result.{IfOk-weaker}
 use Rattle.schema_conditions.specs.Seen.{IsNumberedHolder}
 use Rattle.rule_settings.specs.Settings.{schema_in}
 use Rattle.express_rules.specs.Outcomes.{said_by}
-use Rattle.rule_plans.specs.Wanted.{IsTableOf}
 use Rattle.rule_plans.specs.Planning.{Tell}
+use Rattle.express_rules.proofs.Stating.{states-of}
 use Rattle.express_rules.proofs.outcome.outcome.Goals as goal
 
 pub entity_outcome-requires-clause-numbered : goal.entity_outcome-requires-clause-numbered
 entity_outcome-requires-clause-numbered c =
     subst (IsNumberedHolder (schema_in c.args.asked.now.setting.now)) c.in-Entity.is c.requires.numbered
 
-pub type_outcome-requires-clause-table : goal.type_outcome-requires-clause-table
-type_outcome-requires-clause-table c =
-    subst (λ h. IsTableOf (schema_in c.args.asked.now.setting.now) h c.args.table.now) c.in-Type.is c.requires.table
+pub type_outcome-requires-clause-numbered : goal.type_outcome-requires-clause-numbered
+type_outcome-requires-clause-numbered c =
+    subst (IsNumberedHolder (schema_in c.args.asked.now.setting.now)) c.in-Type.is c.requires.numbered
+
+pub type_outcome-requires-clause-stated : goal.type_outcome-requires-clause-stated
+type_outcome-requires-clause-stated c = states-of c.args.plan.now.rules.now c.args.rule.now _ c.in-Type.is c.requires.among
 
 pub returns-in-Entity : goal.returns-in-Entity
 returns-in-Entity c =

@@ -1,48 +1,51 @@
-use Rattle.std.proofs.Common.{◌≡◌, ◌∙◌, ◌∷◌, [], ◌++◌, map, ap, sym, not}
+use Rattle.std.proofs.Common.{◌≡◌, ◌∙◌, ◌∷◌, [], ◌++◌, ℕ, Bool, map, ap, sym, subst, not}
 use Rattle.schema_bases.specs.Seen.{name_at}
 use Rattle.express_syntax.specs.declared.expression.Logical.{Logical}
+use Rattle.express_logic.specs.Data.{Datum}
 use Rattle.express_logic.specs.Logic.{both}
 use Rattle.conformance.specs.DomainFindings.{least}
-use Rattle.rule_values.specs.declared.element.Element.{Element}
-use Rattle.rule_values.specs.Parts.{element_datum}
-use Rattle.step_extent.proofs.Adding.{map-twice}
 use Rattle.rule_settings.specs.Settings.{schema_in}
-use Rattle.rule_plans.specs.Coded.{is_wanted}
+use Rattle.forests.specs.Telling.{is_under}
+use Rattle.rule_plans.specs.Seeking.{Covers}
+use Rattle.rule_plans.specs.Speaking.{is_of}
 use Rattle.express_rules.specs.Outcomes.{said_of}
-use Rattle.rule_plans.proofs.Covering.{table-tells}
-use Rattle.express_rules.proofs.Least.{least_with, with-true, with-last, map-last}
+use Rattle.rule_plans.proofs.Covering.{forest-tells, union-covers}
 use Rattle.rule_plans.proofs.Wanting.{none-passes}
+use Rattle.express_rules.proofs.Least.{least_with, with-true}
+use Rattle.express_rules.proofs.Stating.{said_of_those, those-with}
 use Rattle.express_rules.proofs.outcome.type_outcome.Goals as goal
 
-pub loop-me-init : goal.loop-me-init
-loop-me-init c m x at =
+pub loop-value-init : goal.loop-value-init
+loop-value-init c m x at =
     let S = c.args.asked.now.setting.now in
     let t = c.args.declared in
-    let r = c.args.rule.now in
-    let vs = c.in_ok-values.values.items in
-    with-true (map (λ (e : Element). said_of S m r (element_datum e)) vs)
-    ∙ ap least (sym (map-twice (λ d. said_of S m r d) element_datum vs)
-    ∙ ap (map (λ d. said_of S m r d))
-    (c.in_ok-values.ensures m x at (name_at (schema_in S) t) (table-tells S m t c.args.table.now c.requires.table)))
+    let plan = c.args.plan.now in
+    let p : ℕ → Bool = λ i. is_under plan.renamed i t in
+    let said : Datum → Logical = λ d. said_of S m c.args.rule.now d in
+    with-true (said_of_those p said c.in_ok-values.values.items)
+    ∙ ap (λ l. least (map said l))
+    (c.in_ok-values.ensures m x at (name_at (schema_in S) t) p
+    (forest-tells S m t plan.renamed c.requires.plan.renamed c.requires.numbered)
+    (subst (λ ws. Covers (schema_in S) ws (is_of S m (name_at (schema_in S) t))) (sym c.deref.ensures.value)
+    (union-covers S m t plan.rules.now plan.union.items c.requires.plan.union c.requires.stated)))
 
-pub returns-then-not-has_one_of : goal.returns-then-not-has_one_of
-returns-then-not-has_one_of c m x at tell =
+pub returns-then-not-has_one_under : goal.returns-then-not-has_one_under
+returns-then-not-has_one_under c m x at tell =
     let S = c.args.asked.now.setting.now in
     let t = c.args.declared in
-    let table = c.args.table.now in
+    let plan = c.args.plan.now in
+    let p : ℕ → Bool = λ i. is_under plan.renamed i t in
     ap (λ l. least (map (λ d. said_of S m c.args.rule.now d) l))
-    (sym (tell (is_wanted table) (table-tells S m t table c.requires.table)
-    (none-passes (is_wanted table) c.args.types.now (sym c.has_one_of.ensures ∙ c.if-not-has_one_of.true))))
+    (sym (tell p (forest-tells S m t plan.renamed c.requires.plan.renamed c.requires.numbered)
+    (none-passes p c.args.types.now (sym c.has_one_under.ensures ∙ c.if-not-has_one_under.true))))
 
-pub loop-me-preserved : goal.loop-me-preserved
-loop-me-preserved c m x at =
+pub loop-value-preserved : goal.loop-value-preserved
+loop-value-preserved c m x at =
     let S = c.args.asked.now.setting.now in
-    let r = c.args.rule.now in
-    let f : Element → Logical = λ e. said_of S m r (element_datum e) in
-    let q = c.loop-me.outcome in
+    let t = c.args.declared in
+    let p : ℕ → Bool = λ i. is_under c.args.plan.now.renamed i t in
+    let said : Datum → Logical = λ d. said_of S m c.args.rule.now d in
     let left = c.pop.new.self.items in
-    let me = c.in-Some.me in
-    ap (least_with (map f left)) (c.and-outcome.ensures ∙ ap (λ p. both p q) (c.in_ok-said_of.ensures m))
-    ∙ sym (with-last (map f left) (f me) q)
-    ∙ ap (λ ps. least_with ps q) (sym (ap (map f) c.in-Some.ensures.items ∙ map-last f left me))
-    ∙ c.loop-me.invariant m x at
+    ap (least_with (said_of_those p said left)) (c.in_ok-outcome.ensures m)
+    ∙ those-with p said left c.loop-value.values.items c.in-Some.value c.loop-value.outcome c.in-Some.ensures.items
+    ∙ c.loop-value.invariant m x at

@@ -9,7 +9,7 @@ pub returns-then-found : goal.returns-then-found
 unfolding element_datum
 returns-then-found c =
     adds-value c.args.number (coded_datum c.args.types.now c.args.base.now c.args.value) _ c.args.found.now _ refl c.if-found.true
-    c.in_ok-push.ensures.items refl
+    c.in_ok-push.ensures.items refl refl
 
 pub returns : goal.returns
 returns c =

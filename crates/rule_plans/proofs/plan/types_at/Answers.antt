@@ -1,13 +1,10 @@
-use Rattle.std.proofs.Common.{◌∙◌, ap, sym, subst, map, []}
+use Rattle.std.proofs.Common.{◌∙◌, sym, subst, map, []}
 use Rattle.std.proofs.lemmas.Result.{IfOk-weaker}
-use Rattle.schema_names.proofs.Edges.{number-within}
-use Rattle.schema_bases.specs.Seen.{name_at}
-use Rattle.rule_settings.specs.Settings.{schema_in}
-use Rattle.rule_plans.specs.Coded.{is_wanted}
+use Rattle.rule_plans.specs.Speaking.{TypesTell}
 use Rattle.rule_plans.specs.Unsought.{AreRight, IsRight}
 use Rattle.rule_plans.proofs.Passing.{tables-right, table-right}
 use Rattle.rule_plans.specs.Planning.{TellAll}
-use Rattle.rule_plans.proofs.Covering.{tell-none, tell-all}
+use Rattle.rule_plans.proofs.Covering.{tell-none, tell-all, union-covers}
 use Rattle.rule_plans.proofs.plan.types_at.Goals as goal
 
 pub value_types-requires-clause-unsought : goal.value_types-requires-clause-unsought
@@ -28,14 +25,11 @@ value_types-requires-clause-forms c =
 pub returns-then-plan : goal.returns-then-plan
 returns-then-plan c =
     let S = c.args.setting.now in
-    let s = schema_in S in
     let p = c.args.plan.now in
     IfOk-weaker c.value_types.result _ _ (λ v told m x at.
-    tell-all S m x v.items c.deref.result.now (told m x at) p.rules.now (map (λ v. v.items) p.tables.items)
-    c.requires.plan.tables
-    (λ i numbered there.
-    ap (λ ws. is_wanted ws i) c.deref.ensures.value
-    ∙ c.requires.plan.union i (number-within s (name_at s i) i numbered) ∙ there)) c.value_types.ensures
+    tell-all S m x v.items p.union.items
+    (subst (λ ws. TypesTell S m x ws v.items) c.deref.ensures.value (told m x at)) p.rules.now
+    (λ t said. union-covers S m t p.rules.now p.union.items c.requires.plan.union said)) c.value_types.ensures
 
 pub returns : goal.returns
 returns c m x at =

@@ -1,20 +1,35 @@
-use Rattle.std.proofs.Common.{◌≡◌, map, arith}
-use Rattle.schema_sources.proofs.Reading.{as-many}
-use Rattle.rule_plans.specs.Wanted.{in_any}
-use Rattle.rule_plans.proofs.Wanting.{fills-none, fills-more}
+use Rattle.std.proofs.Common.{◌≡◌, ◌<◌, ◌∙◌, length, map, ap, sym, subst, arith, List, Bool}
+use Rattle.std.proofs.lemmas.List.{length-map}
+use Rattle.std.proofs.lemmas.Result.{IfOk-weaker}
+use Rattle.express_syntax.specs.SchemaViews.{schema_of}
+use Rattle.rule_plans.specs.Wanted.{AreStated}
+use Rattle.rule_plans.proofs.Renaming.{is-forest}
+use Rattle.rule_plans.proofs.Wanting.{union-is}
 use Rattle.rule_plans.proofs.wanted.union_of.Goals as goal
 
-pub loop-number-init : goal.loop-number-init
-loop-number-init c =
-    fills-none (λ i b. b ≡ in_any (map (λ v. v.items) c.args.tables.now) i) _ c.new-union.ensures.items
+pub spread-requires-clause-forest : goal.spread-requires-clause-forest
+spread-requires-clause-forest c =
+    is-forest (schema_of c.args.names.now.schema.now) (map (λ v. v.items) c.args.edges.now) c.requires.edges c.requires.resolved
 
-pub loop-number-preserved : goal.loop-number-preserved
-loop-number-preserved c =
-    fills-more (λ i b. b ≡ in_any (map (λ v. v.items) c.args.tables.now) i) _ _ c.loop-number.number c.is_in_any.result
-    c.loop-number.invariant c.is_in_any.ensures c.in_ok-push.ensures.items
+pub spread-requires-clause-few : goal.spread-requires-clause-few
+spread-requires-clause-few c =
+    let few = c.args.names.now.few in
+    let many = c.requires.edges.many in
+    let long = length-map c.args.edges.now (λ v. v.items) in
+    omega (arith, few, many, long)
+
+pub spread-requires-clause-marked : goal.spread-requires-clause-marked
+spread-requires-clause-marked c =
+    let many = c.requires.edges.many in
+    let long = length-map c.args.edges.now (λ v. v.items) in
+    let same = c.in_ok-stated.ensures.length in
+    let lent = ap length c.deref.ensures.value in
+    omega (arith, many, long, same, lent)
 
 pub returns : goal.returns
-returns c i lt =
-    let within = as-many c.args.names.now.schema.now i lt in
-    let past = c.loop-number-test.false in
-    c.loop-number.invariant.each i (omega (arith, within, past))
+returns c =
+    let s = schema_of c.args.names.now.schema.now in
+    IfOk-weaker c.spread.result _ _
+    (λ v h. union-is s (map (λ x. x.items) c.args.edges.now) c.args.rules.now c.deref.result.now v.items c.requires.edges
+    c.requires.numbered
+    (subst (AreStated c.args.rules.now) (sym c.deref.ensures.value) c.in_ok-stated.ensures.stated) h) c.spread.ensures

@@ -31,7 +31,7 @@ pub returns-in-Typed-clause-finds : goal.returns-in-Typed-clause-finds
 returns-in-Typed-clause-finds c schema input header_bytes choice settles are reads =
     let p = c.in-Typed.population in
     let types = c.args.graph.now.types in
-    let certificate = c.args.certificate.now in
+    let certificate = c.args.certificate.items in
     let chosen = c.args.chosen.now in
     let r = c.judge_typed.result in
     let (same, exchange, typed) = subst (IsVerdict types c.args.exchange.now) c.in-Typed.is c.in_ok-verdict.ensures in

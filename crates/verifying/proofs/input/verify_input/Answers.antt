@@ -7,8 +7,8 @@ use Rattle.verifying.proofs.input.verify_input.Goals as goal
 
 pub returns-in-Err : goal.returns-in-Err
 returns-in-Err c schema choice settles are =
-    let output = c.args.claim.now.output.now in
-    let certificate = c.args.claim.now.certificate.now in
+    let output = c.args.claim.output.now in
+    let certificate = c.args.claim.certificate.items in
     let input = c.args.input.now in
     subst (λ e. Verifies schema input output certificate choice (Err e)) (sym c.of_text.ensures)
     (unread_input schema input output certificate choice (schema_of c.args.graph.now.types.names.schema.now) settles

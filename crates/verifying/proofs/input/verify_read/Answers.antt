@@ -5,9 +5,9 @@ pub returns-in_err-judged : goal.returns-in_err-judged
 returns-in_err-judged c schema input header_bytes choice settles are reads =
     let p = err_from_is_err_and c.from_residual.result c.from_residual.ensures.1 in
     rw (p.1, p.2) (c.in_err-judged.ensures.finds schema input header_bytes choice settles are reads
-    c.args.claim.now.output.now)
+    c.args.claim.output.now)
 
 pub returns : goal.returns
 returns c schema input header_bytes choice settles are reads =
     let found = c.in_ok-judged.ensures.finds schema input header_bytes choice settles are reads in
-    c.verify_output.ensures schema input c.args.claim.now.certificate.now choice settles found.0 found.1
+    c.verify_output.ensures schema input c.args.claim.certificate.items choice settles found.0 found.1

@@ -12,7 +12,7 @@ returns-in-Err c =
     let schema = c.args.schema.now in
     let input = c.args.input.now in
     let output = c.args.output.now in
-    let certificate = c.args.certificate.now in
+    let certificate = c.args.certificate.items in
     let choice = choice_of c.args.choice.now in
     subst (λ e. Verifies schema input output certificate choice (Err e)) (sym c.of_schema.ensures)
     (unread_schema schema input output certificate choice c.in-Err.fault c.in-Err.ensures.fault)
@@ -22,7 +22,7 @@ returns-in-Err-resolve c =
     let schema = c.args.schema.now in
     let input = c.args.input.now in
     let output = c.args.output.now in
-    let certificate = c.args.certificate.now in
+    let certificate = c.args.certificate.items in
     let choice = choice_of c.args.choice.now in
     subst (λ e. Verifies schema input output certificate choice (Err e)) (sym c.of_schema-in-Err-resolve.ensures)
     (unresolved schema input output certificate choice (schema_of c.in-Ok.tree) c.in-Ok.ensures.found
@@ -33,7 +33,7 @@ returns-in-Err-settle c =
     let schema = c.args.schema.now in
     let input = c.args.input.now in
     let output = c.args.output.now in
-    let certificate = c.args.certificate.now in
+    let certificate = c.args.certificate.items in
     let choice = choice_of c.args.choice.now in
     subst (λ e. Verifies schema input output certificate choice (Err e)) (sym c.of_schema-in-Err-settle.ensures)
     (unsettled schema input output certificate choice (schema_of c.in-Ok.tree) c.in-Ok.ensures.found
@@ -50,6 +50,6 @@ returns c =
     let (known, are) = subst (λ t. (unknown_choice (schema_of t) choice ≡ None)
     × (AreChosen (schema_of t) (chosen_names (schema_of t) choice) chosen × AreOfEntities (schema_of t) chosen)) same
     c.in-Ok-settle.ensures in
-    subst (λ t. AnswersSettled (schema_of t) c.args.output.now c.args.certificate.now c.verify_input.result chosen
+    subst (λ t. AnswersSettled (schema_of t) c.args.output.now c.args.certificate.items c.verify_input.result chosen
     c.args.input.now) same c.verify_input.ensures schema choice
     (record { reads = c.in-Ok.ensures.found; resolved = c.in-Ok-resolve.ensures.resolved; known = known }) are.0

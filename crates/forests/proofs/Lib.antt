@@ -1,0 +1,6 @@
+mod Orders
+mod Along
+mod Sizing
+mod Placing
+mod Laying
+mod Spreading

@@ -1,0 +1,4 @@
+pub mod Forests
+pub mod Telling
+pub mod Spans
+pub mod Marking

@@ -1,0 +1,33 @@
+use Rattle.std.proofs.Common.{◌≡◌, ◌∙◌, length, sym, ap, subst}
+use Rattle.step_values.specs.Targets.{LeadTo, ReferTo}
+use Rattle.step_equal.specs.Views.{head_names}
+use Rattle.population_typed.specs.Seen.{section_numbers}
+use Rattle.population_typed.proofs.RowsMade.{heads-names, mapped-length}
+use Rattle.population_typed.proofs.plain.rows_with.Goals as goal
+
+pub from_parts-requires-clause-each : goal.from_parts-requires-clause-each
+from_parts-requires-clause-each c =
+    let x = c.args.exchange.now in
+    let named : head_names c.in_ok-heads.heads.items ≡ x.names =
+    ap head_names c.in_ok-heads.ensures
+    ∙ heads-names c.in_ok-formless.formless (section_numbers 0 0 x.sections.items) x.names c.args.form_of.now
+    c.requires.sections c.requires.forms in
+    sym (mapped-length (λ h. h.name) c.in_ok-heads.heads.items) ∙ ap length named ∙ sym c.requires.each
+
+pub from_parts-requires-clause-leads : goal.from_parts-requires-clause-leads
+from_parts-requires-clause-leads c =
+    let x = c.args.exchange.now in
+    let named : head_names c.in_ok-heads.heads.items ≡ x.names =
+    ap head_names c.in_ok-heads.ensures
+    ∙ heads-names c.in_ok-formless.formless (section_numbers 0 0 x.sections.items) x.names c.args.form_of.now
+    c.requires.sections c.requires.forms in
+    subst (λ ns. LeadTo ns c.args.values.targets) (sym named) c.requires.leads
+
+pub from_parts-requires-clause-closed : goal.from_parts-requires-clause-closed
+from_parts-requires-clause-closed c =
+    let x = c.args.exchange.now in
+    let named : head_names c.in_ok-heads.heads.items ≡ x.names =
+    ap head_names c.in_ok-heads.ensures
+    ∙ heads-names c.in_ok-formless.formless (section_numbers 0 0 x.sections.items) x.names c.args.form_of.now
+    c.requires.sections c.requires.forms in
+    subst (λ ns. ReferTo ns c.args.values.rows) (sym named) c.requires.refers

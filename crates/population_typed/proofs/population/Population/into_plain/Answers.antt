@@ -1,0 +1,16 @@
+use Rattle.std.proofs.Common.{◌∙◌, length, ap}
+use Rattle.population_typed.proofs.Found.{kept}
+use Rattle.population_typed.proofs.RowsMade.{plain-rows}
+use Rattle.population_typed.proofs.population.Population.into_plain.Goals as goal
+
+pub rows_with-requires-clause-sections : goal.rows_with-requires-clause-sections
+rows_with-requires-clause-sections c = (kept c.args.self).sections
+
+pub rows_with-requires-clause-forms : goal.rows_with-requires-clause-forms
+rows_with-requires-clause-forms c = ap length c.deref-2.ensures.value ∙ (kept c.args.self).forms
+
+pub returns : goal.returns
+returns c =
+    plain-rows c.args.self c.in_ok-orders.orders.items c.deref.result.now c.deref-3.result.now c.in_ok-orders.ensures
+    c.deref.ensures.value c.deref-3.ensures.value c.deref-2.result.now c.deref-2.ensures.value
+    c.in_ok-in_order.in_order.rows c.in_ok-in_order.ensures.rows c.rows_with.result c.rows_with.ensures
