@@ -10,9 +10,10 @@ once, and twice its size isn't tried.
 
 Shapes of schemas, with `check`: a chain of types with a rule each, and as many types with no chain; a chain of
 subtypes with an instance each; a chain of derived redeclarations; an enumeration and a value for each item; a UNIQUE
-rule of many attributes; many inverse attributes of one entity; types of types; SELECTs of SELECTs. Shapes of files,
-with `shrink` and with `check` under a UNIQUE rule: numbers that differ by multiples of 2^64, and strings of codes that
-can be cut into two in many ways. With --only, the shapes alone whose names have this word.
+rule of many attributes; many inverse attributes of one entity; types of types; SELECTs of SELECTs; derived attributes
+that use the one before twice, and a rule that asks many that use others. Shapes of files, with `shrink` and with
+`check` under a UNIQUE rule: numbers that differ by multiples of 2^64, and strings of codes that can be cut into two in
+many ways. With --only, the shapes alone whose names have this word.
 """
 import argparse
 import os
@@ -90,6 +91,21 @@ def selects(n):
     return schema(top + body + f"ENTITY f; a : t{n - 1}; END_ENTITY;\n"), "#1=E();\n#2=F(#1);\n"
 
 
+def derived_twice(n):
+    body = lines(n, lambda k: f"d{k + 1} : LOGICAL := d{k} AND d{k};\n")
+    whole = f"ENTITY e; a : LOGICAL; DERIVE d0 : LOGICAL := a;\n{body}WHERE w : d{n}; END_ENTITY;\n"
+    return schema(whole), instances(1, lambda _: "E(.T.)")
+
+
+def derived_beside(n):
+    """Of n derived attributes each uses another one, six deep, and a rule asks all of them."""
+    chain = [lambda k: f"c{k}_0 : LOGICAL := a;\n"]
+    chain += [lambda k, rank=rank: f"c{k}_{rank} : LOGICAL := c{k}_{rank - 1};\n" for rank in range(1, 6)]
+    body = lines(n, lambda k: "".join(line(k) for line in chain))
+    rule = " AND ".join(f"c{k}_5" for k in range(n))
+    return schema(f"ENTITY e; a : LOGICAL; DERIVE\n{body}WHERE w : {rule}; END_ENTITY;\n"), instances(1, lambda _: "E(.T.)")
+
+
 def numbers(n):
     body = "ENTITY e; a : REAL; UNIQUE u : a; END_ENTITY;\nENTITY p; a : REAL; END_ENTITY;\n"
     return schema(body), instances(n, lambda k: f"{'EP'[k % 2]}({k * 2 ** 64}.)")
@@ -120,6 +136,8 @@ SHAPES = {
     "inverse attributes": (inverses, 2500, ["check"]),
     "types of types": (types_of_types, 2500, ["check"]),
     "SELECTs of SELECTs": (selects, 2500, ["check"]),
+    "derived twice": (derived_twice, 1000, ["check"]),
+    "derived side by side": (derived_beside, 250, ["check"]),
     "numbers apart by 2^64": (numbers, 25000, ["check", "shrink"]),
     "strings cut in many ways": (strings, 10000, ["check", "shrink"]),
 }

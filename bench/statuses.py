@@ -4,9 +4,10 @@
     bench/statuses.py [PROGRAM]
 
 Without PROGRAM, `stepmin` is proved and built in a copy of the repository. Each run has its words, its
-outputs and, where memory is to run out, its limit of memory (`ulimit -v`); the status, the standard output
-and the standard error that it has to come to are written beside them, and the files that it has to have made.
-A device that is full is /dev/full. `.ci/run` runs this behind the gate, on the program that the gate has built.
+outputs, a stack of 1 MiB and, where memory is to run out, its limit of memory (`ulimit -v`); the status, the
+standard output and the standard error that it has to come to are written beside them, and the files that it
+has to have made. A device that is full is /dev/full. `.ci/run` runs this behind the gate, on the program
+that the gate has built.
 
 Status 0: each run came to that. 1: one didn't. 2: the words are wrong.
 """
@@ -59,6 +60,21 @@ TABLE = "rounds 0\nC0\nC1\n#1=C0\n#2=C0\n#3=C1\n#4=C1\n"
 CERTIFICATE = f"STEPCERT 2\ntable 1\n{TABLE}table 2\n{TABLE}end\n"
 PROCEDURE = SCHEMA.replace("END_SCHEMA;", "PROCEDURE nothing; END_PROCEDURE;\nEND_SCHEMA;")
 LARGE = FRAME % "".join(f"#{name}=POINT((0.,1.));\n" for name in range(1, 1_000_000))
+
+
+def derived(expression):
+    """A schema with three hundred derived attributes, each by such an expression of the one before."""
+    attributes = "".join(f"d{k} : LOGICAL := {expression(f'd{k - 1}')};\n" for k in range(1, 300))
+    return ("SCHEMA geo;\nENTITY a; x : LOGICAL; l : LIST OF LOGICAL;\nDERIVE d0 : LOGICAL := x;\n" + attributes
+            + "WHERE w : d299; END_ENTITY;\nEND_SCHEMA;\n")
+
+
+# A value that is asked for twice, one within sixty brackets, and one within thirty queries.
+DERIVED = {
+    "twice.exp": derived(lambda name: f"{name} AND {name}"),
+    "brackets.exp": derived(lambda name: "NOT (" * 60 + name + ")" * 60),
+    "queries.exp": derived(lambda name: "SIZEOF(QUERY(v <* SELF.l | " * 30 + name + ")) = 1" * 30),
+}
 
 STATUSES = """Exit status:
   0  all is done
@@ -178,6 +194,7 @@ RUNS = [
     Run(["check", "geo.exp", "missing.stp"], 4, err="device: file\n"),
     Run(["check", "geo.exp", "broken.stp"], 4, full_out=True, err="device: output after 0 bytes\n"),
     Run(["check", "geo.exp", "large.stp"], 5, megabytes=96, err="memory\n"),
+    *(Run(["check", name, "derived.stp"], 0, out="instances 1\nunknown 0\nfindings 0\n") for name in DERIVED),
     Run(["plain", "/dev/stdin"], 0, stdin="spelt.stp", out=NORMAL),
     Run(["check", "/dev/stdin", "small.stp"], 0, stdin="geo.exp", out="instances 1\nunknown 0\nfindings 0\n"),
     Run(["check", "geo.exp", "/dev/stdin"], 0, stdin="small.stp", out="instances 1\nunknown 0\nfindings 0\n"),
@@ -191,6 +208,7 @@ FILES = {
     "spelt.stp": SPELT, "normal.stp": NORMAL, "cut.stp": CUT, "large.stp": LARGE, "small.stp": SMALL, "broken.stp": BROKEN,
     "equal.stp": FRAME % EQUAL, "self.stp": FRAME % EQUAL, "smaller.stp": SMALLER,
     "geo.exp": SCHEMA, "cut.exp": SCHEMA[:len(SCHEMA) // 2], "procedure.exp": PROCEDURE,
+    **DERIVED, "derived.stp": FRAME % "#1=A(.T.,(.T.));\n",
     "right.cert": CERTIFICATE, "old.cert": "STEPCERT 1\nrounds 0\nend\n", "bad.cert": "STEPCERT 2\ntable 1\nrounds 00\n",
 }
 
@@ -226,6 +244,7 @@ def faults_of(program, folder, run):
     """What is wrong with what the run comes to."""
 
     def limit():
+        resource.setrlimit(resource.RLIMIT_STACK, (1 << 20, 1 << 20))
         if run.megabytes:
             resource.setrlimit(resource.RLIMIT_AS, (run.megabytes << 20, run.megabytes << 20))
         if run.closed_out:

@@ -311,10 +311,8 @@ fn is_printed(alloc: Global, report: &Report<'_>, wanted: &[u8]) -> bool {
 
 // Whether this is the report on a file.
 pub(crate) fn is_reported(alloc: Global, keys: RandomState, file: &[u8], wanted: &[u8]) -> bool {
-    let mut schema = SCHEMA;
     let mut source = file;
-    let mut text = Vec::new(alloc);
-    match check(alloc, keys, &mut schema, &mut text, &mut source) {
+    match check(alloc, keys, SCHEMA, &mut source) {
         Ok(report) => is_printed(alloc, &report, wanted),
         Err(_) => false,
     }

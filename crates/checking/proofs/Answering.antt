@@ -1,31 +1,52 @@
 -- What is answered to bytes is answered to a source that gave them to its end.
-use Rattle.std.specs.Prelude.{◌≡◌, ◌≤◌, ◌^◌, ℕ, List, length, Option, IfSome, Some, Result, Ok, Err, false}
-use Rattle.std.proofs.Common.{refl, sym, ap, ◌∙◌, subst}
+use Rattle.std.specs.Prelude.{◌≡◌, ◌≤◌, ◌<◌, ◌^◌, ℕ, List, length, Option, IfSome, None, Some, Result, Ok, Err, false}
+use Rattle.std.proofs.Common.{refl, inl, inr, sym, ap, ◌∙◌, subst}
 use Rattle.std.proofs.lemmas.List.{length-map}
 use Rattle.std.proofs.KnownBytes.{Consumes-whole}
 use Rattle.std.specs.Io.KnownBytes.{Consumes, IsAtEnd}
 use Rattle.express_syntax.specs.Schemas.{Schema}
+use Rattle.express_syntax.specs.Texts as schema_texts
 use Rattle.express_syntax.specs.Texts.{ReadsAs}
+use Rattle.express_syntax.specs.declared.fault.FaultKind.TheVariants.{LeftOut}
+use Rattle.express_syntax.specs.declared.fault.LeftOut.TheVariants as left_out
 use Rattle.express_syntax.specs.declared.fault.SchemaFault.{SchemaFault}
 use Rattle.express_syntax.specs.declared.fault.SchemaFault.TheVariants as schemas
 use Rattle.schema_types.specs.Resolving.{IsNameFault}
+use Rattle.step_structures.specs.declared.fault.TextFault.{TextFault}
+use Rattle.step_structures.specs.declared.fault.TextFault.TheVariants as texts
+use Rattle.step_structures.specs.Texts.{IsFaultOf}
 use Rattle.step_structures.specs.Trees.{Row, rows_of}
 use Rattle.step_exchange.specs.Exchanges.{structure}
 use Rattle.step_exchange.specs.declared.structure.Exchange.{Exchange}
 use Rattle.step_exchange.proofs.Named.{names-are}
+use Rattle.files.specs.Faults.{text_fault}
+use Rattle.files.specs.Reads.{IsBeyond}
+use Rattle.files.specs.declared.read.ReadFault.{ReadFault}
+use Rattle.files.specs.declared.read.ReadFault.TheVariants as reads
+use Rattle.files.specs.declared.fault.Role.{Role}
 use Rattle.files.specs.declared.fault.Role.TheVariants as roles
-use Rattle.files.specs.declared.fault.Fault.{Fault}
-use Rattle.files.specs.declared.fault.Fault.TheVariants as faults
+use Rattle.files.specs.declared.fault.FileFault.{FileFault}
 use Rattle.reports.specs.declared.report.Report.{Report}
-use Rattle.checking.specs.declared.fault.CheckFault.{CheckFault}
-use Rattle.checking.specs.declared.fault.CheckFault.TheVariants as check_faults
-use Rattle.checking.specs.Faults.{schema_fault}
-use Rattle.checking.specs.Checks.{HasSchema, HasSchemaFault, HasFile, HasFileFault, FileAnswers, SourceAnswers, Checks, is_device_fault}
+use Rattle.faults.specs.declared.fault.Fault.{Fault}
+use Rattle.faults.specs.declared.fault.Fault.TheVariants as faults
+use Rattle.faults.specs.Faults.{of_file, of_schema, unread}
+use Rattle.faults.specs.Devices.{is_device}
+use Rattle.checking.specs.Checks.{HasSchema, HasSchemaFault, HasFile, HasFileFault, FileAnswers, SourceAnswers, Checks}
 
 -- as many instances as names
 pub as-many : (x : Exchange) (n : ℕ) → n ≡ length x.names → n ≡ length (rows_of (structure x).sections)
 as-many x n e =
     e ∙ ap length (sym (names-are x)) ∙ length-map (rows_of (structure x).sections) (λ (r : Row). r.name)
+
+-- the text of the file isn't read
+pub unread-text : (s : Schema) (bytes : List ℕ) (e : TextFault) (f : FileFault) (r : Fault) → f ≡ text_fault roles.File e
+    → r ≡ of_file f → length bytes ≤ 2 ^ 40 → IsFaultOf bytes e → FileAnswers s bytes (Err r)
+unread-text s bytes e f r is so within h =
+    subst (λ (x : Fault). FileAnswers s bytes (Err x)) (sym (so ∙ (λ i. of_file (is i)))) (by e h)
+  where
+    by : (e : TextFault) → IsFaultOf bytes e → FileAnswers s bytes (Err (of_file (text_fault roles.File e)))
+    by (texts.Fault kind place) h = inr (within, h)
+    by texts.Memory h = tt
 
 -- what holds of bytes holds of a source that gave them
 abbrev Gives : Option (List ℕ) → List ℕ → Type 1
@@ -41,45 +62,110 @@ of-source s coming bytes give (Err (faults.Text roles.File kind place)) h = give
 of-source s coming bytes give (Err (faults.Text roles.Schema kind place)) h = absurd h
 of-source s coming bytes give (Err (faults.Text roles.Output kind place)) h = absurd h
 of-source s coming bytes give (Err (faults.Text roles.Certificate kind place)) h = absurd h
+of-source s coming bytes give (Err (faults.Schema fault)) h = absurd h
+of-source s coming bytes give (Err (faults.Unchecked parts)) h = absurd h
+of-source s coming bytes give (Err (faults.Findings report)) h = absurd h
+of-source s coming bytes give (Err (faults.Refused role findings rules)) h = absurd h
+of-source s coming bytes give (Err (faults.Certificate refusal)) h = absurd h
 of-source s coming bytes give (Err (faults.Device role written)) h = absurd h
 of-source s coming bytes give (Err faults.Memory) h = tt
 
 -- bytes are no device
-pub no-device : (s : Schema) (bytes : List ℕ) (r : Result Report Fault) → FileAnswers s bytes r → is_device_fault r ≡ false
-no-device s bytes (Ok r) h = refl
-no-device s bytes (Err (faults.Text role kind place)) h = refl
-no-device s bytes (Err (faults.Device role written)) h = absurd h
-no-device s bytes (Err faults.Memory) h = refl
+pub no-device : (s : Schema) (bytes : List ℕ) (role : Role) (r : Result Report Fault) → FileAnswers s bytes r
+    → is_device role r ≡ false
+no-device s bytes role (Err (faults.Device other written)) h = absurd h
+no-device s bytes role _ h = refl
 
-abbrev other : Result Report Fault → Result Report CheckFault
-other (Ok r) = Ok r
-other (Err f) = Err (check_faults.Other f)
+-- what is answered to a file is answered to a schema that is read
+pub of-file : (bytes : List ℕ) (s : Schema) → HasSchema s bytes → (file : Option (List ℕ)) (r : Result Report Fault)
+    → SourceAnswers s file r → Checks (Some bytes) file r
+of-file bytes s has file (Ok r) (f, of, is) = (s, f, has, of, is)
+of-file bytes s has file (Err (faults.Text roles.File kind place)) h = ((s, has), h)
+of-file bytes s has file (Err (faults.Text roles.Schema kind place)) h = absurd h
+of-file bytes s has file (Err (faults.Text roles.Output kind place)) h = absurd h
+of-file bytes s has file (Err (faults.Text roles.Certificate kind place)) h = absurd h
+of-file bytes s has file (Err (faults.Schema fault)) h = absurd h
+of-file bytes s has file (Err (faults.Unchecked parts)) h = absurd h
+of-file bytes s has file (Err (faults.Findings report)) h = absurd h
+of-file bytes s has file (Err (faults.Refused role findings rules)) h = absurd h
+of-file bytes s has file (Err (faults.Certificate refusal)) h = absurd h
+of-file bytes s has file (Err (faults.Device roles.File written)) h = ((s, has), h)
+of-file bytes s has file (Err (faults.Device roles.Schema written)) h = absurd h
+of-file bytes s has file (Err (faults.Device roles.Output written)) h = absurd h
+of-file bytes s has file (Err (faults.Device roles.Certificate written)) h = absurd h
+of-file bytes s has file (Err faults.Memory) h = tt
 
 -- the schema's bytes are those of a source that gave them
 pub of-schema-source : (coming file : Option (List ℕ)) (bytes : List ℕ) → Gives coming bytes
-    → (r : Result Report CheckFault) → Checks (Some bytes) file r → Checks coming file r
+    → (r : Result Report Fault) → Checks (Some bytes) file r → Checks coming file r
 of-schema-source coming file bytes give (Ok r) (s, f, has, of, h) = (s, f, give (HasSchema s) has, of, h)
-of-schema-source coming file bytes give (Err (check_faults.Schema fault)) h = give (HasSchemaFault fault) h
-of-schema-source coming file bytes give (Err (check_faults.Other (faults.Text roles.File kind place))) ((s, has), h) =
+of-schema-source coming file bytes give (Err (faults.Schema fault)) h = give (HasSchemaFault fault) h
+of-schema-source coming file bytes give (Err (faults.Text roles.File kind place)) ((s, has), h) =
     ((s, give (HasSchema s) has), h)
-of-schema-source coming file bytes give (Err (check_faults.Other (faults.Text roles.Schema kind place))) h = absurd h
-of-schema-source coming file bytes give (Err (check_faults.Other (faults.Text roles.Output kind place))) h = absurd h
-of-schema-source coming file bytes give (Err (check_faults.Other (faults.Text roles.Certificate kind place))) h = absurd h
-of-schema-source coming file bytes give (Err (check_faults.Other (faults.Device roles.Schema written))) h = h
-of-schema-source coming file bytes give (Err (check_faults.Other (faults.Device roles.File written))) ((s, has), h) =
+of-schema-source coming file bytes give (Err (faults.Text roles.Schema kind place)) h = absurd h
+of-schema-source coming file bytes give (Err (faults.Text roles.Output kind place)) h = absurd h
+of-schema-source coming file bytes give (Err (faults.Text roles.Certificate kind place)) h = absurd h
+of-schema-source coming file bytes give (Err (faults.Unchecked parts)) h = absurd h
+of-schema-source coming file bytes give (Err (faults.Findings report)) h = absurd h
+of-schema-source coming file bytes give (Err (faults.Refused role findings rules)) h = absurd h
+of-schema-source coming file bytes give (Err (faults.Certificate refusal)) h = absurd h
+of-schema-source coming file bytes give (Err (faults.Device roles.Schema written)) h = h
+of-schema-source coming file bytes give (Err (faults.Device roles.File written)) ((s, has), h) =
     ((s, give (HasSchema s) has), h)
-of-schema-source coming file bytes give (Err (check_faults.Other (faults.Device roles.Output written))) h = absurd h
-of-schema-source coming file bytes give (Err (check_faults.Other (faults.Device roles.Certificate written))) h = absurd h
-of-schema-source coming file bytes give (Err (check_faults.Other faults.Memory)) h = tt
+of-schema-source coming file bytes give (Err (faults.Device roles.Output written)) h = absurd h
+of-schema-source coming file bytes give (Err (faults.Device roles.Certificate written)) h = absurd h
+of-schema-source coming file bytes give (Err faults.Memory) h = tt
+
+-- a fault of the schema's text
+pub of-text : (file : Option (List ℕ)) (bytes : List ℕ) (fault : SchemaFault) (r : Fault) → r ≡ of_schema fault
+    → length bytes ≤ 2 ^ 40 → schema_texts.IsFaultOf bytes fault → Checks (Some bytes) file (Err r)
+of-text file bytes fault r is within h =
+    subst (λ (x : Fault). Checks (Some bytes) file (Err x)) (sym is) (by fault h)
+  where
+    by : (fault : SchemaFault) → schema_texts.IsFaultOf bytes fault → Checks (Some bytes) file (Err (of_schema fault))
+    by (schemas.Text kind place) h = inr (within, h)
+    by (schemas.Name kind name) h = absurd h
+    by schemas.Memory h = tt
 
 -- a fault of the schema's names
-pub of-names : (file : Option (List ℕ)) (bytes : List ℕ) (s : Schema) (fault : SchemaFault) (r : CheckFault)
-    → r ≡ schema_fault fault → length bytes ≤ 2 ^ 40 → ReadsAs bytes s → IsNameFault s fault
+pub of-names : (file : Option (List ℕ)) (bytes : List ℕ) (s : Schema) (fault : SchemaFault) (r : Fault)
+    → r ≡ of_schema fault → length bytes ≤ 2 ^ 40 → ReadsAs bytes s → IsNameFault s fault
     → Checks (Some bytes) file (Err r)
 of-names file bytes s fault r is within reads h =
-    subst (λ (x : CheckFault). Checks (Some bytes) file (Err x)) (sym is) (by fault h)
+    subst (λ (x : Fault). Checks (Some bytes) file (Err x)) (sym is) (by fault h)
   where
-    by : (fault : SchemaFault) → IsNameFault s fault → Checks (Some bytes) file (Err (schema_fault fault))
+    by : (fault : SchemaFault) → IsNameFault s fault → Checks (Some bytes) file (Err (of_schema fault))
     by (schemas.Text kind place) h = absurd h
     by (schemas.Name kind name) h = (within, (s, reads, h))
     by schemas.Memory h = tt
+
+-- the schema has too many bytes, if that is told
+beyond : (schema : Option (List ℕ)) → IsBeyond (2 ^ 40) schema
+    → IfSome schema (HasSchemaFault (schemas.Text (LeftOut left_out.TooLarge) (2 ^ 40)))
+beyond None h = tt
+beyond (Some bytes) h = inl (h, refl, refl)
+
+-- the schema isn't read to its end
+pub unread-schema : (schema file : Option (List ℕ)) (e : ReadFault) (f : Fault) → f ≡ unread roles.Schema e
+    → (e ≡ reads.TooLarge → IsBeyond (2 ^ 40) schema) → Checks schema file (Err f)
+unread-schema schema file e f is h =
+    subst (λ (x : Fault). Checks schema file (Err x)) (sym is) (by e h)
+  where
+    by : (e : ReadFault) → (e ≡ reads.TooLarge → IsBeyond (2 ^ 40) schema)
+        → Checks schema file (Err (unread roles.Schema e))
+    by reads.Device h = refl
+    by reads.TooLarge h = beyond schema (h refl)
+    by reads.Memory h = tt
+
+-- the file isn't read to its end
+pub unread-file : (s : Schema) (file : Option (List ℕ)) (e : ReadFault) (f : Fault) → f ≡ unread roles.File e
+    → (e ≡ reads.TooLarge → IsBeyond (2 ^ 40) file) → SourceAnswers s file (Err f)
+unread-file s file e f is h =
+    subst (λ (x : Fault). SourceAnswers s file (Err x)) (sym is) (by file e h)
+  where
+    by : (file : Option (List ℕ)) (e : ReadFault) → (e ≡ reads.TooLarge → IsBeyond (2 ^ 40) file)
+        → SourceAnswers s file (Err (unread roles.File e))
+    by file reads.Device h = refl
+    by None reads.TooLarge h = tt
+    by (Some bytes) reads.TooLarge h = inl (h refl, refl, refl)
+    by file reads.Memory h = tt

@@ -1,3 +1,2 @@
-mod Answering
-mod Failing
+pub mod Answering
 pub mod Once

@@ -1,5 +1,5 @@
 -- What `check` answers.
-use Rattle.std.specs.Prelude.{◌≡◌, ◌≤◌, ◌<◌, ◌^◌, ◌⊎◌, ℕ, List, length, Option, IfSome, Bool, true, false, Result, Ok, Err}
+use Rattle.std.specs.Prelude.{◌≡◌, ◌≤◌, ◌<◌, ◌^◌, ◌⊎◌, ℕ, List, length, Option, IfSome, Result, Ok, Err}
 use Rattle.express_syntax.specs.Schemas.{Schema}
 use Rattle.express_syntax.specs.Texts as schema_texts
 use Rattle.express_syntax.specs.declared.fault.FaultKind.TheVariants as schema_kinds
@@ -14,11 +14,9 @@ use Rattle.step_structures.specs.Trees.{File}
 use Rattle.schema_semantics.specs.Faults.{IsResolved}
 use Rattle.schema_types.specs.Resolving.{IsNameFault}
 use Rattle.files.specs.declared.fault.Role.TheVariants as roles
-use Rattle.files.specs.declared.fault.Fault.{Fault}
-use Rattle.files.specs.declared.fault.Fault.TheVariants as faults
 use Rattle.reports.specs.declared.report.Report.{Report}
-use Rattle.checking.specs.declared.fault.CheckFault.{CheckFault}
-use Rattle.checking.specs.declared.fault.CheckFault.TheVariants as check_faults
+use Rattle.faults.specs.declared.fault.Fault.{Fault}
+use Rattle.faults.specs.declared.fault.Fault.TheVariants as faults
 use Rattle.checking.specs.Reporting.{IsReport}
 
 -- The bytes are at most 2^40, and read as this schema, whose names are resolved.
@@ -63,46 +61,15 @@ SourceAnswers s file (Err (faults.Device roles.File written)) = written ≡ 0
 SourceAnswers s file (Err faults.Memory) = Unit {0}
 SourceAnswers s file (Err f) = ⊥
 
-abbrev pub is_device_fault : Result Report Fault → Bool
-is_device_fault (Err (faults.Device roles.File written)) = true
-is_device_fault r = false
-
--- Where each read of a source fails (`true`) the answer is its fault, and where none does it isn't; but memory may run
--- out first.
-abbrev pub SourceFailsAs : Result Report Fault → Bool → Type 0
-SourceFailsAs (Err faults.Memory) each = Unit {0}
-SourceFailsAs r each = is_device_fault r ≡ each
-
 -- What is answered to the bytes that are to come of the schema and of the file, where they are told. A schema's fault
--- comes before all that is said of the file.
-abbrev pub Checks : Option (List ℕ) → Option (List ℕ) → Result Report CheckFault → Type 0
+-- comes before all that is said of the file. No other fault comes.
+abbrev pub Checks : Option (List ℕ) → Option (List ℕ) → Result Report Fault → Type 0
 Checks schema file (Ok r) = (s : Schema) × (f : File) × IfSome schema (HasSchema s) × IfSome file (HasFile f) × IsReport s f r
-Checks schema file (Err (check_faults.Schema fault)) = IfSome schema (HasSchemaFault fault)
-Checks schema file (Err (check_faults.Other (faults.Text roles.File kind place))) =
+Checks schema file (Err (faults.Schema fault)) = IfSome schema (HasSchemaFault fault)
+Checks schema file (Err (faults.Text roles.File kind place)) =
     ((s : Schema) × IfSome schema (HasSchema s)) × IfSome file (HasFileFault kind place)
-Checks schema file (Err (check_faults.Other (faults.Device roles.Schema written))) = written ≡ 0
-Checks schema file (Err (check_faults.Other (faults.Device roles.File written))) =
+Checks schema file (Err (faults.Device roles.Schema written)) = written ≡ 0
+Checks schema file (Err (faults.Device roles.File written)) =
     ((s : Schema) × IfSome schema (HasSchema s)) × (written ≡ 0)
-Checks schema file (Err (check_faults.Other faults.Memory)) = Unit {0}
+Checks schema file (Err faults.Memory) = Unit {0}
 Checks schema file (Err f) = ⊥
-
-abbrev pub is_schema_device : Result Report CheckFault → Bool
-is_schema_device (Err (check_faults.Other (faults.Device roles.Schema written))) = true
-is_schema_device r = false
-
-abbrev pub is_file_device : Result Report CheckFault → Bool
-is_file_device (Err (check_faults.Other (faults.Device roles.File written))) = true
-is_file_device r = false
-
--- Where each read of the schema fails (`true`) the answer is that fault, and where none does it isn't; but memory may
--- run out first.
-abbrev pub SchemaFailsAs : Result Report CheckFault → Bool → Type 0
-SchemaFailsAs (Err (check_faults.Other faults.Memory)) each = Unit {0}
-SchemaFailsAs r each = is_schema_device r ≡ each
-
--- The same of the file. A fault of the schema comes before it is read.
-abbrev pub FileFailsAs : Result Report CheckFault → Bool → Type 0
-FileFailsAs (Err (check_faults.Schema fault)) each = Unit {0}
-FileFailsAs (Err (check_faults.Other (faults.Device roles.Schema written))) each = Unit {0}
-FileFailsAs (Err (check_faults.Other faults.Memory)) each = Unit {0}
-FileFailsAs r each = is_file_device r ≡ each

@@ -6,26 +6,18 @@ ghost use Rattle.express_types.specs.Judging.{AreDomainTables};
 ghost use Rattle.schema_rules.specs.Ruled.{AreRuleTables};
 ghost use Rattle.schema_derivations.specs.Firsts.{AreFirsts};
 ghost use Rattle.schema_types.specs.Made.{IsMade};
-ghost use Rattle.checking.specs.Checks.{
-  Checks,
-  FileAnswers,
-  FileFailsAs,
-  SchemaFailsAs,
-  SourceAnswers,
-  SourceFailsAs,
-  is_device_fault,
-  is_schema_device,
-  is_file_device,
-};
+ghost use Rattle.files.specs.declared.fault.Role.TheVariants as roles;
+ghost use Rattle.faults.specs.Devices.{FileFailsAs, is_device};
+ghost use Rattle.checking.specs.Checks.{Checks, FileAnswers, SourceAnswers};
 
-use crate::fault::{CheckFault, of_schema, of_schema_source};
 use check_findings::findings::{Found, file_findings};
 use devices::device::Source;
 use express_rules::report::RuleReport;
 use express_text::read_schema;
 use express_types::graph::TypeGraph;
 use express_types::resolving::resolve;
-use files::fault::{Fault, LIMIT, Role};
+use faults::fault::{Fault, of_file, of_schema, too_large, unread};
+use files::fault::{FileFault, LIMIT, Role};
 use files::read::read_whole;
 use reports::report::Report;
 use std::alloc::Global;
@@ -38,7 +30,7 @@ fn report<'s>(
     keys: RandomState,
     graph: TypeGraph<'s, '_>,
     bytes: &[u8],
-) -> Result<Report<'s>, Fault>
+) -> Result<Report<'s>, Fault<'s>>
     requires made { IsMade graph.types }
     requires rules { AreRuleTables (schema_of graph.types.names.schema.now) graph.rules }
     requires domain { AreDomainTables (schema_of graph.types.names.schema.now) graph.domain }
@@ -49,7 +41,7 @@ fn report<'s>(
 {
     let exchange = match read_exchange(alloc, keys, bytes) {
         Ok(exchange) => exchange,
-        Err(fault) => return Err(Fault::of_text(Role::File, fault)),
+        Err(fault) => return Err(of_file(FileFault::of_text(Role::File, fault))),
     };
     let found = match file_findings(alloc, keys, &graph, &exchange) {
         Ok(found) => found,
@@ -76,7 +68,7 @@ fn report_source<'s, S: Source>(
     keys: RandomState,
     graph: TypeGraph<'s, '_>,
     file: &mut S,
-) -> Result<Report<'s>, Fault>
+) -> Result<Report<'s>, Fault<'s>>
     requires made { IsMade graph.types }
     requires rules { AreRuleTables (schema_of graph.types.names.schema.now) graph.rules }
     requires domain { AreDomainTables (schema_of graph.types.names.schema.now) graph.domain }
@@ -84,13 +76,14 @@ fn report_source<'s, S: Source>(
         graph.judged.firsts.items }
     ensures answers { SourceAnswers (schema_of graph.entry.types.names.schema.now)
         (S.to_come file.old) result }
-    ensures failed { S.has_failed file.old ≡ false
-        → S.has_failed file.new ≡ is_device_fault result }
-    ensures told { IfSome (S.fails file.old) (SourceFailsAs result) }
+    ensures no_schema_fault { is_device roles.Schema result ≡ false }
+    ensures file_fault { S.has_failed file.old ≡ false
+        → S.has_failed file.new ≡ is_device roles.File result }
+    ensures file_told { IfSome (S.fails file.old) (FileFailsAs result) }
 {
     match read_whole(alloc, file, LIMIT) {
         Ok(bytes) => report(alloc, keys, graph, &bytes),
-        Err(fault) => Err(Fault::of_read(Role::File, fault)),
+        Err(fault) => Err(unread(Role::File, fault)),
     }
 }
 
@@ -100,57 +93,47 @@ fn check_by<'s, S: Source>(
     keys: RandomState,
     schema: &'s [u8],
     file: &mut S,
-) -> Result<Report<'s>, CheckFault>
+) -> Result<Report<'s>, Fault<'s>>
     requires within { length schema.now ≤ 2 ^ 40 }
     ensures checks { Checks (Some schema.now) (S.to_come file.old) result }
-    ensures no_schema_fault { is_schema_device result ≡ false }
+    ensures no_schema_fault { is_device roles.Schema result ≡ false }
     ensures file_fault { S.has_failed file.old ≡ false
-        → S.has_failed file.new ≡ is_file_device result }
-    ensures told { IfSome (S.fails file.old) (FileFailsAs result) }
+        → S.has_failed file.new ≡ is_device roles.File result }
+    ensures file_told { IfSome (S.fails file.old) (FileFailsAs result) }
 {
     let tree = match read_schema(alloc, schema) {
         Ok(tree) => tree,
         Err(fault) => return Err(of_schema(fault)),
     };
-    let graph = match resolve(alloc, keys, &tree) {
-        Ok(graph) => graph,
-        Err(fault) => return Err(of_schema(fault)),
-    };
-    match report_source(alloc, keys, graph, file) {
-        Ok(report) => Ok(report),
-        Err(fault) => Err(CheckFault::Other(fault)),
+    match resolve(alloc, keys, &tree) {
+        Ok(graph) => report_source(alloc, keys, graph, file),
+        Err(fault) => Err(of_schema(fault)),
     }
 }
 
-/// Checks a file against a schema: both are read to their ends, the schema first, whose text is put
-/// into `text`, so that the report can have names from there.
+/// Checks a file against the schema of this text. The file is read to its end once nothing is wrong
+/// with the schema.
 ///
-/// The fault is that of the schema's text or names, then that of the file's text, the first that
-/// shows; `Device` comes where a source fails, and `Memory` where memory runs out. Names are hashed
-/// by these keys.
-pub fn check<'s, S: Source, F: Source>(
+/// The fault is that of the schema's text or names (`Schema`), then that of the file's text, the first
+/// that shows (`Text`); `Device` comes where the file's source fails, and `Memory` where memory runs
+/// out. Names are hashed by these keys.
+pub fn check<'s, F: Source>(
     alloc: Global,
     keys: RandomState,
-    schema: &mut S,
-    text: &'s mut Vec<u8>,
+    schema: &'s [u8],
     file: &mut F,
-) -> Result<Report<'s>, CheckFault>
+) -> Result<Report<'s>, Fault<'s>>
     // The report is what the two texts say.
-    ensures checks { Checks (S.to_come schema.old) (F.to_come file.old) result }
-    // The fault is a source's exactly where that one failed.
-    ensures schema_fault { S.has_failed schema.old ≡ false
-        → S.has_failed schema.new ≡ is_schema_device result }
+    ensures checks { Checks (Some schema.now) (F.to_come file.old) result }
+    // The fault is the source's exactly where that one failed.
+    ensures no_schema_fault { is_device roles.Schema result ≡ false }
     ensures file_fault { F.has_failed file.old ≡ false
-        → F.has_failed file.new ≡ is_file_device result }
+        → F.has_failed file.new ≡ is_device roles.File result }
     // A source that can't fail has no fault, and one that can't but fail has one where it is read.
-    ensures schema_told { IfSome (S.fails schema.old) (SchemaFailsAs result) }
     ensures file_told { IfSome (F.fails file.old) (FileFailsAs result) }
 {
-    match read_whole(alloc, schema, LIMIT) {
-        Ok(bytes) => {
-            *text = bytes;
-            check_by(alloc, keys, text, file)
-        }
-        Err(fault) => Err(of_schema_source(fault)),
+    if schema.len() as u64 > LIMIT {
+        return Err(too_large(Role::Schema));
     }
+    check_by(alloc, keys, schema, file)
 }

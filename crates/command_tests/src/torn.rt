@@ -5,7 +5,7 @@ ghost use Rattle.std.specs.Prelude.{◌≡◌, IfOk};
 use devices::counted::Counted;
 use devices::device::{Failed, Sink, Source};
 use file_store::making::{FileMaker, Making};
-use file_store::opening::{FileOpener, Opening};
+use file_store::opening::{FileOpener, Opening, Unopened};
 use files::read::{ReadFault, read_whole};
 use std::alloc::Global;
 use std::io;
@@ -53,7 +53,7 @@ struct Place;
 impl FileOpener for Place {
     type File = Torn;
 
-    fn open(&self) -> io::Result<Torn> {
+    fn open(self) -> Result<Torn, Unopened<Place>> {
         Ok(Torn { is_whole: true })
     }
 }

@@ -8,7 +8,7 @@ use Rattle.step_structures.specs.Normal.{plain_text}
 use Rattle.step_structures.specs.Texts.{ReadsAs}
 use Rattle.step_structures.specs.Trees.{File}
 use Rattle.files.specs.declared.fault.Role.TheVariants as roles
-use Rattle.files.specs.declared.fault.Fault.{Fault}
+use Rattle.files.specs.declared.fault.FileFault.{FileFault}
 use Rattle.files.specs.Faults.{write_fault}
 use Rattle.commands.specs.Plain.{HasPlain, Plain}
 
@@ -26,8 +26,8 @@ gave_plain coming left bytes header_bytes file gave end within reads =
     })
 
 -- a front of the text went out
-pub cut_short : (coming old new : Option (List ℕ)) (text : List ℕ) (fault : WriteFault) (met : Fault)
+pub cut_short : (coming old new : Option (List ℕ)) (text : List ℕ) (fault : WriteFault) (met : FileFault)
     → met ≡ write_fault roles.Output fault
     → IfSome coming (HasPlain text) → EmitsFront old new text fault.written → Plain coming old new (Err met)
 cut_short coming old new text fault met e whole emits =
-    subst (λ (x : Fault). Plain coming old new (Err x)) (sym e) (text, whole, emits)
+    subst (λ (x : FileFault). Plain coming old new (Err x)) (sym e) (text, whole, emits)

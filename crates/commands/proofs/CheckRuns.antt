@@ -1,24 +1,33 @@
 -- What a run comes to that checks a file.
 use Rattle.std.proofs.Common.{◌≡◌, Bool, true, false, List, [], ◌∷◌, ℕ, Option, None, Some, Result, Ok, Err, IfSome, inl, inr, refl, sym, subst, ◌∙◌, true≢false, arith}
-use Rattle.std.specs.Prelude.{◌⊎◌}
+use Rattle.std.specs.Prelude.{◌⊎◌, ◌^◌}
 use Rattle.express_syntax.specs.declared.fault.SchemaFault.TheVariants as schemas
 use Rattle.conformance.specs.declared.finding.Finding.{Finding}
 use Rattle.schema_rules.specs.declared.finding.RuleFinding.{RuleFinding}
+use Rattle.reports.specs.Lines.{report_text}
 use Rattle.reports.specs.declared.report.Report.{Report}
-use Rattle.checking.specs.Checks.{Checks, FileFailsAs, SchemaFailsAs, is_file_device, is_schema_device}
-use Rattle.checking.specs.declared.fault.CheckFault.{CheckFault}
-use Rattle.checking.specs.declared.fault.CheckFault.TheVariants as check_faults
+use Rattle.faults.specs.Devices.{FileFailsAs, SchemaFailsAs, is_device}
+use Rattle.faults.specs.Faults.{unread}
+use Rattle.faults.specs.declared.fault.Fault.{Fault}
+use Rattle.faults.specs.declared.fault.Fault.TheVariants as faults
+use Rattle.faults.proofs.Failing.{schema_read, unread_before, unread_schema}
+use Rattle.checking.specs.Checks.{Checks}
+use Rattle.checking.proofs.Answering.{gives, of-schema-source, unread-schema}
 use Rattle.command_line.specs.Commands.{AsksCheck}
+use Rattle.files.specs.Reads.{DeviceFailsAs, IsBeyond, ReadsWhole}
 use Rattle.files.specs.Stores.{Stored}
+use Rattle.files.specs.declared.read.ReadFault.{ReadFault}
+use Rattle.files.specs.declared.read.ReadFault.TheVariants as reads
 use Rattle.files.specs.declared.fault.Role.TheVariants as roles
-use Rattle.files.specs.declared.fault.Fault.TheVariants as faults
 use Rattle.command_line.specs.declared.usage.Refusal.{Refusal}
 use Rattle.command_line.specs.declared.usage.Refusal.TheVariants.{Memory}
 use Rattle.commands.specs.CommandLines.{IsDevices}
-use Rattle.commands.specs.Endings.{Output}
+use Rattle.commands.specs.Endings.{EndsAs, Output, on_output}
+use Rattle.commands.specs.Faults.{fault_ending}
 use Rattle.commands.specs.Runs.{Refuses, RunsCheck, check_ending}
-use Rattle.commands.specs.Statuses.{findings_status}
+use Rattle.commands.specs.Statuses.{findings_status, report_status}
 use Rattle.commands.proofs.Endings.{IsFit, SaysAs, ends_among, ends_by_devices, ends_say, wanted_of}
+use Rattle.commands.proofs.FaultEndings.{fault_fit}
 
 -- the status for findings is that of a run that was done
 found_fit : (found : List Finding) (broken : List RuleFinding)
@@ -27,19 +36,43 @@ found_fit [] [] = inl refl
 found_fit [] (finding ∷ more) = inr refl
 found_fit (finding ∷ more) broken = inr refl
 
-pub check_fit : (outcome : Result Report CheckFault) → IsFit (check_ending outcome)
+pub check_fit : (outcome : Result Report Fault) → IsFit (check_ending outcome)
 check_fit (Ok report) = found_fit report.findings.items report.rule_findings.items
-check_fit (Err (check_faults.Schema (schemas.Text kind place))) = inr (inr (inl refl))
-check_fit (Err (check_faults.Schema (schemas.Name kind name))) = inr (inr (inl refl))
-check_fit (Err (check_faults.Schema schemas.Memory)) = inr (inr (inr (inr (inr (inl refl)))))
-check_fit (Err (check_faults.Other (faults.Text role kind place))) = inr (inr (inl refl))
-check_fit (Err (check_faults.Other (faults.Device role written))) = inr (inr (inr (inr (inl refl))))
-check_fit (Err (check_faults.Other faults.Memory)) = inr (inr (inr (inr (inr (inl refl)))))
+check_fit (Err fault) = fault_fit fault
 
 pub check_says : (schema file : Stored) (out out' err err' : Output) (status : ℕ)
     → RunsCheck schema file out out' err err' status → SaysAs out out' err err' status
 check_says schema file out out' err err' status r =
     ends_say (check_ending r.outcome) out out' err err' status (check_fit r.outcome) r.ends
+
+-- ---- the schema
+
+-- it isn't read to its end
+pub unread_check : (T : Type 0) (schema file : Stored) (out out' err err' : Output) (status : ℕ) (e : ReadFault) (f : Fault)
+    → f ≡ unread roles.Schema e → (e ≡ reads.TooLarge → IsBeyond (2 ^ 40) schema.contents)
+    → IfSome schema.fails (DeviceFailsAs {T = T} (Err e)) → EndsAs (fault_ending f) out out' err err' status
+    → RunsCheck schema file out out' err err' status
+unread_check T schema file out out' err err' status e f is beyond told ends = record {
+  outcome = Err f;
+  checks = unread-schema schema.contents file.contents e f is beyond;
+  schema_fails = unread_schema Report e f is T schema.fails told;
+  file_fails = unread_before Report e f is file.fails;
+  ends = ends;
+}
+
+-- it is, and this is answered to its text
+pub read_check : (schema file : Stored) (left : Option (List ℕ)) (text : List ℕ) (out out' err err' : Output) (status : ℕ)
+    (outcome : Result Report Fault) → ReadsWhole schema.contents left text
+    → IfSome schema.fails (λ each. false ≡ each) → Checks (Some text) file.contents outcome
+    → is_device roles.Schema outcome ≡ false → IfSome file.fails (FileFailsAs outcome)
+    → EndsAs (check_ending outcome) out out' err err' status → RunsCheck schema file out out' err err' status
+read_check schema file left text out out' err err' status outcome whole told checks fine file_told ends = record {
+  outcome = outcome;
+  checks = of-schema-source schema.contents file.contents text (gives schema.contents left text whole) outcome checks;
+  schema_fails = schema_read schema.fails outcome fine told;
+  file_fails = file_told;
+  ends = ends;
+}
 
 -- ---- devices
 
@@ -49,46 +82,81 @@ found_no_device found broken is = elim (found_fit found broken) [
   | inr e ↦ omega (arith, e, is)
 ]
 
--- a device's status is wanted for the fault of a source alone
-check_wanted : (schema file : Option (List ℕ)) (outcome : Result Report CheckFault) → Checks schema file outcome
-    → ((is_schema_device outcome ≡ true) ⊎ (is_file_device outcome ≡ true)) ⊎ (wanted_of (check_ending outcome) ≡ 4 → ⊥)
+-- a report is printed, with its status
+pub report_ends : (report : Report) (wanted : ℕ) (out out' err err' : Output) (status : ℕ) → wanted ≡ report_status report
+    → EndsAs (on_output (report_text report) wanted) out out' err err' status
+    → EndsAs (check_ending (Ok report)) out out' err err' status
+report_ends report wanted out out' err err' status is ends =
+    subst (λ n. EndsAs (on_output (report_text report) n) out out' err err' status) is ends
+
+-- a source has failed, by the answer
+abbrev pub IsOfSource : Result Report Fault → Type 0
+IsOfSource outcome = (is_device roles.Schema outcome ≡ true) ⊎ (is_device roles.File outcome ≡ true)
+
+-- a device's status is wanted for such an answer alone
+check_wanted : (schema file : Option (List ℕ)) (outcome : Result Report Fault) → Checks schema file outcome
+    → IsOfSource outcome ⊎ (wanted_of (check_ending outcome) ≡ 4 → ⊥)
 check_wanted schema file (Ok report) h = inr (found_no_device report.findings.items report.rule_findings.items)
-check_wanted schema file (Err (check_faults.Schema (schemas.Text kind place))) h = inr (λ no. omega (arith, no))
-check_wanted schema file (Err (check_faults.Schema (schemas.Name kind name))) h = inr (λ no. omega (arith, no))
-check_wanted schema file (Err (check_faults.Schema schemas.Memory)) h = inr (λ no. omega (arith, no))
-check_wanted schema file (Err (check_faults.Other (faults.Text role kind place))) h = inr (λ no. omega (arith, no))
-check_wanted schema file (Err (check_faults.Other (faults.Device roles.Schema written))) h = inl (inl refl)
-check_wanted schema file (Err (check_faults.Other (faults.Device roles.File written))) h = inl (inr refl)
-check_wanted schema file (Err (check_faults.Other (faults.Device roles.Output written))) h = absurd h
-check_wanted schema file (Err (check_faults.Other (faults.Device roles.Certificate written))) h = absurd h
-check_wanted schema file (Err (check_faults.Other faults.Memory)) h = inr (λ no. omega (arith, no))
+check_wanted schema file (Err (faults.Schema (schemas.Text kind place))) h = inr (λ no. omega (arith, no))
+check_wanted schema file (Err (faults.Schema (schemas.Name kind name))) h = inr (λ no. omega (arith, no))
+check_wanted schema file (Err (faults.Schema schemas.Memory)) h = inr (λ no. omega (arith, no))
+check_wanted schema file (Err (faults.Text role kind place)) h = inr (λ no. omega (arith, no))
+check_wanted schema file (Err (faults.Unchecked parts)) h = absurd h
+check_wanted schema file (Err (faults.Findings report)) h = absurd h
+check_wanted schema file (Err (faults.Refused role findings rules)) h = absurd h
+check_wanted schema file (Err (faults.Certificate refusal)) h = absurd h
+check_wanted schema file (Err (faults.Device roles.Schema written)) h = inl (inl refl)
+check_wanted schema file (Err (faults.Device roles.File written)) h = inl (inr refl)
+check_wanted schema file (Err (faults.Device roles.Output written)) h = absurd h
+check_wanted schema file (Err (faults.Device roles.Certificate written)) h = absurd h
+check_wanted schema file (Err faults.Memory) h = inr (λ no. omega (arith, no))
 
 pub check_devices : (schema file : Stored) (out out' err err' : Output) (status : ℕ)
     → (r : RunsCheck schema file out out' err err' status) → status ≡ 4 → out.has_failed ≡ false
-    → err.has_failed ≡ false
-    → ((is_schema_device r.outcome ≡ true) ⊎ (is_file_device r.outcome ≡ true))
-    ⊎ ((out'.has_failed ≡ true) ⊎ (err'.has_failed ≡ true))
+    → err.has_failed ≡ false → IsOfSource r.outcome ⊎ ((out'.has_failed ≡ true) ⊎ (err'.has_failed ≡ true))
 check_devices schema file out out' err err' status r is fresh clean =
-    ends_by_devices ((is_schema_device r.outcome ≡ true) ⊎ (is_file_device r.outcome ≡ true)) (check_ending r.outcome)
+    ends_by_devices (IsOfSource r.outcome) (check_ending r.outcome)
     out out' err err' status r.ends (check_wanted schema.contents file.contents r.outcome r.checks) is fresh clean
 
--- it is none of a source that can't fail
-schema_can : (outcome : Result Report CheckFault) → is_schema_device outcome ≡ true → SchemaFailsAs outcome false → ⊥
-schema_can (Ok report) is h = true≢false (sym is)
-schema_can (Err (check_faults.Schema fault)) is h = true≢false (sym is)
-schema_can (Err (check_faults.Other (faults.Text role kind place))) is h = true≢false (sym is)
-schema_can (Err (check_faults.Other (faults.Device role written))) is h = true≢false (sym is ∙ h)
-schema_can (Err (check_faults.Other faults.Memory)) is h = true≢false (sym is)
+-- where the status is a device's, a source has failed, by the answer, or an output
+pub one_failed : (schema file : Option (List ℕ)) (outcome : Result Report Fault) (out out' err err' : Output) (status : ℕ)
+    (s f : Bool) → Checks schema file outcome → s ≡ is_device roles.Schema outcome → f ≡ is_device roles.File outcome
+    → EndsAs (check_ending outcome) out out' err err' status → status ≡ 4 → out.has_failed ≡ false
+    → err.has_failed ≡ false → (s ≡ true) ⊎ (f ≡ true) ⊎ (out'.has_failed ≡ true) ⊎ (err'.has_failed ≡ true)
+one_failed schema file outcome out out' err err' status s f checks es ef ends is fresh clean =
+    elim (ends_by_devices (IsOfSource outcome) (check_ending outcome) out out' err err' status ends
+    (check_wanted schema file outcome checks) is fresh clean) [
+      | inl (inl e) ↦ inl (es ∙ e)
+      | inl (inr e) ↦ inr (inl (ef ∙ e))
+      | inr (inl e) ↦ inr (inr (inl e))
+      | inr (inr e) ↦ inr (inr (inr e))
+    ]
 
-file_can : (outcome : Result Report CheckFault) → is_file_device outcome ≡ true → FileFailsAs outcome false → ⊥
+-- it is none of a source that can't fail
+schema_can : (outcome : Result Report Fault) → is_device roles.Schema outcome ≡ true → SchemaFailsAs outcome false → ⊥
+schema_can (Ok report) is h = true≢false (sym is)
+schema_can (Err (faults.Schema fault)) is h = true≢false (sym is)
+schema_can (Err (faults.Text role kind place)) is h = true≢false (sym is)
+schema_can (Err (faults.Unchecked parts)) is h = true≢false (sym is)
+schema_can (Err (faults.Findings report)) is h = true≢false (sym is)
+schema_can (Err (faults.Refused role findings rules)) is h = true≢false (sym is)
+schema_can (Err (faults.Certificate refusal)) is h = true≢false (sym is)
+schema_can (Err (faults.Device role written)) is h = true≢false (sym is ∙ h)
+schema_can (Err faults.Memory) is h = true≢false (sym is)
+
+file_can : (outcome : Result Report Fault) → is_device roles.File outcome ≡ true → FileFailsAs outcome false → ⊥
 file_can (Ok report) is h = true≢false (sym is)
-file_can (Err (check_faults.Schema fault)) is h = true≢false (sym is)
-file_can (Err (check_faults.Other (faults.Text role kind place))) is h = true≢false (sym is)
-file_can (Err (check_faults.Other (faults.Device roles.File written))) is h = true≢false h
-file_can (Err (check_faults.Other (faults.Device roles.Schema written))) is h = true≢false (sym is)
-file_can (Err (check_faults.Other (faults.Device roles.Output written))) is h = true≢false (sym is)
-file_can (Err (check_faults.Other (faults.Device roles.Certificate written))) is h = true≢false (sym is)
-file_can (Err (check_faults.Other faults.Memory)) is h = true≢false (sym is)
+file_can (Err (faults.Schema fault)) is h = true≢false (sym is)
+file_can (Err (faults.Text role kind place)) is h = true≢false (sym is)
+file_can (Err (faults.Unchecked parts)) is h = true≢false (sym is)
+file_can (Err (faults.Findings report)) is h = true≢false (sym is)
+file_can (Err (faults.Refused role findings rules)) is h = true≢false (sym is)
+file_can (Err (faults.Certificate refusal)) is h = true≢false (sym is)
+file_can (Err (faults.Device roles.File written)) is h = true≢false h
+file_can (Err (faults.Device roles.Schema written)) is h = true≢false (sym is)
+file_can (Err (faults.Device roles.Output written)) is h = true≢false (sym is)
+file_can (Err (faults.Device roles.Certificate written)) is h = true≢false (sym is)
+file_can (Err faults.Memory) is h = true≢false (sym is)
 
 pub check_device : (words : List (List ℕ)) (files : List ℕ → Stored) (schema file : List ℕ)
     (out out' err err' : Output) (status : ℕ) → AsksCheck words schema file
@@ -119,13 +187,17 @@ check_device words files schema file out out' err err' status asks r is = λ fre
 abbrev DeviceOrMemory : ℕ → Type 0
 DeviceOrMemory status = (status ≡ 4) ⊎ (status ≡ 5)
 
-schema_wanted : (outcome : Result Report CheckFault) → SchemaFailsAs outcome true
+schema_wanted : (outcome : Result Report Fault) → SchemaFailsAs outcome true
     → DeviceOrMemory (wanted_of (check_ending outcome))
 schema_wanted (Ok report) is = absurd (true≢false (sym is))
-schema_wanted (Err (check_faults.Schema fault)) is = absurd (true≢false (sym is))
-schema_wanted (Err (check_faults.Other (faults.Text role kind place))) is = absurd (true≢false (sym is))
-schema_wanted (Err (check_faults.Other (faults.Device role written))) is = inl refl
-schema_wanted (Err (check_faults.Other faults.Memory)) is = inr refl
+schema_wanted (Err (faults.Schema fault)) is = absurd (true≢false (sym is))
+schema_wanted (Err (faults.Text role kind place)) is = absurd (true≢false (sym is))
+schema_wanted (Err (faults.Unchecked parts)) is = absurd (true≢false (sym is))
+schema_wanted (Err (faults.Findings report)) is = absurd (true≢false (sym is))
+schema_wanted (Err (faults.Refused role findings rules)) is = absurd (true≢false (sym is))
+schema_wanted (Err (faults.Certificate refusal)) is = absurd (true≢false (sym is))
+schema_wanted (Err (faults.Device role written)) is = inl refl
+schema_wanted (Err faults.Memory) is = inr refl
 
 pub schema_failed : (schema file : Stored) (out out' err err' : Output) (status : ℕ)
     → RunsCheck schema file out out' err err' status → schema.fails ≡ Some true → (status ≡ 4) ⊎ (status ≡ 5)
@@ -137,22 +209,26 @@ schema_failed schema file out out' err err' status r is =
 abbrev TextOrDevice : ℕ → Type 0
 TextOrDevice status = (status ≡ 2) ⊎ (status ≡ 4) ⊎ (status ≡ 5)
 
-file_wanted : (outcome : Result Report CheckFault) → FileFailsAs outcome true
-    → TextOrDevice (wanted_of (check_ending outcome))
-file_wanted (Ok report) is = absurd (true≢false (sym is))
-file_wanted (Err (check_faults.Schema (schemas.Text kind place))) is = inl refl
-file_wanted (Err (check_faults.Schema (schemas.Name kind name))) is = inl refl
-file_wanted (Err (check_faults.Schema schemas.Memory)) is = inr (inr refl)
-file_wanted (Err (check_faults.Other (faults.Text role kind place))) is = absurd (true≢false (sym is))
-file_wanted (Err (check_faults.Other (faults.Device role written))) is = inr (inl refl)
-file_wanted (Err (check_faults.Other faults.Memory)) is = inr (inr refl)
+file_wanted : (schema file : Option (List ℕ)) (outcome : Result Report Fault) → Checks schema file outcome
+    → FileFailsAs outcome true → TextOrDevice (wanted_of (check_ending outcome))
+file_wanted schema file (Ok report) h is = absurd (true≢false (sym is))
+file_wanted schema file (Err (faults.Schema (schemas.Text kind place))) h is = inl refl
+file_wanted schema file (Err (faults.Schema (schemas.Name kind name))) h is = inl refl
+file_wanted schema file (Err (faults.Schema schemas.Memory)) h is = inr (inr refl)
+file_wanted schema file (Err (faults.Text role kind place)) h is = absurd (true≢false (sym is))
+file_wanted schema file (Err (faults.Unchecked parts)) h is = absurd h
+file_wanted schema file (Err (faults.Findings report)) h is = absurd h
+file_wanted schema file (Err (faults.Refused role findings rules)) h is = absurd h
+file_wanted schema file (Err (faults.Certificate refusal)) h is = absurd h
+file_wanted schema file (Err (faults.Device role written)) h is = inr (inl refl)
+file_wanted schema file (Err faults.Memory) h is = inr (inr refl)
 
 pub checked_failed : (schema file : Stored) (out out' err err' : Output) (status : ℕ)
     → RunsCheck schema file out out' err err' status → file.fails ≡ Some true
     → (status ≡ 2) ⊎ (status ≡ 4) ⊎ (status ≡ 5)
 checked_failed schema file out out' err err' status r is =
     ends_among TextOrDevice (check_ending r.outcome) out out' err err' status r.ends
-    (file_wanted r.outcome (subst (λ o. IfSome o (FileFailsAs r.outcome)) is r.file_fails)) (inr (inl refl))
+    (file_wanted schema.contents file.contents r.outcome r.checks (subst (λ o. IfSome o (FileFailsAs r.outcome)) is r.file_fails)) (inr (inl refl))
 
 -- ---- what was refused
 
@@ -160,17 +236,17 @@ pub memory_checks : (refusal : Refusal) (schema file : Stored) (out out' err err
     → refusal ≡ Memory → Refuses refusal out out' err err' status
     → RunsCheck schema file out out' err err' status
 memory_checks refusal schema file out out' err err' status is refuses = record {
-  outcome = Err (check_faults.Other faults.Memory);
+  outcome = Err faults.Memory;
   checks = tt;
   schema_fails = no_schema_told schema.fails;
   file_fails = no_file_told file.fails;
   ends = subst (λ m. Refuses m out out' err err' status) is refuses;
 }
   where
-    no_schema_told : (o : Option Bool) → IfSome o (SchemaFailsAs (Err (check_faults.Other faults.Memory)))
+    no_schema_told : (o : Option Bool) → IfSome o (SchemaFailsAs {T = Report} (Err faults.Memory))
     no_schema_told None = tt
     no_schema_told (Some each) = tt
 
-    no_file_told : (o : Option Bool) → IfSome o (FileFailsAs (Err (check_faults.Other faults.Memory)))
+    no_file_told : (o : Option Bool) → IfSome o (FileFailsAs {T = Report} (Err faults.Memory))
     no_file_told None = tt
     no_file_told (Some each) = tt

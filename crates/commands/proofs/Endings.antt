@@ -6,8 +6,8 @@ use Rattle.devices.specs.declared.device.WriteFault.{WriteFault}
 use Rattle.files.specs.Faults.{write_fault}
 use Rattle.files.specs.Lines.{line_of}
 use Rattle.files.specs.declared.fault.Role.TheVariants as roles
-use Rattle.files.specs.declared.fault.Fault.{Fault}
-use Rattle.files.specs.declared.fault.Fault.TheVariants as faults
+use Rattle.files.specs.declared.fault.FileFault.{FileFault}
+use Rattle.files.specs.declared.fault.FileFault.TheVariants as faults
 use Rattle.commands.specs.Endings.{AppendsFront, Closes, Ending, Ends, EndsAs, Output, Prints, Tells, on_both, on_error, on_output}
 use Rattle.commands.specs.Statuses.{IsStatus, fault_status}
 
@@ -63,19 +63,19 @@ four status (inr e) = e
 
 -- ---- the line of a fault
 
-pub fault_is_status : (fault : Fault) (status : ℕ) → (status ≡ fault_status fault) ⊎ (status ≡ 4) → IsStatus status
+pub fault_is_status : (fault : FileFault) (status : ℕ) → (status ≡ fault_status fault) ⊎ (status ≡ 4) → IsStatus status
 fault_is_status (faults.Text role kind place) status (inl e) = inr (inr (inl e))
 fault_is_status (faults.Device role written) status (inl e) = inr (inr (inr (inr (inl e))))
 fault_is_status faults.Memory status (inl e) = inr (inr (inr (inr (inr (inl e)))))
 fault_is_status fault status (inr e) = inr (inr (inr (inr (inl e))))
 
-pub ends_in_status : (outcome : Result Unit Fault) (err err' : Output) (status : ℕ) → Ends outcome err err' status
+pub ends_in_status : (outcome : Result Unit FileFault) (err err' : Output) (status : ℕ) → Ends outcome err err' status
     → IsStatus status
 ends_in_status (Ok x) err err' status e = inl e.0
 ends_in_status (Err fault) err err' status e = fault_is_status fault status
     (status_printed err err' (line_of fault) (fault_status fault) status e)
 
-pub ends_failing : (outcome : Result Unit Fault) (err err' : Output) (status : ℕ) → Ends outcome err err' status
+pub ends_failing : (outcome : Result Unit FileFault) (err err' : Output) (status : ℕ) → Ends outcome err err' status
     → err.has_failed ≡ false → err'.has_failed ≡ true → status ≡ 4
 ends_failing (Ok x) err err' status e fresh fails = failed_twice err err' e.1 fresh fails
 ends_failing (Err fault) err err' status e fresh fails = failure_printed err err' (line_of fault) (fault_status fault)

@@ -1,9 +1,13 @@
 pub mod Failing
 pub mod Answering
 pub mod Endings
+pub mod FaultEndings
 pub mod PlainRuns
 pub mod CheckRuns
 pub mod MergeRuns
 pub mod VerifyRuns
 pub mod Words
 pub mod Running
+pub mod Opening
+pub mod Keeping
+pub mod Asked

@@ -5,8 +5,8 @@ use Rattle.command_line.specs.Commands.{AsksPlain}
 use Rattle.files.specs.Lines.{line_of}
 use Rattle.files.specs.Stores.{Stored}
 use Rattle.files.specs.declared.fault.Role.TheVariants as roles
-use Rattle.files.specs.declared.fault.Fault.{Fault}
-use Rattle.files.specs.declared.fault.Fault.TheVariants as faults
+use Rattle.files.specs.declared.fault.FileFault.{FileFault}
+use Rattle.files.specs.declared.fault.FileFault.TheVariants as faults
 use Rattle.command_line.specs.declared.usage.Refusal.{Refusal}
 use Rattle.command_line.specs.declared.usage.Refusal.TheVariants.{Memory}
 use Rattle.commands.specs.CommandLines.{IsDevices}
@@ -15,7 +15,7 @@ use Rattle.commands.specs.Plain.{FailsAs, Plain, is_output_fault}
 use Rattle.commands.specs.Runs.{Refuses, RunsPlain}
 use Rattle.commands.proofs.Endings.{SaysAs, Unwritten, device_printed, ends_failing, ends_in_status, four, keeps_same, status_printed}
 
-unwritten_by : (coming old new : Option (List ℕ)) (outcome : Result Unit Fault) (err err' : Output) (status : ℕ)
+unwritten_by : (coming old new : Option (List ℕ)) (outcome : Result Unit FileFault) (err err' : Output) (status : ℕ)
     → Plain coming old new outcome → Ends outcome err err' status → Unwritten old new status
 unwritten_by coming old new (Ok x) err err' status plain e = inl e.0
 unwritten_by coming old new (Err (faults.Text roles.File kind place)) err err' status plain e = inr (inr (inr plain.1))
@@ -26,7 +26,7 @@ unwritten_by coming old new (Err (faults.Device role written)) err err' status p
     (status_printed err err' (line_of (faults.Device role written)) 4 status e))))
 unwritten_by coming old new (Err faults.Memory) err err' status plain e = inr (inr (inr plain))
 
-output_failing : (outcome : Result Unit Fault) (err err' : Output) (status : ℕ) → is_output_fault outcome ≡ true
+output_failing : (outcome : Result Unit FileFault) (err err' : Output) (status : ℕ) → is_output_fault outcome ≡ true
     → Ends outcome err err' status → status ≡ 4
 output_failing (Ok x) err err' status is e = absurd (true≢false (sym is))
 output_failing (Err (faults.Text role kind place)) err err' status is e = absurd (true≢false (sym is))
@@ -34,7 +34,7 @@ output_failing (Err (faults.Device role written)) err err' status is e = four st
     (status_printed err err' (line_of (faults.Device role written)) 4 status e)
 output_failing (Err faults.Memory) err err' status is e = absurd (true≢false (sym is))
 
-file_failing : (outcome : Result Unit Fault) (err err' : Output) (status : ℕ) → FailsAs outcome true
+file_failing : (outcome : Result Unit FileFault) (err err' : Output) (status : ℕ) → FailsAs outcome true
     → Ends outcome err err' status → (status ≡ 4) ⊎ (status ≡ 5)
 file_failing (Ok x) err err' status is e = absurd (true≢false (sym is))
 file_failing (Err (faults.Text role kind place)) err err' status is e = absurd (true≢false (sym is))
@@ -47,7 +47,7 @@ file_failing (Err faults.Memory) err err' status is e =
     ]
 
 device_by : (words : List (List ℕ)) (files : List ℕ → Stored) (path : List ℕ) (out out' err err' : Output)
-    (outcome : Result Unit Fault) (status : ℕ) → AsksPlain words path
+    (outcome : Result Unit FileFault) (status : ℕ) → AsksPlain words path
     → Plain (files path).contents out.held out'.held outcome → IfSome (files path).fails (FailsAs outcome)
     → (out.has_failed ≡ false → out'.has_failed ≡ is_output_fault outcome) → Ends outcome err err' status
     → status ≡ 4 → IsDevices words files out out' err err'

@@ -1,12 +1,12 @@
 -- What a run of the command line comes to.
-use Rattle.std.specs.Prelude.{◌≡◌, ◌⊎◌, ℕ, List, Option, Some, Bool, true, false}
+use Rattle.std.specs.Prelude.{◌≡◌, ◌⊎◌, ℕ, List, [], ◌∷◌, Option, Some, Bool, true, false}
 use Rattle.command_line.specs.Commands.{AsksCheck, AsksNothing, AsksPlain, AsksShrink, AsksVerify}
 use Rattle.command_line.specs.AskedMerges.{text_of}
 use Rattle.command_line.specs.Requests.{CallFor}
 use Rattle.command_line.specs.declared.usage.Request.{Request}
 use Rattle.command_line.specs.declared.usage.Request.TheVariants as requests
 use Rattle.command_line.specs.declared.usage.Refusal.{Refusal}
-use Rattle.files.specs.Stores.{Stored}
+use Rattle.files.specs.Stores.{Access, Opens, Stored, to_read, to_write}
 use Rattle.commands.specs.Endings.{Output}
 use Rattle.commands.specs.Merges.{MakesSmaller, asked_choice}
 use Rattle.commands.specs.Runs.{Refuses, RunsCheck, RunsPlain}
@@ -101,3 +101,25 @@ abbrev pub AsksToWrite : List (List ℕ) → List ℕ → Type 0
 AsksToWrite words path = (schema : List ℕ) × (file : List ℕ) × (output : List ℕ) × (certificate : List ℕ)
     × (merge : Option (List ℕ)) × (strict : Bool) × AsksShrink words schema file output certificate merge strict
     × ((path ≡ output) ⊎ (path ≡ certificate))
+
+-- The words ask for what opens these files, in this order.
+pub data AskToOpen (words : List (List ℕ)) : List Access → Type 0 where
+  plain_opens : (path : List ℕ) → AsksPlain words path → AskToOpen words (to_read path ∷ [])
+  check_opens : (schema file : List ℕ) → AsksCheck words schema file
+      → AskToOpen words (to_read schema ∷ to_read file ∷ [])
+  shrink_opens : (schema file output certificate : List ℕ) (merge : Option (List ℕ)) (strict : Bool)
+      → AsksShrink words schema file output certificate merge strict
+      → AskToOpen words (to_read schema ∷ to_read file ∷ to_write output ∷ to_write certificate ∷ [])
+  verify_opens : (schema file output certificate : List ℕ) (merge : Option (List ℕ))
+      → AsksVerify words schema file output certificate merge
+      → AskToOpen words (to_read schema ∷ to_read file ∷ to_read output ∷ to_read certificate ∷ [])
+
+-- Memory ran out, or the error output failed at the line that says so.
+abbrev pub IsWantOfMemory : ℕ → Type 0
+IsWantOfMemory status = (status ≡ 5) ⊎ (status ≡ 4)
+
+-- The files that the words ask for were opened, each once, in the order of the words; or none, where they ask for none, or
+-- memory ran out before.
+abbrev pub OpensAsked : List (List ℕ) → Option (List Access) → Option (List Access) → ℕ → Type 0
+OpensAsked words old new status = ((files : List Access) × AskToOpen words files × Opens old new files)
+    ⊎ ((new ≡ old) × (AsksNothing words ⊎ IsWantOfMemory status))

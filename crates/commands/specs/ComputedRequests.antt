@@ -1,7 +1,11 @@
--- What the code computes; no promise stands here. What a request writes.
-use Rattle.std.specs.Prelude.{◌≡◌, ◌⊎◌, ℕ, List}
+-- What the code computes; no promise stands here. What a request opens and writes.
+use Rattle.std.specs.Prelude.{◌≡◌, ◌⊎◌, ℕ, List, [], ◌∷◌, Option}
+use Rattle.command_line.specs.declared.merging.ShrinkRequest.{ShrinkRequest}
+use Rattle.command_line.specs.declared.merging.VerifyRequest.{VerifyRequest}
 use Rattle.command_line.specs.declared.usage.Request.{Request}
-use Rattle.command_line.specs.declared.usage.Request.TheVariants.{Shrink}
+use Rattle.command_line.specs.declared.usage.Request.TheVariants.{Check, Plain, Shrink, Verify}
+use Rattle.files.specs.Stores.{Access, Opens, to_read, to_write}
+use Rattle.commands.specs.CommandLines.{IsWantOfMemory}
 
 -- its smaller file isn't its certificate
 abbrev pub IsApart : Request → Type 0
@@ -12,3 +16,22 @@ IsApart request = Unit {0}
 abbrev pub IsWritten : Request → List ℕ → Type 0
 IsWritten (Shrink asked) path = (path ≡ asked.output.now) ⊎ (path ≡ asked.certificate.now)
 IsWritten request path = ⊥
+
+-- the files that are opened for it, in turn
+abbrev pub smaller_opens : ShrinkRequest → List Access
+smaller_opens asked =
+    to_read asked.schema.now ∷ to_read asked.file.now ∷ to_write asked.output.now ∷ to_write asked.certificate.now ∷ []
+
+abbrev pub proof_opens : VerifyRequest → List Access
+proof_opens asked =
+    to_read asked.schema.now ∷ to_read asked.file.now ∷ to_read asked.output.now ∷ to_read asked.certificate.now ∷ []
+
+abbrev pub opened_by : Request → List Access
+opened_by (Plain path) = to_read path.now ∷ []
+opened_by (Check schema file) = to_read schema.now ∷ to_read file.now ∷ []
+opened_by (Shrink asked) = smaller_opens asked
+opened_by (Verify asked) = proof_opens asked
+
+-- these were opened, or none, where memory ran out before
+abbrev pub OpensUnlessMemory : Option (List Access) → Option (List Access) → List Access → ℕ → Type 0
+OpensUnlessMemory old new files status = Opens old new files ⊎ ((new ≡ old) × IsWantOfMemory status)

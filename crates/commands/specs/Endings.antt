@@ -5,7 +5,7 @@ use Rattle.devices.specs.Emits.{Emits}
 use Rattle.devices.specs.declared.device.WriteFault.{WriteFault}
 use Rattle.files.specs.Faults.{write_fault}
 use Rattle.files.specs.Lines.{line_of}
-use Rattle.files.specs.declared.fault.Fault.{Fault}
+use Rattle.files.specs.declared.fault.FileFault.{FileFault}
 use Rattle.files.specs.declared.fault.Role.TheVariants as roles
 use Rattle.commands.specs.Statuses.{fault_status}
 
@@ -30,7 +30,7 @@ pub record Prints (old new : Output) (text : List ℕ) (wanted status : ℕ) : T
       ((status ≡ wanted) × Appends old.held new.held text)
 
 -- How a run ends for what a command came to, by its error output: silently, or with the line of the fault.
-abbrev pub Ends : Result Unit Fault → Output → Output → ℕ → Type 0
+abbrev pub Ends : Result Unit FileFault → Output → Output → ℕ → Type 0
 Ends (Ok _) err err' status = (status ≡ 0) × (err' ≡ err)
 Ends (Err fault) err err' status = Prints err err' (line_of fault) (fault_status fault) status
 

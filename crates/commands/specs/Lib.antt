@@ -1,8 +1,10 @@
 pub mod Plain
 pub mod Statuses
 pub mod Endings
+pub mod Faults
 pub mod Runs
 pub mod Merges
 pub mod Verifies
 pub mod CommandLines
 pub mod ComputedRequests
+pub mod RunLaws

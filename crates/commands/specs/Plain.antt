@@ -9,8 +9,8 @@ use Rattle.step_structures.specs.Normal.{plain_text}
 use Rattle.step_structures.specs.Texts.{ReadsAs, IsFirstFault}
 use Rattle.step_structures.specs.Trees as trees
 use Rattle.files.specs.declared.fault.Role.TheVariants.{File, Output}
-use Rattle.files.specs.declared.fault.Fault.{Fault}
-use Rattle.files.specs.declared.fault.Fault.TheVariants.{Text, Device, Memory}
+use Rattle.files.specs.declared.fault.FileFault.{FileFault}
+use Rattle.files.specs.declared.fault.FileFault.TheVariants.{Text, Device, Memory}
 
 -- The bytes are at most 2^40 and read as some structure, and this is its normal text.
 pub record HasPlain (text bytes : List ℕ) : Type 0 where
@@ -28,7 +28,7 @@ HasFault kind place bytes = (2 ^ 40 < length bytes × (kind ≡ LeftOut TooLarge
 -- The answer to the bytes that were to come, where they are told (a slice tells them, a file doesn't), and to
 -- what the output held and holds, where that is told:
 -- the normal text went out, or nothing did, or a front of the text whose length is counted.
-abbrev pub Plain : Option (List ℕ) → Option (List ℕ) → Option (List ℕ) → Result Unit Fault → Type 0
+abbrev pub Plain : Option (List ℕ) → Option (List ℕ) → Option (List ℕ) → Result Unit FileFault → Type 0
 Plain coming old new (Ok _) = (text : List ℕ) × IfSome coming (HasPlain text) × Appends old new text
 Plain coming old new (Err (Text File kind place)) = IfSome coming (HasFault kind place) × Keeps old new
 Plain coming old new (Err (Text _ kind place)) = ⊥
@@ -38,16 +38,16 @@ Plain coming old new (Err (Device Output written)) = (text : List ℕ) × IfSome
 Plain coming old new (Err (Device _ written)) = ⊥
 Plain coming old new (Err Memory) = Keeps old new
 
-abbrev pub is_file_fault : Result Unit Fault → Bool
+abbrev pub is_file_fault : Result Unit FileFault → Bool
 is_file_fault (Err (Device File written)) = true
 is_file_fault _ = false
 
-abbrev pub is_output_fault : Result Unit Fault → Bool
+abbrev pub is_output_fault : Result Unit FileFault → Bool
 is_output_fault (Err (Device Output written)) = true
 is_output_fault _ = false
 
 -- Where each read fails (`true`) the answer is the file's fault, and where none does it isn't; but memory may run
 -- out first.
-abbrev pub FailsAs : Result Unit Fault → Bool → Type 0
+abbrev pub FailsAs : Result Unit FileFault → Bool → Type 0
 FailsAs (Err Memory) each = Unit {0}
 FailsAs result each = is_file_fault result ≡ each

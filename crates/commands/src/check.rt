@@ -1,35 +1,21 @@
 //! Whether a file conforms to a schema.
 
 ghost use Rattle.std.specs.Prelude.{◌≡◌, ◌⊎◌, false, true};
-ghost use Rattle.reports.specs.Lines.{report_text};
-ghost use Rattle.reports.specs.SchemaLines.{schema_line};
 ghost use Rattle.files.specs.Stores.{told_by};
-ghost use Rattle.commands.specs.Endings.{EndsAs, Prints, on_output, output};
-ghost use Rattle.commands.specs.Runs.{RunsCheck, check_line};
-ghost use Rattle.commands.specs.Statuses.{check_status, report_status, schema_status};
+ghost use Rattle.commands.specs.Endings.{output};
+ghost use Rattle.commands.specs.Runs.{RunsCheck};
+ghost use Rattle.commands.specs.Statuses.{report_status};
 
-use crate::ending::{BROKEN, DEVICE, DONE, MEMORY, TEXT, report};
+use crate::ending::{BROKEN, DONE};
+use crate::fault::{tell_fault, tell_report};
 use checking::check::check;
-use checking::fault::CheckFault;
 use devices::device::{Sink, Source};
-use express_syntax::fault::SchemaFault;
-use files::fault::{Fault, Role};
-use reports::print::print_report;
+use faults::fault::unread;
+use files::fault::{LIMIT, Role};
+use files::read::read_whole;
 use reports::report::Report;
-use reports::schema_fault::print_schema_fault;
 use std::alloc::Global;
 use std::hash::RandomState;
-
-// The status for a schema's fault.
-fn status_of_schema(fault: &SchemaFault) -> u8
-    ensures { result ≡ schema_status fault.now }
-{
-    match fault {
-        SchemaFault::Text { .. } => TEXT,
-        SchemaFault::Name { .. } => TEXT,
-        SchemaFault::Memory => MEMORY,
-    }
-}
 
 // The status for a report: whether the file breaks its schema.
 fn status_of_report(report: &Report<'_>) -> u8
@@ -39,43 +25,6 @@ fn status_of_report(report: &Report<'_>) -> u8
         DONE
     } else {
         BROKEN
-    }
-}
-
-/// Prints the line of a schema's fault, and answers its status, or the device's where the line can't
-/// be printed.
-pub fn report_schema<E: Sink>(fault: &SchemaFault, err: &mut E) -> u8
-    ensures { Prints (output E.held E.has_failed err.old) (output E.held E.has_failed err.new)
-        (schema_line fault.now) (schema_status fault.now) result }
-{
-    match print_schema_fault(err, fault) {
-        Ok(()) => status_of_schema(fault),
-        Err(_) => DEVICE,
-    }
-}
-
-// Prints the line of the fault for which a file isn't checked, and answers its status, or the
-// device's where the line can't be printed.
-fn report_fault<E: Sink>(fault: CheckFault, err: &mut E) -> u8
-    ensures { Prints (output E.held E.has_failed err.old) (output E.held E.has_failed err.new)
-        (check_line fault) (check_status fault) result }
-{
-    match fault {
-        CheckFault::Schema(fault) => report_schema(&fault, err),
-        CheckFault::Other(fault) => report(fault, err),
-    }
-}
-
-// Prints a report on `out`, and answers whether there are findings; or tells that the output
-// failed.
-fn print_findings<O: Sink, E: Sink>(findings: &Report<'_>, out: &mut O, err: &mut E) -> u8
-    ensures { EndsAs (on_output (report_text findings.now) (report_status findings.now))
-        (output O.held O.has_failed out.old) (output O.held O.has_failed out.new)
-        (output E.held E.has_failed err.old) (output E.held E.has_failed err.new) result }
-{
-    match print_report(out, findings) {
-        Ok(()) => status_of_report(findings),
-        Err(fault) => report(Fault::of_write(Role::Output, fault), err),
     }
 }
 
@@ -110,9 +59,12 @@ pub fn run_check<S: Source, F: Source, O: Sink, E: Sink>(
     ensures file_failed { F.has_failed file.old ≡ false → F.has_failed file.new ≡ true
         → result ≡ 4 }
 {
-    let mut text = Vec::new(alloc);
-    match check(alloc, keys, schema, &mut text, file) {
-        Ok(findings) => print_findings(&findings, out, err),
-        Err(fault) => report_fault(fault, err),
+    let text = match read_whole(alloc, schema, LIMIT) {
+        Ok(text) => text,
+        Err(fault) => return tell_fault(&unread(Role::Schema, fault), out, err),
+    };
+    match check(alloc, keys, &text, file) {
+        Ok(found) => tell_report(&found, status_of_report(&found), out, err),
+        Err(fault) => tell_fault(&fault, out, err),
     }
 }

@@ -1,37 +1,26 @@
 //! The command line, over any store of files and any outputs.
 
-ghost use Rattle.std.specs.Prelude.{
-  ◌≡◌,
-  ◌⊎◌,
-  ℕ,
-  List,
-  Option,
-  Bool,
-  IfOk,
-  Some,
-  false,
-  true,
-};
+ghost use Rattle.std.specs.Prelude.{◌≡◌, ◌⊎◌, ℕ, List, IfOk, false, true};
 ghost use Rattle.std.specs.Io.KnownBytes.{Keeps};
-ghost use Rattle.command_line.specs.Commands.{
-  AsksCheck,
-  AsksNothing,
-  AsksPlain,
-  AsksShrink,
-  AsksVerify,
-  texts,
-};
+ghost use Rattle.command_line.specs.Commands.{AsksNothing, texts};
 ghost use Rattle.command_line.specs.AskedMerges.{text_of};
 ghost use Rattle.files.specs.Lines.{line_of};
-ghost use Rattle.files.specs.Stores.{stored};
-ghost use Rattle.files.specs.declared.fault.Fault.TheVariants.{Device};
+ghost use Rattle.files.specs.Stores.{Opens, stored};
+ghost use Rattle.files.specs.declared.fault.FileFault.TheVariants.{Device};
 ghost use Rattle.files.specs.declared.fault.Role.TheVariants.{File};
 ghost use Rattle.pin_choices.specs.Chosen.{choice_of};
-ghost use Rattle.commands.specs.CommandLines.{AsksToWrite, Does, IsDevices, Runs};
-ghost use Rattle.commands.specs.ComputedRequests.{IsApart, IsWritten};
+ghost use Rattle.commands.specs.CommandLines.{AsksToWrite, Does, OpensAsked, Runs};
+ghost use Rattle.commands.specs.ComputedRequests.{
+  IsApart,
+  IsWritten,
+  OpensUnlessMemory,
+  opened_by,
+  proof_opens,
+  smaller_opens,
+};
 ghost use Rattle.commands.specs.Endings.{Prints, output};
 ghost use Rattle.commands.specs.Merges.{MakesSmaller, asked_choice};
-ghost use Rattle.commands.specs.Runs.{Refuses, RunsCheck, RunsPlain};
+ghost use Rattle.commands.specs.Runs.{Refuses};
 ghost use Rattle.commands.specs.Statuses.{IsStatus};
 ghost use Rattle.commands.specs.Verifies.{RunsVerify};
 
@@ -43,7 +32,7 @@ use crate::verify::run_verify;
 use command_line::merging::{ShrinkRequest, VerifyRequest, merged_names};
 use command_line::usage::{Refusal, Request, read_words};
 use devices::device::Sink;
-use files::fault::{Fault, Role};
+use files::fault::{FileFault, Role};
 use files::store::Store;
 use pin_choices::choice::{Choice, Names};
 use std::alloc::{AllocError, Global};
@@ -65,7 +54,7 @@ pub fn refuse<O: Sink, E: Sink>(refusal: Refusal, out: &mut O, err: &mut E) -> u
     match refusal {
         Refusal::Shown(text) => print(out, text.as_str(), DONE),
         Refusal::Usage(text) => print(err, text.as_str(), USAGE),
-        Refusal::Memory => finish(Err(Fault::Memory), err),
+        Refusal::Memory => finish(Err(FileFault::Memory), err),
     }
 }
 
@@ -76,7 +65,7 @@ pub fn refuse_to_read<E: Sink>(err: &mut E) -> u8
         (line_of (Device File 0)) 4 result }
 {
     report(
-        Fault::Device {
+        FileFault::Device {
             role: Role::File,
             written: 0,
         },
@@ -115,6 +104,7 @@ fn shrink_by<'p, S: Store<'p>, O: Sink, E: Sink>(
         (S.contents store.new asked.entry.certificate.now)
         (output O.held O.has_failed out.old) (output O.held O.has_failed out.new)
         (output E.held E.has_failed err.old) (output E.held E.has_failed err.new) result }
+    ensures opened { Opens (S.opened store.old) (S.opened store.new) (smaller_opens asked.entry) }
     ensures kept { (path : List ℕ) → (path ≡ asked.entry.output.now → ⊥)
         → (path ≡ asked.entry.certificate.now → ⊥)
         → S.contents store.new path ≡ S.contents store.old path }
@@ -157,13 +147,15 @@ fn shrink_asked<'p, S: Store<'p>, O: Sink, E: Sink>(
         (S.contents store.new asked.entry.certificate.now)
         (output O.held O.has_failed out.old) (output O.held O.has_failed out.new)
         (output E.held E.has_failed err.old) (output E.held E.has_failed err.new) result }
+    ensures opened { OpensUnlessMemory (S.opened store.old) (S.opened store.new)
+        (smaller_opens asked.entry) result }
     ensures kept { (path : List ℕ) → (path ≡ asked.entry.output.now → ⊥)
         → (path ≡ asked.entry.certificate.now → ⊥)
         → S.contents store.new path ≡ S.contents store.old path }
 {
     match chosen(alloc, asked.merge, asked.strict) {
         Ok(choice) => shrink_by(alloc, keys, asked, &choice, store, out, err),
-        Err(_) => report(Fault::Memory, err),
+        Err(_) => report(FileFault::Memory, err),
     }
 }
 
@@ -183,11 +175,13 @@ fn verify_asked<'p, S: Store<'p>, O: Sink, E: Sink>(
         (stored S.contents S.fails store.old asked.entry.certificate.now)
         (output O.held O.has_failed out.old) (output O.held O.has_failed out.new)
         (output E.held E.has_failed err.old) (output E.held E.has_failed err.new) result }
+    ensures opened { OpensUnlessMemory (S.opened store.old) (S.opened store.new)
+        (proof_opens asked.entry) result }
     ensures kept { (path : List ℕ) → S.contents store.new path ≡ S.contents store.old path }
 {
     let choice = match chosen(alloc, asked.merge, false) {
         Ok(choice) => choice,
-        Err(_) => return report(Fault::Memory, err),
+        Err(_) => return report(FileFault::Memory, err),
     };
     let mut schema = store.reader(asked.schema);
     let mut file = store.reader(asked.file);
@@ -219,6 +213,8 @@ fn run<'p, S: Store<'p>, O: Sink, E: Sink>(
     ensures does { Does S.Writer.held request.entry (stored S.contents S.fails store.old) (S.contents store.new)
         (output O.held O.has_failed out.old) (output O.held O.has_failed out.new)
         (output E.held E.has_failed err.old) (output E.held E.has_failed err.new) result }
+    ensures opened { OpensUnlessMemory (S.opened store.old) (S.opened store.new)
+        (opened_by request.entry) result }
     // No other file changes.
     ensures kept { (path : List ℕ) → (IsWritten request.entry path → ⊥)
         → S.contents store.new path ≡ S.contents store.old path }
@@ -260,63 +256,13 @@ pub fn run_command<'p, S: Store<'p>, O: Sink, E: Sink>(
     ensures runs { Runs S.Writer.held (texts words.now) (stored S.contents S.fails store.old) (S.contents store.new)
         (output O.held O.has_failed out.old) (output O.held O.has_failed out.new)
         (output E.held E.has_failed err.old) (output E.held E.has_failed err.new) result }
-    // Where the words ask for the normal text of a file, that is done with what the file holds.
-    ensures plain { (path : List ℕ) → AsksPlain (texts words.now) path
-        → RunsPlain (stored S.contents S.fails store.old path)
-        (output O.held O.has_failed out.old) (output O.held O.has_failed out.new)
-        (output E.held E.has_failed err.old) (output E.held E.has_failed err.new) result }
-    // Where they ask for a check, the file is checked against the schema, by what both hold.
-    ensures check { (schema : List ℕ) → (file : List ℕ)
-        → AsksCheck (texts words.now) schema file
-        → RunsCheck (stored S.contents S.fails store.old schema)
-        (stored S.contents S.fails store.old file)
-        (output O.held O.has_failed out.old) (output O.held O.has_failed out.new)
-        (output E.held E.has_failed err.old) (output E.held E.has_failed err.new) result }
-    // Where they ask for a smaller file and its certificate, these are made of what the schema and
-    // the file hold before, and both paths hold what was written, or what they held.
-    ensures shrink { (schema : List ℕ) → (file : List ℕ) → (smaller : List ℕ)
-        → (certificate : List ℕ) → (merge : Option (List ℕ)) → (strict : Bool)
-        → AsksShrink (texts words.now) schema file smaller certificate merge strict
-        → MakesSmaller S.Writer.held (asked_choice merge) strict (stored S.contents S.fails store.old schema)
-        (stored S.contents S.fails store.old file)
-        (S.contents store.old smaller) (S.contents store.new smaller)
-        (S.contents store.old certificate) (S.contents store.new certificate)
-        (output O.held O.has_failed out.old) (output O.held O.has_failed out.new)
-        (output E.held E.has_failed err.old) (output E.held E.has_failed err.new) result }
-    // Where they ask whether an output is proved, that is verified by what the four files hold.
-    ensures verify { (schema : List ℕ) → (file : List ℕ) → (smaller : List ℕ)
-        → (certificate : List ℕ) → (merge : Option (List ℕ))
-        → AsksVerify (texts words.now) schema file smaller certificate merge
-        → RunsVerify (asked_choice merge) (stored S.contents S.fails store.old schema)
-        (stored S.contents S.fails store.old file) (stored S.contents S.fails store.old smaller)
-        (stored S.contents S.fails store.old certificate)
-        (output O.held O.has_failed out.old) (output O.held O.has_failed out.new)
-        (output E.held E.has_failed err.old) (output E.held E.has_failed err.new) result }
     // No other file changes than those that a smaller one is asked for by.
     ensures kept { (path : List ℕ) → (AsksToWrite (texts words.now) path → ⊥)
         → S.contents store.new path ≡ S.contents store.old path }
-    // No file is opened where they ask for none.
+    // Just the files are opened that the words ask for, each once; nothing is done to the store where
+    // they ask for none.
+    ensures opened { OpensAsked (texts words.now) (S.opened store.old) (S.opened store.new) result }
     ensures unopened { AsksNothing (texts words.now) → store.new ≡ store.old }
-    ensures status { IsStatus result }
-    // Nothing goes out but where all is done, and where a device fails.
-    ensures unwritten { (result ≡ 0) ⊎ (result ≡ 1) ⊎ (result ≡ 4)
-        ⊎ Keeps (O.held out.old) (O.held out.new) }
-    // A device's status comes where one failed, or where a file that is asked for can fail.
-    ensures device { result ≡ 4 → IsDevices (texts words.now) (stored S.contents S.fails store.old)
-        (output O.held O.has_failed out.old) (output O.held O.has_failed out.new)
-        (output E.held E.has_failed err.old) (output E.held E.has_failed err.new) }
-    // Where each read of the file fails or an output does, the status says so; or memory ran out.
-    ensures file_failed { (path : List ℕ) → AsksPlain (texts words.now) path
-        → S.fails store.old path ≡ Some true → (result ≡ 4) ⊎ (result ≡ 5) }
-    ensures schema_failed { (schema : List ℕ) → (file : List ℕ)
-        → AsksCheck (texts words.now) schema file
-        → S.fails store.old schema ≡ Some true → (result ≡ 4) ⊎ (result ≡ 5) }
-    // The file of a check isn't read where the text or a name of the schema is at fault.
-    ensures checked_failed { (schema : List ℕ) → (file : List ℕ)
-        → AsksCheck (texts words.now) schema file
-        → S.fails store.old file ≡ Some true → (result ≡ 2) ⊎ (result ≡ 4) ⊎ (result ≡ 5) }
-    ensures out_failed { O.has_failed out.old ≡ false → O.has_failed out.new ≡ true → result ≡ 4 }
-    ensures err_failed { E.has_failed err.old ≡ false → E.has_failed err.new ≡ true → result ≡ 4 }
 {
     match read_words(alloc, words) {
         Ok(request) => run(alloc, keys, request, store, out, err),

@@ -7,7 +7,7 @@ ghost use Rattle.commands.specs.Endings.{AppendsFront, Ends, Prints, output};
 ghost use Rattle.commands.specs.Statuses.{fault_status};
 
 use devices::device::{Failed, Sink};
-use files::fault::{Fault, print_line};
+use files::fault::{FileFault, print_line};
 
 /// The status where all is done.
 pub const DONE: u8 = 0;
@@ -30,14 +30,14 @@ pub const MEMORY: u8 = 5;
 /// The status where a certificate is refused.
 pub const REFUSED: u8 = 6;
 
-/// The exit status for a fault.
-pub fn status_of(fault: &Fault) -> u8
+/// The exit status for the fault of a file.
+pub fn status_of(fault: &FileFault) -> u8
     ensures { result ≡ fault_status fault.now }
 {
     match fault {
-        Fault::Text { .. } => TEXT,
-        Fault::Device { .. } => DEVICE,
-        Fault::Memory => MEMORY,
+        FileFault::Text { .. } => TEXT,
+        FileFault::Device { .. } => DEVICE,
+        FileFault::Memory => MEMORY,
     }
 }
 
@@ -69,9 +69,9 @@ pub fn print<S: Sink>(out: &mut S, text: &str, status: u8) -> u8
     }
 }
 
-/// Prints the line of the fault, and answers its status, or the device's where the line can't be
+/// Prints the line of a file's fault, and answers its status, or the device's where the line can't be
 /// printed.
-pub fn report<E: Sink>(fault: Fault, err: &mut E) -> u8
+pub fn report<E: Sink>(fault: FileFault, err: &mut E) -> u8
     ensures { Prints (output E.held E.has_failed err.old) (output E.held E.has_failed err.new)
         (line_of fault) (fault_status fault) result }
 {
@@ -82,7 +82,7 @@ pub fn report<E: Sink>(fault: Fault, err: &mut E) -> u8
 }
 
 /// Ends a run for what a command came to, and answers the status.
-pub fn finish<E: Sink>(outcome: Result<(), Fault>, err: &mut E) -> u8
+pub fn finish<E: Sink>(outcome: Result<(), FileFault>, err: &mut E) -> u8
     ensures ends { Ends outcome
         (output E.held E.has_failed err.old) (output E.held E.has_failed err.new) result }
     ensures silent { OnOk outcome (err.new ≡ err.old) }

@@ -4,6 +4,8 @@
 pub mod check;
 pub mod command;
 pub mod ending;
+pub mod fault;
+pub mod laws;
 pub mod plain;
 pub mod shrink;
 pub mod verify;

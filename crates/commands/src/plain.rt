@@ -4,7 +4,7 @@ ghost use Rattle.std.specs.Prelude.{◌≡◌, false, IfSome};
 ghost use Rattle.commands.specs.Plain.{FailsAs, Plain, is_file_fault, is_output_fault};
 
 use devices::device::{Sink, Source};
-use files::fault::{Fault, LIMIT, Role};
+use files::fault::{FileFault, LIMIT, Role};
 use files::read::read_whole;
 use std::alloc::Global;
 use std::hash::RandomState;
@@ -22,7 +22,7 @@ pub fn plain<S: Source, O: Sink>(
     keys: RandomState,
     source: &mut S,
     out: &mut O,
-) -> Result<(), Fault>
+) -> Result<(), FileFault>
     // What went out is the normal text, or nothing, or a front of it.
     ensures plain { Plain (S.to_come source.old) (O.held out.old) (O.held out.new) result }
     // The fault is the file's exactly where the source failed, and the output's where that did.
@@ -35,14 +35,14 @@ pub fn plain<S: Source, O: Sink>(
 {
     let bytes = match read_whole(alloc, source, LIMIT) {
         Ok(bytes) => bytes,
-        Err(fault) => return Err(Fault::of_read(Role::File, fault)),
+        Err(fault) => return Err(FileFault::of_read(Role::File, fault)),
     };
     let exchange = match read_exchange(alloc, keys, &bytes) {
         Ok(exchange) => exchange,
-        Err(fault) => return Err(Fault::of_text(Role::File, fault)),
+        Err(fault) => return Err(FileFault::of_text(Role::File, fault)),
     };
     match write_plain(&exchange, out) {
         Ok(()) => Ok(()),
-        Err(fault) => Err(Fault::of_write(Role::Output, fault)),
+        Err(fault) => Err(FileFault::of_write(Role::Output, fault)),
     }
 }

@@ -1,23 +1,20 @@
 //! A smaller file, in which value-equal instances are one, and its certificate.
 
-ghost use Rattle.std.specs.Prelude.{◌≡◌, ◌⊎◌, false, flat_map, length, true};
+ghost use Rattle.std.specs.Prelude.{◌≡◌, ◌⊎◌, false, true};
 ghost use Rattle.pin_choices.specs.Chosen.{choice_of};
-ghost use Rattle.reports.specs.Lines.{report_text, unchecked_line};
-ghost use Rattle.reports.specs.MergeLines.{merge_text, strict_line};
+ghost use Rattle.reports.specs.MergeLines.{merge_text};
 ghost use Rattle.files.specs.Stores.{told_by};
-ghost use Rattle.commands.specs.Endings.{EndsAs, Prints, on_both, on_output, output};
-ghost use Rattle.commands.specs.Merges.{RunsShrink, shrink_fault_ending};
+ghost use Rattle.commands.specs.Endings.{EndsAs, on_output, output};
+ghost use Rattle.commands.specs.Merges.{RunsShrink};
 
-use crate::check::report_schema;
-use crate::ending::{BROKEN, DEVICE, DONE, report};
+use crate::ending::{DONE, report};
+use crate::fault::tell_fault;
 use devices::device::{Sink, Source};
-use files::fault::{Fault, Role};
+use faults::fault::unread;
+use files::fault::{FileFault, LIMIT, Role};
+use files::read::read_whole;
 use pin_choices::choice::Choice;
-use reports::merge::{print_merge, print_strict, print_unchecked_parts};
-use reports::print::print_report;
-use reports::report::Report;
-use schema_parts::list::Unchecked;
-use shrinking::fault::ShrinkFault;
+use reports::merge::print_merge;
 use shrinking::shrink::shrink;
 use shrinking::summary::Summary;
 use std::alloc::Global;
@@ -31,72 +28,7 @@ fn tell_merge<O: Sink, E: Sink>(summary: &Summary<'_>, out: &mut O, err: &mut E)
 {
     match print_merge(out, &summary.report, summary.kept, summary.rounds) {
         Ok(()) => DONE,
-        Err(fault) => report(Fault::of_write(Role::Output, fault), err),
-    }
-}
-
-// Prints the report of a file that breaks its schema, on `out`; or tells that the output failed.
-fn tell_findings<O: Sink, E: Sink>(findings: &Report<'_>, out: &mut O, err: &mut E) -> u8
-    ensures { EndsAs (on_output (report_text findings.now) 1)
-        (output O.held O.has_failed out.old) (output O.held O.has_failed out.new)
-        (output E.held E.has_failed err.old) (output E.held E.has_failed err.new) result }
-{
-    match print_report(out, findings) {
-        Ok(()) => BROKEN,
-        Err(fault) => report(Fault::of_write(Role::Output, fault), err),
-    }
-}
-
-// Prints that so many parts of a schema aren't checked.
-fn refuse_parts<E: Sink>(count: u64, err: &mut E) -> u8
-    ensures { Prints (output E.held E.has_failed err.old) (output E.held E.has_failed err.new)
-        (strict_line count) 1 result }
-{
-    match print_strict(err, count) {
-        Ok(()) => BROKEN,
-        Err(_) => DEVICE,
-    }
-}
-
-// Prints the parts of a schema that a strict choice refuses, on `out`, and then on `err` how many
-// there are; or tells that the output failed.
-fn tell_parts<O: Sink, E: Sink>(parts: &Vec<Unchecked>, out: &mut O, err: &mut E) -> u8
-    ensures { EndsAs (on_both (flat_map unchecked_line parts.now.items) (strict_line (length parts.now.items)) 1)
-        (output O.held O.has_failed out.old) (output O.held O.has_failed out.new)
-        (output E.held E.has_failed err.old) (output E.held E.has_failed err.new) result }
-{
-    match print_unchecked_parts(out, parts) {
-        Ok(()) => refuse_parts(parts.len() as u64, err),
-        Err(fault) => report(Fault::of_write(Role::Output, fault), err),
-    }
-}
-
-// Tells why a file isn't merged.
-fn tell_fault<O: Sink, E: Sink>(fault: &ShrinkFault<'_>, out: &mut O, err: &mut E) -> u8
-    ensures { EndsAs (shrink_fault_ending fault.now)
-        (output O.held O.has_failed out.old) (output O.held O.has_failed out.new)
-        (output E.held E.has_failed err.old) (output E.held E.has_failed err.new) result }
-{
-    match fault {
-        ShrinkFault::Schema(fault) => report_schema(fault, err),
-        ShrinkFault::Unchecked(parts) => tell_parts(parts, out, err),
-        ShrinkFault::Text { kind, place } => report(
-            Fault::Text {
-                role: Role::File,
-                kind: *kind,
-                place: *place,
-            },
-            err,
-        ),
-        ShrinkFault::Findings(findings) => tell_findings(findings, out, err),
-        ShrinkFault::Device { role, written } => report(
-            Fault::Device {
-                role: *role,
-                written: *written,
-            },
-            err,
-        ),
-        ShrinkFault::Memory => report(Fault::Memory, err),
+        Err(fault) => report(FileFault::of_write(Role::Output, fault), err),
     }
 }
 
@@ -145,17 +77,11 @@ pub fn run_shrink<S: Source, F: Source, W: Sink, C: Sink, O: Sink, E: Sink>(
     ensures certificate_failed { C.has_failed certificate.old ≡ false
         → C.has_failed certificate.new ≡ true → result ≡ 4 }
 {
-    let mut text = Vec::new(alloc);
-    match shrink(
-        alloc,
-        keys,
-        schema,
-        &mut text,
-        choice,
-        file,
-        smaller,
-        certificate,
-    ) {
+    let text = match read_whole(alloc, schema, LIMIT) {
+        Ok(text) => text,
+        Err(fault) => return tell_fault(&unread(Role::Schema, fault), out, err),
+    };
+    match shrink(alloc, keys, &text, choice, file, smaller, certificate) {
         Ok(summary) => tell_merge(&summary, out, err),
         Err(fault) => tell_fault(&fault, out, err),
     }

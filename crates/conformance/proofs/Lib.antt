@@ -2,6 +2,7 @@ mod SmallSchemas
 mod Samples
 mod Examples
 mod Carrying
+mod WholeNumbers
 mod Linking
 mod Returning
 mod ValueForms

@@ -4,7 +4,7 @@ use Rattle.std.specs.Prelude.{◌==◌, ◌&&◌, ◌||◌, not, bytes_eq}
 use Rattle.std.specs.List.{list_any}
 use Rattle.std.proofs.lemmas.Bool.{and_parts}
 use Rattle.step_literals.specs.Bits.{bits_of}
-use Rattle.step_literals.specs.Decimals.{units}
+use Rattle.step_literals.specs.Decimals.{units, mantissa}
 use Rattle.step_literals.specs.Items.{string_items}
 use Rattle.step_literals.specs.Words.{upper}
 use Rattle.step_lexis.specs.declared.token.Mark.TheVariants.{Dollar, Asterisk}
@@ -21,9 +21,11 @@ use Rattle.schema_semantics.specs.Names.{Name}
 use Rattle.conformance.specs.declared.finding.FindingKind.{FindingKind}
 use Rattle.conformance.specs.declared.finding.FindingKind.TheVariants.{OutOfBounds, NotDistinct, UnknownElement, WrongEntity, NoSelectItem}
 use Rattle.conformance.specs.Bases.{Base, integer, number, boolean, logical, string, binary, enumeration, entity, select, aggregate, Domain, base}
-use Rattle.conformance.specs.Fitting.{Target, absent, unknown, of_types, or_else, needs, in_bounds, has_no_order, is_set, set_ones, differs_from, all_differ, are_distinct, count, is_dollar, is_truth, among, misfit_target, misfit_reference, misfit_number, misfit_string, misfit_binary, misfit_element, misfit_word, misfit_inner, misfit_group, misfit, misfit_each, other_kind, inner, or_this, gathered, element, value_as, values_as, word_value}
+use Rattle.conformance.specs.Fitting.{Target, absent, unknown, of_types, or_else, needs, in_bounds, has_no_order, is_set, set_ones, differs_from, all_differ, are_distinct, count, is_dollar, is_truth, is_integer, among, misfit_target, misfit_reference, misfit_number, misfit_string, misfit_binary, misfit_element, misfit_word, misfit_inner, misfit_group, misfit, misfit_each, other_kind, inner, or_this, gathered, element, value_as, values_as, word_value}
 use Rattle.conformance.specs.Fits.{LeafFits, Takes, DiffersFrom, AllDiffer, IsLeftOut, Gathers, Typing, Fits, FitEach}
 use Rattle.conformance.proofs.Carrying.{set_same, same_sym}
+use Rattle.conformance.proofs.WholeNumbers.{whole_worth}
+use Rattle.conformance.specs.declared.finding.FindingKind.TheVariants.{WrongKind}
 
 pub needed : (b : Bool) (f : FindingKind) → needs b f ≡ None → b ≡ true
 needed true f e = refl
@@ -41,7 +43,7 @@ pub no_kind : (f : FindingKind) → Some f ≡ None → ⊥
 no_kind f e = cc
 
 number_fits : (b : Base) (t : List ℕ) → misfit_number b t ≡ None → LeafFits b (leaves.number (units t))
-number_fits integer t e = tt
+number_fits integer t e = (mantissa t, whole_worth t (needed (is_integer t) WrongKind e))
 number_fits number t e = tt
 number_fits b t e = absurd (no_kind (other_kind b) e)
 

@@ -1,6 +1,7 @@
 -- When a value of a population fits a data type, however it is spelt (ISO 10303-11, 8; ISO 10303-21, 11).
-use Rattle.std.specs.Prelude.{◌≡◌, ⊤, ℕ, ◌==◌, Bool, true, false, List, length, Option, Some, None, ◌⊎◌, bytes_eq}
+use Rattle.std.specs.Prelude.{◌≡◌, ⊤, ℕ, ℤ, ◌==◌, Bool, true, false, List, length, Option, Some, None, ◌⊎◌, bytes_eq}
 use Rattle.std.specs.List.{list_any}
+use Rattle.step_literals.specs.Decimals.{IsWhole}
 use Rattle.step_values.specs.Leaves.{Leaf, unset, text, bits, element}
 use Rattle.step_values.specs.Leaves as leaves
 use Rattle.step_values.specs.Values.{Value, leaf, reference, typed, sequence, bag, Values, none, more, Agree}
@@ -10,9 +11,9 @@ use Rattle.schema_semantics.specs.Names.{Name}
 use Rattle.conformance.specs.Bases.{Aggregate, Base, integer, number, boolean, logical, string, binary, enumeration, entity, select, aggregate, Domain, base}
 use Rattle.conformance.specs.Fitting.{among, misfit_width, is_truth, in_bounds, has_no_order, is_set, inner}
 
--- A value with no parts. Nothing is asked here of a number of an INTEGER: that it has no point is said of its spelling.
+-- A value with no parts. A number of an INTEGER is worth a whole one; that it has no point is said of its spelling.
 abbrev pub LeafFits : Base → Leaf → Type 0
-LeafFits integer (leaves.number z) = ⊤
+LeafFits integer (leaves.number z) = (n : ℤ) × IsWhole z n
 LeafFits number (leaves.number z) = ⊤
 LeafFits boolean (element n) = is_truth false n ≡ true
 LeafFits logical (element n) = is_truth true n ≡ true

@@ -4,6 +4,7 @@ use Rattle.std.specs.List.{list_any}
 use Rattle.std.specs.Ordering.{int_eq}
 use Rattle.step_literals.specs.Bits.{bits_of}
 use Rattle.step_literals.specs.Decimals.{units}
+use Rattle.step_literals.specs.Tokens.{is_e}
 use Rattle.step_literals.specs.Items.{string_items}
 use Rattle.step_literals.specs.Words.{upper}
 use Rattle.step_lexis.specs.declared.token.Mark.TheVariants.{Dollar, Asterisk}
@@ -46,9 +47,9 @@ or_else (Some f) b = Some f
 abbrev pub needs : Bool → FindingKind → Option FindingKind
 needs b f = cond b None (Some f)
 
--- a number is spelt as an integer: without a point (ISO 10303-21, 6.4.1)
+-- a number is spelt as an integer: without a point and without an exponent (ISO 10303-21, 6.4.1)
 abbrev pub is_integer : List ℕ → Bool
-is_integer text = not (list_any (λ b. b == 46) text)
+is_integer text = not (list_any (λ b. b == 46 || is_e b) text)
 
 -- so many characters or bits are as many as the width says
 abbrev pub has_width : Limit → ℕ → Bool
@@ -104,7 +105,8 @@ abbrev pub count : Trees → ℕ
 count trees.none = 0
 count (trees.one x xs) = suc (count xs)
 
--- no two of the values agree, instances told by name, unset ones passed over
+-- no two of the values agree, instances told by name, unset ones passed over: `same_test` passes exactly where two agree
+-- (`tests_decide_agreement` of `step_values`)
 abbrev pub differs_from : Value → Values → Bool
 differs_from v none = true
 differs_from v (more w ws) = not (same_test v w) && differs_from v ws

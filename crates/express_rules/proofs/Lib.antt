@@ -4,3 +4,5 @@ pub mod Telling
 pub mod Counted
 mod Ruleless
 mod Stating
+mod Tried
+mod Worded

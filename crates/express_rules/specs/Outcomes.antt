@@ -1,7 +1,8 @@
--- What a rule of the program's list says at an instance.
+-- What expressions mean, and what a rule of the program's list says at an instance.
 use Rattle.std.specs.Prelude.{map}
 use Rattle.express_syntax.specs.declared.expression.Logical.{Logical}
 use Rattle.express_syntax.specs.ExpressionViews.{tree_of}
+use Rattle.express_syntax.specs.Trees.{Tree}
 use Rattle.conformance.specs.Populations.{Instance}
 use Rattle.express_logic.specs.Data.{Datum}
 use Rattle.conformance.specs.Operations.{says}
@@ -13,10 +14,13 @@ use Rattle.schema_conditions.specs.Seen.{holder_seen, rule_seen}
 use Rattle.rule_settings.specs.declared.setting.Setting.{Setting}
 use Rattle.rule_settings.specs.Settings.{Meant, schema_in, population_in}
 
--- of a value of SELF
+-- what an expression means at a value of SELF
+abbrev pub meaning_in : (S : Setting) → Meant S → Datum → Tree → Datum
+meaning_in S m me x = meaning (schema_in S) m.domain m.entities m.attributes (population_in S) me x
+
+-- what a rule says of one
 abbrev pub said_of : (S : Setting) → Meant S → DomainRule → Datum → Logical
-said_of S m r me =
-    says (meaning (schema_in S) m.domain m.entities m.attributes (population_in S) me (tree_of r.condition.now))
+said_of S m r me = says (meaning_in S m me (tree_of r.condition.now))
 
 -- .. of those of this holder at an instance, the least
 abbrev pub said_by : (S : Setting) → Meant S → Instance → DomainRule → RuleHolder → Logical

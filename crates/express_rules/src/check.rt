@@ -22,10 +22,10 @@ ghost use Rattle.express_rules.specs.Counting.{
   Has,
 };
 
-use crate::outcome::{Asked, outcome};
+use crate::evaluator::Evaluator;
+use crate::outcome::outcome;
 use crate::report::{RuleReport, empty_report};
 use express_logic::logical::Logical;
-use rule_plans::limit::rank_limit;
 use rule_plans::plan::{Plan, plan_of, types_at};
 use rule_settings::setting::Setting;
 use schema_conditions::rule::{DomainRule, RuleHolder};
@@ -89,28 +89,36 @@ struct Tried<'n> {
 /// Adds what rules say at an instance.
 fn add_instance<'p, 'e, 'r, 't, 's: 'r, 'a>(
     alloc: Global,
-    asked: &Asked<'s, 't, 'r, 'a, 'e, 'p>,
+    evaluator: &Evaluator<'s, 't, 'r, 'a, 'e, 'p>,
     report: &mut RuleReport<'s>,
     plan: &Plan<'s, 't, '_>,
     tried: &Tried<'_>,
 ) -> Result<(), AllocError>
-    requires setting { IsSetting asked.now.setting.now }
-    requires limit { IsLimit asked.now.setting.now.formulas.now asked.now.limit }
-    requires plan { IsPlan asked.now.setting.now plan.now }
-    requires row { tried.now.row < length (population_in asked.now.setting.now) }
+    requires setting { IsSetting evaluator.now.setting.now }
+    requires limit { IsLimit evaluator.now.setting.now.formulas.now evaluator.now.limit }
+    requires plan { IsPlan evaluator.now.setting.now plan.now }
+    requires row { tried.now.row < length (population_in evaluator.now.setting.now) }
     requires within { Every (λ n. n < length plan.now.rules.now) tried.now.numbers.now }
-    ensures { OnOk result ((m : Meant asked.now.setting.now) → (x : Instance)
-        → slice_get (population_in asked.now.setting.now) tried.now.row ≡ Some x
+    ensures { OnOk result ((m : Meant evaluator.now.setting.now) → (x : Instance)
+        → slice_get (population_in evaluator.now.setting.now) tried.now.row ≡ Some x
         → tried.now.name ≡ x.name
-        → TellAll asked.now.setting.now m x tried.now.types.now plan.now.rules.now
-        → Counts (broken_at asked.now.setting.now m x plan.now.rules.now tried.now.numbers.now)
-        (length (open_at asked.now.setting.now m x plan.now.rules.now tried.now.numbers.now))
+        → TellAll evaluator.now.setting.now m x tried.now.types.now plan.now.rules.now
+        → Counts (broken_at evaluator.now.setting.now m x plan.now.rules.now tried.now.numbers.now)
+        (length (open_at evaluator.now.setting.now m x plan.now.rules.now tried.now.numbers.now))
         report.old report.new) }
 {
     for number in tried.numbers {
         let rule = &plan.rules[*number];
-        let outcome = outcome(alloc, asked, tried.row, tried.name, rule, plan, tried.types)?;
-        add_outcome(asked.setting, report, tried.name, rule, outcome)?;
+        let outcome = outcome(
+            alloc,
+            evaluator,
+            tried.row,
+            tried.name,
+            rule,
+            plan,
+            tried.types,
+        )?;
+        add_outcome(evaluator.setting, report, tried.name, rule, outcome)?;
     }
     Ok(())
 }
@@ -118,19 +126,19 @@ fn add_instance<'p, 'e, 'r, 't, 's: 'r, 'a>(
 /// What rules say at all instances.
 fn planned_report<'p, 'e, 'r, 't, 's: 'r, 'a>(
     alloc: Global,
-    asked: &Asked<'s, 't, 'r, 'a, 'e, 'p>,
+    evaluator: &Evaluator<'s, 't, 'r, 'a, 'e, 'p>,
     plan: &Plan<'s, 't, '_>,
 ) -> Result<RuleReport<'s>, AllocError>
-    requires setting { IsSetting asked.now.setting.now }
-    requires limit { IsLimit asked.now.setting.now.formulas.now asked.now.limit }
-    requires plan { IsPlan asked.now.setting.now plan.now }
-    ensures { IfOk result (λ r. (m : Meant asked.now.setting.now) → Has
-        (flat_map (broken_in asked.now.setting.now m plan.now.rules.now)
-        (population_in asked.now.setting.now))
-        (length (flat_map (open_in asked.now.setting.now m plan.now.rules.now)
-        (population_in asked.now.setting.now))) r) }
+    requires setting { IsSetting evaluator.now.setting.now }
+    requires limit { IsLimit evaluator.now.setting.now.formulas.now evaluator.now.limit }
+    requires plan { IsPlan evaluator.now.setting.now plan.now }
+    ensures { IfOk result (λ r. (m : Meant evaluator.now.setting.now) → Has
+        (flat_map (broken_in evaluator.now.setting.now m plan.now.rules.now)
+        (population_in evaluator.now.setting.now))
+        (length (flat_map (open_in evaluator.now.setting.now m plan.now.rules.now)
+        (population_in evaluator.now.setting.now))) r) }
 {
-    let population = asked.setting.extents.population;
+    let population = evaluator.setting.extents.population;
     let mut report = RuleReport {
         findings: Vec::new(alloc),
         unknown: 0,
@@ -138,14 +146,14 @@ fn planned_report<'p, 'e, 'r, 't, 's: 'r, 'a>(
     for row in 0..population.len() {
         let instance = population.instance(row);
         let numbers = row_at(&plan.rows, instance.form);
-        let types = types_at(alloc, asked.setting, plan, row)?;
+        let types = types_at(alloc, evaluator.setting, plan, row)?;
         let tried = Tried {
             row,
             name: instance.name,
             numbers,
             types: &types,
         };
-        add_instance(alloc, asked, &mut report, plan, &tried)?;
+        add_instance(alloc, evaluator, &mut report, plan, &tried)?;
     }
     Ok(report)
 }
@@ -174,9 +182,8 @@ pub fn check_rules<'p, 'e, 'r, 't, 's: 'r, 'a>(
     if rules.is_empty() {
         return Ok(empty_report(alloc));
     }
-    let limit = rank_limit(setting.formulas);
-    let asked = Asked { setting, limit };
+    let evaluator = Evaluator::of(setting);
     let plan = plan_of(alloc, setting, rules)?;
-    let report = planned_report(alloc, &asked, &plan)?;
+    let report = planned_report(alloc, &evaluator, &plan)?;
     Ok(report)
 }

@@ -9,6 +9,7 @@ ghost use Rattle.schema_rules.specs.Ruled.{AreRuleTables};
 
 use schema_places::places::AttributePlaces;
 use schema_references::known::Known;
+use schema_rules::ordered::ordered_places;
 use schema_rules::sources::Sources;
 use schema_rules::tables::{RuleTables, rule_tables};
 use std::alloc::{AllocError, Global};
@@ -28,6 +29,7 @@ pub(crate) fn rules_by<'r, 't, 'a>(
         (graph_of explicit.now.own.items) }
     ensures { IfOk result (AreRuleTables (schema_in known.now)) }
 {
+    let ordered = ordered_places(alloc, &explicit.attributes)?;
     rule_tables(
         alloc,
         &Sources {
@@ -35,6 +37,7 @@ pub(crate) fn rules_by<'r, 't, 'a>(
             lines,
             places: &explicit.attributes,
             own: &explicit.own,
+            ordered: &ordered,
         },
     )
 }

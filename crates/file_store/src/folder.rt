@@ -5,7 +5,7 @@ use crate::opening::Opening;
 use crate::paths::{PathMaker, PathOpener, remove, take_place};
 use devices::counted::Counted;
 use devices::device::WriteFault;
-use files::fault::{Fault, Role};
+use files::fault::{FileFault, Role};
 use files::store::Store;
 use std::alloc::Global;
 use std::rt::Files;
@@ -22,13 +22,16 @@ pub struct Folder<'p, R: Files> {
 }
 
 /// Puts a file in its place, where one was taken back. A fault is told by its role.
-fn replace<R: Files>(making: Option<Making<PathMaker<'_, R>>>, role: Role) -> Result<(), Fault> {
+fn replace<R: Files>(
+    making: Option<Making<PathMaker<'_, R>>>,
+    role: Role,
+) -> Result<(), FileFault> {
     let Some(making) = making else {
         return Ok(());
     };
     match take_place(making) {
         Ok(()) => Ok(()),
-        Err(fault) => Err(Fault::of_write(role, fault)),
+        Err(fault) => Err(FileFault::of_write(role, fault)),
     }
 }
 
@@ -54,7 +57,7 @@ impl<'p, R: Files> Folder<'p, R> {
     /// Puts the files that were written in the places of those that stand under their paths: the output, which was taken
     /// back first, and then the certificate. `Device` comes where not all of one can be kept, or where it can't be
     /// renamed; what stands under its path stays then, and so does what stands under that of the one behind it.
-    pub fn finish(self) -> Result<(), Fault> {
+    pub fn finish(self) -> Result<(), FileFault> {
         let Folder {
             output,
             certificate,

@@ -1,7 +1,7 @@
 //! Files of the file system, by their paths.
 
 use crate::making::{FileMaker, Making};
-use crate::opening::FileOpener;
+use crate::opening::{FileOpener, Unopened};
 use crate::replacement::Replacement;
 use devices::device::WriteFault;
 use std::alloc::Global;
@@ -20,8 +20,14 @@ pub struct PathOpener<'p, R: Files> {
 impl<'p, R: Files> FileOpener for PathOpener<'p, R> {
     type File = R::File;
 
-    fn open(&self) -> io::Result<R::File> {
-        fs::open(self.rt, self.path)
+    fn open(self) -> Result<R::File, Unopened<PathOpener<'p, R>>> {
+        match fs::open(self.rt, self.path) {
+            Ok(file) => Ok(file),
+            Err(error) => Err(Unopened {
+                error,
+                opener: self,
+            }),
+        }
     }
 }
 

@@ -4,8 +4,8 @@ use Rattle.std.specs.Bool.{if◌then◌else◌}
 use Rattle.step_structures.specs.FaultTexts.{kind_text}
 use Rattle.files.specs.declared.fault.Role.{Role}
 use Rattle.files.specs.declared.fault.Role.TheVariants.{Schema, File, Output, Certificate}
-use Rattle.files.specs.declared.fault.Fault.{Fault}
-use Rattle.files.specs.declared.fault.Fault.TheVariants.{Text, Device, Memory}
+use Rattle.files.specs.declared.fault.FileFault.{FileFault}
+use Rattle.files.specs.declared.fault.FileFault.TheVariants.{Text, Device, Memory}
 
 abbrev pub role_text : Role → List ℕ
 role_text Schema = codes "schema"
@@ -24,11 +24,11 @@ is_counted Certificate = true
 abbrev pub count_text : Role → ℕ → List ℕ
 count_text role written = if is_counted role then codes " after " ++ decimal written ++ codes " bytes" else []
 
-abbrev pub fault_text : Fault → List ℕ
+abbrev pub fault_text : FileFault → List ℕ
 fault_text (Text role kind place) = role_text role ++ codes ": " ++ kind_text kind ++ codes " at byte " ++ decimal place
 fault_text (Device role written) = codes "device: " ++ role_text role ++ count_text role written
 fault_text Memory = codes "memory"
 
 -- the text and the end of the line
-abbrev pub line_of : Fault → List ℕ
+abbrev pub line_of : FileFault → List ℕ
 line_of fault = fault_text fault ++ 10 ∷ []

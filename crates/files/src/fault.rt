@@ -1,11 +1,11 @@
-//! Why a command ends before it is done, and the line that says so.
+//! Why a file isn't read or written, and the line that says so.
 
 ghost use Rattle.std.specs.Prelude.{◌≡◌, false, decimal, is_err};
 ghost use Rattle.devices.specs.Emits.{Emits};
 ghost use Rattle.devices.specs.Prints.{Prints};
 ghost use Rattle.files.specs.Faults.{read_fault, text_fault, write_fault};
 ghost use Rattle.files.specs.Lines.{count_text, fault_text, is_counted, line_of, role_text};
-ghost use Rattle.files.specs.declared.fault.Fault.TheVariants.{Device, Text};
+ghost use Rattle.files.specs.declared.fault.FileFault.TheVariants.{Device, Text};
 
 use crate::read::ReadFault;
 use devices::device::{Sink, WriteFault};
@@ -54,9 +54,9 @@ impl Role {
     }
 }
 
-/// Why a command ends before it is done.
+/// Why a file isn't read or written.
 #[derive(Clone, Copy, Debug, PartialEq, Eq)]
-pub enum Fault {
+pub enum FileFault {
     /// The text of a file isn't read: the fault that shows first, and the number of bytes before
     /// it.
     Text {
@@ -74,37 +74,37 @@ pub enum Fault {
     Memory,
 }
 
-impl Fault {
+impl FileFault {
     /// The fault where a source of this role wasn't read to its end.
-    pub fn of_read(role: Role, fault: ReadFault) -> Fault
+    pub fn of_read(role: Role, fault: ReadFault) -> FileFault
         ensures { result ≡ read_fault role fault }
     {
         match fault {
-            ReadFault::Device => Fault::Device { role, written: 0 },
-            ReadFault::TooLarge => Fault::Text {
+            ReadFault::Device => FileFault::Device { role, written: 0 },
+            ReadFault::TooLarge => FileFault::Text {
                 role,
                 kind: FaultKind::LeftOut(LeftOut::TooLarge),
                 place: LIMIT,
             },
-            ReadFault::Memory => Fault::Memory,
+            ReadFault::Memory => FileFault::Memory,
         }
     }
 
     /// The fault where the text of a file of this role isn't read.
-    pub fn of_text(role: Role, fault: TextFault) -> Fault
+    pub fn of_text(role: Role, fault: TextFault) -> FileFault
         ensures { result ≡ text_fault role fault }
     {
         match fault {
-            TextFault::Memory => Fault::Memory,
-            TextFault::Fault { kind, place } => Fault::Text { role, kind, place },
+            TextFault::Memory => FileFault::Memory,
+            TextFault::Fault { kind, place } => FileFault::Text { role, kind, place },
         }
     }
 
     /// The fault where a file of this role isn't written.
-    pub fn of_write(role: Role, fault: WriteFault) -> Fault
+    pub fn of_write(role: Role, fault: WriteFault) -> FileFault
         ensures { result ≡ write_fault role fault }
     {
-        Fault::Device {
+        FileFault::Device {
             role,
             written: fault.written,
         }
@@ -160,20 +160,20 @@ fn print_device_fault<S: Sink>(printer: &mut Printer, out: &mut S, role: Role, w
 }
 
 // What the fault says.
-fn print_fault<S: Sink>(printer: &mut Printer, out: &mut S, fault: Fault)
+fn print_fault<S: Sink>(printer: &mut Printer, out: &mut S, fault: FileFault)
     ensures { Prints S.held S.has_failed out.old out.new printer.old printer.new
         (fault_text fault) }
 {
     match fault {
-        Fault::Text { role, kind, place } => print_text_fault(printer, out, role, kind, place),
-        Fault::Device { role, written } => print_device_fault(printer, out, role, written),
-        Fault::Memory => printer.print(out, b"memory"),
+        FileFault::Text { role, kind, place } => print_text_fault(printer, out, role, kind, place),
+        FileFault::Device { role, written } => print_device_fault(printer, out, role, written),
+        FileFault::Memory => printer.print(out, b"memory"),
     }
 }
 
 /// Prints the line of the fault. `WriteFault` comes where the sink fails; a front of the line went
 /// out then.
-pub fn print_line<S: Sink>(out: &mut S, fault: Fault) -> Result<(), WriteFault>
+pub fn print_line<S: Sink>(out: &mut S, fault: FileFault) -> Result<(), WriteFault>
     ensures emits { Emits (S.held out.old) (S.held out.new) (line_of fault) result }
     ensures failed { S.has_failed out.old ≡ false → S.has_failed out.new ≡ is_err result }
 {

@@ -1,5 +1,5 @@
 //! The files of a command: what each is to it, a source read to its end, where files lie by their paths,
-//! and why a command ends before it is done, with the line that says so.
+//! and why one isn't read or written, with the line that says so.
 #![tactic(auto)]
 
 pub mod fault;

@@ -3,29 +3,30 @@ use Rattle.std.specs.Prelude.{◌≡◌, ◌≢◌, ◌⊎◌, Result, Ok, Err}
 use Rattle.std.proofs.Common.{refl, sym, subst, inl, inr}
 use Rattle.conformance.specs.Choices.{chosen_names}
 use Rattle.merged_populations.specs.Headline.{ChecksProve}
-use Rattle.files.specs.declared.fault.Fault.TheVariants as faults
+use Rattle.faults.specs.declared.fault.Fault.{Fault}
+use Rattle.faults.specs.declared.fault.Fault.TheVariants as faults
 use Rattle.shrinking.specs.Shrinking.{Answers}
-use Rattle.verifying.specs.declared.fault.VerifyFault.{VerifyFault}
-use Rattle.verifying.specs.declared.fault.VerifyFault.TheVariants as refusals
 use Rattle.verifying.specs.declared.proof.Proof.{Proof}
 use Rattle.verifying.specs.Laws.{AnswersAreOne, SayTheSame}
 use Rattle.verifying.specs.Verifying.{Verifies}
 use Rattle.merge_laws.specs.Laws.{proof_of, OwnOutputsAreProved, OwnFilesAreProved}
 use Rattle.merge_laws.proofs.Accepting.{proves}
 
-abbrev no_memory : Result Proof VerifyFault
-no_memory = Err (refusals.Other faults.Memory)
+abbrev no_memory : Result Proof Fault
+no_memory = Err faults.Memory
 
 -- what says the same as a proof is that proof
-or_memory : (p : Proof) (r : Result Proof VerifyFault) → (r ≢ no_memory → SayTheSame r (Ok p))
+or_memory : (p : Proof) (r : Result Proof Fault) → (r ≢ no_memory → SayTheSame r (Ok p))
     → (r ≡ Ok p) ⊎ (r ≡ no_memory)
 or_memory p (Ok q) h = let same = h (λ e. cc) in inl (λ i. Ok (same i))
-or_memory p (Err (refusals.Other faults.Memory)) h = inr refl
-or_memory p (Err (refusals.Other (faults.Text role kind place))) h = absurd (h (λ e. cc))
-or_memory p (Err (refusals.Other (faults.Device role written))) h = absurd (h (λ e. cc))
-or_memory p (Err (refusals.Schema fault)) h = absurd (h (λ e. cc))
-or_memory p (Err (refusals.Refused role fs gs)) h = absurd (h (λ e. cc))
-or_memory p (Err (refusals.Certificate refusal)) h = absurd (h (λ e. cc))
+or_memory p (Err faults.Memory) h = inr refl
+or_memory p (Err (faults.Schema fault)) h = absurd (h (λ e. cc))
+or_memory p (Err (faults.Text role kind place)) h = absurd (h (λ e. cc))
+or_memory p (Err (faults.Unchecked parts)) h = absurd (h (λ e. cc))
+or_memory p (Err (faults.Findings report)) h = absurd (h (λ e. cc))
+or_memory p (Err (faults.Refused role fs gs)) h = absurd (h (λ e. cc))
+or_memory p (Err (faults.Certificate refusal)) h = absurd (h (λ e. cc))
+or_memory p (Err (faults.Device role written)) h = absurd (h (λ e. cc))
 
 pub own_outputs_are_proved : ChecksProve → AnswersAreOne → OwnOutputsAreProved
 own_outputs_are_proved law one c strict schema file output certificate m (s, has, passes, known, done) =

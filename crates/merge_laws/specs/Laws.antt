@@ -1,11 +1,10 @@
 -- What is answered of the output and of the certificate that a merge wrote.
 use Rattle.std.specs.Prelude.{◌≡◌, ◌⊎◌, Bool, List, [], Some, Result, Ok, Err, ℕ}
 use Rattle.conformance.specs.Choices.{Choice}
-use Rattle.files.specs.declared.fault.Fault.TheVariants.{Memory}
+use Rattle.faults.specs.declared.fault.Fault.{Fault}
+use Rattle.faults.specs.declared.fault.Fault.TheVariants.{Memory}
 use Rattle.shrinking.specs.declared.summary.Summary.{Summary}
 use Rattle.shrinking.specs.Shrinking.{Answers, Shrinks}
-use Rattle.verifying.specs.declared.fault.VerifyFault.{VerifyFault}
-use Rattle.verifying.specs.declared.fault.VerifyFault.TheVariants.{Other}
 use Rattle.verifying.specs.declared.proof.Proof.{Proof}
 use Rattle.verifying.specs.Verifying.{Verifies}
 
@@ -18,8 +17,8 @@ proof_of m = record { instances = m.report.instances; kept = m.kept; rounds = m.
 abbrev pub IsProved : (schema file output certificate : List ℕ) → Choice → Proof → Type 0
 IsProved schema file output certificate c p =
     Verifies schema file output certificate c (Ok p)
-    × ((r : Result Proof VerifyFault) → Verifies schema file output certificate c r
-    → (r ≡ Ok p) ⊎ (r ≡ Err (Other Memory)))
+    × ((r : Result Proof Fault) → Verifies schema file output certificate c r
+    → (r ≡ Ok p) ⊎ (r ≡ Err Memory))
 
 -- Where a merge succeeds, what it wrote is proved, by the same schema, file and choice.
 abbrev pub OwnOutputsAreProved : Type 0

@@ -2,10 +2,10 @@
 
 use crate::runs::{choice_of, verified};
 use crate::texts::file;
+use faults::refusal::Refusal;
 use pin_choices::choice::Choice;
 use std::alloc::Global;
 use std::hash::RandomState;
-use verifying::fault::Refusal;
 use verifying::proof::Proof;
 
 /// What is tested, the lines of a file and of an output, a certificate, and what it proves.

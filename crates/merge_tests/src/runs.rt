@@ -2,13 +2,14 @@
 
 use crate::texts::SCHEMA;
 use devices::counted::Counted;
+use faults::fault::Fault;
+use faults::refusal::Refusal;
 use pin_choices::choice::{Choice, Names};
 use shrinking::shrink::shrink;
 use std::alloc::Global;
 use std::hash::RandomState;
 use std::io;
 use std::io::Write;
-use verifying::fault::{Refusal, VerifyFault};
 use verifying::proof::Proof;
 use verifying::verify::verify;
 
@@ -79,9 +80,7 @@ pub(crate) fn shrunk(
     choice: &Choice,
     file: &[u8],
 ) -> Option<Merged> {
-    let mut schema = SCHEMA;
     let mut source = file;
-    let mut text = Vec::new(alloc);
     let mut out = Counted::new(Paper {
         bytes: Vec::new(alloc),
     });
@@ -91,8 +90,7 @@ pub(crate) fn shrunk(
     let (kept, rounds) = match shrink(
         alloc,
         keys,
-        &mut schema,
-        &mut text,
+        SCHEMA,
         choice,
         &mut source,
         &mut out,
@@ -124,7 +122,7 @@ pub(crate) fn verified(
     };
     match verify(alloc, keys, SCHEMA, file, output, choice, text) {
         Ok(proof) => Some(Ok(proof)),
-        Err(VerifyFault::Certificate(refusal)) => Some(Err(refusal)),
+        Err(Fault::Certificate(refusal)) => Some(Err(refusal)),
         Err(_) => None,
     }
 }

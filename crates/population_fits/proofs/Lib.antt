@@ -4,3 +4,5 @@ pub mod Pushed
 pub mod Sorted
 pub mod Forms
 pub mod Pointwise
+pub mod Enumerated
+mod Integers

@@ -3,7 +3,6 @@
 ghost use Rattle.std.specs.Prelude.{◌≡◌, Some};
 ghost use Rattle.step_literals.specs.Words.{upper};
 ghost use Rattle.express_syntax.specs.Schemas.{Schema};
-ghost use Rattle.express_syntax.specs.Views.{names_of, underlying_of, declaration_of};
 ghost use Rattle.conformance.specs.Fitting.{
   needs,
   other_kind,
@@ -17,15 +16,12 @@ ghost use Rattle.conformance.specs.Fitting.{
 };
 ghost use Rattle.schema_bases.specs.Seen.{
   base_seen,
-  items_of,
-  items_in,
   items_at,
   schema_at,
 };
 
 use crate::bounds::{bits_have_width, text_has_width};
 use conformance::finding::FindingKind;
-use express_syntax::tree::{Declaration, Underlying};
 use schema_bases::base::Base;
 use schema_bases::lookup::Bases;
 use step_literals::literal::{Bits, Decimal, Text, Word};
@@ -97,45 +93,11 @@ fn is_truth(with_unknown: bool, word: Word<'_>) -> bool
         || (with_unknown && text.eq_ignore_ascii_case(b"U"))
 }
 
-/// The items of an enumeration; none of what is no enumeration.
-fn items_of<'d, 'a>(underlying: &'d Underlying<'a>) -> &'d [Word<'a>]
-    ensures { names_of result.now ≡ items_of (underlying_of underlying.now) }
-{
-    match underlying {
-        Underlying::Enumeration(items) => items,
-        Underlying::Select(_) | Underlying::DataType(_) => &[],
-    }
-}
-
-fn items_in<'d, 'a>(declaration: &'d Declaration<'a>) -> &'d [Word<'a>]
-    ensures { names_of result.now ≡ items_in (Some (declaration_of declaration.now)) }
-{
-    match declaration {
-        Declaration::Type(declared) => items_of(&declared.underlying),
-        _ => &[],
-    }
-}
-
-/// Whether a word is among some, whatever the case of their letters.
-fn is_among(word: Word<'_>, words: &[Word<'_>]) -> bool
-    ensures { result ≡ among (upper word.entry.text.now) (names_of words.now) }
-{
-    for other in words {
-        if word == *other {
-            return true;
-        }
-    }
-    false
-}
-
 /// Whether the enumeration that is declared at a number has an item.
 fn has_item(bases: &Bases<'_, '_, '_>, number: u32, word: Word<'_>) -> bool
     ensures { result ≡ among (upper word.entry.text.now) (items_at (schema_at bases.now) number) }
 {
-    match bases.names.at(number) {
-        Some(declaration) => is_among(word, items_in(declaration)),
-        None => false,
-    }
+    bases.names.has_item(number, word)
 }
 
 /// The finding of an element of an enumeration.

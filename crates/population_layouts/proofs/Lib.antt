@@ -9,3 +9,4 @@ pub mod Slotted
 pub mod Breaking
 pub mod Existing
 pub mod Formed
+pub mod Highest

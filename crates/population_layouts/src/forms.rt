@@ -1,12 +1,13 @@
 //! Making the form of an instance from the entities that its records name.
 
-ghost use Rattle.std.specs.Prelude.{◌≡◌, ◌∷◌, [], List, length, map, IfOk};
+ghost use Rattle.std.specs.Prelude.{◌≡◌, ℕ, ◌∷◌, [], List, length, map, IfOk};
 ghost use Rattle.std.specs.List.{concat};
 ghost use Rattle.digraph.specs.Graphs.{graph_of, next};
 ghost use Rattle.step_structures.specs.Trees.{Record, internal, external};
 ghost use Rattle.conformance.specs.Entities.{Entities, AreEntities};
 ghost use Rattle.population_layouts.specs.Knowing.{AreKnown, schema_in};
 ghost use Rattle.population_layouts.specs.Forms.{IsFormOf, NameEntities};
+ghost use Rattle.population_layouts.specs.Marked.{numbers, is_above};
 ghost use Rattle.population_layouts.specs.Making.{IsForm};
 
 use crate::counting::{abstract_leaves, rows_with_two, unmarked_ones};
@@ -16,21 +17,27 @@ pub use crate::operands::one_ofs;
 use crate::slots::slots;
 use population_rows::form::Form;
 use std::alloc::{AllocError, Global};
+use std::slice;
 
 /// The form of instances whose types are marked, and whose records have to have so many
-/// parameters, with values of the attributes of these places.
+/// parameters, with values of the attributes of these places. The proper supertypes of `some` of
+/// the types are those of all of them, so that only what stands above these few is looked up.
 fn form(
     alloc: Global,
     known: &Knowledge<'_, '_, '_>,
     marks: &[bool],
+    some: &[u32],
     counts: Vec<usize>,
     places: &[u32],
 ) -> Result<Form, AllocError>
-    requires { length marks.now ≡ length known.now.names.now.schema.now.declarations.items }
+    requires count { length marks.now
+        ≡ length known.now.names.now.schema.now.declarations.items }
+    requires some { (j : ℕ) → is_above (graph_of known.now.above.now) some.now j
+        ≡ is_above (graph_of known.now.above.now) (numbers marks.now) j }
     ensures { IfOk result (IsForm known.now marks.now counts.items places.now) }
 {
     let types = marked_numbers(alloc, marks)?;
-    let above = marks_above(alloc, known, &types)?;
+    let above = marks_above(alloc, known, some)?;
     let supertypes = marked_numbers(alloc, &above)?;
     let slots = slots(alloc, known.uses, &types, places)?;
     Ok(Form {
@@ -58,7 +65,14 @@ pub fn internal_form(
     let marks = marks_on_kinds(alloc, known, entity)?;
     let places = row_at(known.places, entity);
     let counts = vec![in alloc; places.len()]?;
-    form(alloc, known, &marks, counts, places)
+    form(
+        alloc,
+        known,
+        &marks,
+        slice::from_ref(&entity),
+        counts,
+        places,
+    )
 }
 
 /// How many attributes each of these entities declares itself.
@@ -108,7 +122,7 @@ pub fn external_form(
     let marks = marks_on(alloc, known, entities)?;
     let counts = own_counts(alloc, known, entities)?;
     let places = own_places(alloc, known, entities)?;
-    form(alloc, known, &marks, counts, &places)
+    form(alloc, known, &marks, entities, counts, &places)
 }
 
 /// There are functions that say what the entities of a schema say.

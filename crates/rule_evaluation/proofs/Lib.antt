@@ -5,3 +5,4 @@ pub mod Arms
 pub mod Unnamed
 pub mod Items
 pub mod Sizes
+pub mod Keeping

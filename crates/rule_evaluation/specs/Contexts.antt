@@ -18,20 +18,30 @@ use Rattle.rule_values.specs.Parts.{element_datum}
 use Rattle.rule_values.specs.Scopes.{variables_of}
 use Rattle.rule_settings.specs.Settings.{Meant, setting_by, below_rank, worth_of, derivation_in}
 use Rattle.schema_sources.specs.declared.source.Derivation.{Derivation}
+use Rattle.schema_derivations.specs.declared.formula.Formula.{Formula}
+use Rattle.schema_derivations.specs.Formulas.{formula_seen}
+use Rattle.rule_evaluation.specs.Kept.{AreRight}
+use Rattle.rule_evaluation.specs.Worths.{formula_worth}
 use Rattle.rule_settings.specs.declared.attributes.Found.{Found}
 
-abbrev pub MeantBy : Context → Type 0
-MeantBy c = Meant c.setting.now
+-- What the schema says, where the values that are kept are those of derived attributes.
+pub record MeantBy (c : Context) : Type 0 where
+  pub meant : Meant c.setting.now
+  pub kept : AreRight c.setting.now meant c.kept.now
 
 abbrev pub setting_in : (c : Context) → MeantBy c → expressions.Setting
-setting_in c m = setting_by c.setting.now m (below_rank c.setting.now m c.limit)
+setting_in c m = setting_by c.setting.now m.meant (below_rank c.setting.now m.meant c.limit)
 
 -- what is found of an instance is worth this, where this value is put, derived attributes by their ranks below the limit
 abbrev pub worth_in : (c : Context) → MeantBy c → ℕ → Datum → Found → Option Datum
-worth_in c m y d x = worth_of c.setting.now (below_rank c.setting.now m c.limit y) d x
+worth_in c m y d x = worth_of c.setting.now (below_rank c.setting.now m.meant c.limit y) d x
 
 abbrev pub derived_in : (c : Context) → MeantBy c → ℕ → Derivation → Datum
-derived_in c m y e = below_rank c.setting.now m c.limit y (derivation_in c.setting.now e)
+derived_in c m y e = below_rank c.setting.now m.meant c.limit y (derivation_in c.setting.now e)
+
+-- what a formula is worth at an instance, with derived attributes of lesser ranks
+abbrev pub formula_in : (c : Context) → MeantBy c → ℕ → Formula → Datum
+formula_in c m y f = formula_worth c.setting.now m.meant y (formula_seen f)
 
 -- the instance that a value is; 0 where it is none
 abbrev pub instance_of : Datum → ℕ

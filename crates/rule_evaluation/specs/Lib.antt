@@ -1,2 +1,4 @@
 pub mod Contexts
+pub mod Kept
 pub mod Weights
+pub mod Worths

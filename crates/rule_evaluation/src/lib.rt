@@ -1,8 +1,14 @@
 //! What expressions are worth at the instances of a population (ISO 10303-11, 12).
 #![tactic(auto)]
 
-pub mod context;
-pub mod evaluate;
+mod context;
+mod evaluate;
+mod kept;
+mod lists;
 mod passing;
-pub mod qualifiers;
-pub mod types;
+mod qualifiers;
+mod queries;
+mod references;
+mod scope;
+mod types;
+pub mod values;

@@ -21,7 +21,7 @@ use step_literals::literal::Word;
 /// Replaces a value by that of an attribute of it, where it isn't derived; what is no instance has
 /// none.
 pub(crate) fn attribute_behind<'p, 'r>(
-    context: &Context<'_, '_, 'r, '_, '_, 'p>,
+    context: &Context<'_, '_, 'r, '_, '_, 'p, '_>,
     name: Word<'_>,
     value: &mut Datum<'r, Part<'p, 'r>>,
 ) -> Found
@@ -44,7 +44,7 @@ pub(crate) fn attribute_behind<'p, 'r>(
 /// .. of SELF as a value.
 #[inline(never)]
 fn attribute_of_value<'p, 'r>(
-    context: &Context<'_, '_, 'r, '_, '_, 'p>,
+    context: &Context<'_, '_, 'r, '_, '_, 'p, '_>,
     name: Word<'_>,
     value: &mut Datum<'r, Part<'p, 'r>>,
 ) -> Found
@@ -61,7 +61,7 @@ fn attribute_of_value<'p, 'r>(
 
 /// .. of an attribute of SELF.
 pub(crate) fn attribute_of_self<'p, 'r>(
-    context: &Context<'_, '_, 'r, '_, '_, 'p>,
+    context: &Context<'_, '_, 'r, '_, '_, 'p, '_>,
     name: Word<'_>,
     value: &mut Datum<'r, Part<'p, 'r>>,
 ) -> Found
@@ -81,7 +81,7 @@ pub(crate) fn attribute_of_self<'p, 'r>(
 /// .. of the attribute that a group means.
 #[inline(never)]
 pub(crate) fn group_behind<'p, 'r>(
-    context: &Context<'_, '_, 'r, '_, '_, 'p>,
+    context: &Context<'_, '_, 'r, '_, '_, 'p, '_>,
     entity: Word<'_>,
     name: Word<'_>,
     value: &mut Datum<'r, Part<'p, 'r>>,
@@ -115,14 +115,14 @@ pub(crate) fn instance_of(value: &Datum<'_, Part<'_, '_>>) -> u64
 
 /// The instance that SELF is as a value; 0 where it is none.
 #[inline(never)]
-fn instance_inside(context: &Context<'_, '_, '_, '_, '_, '_>) -> u64
+fn instance_inside(context: &Context<'_, '_, '_, '_, '_, '_, '_>) -> u64
     ensures { result ≡ instance_of (bare (element_datum context.now.me)) }
 {
     instance_of(&bare(context.me.datum()))
 }
 
 /// The instance that SELF is; 0 where it is none.
-pub(crate) fn self_instance(context: &Context<'_, '_, '_, '_, '_, '_>) -> u64
+pub(crate) fn self_instance(context: &Context<'_, '_, '_, '_, '_, '_, '_>) -> u64
     ensures { result ≡ instance_of (bare (element_datum context.now.me)) }
 {
     match context.me {
@@ -133,7 +133,7 @@ pub(crate) fn self_instance(context: &Context<'_, '_, '_, '_, '_, '_>) -> u64
 
 /// An item of an enumeration of this name.
 pub(crate) fn item_value<'p, 'r, 's: 'r>(
-    context: &Context<'s, '_, 'r, '_, '_, 'p>,
+    context: &Context<'s, '_, 'r, '_, '_, 'p, '_>,
     name: Word<'s>,
 ) -> Datum<'r, Part<'p, 'r>>
     requires setting { IsSetting context.now.setting.now }

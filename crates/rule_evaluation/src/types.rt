@@ -18,7 +18,7 @@ use step_literals::literal::Word;
 
 /// Whether a string names a type of a value, as TYPEOF gives it.
 pub(crate) fn is_of_type<'p, 'r>(
-    context: &Context<'_, '_, 'r, '_, '_, 'p>,
+    context: &Context<'_, '_, 'r, '_, '_, 'p, '_>,
     text: Option<AnyString<'_>>,
     value: &Datum<'r, Part<'p, 'r>>,
 ) -> Logical
@@ -38,13 +38,13 @@ pub(crate) fn is_of_type<'p, 'r>(
 
 /// Whether a string names a defined type, or one that it is defined by, as TYPEOF gives it.
 fn is_defined_by(
-    context: &Context<'_, '_, '_, '_, '_, '_>,
+    context: &Context<'_, '_, '_, '_, '_, '_, '_>,
     name: Option<Word<'_>>,
     text: &AnyString<'_>,
 ) -> Logical
     requires setting { IsSetting context.now.setting.now }
     ensures { (m : MeantBy context.now) → result
-        ≡ known (is_defined_in context.now.setting.now m (capitals_of name.entry)
+        ≡ known (is_defined_in context.now.setting.now m.meant (capitals_of name.entry)
         (text_of text.now)) }
 {
     match name {

@@ -1,67 +1,26 @@
 -- Types that are defined by types, by the edges of a forest and by names.
-use Rattle.std.specs.Prelude.{◌≡◌, ℕ, ◌<◌, true, false, ◌||◌, List, [], ◌∷◌, Option, None, Some, length, slice_get, eqb, ◌⊎◌, ◌↔◌, IsTrue}
-use Rattle.std.proofs.Common.{refl, inl, inr, ap, sym, subst, ◌∙◌, arith}
+use Rattle.std.specs.Prelude.{◌≡◌, ℕ, ◌<◌, true, false, List, [], ◌∷◌, Option, None, Some, length, slice_get, ◌↔◌}
+use Rattle.std.proofs.Common.{inl, inr, ap, sym, subst, ◌∙◌, arith}
 use Rattle.std.proofs.lemmas.Bool.Decides.{nat_tests}
 use Rattle.digraph.specs.Graphs.{Graph, has, next, Step, Chain, Leads, Reaches, IsAcyclic}
 use Rattle.digraph.proofs.Placed.{step-within}
-use Rattle.express_syntax.specs.Schemas.{Schema, Declaration, type, entity, skipped, TypeDeclaration, Underlying, enumeration, select, data_type, DataType, named}
-use Rattle.schema_semantics.specs.Names.{Name, IsOrLeads, IsTypeAt, Renames, IsMadeOf}
+use Rattle.express_syntax.specs.Schemas.{Schema, DataType, named}
+use Rattle.schema_semantics.specs.Names.{Name, Renames, IsMadeOf}
 use Rattle.schema_semantics.specs.Faults.{IsResolved}
 use Rattle.schema_semantics.proofs.Lists.{leads-kept, last-step}
 use Rattle.schema_names.specs.Numbers.{number_of, HasNumber}
-use Rattle.schema_names.proofs.Numbers.{stands-at, what-stands, each-number, one-name}
+use Rattle.schema_names.proofs.Numbers.{one-name}
 use Rattle.schema_names.proofs.Edges.{number-within}
 use Rattle.schema_bases.specs.Seen.{name_at}
-use Rattle.schema_sources.specs.Defined.{name_of, name_behind, renamed_in, renamed_of, number_for, renamed_at}
-use Rattle.schema_sources.proofs.Following.{renamed-within}
+use Rattle.schema_sources.specs.Defined.{renamed_of, number_for, renamed_at}
+use Rattle.schema_sources.proofs.Following.{named-is, name-followed, followed, leads-name, renamed-within}
 use Rattle.schema_sources.proofs.Members.{one-number}
-use Rattle.forests.specs.Forests.{first_or, parent, IsForest, IsUnder}
+use Rattle.forests.specs.Forests.{first_or, IsForest, IsUnder}
 use Rattle.forests.specs.declared.forest.Forest.{Forest}
-use Rattle.forests.specs.Telling.{is_under, Tells}
+use Rattle.forests.specs.Telling.{Tells}
 use Rattle.rule_plans.specs.Renamings.{as_row, AreRenamings, IsDefinedBy, TellsTypes}
 
-named-is : (m n : Name) → named m ≡ named n → m ≡ n
-named-is m n e = cc
-
 module _ (s : Schema) where
-  -- what stands behind the `=` of a type is one
-  behind : (m : Name) (i : ℕ) → HasNumber s m i → (k : DataType) → Renames s (named m) k
-      → renamed_of (slice_get s.declarations i) ≡ name_of k
-  behind m i h k (t, at, is) = ap renamed_of (sym (stands-at s m i h) ∙ at) ∙ ap name_behind is
-
-  -- the name that is followed
-  followed-name : (m : Name) (i j : ℕ) → HasNumber s m i → renamed_at s i ≡ Some j
-      → (n : Name) × HasNumber s n j × Renames s (named m) (named n)
-  followed-name m i j h e =
-      let (d, at, called) = what-stands s m i h in
-      by d at (ap (λ o. number_for s (renamed_of o)) (sym at) ∙ e)
-    where
-      of-type : (t : TypeDeclaration) → IsTypeAt s m t → (u : Underlying) → t.underlying ≡ u
-          → number_for s (name_behind u) ≡ Some j → (n : Name) × HasNumber s n j × Renames s (named m) (named n)
-      of-type t there (enumeration items) is e = absurd (cc)
-      of-type t there (select items) is e = absurd (cc)
-      of-type t there (data_type (named n)) is e = (n, e, (t, there, is))
-      of-type t there (data_type k) is e = absurd (cc)
-
-      by : (d : Declaration) → slice_get s.declarations i ≡ Some d → number_for s (renamed_in d) ≡ Some j
-          → (n : Name) × HasNumber s n j × Renames s (named m) (named n)
-      by (type t) at e = of-type t (stands-at s m i h ∙ at) t.underlying refl e
-      by (entity x) at e = absurd (cc)
-      by (skipped p) at e = absurd (cc)
-
-  followed : (m : Name) (i : ℕ) → HasNumber s m i → (x : Name) (l : ℕ) → Renames s (named m) (named x)
-      → HasNumber s x l → renamed_at s i ≡ Some l
-  followed m i h x l step k = ap (number_for s) (behind m i h (named x) step) ∙ k
-
-  -- what is renamed on the way has a name and a number
-  on-the-way : (k : DataType) (ms : List DataType) (n : Name) → Chain (Renames s) k ms (named n)
-      → (x : Name) × (l : ℕ) × (k ≡ named x) × HasNumber s x l
-  on-the-way (named x) [] n (t, at, is) = let (l, k) = each-number 0 s.declarations x (type t) at in (x, l, refl, k)
-  on-the-way (named x) (m ∷ ms) n ((t, at, is), c) =
-      let (l, k) = each-number 0 s.declarations x (type t) at in (x, l, refl, k)
-  on-the-way k [] n c = absurd c
-  on-the-way k (m ∷ ms) n c = absurd c.0
-
   target : (i j : ℕ) → renamed_at s i ≡ Some j → (n : Name) × HasNumber s n j
   target i j e = by (renamed_of (slice_get s.declarations i)) e
     where
@@ -99,9 +58,9 @@ module _ (s : Schema) where
     leads : (ms : List ℕ) (m : Name) (i j : ℕ) → HasNumber s m i → Chain (Step g) i ms j
         → (n : Name) × HasNumber s n j × Leads (Renames s) (named m) (named n)
     leads [] m i j h step =
-        let (n, k, one) = followed-name m i j h (edge-is i j step) in (n, k, ([], one))
+        let (n, k, one) = name-followed s m i j h (edge-is i j step) in (n, k, ([], one))
     leads (l ∷ ms) m i j h (step, rest) =
-        let (x, there, one) = followed-name m i l h (edge-is i l step) in
+        let (x, there, one) = name-followed s m i l h (edge-is i l step) in
         let (n, k, (ks, chain)) = leads ms x l j there rest in
         (n, k, (named x ∷ ks, (one, chain)))
 
@@ -126,10 +85,10 @@ module _ (s : Schema) where
 
     back-along : (ms : List DataType) (m n : Name) (i t : ℕ) → HasNumber s m i → HasNumber s n t
         → Chain (Renames s) (named m) ms (named n) → Reaches g i t
-    back-along [] m n i t h k step = ([], edge-of m i t h (followed m i h n t step k))
+    back-along [] m n i t h k step = ([], edge-of m i t h (followed s m i h n t step k))
     back-along (y ∷ ms) m n i t h k (step, c) =
-        let (x, l, is, there) = on-the-way y ms n c in
-        let one = edge-of m i l h (followed m i h x l (subst (Renames s (named m)) is step) there) in
+        let (x, l, is, there) = leads-name s y ms n c in
+        let one = edge-of m i l h (followed s m i h x l (subst (Renames s (named m)) is step) there) in
         let (ks, rest) = back-along ms x n l t there k (subst (λ z. Chain (Renames s) z ms (named n)) is c) in
         (l ∷ ks, (one, rest))
 

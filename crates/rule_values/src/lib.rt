@@ -2,6 +2,7 @@
 //! functions of the language, variables of queries (ISO 10303-11, 7.5, 8, 12 and 15).
 #![tactic(auto)]
 
+pub mod copies;
 pub mod element;
 pub mod indices;
 pub mod inside;

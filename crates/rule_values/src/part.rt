@@ -1,7 +1,7 @@
 //! Typed values and aggregates of a population, whole or as far as a QUERY keeps their elements.
 #![tactic(auto, unfolding(crate::specs::Parts::element_datum, crate::specs::Parts::holding, crate::specs::Parts::whole_elements))]
 
-ghost use Rattle.std.specs.Prelude.{◌≡◌, ◌<◌, [], length, slice_index, IfOk};
+ghost use Rattle.std.specs.Prelude.{◌≡◌, ◌<◌, [], length, slice_index, IfOk, IfSome};
 ghost use Rattle.std.specs.Option.{option_map};
 ghost use Rattle.step_values.specs.Values.{typed, sequence, bag};
 ghost use Rattle.step_values.specs.Views.{word_of};
@@ -37,6 +37,7 @@ use express_logic::datum::{Datum, Held};
 use express_logic::scalar::Scalar;
 use schema_bases::base::Base;
 use std::alloc::{AllocError, Global};
+use std::rc::Rc;
 use step_literals::literal::Word;
 use step_values::slot::{Slot, Slots};
 
@@ -64,16 +65,18 @@ enum Content<'p, 'r> {
 #[derive(Drop)]
 struct Kept<'p, 'r> {
     /// All of it.
-    content: Content<'p, 'r>,
+    content: Rc<Content<'p, 'r>>,
     /// The indices of the elements.
     indices: Vec<usize>,
 }
 
-/// All of a value, or some elements: these are boxed, since they are rare, and values are moved.
+/// All of a value, or some elements: these stand apart, since they are rare, and values are moved.
 #[derive(Drop)]
 enum Extent<'p, 'r> {
     Whole(Content<'p, 'r>),
-    Kept(Box<Kept<'p, 'r>>),
+    /// .. that has several owners.
+    Shared(Rc<Content<'p, 'r>>),
+    Kept(Rc<Kept<'p, 'r>>),
 }
 
 /// A typed value or an aggregate.
@@ -224,6 +227,7 @@ impl<'r, 'p> Held<'r> for Part<'p, 'r> {
         match &self.extent {
             Extent::Whole(content) => content.len(),
             Extent::Kept(kept) => kept.indices.len(),
+            Extent::Shared(content) => content.len(),
         }
     }
 
@@ -313,21 +317,20 @@ impl<'p, 'r> Part<'p, 'r> {
     {
         match &self.extent {
             Extent::Whole(content) => content,
-            Extent::Kept(kept) => &kept.content,
+            Extent::Shared(content) => content.as_ref(),
+            Extent::Kept(kept) => kept.content.as_ref(),
         }
     }
 
-    /// .. without the indices of elements.
-    fn into_content(self) -> Content<'p, 'r>
-        ensures { result ≡ content_in self.entry.extent }
+    /// .. for several owners, without the indices of elements.
+    fn into_content(self, alloc: Global) -> Result<Rc<Content<'p, 'r>>, AllocError>
+        ensures { IfOk result (λ content. content.value ≡ content_in self.entry.extent) }
     {
         let Part { extent } = self;
         match extent {
-            Extent::Whole(content) => content,
-            Extent::Kept(kept) => {
-                let Kept { content, .. } = Box::into_inner(kept);
-                content
-            }
+            Extent::Whole(content) => Ok(Rc::new(alloc, content)?),
+            Extent::Shared(content) => Ok(content),
+            Extent::Kept(kept) => Ok(kept.content.clone()?),
         }
     }
 
@@ -355,6 +358,7 @@ impl<'p, 'r> Part<'p, 'r> {
     {
         match &self.extent {
             Extent::Whole(content) => content.shape(),
+            Extent::Shared(content) => content.shape(),
             Extent::Kept(kept) => kept.content.shape().kept(),
         }
     }
@@ -366,6 +370,7 @@ impl<'p, 'r> Part<'p, 'r> {
     {
         match &self.extent {
             Extent::Whole(content) => content.element(index),
+            Extent::Shared(content) => content.element(index),
             Extent::Kept(kept) => kept.element(index),
         }
     }
@@ -378,6 +383,7 @@ impl<'p, 'r> Part<'p, 'r> {
     {
         match &self.extent {
             Extent::Whole(_) => index,
+            Extent::Shared(_) => index,
             Extent::Kept(kept) => place_at(&kept.indices, index),
         }
     }
@@ -390,13 +396,45 @@ impl<'p, 'r> Part<'p, 'r> {
         ensures { IfOk result (λ p. holding p
             ≡ kept_of (holding self.entry) (picked kept.items (whole_elements self.entry))) }
     {
-        let content = self.into_content();
+        let content = self.into_content(alloc)?;
         let kept = Kept {
             content,
             indices: kept,
         };
         Ok(Part {
-            extent: Extent::Kept(Box::new(alloc, kept)?),
+            extent: Extent::Kept(Rc::new(alloc, kept)?),
         })
+    }
+
+    /// The same, so that there can be more of it (`copied`).
+    ///
+    /// An error says that memory ran out.
+    pub fn share(self, alloc: Global) -> Result<Part<'p, 'r>, AllocError>
+        ensures { IfOk result (λ p. holding p ≡ holding self.entry) }
+    {
+        let Part { extent } = self;
+        match extent {
+            Extent::Whole(content) => Ok(Part {
+                extent: Extent::Shared(Rc::new(alloc, content)?),
+            }),
+            other => Ok(Part { extent: other }),
+        }
+    }
+
+    /// The same once more; none where it isn't shared (`share`).
+    ///
+    /// An error says that memory ran out.
+    pub fn copied(&self) -> Result<Option<Part<'p, 'r>>, AllocError>
+        ensures { IfOk result (λ o. IfSome o (λ p. holding p ≡ holding self.now)) }
+    {
+        match &self.extent {
+            Extent::Whole(_) => Ok(None),
+            Extent::Shared(content) => Ok(Some(Part {
+                extent: Extent::Shared(content.clone()?),
+            })),
+            Extent::Kept(kept) => Ok(Some(Part {
+                extent: Extent::Kept(kept.clone()?),
+            })),
+        }
     }
 }

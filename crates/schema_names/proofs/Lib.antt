@@ -5,3 +5,5 @@ pub mod Items
 pub mod Clauses
 pub mod Carried
 pub mod Ascii
+pub mod Ordered
+pub mod Rowed

@@ -3,3 +3,5 @@ pub mod Words
 pub mod Edges
 pub mod Laws
 pub mod Relations
+pub mod Enumerated
+pub mod OwnNames

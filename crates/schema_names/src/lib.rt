@@ -3,6 +3,8 @@
 #![tactic(auto)]
 
 pub mod capitals;
+mod enumerated;
 pub mod graphs;
 pub mod laws;
 pub mod names;
+pub mod owned;

@@ -11,21 +11,30 @@ ghost use Rattle.std.specs.Prelude.{
   length,
   map,
   option_copied,
+  nat_eq,
   slice_get,
   IfOk,
+  IfSome,
   OnOk,
 };
+ghost use Rattle.std.specs.List.Sorted.{IsSorted};
 ghost use Rattle.std.specs.Vec.{vec_len};
+ghost use Rattle.std.proofs.Props.{props};
 ghost use Rattle.indexmap.specs.IndexMap.{get};
 ghost use Rattle.step_literals.specs.declared.literal.Word.{Word};
 ghost use Rattle.express_syntax.specs.ExpressionViews.{capitals};
-ghost use Rattle.express_syntax.specs.Views.{if_some, declaration_of as declaration_seen};
+ghost use Rattle.express_syntax.specs.Views.{if_some, names_of, declaration_of as declaration_seen};
 ghost use Rattle.express_syntax.specs.Schemas.{Declaration as DeclarationTree};
 ghost use Rattle.express_syntax.specs.SchemaViews.{schema_of};
-ghost use Rattle.schema_semantics.specs.Names.{declared_name, is_named};
+ghost use Rattle.schema_semantics.specs.Names.{Name, declared_name, is_named};
 ghost use Rattle.schema_names.specs.Words.{same_word};
 ghost use Rattle.schema_names.specs.Numbers.{number_from, number_of, IsAt};
+ghost use Rattle.schema_names.specs.Enumerated.{includes, items_at, by_name, words_at};
+ghost use Rattle.schema_names.specs.declared.owned.Class.TheVariants.{Explicit, Other};
+ghost use Rattle.schema_names.specs.OwnNames.{names_at, AreOwnRows};
 
+use crate::enumerated::{has_word, item_rows};
+use crate::owned::{Class, OwnRows, has_in, own_rows};
 use express_syntax::tree::{Declaration, SchemaTree};
 use indexmap::IndexMap;
 use std::alloc::{AllocError, Global};
@@ -45,9 +54,20 @@ type Numbers<'a> = IndexMap<Word<'a>, u32, RandomState>;
 pub struct Names<'a, 't> {
     pub schema: &'t SchemaTree<'a>,
     numbers: Numbers<'a>,
+    /// By declaration, the items of an enumeration, in the order of their names.
+    items: Vec<Vec<Word<'a>>>,
+    explicits: OwnRows<'a>,
+    others: OwnRows<'a>,
     pub ghost few: { length (schema_of schema.now).declarations < 2 ^ 32 },
     pub ghost numbered: { (w : Word)
         → get same_word numbers w ≡ number_of (schema_of schema.now) (capitals w) },
+    pub ghost sorted: { (i : ℕ) → IsSorted by_name (words_at items.items i) },
+    pub ghost enumerated: { (i : ℕ) (n : Name) → includes (names_of (words_at items.items i)) n
+        ≡ includes (items_at (schema_of schema.now) i) n },
+    pub ghost explicit: { AreOwnRows (schema_of schema.now).declarations Explicit
+        (get nat_eq explicits) } by { Prim.hlevel props },
+    pub ghost other: { AreOwnRows (schema_of schema.now).declarations Other
+        (get nat_eq others) } by { Prim.hlevel props },
 }
 
 /// The name of a type or an entity.
@@ -110,7 +130,16 @@ impl<'a, 't> Names<'a, 't> {
             return Err(AllocError);
         }
         let numbers = numbers_of(alloc, keys, &schema.declarations)?;
-        Ok(Names { schema, numbers })
+        let items = item_rows(alloc, &schema.declarations)?;
+        let explicits = own_rows(alloc, keys, &schema.declarations, Class::Explicit)?;
+        let others = own_rows(alloc, keys, &schema.declarations, Class::Other)?;
+        Ok(Names {
+            schema,
+            numbers,
+            items,
+            explicits,
+            others,
+        })
     }
 
     /// The number of what a name stands for; none where no type or entity has it.
@@ -143,6 +172,33 @@ impl<'a, 't> Names<'a, 't> {
             ≡ slice_get self.now.schema.now.declarations.items number }
     {
         self.schema.declarations.get(number as usize)
+    }
+
+    /// Whether the enumeration that is declared at a number has an item of this name
+    /// (ISO 10303-11, 8.4.1). It takes time for the logarithm of how many items it has.
+    pub fn has_item(&self, number: u32, name: Word<'_>) -> bool
+        ensures { result ≡ includes (items_at (schema_of self.now.schema.now) number)
+            (capitals name.entry) }
+    {
+        match self.items.get(number as usize) {
+            Some(row) => has_word(row, name),
+            None => false,
+        }
+    }
+
+    /// Whether the entity that is declared at a number declares an attribute of this class and name
+    /// itself, where there is a row of its names (ISO 10303-11, 9.2.1). None where there is none, as
+    /// of an entity that declares few.
+    ///
+    /// It takes time for the logarithm of how many it declares.
+    pub fn has_own(&self, number: u32, class: Class, name: Word<'_>) -> Option<bool>
+        ensures { IfSome result (λ b. b ≡ includes
+            (names_at (schema_of self.now.schema.now) class number) (capitals name.entry)) }
+    {
+        match class {
+            Class::Explicit => has_in(&self.explicits, number, name),
+            Class::Other => has_in(&self.others, number, name),
+        }
     }
 
     /// How many declarations there are.

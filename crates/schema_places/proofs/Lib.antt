@@ -12,3 +12,4 @@ pub mod Tables
 pub mod Drawn
 pub mod Firsts
 pub mod Nearest
+pub mod Classes

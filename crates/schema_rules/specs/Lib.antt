@@ -3,3 +3,4 @@ pub mod Seen
 pub mod Making
 pub mod Findings
 pub mod Ruled
+pub mod Ordered

@@ -7,6 +7,7 @@ pub mod gathering;
 pub mod inverses;
 pub mod label;
 mod meant;
+pub mod ordered;
 mod places;
 pub mod sources;
 pub mod tables;

@@ -13,4 +13,7 @@ pub struct Sources<'a, 't, 'r> {
     pub places: &'r [Place<'a, 't>],
     /// By declaration, the numbers of those that an entity declares itself.
     pub own: &'r [Vec<u32>],
+    /// The numbers of the explicit attributes, in the order of their entities' names, and then of
+    /// their own.
+    pub ordered: &'r [u32],
 }

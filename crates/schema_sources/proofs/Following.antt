@@ -16,7 +16,7 @@ use Rattle.schema_names.proofs.Edges.{number-within}
 use Rattle.schema_sources.specs.Defined.{name_of, name_behind, renamed_in, renamed_of, number_for, renamed_at}
 use Rattle.schema_sources.proofs.Members.{has-split, one-number}
 
-named-is : (m n : Name) → named m ≡ named n → m ≡ n
+pub named-is : (m n : Name) → named m ≡ named n → m ≡ n
 named-is m n e = cc
 
 type-is : (t u : TypeDeclaration) → Some (type t) ≡ Some (type u) → t ≡ u
@@ -27,15 +27,15 @@ kind-is k l e = cc
 
 module _ (s : Schema) where
   -- what stands behind the `=` of a type is one
-  behind : (m : Name) (i : ℕ) → HasNumber s m i → (k : DataType) → Renames s (named m) k
+  pub behind : (m : Name) (i : ℕ) → HasNumber s m i → (k : DataType) → Renames s (named m) k
       → renamed_of (slice_get s.declarations i) ≡ name_of k
   behind m i h k (t, at, is) =
       ap renamed_of (sym (stands-at s m i h) ∙ at) ∙ ap name_behind is
 
   -- the name that is followed
-  name-behind : (m : Name) (i j : ℕ) → HasNumber s m i → renamed_at s i ≡ Some j
+  pub name-followed : (m : Name) (i j : ℕ) → HasNumber s m i → renamed_at s i ≡ Some j
       → (n : Name) × HasNumber s n j × Renames s (named m) (named n)
-  name-behind m i j h e =
+  name-followed m i j h e =
       let (d, at, called) = what-stands s m i h in
       by d at (ap (λ o. number_for s (renamed_of o)) (sym at) ∙ e)
     where
@@ -53,11 +53,12 @@ module _ (s : Schema) where
       by (skipped p) at e = absurd (cc)
 
   -- a name that leads on or has a number has the number that is followed
-  followed : (m : Name) (i : ℕ) → HasNumber s m i → (x n : Name) (l : ℕ) → Renames s (named m) (named x)
+  pub followed : (m : Name) (i : ℕ) → HasNumber s m i → (x : Name) (l : ℕ) → Renames s (named m) (named x)
       → HasNumber s x l → renamed_at s i ≡ Some l
-  followed m i h x n l step k = ap (number_for s) (behind m i h (named x) step) ∙ k
+  followed m i h x l step k = ap (number_for s) (behind m i h (named x) step) ∙ k
 
-  leads-name : (k : DataType) (ms : List DataType) (n : Name) → Chain (Renames s) k ms (named n)
+  -- what leads to a name has a name and a number
+  pub leads-name : (k : DataType) (ms : List DataType) (n : Name) → Chain (Renames s) k ms (named n)
       → (x : Name) × (l : ℕ) × (k ≡ named x) × HasNumber s x l
   leads-name (named x) [] n (t, at, is) =
       let (l, k) = each-number 0 s.declarations x (type t) at in (x, l, refl, k)
@@ -71,13 +72,13 @@ module _ (s : Schema) where
       → Chain (Renames s) (named m) ms (named n)
       → (x : Name) × (l : ℕ) × HasNumber s x l × (renamed_at s i ≡ Some l)
       × IsOrLeads (Renames s) (named x) (named n)
-  goes-on m n i j h k [] c = (n, j, k, followed m i h n n j c k, inl refl)
+  goes-on m n i j h k [] c = (n, j, k, followed m i h n j c k, inl refl)
   goes-on m n i j h k (y ∷ ms) (step, c) =
       let (x, l, is, there) = leads-name y ms n c in (
         x,
         l,
         there,
-        followed m i h x n l (subst (Renames s (named m)) is step) there,
+        followed m i h x l (subst (Renames s (named m)) is step) there,
         inr (ms, subst (λ z. Chain (Renames s) z ms (named n)) is c),
       )
 
@@ -120,7 +121,7 @@ module _ (s : Schema) where
     pub walks-on : (m n : Name) (at steps next other : ℕ) → HasNumber s n other → Walks m n at steps
         → (at ≡ other → ⊥) → renamed_at s at ≡ Some next → Walks m n next (steps + 1)
     walks-on m n at steps next other k w differs e =
-        let (x, there, step) = name-behind w.name at next w.number e in
+        let (x, there, step) = name-followed w.name at next w.number e in
         record {
           name = x;
           number = there;

@@ -53,8 +53,9 @@ fn renamed_in<'a>(declaration: &Declaration<'a>) -> Option<Word<'a>>
     }
 }
 
-/// The number of what the defined type of a number is defined by, if that is a name.
-fn renamed(names: &Names<'_, '_>, number: u32) -> Option<u32>
+/// The number of what the defined type of a number is defined by, if that is a name (ISO 10303-11,
+/// 8.3.2).
+pub fn renamed(names: &Names<'_, '_>, number: u32) -> Option<u32>
     requires { number < length names.now.schema.now.declarations.items }
     ensures { result ≡ renamed_at (schema_of names.now.schema.now) number }
 {

@@ -18,11 +18,12 @@ use Rattle.conformance.specs.Choices.{Choice, chosen_names, unknown_choice}
 use Rattle.conformance.specs.Said.{FileConforms}
 use Rattle.check_findings.specs.Findings.{ConformsWhereNothingIsFound}
 use Rattle.merged_populations.specs.Headline.{SecondMergesStay}
+use Rattle.files.specs.declared.fault.Role.TheVariants as roles
+use Rattle.faults.specs.declared.fault.Fault.{Fault}
+use Rattle.faults.specs.declared.fault.Fault.TheVariants as faults
 use Rattle.checking.specs.Checks.{HasSchema, HasSchemaFault}
 use Rattle.checking.specs.Reporting.{IsReport}
 use Rattle.shrinking.specs.declared.summary.Summary.{Summary}
-use Rattle.shrinking.specs.declared.fault.ShrinkFault.{ShrinkFault}
-use Rattle.shrinking.specs.declared.fault.ShrinkFault.TheVariants as faults
 use Rattle.shrinking.specs.Shrinking.{Passes, IsUnknown, IsDone, Answers}
 use Rattle.shrinking.specs.Laws.{OwnOutputsPass, SecondRunsStay, Stays}
 use Rattle.shrinking.proofs.Refusing.{none_unchecked}
@@ -68,7 +69,7 @@ module _ (c : Choice) (strict : Bool) (text bytes output certificate : List ℕ)
   not_unknown t (schemas.Text kind place) e h = h
   not_unknown t schemas.Memory e h = h
 
-  stays : OwnOutputsPass → SecondMergesStay → (again recertified : List ℕ) (r : Result Summary ShrinkFault)
+  stays : OwnOutputsPass → SecondMergesStay → (again recertified : List ℕ) (r : Result Summary Fault)
       → Answers c strict text output again recertified r → Stays output again r
   stays own stay again recertified (Ok n) h =
       let redone : IsDone s (chosen_names s c) output again recertified n =
@@ -80,12 +81,17 @@ module _ (c : Choice) (strict : Bool) (text bytes output certificate : List ℕ)
   stays own stay again recertified (Err (faults.Unchecked us)) (h, none) =
       absurd (none_unchecked s us.items (passes h.2)
       (subst (λ u. ∥ AreUnchecked u (unchecked_in us.items) ∥₁) (one h.0 h.1) h.3) h.4)
-  stays own stay again recertified (Err (faults.Text kind place)) h =
+  stays own stay again recertified (Err (faults.Text roles.File kind place)) h =
       (own s (chosen_names s c) bytes output done.merged).0 kind place h.4.0
+  stays own stay again recertified (Err (faults.Text roles.Schema kind place)) h = absurd h.4
+  stays own stay again recertified (Err (faults.Text roles.Output kind place)) h = absurd h.4
+  stays own stay again recertified (Err (faults.Text roles.Certificate kind place)) h = absurd h.4
   stays own stay again recertified (Err (faults.Findings r)) h =
       let f : File = h.4.0.0 in
       absurd (h.4.0.3 ((own s (chosen_names s c) bytes output done.merged).1 f r h.4.0.1
       (subst (λ u. IsReport u f r) (one h.0 h.1) h.4.0.2)))
+  stays own stay again recertified (Err (faults.Refused role findings rules)) h = absurd h.4
+  stays own stay again recertified (Err (faults.Certificate refusal)) h = absurd h.4
   stays own stay again recertified (Err (faults.Device role written)) h = tt
   stays own stay again recertified (Err faults.Memory) h = tt
 

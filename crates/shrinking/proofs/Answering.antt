@@ -15,18 +15,18 @@ use Rattle.schema_types.specs.Resolving.{IsNameFault}
 use Rattle.schema_semantics.specs.Names.{Name}
 use Rattle.conformance.specs.Choices.{Choice, chosen_names, unknown_choice}
 use Rattle.pin_choices.specs.Chosen.{IsChoiceFault}
-use Rattle.files.specs.Faults.{read_fault, text_fault}
+use Rattle.files.specs.Faults.{text_fault}
 use Rattle.files.specs.Reads.{IsBeyond}
 use Rattle.files.specs.declared.read.ReadFault.{ReadFault}
 use Rattle.files.specs.declared.read.ReadFault.TheVariants as reads
 use Rattle.files.specs.declared.fault.Role.TheVariants as roles
-use Rattle.files.specs.declared.fault.Fault.{Fault}
-use Rattle.files.specs.declared.fault.Fault.TheVariants as devices
+use Rattle.files.specs.declared.fault.FileFault.{FileFault}
+use Rattle.files.specs.declared.fault.FileFault.TheVariants as files
+use Rattle.faults.specs.Faults.{of_file, of_schema, unread}
+use Rattle.faults.specs.declared.fault.Fault.{Fault}
+use Rattle.faults.specs.declared.fault.Fault.TheVariants as faults
 use Rattle.checking.specs.Checks.{HasSchema}
 use Rattle.shrinking.specs.declared.summary.Summary.{Summary}
-use Rattle.shrinking.specs.declared.fault.ShrinkFault.{ShrinkFault}
-use Rattle.shrinking.specs.declared.fault.ShrinkFault.TheVariants as faults
-use Rattle.shrinking.specs.Faults.{of_fault, of_schema, of_schema_source}
 use Rattle.shrinking.specs.Shrinking.{Passes, IsDone, FileAnswers, Answers, Shrinks}
 use Rattle.shrinking.specs.ComputedAnswers.{Writes, FileShrinks, SourceShrinks}
 
@@ -50,7 +50,7 @@ long_text limit (Some text) h = (text, refl, h)
 
 module _ (s : Schema) (chosen : List Name) (bytes : List ℕ) where
   -- nothing was written
-  pub idle : (out cert : Option (List ℕ)) (r : Result Summary ShrinkFault) → FileAnswers s chosen bytes [] [] r
+  pub idle : (out cert : Option (List ℕ)) (r : Result Summary Fault) → FileAnswers s chosen bytes [] [] r
       → FileShrinks s chosen bytes out out cert cert r
   idle out cert r h = record {
     output = [];
@@ -73,18 +73,18 @@ module _ (s : Schema) (chosen : List Name) (bytes : List ℕ) where
   }
 
   -- .. or a front of them
-  pub cut : (out out' cert cert' : Option (List ℕ)) (text certified : List ℕ) (m : Summary) (f : Fault) (r : ShrinkFault)
-      → r ≡ of_fault f → IsDone s chosen bytes text certified m → Writes out out' cert cert' text certified (Err f)
+  pub cut : (out out' cert cert' : Option (List ℕ)) (text certified : List ℕ) (m : Summary) (f : FileFault) (r : Fault)
+      → r ≡ of_file f → IsDone s chosen bytes text certified m → Writes out out' cert cert' text certified (Err f)
       → FileShrinks s chosen bytes out out' cert cert' (Err r)
   cut out out' cert cert' text certified m f r e done h =
-      subst (λ (x : ShrinkFault). FileShrinks s chosen bytes out out' cert cert' (Err x)) (sym e) (by f h)
+      subst (λ (x : Fault). FileShrinks s chosen bytes out out' cert cert' (Err x)) (sym e) (by f h)
     where
-      by : (f : Fault) → Writes out out' cert cert' text certified (Err f)
-          → FileShrinks s chosen bytes out out' cert cert' (Err (of_fault f))
-      by (devices.Text role kind place) h = absurd h
-      by (devices.Device roles.Schema written) h = absurd h
-      by (devices.Device roles.File written) h = absurd h
-      by (devices.Device roles.Output written) h = record {
+      by : (f : FileFault) → Writes out out' cert cert' text certified (Err f)
+          → FileShrinks s chosen bytes out out' cert cert' (Err (of_file f))
+      by (files.Text role kind place) h = absurd h
+      by (files.Device roles.Schema written) h = absurd h
+      by (files.Device roles.File written) h = absurd h
+      by (files.Device roles.Output written) h = record {
         output = h.0.sent;
         certificate = [];
         answers = (
@@ -98,7 +98,7 @@ module _ (s : Schema) (chosen : List Name) (bytes : List ℕ) where
         written = h.0.told;
         certified = kept_appends cert cert' h.1;
       }
-      by (devices.Device roles.Certificate written) h = record {
+      by (files.Device roles.Certificate written) h = record {
         output = text;
         certificate = h.1.sent;
         answers = (
@@ -110,7 +110,7 @@ module _ (s : Schema) (chosen : List Name) (bytes : List ℕ) where
         written = h.0;
         certified = h.1.told;
       }
-      by devices.Memory h = record {
+      by files.Memory h = record {
         output = [];
         certificate = [];
         answers = (refl, refl);
@@ -119,22 +119,22 @@ module _ (s : Schema) (chosen : List Name) (bytes : List ℕ) where
       }
 
   -- the text of the file isn't read
-  pub unread : (out cert : Option (List ℕ)) (e : TextFault) (f : Fault) (r : ShrinkFault)
-      → f ≡ text_fault roles.File e → r ≡ of_fault f → length bytes ≤ 2 ^ 40 → IsFaultOf bytes e
+  pub unread_text : (out cert : Option (List ℕ)) (e : TextFault) (f : FileFault) (r : Fault)
+      → f ≡ text_fault roles.File e → r ≡ of_file f → length bytes ≤ 2 ^ 40 → IsFaultOf bytes e
       → FileShrinks s chosen bytes out out cert cert (Err r)
-  unread out cert e f r is so within h =
-      subst (λ (x : ShrinkFault). FileShrinks s chosen bytes out out cert cert (Err x))
-      (sym (so ∙ (λ i. of_fault (is i)))) (by e h)
+  unread_text out cert e f r is so within h =
+      subst (λ (x : Fault). FileShrinks s chosen bytes out out cert cert (Err x))
+      (sym (so ∙ (λ i. of_file (is i)))) (by e h)
     where
       by : (e : TextFault) → IsFaultOf bytes e
-          → FileShrinks s chosen bytes out out cert cert (Err (of_fault (text_fault roles.File e)))
+          → FileShrinks s chosen bytes out out cert cert (Err (of_file (text_fault roles.File e)))
       by (texts.Fault kind place) h =
-          idle out cert (Err (faults.Text kind place)) (inr (within, h), (refl, refl))
+          idle out cert (Err (faults.Text roles.File kind place)) (inr (within, h), (refl, refl))
       by texts.Memory h = idle out cert (Err faults.Memory) (refl, refl)
 
 -- bytes that a source gave to its end
 pub given : (s : Schema) (chosen : List Name) (file left : Option (List ℕ)) (bytes : List ℕ)
-    (out out' cert cert' : Option (List ℕ)) (r : Result Summary ShrinkFault)
+    (out out' cert cert' : Option (List ℕ)) (r : Result Summary Fault)
     → Consumes file left bytes × IsAtEnd left → FileShrinks s chosen bytes out out' cert cert' r
     → SourceShrinks s chosen file out out' cert cert' r
 given s chosen file left bytes out out' cert cert' r h k = record {
@@ -144,21 +144,20 @@ given s chosen file left bytes out out' cert cert' r h k = record {
 }
 
 -- the file isn't read to its end
-pub not_given : (s : Schema) (chosen : List Name) (file out cert : Option (List ℕ)) (e : ReadFault) (f : Fault)
-    (r : ShrinkFault) → f ≡ read_fault roles.File e → r ≡ of_fault f → (e ≡ reads.TooLarge → IsBeyond (2 ^ 40) file)
+pub not_given : (s : Schema) (chosen : List Name) (file out cert : Option (List ℕ)) (e : ReadFault) (r : Fault)
+    → r ≡ unread roles.File e → (e ≡ reads.TooLarge → IsBeyond (2 ^ 40) file)
     → SourceShrinks s chosen file out out cert cert (Err r)
-not_given s chosen file out cert e f r is so beyond =
-    subst (λ (x : ShrinkFault). SourceShrinks s chosen file out out cert cert (Err x))
-    (sym (so ∙ (λ i. of_fault (is i)))) (by e beyond)
+not_given s chosen file out cert e r is beyond =
+    subst (λ (x : Fault). SourceShrinks s chosen file out out cert cert (Err x)) (sym is) (by e beyond)
   where
-    any : (x : ShrinkFault) → ((bytes : List ℕ) → FileAnswers s chosen bytes [] [] (Err x))
+    any : (x : Fault) → ((bytes : List ℕ) → FileAnswers s chosen bytes [] [] (Err x))
         → SourceShrinks s chosen file out out cert cert (Err x)
     any x h =
         let text = some_text file in
         record { bytes = text.0; bytes_are = text.1; shrinks = idle s chosen text.0 out cert (Err x) (h text.0) }
 
     by : (e : ReadFault) → (e ≡ reads.TooLarge → IsBeyond (2 ^ 40) file)
-        → SourceShrinks s chosen file out out cert cert (Err (of_fault (read_fault roles.File e)))
+        → SourceShrinks s chosen file out out cert cert (Err (unread roles.File e))
     by reads.Device h = any (faults.Device roles.File 0) (λ bytes. (refl, (refl, refl)))
     by reads.TooLarge h =
         let text = long_text (2 ^ 40) file (h refl) in
@@ -171,16 +170,25 @@ not_given s chosen file out cert e f r is so beyond =
 
 -- what is answered to a file is answered to a schema that lets it pass
 file_answered : (c : Choice) (strict : Bool) (s : Schema) (text bytes output certificate : List ℕ) → HasSchema s text
-    → Passes strict s → unknown_choice s c ≡ None → (r : Result Summary ShrinkFault)
+    → Passes strict s → unknown_choice s c ≡ None → (r : Result Summary Fault)
     → FileAnswers s (chosen_names s c) bytes output certificate r
     → Answers c strict text bytes output certificate r
 file_answered c strict s text bytes output certificate has passes known (Ok m) h = (s, has, passes, known, h)
 file_answered c strict s text bytes output certificate has passes known (Err (faults.Schema f)) h = absurd h
 file_answered c strict s text bytes output certificate has passes known (Err (faults.Unchecked us)) h = absurd h
-file_answered c strict s text bytes output certificate has passes known (Err (faults.Text kind place)) h =
+file_answered c strict s text bytes output certificate has passes known (Err (faults.Text roles.File kind place)) h =
     (s, has, passes, known, h)
+file_answered c strict s text bytes output certificate has passes known (Err (faults.Text roles.Schema kind place)) h =
+    absurd h
+file_answered c strict s text bytes output certificate has passes known (Err (faults.Text roles.Output kind place)) h =
+    absurd h
+file_answered c strict s text bytes output certificate has passes known (Err (faults.Text roles.Certificate kind place)) h =
+    absurd h
 file_answered c strict s text bytes output certificate has passes known (Err (faults.Findings r)) h =
     (s, has, passes, known, h)
+file_answered c strict s text bytes output certificate has passes known (Err (faults.Refused role findings rules)) h =
+    absurd h
+file_answered c strict s text bytes output certificate has passes known (Err (faults.Certificate refusal)) h = absurd h
 file_answered c strict s text bytes output certificate has passes known (Err (faults.Device roles.Schema written)) h =
     absurd h
 file_answered c strict s text bytes output certificate has passes known (Err (faults.Device roles.File written)) h =
@@ -192,7 +200,7 @@ file_answered c strict s text bytes output certificate has passes known (Err (fa
 file_answered c strict s text bytes output certificate has passes known (Err faults.Memory) h = h
 
 module _ (c : Choice) (strict : Bool) (text : List ℕ) where
-  pub settled : (s : Schema) (file out out' cert cert' : Option (List ℕ)) (r : Result Summary ShrinkFault)
+  pub settled : (s : Schema) (file out out' cert cert' : Option (List ℕ)) (r : Result Summary Fault)
       → HasSchema s text → Passes strict s → unknown_choice s c ≡ None
       → SourceShrinks s (chosen_names s c) file out out' cert cert' r
       → Shrinks c strict (Some text) file out out' cert cert' r
@@ -211,7 +219,7 @@ module _ (c : Choice) (strict : Bool) (text : List ℕ) where
       }
 
   -- the file isn't looked at
-  pub unlooked : (file out cert : Option (List ℕ)) (r : ShrinkFault)
+  pub unlooked : (file out cert : Option (List ℕ)) (r : Fault)
       → ((bytes : List ℕ) → Answers c strict text bytes [] [] (Err r))
       → Shrinks c strict (Some text) file out out cert cert (Err r)
   unlooked file out cert r h =
@@ -229,11 +237,11 @@ module _ (c : Choice) (strict : Bool) (text : List ℕ) where
       }
 
   -- a chosen name is no entity
-  pub unknown : (s : Schema) (file out cert : Option (List ℕ)) (f : SchemaFault) (r : ShrinkFault) → r ≡ of_schema f
+  pub unknown : (s : Schema) (file out cert : Option (List ℕ)) (f : SchemaFault) (r : Fault) → r ≡ of_schema f
       → HasSchema s text → Passes strict s → IsChoiceFault s c f
       → Shrinks c strict (Some text) file out out cert cert (Err r)
   unknown s file out cert f r is has passes h =
-      subst (λ (x : ShrinkFault). Shrinks c strict (Some text) file out out cert cert (Err x)) (sym is) (by f h)
+      subst (λ (x : Fault). Shrinks c strict (Some text) file out out cert cert (Err x)) (sym is) (by f h)
     where
       by : (f : SchemaFault) → IsChoiceFault s c f
           → Shrinks c strict (Some text) file out out cert cert (Err (of_schema f))
@@ -243,11 +251,11 @@ module _ (c : Choice) (strict : Bool) (text : List ℕ) where
       by schemas.Memory h = unlooked file out cert faults.Memory (λ bytes. (refl, refl))
 
   -- the text of the schema isn't read
-  pub schema_unread : (file out cert : Option (List ℕ)) (f : SchemaFault) (r : ShrinkFault) → r ≡ of_schema f
+  pub schema_unread : (file out cert : Option (List ℕ)) (f : SchemaFault) (r : Fault) → r ≡ of_schema f
       → length text ≤ 2 ^ 40 → schema_texts.IsFaultOf text f
       → Shrinks c strict (Some text) file out out cert cert (Err r)
   schema_unread file out cert f r is within h =
-      subst (λ (x : ShrinkFault). Shrinks c strict (Some text) file out out cert cert (Err x)) (sym is) (by f h)
+      subst (λ (x : Fault). Shrinks c strict (Some text) file out out cert cert (Err x)) (sym is) (by f h)
     where
       by : (f : SchemaFault) → schema_texts.IsFaultOf text f
           → Shrinks c strict (Some text) file out out cert cert (Err (of_schema f))
@@ -257,11 +265,11 @@ module _ (c : Choice) (strict : Bool) (text : List ℕ) where
       by schemas.Memory h = unlooked file out cert faults.Memory (λ bytes. (refl, refl))
 
   -- .. or a name in it is at fault
-  pub unresolved : (s : Schema) (file out cert : Option (List ℕ)) (f : SchemaFault) (r : ShrinkFault) → r ≡ of_schema f
+  pub unresolved : (s : Schema) (file out cert : Option (List ℕ)) (f : SchemaFault) (r : Fault) → r ≡ of_schema f
       → length text ≤ 2 ^ 40 → schema_texts.ReadsAs text s → IsNameFault s f
       → Shrinks c strict (Some text) file out out cert cert (Err r)
   unresolved s file out cert f r is within reads h =
-      subst (λ (x : ShrinkFault). Shrinks c strict (Some text) file out out cert cert (Err x)) (sym is) (by f h)
+      subst (λ (x : Fault). Shrinks c strict (Some text) file out out cert cert (Err x)) (sym is) (by f h)
     where
       by : (f : SchemaFault) → IsNameFault s f
           → Shrinks c strict (Some text) file out out cert cert (Err (of_schema f))
@@ -272,7 +280,7 @@ module _ (c : Choice) (strict : Bool) (text : List ℕ) where
 
 -- the schema's bytes are those of a source that gave them
 pub of_source : (c : Choice) (strict : Bool) (schema left : Option (List ℕ)) (bytes : List ℕ)
-    (file out out' cert cert' : Option (List ℕ)) (r : Result Summary ShrinkFault)
+    (file out out' cert cert' : Option (List ℕ)) (r : Result Summary Fault)
     → Consumes schema left bytes × IsAtEnd left → Shrinks c strict (Some bytes) file out out' cert cert' r
     → Shrinks c strict schema file out out' cert cert' r
 of_source c strict schema left bytes file out out' cert cert' r h k = record {
@@ -289,12 +297,12 @@ of_source c strict schema left bytes file out out' cert cert' r h k = record {
 
 -- .. which isn't read to its end
 pub schema_not_given : (c : Choice) (strict : Bool) (schema file out cert : Option (List ℕ)) (e : ReadFault)
-    (r : ShrinkFault) → r ≡ of_schema_source e → (e ≡ reads.TooLarge → IsBeyond (2 ^ 40) schema)
+    (r : Fault) → r ≡ unread roles.Schema e → (e ≡ reads.TooLarge → IsBeyond (2 ^ 40) schema)
     → Shrinks c strict schema file out out cert cert (Err r)
 schema_not_given c strict schema file out cert e r is beyond =
-    subst (λ (x : ShrinkFault). Shrinks c strict schema file out out cert cert (Err x)) (sym is) (by e beyond)
+    subst (λ (x : Fault). Shrinks c strict schema file out out cert cert (Err x)) (sym is) (by e beyond)
   where
-    with_text : (text : List ℕ) → IfSome schema (λ t. t ≡ text) → (x : ShrinkFault)
+    with_text : (text : List ℕ) → IfSome schema (λ t. t ≡ text) → (x : Fault)
         → ((bytes : List ℕ) → Answers c strict text bytes [] [] (Err x))
         → Shrinks c strict schema file out out cert cert (Err x)
     with_text text told x h =
@@ -312,7 +320,7 @@ schema_not_given c strict schema file out cert e r is beyond =
         }
 
     by : (e : ReadFault) → (e ≡ reads.TooLarge → IsBeyond (2 ^ 40) schema)
-        → Shrinks c strict schema file out out cert cert (Err (of_schema_source e))
+        → Shrinks c strict schema file out out cert cert (Err (unread roles.Schema e))
     by reads.Device h =
         let text = some_text schema in
         with_text text.0 text.1 (faults.Device roles.Schema 0) (λ bytes. (refl, (refl, refl)))

@@ -2,6 +2,5 @@ pub mod Counted
 pub mod Merging
 pub mod Again
 mod Refusing
-mod Answering
-mod Failing
+pub mod Answering
 mod Outcome

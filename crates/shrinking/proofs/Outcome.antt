@@ -14,8 +14,8 @@ use Rattle.merge_tables.specs.Merges.{Merges}
 use Rattle.merge_tables.specs.declared.merging.Merging.{Merging}
 use Rattle.merge_tables.specs.declared.merging.Merging.TheVariants.{Faulty, Clean}
 use Rattle.reports.specs.declared.report.Report.{Report}
+use Rattle.faults.specs.declared.fault.Fault.TheVariants.{Findings}
 use Rattle.checking.specs.Reporting.{IsReport}
-use Rattle.shrinking.specs.declared.fault.ShrinkFault.TheVariants.{Findings}
 use Rattle.shrinking.specs.ComputedAnswers.{FileShrinks}
 use Rattle.shrinking.proofs.Answering.{idle}
 use Rattle.shrinking.proofs.Merging.{IsTabled}

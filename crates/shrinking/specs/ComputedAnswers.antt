@@ -8,27 +8,27 @@ use Rattle.schema_semantics.specs.Names.{Name}
 use Rattle.schema_semantics.specs.Parts.{AreUnchecked}
 use Rattle.files.specs.declared.fault.Role.{Role}
 use Rattle.files.specs.declared.fault.Role.TheVariants as roles
-use Rattle.files.specs.declared.fault.Fault.{Fault}
-use Rattle.files.specs.declared.fault.Fault.TheVariants as faults
+use Rattle.files.specs.declared.fault.FileFault.{FileFault}
+use Rattle.files.specs.declared.fault.FileFault.TheVariants as files
+use Rattle.faults.specs.declared.fault.Fault.{Fault}
 use Rattle.shrinking.specs.declared.summary.Summary.{Summary}
-use Rattle.shrinking.specs.declared.fault.ShrinkFault.{ShrinkFault}
 use Rattle.shrinking.specs.Shrinking.{FileAnswers}
 
 -- both texts are written, the first one first
 abbrev pub Writes : Option (List ℕ) → Option (List ℕ) → Option (List ℕ) → Option (List ℕ) → List ℕ → List ℕ
-    → Result Unit Fault → Type 0
+    → Result Unit FileFault → Type 0
 Writes out out' cert cert' text certified (Ok _) = Appends out out' text × Appends cert cert' certified
-Writes out out' cert cert' text certified (Err (faults.Device roles.Output written)) =
+Writes out out' cert cert' text certified (Err (files.Device roles.Output written)) =
     EmitsFront out out' text written × Keeps cert cert'
-Writes out out' cert cert' text certified (Err (faults.Device roles.Certificate written)) =
+Writes out out' cert cert' text certified (Err (files.Device roles.Certificate written)) =
     Appends out out' text × EmitsFront cert cert' certified written
-Writes out out' cert cert' text certified (Err faults.Memory) = Keeps out out' × Keeps cert cert'
+Writes out out' cert cert' text certified (Err files.Memory) = Keeps out out' × Keeps cert cert'
 Writes out out' cert cert' text certified (Err f) = ⊥
 
 -- the fault is that of the device of this role
-abbrev pub is_written : Role → Result Unit Fault → Bool
-is_written roles.Output (Err (faults.Device roles.Output written)) = true
-is_written roles.Certificate (Err (faults.Device roles.Certificate written)) = true
+abbrev pub is_written : Role → Result Unit FileFault → Bool
+is_written roles.Output (Err (files.Device roles.Output written)) = true
+is_written roles.Certificate (Err (files.Device roles.Certificate written)) = true
 is_written role r = false
 
 -- a strict choice refuses the schema
@@ -37,7 +37,7 @@ IsRefused strict s = (strict ≡ true) × (∥ AreUnchecked s [] ∥₁ → ⊥)
 
 -- a file of these bytes is answered
 pub record FileShrinks (s : Schema) (chosen : List Name) (bytes : List ℕ) (out out' cert cert' : Option (List ℕ))
-    (result : Result Summary ShrinkFault) : Type 0 where
+    (result : Result Summary Fault) : Type 0 where
   pub output : List ℕ
   pub certificate : List ℕ
   pub answers : FileAnswers s chosen bytes output certificate result
@@ -46,7 +46,7 @@ pub record FileShrinks (s : Schema) (chosen : List Name) (bytes : List ℕ) (out
 
 -- .. that are to come, where that is told
 pub record SourceShrinks (s : Schema) (chosen : List Name) (file out out' cert cert' : Option (List ℕ))
-    (result : Result Summary ShrinkFault) : Type 0 where
+    (result : Result Summary Fault) : Type 0 where
   pub bytes : List ℕ
   pub bytes_are : IfSome file (λ b. b ≡ bytes)
   pub shrinks : FileShrinks s chosen bytes out out' cert cert' result

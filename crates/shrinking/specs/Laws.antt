@@ -5,12 +5,13 @@ use Rattle.step_structures.specs.Trees.{File}
 use Rattle.express_syntax.specs.Schemas.{Schema}
 use Rattle.schema_semantics.specs.Names.{Name}
 use Rattle.conformance.specs.Choices.{Choice}
+use Rattle.files.specs.declared.fault.Role.TheVariants as roles
 use Rattle.reports.specs.declared.report.Report.{Report}
+use Rattle.faults.specs.declared.fault.Fault.{Fault}
+use Rattle.faults.specs.declared.fault.Fault.TheVariants as faults
 use Rattle.checking.specs.Checks.{HasFile, HasFileFault}
 use Rattle.checking.specs.Reporting.{IsReport}
 use Rattle.shrinking.specs.declared.summary.Summary.{Summary}
-use Rattle.shrinking.specs.declared.fault.ShrinkFault.{ShrinkFault}
-use Rattle.shrinking.specs.declared.fault.ShrinkFault.TheVariants as faults
 use Rattle.shrinking.specs.Shrinking.{IsClean, IsMerged, Answers}
 
 -- What is written has no fault, but that it may be too large, and nothing is found of it.
@@ -20,9 +21,9 @@ OwnOutputsPass = (s : Schema) (chosen : List Name) (bytes output : List ℕ) →
     × ((f : File) (r : Report) → HasFile f output → IsReport s f r → IsClean r)
 
 -- A run on an output ends for want of memory, by a device or since it is too large, or it writes the same output.
-abbrev pub Stays : List ℕ → List ℕ → Result Summary ShrinkFault → Type 0
+abbrev pub Stays : List ℕ → List ℕ → Result Summary Fault → Type 0
 Stays output again (Ok m) = again ≡ output
-Stays output again (Err (faults.Text kind place)) = 2 ^ 40 < length output
+Stays output again (Err (faults.Text roles.File kind place)) = 2 ^ 40 < length output
 Stays output again (Err (faults.Device role written)) = Unit {0}
 Stays output again (Err faults.Memory) = Unit {0}
 Stays output again (Err f) = ⊥
@@ -30,5 +31,5 @@ Stays output again (Err f) = ⊥
 abbrev pub SecondRunsStay : Type 0
 SecondRunsStay =
     (c : Choice) (strict : Bool) (text bytes output certificate again recertified : List ℕ) (m : Summary)
-    (result : Result Summary ShrinkFault) → Answers c strict text bytes output certificate (Ok m)
+    (result : Result Summary Fault) → Answers c strict text bytes output certificate (Ok m)
     → Answers c strict text output again recertified result → Stays output again result

@@ -17,11 +17,11 @@ use Rattle.certificate_text.specs.Texts.{IsCertificate}
 use Rattle.merged_populations.specs.Headline.{IsMergeOf, IsLeast}
 use Rattle.files.specs.declared.fault.Role.TheVariants as roles
 use Rattle.reports.specs.declared.report.Report.{Report}
+use Rattle.faults.specs.declared.fault.Fault.{Fault}
+use Rattle.faults.specs.declared.fault.Fault.TheVariants as faults
 use Rattle.checking.specs.Reporting.{IsReport}
 use Rattle.checking.specs.Checks.{HasSchema, HasSchemaFault, HasFile, HasFileFault}
 use Rattle.shrinking.specs.declared.summary.Summary.{Summary}
-use Rattle.shrinking.specs.declared.fault.ShrinkFault.{ShrinkFault}
-use Rattle.shrinking.specs.declared.fault.ShrinkFault.TheVariants as faults
 
 -- nothing is found of the file
 abbrev pub IsClean : Report → Type 0
@@ -79,9 +79,9 @@ AreUnwritten output certificate = (output ≡ []) × (certificate ≡ [])
 
 -- What is answered to a file of these bytes, where the entities that are chosen of the schema are these, and what is
 -- written as output and as certificate: nothing but where all is checked, and the certificate behind all of the output.
-abbrev pub FileAnswers : Schema → List Name → List ℕ → List ℕ → List ℕ → Result Summary ShrinkFault → Type 0
+abbrev pub FileAnswers : Schema → List Name → List ℕ → List ℕ → List ℕ → Result Summary Fault → Type 0
 FileAnswers s chosen bytes output certificate (Ok m) = IsDone s chosen bytes output certificate m
-FileAnswers s chosen bytes output certificate (Err (faults.Text kind place)) =
+FileAnswers s chosen bytes output certificate (Err (faults.Text roles.File kind place)) =
     HasFileFault kind place bytes × AreUnwritten output certificate
 FileAnswers s chosen bytes output certificate (Err (faults.Findings r)) =
     ((f : File) × HasFile f bytes × IsReport s f r × (IsClean r → ⊥)) × AreUnwritten output certificate
@@ -106,7 +106,7 @@ IsUnknown s c f = ⊥
 
 -- What is answered to a schema of this text and a file of these bytes. A fault of the schema comes before that of a strict
 -- choice, that before a chosen name that is no entity, and all of them before what is said of the file.
-abbrev pub Answers : Choice → Bool → List ℕ → List ℕ → List ℕ → List ℕ → Result Summary ShrinkFault → Type 0
+abbrev pub Answers : Choice → Bool → List ℕ → List ℕ → List ℕ → List ℕ → Result Summary Fault → Type 0
 Answers c strict text bytes output certificate (Err (faults.Schema f)) =
     (HasSchemaFault f text ⊎ ((s : Schema) × HasSchema s text × Passes strict s × IsUnknown s c f))
     × AreUnwritten output certificate
@@ -123,7 +123,7 @@ Answers c strict text bytes output certificate r =
 -- That is answered of texts which are those that are to come, where the sources tell them, and what is written stands
 -- behind what the sinks held, where they tell that.
 pub record Shrinks (c : Choice) (strict : Bool) (schema file out out' cert cert' : Option (List ℕ))
-    (result : Result Summary ShrinkFault) : Type 0 where
+    (result : Result Summary Fault) : Type 0 where
   pub text : List ℕ
   pub bytes : List ℕ
   pub output : List ℕ

@@ -2,7 +2,6 @@
 //! both.
 #![tactic(auto)]
 
-pub mod fault;
 pub mod laws;
 mod merge;
 pub mod shrink;

@@ -14,11 +14,10 @@ ghost use Rattle.pin_choices.specs.Chosen.{AreChosen};
 ghost use Rattle.check_findings.specs.Findings.{AreFindings};
 ghost use Rattle.checking.specs.Reporting.{IsReport};
 ghost use Rattle.files.specs.declared.fault.Role.TheVariants as roles;
+ghost use Rattle.faults.specs.Devices.{is_device};
 ghost use Rattle.shrinking.specs.ComputedAnswers.{FileShrinks};
-ghost use Rattle.shrinking.specs.Devices.{is_device};
 ghost use Rattle.shrinking.specs.Shrinking.{IsClean};
 
-use crate::fault::{ShrinkFault, of_fault};
 use crate::summary::Summary;
 use crate::write::write_both;
 use check_findings::findings::Found;
@@ -26,6 +25,7 @@ use check_findings::laws::conforms_where_nothing_is_found;
 use devices::device::Sink;
 use express_rules::report::RuleReport;
 use express_types::graph::TypeGraph;
+use faults::fault::{Fault, of_file};
 use merge_tables::merging::{Merging, merge_tables};
 use merged_populations::laws::merges_are_least;
 use pin_choices::choice::Chosen;
@@ -109,7 +109,7 @@ pub(crate) fn shrink_exchange<'s, O: Sink, C: Sink>(
     exchange: &Exchange<'_>,
     out: &mut O,
     certificate: &mut C,
-) -> Result<Summary<'s>, ShrinkFault<'s>>
+) -> Result<Summary<'s>, Fault<'s>>
     requires made { IsMade graph.types }
     requires rules { AreRuleTables (schema_of graph.types.names.schema.now) graph.rules }
     requires domain { AreDomainTables (schema_of graph.types.names.schema.now) graph.domain }
@@ -132,10 +132,10 @@ pub(crate) fn shrink_exchange<'s, O: Sink, C: Sink>(
     merges_are_least();
     let merging = match merge_tables(alloc, keys, &graph, chosen, exchange) {
         Ok(merging) => merging,
-        Err(_) => return Err(ShrinkFault::Memory),
+        Err(_) => return Err(Fault::Memory),
     };
     match merging {
-        Merging::Faulty(found) => Err(ShrinkFault::Findings(report(graph, found, exchange))),
+        Merging::Faulty(found) => Err(Fault::Findings(report(graph, found, exchange))),
         Merging::Clean {
             unknown,
             first,
@@ -144,7 +144,7 @@ pub(crate) fn shrink_exchange<'s, O: Sink, C: Sink>(
             let summary = summary(alloc, graph, exchange, unknown, &second);
             match write_both(alloc, keys, exchange, &first, &second, out, certificate) {
                 Ok(()) => Ok(summary),
-                Err(fault) => Err(of_fault(fault)),
+                Err(fault) => Err(of_file(fault)),
             }
         }
     }

@@ -21,18 +21,18 @@ ghost use Rattle.schema_types.specs.Made.{IsMade};
 ghost use Rattle.pin_choices.specs.Chosen.{AreChosen, choice_of};
 ghost use Rattle.checking.specs.Checks.{HasSchema};
 ghost use Rattle.files.specs.declared.fault.Role.TheVariants as roles;
+ghost use Rattle.faults.specs.Devices.{FileFailsAs, is_device};
 ghost use Rattle.shrinking.specs.ComputedAnswers.{FileShrinks, IsRefused, SourceShrinks};
-ghost use Rattle.shrinking.specs.Devices.{FileFailsAs, SchemaFailsAs, is_device};
 ghost use Rattle.shrinking.specs.Shrinking.{Passes, Shrinks};
 
-use crate::fault::{ShrinkFault, of_fault, of_schema, of_schema_source};
 use crate::merge::shrink_exchange;
 use crate::summary::Summary;
 use devices::device::{Sink, Source};
 use express_text::read_schema;
 use express_types::graph::TypeGraph;
 use express_types::resolving::resolve;
-use files::fault::{Fault, LIMIT, Role};
+use faults::fault::{Fault, of_file, of_schema, too_large, unread};
+use files::fault::{FileFault, LIMIT, Role};
 use files::read::read_whole;
 use pin_choices::choice::{Choice, Chosen};
 use std::alloc::Global;
@@ -48,7 +48,7 @@ fn shrink_file<'s, O: Sink, C: Sink>(
     bytes: &[u8],
     out: &mut O,
     certificate: &mut C,
-) -> Result<Summary<'s>, ShrinkFault<'s>>
+) -> Result<Summary<'s>, Fault<'s>>
     requires made { IsMade graph.types }
     requires rules { AreRuleTables (schema_of graph.types.names.schema.now) graph.rules }
     requires domain { AreDomainTables (schema_of graph.types.names.schema.now) graph.domain }
@@ -68,7 +68,7 @@ fn shrink_file<'s, O: Sink, C: Sink>(
 {
     match read_exchange(alloc, keys, bytes) {
         Ok(exchange) => shrink_exchange(alloc, keys, graph, chosen, &exchange, out, certificate),
-        Err(fault) => Err(of_fault(Fault::of_text(Role::File, fault))),
+        Err(fault) => Err(of_file(FileFault::of_text(Role::File, fault))),
     }
 }
 
@@ -81,7 +81,7 @@ fn shrink_source<'s, F: Source, O: Sink, C: Sink>(
     file: &mut F,
     out: &mut O,
     certificate: &mut C,
-) -> Result<Summary<'s>, ShrinkFault<'s>>
+) -> Result<Summary<'s>, Fault<'s>>
     requires made { IsMade graph.types }
     requires rules { AreRuleTables (schema_of graph.types.names.schema.now) graph.rules }
     requires domain { AreDomainTables (schema_of graph.types.names.schema.now) graph.domain }
@@ -102,7 +102,7 @@ fn shrink_source<'s, F: Source, O: Sink, C: Sink>(
 {
     match read_whole(alloc, file, LIMIT) {
         Ok(bytes) => shrink_file(alloc, keys, graph, chosen, &bytes, out, certificate),
-        Err(fault) => Err(of_fault(Fault::of_read(Role::File, fault))),
+        Err(fault) => Err(unread(Role::File, fault)),
     }
 }
 
@@ -124,7 +124,7 @@ fn shrink_graph<'s, F: Source, O: Sink, C: Sink>(
     file: &mut F,
     out: &mut O,
     certificate: &mut C,
-) -> Result<Summary<'s>, ShrinkFault<'s>>
+) -> Result<Summary<'s>, Fault<'s>>
     requires made { IsMade graph.types }
     requires rules { AreRuleTables (schema_of graph.types.names.schema.now) graph.rules }
     requires domain { AreDomainTables (schema_of graph.types.names.schema.now) graph.domain }
@@ -144,7 +144,7 @@ fn shrink_graph<'s, F: Source, O: Sink, C: Sink>(
     ensures file_told { IfSome (F.fails file.old) (FileFailsAs result) }
 {
     if is_refused(choice, &graph) {
-        return Err(ShrinkFault::Unchecked(graph.into_unchecked()));
+        return Err(Fault::Unchecked(graph.into_unchecked()));
     }
     match choice.settle(alloc, &graph.types) {
         Ok(chosen) => shrink_source(alloc, keys, graph, &chosen, file, out, certificate),
@@ -161,7 +161,7 @@ fn shrink_by<'s, F: Source, O: Sink, C: Sink>(
     file: &mut F,
     out: &mut O,
     certificate: &mut C,
-) -> Result<Summary<'s>, ShrinkFault<'s>>
+) -> Result<Summary<'s>, Fault<'s>>
     requires within { length schema.now ≤ 2 ^ 40 }
     ensures shrinks { Shrinks (choice_of choice.now) choice.now.strict (Some schema.now)
         (F.to_come file.old) (O.held out.old) (O.held out.new)
@@ -190,37 +190,35 @@ fn shrink_by<'s, F: Source, O: Sink, C: Sink>(
 /// to `certificate`. The smaller file conforms to the schema as the file does, and no image of the
 /// file has fewer instances.
 ///
-/// Both are read to their ends, the schema first, whose text is put into `text`, so that what is
-/// said can have names from there. The error is the first of these, and nothing was written where it
-/// is none of the last two:
+/// The schema is given by its text; the file is read to its end once nothing is wrong with the schema
+/// and the choice. The error is the first of these, and nothing was written where it is none of the
+/// last two:
 ///
-/// - `Schema`: the text of the schema isn't read, or a name in it is at fault;
+/// - `Schema`: the text of the schema has a fault, or a name in it;
 /// - `Unchecked`: the choice is strict, and parts of the schema aren't checked;
 /// - `Schema` with `UnknownName`: a chosen name is no entity of the schema;
-/// - `Text`: the text of the file isn't read;
+/// - `Text` of the file: its text isn't read;
 /// - `Findings`: the file breaks its schema;
 /// - `Device` of the output: a front of the smaller file was written;
 /// - `Device` of the certificate: the smaller file was written, and a front of the certificate.
 ///
-/// `Device` of the schema or the file comes where that one is read and its source fails, and `Memory`
-/// where memory runs out. Names are hashed by these keys.
-pub fn shrink<'s, S: Source, F: Source, O: Sink, C: Sink>(
+/// `Device` of the file comes where that is read and its source fails, and `Memory` where memory runs
+/// out. Names are hashed by these keys.
+pub fn shrink<'s, F: Source, O: Sink, C: Sink>(
     alloc: Global,
     keys: RandomState,
-    schema: &mut S,
-    text: &'s mut Vec<u8>,
+    schema: &'s [u8],
     choice: &Choice,
     file: &mut F,
     out: &mut O,
     certificate: &mut C,
-) -> Result<Summary<'s>, ShrinkFault<'s>>
+) -> Result<Summary<'s>, Fault<'s>>
     // What is answered and written is what the two texts and the choice say.
     ensures shrinks { Shrinks (choice_of choice.now) choice.now.strict
-        (S.to_come schema.old) (F.to_come file.old) (O.held out.old) (O.held out.new)
+        (Some schema.now) (F.to_come file.old) (O.held out.old) (O.held out.new)
         (C.held certificate.old) (C.held certificate.new) result }
     // The fault is a device's exactly where that one failed.
-    ensures schema_fault { S.has_failed schema.old ≡ false
-        → S.has_failed schema.new ≡ is_device roles.Schema result }
+    ensures no_schema_fault { is_device roles.Schema result ≡ false }
     ensures file_fault { F.has_failed file.old ≡ false
         → F.has_failed file.new ≡ is_device roles.File result }
     ensures output_fault { O.has_failed out.old ≡ false
@@ -228,14 +226,10 @@ pub fn shrink<'s, S: Source, F: Source, O: Sink, C: Sink>(
     ensures certificate_fault { C.has_failed certificate.old ≡ false
         → C.has_failed certificate.new ≡ is_device roles.Certificate result }
     // A source that can't fail has no fault, and one that can't but fail has one where it is read.
-    ensures schema_told { IfSome (S.fails schema.old) (SchemaFailsAs result) }
     ensures file_told { IfSome (F.fails file.old) (FileFailsAs result) }
 {
-    match read_whole(alloc, schema, LIMIT) {
-        Ok(bytes) => {
-            *text = bytes;
-            shrink_by(alloc, keys, text, choice, file, out, certificate)
-        }
-        Err(fault) => Err(of_schema_source(fault)),
+    if schema.len() as u64 > LIMIT {
+        return Err(too_large(Role::Schema));
     }
+    shrink_by(alloc, keys, schema, choice, file, out, certificate)
 }

@@ -10,7 +10,7 @@ ghost use Rattle.shrinking.specs.Faults.{rewrite_fault};
 
 use certificate_text::write::write_certificate;
 use devices::device::Sink;
-use files::fault::{Fault, Role};
+use files::fault::{FileFault, Role};
 use std::alloc::Global;
 use std::hash::RandomState;
 use step_equal::table::Table;
@@ -19,15 +19,15 @@ use step_rewrite::fault::RewriteFault;
 use step_rewrite::rewrite::rewrite;
 
 /// The fault where the smaller file isn't written.
-fn of_rewrite(fault: RewriteFault) -> Fault
+fn of_rewrite(fault: RewriteFault) -> FileFault
     ensures { result ≡ rewrite_fault fault }
 {
     match fault {
-        RewriteFault::Device { written } => Fault::Device {
+        RewriteFault::Device { written } => FileFault::Device {
             role: Role::Output,
             written,
         },
-        RewriteFault::Memory => Fault::Memory,
+        RewriteFault::Memory => FileFault::Memory,
     }
 }
 
@@ -41,7 +41,7 @@ pub(crate) fn write_both<O: Sink, C: Sink>(
     second: &Table,
     out: &mut O,
     certificate: &mut C,
-) -> Result<(), Fault>
+) -> Result<(), FileFault>
     requires members { members (table_of second.now) ≡ exchange.now.names }
     ensures writes { Writes (O.held out.old) (O.held out.new)
         (C.held certificate.old) (C.held certificate.new)
@@ -57,6 +57,6 @@ pub(crate) fn write_both<O: Sink, C: Sink>(
     }
     match write_certificate(first, second, certificate) {
         Ok(()) => Ok(()),
-        Err(fault) => Err(Fault::of_write(Role::Certificate, fault)),
+        Err(fault) => Err(FileFault::of_write(Role::Certificate, fault)),
     }
 }

@@ -1,5 +1,6 @@
--- What the code computes. Agreement of values, each reference with itself alone, as a test. The only promise that rests on
--- it is that of uniqueness rules, whose keys `same_each_test` compares; the laws of these rules say that it is agreement.
+-- Agreement of values, each reference with itself alone, as a test, and what the code computes of it. Findings are tests, so
+-- two promises are put by it: no two elements of a SET, or of an aggregate OF UNIQUE, are equal (F14), and no two keys of a
+-- uniqueness rule (F17). That it passes exactly where values agree is `TestsDecideAgreement`.
 use Rattle.std.specs.Prelude.{ℕ, suc, ◌==◌, ◌&&◌, Bool, true, false, cond, List, [], ◌∷◌}
 use Rattle.std.specs.Ordering.{int_eq}
 use Rattle.std.specs.Bool.{beq}

@@ -16,12 +16,14 @@ use Rattle.conformance.specs.Populations.{Instance}
 use Rattle.pin_choices.specs.Chosen.{IsChoiceFault}
 use Rattle.step_population.specs.Verdicts.{IsTyped}
 use Rattle.merged_populations.specs.Headline.{ChecksProve}
+use Rattle.files.specs.Faults.{text_fault}
 use Rattle.files.specs.declared.fault.Role.TheVariants as roles
+use Rattle.faults.specs.Faults.{of_file, of_schema}
 use Rattle.verifying.specs.declared.fault.TablesFault.{TablesFault}
 use Rattle.verifying.specs.declared.fault.TablesFault.TheVariants as tables
 use Rattle.verifying.specs.declared.proof.Proof.{Proof}
 use Rattle.verifying.specs.declared.tables.Judged.{Judged}
-use Rattle.verifying.specs.Faults.{schema_fault, text_fault, tables_fault}
+use Rattle.verifying.specs.Faults.{tables_fault}
 use Rattle.verifying.specs.Verifying.{Settles, IsInput, IsOutput, Verifies}
 use Rattle.verifying.specs.ComputedPassing.{AnswersTyped, IsAnswer, IsJudgement}
 use Rattle.verifying.proofs.Accepting.{proves}
@@ -37,33 +39,33 @@ output_is s output header_bytes g js reads typed = record {
 
 module _ (schema input output certificate : List ℕ) (choice : Choice) where
   pub unread_schema : (e : SchemaFault) → schema_texts.IsFaultOf schema e
-      → Verifies schema input output certificate choice (Err (schema_fault e))
+      → Verifies schema input output certificate choice (Err (of_schema e))
   unread_schema (schemas.Text kind place) h = h
   unread_schema (schemas.Name kind name) h = absurd h
   unread_schema schemas.Memory h = tt
 
   module _ (s : Schema) where
     pub unresolved : schema_texts.ReadsAs schema s → (e : SchemaFault) → IsNameFault s e
-        → Verifies schema input output certificate choice (Err (schema_fault e))
+        → Verifies schema input output certificate choice (Err (of_schema e))
     unresolved reads (schemas.Text kind place) h = absurd h
     unresolved reads (schemas.Name kind name) h = (s, reads, inl h)
     unresolved reads schemas.Memory h = tt
 
     pub unsettled : schema_texts.ReadsAs schema s → IsResolved s → (e : SchemaFault) → IsChoiceFault s choice e
-        → Verifies schema input output certificate choice (Err (schema_fault e))
+        → Verifies schema input output certificate choice (Err (of_schema e))
     unsettled reads resolved (schemas.Text kind place) h = absurd h
     unsettled reads resolved (schemas.Name kind name) h = (s, reads, inr (resolved, h))
     unsettled reads resolved schemas.Memory h = tt
 
     module _ (settles : Settles schema choice s) where
       pub unread_input : (e : TextFault) → texts.IsFaultOf input e
-          → Verifies schema input output certificate choice (Err (text_fault roles.File e))
+          → Verifies schema input output certificate choice (Err (of_file (text_fault roles.File e)))
       unread_input (text_faults.Fault kind place) h = (s, settles, h)
       unread_input text_faults.Memory h = tt
 
       module _ (f : File) (reads : IsInput s input f) where
         pub unread_output : (e : TextFault) → texts.IsFaultOf output e
-            → Verifies schema input output certificate choice (Err (text_fault roles.Output e))
+            → Verifies schema input output certificate choice (Err (of_file (text_fault roles.Output e)))
         unread_output (text_faults.Fault kind place) h = (s, settles, (f, reads, h))
         unread_output text_faults.Memory h = tt
 

@@ -12,7 +12,7 @@ use Rattle.conformance.specs.PlainRows.{AreRowsOf}
 use Rattle.conformance.specs.Populations.{Instance}
 use Rattle.conformance.specs.Said.{Said, instances}
 use Rattle.step_headings.specs.Headings.{SameHeadings}
-use Rattle.verifying.specs.declared.fault.Refusal.TheVariants.{NotTheImage}
+use Rattle.faults.specs.declared.refusal.Refusal.TheVariants.{NotTheImage}
 use Rattle.verifying.specs.declared.fault.TablesFault.{TablesFault}
 use Rattle.verifying.specs.declared.fault.TablesFault.TheVariants.{Refused, Memory}
 use Rattle.verifying.specs.declared.proof.Proof.{Proof}

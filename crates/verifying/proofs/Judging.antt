@@ -18,7 +18,7 @@ use Rattle.certificate_text.specs.declared.fault.CertFault.TheVariants as certif
 use Rattle.judged_grounds.specs.TableFaults as judged_tables
 use Rattle.judged_grounds.specs.declared.fault.TableFault.{TableFault}
 use Rattle.judged_grounds.specs.declared.fault.TableFault.TheVariants as table_faults
-use Rattle.verifying.specs.declared.fault.Refusal.TheVariants.{OldVersion, BadText, WrongNames, GroundlessSplit, Unstable, NotTheImage}
+use Rattle.faults.specs.declared.refusal.Refusal.TheVariants.{OldVersion, BadText, WrongNames, GroundlessSplit, Unstable, NotTheImage}
 use Rattle.verifying.specs.declared.fault.TablesFault.{TablesFault}
 use Rattle.verifying.specs.declared.fault.TablesFault.TheVariants.{Refused, Memory}
 use Rattle.verifying.specs.declared.tables.Judged.{Judged}

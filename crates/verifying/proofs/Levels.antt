@@ -19,19 +19,17 @@ use Rattle.check_findings.specs.Findings.{AreFindings}
 use Rattle.certificate_text.specs.Texts.{IsCertificate}
 use Rattle.certificate_text.specs.Faults.{IsOld, IsBadLine}
 use Rattle.files.specs.declared.fault.Role.TheVariants as roles
-use Rattle.files.specs.declared.fault.Fault.TheVariants as faults
-use Rattle.verifying.specs.declared.fault.Refusal.{Refusal}
-use Rattle.verifying.specs.declared.fault.Refusal.TheVariants.{OldVersion, BadText, NotTheImage}
-use Rattle.verifying.specs.declared.fault.VerifyFault.{VerifyFault}
-use Rattle.verifying.specs.declared.fault.VerifyFault.TheVariants.{Refused, Certificate, Other}
-use Rattle.verifying.specs.declared.fault.VerifyFault.TheVariants as refusals
+use Rattle.faults.specs.declared.refusal.Refusal.{Refusal}
+use Rattle.faults.specs.declared.refusal.Refusal.TheVariants.{OldVersion, BadText, NotTheImage}
+use Rattle.faults.specs.declared.fault.Fault.{Fault}
+use Rattle.faults.specs.declared.fault.Fault.TheVariants as faults
 use Rattle.verifying.specs.declared.proof.Proof.{Proof}
 use Rattle.verifying.specs.Verifying.{Settles, IsSchemaFault, IsInput, IsOutput, Lacks}
 
 -- The certificate of an output, by some functions that say what the schema says: each refusal, or a proof.
-module _ (s : Schema) (said : Said s) (chosen : List Name) (f g : File) (r : Result Proof VerifyFault) where
+module _ (s : Schema) (said : Said s) (chosen : List Name) (f g : File) (r : Result Proof Fault) where
   abbrev pub IsRefusedBy : Refusal → Type 0
-  IsRefusedBy refusal = r ≡ Err (Certificate refusal)
+  IsRefusedBy refusal = r ≡ Err (faults.Certificate refusal)
 
   abbrev pub AreWeakBy : (ℕ → Bool) → Type 0
   AreWeakBy weak = (y : ℕ) → IsTrue (weak y)
@@ -78,7 +76,7 @@ module _ (s : Schema) (said : Said s) (chosen : List Name) (f g : File) (r : Res
     abbrev pub AtText : Type 0
     AtText = (IsRefusedBy OldVersion × IsOld certificate) ⊎ AtLines
 
-module _ (schema input output certificate : List ℕ) (choice : Choice) (r : Result Proof VerifyFault) where
+module _ (schema input output certificate : List ℕ) (choice : Choice) (r : Result Proof Fault) where
   module _ (s : Schema) where
     -- the certificate
     abbrev pub AtCertificate : File → File → Type 0
@@ -87,33 +85,33 @@ module _ (schema input output certificate : List ℕ) (choice : Choice) (r : Res
     -- what is found of the output
     abbrev pub AtOutputFound : File → File → Type 0
     AtOutputFound f g =
-        ((fs : _) × (gs : _) × (r ≡ Err (Refused roles.Output fs gs))
+        ((fs : _) × (gs : _) × (r ≡ Err (faults.Refused roles.Output fs gs))
         × ((said : Said s) → fs.items ≡ findings s said.domain said.entities g) × (fs.items ≢ []) × (gs.items ≡ []))
         ⊎ (IsOutput s output g × AtCertificate f g)
 
     -- the text of the output
     abbrev pub AtOutput : File → Type 0
     AtOutput f =
-        ((kind : FaultKind) × (place : ℕ) × (r ≡ Err (Other (faults.Text roles.Output kind place)))
+        ((kind : FaultKind) × (place : ℕ) × (r ≡ Err (faults.Text roles.Output kind place))
         × IsFirstFault output kind place)
         ⊎ ((header_bytes : List ℕ) × (g : File) × ReadsAs output header_bytes g × AtOutputFound f g)
 
     -- what is found of the input
     abbrev pub AtInputFound : File → Type 0
     AtInputFound f =
-        ((fs : _) × (gs : _) × (r ≡ Err (Refused roles.File fs gs))
+        ((fs : _) × (gs : _) × (r ≡ Err (faults.Refused roles.File fs gs))
         × (unknown : ℕ) × AreFindings s f fs.items gs.items unknown × ((fs.items ≡ []) × (gs.items ≡ []) → ⊥))
         ⊎ (IsInput s input f × AtOutput f)
 
     -- the text of the input
     abbrev pub AtInput : Type 0
     AtInput =
-        ((kind : FaultKind) × (place : ℕ) × (r ≡ Err (Other (faults.Text roles.File kind place)))
+        ((kind : FaultKind) × (place : ℕ) × (r ≡ Err (faults.Text roles.File kind place))
         × IsFirstFault input kind place)
         ⊎ ((header_bytes : List ℕ) × (f : File) × ReadsAs input header_bytes f × AtInputFound f)
 
   -- the schema and the choice
   abbrev pub AtSchema : Type 0
   AtSchema =
-      ((fault : SchemaFault) × (r ≡ Err (refusals.Schema fault)) × IsSchemaFault schema choice fault)
+      ((fault : SchemaFault) × (r ≡ Err (faults.Schema fault)) × IsSchemaFault schema choice fault)
       ⊎ ((s : Schema) × Settles schema choice s × AtInput s)

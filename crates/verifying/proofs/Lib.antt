@@ -3,7 +3,7 @@ mod Comparing
 mod Accepting
 mod Answering
 mod Weak
-mod Reading
+pub mod Reading
 mod Told
 mod Levels
 mod Reached

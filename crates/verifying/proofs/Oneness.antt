@@ -18,10 +18,8 @@ use Rattle.conformance.specs.Said.{Said, instances}
 use Rattle.pin_choices.specs.Chosen.{IsChoiceFault}
 use Rattle.check_findings.specs.Findings.{AreBehind, ConformsWhereNothingIsFound}
 use Rattle.files.specs.declared.fault.Role.TheVariants as roles
-use Rattle.files.specs.declared.fault.Fault.TheVariants as faults
-use Rattle.verifying.specs.declared.fault.VerifyFault.{VerifyFault}
-use Rattle.verifying.specs.declared.fault.VerifyFault.TheVariants.{Refused, Other}
-use Rattle.verifying.specs.declared.fault.VerifyFault.TheVariants as refusals
+use Rattle.faults.specs.declared.fault.Fault.{Fault}
+use Rattle.faults.specs.declared.fault.Fault.TheVariants as faults
 use Rattle.verifying.specs.declared.proof.Proof.{Proof}
 use Rattle.verifying.specs.Verifying.{Settles, IsSchemaFault}
 use Rattle.verifying.specs.Laws.{SameFault, told, SayTheSame, AnswersAreOne}
@@ -72,13 +70,13 @@ module _ (text : List ℕ) (choice : Choice) where
       (subst (λ t. IsNamed t (schemas.Name kind name)) (one_schema text h.0 s h.1 settles.reads) h.2)
   settled_no_fault s settles schemas.Memory h = h
 
-module _ (schema input output certificate : List ℕ) (choice : Choice) (r q : Result Proof VerifyFault)
+module _ (schema input output certificate : List ℕ) (choice : Choice) (r q : Result Proof Fault)
     (law : ConformsWhereNothingIsFound) where
   module _ (s : Schema) where
     at_output_found : (f g : File) → Said s → AtOutputFound schema input output certificate choice r s f g
         → AtOutputFound schema input output certificate choice q s f g → SayTheSame r q
     at_output_found f g said (inl a) (inl b) =
-        says r q (Err (Refused roles.Output a.0 a.1)) (Err (Refused roles.Output b.0 b.1)) a.2 b.2
+        says r q (Err (faults.Refused roles.Output a.0 a.1)) (Err (faults.Refused roles.Output b.0 b.1)) a.2 b.2
         (refl, a.3 said ∙ sym (b.3 said), ap (map told) (a.5 ∙ sym b.5))
     at_output_found f g said (inl a) (inr b) = absurd (a.4 (a.3 said ∙ b.0.nothing said))
     at_output_found f g said (inr a) (inl b) = absurd (b.4 (b.3 said ∙ a.0.nothing said))
@@ -89,8 +87,8 @@ module _ (schema input output certificate : List ℕ) (choice : Choice) (r q : R
         → AtOutput schema input output certificate choice q s f → SayTheSame r q
     at_output f said (inl a) (inl b) =
         let one = text_faults.one_fault output a.0 b.0 a.1 b.1 a.3 b.3 in
-        says r q (Err (Other (faults.Text roles.Output a.0 a.1))) (Err (Other (faults.Text roles.Output b.0 b.1))) a.2
-        b.2 (λ i. faults.Text roles.Output (one.0 i) (one.1 i))
+        says r q (Err (faults.Text roles.Output a.0 a.1)) (Err (faults.Text roles.Output b.0 b.1)) a.2 b.2
+        (refl, one.0, one.1)
     at_output f said (inl a) (inr b) = absurd (texts.reads_no_fault output b.0 b.1 a.0 a.1 b.2 a.3)
     at_output f said (inr a) (inl b) = absurd (texts.reads_no_fault output a.0 a.1 b.0 b.1 a.2 b.3)
     at_output f said (inr a) (inr b) =
@@ -105,7 +103,7 @@ module _ (schema input output certificate : List ℕ) (choice : Choice) (r q : R
         let one = a.4.1 said in
         let other = b.4.1 said in
         let same : a.0.items ≡ b.0.items = one.0 ∙ sym other.0 in
-        says r q (Err (Refused roles.File a.0 a.1)) (Err (Refused roles.File b.0 b.1)) a.2 b.2 (
+        says r q (Err (faults.Refused roles.File a.0 a.1)) (Err (faults.Refused roles.File b.0 b.1)) a.2 b.2 (
           refl,
           same,
           told_once s said (instances s said f) a.0.items a.1.items b.1.items a.3 b.3 one.1
@@ -123,8 +121,8 @@ module _ (schema input output certificate : List ℕ) (choice : Choice) (r q : R
         → SayTheSame r q
     at_input (inl a) (inl b) =
         let one = text_faults.one_fault input a.0 b.0 a.1 b.1 a.3 b.3 in
-        says r q (Err (Other (faults.Text roles.File a.0 a.1))) (Err (Other (faults.Text roles.File b.0 b.1))) a.2
-        b.2 (λ i. faults.Text roles.File (one.0 i) (one.1 i))
+        says r q (Err (faults.Text roles.File a.0 a.1)) (Err (faults.Text roles.File b.0 b.1)) a.2 b.2
+        (refl, one.0, one.1)
     at_input (inl a) (inr b) = absurd (texts.reads_no_fault input b.0 b.1 a.0 a.1 b.2 a.3)
     at_input (inr a) (inl b) = absurd (texts.reads_no_fault input a.0 a.1 b.0 b.1 a.2 b.3)
     at_input (inr a) (inr b) =
@@ -134,7 +132,7 @@ module _ (schema input output certificate : List ℕ) (choice : Choice) (r q : R
   at_schema : AtSchema schema input output certificate choice r → AtSchema schema input output certificate choice q
       → SayTheSame r q
   at_schema (inl a) (inl b) =
-      says r q (Err (refusals.Schema a.0)) (Err (refusals.Schema b.0)) a.1 b.1
+      says r q (Err (faults.Schema a.0)) (Err (faults.Schema b.0)) a.1 b.1
       (schema_faults_once schema choice a.0 b.0 a.2 b.2)
   at_schema (inl a) (inr b) = absurd (settled_no_fault schema choice b.0 b.1 a.0 a.2)
   at_schema (inr a) (inl b) = absurd (settled_no_fault schema choice a.0 a.1 b.0 b.2)

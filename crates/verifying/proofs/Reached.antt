@@ -13,18 +13,16 @@ use Rattle.conformance.specs.Pins.{IsGentlyPinned}
 use Rattle.conformance.specs.Said.{Said, instances, FileConforms}
 use Rattle.certificate_text.specs.Texts.{IsCertificate}
 use Rattle.files.specs.declared.fault.Role.TheVariants as roles
-use Rattle.files.specs.declared.fault.Fault.TheVariants as faults
-use Rattle.verifying.specs.declared.fault.Refusal.{Refusal}
-use Rattle.verifying.specs.declared.fault.Refusal.TheVariants.{OldVersion, BadText, WrongNames, GroundlessSplit, Unstable, NotTheImage}
-use Rattle.verifying.specs.declared.fault.VerifyFault.{VerifyFault}
-use Rattle.verifying.specs.declared.fault.VerifyFault.TheVariants.{Refused, Certificate, Other}
-use Rattle.verifying.specs.declared.fault.VerifyFault.TheVariants as refusals
+use Rattle.faults.specs.declared.refusal.Refusal.{Refusal}
+use Rattle.faults.specs.declared.refusal.Refusal.TheVariants.{OldVersion, BadText, WrongNames, GroundlessSplit, Unstable, NotTheImage}
+use Rattle.faults.specs.declared.fault.Fault.{Fault}
+use Rattle.faults.specs.declared.fault.Fault.TheVariants as faults
 use Rattle.verifying.specs.declared.proof.Proof.{Proof}
 use Rattle.verifying.specs.Verifying.{Settles, IsInput, IsOutput, AreRows, BothHold, IsMerged, TablesLack, IsRefused, IsAccepted, Proves, Verifies}
 use Rattle.verifying.proofs.Levels.{AtTables, AtText, AtSchema}
 
-module _ (s : Schema) (chosen : List Name) (f g : File) (certificate : List ℕ) (r : Result Proof VerifyFault) where
-  lacking : (refusal : Refusal) → r ≡ Err (Certificate refusal) → TablesLack s chosen f certificate refusal
+module _ (s : Schema) (chosen : List Name) (f g : File) (certificate : List ℕ) (r : Result Proof Fault) where
+  lacking : (refusal : Refusal) → r ≡ Err (faults.Certificate refusal) → TablesLack s chosen f certificate refusal
       → (said : Said s) → AtTables s said chosen f g r certificate
   lacking refusal e (inl (j, lacks)) said = (
     j.first,
@@ -48,7 +46,7 @@ module _ (s : Schema) (chosen : List Name) (f g : File) (certificate : List ℕ)
         inr (h.valid, h.gentle, h.are_gentle said, inl (refusal, e, lacks)),
       )
 
-  no_image : r ≡ Err (Certificate NotTheImage) → (b : BothHold s chosen f certificate) (image : List Row)
+  no_image : r ≡ Err (faults.Certificate NotTheImage) → (b : BothHold s chosen f certificate) (image : List Row)
       → AreRows s g image → (IsMerged s chosen f certificate b g image → ⊥) → (said : Said s)
       → AtTables s said chosen f g r certificate
   no_image e b image are other said =
@@ -64,7 +62,7 @@ module _ (s : Schema) (chosen : List Name) (f g : File) (certificate : List ℕ)
         inr (h.valid, h.gentle, h.are_gentle said, inr (b.valid, inl (e, image, are.are said, other))),
       )
 
-  refused : (refusal : Refusal) → r ≡ Err (Certificate refusal) → IsRefused s chosen f g certificate refusal
+  refused : (refusal : Refusal) → r ≡ Err (faults.Certificate refusal) → IsRefused s chosen f g certificate refusal
       → (said : Said s) → AtText s said chosen f g r certificate
   refused OldVersion e h said = inl (e, h)
   refused (BadText line) e h said = inr (inl (line, e, h.0, h.1))
@@ -75,7 +73,7 @@ module _ (s : Schema) (chosen : List Name) (f g : File) (certificate : List ℕ)
 
 -- by the functions of one proof
 accepted : (s : Schema) (said : Said s) (chosen : List Name) (input output certificate : List ℕ)
-    (r : Result Proof VerifyFault) (p : Proof) → r ≡ Ok p → (first second : Table)
+    (r : Result Proof Fault) (p : Proof) → r ≡ Ok p → (first second : Table)
     → IsCertificate certificate first second → (a : IsAccepted s said chosen input output first second p)
     → AtText s said chosen a.checked.input.file a.checked.file r certificate
 accepted s said chosen input output certificate r p e first second text a =
@@ -152,7 +150,7 @@ module _ (s : Schema) (chosen : List Name) (input output certificate : List ℕ)
         (by said).checked.nothing;
   }
 
-  proved : (r : Result Proof VerifyFault) → r ≡ Ok p → (said : Said s) → AtText s said chosen f g r certificate
+  proved : (r : Result Proof Fault) → r ≡ Ok p → (said : Said s) → AtText s said chosen f g r certificate
   proved r e said =
       subst (λ x. AtText s said chosen f x r certificate) (one_output said)
       (subst (λ x. AtText s said chosen x (by said).checked.file r certificate) (one_input said)
@@ -185,17 +183,17 @@ module _ (schema input output certificate : List ℕ) (choice : Choice) where
         ),
       )
 
-  pub reached : (r : Result Proof VerifyFault) → Verifies schema input output certificate choice r
-      → r ≢ Err (Other faults.Memory) → AtSchema schema input output certificate choice r
+  pub reached : (r : Result Proof Fault) → Verifies schema input output certificate choice r
+      → r ≢ Err faults.Memory → AtSchema schema input output certificate choice r
   reached (Ok p) h n = with_proof p h.0 h.1 h.2
-  reached (Err (refusals.Schema fault)) h n = inl (fault, refl, h)
-  reached (Err (Other (faults.Text roles.File kind place))) h n =
+  reached (Err (faults.Schema fault)) h n = inl (fault, refl, h)
+  reached (Err (faults.Text roles.File kind place)) h n =
       inr (h.0, h.1, inl (kind, place, refl, h.2))
-  reached (Err (Refused roles.File fs gs)) (s, settles, (header_bytes, f, reads, unknown, are, some)) n =
+  reached (Err (faults.Refused roles.File fs gs)) (s, settles, (header_bytes, f, reads, unknown, are, some)) n =
       inr (s, settles, inr (header_bytes, f, reads, inl (fs, gs, refl, unknown, are, some)))
-  reached (Err (Other (faults.Text roles.Output kind place))) (s, settles, (f, input_is, h)) n =
+  reached (Err (faults.Text roles.Output kind place)) (s, settles, (f, input_is, h)) n =
       inr (s, settles, inr (input_is.header_bytes, f, input_is.reads, inr (input_is, inl (kind, place, refl, h))))
-  reached (Err (Refused roles.Output fs gs)) (s, settles, (f, input_is, (header_bytes, g, reads, same, some, none))) n =
+  reached (Err (faults.Refused roles.Output fs gs)) (s, settles, (f, input_is, (header_bytes, g, reads, same, some, none))) n =
       inr (
         s,
         settles,
@@ -206,7 +204,7 @@ module _ (schema input output certificate : List ℕ) (choice : Choice) where
           inr (input_is, inr (header_bytes, g, reads, inl (fs, gs, refl, same, some, none))),
         ),
       )
-  reached (Err (Certificate refusal)) (s, settles, (f, input_is, (g, output_is, h))) n =
+  reached (Err (faults.Certificate refusal)) (s, settles, (f, input_is, (g, output_is, h))) n =
       inr (
         s,
         settles,
@@ -222,15 +220,17 @@ module _ (schema input output certificate : List ℕ) (choice : Choice) where
               output_is.reads,
               inr (
                 output_is,
-                refused s (chosen_names s choice) f g certificate (Err (Certificate refusal)) refusal refl h,
+                refused s (chosen_names s choice) f g certificate (Err (faults.Certificate refusal)) refusal refl h,
               ),
             ),
           ),
         ),
       )
-  reached (Err (Other faults.Memory)) h n = absurd (n refl)
-  reached (Err (Other (faults.Text roles.Schema kind place))) h n = absurd h
-  reached (Err (Other (faults.Text roles.Certificate kind place))) h n = absurd h
-  reached (Err (Other (faults.Device role written))) h n = absurd h
-  reached (Err (Refused roles.Schema fs gs)) h n = absurd h
-  reached (Err (Refused roles.Certificate fs gs)) h n = absurd h
+  reached (Err faults.Memory) h n = absurd (n refl)
+  reached (Err (faults.Text roles.Schema kind place)) h n = absurd h
+  reached (Err (faults.Text roles.Certificate kind place)) h n = absurd h
+  reached (Err (faults.Unchecked parts)) h n = absurd h
+  reached (Err (faults.Findings report)) h n = absurd h
+  reached (Err (faults.Device role written)) h n = absurd h
+  reached (Err (faults.Refused roles.Schema fs gs)) h n = absurd h
+  reached (Err (faults.Refused roles.Certificate fs gs)) h n = absurd h

@@ -12,10 +12,10 @@ use Rattle.conformance.proofs.RowOneness.{rows_are_one}
 use Rattle.certificate_text.specs.Faults.{IsOld}
 use Rattle.certificate_text.specs.declared.fault.CertFault.TheVariants as certificates
 use Rattle.certificate_text.proofs.Lining.{one_certificate, no_fault, one_bad_line}
-use Rattle.verifying.specs.declared.fault.Refusal.{Refusal}
-use Rattle.verifying.specs.declared.fault.Refusal.TheVariants.{OldVersion, BadText, WrongNames, GroundlessSplit, Unstable, NotTheImage}
-use Rattle.verifying.specs.declared.fault.VerifyFault.{VerifyFault}
-use Rattle.verifying.specs.declared.fault.VerifyFault.TheVariants.{Certificate}
+use Rattle.faults.specs.declared.refusal.Refusal.{Refusal}
+use Rattle.faults.specs.declared.refusal.Refusal.TheVariants.{OldVersion, BadText, WrongNames, GroundlessSplit, Unstable, NotTheImage}
+use Rattle.faults.specs.declared.fault.Fault.{Fault}
+use Rattle.faults.specs.declared.fault.Fault.TheVariants as faults
 use Rattle.verifying.specs.declared.proof.Proof.{Proof}
 use Rattle.verifying.specs.Verifying.{Lacks}
 use Rattle.verifying.specs.Laws.{SayTheSame}
@@ -58,12 +58,12 @@ module _ (rows : List Row) (pinned : ℕ → Bool) (t : Table) where
   valid_lacks_none v Unstable h = h.2 v.stable
 
 -- what two answers say is what they are
-pub says : (r q x y : Result Proof VerifyFault) → r ≡ x → q ≡ y → SayTheSame x y → SayTheSame r q
+pub says : (r q x y : Result Proof Fault) → r ≡ x → q ≡ y → SayTheSame x y → SayTheSame r q
 says r q x y e d h = subst (λ z. SayTheSame z q) (sym e) (subst (SayTheSame x) (sym d) h)
 
-module _ (s : Schema) (said : Said s) (chosen : List Name) (f g : File) (r q : Result Proof VerifyFault) where
-  refused_once : (a b : Refusal) → r ≡ Err (Certificate a) → q ≡ Err (Certificate b) → a ≡ b → SayTheSame r q
-  refused_once a b e d same = says r q (Err (Certificate a)) (Err (Certificate b)) e d same
+module _ (s : Schema) (said : Said s) (chosen : List Name) (f g : File) (r q : Result Proof Fault) where
+  refused_once : (a b : Refusal) → r ≡ Err (faults.Certificate a) → q ≡ Err (faults.Certificate b) → a ≡ b → SayTheSame r q
+  refused_once a b e d same = says r q (Err (faults.Certificate a)) (Err (faults.Certificate b)) e d same
 
   at_image : (rows : List Row) (second : Table) → AtImage s said chosen f g r rows second
       → AtImage s said chosen f g q rows second → SayTheSame r q
@@ -121,7 +121,7 @@ module _ (s : Schema) (said : Said s) (chosen : List Name) (f g : File) (r q : R
     at_lines (inr a) (inl b) = absurd (b.3.unread a.0 a.1 a.2)
     at_lines (inr a) (inr b) = at_tables a b
 
-    not_old : (x : Result Proof VerifyFault) → IsOld certificate → AtLines s said chosen f g x certificate → ⊥
+    not_old : (x : Result Proof Fault) → IsOld certificate → AtLines s said chosen f g x certificate → ⊥
     not_old x old (inl b) = b.2 old
     not_old x old (inr b) =
         let clash = no_fault certificate b.0 b.1 certificates.OldVersion b.2 old in absurd (cc)

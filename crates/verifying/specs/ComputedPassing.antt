@@ -17,9 +17,9 @@ use Rattle.conformance.specs.Said.{Said, instances}
 use Rattle.pin_choices.specs.Chosen.{AreChosen}
 use Rattle.pin_choices.specs.declared.choice.Chosen.{Chosen}
 use Rattle.step_population.specs.Verdicts.{IsTyped}
+use Rattle.faults.specs.declared.fault.Fault.{Fault}
 use Rattle.verifying.specs.declared.fault.TablesFault.{TablesFault}
 use Rattle.verifying.specs.declared.fault.TablesFault.TheVariants.{Refused, Memory}
-use Rattle.verifying.specs.declared.fault.VerifyFault.{VerifyFault}
 use Rattle.verifying.specs.declared.proof.Proof.{Proof}
 use Rattle.verifying.specs.declared.tables.Judged.{Judged}
 use Rattle.verifying.specs.Verifying.{Settles, IsInput, AreRows, AreWeak, Lacks, BothHold, IsMerged, IsRefused, Verifies}
@@ -86,7 +86,7 @@ module _ (s : Schema) where
 
   -- What is answered of an output, where nothing is found of the input, which reads as f, and this is found of the
   -- certificate's tables:
-  module _ (f : File) (j : Result Judged TablesFault) (r : Result Proof VerifyFault) where
+  module _ (f : File) (j : Result Judged TablesFault) (r : Result Proof Fault) where
     -- the output reads as this structure
     abbrev pub AnswersOutput : File → Type 0
     AnswersOutput g = (schema input output certificate header_bytes : List ℕ) (choice : Choice)
@@ -103,11 +103,11 @@ module _ (s : Schema) where
     -- What is found of an input before the output is read: nothing is, and what the certificate's tables are found to
     -- be; or else what is answered, whatever the output is.
     module _ (schema input : List ℕ) (choice : Choice) (f : File) where
-      abbrev pub IsFinding : Result (Result Judged TablesFault) VerifyFault → Type 0
+      abbrev pub IsFinding : Result (Result Judged TablesFault) Fault → Type 0
       IsFinding (Ok j) = IsInput s input f × IsJudgement (chosen_names s choice) f certificate j
       IsFinding (Err e) = (output : List ℕ) → Verifies schema input output certificate choice (Err e)
 
-    module _ (r : Result (Result Judged TablesFault) VerifyFault) where
+    module _ (r : Result (Result Judged TablesFault) Fault) where
       -- where nothing is wrong with its instances one by one
       abbrev pub FindsTyped : Chosen → File → List Instance → Type 0
       FindsTyped c f is = (schema input header_bytes : List ℕ) (choice : Choice) → Settles schema choice s
@@ -120,7 +120,7 @@ module _ (s : Schema) where
           → AreChosen s (chosen_names s choice) c → ReadsAs input header_bytes f → IsFinding schema input choice f r
 
   -- What is answered, whichever texts and choice those before are:
-  module _ (output certificate : List ℕ) (r : Result Proof VerifyFault) where
+  module _ (output certificate : List ℕ) (r : Result Proof Fault) where
     -- where the input reads as this structure
     abbrev pub AnswersRead : Chosen → File → Type 0
     AnswersRead c f = (schema input header_bytes : List ℕ) (choice : Choice) → Settles schema choice s

@@ -27,12 +27,10 @@ use Rattle.certificate_text.specs.Texts.{IsCertificate}
 use Rattle.certificate_text.specs.Faults.{IsOld, IsBadLine}
 use Rattle.merged_populations.specs.Headline.{IsChecked, IsProved}
 use Rattle.files.specs.declared.fault.Role.TheVariants as roles
-use Rattle.files.specs.declared.fault.Fault.TheVariants as faults
-use Rattle.verifying.specs.declared.fault.Refusal.{Refusal}
-use Rattle.verifying.specs.declared.fault.Refusal.TheVariants.{OldVersion, BadText, WrongNames, GroundlessSplit, Unstable, NotTheImage}
-use Rattle.verifying.specs.declared.fault.VerifyFault.{VerifyFault}
-use Rattle.verifying.specs.declared.fault.VerifyFault.TheVariants.{Refused, Certificate, Other}
-use Rattle.verifying.specs.declared.fault.VerifyFault.TheVariants as refusals
+use Rattle.faults.specs.declared.fault.Fault.{Fault}
+use Rattle.faults.specs.declared.fault.Fault.TheVariants as faults
+use Rattle.faults.specs.declared.refusal.Refusal.{Refusal}
+use Rattle.faults.specs.declared.refusal.Refusal.TheVariants.{OldVersion, BadText, WrongNames, GroundlessSplit, Unstable, NotTheImage}
 use Rattle.verifying.specs.declared.proof.Proof.{Proof}
 
 -- The text reads as this schema, whose names are resolved, and each chosen name is an entity of it.
@@ -178,15 +176,16 @@ module _ (schema input output certificate : List ℕ) (choice : Choice) where
       UpToInput (λ s f. (header_bytes : List ℕ) × (g : File) × ReadsAs output header_bytes g
       × ((said : Said s) → fs ≡ findings s said.domain said.entities g) × (fs ≢ []) × (gs ≡ []))
 
-  -- What is answered. Each refusal comes where nothing before it is refused; want of memory may come in place of any.
-  abbrev pub Verifies : Result Proof VerifyFault → Type 0
+  -- What is answered. Each refusal comes where nothing before it is refused; want of memory may come in place of any. No
+  -- other fault comes.
+  abbrev pub Verifies : Result Proof Fault → Type 0
   Verifies (Ok p) = UpToChoice (λ s. Proves s (chosen_names s choice) input output certificate p)
-  Verifies (Err (refusals.Schema fault)) = IsSchemaFault schema choice fault
-  Verifies (Err (Other (faults.Text roles.File kind place))) = UpToChoice (λ s. IsFirstFault input kind place)
-  Verifies (Err (Refused roles.File fs gs)) = AreOfInput fs.items gs.items
-  Verifies (Err (Other (faults.Text roles.Output kind place))) = UpToInput (λ s f. IsFirstFault output kind place)
-  Verifies (Err (Refused roles.Output fs gs)) = AreOfOutput fs.items gs.items
-  Verifies (Err (Certificate refusal)) =
+  Verifies (Err (faults.Schema fault)) = IsSchemaFault schema choice fault
+  Verifies (Err (faults.Text roles.File kind place)) = UpToChoice (λ s. IsFirstFault input kind place)
+  Verifies (Err (faults.Refused roles.File fs gs)) = AreOfInput fs.items gs.items
+  Verifies (Err (faults.Text roles.Output kind place)) = UpToInput (λ s f. IsFirstFault output kind place)
+  Verifies (Err (faults.Refused roles.Output fs gs)) = AreOfOutput fs.items gs.items
+  Verifies (Err (faults.Certificate refusal)) =
       UpToOutput (λ s f g. IsRefused s (chosen_names s choice) f g certificate refusal)
-  Verifies (Err (Other faults.Memory)) = Unit {0}
+  Verifies (Err faults.Memory) = Unit {0}
   Verifies (Err fault) = ⊥

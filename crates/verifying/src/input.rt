@@ -19,7 +19,7 @@ ghost use Rattle.verifying.specs.ComputedPassing.{
   IsReady,
 };
 
-use crate::fault::{TablesFault, VerifyFault, of_text};
+use crate::fault::TablesFault;
 use crate::output::verify_output;
 use crate::proof::Proof;
 use crate::tables::{Judged, judge_certificate};
@@ -28,7 +28,8 @@ use check_findings::rules::schema_is_said;
 use conformance::value_laws::no_findings_exactly_where_it_conforms;
 use express_rules::report::RuleReport;
 use express_types::graph::TypeGraph;
-use files::fault::Role;
+use faults::fault::{Fault, of_file};
+use files::fault::{FileFault, Role};
 use pin_choices::choice::Chosen;
 use population_layouts::tables::SchemaTables;
 use population_typed::population::Population;
@@ -58,7 +59,7 @@ fn judge_typed<'r, 't, 's: 'r, 'a>(
     chosen: &Chosen,
     population: Population<'s, 't, 'r, 'a>,
     certificate: Vec<u8>,
-) -> Result<Result<Judged<'r>, TablesFault>, VerifyFault<'s>>
+) -> Result<Result<Judged<'r>, TablesFault>, Fault<'s>>
     requires said { Said (schema_of population.types.now.names.schema.now) }
     requires ready { AreReady population.types.now graph.now.rules graph.now.domain
         graph.now.judged.firsts.items tables.now settings.now }
@@ -73,7 +74,7 @@ fn judge_typed<'r, 't, 's: 'r, 'a>(
     match ruled {
         Ruled::Broken(report) => {
             let RuleReport { findings, .. } = report;
-            Err(VerifyFault::Refused {
+            Err(Fault::Refused {
                 role: Role::File,
                 findings: Vec::new(alloc),
                 rules: findings,
@@ -96,7 +97,7 @@ fn judge_by_settings<'r, 't, 's: 'r>(
     chosen: &Chosen,
     exchange: &'r Exchange<'_>,
     certificate: Vec<u8>,
-) -> Result<Result<Judged<'r>, TablesFault>, VerifyFault<'s>>
+) -> Result<Result<Judged<'r>, TablesFault>, Fault<'s>>
     requires ready { AreReady graph.now.types graph.now.rules graph.now.domain
         graph.now.judged.firsts.items tables.now settings.now }
     ensures finds { Finds (schema_of graph.entry.now.types.names.schema.now)
@@ -125,7 +126,7 @@ fn judge_by_settings<'r, 't, 's: 'r>(
             population,
             certificate,
         ),
-        Verdict::Faulty(findings) => Err(VerifyFault::Refused {
+        Verdict::Faulty(findings) => Err(Fault::Refused {
             role: Role::File,
             findings,
             rules: Vec::new(alloc),
@@ -143,7 +144,7 @@ fn judge_input<'r, 't, 's: 'r>(
     chosen: &Chosen,
     exchange: &'r Exchange<'_>,
     certificate: Vec<u8>,
-) -> Result<Result<Judged<'r>, TablesFault>, VerifyFault<'s>>
+) -> Result<Result<Judged<'r>, TablesFault>, Fault<'s>>
     requires made { IsMade graph.now.types }
     requires rules { AreRuleTables (schema_of graph.now.types.names.schema.now) graph.now.rules }
     requires domain { AreDomainTables (schema_of graph.now.types.names.schema.now)
@@ -178,7 +179,7 @@ fn verify_read<'r, 't, 's: 'r>(
     chosen: &Chosen,
     exchange: &'r Exchange<'_>,
     claim: Claim<'_>,
-) -> Result<Proof, VerifyFault<'s>>
+) -> Result<Proof, Fault<'s>>
     requires made { IsMade graph.now.types }
     requires rules { AreRuleTables (schema_of graph.now.types.names.schema.now) graph.now.rules }
     requires domain { AreDomainTables (schema_of graph.now.types.names.schema.now)
@@ -206,7 +207,7 @@ pub(crate) fn verify_input<'s>(
     chosen: &Chosen,
     input: &[u8],
     claim: Claim<'_>,
-) -> Result<Proof, VerifyFault<'s>>
+) -> Result<Proof, Fault<'s>>
     requires made { IsMade graph.now.types }
     requires rules { AreRuleTables (schema_of graph.now.types.names.schema.now) graph.now.rules }
     requires domain { AreDomainTables (schema_of graph.now.types.names.schema.now)
@@ -218,7 +219,7 @@ pub(crate) fn verify_input<'s>(
 {
     let exchange = match read_exchange(alloc, keys, input) {
         Ok(exchange) => exchange,
-        Err(fault) => return Err(of_text(Role::File, fault)),
+        Err(fault) => return Err(of_file(FileFault::of_text(Role::File, fault))),
     };
     let tables = SchemaTables::of(alloc, &graph.types)?;
     verify_read(alloc, keys, graph, &tables, chosen, &exchange, claim)

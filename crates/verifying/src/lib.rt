@@ -2,7 +2,7 @@
 //! from four texts and a choice of entities.
 #![tactic(auto)]
 
-pub mod fault;
+mod fault;
 mod input;
 pub mod laws;
 mod output;

@@ -18,11 +18,13 @@ ghost use Rattle.verifying.specs.ComputedPassing.{
   IsReady,
 };
 
-use crate::fault::{Refusal, TablesFault, VerifyFault, of_text};
+use crate::fault::TablesFault;
 use crate::proof::Proof;
 use crate::rows::plain_rows;
 use crate::tables::Judged;
-use files::fault::Role;
+use faults::fault::{Fault, of_file};
+use faults::refusal::Refusal;
+use files::fault::{FileFault, Role};
 use merged_outputs::merged::is_merged;
 use merged_populations::laws::checks_prove;
 use population_layouts::tables::SchemaTables;
@@ -112,7 +114,7 @@ fn verify_image<'s: 'r, 't, 'r, 'b, 'q>(
     image: &'r Exchange<'_>,
     input: &Exchange<'b>,
     judged: &Result<Judged<'q>, TablesFault>,
-) -> Result<Proof, VerifyFault<'s>>
+) -> Result<Proof, Fault<'s>>
     requires made { IsMade types.now }
     requires tables { AreTables types.now tables.now }
     requires ready { IfOk judged.now IsReady }
@@ -126,7 +128,7 @@ fn verify_image<'s: 'r, 't, 'r, 'b, 'q>(
             let proof = answer(alloc, keys, population, input, judged)?;
             Ok(proof)
         }
-        Verdict::Faulty(findings) => Err(VerifyFault::Refused {
+        Verdict::Faulty(findings) => Err(Fault::Refused {
             role: Role::Output,
             findings,
             rules: Vec::new(alloc),
@@ -144,7 +146,7 @@ pub(crate) fn verify_output<'s>(
     input: &Exchange<'_>,
     judged: &Result<Judged<'_>, TablesFault>,
     output: &[u8],
-) -> Result<Proof, VerifyFault<'s>>
+) -> Result<Proof, Fault<'s>>
     requires made { IsMade types.now }
     requires tables { AreTables types.now tables.now }
     requires ready { IfOk judged.now IsReady }
@@ -153,6 +155,6 @@ pub(crate) fn verify_output<'s>(
 {
     match read_exchange(alloc, keys, output) {
         Ok(image) => verify_image(alloc, keys, types, tables, &image, input, judged),
-        Err(fault) => Err(of_text(Role::Output, fault)),
+        Err(fault) => Err(of_file(FileFault::of_text(Role::Output, fault))),
     }
 }

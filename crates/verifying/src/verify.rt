@@ -3,11 +3,11 @@
 ghost use Rattle.pin_choices.specs.Chosen.{choice_of};
 ghost use Rattle.verifying.specs.Verifying.{Verifies};
 
-use crate::fault::{VerifyFault, of_schema};
 use crate::input::{Claim, verify_input};
 use crate::proof::Proof;
 use express_text::read_schema;
 use express_types::resolving::resolve;
+use faults::fault::{Fault, of_schema};
 use pin_choices::choice::Choice;
 use std::alloc::Global;
 use std::hash::RandomState;
@@ -17,14 +17,14 @@ use std::hash::RandomState;
 /// may be merged. Who made output and certificate plays no part, nor does whether the choice is strict.
 ///
 /// The fault is the first of these that is due: that of the schema's text, then of its names, then the
-/// first chosen name that is no entity (`Schema`); the fault of the input's text (`Other`); what is
-/// found of the input, of rules too (`Refused`); the fault of the output's text (`Other`); what is
+/// first chosen name that is no entity (`Schema`); the fault of the input's text (`Text`); what is
+/// found of the input, of rules too (`Refused`); the fault of the output's text (`Text`); what is
 /// wrong with the output's instances one by one (`Refused`); that the certificate is of version 1, or
 /// no certificate, or its first table not that of the input under the weak pins, or its second one not
 /// under the gentle pins that the first one gives, or the output not what comes of the input by the
-/// second one (`Certificate`). Want of memory may come in place of any, as `Memory` in `Other`. The
-/// limits of 2^40 bytes are the caller's to test. The certificate is let go of once its tables are
-/// read. Names, and keys of rules, are hashed by these keys.
+/// second one (`Certificate`). Want of memory may come in place of any, as `Memory`. The limits of 2^40
+/// bytes are the caller's to test. The certificate is let go of once its tables are read. Names, and
+/// keys of rules, are hashed by these keys.
 pub fn verify<'s>(
     alloc: Global,
     keys: RandomState,
@@ -33,7 +33,7 @@ pub fn verify<'s>(
     output: &[u8],
     choice: &Choice,
     certificate: Vec<u8>,
-) -> Result<Proof, VerifyFault<'s>>
+) -> Result<Proof, Fault<'s>>
     ensures { Verifies schema.now input.now output.now certificate.items (choice_of choice.now) result }
 {
     let claim = Claim {

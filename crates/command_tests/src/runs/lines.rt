@@ -4,7 +4,7 @@ use super::{Ending, FILE, Paper, run};
 use command_line::usage::unread_words;
 use commands::command::{refuse, refuse_to_read};
 use devices::counted::Counted;
-use files::fault::{Fault, Role, print_line};
+use files::fault::{FileFault, Role, print_line};
 use files::read::ReadFault;
 use std::alloc::Global;
 use std::hash::RandomState;
@@ -325,7 +325,7 @@ fn words_that_ask_for_no_file_are_answered(rt: HostRuntime) -> Result<(), Fail> 
 }
 
 // Whether the fault has this line.
-fn has_line(alloc: Global, fault: Fault, line: &str) -> bool {
+fn has_line(alloc: Global, fault: FileFault, line: &str) -> bool {
     let mut err = Counted::new(Paper::new(alloc, ALL));
     let printed = print_line(&mut err, fault);
     let paper = err.into_inner();
@@ -335,14 +335,14 @@ fn has_line(alloc: Global, fault: Fault, line: &str) -> bool {
 #[test]
 fn a_fault_has_its_line(rt: HostRuntime) {
     let alloc = rt.alloc();
-    let too_large = Fault::of_read(Role::Schema, ReadFault::TooLarge);
-    let too_many = Fault::Text {
+    let too_large = FileFault::of_read(Role::Schema, ReadFault::TooLarge);
+    let too_many = FileFault::Text {
         role: Role::Output,
         kind: FaultKind::LeftOut(LeftOut::TooMany),
         place: u64::MAX,
     };
-    let unread = Fault::of_read(Role::Schema, ReadFault::Device);
-    let unwritten = Fault::Device {
+    let unread = FileFault::of_read(Role::Schema, ReadFault::Device);
+    let unwritten = FileFault::Device {
         role: Role::Certificate,
         written: 0,
     };

@@ -1,5 +1,6 @@
+use Rattle.express_syntax.specs.SchemaViews.{schema_of}
 use Rattle.step_exchange.specs.Exchanges.{structure}
-use Rattle.checking.proofs.Answering.{as-many}
+use Rattle.checking.proofs.Answering.{as-many, unread-text}
 use Rattle.checking.proofs.check.report.Goals as goal
 
 pub returns : goal.returns
@@ -13,3 +14,8 @@ returns c =
         instances = as-many x c.len-instances.result c.len-instances.ensures;
       },
     )
+
+pub returns-in-Err : goal.returns-in-Err
+returns-in-Err c =
+    unread-text (schema_of c.args.graph.types.names.schema.now) c.args.bytes.now c.in-Err.fault c.of_text.result
+    c.of_file.result c.of_text.ensures c.of_file.ensures c.requires.within c.in-Err.ensures.fault

@@ -17,7 +17,7 @@ loop-number-init c m x at same tell = counts-none c.args.report.now
 
 pub outcome-requires-clause-numbered : goal.outcome-requires-clause-numbered
 outcome-requires-clause-numbered c =
-    let s = schema_in c.args.asked.now.setting.now in
+    let s = schema_in c.args.evaluator.now.setting.now in
     let rules = c.args.plan.now.rules.now in
     let ns = c.args.tried.now.numbers.now in
     let k = c.loop-number.number-index in
@@ -40,7 +40,7 @@ outcome-requires-clause-among c =
 
 pub returns : goal.returns
 returns c m x at same tell =
-    let S = c.args.asked.now.setting.now in
+    let S = c.args.evaluator.now.setting.now in
     let rules = c.args.plan.now.rules.now in
     subst (λ l. Counts (broken_at S m x rules l) (length (open_at S m x rules l)) c.args.report.now c.loop-number.report)
     (take_all c.loop-number.number-index c.args.tried.now.numbers.now c.loop-number-test.false)
@@ -48,7 +48,7 @@ returns c m x at same tell =
 
 pub loop-number-preserved : goal.loop-number-preserved
 loop-number-preserved c m x at same tell =
-    let S = c.args.asked.now.setting.now in
+    let S = c.args.evaluator.now.setting.now in
     let s = schema_in S in
     let rules = c.args.plan.now.rules.now in
     let ns = c.args.tried.now.numbers.now in

@@ -7,9 +7,9 @@ use Rattle.express_rules.proofs.check.add_instance.Given as goal
 
 abbrev pub invariant-loop-number : goal.invariant-loop-number
 invariant-loop-number l =
-    (m : Meant l.asked.setting.now) (x : Instance)
-    → slice_get (population_in l.asked.setting.now) l.tried.row ≡ Some x → l.tried.name ≡ x.name
-    → TellAll l.asked.setting.now m x l.tried.types.now l.plan.rules.now
-    → Counts (broken_at l.asked.setting.now m x l.plan.rules.now (take l.number-index l.tried.numbers.now))
-    (length (open_at l.asked.setting.now m x l.plan.rules.now (take l.number-index l.tried.numbers.now))) l.initial.report
+    (m : Meant l.evaluator.setting.now) (x : Instance)
+    → slice_get (population_in l.evaluator.setting.now) l.tried.row ≡ Some x → l.tried.name ≡ x.name
+    → TellAll l.evaluator.setting.now m x l.tried.types.now l.plan.rules.now
+    → Counts (broken_at l.evaluator.setting.now m x l.plan.rules.now (take l.number-index l.tried.numbers.now))
+    (length (open_at l.evaluator.setting.now m x l.plan.rules.now (take l.number-index l.tried.numbers.now))) l.initial.report
     l.report

@@ -1,13 +1,23 @@
-use Rattle.std.proofs.Common.{rules, ◌≡◌, [], length, ◌∙◌, ap, map, sym, subst}
+use Rattle.std.proofs.Common.{rules, ◌≡◌, List, [], length, ◌∙◌, ap, map, sym, subst}
+use Rattle.std.specs.Prelude.{flat_map}
 use Rattle.schema_rules.specs.Findings.{AreFindingsOf}
 use Rattle.schema_rules.specs.declared.finding.RuleFindingKind.TheVariants.{WhereFalse}
+use Rattle.schema_conditions.specs.declared.rule.DomainRule.{DomainRule}
 use Rattle.schema_conditions.specs.Seen.{rule_seen}
 use Rattle.conformance.specs.DomainFindings.{rule_findings, unknown}
-use Rattle.rule_settings.specs.Settings.{schema_in, population_in}
-use Rattle.express_rules.specs.Counting.{capped}
+use Rattle.rule_settings.specs.declared.setting.Setting.{Setting}
+use Rattle.rule_settings.specs.Settings.{Meant, schema_in, population_in}
+use Rattle.express_rules.specs.declared.report.RuleReport.{RuleReport}
+use Rattle.express_rules.specs.Counting.{capped, broken_in, open_in, Has}
 use Rattle.express_rules.proofs.Counted.{all-findings}
 use Rattle.express_rules.proofs.Ruleless.{no-rules, none-false, none-unknown}
 use Rattle.express_rules.proofs.check.check_rules.Goals as goal
+
+-- what is told of a setting
+abbrev Reports : List DomainRule → RuleReport → Setting → Type 0
+Reports rules r S =
+    (m : Meant S)
+    → Has (flat_map (broken_in S m rules) (population_in S)) (length (flat_map (open_in S m rules) (population_in S))) r
 
 pub returns-then-is_empty-clause-findings : goal.returns-then-is_empty-clause-findings
 returns-then-is_empty-clause-findings c m =
@@ -34,14 +44,19 @@ returns-clause-findings c m =
     let S = c.args.setting.now in
     let s = schema_in S in
     let r = c.in_ok-report.report in
+    let told =
+    subst (Reports c.in_ok-plan.plan.rules.now r) c.of-evaluator.ensures.setting c.in_ok-report.ensures m in
     subst (λ rules. AreFindingsOf WhereFalse (rule_findings s m.domain m.entities m.attributes (population_in S)
     (map (rule_seen s) rules)) r.findings.items) c.in_ok-plan.ensures.rules
-    (all-findings _ r.findings.items (c.in_ok-report.ensures m).findings)
+    (all-findings _ r.findings.items told.findings)
 
 pub returns-clause-unknown : goal.returns-clause-unknown
 returns-clause-unknown c m =
     let S = c.args.setting.now in
     let s = schema_in S in
-    (c.in_ok-report.ensures m).unknown
+    let told =
+    subst (Reports c.in_ok-plan.plan.rules.now c.in_ok-report.report) c.of-evaluator.ensures.setting
+    c.in_ok-report.ensures m in
+    told.unknown
     ∙ ap (λ rules. capped (unknown s m.domain m.entities m.attributes (population_in S) (map (rule_seen s) rules)))
     c.in_ok-plan.ensures.rules

@@ -18,7 +18,7 @@ use Rattle.express_rules.proofs.check.planned_report.Goals as goal
 pub add_instance-requires-clause-within : goal.add_instance-requires-clause-within
 add_instance-requires-clause-within c =
     let rules = c.args.plan.now.rules.now in
-    let forms = c.args.asked.now.setting.now.extents.now.population.now.rows.forms.items in
+    let forms = c.args.evaluator.now.setting.now.extents.now.population.now.rows.forms.items in
     let form = c.instance-instance.result.form in
     let row : c.row_at-numbers.result.now ≡ row_by (map (numbers_by rules 0) forms) form =
     c.row_at-numbers.ensures
@@ -28,7 +28,7 @@ add_instance-requires-clause-within c =
 
 pub loop-row-preserved : goal.loop-row-preserved
 loop-row-preserved c m =
-    let S = c.args.asked.now.setting.now in
+    let S = c.args.evaluator.now.setting.now in
     let p = S.extents.now.population.now in
     let s = schema_in S in
     let is = population_in S in
@@ -65,7 +65,7 @@ loop-row-preserved c m =
 
 pub returns : goal.returns
 returns c m =
-    let S = c.args.asked.now.setting.now in
+    let S = c.args.evaluator.now.setting.now in
     let rules = c.args.plan.now.rules.now in
     let past = c.loop-row-test.false in
     let end = c.len-row-end.ensures in

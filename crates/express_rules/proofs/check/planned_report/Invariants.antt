@@ -5,6 +5,6 @@ use Rattle.express_rules.proofs.check.planned_report.Given as goal
 
 abbrev pub invariant-loop-row : goal.invariant-loop-row
 invariant-loop-row l =
-    (m : Meant l.asked.setting.now)
-    → Has (flat_map (broken_in l.asked.setting.now m l.plan.rules.now) (take l.row (population_in l.asked.setting.now)))
-    (length (flat_map (open_in l.asked.setting.now m l.plan.rules.now) (take l.row (population_in l.asked.setting.now)))) l.report
+    (m : Meant l.evaluator.setting.now)
+    → Has (flat_map (broken_in l.evaluator.setting.now m l.plan.rules.now) (take l.row (population_in l.evaluator.setting.now)))
+    (length (flat_map (open_in l.evaluator.setting.now m l.plan.rules.now) (take l.row (population_in l.evaluator.setting.now)))) l.report

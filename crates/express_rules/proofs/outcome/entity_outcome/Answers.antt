@@ -9,7 +9,7 @@ use Rattle.express_rules.proofs.outcome.entity_outcome.Goals as goal
 
 pub returns-then-is_of_entity : goal.returns-then-is_of_entity
 returns-then-is_of_entity c =
-    let S = c.args.asked.now.setting.now in
+    let S = c.args.evaluator.now.setting.now in
     let r = c.args.rule.now in
     IfOk-weaker c.said_of.result _ _ (λ p h m x at same.
     let said : Datum → Logical = said_of S m r in
@@ -19,6 +19,6 @@ returns-then-is_of_entity c =
 
 pub returns : goal.returns
 returns c m x at same =
-    let S = c.args.asked.now.setting.now in
+    let S = c.args.evaluator.now.setting.now in
     ap (λ b. least (map (λ d. said_of S m c.args.rule.now d) (cond b (instance x.name ∷ []) [])))
     (sym c.if-is_of_entity.false ∙ c.is_of_entity.ensures x at)

@@ -17,7 +17,7 @@ use Rattle.express_rules.proofs.outcome.type_outcome.Goals as goal
 
 pub loop-value-init : goal.loop-value-init
 loop-value-init c m x at =
-    let S = c.args.asked.now.setting.now in
+    let S = c.args.evaluator.now.setting.now in
     let t = c.args.declared in
     let plan = c.args.plan.now in
     let p : ℕ → Bool = λ i. is_under plan.renamed i t in
@@ -31,7 +31,7 @@ loop-value-init c m x at =
 
 pub returns-then-not-has_one_under : goal.returns-then-not-has_one_under
 returns-then-not-has_one_under c m x at tell =
-    let S = c.args.asked.now.setting.now in
+    let S = c.args.evaluator.now.setting.now in
     let t = c.args.declared in
     let plan = c.args.plan.now in
     let p : ℕ → Bool = λ i. is_under plan.renamed i t in
@@ -41,7 +41,7 @@ returns-then-not-has_one_under c m x at tell =
 
 pub loop-value-preserved : goal.loop-value-preserved
 loop-value-preserved c m x at =
-    let S = c.args.asked.now.setting.now in
+    let S = c.args.evaluator.now.setting.now in
     let t = c.args.declared in
     let p : ℕ → Bool = λ i. is_under c.args.plan.now.renamed i t in
     let said : Datum → Logical = λ d. said_of S m c.args.rule.now d in

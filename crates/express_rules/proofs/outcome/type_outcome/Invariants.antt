@@ -11,10 +11,10 @@ use Rattle.express_rules.proofs.outcome.type_outcome.Given as goal
 -- what is left decides
 abbrev pub invariant-loop-value : goal.invariant-loop-value
 invariant-loop-value l =
-    (m : Meant l.asked.setting.now) (x : Instance) → slice_get (population_in l.asked.setting.now) l.row ≡ Some x
-    → least_with (said_of_those (λ i. is_under l.plan.renamed i l.declared) (said_of l.asked.setting.now m l.rule) l.values.items)
+    (m : Meant l.evaluator.setting.now) (x : Instance) → slice_get (population_in l.evaluator.setting.now) l.row ≡ Some x
+    → least_with (said_of_those (λ i. is_under l.plan.renamed i l.declared) (said_of l.evaluator.setting.now m l.rule) l.values.items)
     l.outcome
-    ≡ said_by l.asked.setting.now m x l.rule (holders.Type l.declared)
+    ≡ said_by l.evaluator.setting.now m x l.rule (holders.Type l.declared)
 
 abbrev pub decreases-loop-value : goal.decreases-loop-value
 decreases-loop-value l = length l.values.items

@@ -12,8 +12,8 @@ rule_tables-requires c =
         known = c.requires.known;
         lines = c.requires.lines;
         each = c.requires.each;
-        places = ap places_of c.deref.ensures.value ∙ c.requires.places;
-        own = subst (λ rows. AreRows (all_places s) s.declarations (graph_of rows)) (sym c.deref-2.ensures.value)
+        places = ap places_of c.deref-2.ensures.value ∙ c.requires.places;
+        own = subst (λ rows. AreRows (all_places s) s.declarations (graph_of rows)) (sym c.deref-3.ensures.value)
             c.requires.own;
       };
     }

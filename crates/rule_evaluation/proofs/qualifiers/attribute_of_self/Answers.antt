@@ -13,5 +13,5 @@ unfolding element_datum
 returns-in-Instance-clause-worth c m =
     let C = c.args.context.now in
     ap (λ e. worth_in C m (instance_of (bare (element_datum e))) (datum_of holding c.attribute.new.value) c.attribute.result) c.in-Instance.is
-    ∙ c.attribute.ensures.worth m (below_rank C.setting.now m C.limit)
+    ∙ c.attribute.ensures.worth m.meant (below_rank C.setting.now m.meant C.limit)
     ∙ ap (λ e. attribute_of (setting_in C m) (element_datum e) (capitals c.args.name)) (sym c.in-Instance.is)

@@ -16,7 +16,7 @@ returns c p ent k =
     let rows = graph_of c.args.sources.now.own.now in
     let o = c.first_named.result in
     let found = c.first_named.ensures
-    ∙ ap (λ row. find (λ (q : ℕ). has_name a (slice_get (places_of c.args.sources.now.places.now) q)) row) c.row_of.ensures
+    ∙ ap (λ row. find (λ (q : ℕ). has_name a (slice_get (places_of c.args.sources.now.places.now) q)) row) c.row_of-row.ensures
     ∙ ap (λ ps. find (λ (q : ℕ). has_name a (slice_get ps q)) (next rows c.args.entity)) c.requires.sources.places in
     number-of s (p, a) o
     (own-found s c.requires.sources.known.resolved rows c.requires.sources.own p a c.args.entity ent k o found)

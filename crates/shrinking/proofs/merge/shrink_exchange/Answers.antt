@@ -41,7 +41,7 @@ returns-clause-shrinks g c = λ names are bytes within reads.
     c.in-Clean.is (c.in-Ok.ensures.merges names are) reads in
     cut s names bytes (g.O.Sink.held c.args.out.now) (g.O.Sink.held c.write_both.new.out)
     (g.C.Sink.held c.args.certificate.now) (g.C.Sink.held c.write_both.new.certificate) (smaller_text x second)
-    (certificate_text first second) said.result c.in-Err-write_both.fault c.of_fault.result c.of_fault.ensures
+    (certificate_text first second) said.result c.in-Err-write_both.fault c.of_file.result c.of_file.ensures
     (done s names bytes x c.in-Clean.unknown first second c.conforms_where_nothing_is_found.ensures
     c.merges_are_least.ensures tabled within said.result (said.ensures.report tabled.found) said.ensures.clean
     said.ensures.kept said.ensures.rounds) c.in-Err-write_both.ensures.writes

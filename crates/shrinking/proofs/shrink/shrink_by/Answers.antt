@@ -1,7 +1,10 @@
+use Rattle.std.proofs.Common.{sym, ◌∙◌}
 use Rattle.express_syntax.specs.SchemaViews.{schema_of}
 use Rattle.pin_choices.specs.Chosen.{choice_of}
+use Rattle.files.specs.declared.fault.Role.TheVariants.{Certificate, File, Output, Schema}
+use Rattle.faults.proofs.Failing.{schema_alone, schema_first}
+use Rattle.shrinking.specs.declared.summary.Summary.{Summary}
 use Rattle.shrinking.proofs.Answering.{schema_unread, unresolved}
-use Rattle.shrinking.proofs.Failing.{of_schema_told}
 use Rattle.shrinking.proofs.shrink.shrink_by.Goals as goal
 
 pub returns-in-Err-clause-shrinks : goal.returns-in-Err-clause-shrinks
@@ -19,5 +22,47 @@ returns-clause-shrinks g c =
 
 pub returns-clause-file_told : goal.returns-clause-file_told
 returns-clause-file_told g c =
-    of_schema_told (g.F.Source.fails c.args.file.now) c.in-Err-resolve.fault c.of_schema-in-Err-resolve.result
+    schema_first Summary (g.F.Source.fails c.args.file.now) c.in-Err-resolve.fault c.of_schema-in-Err-resolve.result
     c.of_schema-in-Err-resolve.ensures
+
+pub returns-in-Err-clause-file_told : goal.returns-in-Err-clause-file_told
+returns-in-Err-clause-file_told g c =
+    schema_first Summary (g.F.Source.fails c.args.file.now) c.in-Err.fault c.of_schema.result c.of_schema.ensures
+
+pub returns-in-Err-clause-no_schema_fault : goal.returns-in-Err-clause-no_schema_fault
+returns-in-Err-clause-no_schema_fault g c = schema_alone Summary Schema c.in-Err.fault c.of_schema.result
+    c.of_schema.ensures
+
+pub returns-in-Err-clause-file_fault : goal.returns-in-Err-clause-file_fault
+returns-in-Err-clause-file_fault g c = λ fine.
+    fine ∙ sym (schema_alone Summary File c.in-Err.fault c.of_schema.result
+    c.of_schema.ensures)
+
+pub returns-in-Err-clause-output_fault : goal.returns-in-Err-clause-output_fault
+returns-in-Err-clause-output_fault g c = λ fine.
+    fine ∙ sym (schema_alone Summary Output c.in-Err.fault c.of_schema.result
+    c.of_schema.ensures)
+
+pub returns-in-Err-clause-certificate_fault : goal.returns-in-Err-clause-certificate_fault
+returns-in-Err-clause-certificate_fault g c = λ fine.
+    fine ∙ sym (schema_alone Summary Certificate c.in-Err.fault c.of_schema.result
+    c.of_schema.ensures)
+
+pub returns-clause-no_schema_fault : goal.returns-clause-no_schema_fault
+returns-clause-no_schema_fault g c = schema_alone Summary Schema c.in-Err-resolve.fault c.of_schema-in-Err-resolve.result
+    c.of_schema-in-Err-resolve.ensures
+
+pub returns-clause-file_fault : goal.returns-clause-file_fault
+returns-clause-file_fault g c = λ fine.
+    fine ∙ sym (schema_alone Summary File c.in-Err-resolve.fault c.of_schema-in-Err-resolve.result
+    c.of_schema-in-Err-resolve.ensures)
+
+pub returns-clause-output_fault : goal.returns-clause-output_fault
+returns-clause-output_fault g c = λ fine.
+    fine ∙ sym (schema_alone Summary Output c.in-Err-resolve.fault c.of_schema-in-Err-resolve.result
+    c.of_schema-in-Err-resolve.ensures)
+
+pub returns-clause-certificate_fault : goal.returns-clause-certificate_fault
+returns-clause-certificate_fault g c = λ fine.
+    fine ∙ sym (schema_alone Summary Certificate c.in-Err-resolve.fault c.of_schema-in-Err-resolve.result
+    c.of_schema-in-Err-resolve.ensures)

@@ -4,7 +4,7 @@ use Rattle.schema_semantics.specs.Parts.{AreUnchecked}
 use Rattle.schema_parts.specs.Adding.{unchecked_in}
 use Rattle.conformance.specs.Choices.{chosen_names}
 use Rattle.pin_choices.specs.Chosen.{choice_of}
-use Rattle.shrinking.specs.declared.fault.ShrinkFault.TheVariants.{Unchecked}
+use Rattle.faults.specs.declared.fault.Fault.TheVariants.{Unchecked}
 use Rattle.shrinking.proofs.Answering.{settled, unknown, unlooked}
 use Rattle.shrinking.proofs.shrink.shrink_graph.Goals as goal
 

@@ -1,6 +1,7 @@
-use Rattle.std.proofs.Common.{subst, sym, Err}
+use Rattle.std.proofs.Common.{subst, sym, Err, ◌∙◌}
 use Rattle.std.proofs.lemmas.Result.{err_from_is_err_and}
 use Rattle.express_syntax.specs.SchemaViews.{schema_of}
+use Rattle.faults.specs.Faults.{of_file}
 use Rattle.verifying.specs.Verifying.{Verifies}
 use Rattle.verifying.proofs.Answering.{unread_input}
 use Rattle.verifying.proofs.input.verify_input.Goals as goal
@@ -10,7 +11,8 @@ returns-in-Err c schema choice settles are =
     let output = c.args.claim.output.now in
     let certificate = c.args.claim.certificate.items in
     let input = c.args.input.now in
-    subst (λ e. Verifies schema input output certificate choice (Err e)) (sym c.of_text.ensures)
+    subst (λ e. Verifies schema input output certificate choice (Err e))
+    (sym (c.of_file.ensures ∙ (λ i. of_file (c.of_text.ensures i))))
     (unread_input schema input output certificate choice (schema_of c.args.graph.now.types.names.schema.now) settles
     c.in-Err.fault c.in-Err.ensures.fault)
 

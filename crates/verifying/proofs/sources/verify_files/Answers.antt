@@ -8,7 +8,7 @@ pub returns-in-Ok-clause-verifies : goal.returns-in-Ok-clause-verifies
 returns-in-Ok-clause-verifies g c =
     let texts = c.in-Ok.texts in
     inr (
-      texts.schema.items,
+      c.args.schema.now,
       texts.file.items,
       texts.smaller.items,
       texts.certificate.items,
@@ -19,10 +19,9 @@ returns-in-Ok-clause-verifies g c =
 pub returns-in-Err-clause-verifies : goal.returns-in-Err-clause-verifies
 returns-in-Err-clause-verifies g c = inl (c.in-Err.fault, refl, c.in-Err.ensures.read)
 
-pub returns-in-Ok-clause-schema_failed : goal.returns-in-Ok-clause-schema_failed
-returns-in-Ok-clause-schema_failed g c = λ fresh.
-    c.in-Ok.ensures.schema_failed fresh
-    ∙ sym (no_device _ _ _ _ (choice_of c.args.choice.now) roles.Schema c.verify_texts.result c.verify_texts.ensures)
+pub returns-in-Ok-clause-no_schema_fault : goal.returns-in-Ok-clause-no_schema_fault
+returns-in-Ok-clause-no_schema_fault g c =
+    no_device _ _ _ _ (choice_of c.args.choice.now) roles.Schema c.verify_texts.result c.verify_texts.ensures
 
 pub returns-in-Ok-clause-file_failed : goal.returns-in-Ok-clause-file_failed
 returns-in-Ok-clause-file_failed g c = λ fresh.

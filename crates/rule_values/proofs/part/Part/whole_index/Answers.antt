@@ -11,14 +11,14 @@ unfolding holding whole_elements
 place_at-requires c =
     let x = c.in-Kept.kept.value in
     subst (λ n. c.args.index < n)
-    (ap (λ o. size_of (elements_in o)) c.in-Kept.is ∙ size-picked x.indices.items (content_elements x.content)
+    (ap (λ o. size_of (elements_in o)) c.in-Kept.is ∙ size-picked x.indices.items (content_elements x.content.value)
     ∙ ap length (sym (c.deref-in-Kept.ensures.value ∙ ap (λ (y : Kept). y.indices.items) c.deref.ensures))) c.requires
 
 pub returns-in-Kept : goal.returns-in-Kept
 unfolding holding whole_elements
 returns-in-Kept c =
     let x = c.in-Kept.kept.value in
-    let all = content_elements x.content in
+    let all = content_elements x.content.value in
     let below = subst (λ n. c.args.index < n)
     (ap (λ o. size_of (elements_in o)) c.in-Kept.is ∙ size-picked x.indices.items all) c.requires in
     ap (λ o. or_indeterminate (element_at c.place_at.result (content_elements (content_in o)))) c.in-Kept.is

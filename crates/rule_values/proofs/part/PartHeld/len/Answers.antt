@@ -11,7 +11,7 @@ unfolding holding
 returns-in-Kept c =
     let x = c.in-Kept.kept.value in
     let k = x.indices.ok in
-    let p = size-picked x.indices.items (content_elements x.content) in
+    let p = size-picked x.indices.items (content_elements x.content.value) in
     let q = ap (λ o. size_of (elements_in o)) c.in-Kept.is in
     let r = c.len-in-Kept.ensures ∙ ap (λ (y : Kept). vec_len y.indices) c.deref.ensures in
     cc

@@ -1,0 +1,139 @@
+-- A run does what its words ask for, which is one thing, and its status tells what failed.
+use Rattle.std.proofs.Common.{◌≡◌, Bool, true, false, List, ℕ, Option, inl, inr, refl, subst, codes, true≢false}
+use Rattle.command_line.specs.Commands.{AsksCheck, AsksPlain, AsksShrink, AsksVerify}
+use Rattle.command_line.proofs.Asking.{asked_once, checked_once}
+use Rattle.files.specs.Stores.{Stored}
+use Rattle.commands.specs.CommandLines.{IsDevices, Runs}
+use Rattle.commands.specs.Endings.{Output}
+use Rattle.commands.specs.Merges.{MakesSmaller, asked_choice}
+use Rattle.commands.specs.Runs.{RunsCheck, RunsPlain}
+use Rattle.commands.specs.Verifies.{RunsVerify}
+use Rattle.commands.proofs.CheckRuns.{check_device, check_says}
+use Rattle.commands.proofs.Endings.{SaysAs}
+use Rattle.commands.proofs.MergeRuns.{smaller_says}
+use Rattle.commands.proofs.PlainRuns.{plain_device, plain_says}
+use Rattle.commands.proofs.Running.{refused_device, refused_says, shrink_word, verify_word}
+use Rattle.commands.proofs.VerifyRuns.{verify_device, verify_says}
+use Rattle.commands.proofs.Words.{apart, check_word, merged_once, plain_word}
+
+abbrev Text : Type 0
+Text = List ℕ
+
+module _ {W : Type 0} (held : W → Option (List ℕ)) (words : List Text) (files : List ℕ → Stored) (holds : List ℕ → Option (List ℕ))
+    (out out' err err' : Output) (status : ℕ) where
+  abbrev Is : Type 0
+  Is = Runs held words files holds out out' err err' status
+
+  -- the path that is asked for is the only one
+  pub plain_asked : Is → (path : Text) → AsksPlain words path → RunsPlain (files path) out out' err err' status
+  plain_asked (inl (found, asks, does)) path other =
+      subst (λ p. RunsPlain (files p) out out' err err' status) (asked_once words found path asks other) does
+  plain_asked (inr (inl (s, f, asks, does))) path other =
+      apart words (codes "plain") (codes "check") refl refl (plain_word words path other) (check_word words s f asks)
+  plain_asked (inr (inr (inl m))) path other = apart words (codes "plain") (codes "shrink") refl refl
+      (plain_word words path other)
+      (shrink_word words m.schema m.file m.output m.certificate m.merge m.strict m.asks)
+  plain_asked (inr (inr (inr (inl (s, f, o, c, m, asks, does))))) path other = apart words (codes "plain")
+      (codes "verify") refl refl (plain_word words path other) (verify_word words s f o c m asks)
+  plain_asked (inr (inr (inr (inr (none, said))))) path other = absurd (none.0 path other)
+
+  -- so are those of the schema and of the file
+  pub check_asked : Is → (schema file : Text) → AsksCheck words schema file
+      → RunsCheck (files schema) (files file) out out' err err' status
+  check_asked (inl (found, asks, does)) schema file other = apart words (codes "check") (codes "plain") refl refl
+      (check_word words schema file other) (plain_word words found asks)
+  check_asked (inr (inl (s, f, asks, does))) schema file other =
+      let same = checked_once words s f schema file asks other in
+      subst (λ p. RunsCheck (files p) (files file) out out' err err' status) same.0
+      (subst (λ p. RunsCheck (files s) (files p) out out' err err' status) same.1 does)
+  check_asked (inr (inr (inl m))) schema file other = apart words (codes "check") (codes "shrink") refl refl
+      (check_word words schema file other)
+      (shrink_word words m.schema m.file m.output m.certificate m.merge m.strict m.asks)
+  check_asked (inr (inr (inr (inl (s, f, o, c, m, asks, does))))) schema file other = apart words (codes "check")
+      (codes "verify") refl refl (check_word words schema file other) (verify_word words s f o c m asks)
+  check_asked (inr (inr (inr (inr (none, said))))) schema file other = absurd (none.1 schema file other)
+
+  abbrev Makes : Text → Text → Text → Text → Option Text → Bool → Type 0
+  Makes s f o c m t = MakesSmaller held (asked_choice m) t (files s) (files f) (files o).contents (holds o)
+      (files c).contents (holds c) out out' err err' status
+
+  makes_same : (s f o c s' f' o' c' : Text) (m m' : Option Text) (t t' : Bool)
+      → (s ≡ s') × (f ≡ f') × (o ≡ o') × (c ≡ c') × (m ≡ m') × (t ≡ t') → Makes s f o c m t → Makes s' f' o' c' m' t'
+  makes_same s f o c s' f' o' c' m m' t t' same makes =
+      subst (λ x. Makes x f' o' c' m' t') same.0
+      (subst (λ x. Makes s x o' c' m' t') same.1
+      (subst (λ x. Makes s f x c' m' t') same.2
+      (subst (λ x. Makes s f o x m' t') same.3
+      (subst (λ x. Makes s f o c x t') same.4
+      (subst (λ x. Makes s f o c m x) same.5 makes)))))
+
+  -- and so is all that a smaller file is asked for by
+  pub shrink_asked : Is → (s f o c : Text) (m : Option Text) (t : Bool) → AsksShrink words s f o c m t
+      → Makes s f o c m t
+  shrink_asked (inl (found, asks, does)) s f o c m t other = apart words (codes "shrink") (codes "plain") refl refl
+      (shrink_word words s f o c m t other) (plain_word words found asks)
+  shrink_asked (inr (inl (schema, file, asks, does))) s f o c m t other = apart words (codes "shrink") (codes "check")
+      refl refl (shrink_word words s f o c m t other) (check_word words schema file asks)
+  shrink_asked (inr (inr (inl r))) s f o c m t other = makes_same r.schema r.file r.output r.certificate s f o c r.merge
+      m r.strict t (merged_once true words r.schema r.file r.output r.certificate s f o c r.merge m r.strict t r.asks.0
+      (λ e. absurd (true≢false e)) other.0 (λ e. absurd (true≢false e))) r.makes
+  shrink_asked (inr (inr (inr (inl (s', f', o', c', m', asks, does))))) s f o c m t other = apart words
+      (codes "shrink") (codes "verify") refl refl (shrink_word words s f o c m t other)
+      (verify_word words s' f' o' c' m' asks)
+  shrink_asked (inr (inr (inr (inr (none, said))))) s f o c m t other = absurd (none.2 s f o c m t other)
+
+  abbrev Verified : Text → Text → Text → Text → Option Text → Type 0
+  Verified s f o c m = RunsVerify (asked_choice m) (files s) (files f) (files o) (files c) out out' err err' status
+
+  verified_same : (s f o c s' f' o' c' : Text) (m m' : Option Text)
+      → (s ≡ s') × (f ≡ f') × (o ≡ o') × (c ≡ c') × (m ≡ m') × (false ≡ false) → Verified s f o c m
+      → Verified s' f' o' c' m'
+  verified_same s f o c s' f' o' c' m m' same runs =
+      subst (λ x. Verified x f' o' c' m') same.0
+      (subst (λ x. Verified s x o' c' m') same.1
+      (subst (λ x. Verified s f x c' m') same.2
+      (subst (λ x. Verified s f o x m') same.3
+      (subst (λ x. Verified s f o c x) same.4 runs))))
+
+  -- .. and an output is verified by
+  pub verify_asked : Is → (s f o c : Text) (m : Option Text) → AsksVerify words s f o c m → Verified s f o c m
+  verify_asked (inl (found, asks, does)) s f o c m other = apart words (codes "verify") (codes "plain") refl refl
+      (verify_word words s f o c m other) (plain_word words found asks)
+  verify_asked (inr (inl (schema, file, asks, does))) s f o c m other = apart words (codes "verify") (codes "check")
+      refl refl (verify_word words s f o c m other) (check_word words schema file asks)
+  verify_asked (inr (inr (inl r))) s f o c m other = apart words (codes "verify") (codes "shrink") refl refl
+      (verify_word words s f o c m other)
+      (shrink_word words r.schema r.file r.output r.certificate r.merge r.strict r.asks)
+  verify_asked (inr (inr (inr (inl (s', f', o', c', m', asks, does))))) s f o c m other =
+      verified_same s' f' o' c' s f o c m' m (merged_once false words s' f' o' c' s f o c m' m false false asks.0
+      (λ e. refl) other.0 (λ e. refl)) does
+  verify_asked (inr (inr (inr (inr (none, said))))) s f o c m other = absurd (none.3 s f o c m other)
+
+  -- what is said of the outputs
+  pub says : Is → SaysAs out out' err err' status
+  says (inl (path, asks, does)) = plain_says (files path) out out' err err' status does
+  says (inr (inl (schema, file, asks, does))) = check_says (files schema) (files file) out out' err err' status does
+  says (inr (inr (inl r))) = smaller_says held (asked_choice r.merge) r.strict (files r.schema) (files r.file)
+      (files r.output).contents (holds r.output) (files r.certificate).contents (holds r.certificate) out out' err err'
+      status r.makes
+  says (inr (inr (inr (inl (s, f, o, c, m, asks, does))))) =
+      verify_says (asked_choice m) (files s) (files f) (files o) (files c) out out' err err' status does
+  says (inr (inr (inr (inr (none, (refusal, calls, r)))))) = refused_says refusal out out' err err' status r
+
+  pub device : Is → status ≡ 4 → IsDevices words files out out' err err'
+  device (inl (path, asks, does)) = plain_device words files path out out' err err' status asks does
+  device (inr (inl (schema, file, asks, does))) =
+      check_device words files schema file out out' err err' status asks does
+  device (inr (inr (inl r))) = λ is fresh clean. inr (inr (inr (inr (inr (
+    r.schema,
+    r.file,
+    r.output,
+    r.certificate,
+    r.merge,
+    r.strict,
+    r.asks,
+  )))))
+  device (inr (inr (inr (inl (s, f, o, c, m, asks, does))))) =
+      verify_device words files s f o c m (asked_choice m) out out' err err' status asks does
+  device (inr (inr (inr (inr (none, (refusal, calls, r)))))) =
+      refused_device words files refusal out out' err err' status r

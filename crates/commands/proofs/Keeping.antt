@@ -1,0 +1,87 @@
+-- What a store keeps of a run that merges a file.
+use Rattle.std.proofs.Common.{◌≡◌, ◌∙◌, Bool, false, List, [], ℕ, Option, IfSome, sym, subst}
+use Rattle.conformance.specs.Choices.{Choice}
+use Rattle.command_line.specs.declared.usage.Request.{Request}
+use Rattle.files.specs.Stores.{HoldsWritten, Stored, stored}
+use Rattle.commands.specs.CommandLines.{Does}
+use Rattle.commands.specs.Endings.{Output, output}
+use Rattle.commands.specs.Merges.{MakesSmaller, RunsShrink}
+use Rattle.commands.specs.Runs.{RunsCheck}
+
+-- The state of a store goes through these: both readers and both writers are handed out, and both writers are taken back.
+module _ {S W : Type 0} (contents : S → List ℕ → Option (List ℕ)) (fails : S → List ℕ → Option Bool)
+    (held : W → Option (List ℕ)) (has_failed : W → Bool) (o p q r s t u : S) (smaller certificate : List ℕ)
+    (apart : smaller ≡ certificate → ⊥) (one : (y : List ℕ) → contents p y ≡ contents o y)
+    (two : (y : List ℕ) → contents q y ≡ contents p y) (three : (y : List ℕ) → contents r y ≡ contents q y)
+    (four : (y : List ℕ) → contents s y ≡ contents r y)
+    (five : (y : List ℕ) → (y ≡ smaller → ⊥) → contents t y ≡ contents s y)
+    (six : (y : List ℕ) → (y ≡ certificate → ⊥) → contents u y ≡ contents t y) where
+  unread : (y : List ℕ) → contents s y ≡ contents o y
+  unread y = four y ∙ three y ∙ two y ∙ one y
+
+  -- no other file changes
+  pub others_kept : (y : List ℕ) → (y ≡ smaller → ⊥) → (y ≡ certificate → ⊥) → contents u y ≡ contents o y
+  others_kept y first second = six y second ∙ five y first ∙ unread y
+
+  pub makes_smaller : (choice : Choice) (strict : Bool) (schema file : List ℕ) (sch fil : Stored) (w w' c c' : W)
+      (out out' err err' : Output) (status : ℕ) → sch.contents ≡ contents o schema → sch.fails ≡ fails o schema
+      → ((y : List ℕ) → fails p y ≡ fails o y) → fil.contents ≡ contents p file → fil.fails ≡ fails p file
+      → has_failed w ≡ false → IfSome (held w) (λ bytes. bytes ≡ []) → has_failed c ≡ false
+      → IfSome (held c) (λ bytes. bytes ≡ [])
+      → RunsShrink choice strict sch fil (output held has_failed w) (output held has_failed w')
+      (output held has_failed c) (output held has_failed c') out out' err err' status
+      → HoldsWritten (held w') (contents s smaller) (contents t smaller)
+      → HoldsWritten (held c') (contents t certificate) (contents u certificate)
+      → MakesSmaller held choice strict (stored contents fails o schema) (stored contents fails o file)
+      (contents o smaller) (contents u smaller) (contents o certificate) (contents u certificate) out out' err err' status
+  makes_smaller choice strict schema file sch fil w w' c c' out out' err err' status s_holds s_fails same f_holds f_fails
+      w_fresh w_empty c_fresh c_empty runs w_kept c_kept = record {
+        made = output held has_failed w;
+        made' = output held has_failed w';
+        proof = output held has_failed c;
+        proof' = output held has_failed c';
+        made_empty = record { fresh = w_fresh; nothing = w_empty; told = (λ tell. tell w) };
+        proof_empty = record { fresh = c_fresh; nothing = c_empty; told = (λ tell. tell c) };
+        runs = subst (λ (x : Stored). RunsShrink choice strict x (stored contents fails o file)
+            (output held has_failed w) (output held has_failed w') (output held has_failed c)
+            (output held has_failed c') out out' err err' status) schema_is
+            (subst (λ (x : Stored). RunsShrink choice strict sch x (output held has_failed w)
+            (output held has_failed w') (output held has_failed c) (output held has_failed c') out out' err err' status)
+            file_is runs);
+        smaller_holds = subst (λ old. HoldsWritten (held w') old (contents u smaller)) (unread smaller)
+            (subst (HoldsWritten (held w') (contents s smaller)) (sym (six smaller apart)) w_kept);
+        proved_holds = subst (λ old. HoldsWritten (held c') old (contents u certificate))
+            (five certificate (λ is. apart (sym is)) ∙ unread certificate) c_kept;
+      }
+    where
+      schema_is : sch ≡ stored contents fails o schema
+      schema_is = λ i. record { contents = s_holds i; fails = s_fails i }
+
+      file_is : fil ≡ stored contents fails o file
+      file_is = λ i. record { contents = (f_holds ∙ one file) i; fails = (f_fails ∙ same file) i }
+
+-- What is told of a reader is what the store tells of its file, in the state that it is handed out in.
+module _ {S : Type 0} (contents : S → List ℕ → Option (List ℕ)) (fails : S → List ℕ → Option Bool) where
+  pub is_stored : (o p : S) (file : List ℕ) (told : Stored) → ((y : List ℕ) → contents p y ≡ contents o y)
+      → ((y : List ℕ) → fails p y ≡ fails o y) → told.contents ≡ contents p file → told.fails ≡ fails p file
+      → told ≡ stored contents fails o file
+  is_stored o p file told kept same holds failing =
+      λ i. record { contents = (holds ∙ kept file) i; fails = (failing ∙ same file) i }
+
+  pub is_stored_first : (o : S) (file : List ℕ) (told : Stored) → told.contents ≡ contents o file
+      → told.fails ≡ fails o file → told ≡ stored contents fails o file
+  is_stored_first o file told holds failing = λ i. record { contents = holds i; fails = failing i }
+
+-- what is done for a request that is this one
+pub done_as : {W : Type 0} (held : W → Option (List ℕ)) (request is : Request) (files : List ℕ → Stored)
+    (holds : List ℕ → Option (List ℕ)) (out out' err err' : Output) (status : ℕ) → is ≡ request
+    → Does held is files holds out out' err err' status → Does held request files holds out out' err err' status
+done_as held request is files holds out out' err err' status same does =
+    subst (λ asked. Does held asked files holds out out' err err' status) same does
+
+-- a check of two files that these are
+pub checks_as : (s s' f f' : Stored) (out out' err err' : Output) (status : ℕ) → s ≡ s' → f ≡ f'
+    → RunsCheck s f out out' err err' status → RunsCheck s' f' out out' err err' status
+checks_as s s' f f' out out' err err' status schema file runs =
+    subst (λ it. RunsCheck s' it out out' err err' status) file
+    (subst (λ it. RunsCheck it f out out' err err' status) schema runs)

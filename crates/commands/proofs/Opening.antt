@@ -1,0 +1,63 @@
+-- Which files are opened.
+use Rattle.std.proofs.Common.{◌≡◌, List, [], ◌∷◌, ◌++◌, ℕ, Option, None, Some, inl, inr, refl, sym, ap, subst, ◌∙◌}
+use Rattle.std.proofs.lemmas.List.{append_assoc}
+use Rattle.command_line.specs.AskedMerges.{text_of}
+use Rattle.command_line.specs.Requests.{AskFor}
+use Rattle.command_line.specs.declared.usage.Request.{Request}
+use Rattle.command_line.specs.declared.usage.Request.TheVariants as requests
+use Rattle.files.specs.Stores.{Access, Opens}
+use Rattle.commands.specs.CommandLines.{OpensAsked, check_opens, plain_opens, shrink_opens, verify_opens}
+use Rattle.commands.specs.ComputedRequests.{OpensUnlessMemory, opened_by, proof_opens, smaller_opens}
+
+-- what is opened behind what was opened
+pub opens_then : (a b c : Option (List Access)) (xs ys : List Access) → Opens a b xs → Opens b c ys
+    → Opens a c (xs ++ ys)
+opens_then None b c xs ys first second = tt
+opens_then (Some before) b c xs ys first second =
+    subst (λ o. Opens o c ys) first second ∙ ap Some (append_assoc before xs ys)
+
+-- what a store opens, step by step, where its state goes through these
+module _ {S : Type 0} (opened : S → Option (List Access)) where
+  pub opens_two : (o p q : S) (x y : Access) → Opens (opened o) (opened p) (x ∷ [])
+      → Opens (opened p) (opened q) (y ∷ []) → Opens (opened o) (opened q) (x ∷ y ∷ [])
+  opens_two o p q x y = opens_then (opened o) (opened p) (opened q) (x ∷ []) (y ∷ [])
+
+  pub opens_four : (o p q r s : S) (w x y z : Access) → Opens (opened o) (opened p) (w ∷ [])
+      → Opens (opened p) (opened q) (x ∷ []) → Opens (opened q) (opened r) (y ∷ [])
+      → Opens (opened r) (opened s) (z ∷ []) → Opens (opened o) (opened s) (w ∷ x ∷ y ∷ z ∷ [])
+  opens_four o p q r s w x y z first second third fourth = opens_then (opened o) (opened q) (opened s)
+      (w ∷ x ∷ []) (y ∷ z ∷ []) (opens_two o p q w x first second) (opens_two q r s y z third fourth)
+
+  -- .. and nothing behind them
+  pub opens_kept : (o p q r s t u : S) (w x y z : Access) → Opens (opened o) (opened p) (w ∷ [])
+      → Opens (opened p) (opened q) (x ∷ []) → Opens (opened q) (opened r) (y ∷ [])
+      → Opens (opened r) (opened s) (z ∷ []) → opened t ≡ opened s → opened u ≡ opened t
+      → Opens (opened o) (opened u) (w ∷ x ∷ y ∷ z ∷ [])
+  opens_kept o p q r s t u w x y z first second third fourth same kept =
+      subst (λ m. Opens (opened o) m (w ∷ x ∷ y ∷ z ∷ [])) (sym (kept ∙ same))
+      (opens_four o p q r s w x y z first second third fourth)
+
+-- what is opened for a request that is this one
+pub request_opens : (request is : Request) (old new : Option (List Access)) (status : ℕ) → is ≡ request
+    → OpensUnlessMemory old new (opened_by is) status → OpensUnlessMemory old new (opened_by request) status
+request_opens request is old new status same opens =
+    subst (λ asked. OpensUnlessMemory old new (opened_by asked) status) same opens
+
+pub asked_opens : (words : List (List ℕ)) (request : Request) (old new : Option (List Access)) (status : ℕ)
+    → AskFor words request → OpensUnlessMemory old new (opened_by request) status → OpensAsked words old new status
+asked_opens words request old new status asks (inr none) = inr (none.0, inr none.1)
+asked_opens words (requests.Plain path) old new status asks (inl opens) =
+    inl (opened_by (requests.Plain path), plain_opens path.now asks, opens)
+asked_opens words (requests.Check schema file) old new status asks (inl opens) =
+    inl (opened_by (requests.Check schema file), check_opens schema.now file.now asks, opens)
+asked_opens words (requests.Shrink asked) old new status asks (inl opens) = inl (
+  smaller_opens asked,
+  shrink_opens asked.schema.now asked.file.now asked.output.now asked.certificate.now (text_of asked.merge)
+      asked.strict asks,
+  opens,
+)
+asked_opens words (requests.Verify asked) old new status asks (inl opens) = inl (
+  proof_opens asked,
+  verify_opens asked.schema.now asked.file.now asked.output.now asked.certificate.now (text_of asked.merge) asks,
+  opens,
+)

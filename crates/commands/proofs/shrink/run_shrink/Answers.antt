@@ -1,0 +1,80 @@
+use Rattle.std.proofs.Common.{ℕ, Global, Ok, Err, Some, ◌∙◌, ap, refl, subst, sym}
+use Rattle.std.specs.Prelude.{Vec}
+use Rattle.files.specs.Stores.{told_by}
+use Rattle.files.specs.declared.fault.Role.TheVariants as roles
+use Rattle.pin_choices.specs.Chosen.{choice_of}
+use Rattle.faults.proofs.Failing.{unread_device, unread_other}
+use Rattle.shrinking.specs.Shrinking.{Shrinks}
+use Rattle.shrinking.specs.declared.summary.Summary.{Summary}
+use Rattle.commands.proofs.FaultEndings.{device_ends, one_failed}
+use Rattle.commands.proofs.MergeRuns.{read_shrink, unread_shrink}
+use Rattle.commands.proofs.shrink.run_shrink.Goals as goal
+
+pub returns-in-Err-clause-runs : goal.returns-in-Err-clause-runs
+returns-in-Err-clause-runs g c =
+    unread_shrink (Vec ℕ Global) (told_by g.S.Source.to_come g.S.Source.fails c.args.schema.now) c.in-Err.fault
+    c.unread.result c.unread.ensures (choice_of c.args.choice.now) c.args.choice.now.strict
+    (told_by g.F.Source.to_come g.F.Source.fails c.args.file.now) _ _ _ _ _ _ c.tell_fault.result
+    (λ e. c.in-Err.ensures.too_large (ap Err e)) c.in-Err.ensures.told c.tell_fault.ensures
+
+pub returns-in-Ok-shrink-clause-runs : goal.returns-in-Ok-shrink-clause-runs
+returns-in-Ok-shrink-clause-runs g c =
+    read_shrink (told_by g.S.Source.to_come g.S.Source.fails c.args.schema.now)
+    (told_by g.F.Source.to_come g.F.Source.fails c.args.file.now) _ c.in-Ok.text.items (choice_of c.args.choice.now)
+    c.args.choice.now.strict _ _ _ _ _ _ _ _ c.tell_merge.result (Ok c.in-Ok-shrink.summary) c.in-Ok.ensures.all
+    c.in-Ok.ensures.told
+    (subst (λ text. Shrinks (choice_of c.args.choice.now) c.args.choice.now.strict (Some text)
+    (g.F.Source.to_come c.args.file.now) (g.W.Sink.held c.args.smaller.now) (g.W.Sink.held c.shrink.new.out)
+    (g.C.Sink.held c.args.certificate.now) (g.C.Sink.held c.shrink.new.certificate) (Ok c.in-Ok-shrink.summary))
+    c.deref.ensures.value c.in-Ok-shrink.ensures.shrinks) c.in-Ok-shrink.ensures.no_schema_fault
+    c.in-Ok-shrink.ensures.file_told c.in-Ok-shrink.ensures.output_fault c.in-Ok-shrink.ensures.certificate_fault
+    c.tell_merge.ensures
+
+pub returns-clause-runs : goal.returns-clause-runs
+returns-clause-runs g c =
+    read_shrink (told_by g.S.Source.to_come g.S.Source.fails c.args.schema.now)
+    (told_by g.F.Source.to_come g.F.Source.fails c.args.file.now) _ c.in-Ok.text.items (choice_of c.args.choice.now)
+    c.args.choice.now.strict _ _ _ _ _ _ _ _ c.tell_fault-in-Err-shrink.result (Err c.in-Err-shrink.fault)
+    c.in-Ok.ensures.all c.in-Ok.ensures.told
+    (subst (λ text. Shrinks (choice_of c.args.choice.now) c.args.choice.now.strict (Some text)
+    (g.F.Source.to_come c.args.file.now) (g.W.Sink.held c.args.smaller.now) (g.W.Sink.held c.shrink.new.out)
+    (g.C.Sink.held c.args.certificate.now) (g.C.Sink.held c.shrink.new.certificate) (Err c.in-Err-shrink.fault))
+    c.deref.ensures.value c.in-Err-shrink.ensures.shrinks) c.in-Err-shrink.ensures.no_schema_fault
+    c.in-Err-shrink.ensures.file_told c.in-Err-shrink.ensures.output_fault c.in-Err-shrink.ensures.certificate_fault
+    c.tell_fault-in-Err-shrink.ensures
+
+pub returns-in-Err-clause-device : goal.returns-in-Err-clause-device
+returns-in-Err-clause-device g c is schema file smaller certificate out err =
+    let other = unread_other Summary roles.Schema c.in-Err.fault c.unread.result c.unread.ensures in
+    one_failed Summary c.unread.result _ _ _ _ c.tell_fault.result _ _ _ _
+    (c.in-Err.ensures.failed schema
+    ∙ unread_device Summary roles.Schema c.in-Err.fault c.unread.result c.unread.ensures (Vec ℕ Global)) (file ∙ sym (other roles.File refl))
+    (smaller ∙ sym (other roles.Output refl)) (certificate ∙ sym (other roles.Certificate refl)) c.tell_fault.ensures is out err
+
+pub returns-clause-device : goal.returns-clause-device
+returns-clause-device g c is schema file smaller certificate out err =
+    one_failed Summary c.in-Err-shrink.fault _ _ _ _ c.tell_fault-in-Err-shrink.result _ _ _ _
+    (c.in-Ok.ensures.failed schema ∙ sym c.in-Err-shrink.ensures.no_schema_fault)
+    (c.in-Err-shrink.ensures.file_fault file) (c.in-Err-shrink.ensures.output_fault smaller)
+    (c.in-Err-shrink.ensures.certificate_fault certificate) c.tell_fault-in-Err-shrink.ensures is out err
+
+pub returns-in-Err-clause-schema_failed : goal.returns-in-Err-clause-schema_failed
+returns-in-Err-clause-schema_failed g c fresh fails =
+    device_ends Summary roles.Schema c.unread.result _ _ _ _ c.tell_fault.result c.tell_fault.ensures
+    (sym (c.in-Err.ensures.failed fresh
+    ∙ unread_device Summary roles.Schema c.in-Err.fault c.unread.result c.unread.ensures (Vec ℕ Global)) ∙ fails)
+
+pub returns-clause-file_failed : goal.returns-clause-file_failed
+returns-clause-file_failed g c fresh fails =
+    device_ends Summary roles.File c.in-Err-shrink.fault _ _ _ _ c.tell_fault-in-Err-shrink.result
+    c.tell_fault-in-Err-shrink.ensures (sym (c.in-Err-shrink.ensures.file_fault fresh) ∙ fails)
+
+pub returns-clause-smaller_failed : goal.returns-clause-smaller_failed
+returns-clause-smaller_failed g c fresh fails =
+    device_ends Summary roles.Output c.in-Err-shrink.fault _ _ _ _ c.tell_fault-in-Err-shrink.result
+    c.tell_fault-in-Err-shrink.ensures (sym (c.in-Err-shrink.ensures.output_fault fresh) ∙ fails)
+
+pub returns-clause-certificate_failed : goal.returns-clause-certificate_failed
+returns-clause-certificate_failed g c fresh fails =
+    device_ends Summary roles.Certificate c.in-Err-shrink.fault _ _ _ _ c.tell_fault-in-Err-shrink.result
+    c.tell_fault-in-Err-shrink.ensures (sym (c.in-Err-shrink.ensures.certificate_fault fresh) ∙ fails)

@@ -1,0 +1,202 @@
+//! Queries are evaluated (ISO 10303-11, 12.6.7).
+
+ghost use Rattle.std.specs.Prelude.{IfOk, OnOk};
+ghost use Rattle.express_syntax.specs.ExpressionViews.{capitals, tree_of};
+ghost use Rattle.express_logic.specs.Views.{datum_of};
+ghost use Rattle.express_logic.specs.Holdings.{size_of};
+ghost use Rattle.conformance.specs.Operations.{bare, size};
+ghost use Rattle.rule_values.specs.Parts.{holding, element_datum, picked, whole_elements};
+ghost use Rattle.rule_settings.specs.Settings.{IsSetting};
+ghost use Rattle.rule_evaluation.specs.Contexts.{Gives, meaning_in};
+ghost use Rattle.rule_evaluation.specs.Contexts.{passes_in, filtered_in, queried_in};
+
+use crate::context::Context;
+use crate::evaluate::{evaluate, evaluate_truth};
+use crate::passing::{counted_if, keep_if};
+use crate::scope::Scope;
+use express_logic::datum::{Datum, Held};
+use express_syntax::expression::Expr;
+use rule_values::inside::counted;
+use rule_values::operations::{is_true, strip_type};
+use rule_values::part::Part;
+use rule_values::variables::Variable;
+use std::alloc::{AllocError, Global};
+use std::mem;
+use step_literals::literal::Word;
+
+/// Puts there those elements of a value at which a condition is TRUE, where it is an aggregate.
+#[cycle(evaluation)]
+#[inline(never)]
+pub(crate) fn query<'p, 'e, 'r, 't, 's: 'r, 'a, 'k>(
+    context: &Context<'s, 't, 'r, 'a, 'e, 'p, 'k>,
+    source: &Expr<'s>,
+    condition: &Expr<'s>,
+    alloc: Global,
+    scope: &mut Scope<'p, 'r>,
+    name: Word<'s>,
+    value: &mut Datum<'r, Part<'p, 'r>>,
+) -> Result<(), AllocError>
+    requires setting { IsSetting context.now.setting.now }
+    ensures { OnOk result (Gives context.now scope.old.variables.items scope.new.variables.items (datum_of holding value.new)
+        (λ m. queried_in context.now m scope.old.variables.items (capitals name.entry) (tree_of condition.now)
+        (bare (meaning_in context.now m scope.old.variables.items (tree_of source.now))))) }
+{
+    evaluate(context, source, alloc, scope, value)?;
+    strip_type(value);
+    let Datum::Aggregate(part) = mem::replace(value, Datum::Indeterminate) else {
+        return Ok(());
+    };
+    let kept = passing(context, condition, alloc, scope, name, &part)?;
+    *value = Datum::Aggregate(part.keep(alloc, kept)?);
+    Ok(())
+}
+
+/// The indices, in the whole of an aggregate, of its elements at which a condition is TRUE.
+#[cycle(evaluation)]
+#[inline(never)]
+fn passing<'p, 'e, 'r, 't, 's: 'r, 'a, 'k>(
+    context: &Context<'s, 't, 'r, 'a, 'e, 'p, 'k>,
+    condition: &Expr<'s>,
+    alloc: Global,
+    scope: &mut Scope<'p, 'r>,
+    name: Word<'s>,
+    source: &Part<'p, 'r>,
+) -> Result<Vec<usize>, AllocError>
+    requires setting { IsSetting context.now.setting.now }
+    ensures { IfOk result (λ kept. Gives context.now scope.old.variables.items scope.new.variables.items
+        (picked kept.items (whole_elements source.now))
+        (λ m. filtered_in context.now m scope.old.variables.items (capitals name.entry) (tree_of condition.now)
+        (holding source.now).elements)) }
+{
+    let mut kept = Vec::new(alloc);
+    for i in 0..source.len() {
+        let variable = Variable {
+            name,
+            value: source.element_value(i),
+        };
+        match passes(context, condition, alloc, scope, variable) {
+            Ok(holds) => keep_if(&mut kept, holds, source.whole_index(i))?,
+            Err(stopped) => {
+                want_others(context, condition, alloc, scope, name, source, i);
+                return Err(stopped);
+            }
+        }
+    }
+    Ok(kept)
+}
+
+/// .. that a query keeps.
+#[cycle(evaluation)]
+#[inline(never)]
+pub(crate) fn sized_query<'p, 'e, 'r, 't, 's: 'r, 'a, 'k>(
+    context: &Context<'s, 't, 'r, 'a, 'e, 'p, 'k>,
+    source: &Expr<'s>,
+    condition: &Expr<'s>,
+    alloc: Global,
+    scope: &mut Scope<'p, 'r>,
+    name: Word<'s>,
+    value: &mut Datum<'r, Part<'p, 'r>>,
+) -> Result<(), AllocError>
+    requires setting { IsSetting context.now.setting.now }
+    ensures { OnOk result (Gives context.now scope.old.variables.items scope.new.variables.items (datum_of holding value.new)
+        (λ m. size (queried_in context.now m scope.old.variables.items (capitals name.entry) (tree_of condition.now)
+        (bare (meaning_in context.now m scope.old.variables.items (tree_of source.now)))))) }
+{
+    evaluate(context, source, alloc, scope, value)?;
+    strip_type(value);
+    let Datum::Aggregate(part) = &*value else {
+        *value = Datum::Indeterminate;
+        return Ok(());
+    };
+    let count = count_passing(context, condition, alloc, scope, name, part)?;
+    *value = counted(count)?;
+    Ok(())
+}
+
+/// How many elements of an aggregate there are at which a condition is TRUE.
+#[cycle(evaluation)]
+#[inline(never)]
+fn count_passing<'p, 'e, 'r, 't, 's: 'r, 'a, 'k>(
+    context: &Context<'s, 't, 'r, 'a, 'e, 'p, 'k>,
+    condition: &Expr<'s>,
+    alloc: Global,
+    scope: &mut Scope<'p, 'r>,
+    name: Word<'s>,
+    source: &Part<'p, 'r>,
+) -> Result<usize, AllocError>
+    requires setting { IsSetting context.now.setting.now }
+    ensures { IfOk result (λ count. Gives context.now scope.old.variables.items scope.new.variables.items count
+        (λ m. size_of (filtered_in context.now m scope.old.variables.items (capitals name.entry)
+        (tree_of condition.now) (holding source.now).elements))) }
+{
+    let mut count = 0;
+    for i in 0..source.len() {
+        let variable = Variable {
+            name,
+            value: source.element_value(i),
+        };
+        match passes(context, condition, alloc, scope, variable) {
+            Ok(holds) => count = counted_if(count, holds),
+            Err(stopped) => {
+                want_others(context, condition, alloc, scope, name, source, i);
+                return Err(stopped);
+            }
+        }
+    }
+    Ok(count)
+}
+
+/// Whether a condition is TRUE at the value of a variable.
+#[cycle(evaluation)]
+#[inline(never)]
+fn passes<'p, 'e, 'r, 't, 's: 'r, 'a, 'k>(
+    context: &Context<'s, 't, 'r, 'a, 'e, 'p, 'k>,
+    condition: &Expr<'s>,
+    alloc: Global,
+    scope: &mut Scope<'p, 'r>,
+    variable: Variable<'p, 'r>,
+) -> Result<bool, AllocError>
+    requires setting { IsSetting context.now.setting.now }
+    ensures { IfOk result (λ holds. Gives context.now scope.old.variables.items scope.new.variables.items holds
+        (λ m. passes_in context.now m scope.old.variables.items (capitals variable.entry.name)
+        (tree_of condition.now) (element_datum variable.entry.value))) }
+{
+    scope.variables.push(variable)?;
+    match evaluate_truth(context, condition, alloc, scope) {
+        Ok(value) => {
+            scope.variables.pop();
+            Ok(is_true(value))
+        }
+        Err(stopped) => {
+            scope.variables.pop();
+            Err(stopped)
+        }
+    }
+}
+
+/// Finds what a condition wants at the elements behind one at which it wants something, so that all
+/// of them are computed before the condition is tried again.
+#[cycle(evaluation)]
+#[inline(never)]
+fn want_others<'p, 'e, 'r, 't, 's: 'r, 'a, 'k>(
+    context: &Context<'s, 't, 'r, 'a, 'e, 'p, 'k>,
+    condition: &Expr<'s>,
+    alloc: Global,
+    scope: &mut Scope<'p, 'r>,
+    name: Word<'s>,
+    source: &Part<'p, 'r>,
+    tried: usize,
+)
+    requires setting { IsSetting context.now.setting.now }
+{
+    for i in tried.saturating_add(1)..source.len() {
+        if !scope.goes_on() {
+            return;
+        }
+        let variable = Variable {
+            name,
+            value: source.element_value(i),
+        };
+        let _unknown = passes(context, condition, alloc, scope, variable);
+    }
+}

@@ -1,0 +1,171 @@
+//! What an expression is worth at a value of SELF.
+
+ghost use Rattle.std.specs.Prelude.{◌≡◌, [], OnOk};
+ghost use Rattle.express_syntax.specs.ExpressionViews.{tree_of};
+ghost use Rattle.express_logic.specs.Views.{datum_of};
+ghost use Rattle.rule_values.specs.Parts.{element_datum, holding};
+ghost use Rattle.schema_derivations.specs.Formulas.{formula_seen};
+ghost use Rattle.rule_settings.specs.Settings.{IsSetting, Meant};
+ghost use Rattle.rule_evaluation.specs.Kept.{AreRight};
+ghost use Rattle.rule_evaluation.specs.Worths.{formula_worth, worth_at};
+
+use crate::context::Context;
+use crate::evaluate::evaluate;
+use crate::kept::{KeptValues, Wanted};
+use crate::scope::Scope;
+use express_logic::datum::Datum;
+use express_syntax::expression::Expr;
+use rule_settings::setting::Setting;
+use rule_values::element::Element;
+use rule_values::part::Part;
+use schema_derivations::formula::Formula;
+use std::alloc::{AllocError, Global};
+
+/// Puts what a derived attribute of this formula is worth at an instance there, where what it wants is kept.
+fn formula_value<'p, 'e, 'r, 't, 's: 'r, 'a>(
+    alloc: Global,
+    setting: &'p Setting<'s, 't, 'r, 'a, 'e, 'p>,
+    kept: &KeptValues<'p, 'r>,
+    scope: &mut Scope<'p, 'r>,
+    formula: Formula<'s, 't>,
+    instance: u64,
+    value: &mut Datum<'r, Part<'p, 'r>>,
+) -> Result<(), AllocError>
+    requires setting { IsSetting setting.now }
+    requires scope { scope.now.variables.items ≡ [] }
+    ensures { OnOk result ((m : Meant setting.entry.now) → AreRight setting.entry.now m kept.now
+        → datum_of holding value.new
+        ≡ formula_worth setting.entry.now m instance (formula_seen formula.entry)) }
+{
+    let me: Element<'p, 'r> = Element::Instance(instance);
+    let context = Context {
+        setting,
+        me,
+        limit: formula.rank as u64,
+        kept,
+        level: 1,
+    };
+    evaluate(&context, formula.expression, alloc, scope, value)
+}
+
+/// Keeps the value of a derived attribute that is wanted, where it isn't kept; where it wants others,
+/// these are to be kept first.
+fn keep_wanted<'p, 'e, 'r, 't, 's: 'r, 'a>(
+    alloc: Global,
+    setting: &'p Setting<'s, 't, 'r, 'a, 'e, 'p>,
+    kept: &mut KeptValues<'p, 'r>,
+    waiting: &mut Vec<Wanted>,
+    wanted: Wanted,
+) -> Result<(), AllocError>
+    requires setting { IsSetting setting.now }
+    ensures { OnOk result ((m : Meant setting.entry.now) → AreRight setting.entry.now m kept.old
+        → AreRight setting.entry.now m kept.new) }
+{
+    if kept.has(wanted) {
+        return Ok(());
+    }
+    let Some(formula) = setting.formula(wanted.derivation) else {
+        return Ok(());
+    };
+    let mut scope: Scope<'p, 'r> = Scope::empty(alloc, kept.len());
+    let mut value = Datum::Indeterminate;
+    let instance = wanted.instance;
+    match formula_value(
+        alloc, setting, kept, &mut scope, formula, instance, &mut value,
+    ) {
+        Ok(()) => kept.keep(alloc, wanted, value),
+        Err(stopped) => {
+            wait_for(waiting, scope, wanted, stopped)?;
+            Ok(())
+        }
+    }
+}
+
+/// Has those that are wanted computed before this one; where none is, memory ran out.
+fn wait_for<'p, 'r>(
+    waiting: &mut Vec<Wanted>,
+    scope: Scope<'p, 'r>,
+    wanted: Wanted,
+    stopped: AllocError,
+) -> Result<(), AllocError> {
+    let Scope { wanted: others, .. } = scope;
+    if others.is_empty() {
+        return Err(stopped);
+    }
+    waiting.push(wanted)?;
+    for other in &others {
+        waiting.push(*other)?;
+    }
+    Ok(())
+}
+
+/// Keeps the values of derived attributes that are wanted, and first of those that they want.
+///
+/// Each step keeps one or finds one that waits, so that for 2^64 of them there is no memory.
+fn keep_all<'p, 'e, 'r, 't, 's: 'r, 'a>(
+    alloc: Global,
+    setting: &'p Setting<'s, 't, 'r, 'a, 'e, 'p>,
+    kept: &mut KeptValues<'p, 'r>,
+    waiting: &mut Vec<Wanted>,
+) -> Result<(), AllocError>
+    requires setting { IsSetting setting.now }
+    ensures { OnOk result ((m : Meant setting.entry.now) → AreRight setting.entry.now m kept.old
+        → AreRight setting.entry.now m kept.new) }
+{
+    for _ in 0..u64::MAX {
+        let Some(wanted) = waiting.pop() else {
+            return Ok(());
+        };
+        keep_wanted(alloc, setting, kept, waiting, wanted)?;
+    }
+    Err(AllocError)
+}
+
+/// Puts what an expression is worth at a value of SELF there, with the values of all derived attributes
+/// of ranks below the limit (ISO 10303-11, 9.2.1.2 and 12).
+///
+/// The value of a derived attribute that others use is computed once for each instance, but for those
+/// of a few ranks, and nothing is evaluated more than a few ranks deep, so that the stack is bounded
+/// whatever the schema. An expression that needs values first is begun again when they are there.
+/// An error says that memory ran out.
+pub fn value_at<'p, 'e, 'r, 't, 's: 'r, 'a>(
+    alloc: Global,
+    setting: &'p Setting<'s, 't, 'r, 'a, 'e, 'p>,
+    expression: &Expr<'s>,
+    me: Element<'p, 'r>,
+    limit: u64,
+    value: &mut Datum<'r, Part<'p, 'r>>,
+) -> Result<(), AllocError>
+    requires setting { IsSetting setting.now }
+    ensures { OnOk result ((m : Meant setting.entry.now) → datum_of holding value.new
+        ≡ worth_at setting.entry.now m limit (element_datum me.entry) (tree_of expression.now)) }
+{
+    let mut kept: KeptValues<'p, 'r> = KeptValues::none(alloc);
+    let mut me = me;
+    for _ in 0..u64::MAX {
+        let mut scope: Scope<'p, 'r> = Scope::empty(alloc, kept.len());
+        let context = Context {
+            setting,
+            me,
+            limit,
+            kept: &kept,
+            level: 0,
+        };
+        match evaluate(&context, expression, alloc, &mut scope, value) {
+            Ok(()) => return Ok(()),
+            Err(stopped) => {
+                let Context { me: same, .. } = context;
+                me = same;
+                let Scope {
+                    wanted: mut waiting,
+                    ..
+                } = scope;
+                if waiting.is_empty() {
+                    return Err(stopped);
+                }
+                keep_all(alloc, setting, &mut kept, &mut waiting)?;
+            }
+        }
+    }
+    Err(AllocError)
+}
