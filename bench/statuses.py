@@ -6,8 +6,8 @@
 Without PROGRAM, `stepmin` is proved and built in a copy of the repository. Each run has its words, its
 outputs, a stack of 1 MiB and, where memory is to run out, its limit of memory (`ulimit -v`); the status, the
 standard output and the standard error that it has to come to are written beside them, and the files that it
-has to have made. A device that is full is /dev/full. `.ci/run` runs this behind the gate, on the program
-that the gate has built.
+has to have made. A device that is full is /dev/full. And `check` has to refuse each front of a schema that ends
+before its last semicolon. `.ci/run` runs this behind the gate, on the program that the gate has built.
 
 Status 0: each run came to that. 1: one didn't. 2: the words are wrong.
 """
@@ -69,6 +69,12 @@ def derived(expression):
             + "WHERE w : d299; END_ENTITY;\nEND_SCHEMA;\n")
 
 
+NODES = 100_000
+NODE = "SCHEMA geo;\nENTITY node; next : node; END_ENTITY;\nEND_SCHEMA;\n"
+CYCLE = FRAME % "".join(f"#{k}=NODE(#{k % NODES + 1});\n" for k in range(1, NODES + 1))
+ONE_NODE = FRAME % "#1=NODE(#1);\n"
+ONE_CLASS = "rounds 0\nC0\n" + "".join(f"#{k}=C0\n" for k in range(1, NODES + 1))
+
 # A value that is asked for twice, one within sixty brackets, and one within thirty queries.
 DERIVED = {
     "twice.exp": derived(lambda name: f"{name} AND {name}"),
@@ -115,6 +121,9 @@ SHRINKING = [
     (["geo.exp", "/dev/stdin", *WRITTEN, *MERGE], 0, {"stdin": "equal.stp", "out": SHRUNK, "made": BOTH}),
     (["geo.exp", "equal.stp", "small.stp", "bad.cert", *MERGE], 0,
      {"out": SHRUNK, "made": {"small.stp": SMALLER, "bad.cert": CERTIFICATE}}),
+    (["node.exp", "cycle.stp", *WRITTEN, "--merge", "NODE"], 0,
+     {"out": f"instances {NODES}\nunknown 0\nfindings 0\nkept 1\nrounds 0\n", "made": {
+         "out.stp": ONE_NODE, "out.cert": f"STEPCERT 2\ntable 1\n{ONE_CLASS}table 2\n{ONE_CLASS}end\n"}}),
     (["geo.exp", "broken.stp", *WRITTEN], 1,
      {"out": "F5 ParameterCount #1 0\ninstances 1\nunknown 0\nfindings 1\n"}),
     (["procedure.exp", "equal.stp", *WRITTEN, *MERGE], 0,
@@ -208,7 +217,7 @@ FILES = {
     "spelt.stp": SPELT, "normal.stp": NORMAL, "cut.stp": CUT, "large.stp": LARGE, "small.stp": SMALL, "broken.stp": BROKEN,
     "equal.stp": FRAME % EQUAL, "self.stp": FRAME % EQUAL, "smaller.stp": SMALLER,
     "geo.exp": SCHEMA, "cut.exp": SCHEMA[:len(SCHEMA) // 2], "procedure.exp": PROCEDURE,
-    **DERIVED, "derived.stp": FRAME % "#1=A(.T.,(.T.));\n",
+    **DERIVED, "derived.stp": FRAME % "#1=A(.T.,(.T.));\n", "node.exp": NODE, "cycle.stp": CYCLE,
     "right.cert": CERTIFICATE, "old.cert": "STEPCERT 1\nrounds 0\nend\n", "bad.cert": "STEPCERT 2\ntable 1\nrounds 00\n",
 }
 
@@ -262,6 +271,19 @@ def faults_of(program, folder, run):
     return faults if done.returncode == run.status else [f"the status is {done.returncode}", *faults]
 
 
+def fronts_wrong(program, folder):
+    """What is wrong with what `check` says of a schema that ends before its last semicolon, for each such end."""
+    faults = []
+    for length in range(SCHEMA.rindex(";") + 1):
+        with open(os.path.join(folder, "front.exp"), "w", encoding="ascii") as file:
+            file.write(SCHEMA[:length])
+        done = subprocess.run([program, "check", "front.exp", "small.stp"], cwd=folder, stdout=subprocess.PIPE,
+                              stderr=subprocess.PIPE, timeout=60, text=True, check=False)
+        if done.returncode != 2 or done.stdout or not done.stderr.startswith("schema: S"):
+            faults.append(f"the first {length} bytes of a schema: status {done.returncode}, {done.stderr[:80]!r}")
+    return faults
+
+
 def main(words):
     if len(words) > 1 or any(word.startswith("-") for word in words):
         print(__doc__.strip())
@@ -274,8 +296,11 @@ def main(words):
             wrong += bool(faults)
             for fault in faults:
                 print(f"{run.words}, to end with {run.status}: {fault}")
+        fronts = fronts_wrong(program, folder)
+        wrong_fronts = len(fronts)
+        print(*fronts[:10], sep="\n", end="\n" if fronts else "")
     print(f"{len(RUNS) - wrong} runs came to what they have to, {wrong} didn't")
-    return 1 if wrong else 0
+    return 1 if wrong or wrong_fronts else 0
 
 
 if __name__ == "__main__":

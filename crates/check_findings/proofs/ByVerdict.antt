@@ -9,7 +9,8 @@ use Rattle.conformance.specs.Populations.{Instance}
 use Rattle.conformance.specs.Said.{Said, instances}
 use Rattle.conformance.specs.declared.finding.Finding.{Finding}
 use Rattle.schema_rules.specs.declared.finding.RuleFinding.{RuleFinding}
-use Rattle.step_population.specs.Verdicts.{IsTyped, IsFaulty}
+use Rattle.population_typed.specs.Typed.{IsTyped}
+use Rattle.step_population.specs.Verdicts.{IsFaulty}
 use Rattle.check_findings.specs.Findings.{AreRuleFindings, AreBehind, AreFindings}
 use Rattle.check_findings.proofs.Behind.{none-behind}
 

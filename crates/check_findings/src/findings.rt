@@ -149,7 +149,7 @@ fn found_by_tables<'r, 't, 's: 'r>(
     ensures { IfOk result (λ x. AreFindings (schema_of graph.entry.now.types.names.schema.now)
         (structure exchange.entry.now) x.findings.items x.rules.findings.items x.rules.unknown) }
 {
-    let settings = SettingTables::of(alloc, keys, &graph.types, tables)?;
+    let settings = SettingTables::of(alloc, keys, &graph.types, &graph.rules.inverses, tables)?;
     if is_without(graph) {
         return found_without_rules(alloc, keys, graph, tables, &settings, exchange);
     }

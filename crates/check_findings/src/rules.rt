@@ -47,9 +47,10 @@ pub fn schema_is_said(
     formulas_are_said(&domain.formulas, firsts);
 }
 
-/// What the domain rules of a schema say of a population.
+/// What the domain rules of a schema say of a population. Places are hashed by these keys.
 fn domain_findings<'e, 'r, 't, 's: 'r, 'a>(
     alloc: Global,
+    keys: RandomState,
     domain: &DomainTables<'s, 't>,
     firsts: &[u32],
     tables: &SchemaTables,
@@ -68,7 +69,16 @@ fn domain_findings<'e, 'r, 't, 's: 'r, 'a>(
     let types = extents.population.types;
     let inverses = extents.rules.inverses.as_slice();
     let forms = extents.population.forms();
-    let sources = FormSources::of(alloc, types, &settings.sources, inverses, forms)?;
+    let form_of = extents.population.rows.form_of.as_slice();
+    let sources = FormSources::of(
+        alloc,
+        keys,
+        types,
+        &settings.sources,
+        inverses,
+        forms,
+        form_of,
+    )?;
     let setting = Setting {
         extents,
         tables: settings,
@@ -104,7 +114,7 @@ pub fn rule_findings<'e, 'r, 't, 's: 'r, 'a>(
 {
     let domain = &graph.domain;
     let firsts = &graph.judged.firsts;
-    let mut report = domain_findings(alloc, domain, firsts, tables, settings, extents)?;
+    let mut report = domain_findings(alloc, keys, domain, firsts, tables, settings, extents)?;
     let mut uniques = check_unique(alloc, keys, extents)?;
     let mut bounds = check_inverse(alloc, extents)?;
     report.findings.append(&mut uniques)?;

@@ -11,7 +11,7 @@ use Rattle.step_values.specs.Values.{Values}
 use Rattle.population_rows.specs.declared.form.Form.{Form}
 use Rattle.population_layouts.proofs.Naming.{among-is}
 use Rattle.conformance.specs.RuleFindings.{Breach}
-use Rattle.population_typed.specs.Seen.{instance_seen}
+use Rattle.population_typed.specs.Rows.{instance_seen}
 use Rattle.population_typed.specs.Whole.{form_among, AreNumbered}
 use Rattle.step_extent.specs.Inverses.{row_by}
 use Rattle.express_logic.specs.Data.{Datum, instance}

@@ -30,7 +30,7 @@ pub record AreTypes (s : Schema) (t : Types) : Type 0 where
   pub forms : t.data_types.forms.items ≡ map (form_in s) (all_data_types s)
   pub few : length t.data_types.forms.items < 2 ^ 32
   pub rows : AreRowsOf whole_types (all_data_types s) s.declarations (graph_of t.data_types.rows.items)
-  pub parts : AreParts s (graph_of t.parts.items)
+  pub parts : AreParts s t.parts
   pub shapes : AreShapes s t.shapes.items
 
 -- These are what names mean in its expressions.

@@ -22,10 +22,11 @@ ghost use Rattle.express_types.specs.Judging.{
 
 use crate::evaluating::domain_by;
 use crate::ruling::rules_by;
-use digraph::closures::{closure, reversal};
+use digraph::closures::reversal;
 use schema_attributes::attributes::Attributes;
 use schema_conditions::rule::DomainRule;
 use schema_data_types::forms::{DataTypes, data_types};
+use schema_data_types::giving::{Parts, parts_of};
 use schema_data_types::items::Items;
 use schema_data_types::shape_table::shapes;
 use schema_data_types::shapes::Shape;
@@ -46,12 +47,12 @@ use schema_unchecked::list::unchecked_parts;
 use std::alloc::{AllocError, Global};
 use std::hash::RandomState;
 
-/// The data types of a schema by number, all that defined types are made of, and the shapes of data
+/// The data types of a schema by number, what defined types are made of, and the shapes of data
 /// types.
 #[derive(Drop)]
 struct Types {
     data_types: DataTypes,
-    parts: Vec<Vec<u32>>,
+    parts: Parts,
     shapes: Vec<Shape>,
 }
 
@@ -63,7 +64,7 @@ fn make_types(alloc: Global, names: &Names<'_, '_>) -> Result<Types, AllocError>
     let data_types = data_types(alloc, names)?;
     let edges = part_graph(alloc, names)?;
     let shapes = shapes(alloc, names, &data_types, &edges)?;
-    let parts = closure(alloc, &edges)?;
+    let parts = parts_of(alloc, names, &edges)?;
     Ok(Types {
         data_types,
         parts,

@@ -12,9 +12,9 @@ ghost use Rattle.schema_data_types.specs.Alike.{IsTable};
 
 use crate::questions::{Case, Question, Text, wrong_case};
 use crate::rows::expect_none;
-use digraph::closures::closure;
 use schema_data_types::alike::are_alike_types;
 use schema_data_types::forms::{DataTypes, data_types};
+use schema_data_types::giving::parts_of;
 use schema_data_types::shape_table::shapes;
 use schema_data_types::shapes::Shape;
 use schema_data_types::values::{Atom, Sort, Tables, add_values};
@@ -113,7 +113,7 @@ fn has_values(alloc: Global, tables: &Tables<'_, '_, '_>, question: Question) ->
     add_values(tables, number, &mut atoms).is_ok() && are_atoms(&atoms, wanted)
 }
 
-// The same, over all that defined types are made of.
+// The same, over what types and entities lead to.
 fn has_values_by(
     alloc: Global,
     names: &Names<'_, '_>,
@@ -121,6 +121,7 @@ fn has_values_by(
     edges: &[Vec<u32>],
     question: Question,
 ) -> bool
+    requires resolved { IsResolved (schema_of names.now.schema.now) }
     requires forms { data_types.now.forms.items ≡ map (form_in (schema_of names.now.schema.now))
         (all_data_types (schema_of names.now.schema.now)) }
     requires rows { AreRowsOf whole_types (all_data_types (schema_of names.now.schema.now))
@@ -128,7 +129,7 @@ fn has_values_by(
     requires graph { IsGraphOf (schema_of names.now.schema.now) parts_in (graph_of edges.now) }
     requires few { length data_types.now.forms.items < 2 ^ 32 }
 {
-    let Ok(parts) = closure(alloc, edges) else {
+    let Ok(parts) = parts_of(alloc, names, edges) else {
         return false;
     };
     let tables = Tables {

@@ -12,9 +12,10 @@ use Rattle.step_equal.specs.TableViews.{table_of}
 use Rattle.conformance.specs.PopulationLaws.{NoFindingsExactlyWhereItConforms}
 use Rattle.conformance.specs.Populations.{Instance}
 use Rattle.conformance.specs.Said.{Said, instances}
-use Rattle.step_population.specs.Verdicts.{IsTyped, IsFaulty}
+use Rattle.population_typed.specs.Typed.{IsTyped}
+use Rattle.step_population.specs.Verdicts.{IsFaulty}
 use Rattle.pin_choices.specs.declared.choice.Chosen.{Chosen}
-use Rattle.step_pins.specs.declared.pins.Pins.{Pins}
+use Rattle.step_pins.specs.declared.weak_pins.WeakPins.{WeakPins}
 use Rattle.step_pins.specs.Pinned.{is_pinned}
 use Rattle.check_findings.specs.declared.findings.Found.{Found}
 use Rattle.check_findings.proofs.ByVerdict.{found-by-rules, found-one-by-one}
@@ -48,17 +49,17 @@ module _ (s : Schema) (some : Said s) (law : NoFindingsExactlyWhereItConforms) (
     tt,
   )
 
-  pub comes-clean : AreRuleTables s t → (unknown : ℕ) (weak : Pins) (first second : held.Table)
+  pub comes-clean : AreRuleTables s t → (unknown : ℕ) (weak : WeakPins) (first second : held.Table)
       → IsRuled s is t c (Kept unknown weak)
-      → AreTablesUnder s is (is_pinned weak) (table_of first) (table_of second)
+      → AreTablesUnder s is (is_pinned weak.pins) (table_of first) (table_of second)
       → Comes s c (structure x) x.names (Clean unknown first second)
   comes-clean rules unknown weak first second ruled tables = (
     λ those are. (
       found-by-rules s (structure x) some law is [] [] unknown typed refl ruled.0,
-      λ said. tables-of s said is (is_pinned weak) (table_of first) (table_of second) tables (structure x) (at said) t
+      λ said. tables-of s said is (is_pinned weak.pins) (table_of first) (table_of second) tables (structure x) (at said) t
           rules c those are ruled.1,
     ),
-    members-of s some is (is_pinned weak) (table_of first) (table_of second) tables x (at some),
+    members-of s some is (is_pinned weak.pins) (table_of first) (table_of second) tables x (at some),
   )
     where
       at : (said : Said s) → is ≡ instances s said (structure x)

@@ -12,7 +12,7 @@ ghost use Rattle.pin_choices.specs.Chosen.{AreChosen};
 ghost use Rattle.population_layouts.specs.Tables.{AreTables};
 ghost use Rattle.population_typed.specs.Seen.{population_seen};
 ghost use Rattle.conformance.specs.Said.{Said};
-ghost use Rattle.step_population.specs.Verdicts.{IsTyped};
+ghost use Rattle.population_typed.specs.Typed.{IsTyped};
 ghost use Rattle.check_findings.specs.Ruling.{AreReady};
 ghost use Rattle.merge_tables.specs.Merges.{HaveMembers, Merges};
 ghost use Rattle.merge_tables.specs.ComputedTables.{Comes};
@@ -143,7 +143,7 @@ fn merged_by_tables<'r, 't, 's: 'r>(
     ensures { IfOk result (Comes (schema_of graph.entry.now.types.names.schema.now) chosen.now
         (structure exchange.entry.now) exchange.entry.now.names) }
 {
-    let settings = SettingTables::of(alloc, keys, &graph.types, tables)?;
+    let settings = SettingTables::of(alloc, keys, &graph.types, &graph.rules.inverses, tables)?;
     merged_by_settings(alloc, keys, graph, tables, &settings, chosen, exchange)
 }
 

@@ -1,16 +1,18 @@
 //! The tables of a population: under its weak pins, and under the gentle ones that these give.
 
-ghost use Rattle.std.specs.Prelude.{◌≡◌, IfOk};
+ghost use Rattle.std.specs.Prelude.{◌≡◌, IfOk, List};
+ghost use Rattle.express_syntax.specs.Schemas.{Schema};
 ghost use Rattle.express_syntax.specs.SchemaViews.{schema_of};
-ghost use Rattle.schema_types.specs.Made.{IsMade};
 ghost use Rattle.step_equal.specs.Rows.{IsPopulation};
 ghost use Rattle.step_equal.specs.Standard.{IsStandard};
 ghost use Rattle.step_equal.specs.TableViews.{table_of};
 ghost use Rattle.conformance.specs.PlainRows.{AreRowsOf};
+ghost use Rattle.conformance.specs.Populations.{Instance};
 ghost use Rattle.population_typed.specs.Seen.{population_seen};
 ghost use Rattle.row_shapes.specs.Signatures.{AreSignatures};
+ghost use Rattle.step_pins.specs.Lists.{AreUniqueOf};
 ghost use Rattle.step_pins.specs.Pinned.{is_pinned};
-ghost use Rattle.merge_tables.specs.ComputedTables.{AreGentle, AreTablesUnder};
+ghost use Rattle.merge_tables.specs.ComputedTables.{AreTablesUnder};
 
 use population_typed::population::Population;
 use row_shapes::signatures::{Signatures, signatures_of};
@@ -20,18 +22,21 @@ use step_classes::classes::refine_by;
 use step_equal::plain::Plain;
 use step_equal::table::Table;
 use step_pins::pins::Pins;
+use step_pins::weak_pins::WeakPins;
 
-/// The rows of a population.
+/// The rows of a population, which isn't needed then.
 fn plain_rows<'s: 'r, 't, 'r, 'a>(
     alloc: Global,
     keys: RandomState,
-    population: &Population<'s, 't, 'r, 'a>,
+    population: Population<'s, 't, 'r, 'a>,
 ) -> Result<Plain<'r>, AllocError>
     ensures rows { IfOk result (λ p. AreRowsOf
-        (schema_of population.now.types.now.names.schema.now) (population_seen population.now) p) }
+        (schema_of population.entry.types.now.names.schema.now) (population_seen population.entry)
+        p) }
     ensures population { IfOk result (λ p. IsPopulation p) }
 {
-    let rows = population.plain(alloc, keys)?;
+    let rows = population.into_plain(alloc, keys)?;
+    // its contract says that no name stands twice and each reference names a row
     let _count = rows.len();
     Ok(rows)
 }
@@ -64,23 +69,6 @@ fn copied(alloc: Global, table: &Table) -> Result<Table, AllocError>
     })
 }
 
-/// The gentle pins of a population, by the classes of the table under its weak ones. The population
-/// isn't needed then.
-fn gentle_pins(
-    alloc: Global,
-    population: Population<'_, '_, '_, '_>,
-    weak: &Pins,
-    first: &Table,
-) -> Result<Pins, AllocError>
-    requires made { IsMade population.types.now }
-    ensures { IfOk result (λ t. AreGentle
-        (schema_of population.entry.types.now.names.schema.now) (population_seen population.entry)
-        (is_pinned weak.now) (table_of first.now) (is_pinned t)) }
-{
-    let gentle = weak.gentle(alloc, &population, first)?;
-    Ok(gentle)
-}
-
 /// The table under the gentle pins. Where these are the weak ones it is the one under the weak ones.
 fn second_table(
     alloc: Global,
@@ -101,27 +89,23 @@ fn second_table(
     standard_table(alloc, keys, rows, gentle, signatures)
 }
 
-/// The tables of a population with these rows under its weak pins and under the gentle ones.
+/// The tables of rows under these weak pins and under the gentle ones that they give.
 fn tables_by(
     alloc: Global,
     keys: RandomState,
-    population: Population<'_, '_, '_, '_>,
     rows: &Plain<'_>,
-    weak: &Pins,
+    weak: &WeakPins,
     signatures: &Signatures,
 ) -> Result<(Table, Table), AllocError>
-    requires made { IsMade population.types.now }
-    requires rows { AreRowsOf (schema_of population.types.now.names.schema.now)
-        (population_seen population) rows.now }
     requires population { IsPopulation rows.now }
     requires signatures { AreSignatures rows.now signatures.now }
-    ensures { IfOk result (λ t. AreTablesUnder
-        (schema_of population.entry.types.now.names.schema.now) (population_seen population.entry)
-        (is_pinned weak.now) (table_of t.0) (table_of t.1)) }
+    ensures { (s : Schema) (is : List Instance) → AreRowsOf s is rows.now
+        → AreUniqueOf s is weak.now.lists → IfOk result (λ t. AreTablesUnder s is
+        (is_pinned weak.now.pins) (table_of t.0) (table_of t.1)) }
 {
-    let first = standard_table(alloc, keys, rows, weak, signatures)?;
-    let gentle = gentle_pins(alloc, population, weak, &first)?;
-    let second = second_table(alloc, keys, rows, weak, &gentle, signatures, &first)?;
+    let first = standard_table(alloc, keys, rows, &weak.pins, signatures)?;
+    let gentle = weak.gentle(alloc, &first)?;
+    let second = second_table(alloc, keys, rows, &weak.pins, &gentle, signatures, &first)?;
     Ok((first, second))
 }
 
@@ -131,14 +115,15 @@ pub(crate) fn standard_tables<'s: 'r, 't, 'r, 'a>(
     alloc: Global,
     keys: RandomState,
     population: Population<'s, 't, 'r, 'a>,
-    weak: Pins,
+    weak: WeakPins,
 ) -> Result<(Table, Table), AllocError>
-    requires made { IsMade population.types.now }
+    requires lists { AreUniqueOf (schema_of population.types.now.names.schema.now)
+        (population_seen population) weak.lists }
     ensures { IfOk result (λ t. AreTablesUnder
         (schema_of population.entry.types.now.names.schema.now) (population_seen population.entry)
-        (is_pinned weak) (table_of t.0) (table_of t.1)) }
+        (is_pinned weak.pins) (table_of t.0) (table_of t.1)) }
 {
-    let rows = plain_rows(alloc, keys, &population)?;
+    let rows = plain_rows(alloc, keys, population)?;
     let signatures = signatures_of(alloc, keys, &rows)?;
-    tables_by(alloc, keys, population, &rows, &weak, &signatures)
+    tables_by(alloc, keys, &rows, &weak, &signatures)
 }

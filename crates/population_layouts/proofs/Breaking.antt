@@ -1,26 +1,25 @@
 -- How often types break what is said of them, by number.
-use Rattle.std.specs.Prelude.{◌≡◌, ℕ, Bool, true, false, ◌||◌, ◌&&◌, not, nat_lt, List, [], ◌∷◌, map, filter_map, length, bytes_eq, ◌⊎◌}
+use Rattle.std.specs.Prelude.{◌≡◌, ℕ, Bool, true, false, ◌||◌, ◌&&◌, not, nat_lt, List, [], ◌∷◌, map, filter_map, bytes_eq, ◌⊎◌}
 use Rattle.std.specs.List.{list_any, filter}
 use Rattle.std.proofs.Common.{refl, inl, inr, ap, sym, ◌∙◌}
 use Rattle.std.proofs.lemmas.Slice.Eq.{bytes_eq-Decides}
 use Rattle.digraph.specs.Graphs.{Graph, has, next}
-use Rattle.express_syntax.specs.Schemas.{Schema, entity}
+use Rattle.express_syntax.specs.Schemas.{Schema}
 use Rattle.express_syntax.specs.Profile.{Every}
 use Rattle.schema_semantics.specs.Names.{Name}
 use Rattle.schema_semantics.specs.Faults.{IsResolved}
 use Rattle.schema_names.specs.Numbers.{number_of, HasNumber}
 use Rattle.schema_names.proofs.Numbers.{stands-at}
-use Rattle.schema_names.proofs.Edges.{within}
 use Rattle.schema_places.specs.Above.{AreAbove}
 use Rattle.schema_bases.specs.Seen.{name_at}
 use Rattle.conformance.specs.Fitting.{among, entity_names}
 use Rattle.conformance.specs.Entities.{Entities, AreEntities, is_abstract, is_abstract_in, is_leaf, how_many, one_ofs, abstract_leaves, missing_supertypes, broken_one_ofs}
-use Rattle.population_layouts.specs.Marked.{numbers, is_marked, marks_on, AreMarks, is_above, is_abstract_at, marks_two}
-use Rattle.population_layouts.proofs.Naming.{same-test, entity-at, AreNumbered, among-is}
+use Rattle.population_layouts.specs.Marked.{AreSorted, is_above, is_abstract_at, has_two}
+use Rattle.population_layouts.proofs.Naming.{same-test, AreNumbered, among-is}
 use Rattle.population_layouts.proofs.Kindred.{either, above-entity, below-is}
-use Rattle.population_layouts.proofs.Counted.{counted, counted-mapped, counted-alike, counted-both, two-marked}
+use Rattle.population_layouts.proofs.Counted.{counted, counted-mapped, counted-alike, counted-both, two-among}
 use Rattle.population_layouts.proofs.Operating.{operand-is}
-use Rattle.population_layouts.proofs.Typed.{IsNumberOfEntity, marks-are-on, row, row-names, row-entities, row-has, row-once, row-numbered, own-entity}
+use Rattle.population_layouts.proofs.Typed.{IsNumberOfEntity, rows-are, row, row-names, row-entities, row-once, row-numbered, own-entity}
 
 turned : (m n : Name) → bytes_eq m n ≡ bytes_eq n m
 turned m n =
@@ -83,8 +82,7 @@ module _ (s : Schema) (r : IsResolved s) (rows : Graph) (h : AreAbove s rows) (e
       by (inl here) more = above-entity s r rows h (name_at s i) i j each.0 here
       by (inr there) more = more there
 
-  module _ (test : Name → Bool) (above : List Bool)
-      (k : AreMarks (length s.declarations) (is_above rows (row s r test)) above) where
+  module _ (test : Name → Bool) (above : List ℕ) (k : AreSorted (is_above rows (row s r test)) above) where
     abbrev types : List Name
     types = filter test (entity_names s)
 
@@ -92,49 +90,47 @@ module _ (s : Schema) (r : IsResolved s) (rows : Graph) (h : AreAbove s rows) (e
     told n j l =
         below-told n j l (row s r test) (row-numbered s r test) ∙ ap (λ ts. is_below ts n) (row-names s r test)
 
-    pub above-are : above ≡ marks_on s (is_below types)
+    above-are : above ≡ row s r (is_below types)
     above-are =
-        marks-are-on s r (is_below types) (is_above rows (row s r test)) above (λ n j e l. told n j l)
+        rows-are s r (is_below types) (is_above rows (row s r test)) above (λ n j e l. told n j l)
         (above-only (row s r test) (row-numbered s r test)) k
 
     leaf-is : (i : ℕ) → IsNumberOfEntity s r i
         → (is_leaf s en types (name_at s i) && is_abstract s (name_at s i))
-        ≡ (not (is_marked above i) && is_abstract_at s i)
+        ≡ (not (has above i) && is_abstract_at s i)
     leaf-is i entities =
         let ((x, at), l) = own-entity s r i entities in
-        let inside = within s.declarations i (entity x) (entity-at s (name_at s i) i x at l) in
-        ap (λ b. not b && is_abstract s (name_at s i)) (sym (k.told i inside ∙ told (name_at s i) i l))
-        ∙ ap (λ d. not (is_marked above i) && is_abstract_in d) (stands-at s (name_at s i) i l)
+        ap (λ b. not b && is_abstract s (name_at s i)) (sym (k.told i ∙ told (name_at s i) i l))
+        ∙ ap (λ d. not (has above i) && is_abstract_in d) (stands-at s (name_at s i) i l)
 
     leaves-are : (xs : List ℕ) → Every (IsNumberOfEntity s r) xs
         → Every (λ i. (is_leaf s en types (name_at s i) && is_abstract s (name_at s i))
-        ≡ (not (is_marked above i) && is_abstract_at s i)) xs
+        ≡ (not (has above i) && is_abstract_at s i)) xs
     leaves-are [] each = tt
     leaves-are (i ∷ xs) each = (leaf-is i each.0, leaves-are xs each.1)
 
-    pub abstract-is : how_many (λ i. not (is_marked above i) && is_abstract_at s i) (row s r test)
+    pub abstract-is : how_many (λ i. not (has above i) && is_abstract_at s i) (row s r test)
         ≡ abstract_leaves s en types
     abstract-is =
         sym (counted (name_at s) (λ e. is_leaf s en types e && is_abstract s e)
-        (λ i. not (is_marked above i) && is_abstract_at s i) (row s r test)
+        (λ i. not (has above i) && is_abstract_at s i) (row s r test)
         (leaves-are (row s r test) (row-entities s r test)))
         ∙ ap (how_many (λ e. is_leaf s en types e && is_abstract s e)) (row-names s r test)
 
-    among-told : (n : Name) (i : ℕ) → HasNumber s n i → among n types ≡ is_marked (marks_on s test) i
+    among-told : (n : Name) (i : ℕ) → HasNumber s n i → among n types ≡ has (row s r test) i
     among-told n i l =
         ap (among n) (sym (row-names s r test)) ∙ among-is s n i l (row s r test) (row-numbered s r test)
-        ∙ row-has s r test i
 
     missing-are : (xs : List ℕ) → AreNumbered s xs
-        → Every (λ i. not (among (name_at s i) types) ≡ not (is_marked (marks_on s test) i)) xs
+        → Every (λ i. not (among (name_at s i) types) ≡ not (has (row s r test) i)) xs
     missing-are [] each = tt
     missing-are (i ∷ xs) each = (ap not (among-told (name_at s i) i each.0), missing-are xs each.1)
 
-    pub missing-is : how_many (λ i. not (is_marked (marks_on s test) i)) (numbers above)
+    pub missing-is : how_many (λ i. not (has (row s r test) i)) above
         ≡ missing_supertypes s en types
     missing-is =
-        ap (λ marks. how_many (λ i. not (is_marked (marks_on s test) i)) (numbers marks)) above-are
-        ∙ sym (counted (name_at s) (λ n. not (among n types)) (λ i. not (is_marked (marks_on s test) i))
+        ap (how_many (λ i. not (has (row s r test) i))) above-are
+        ∙ sym (counted (name_at s) (λ n. not (among n types)) (λ i. not (has (row s r test) i))
         (row s r (is_below types)) (missing-are (row s r (is_below types)) (row-numbered s r (is_below types))))
         ∙ ap (how_many (λ n. not (among n types))) (row-names s r (is_below types))
         ∙ counted-both (is_below types) (λ n. not (among n types)) (entity_names s)
@@ -147,18 +143,18 @@ module _ (s : Schema) (r : IsResolved s) (rows : Graph) (h : AreAbove s rows) (e
     among-operands ns [] each = tt
     among-operands ns (i ∷ xs) each = (operand-is s (name_at s i) i each.0 ns, among-operands ns xs each.1)
 
-    two-is : (ns : List Name) → marks_two (marks_on s test) (filter_map (number_of s) ns)
+    two-is : (ns : List Name) → has_two (row s r test) (filter_map (number_of s) ns)
         ≡ nat_lt 1 (how_many (λ t. among t ns) types)
     two-is ns =
-        two-marked (marks_on s test) (row s r test) (row-has s r test) (row-once s r test) (filter_map (number_of s) ns)
+        two-among (row s r test) (row-once s r test) (filter_map (number_of s) ns)
         ∙ ap (nat_lt 1) (sym (counted (name_at s) (λ t. among t ns) (has (filter_map (number_of s) ns)) (row s r test)
         (among-operands ns (row s r test) (row-numbered s r test)))
         ∙ ap (how_many (λ t. among t ns)) (row-names s r test))
 
     pub broken-is : (operands : Graph) → operands ≡ map (filter_map (number_of s)) (one_ofs s)
-        → how_many (marks_two (marks_on s test)) operands ≡ broken_one_ofs s en types
+        → how_many (has_two (row s r test)) operands ≡ broken_one_ofs s en types
     broken-is operands is =
-        ap (how_many (marks_two (marks_on s test))) is
-        ∙ counted-mapped (filter_map (number_of s)) (marks_two (marks_on s test)) (one_ofs s)
-        ∙ counted-alike (λ ns. marks_two (marks_on s test) (filter_map (number_of s) ns))
+        ap (how_many (has_two (row s r test))) is
+        ∙ counted-mapped (filter_map (number_of s)) (has_two (row s r test)) (one_ofs s)
+        ∙ counted-alike (λ ns. has_two (row s r test) (filter_map (number_of s) ns))
         (λ ns. nat_lt 1 (how_many (λ t. among t ns) types)) two-is (one_ofs s)

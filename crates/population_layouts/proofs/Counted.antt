@@ -7,7 +7,7 @@ use Rattle.digraph.specs.Graphs.{has}
 use Rattle.express_syntax.specs.Profile.{Every}
 use Rattle.schema_semantics.proofs.Bools.{both-hold, or-left, or-right}
 use Rattle.conformance.specs.Entities.{how_many}
-use Rattle.population_layouts.specs.Marked.{is_marked, marks_another, marks_two}
+use Rattle.population_layouts.specs.Marked.{has_another, has_two}
 use Rattle.population_layouts.proofs.Naming.{same-test, same-number, equals-itself}
 
 more : Bool → ℕ → ℕ
@@ -179,44 +179,41 @@ not-true : (b : Bool) → not b ≡ true → b ≡ false
 not-true true e = sym e
 not-true false e = refl
 
--- two operands are among the numbers that are marked
-module _ (marks : List Bool) (types : List ℕ) (told : (i : ℕ) → has types i ≡ is_marked marks i)
-    (once : IsDistinct eqb types) where
-  pub two-marked : (row : List ℕ) → marks_two marks row ≡ nat_lt 1 (how_many (has row) types)
-  two-marked row =
-      same-test (marks_two marks row) (nat_lt 1 (how_many (has row) types))
-      (λ e. forth (find (is_marked marks) row) refl e)
+-- two operands are among the types
+module _ (types : List ℕ) (once : IsDistinct eqb types) where
+  pub two-among : (row : List ℕ) → has_two types row ≡ nat_lt 1 (how_many (has row) types)
+  two-among row =
+      same-test (has_two types row) (nat_lt 1 (how_many (has row) types))
+      (λ e. forth (find (has types) row) refl e)
       (λ e. back (many-two (filter (has row) types) (once-filtered (has row) types once) e))
     where
-      inside : (i : ℕ) → has row i ≡ true → is_marked marks i ≡ true → has (filter (has row) types) i ≡ true
+      inside : (i : ℕ) → has row i ≡ true → has types i ≡ true → has (filter (has row) types) i ≡ true
       inside i m e =
-          has-filtered (has row) types i ∙ ap (λ b. b && has row i) (told i ∙ e) ∙ m
+          has-filtered (has row) types i ∙ ap (λ b. b && has row i) e ∙ m
 
-      forth : (o : Option ℕ) → find (is_marked marks) row ≡ o → marks_another marks row o ≡ true
+      forth : (o : Option ℕ) → find (has types) row ≡ o → has_another types row o ≡ true
           → nat_lt 1 (how_many (has row) types) ≡ true
       forth None is e = absurd (cc)
       forth (Some f) is e =
-          let (x, m, both) = any-from (λ i. not (i == f) && is_marked marks i) row e in
-          let (other, marked) = both-hold (not (x == f)) (is_marked marks x) both in
-          let (n, first) = first-is (is_marked marks) row f is in
+          let (x, m, both) = any-from (λ i. not (i == f) && has types i) row e in
+          let (other, marked) = both-hold (not (x == f)) (has types x) both in
+          let (n, first) = first-is (has types) row f is in
           let differ : (x == f) ≡ false = not-true (x == f) other in
           let apart : eqb f x ≡ false = grind (arith, nat_tests) in
           two-many (filter (has row) types) (f, x, inside f n first, inside x m marked, apart)
 
-      back : Two (filter (has row) types) → marks_two marks row ≡ true
+      back : Two (filter (has row) types) → has_two types row ≡ true
       back (a, b, m, n, apart) =
           let (ta, ra) = both-hold (has types a) (has row a) (sym (has-filtered (has row) types a) ∙ m) in
           let (tb, rb) = both-hold (has types b) (has row b) (sym (has-filtered (has row) types b) ∙ n) in
-          let ma : is_marked marks a ≡ true = sym (told a) ∙ ta in
-          let mb : is_marked marks b ≡ true = sym (told b) ∙ tb in
-          let (f, is) = found-one (is_marked marks) row a ra ma in
-          ap (marks_another marks row) is ∙ by f (eqb a f) refl ra ma rb mb
+          let (f, is) = found-one (has types) row a ra ta in
+          ap (has_another types row) is ∙ by f (eqb a f) refl ra ta rb tb
         where
-          by : (f : ℕ) (c : Bool) → eqb a f ≡ c → has row a ≡ true → is_marked marks a ≡ true → has row b ≡ true
-              → is_marked marks b ≡ true → marks_another marks row (Some f) ≡ true
+          by : (f : ℕ) (c : Bool) → eqb a f ≡ c → has row a ≡ true → has types a ≡ true → has row b ≡ true
+              → has types b ≡ true → has_another types row (Some f) ≡ true
           by f true e ra ma rb mb =
               let other : not (b == f) ≡ true = grind (arith, nat_tests) in
-              any-at (λ i. not (i == f) && is_marked marks i) row b rb (ap (λ c. c && is_marked marks b) other ∙ mb)
+              any-at (λ i. not (i == f) && has types i) row b rb (ap (λ c. c && has types b) other ∙ mb)
           by f false e ra ma rb mb =
               let other : not (a == f) ≡ true = grind (arith, nat_tests) in
-              any-at (λ i. not (i == f) && is_marked marks i) row a ra (ap (λ c. c && is_marked marks a) other ∙ ma)
+              any-at (λ i. not (i == f) && has types i) row a ra (ap (λ c. c && has types a) other ∙ ma)

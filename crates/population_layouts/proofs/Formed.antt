@@ -19,12 +19,12 @@ use Rattle.population_layouts.specs.declared.knowledge.Knowledge.{Knowledge}
 use Rattle.population_rows.specs.declared.form.Form.{Form as NumberedForm}
 use Rattle.population_layouts.specs.Knowing.{AreKnown, schema_in}
 use Rattle.population_layouts.specs.Forms.{NameEntities, counts_of, AreSlotsOf, IsFormOf}
-use Rattle.population_layouts.specs.Marked.{numbers, is_marked, marks_on, marks_two, AreMarks, is_above, is_kind, is_abstract_at}
+use Rattle.population_layouts.specs.Marked.{AreSorted, has_two, is_above, is_kind, is_abstract_at}
 use Rattle.population_layouts.specs.Slots.{IsSlotAt}
 use Rattle.population_layouts.specs.Making.{IsForm}
 use Rattle.population_layouts.proofs.Naming.{same-number, name-at, has-own-name, entity-at, AreNumbered, among-is}
 use Rattle.population_layouts.proofs.Kindred.{either, above-entity, kind-is}
-use Rattle.population_layouts.proofs.Typed.{IsNumberOfEntity, marks-are-on, row, row-names, row-entities, row-numbered}
+use Rattle.population_layouts.proofs.Typed.{IsNumberOfEntity, rows-are, row, row-names, row-entities, row-numbered}
 use Rattle.population_layouts.proofs.Breaking.{abstract-is, missing-is, broken-is}
 use Rattle.population_layouts.proofs.Slotted.{slots-are}
 
@@ -36,46 +36,45 @@ module _ (k : Knowledge) (known : AreKnown k) (en : Entities) (g : AreEntities (
   abbrev s : Schema
   s = schema_in k
 
-  pub form-is : (test : Name → Bool) (marks : List Bool) → marks ≡ marks_on s test → (parameters places : List ℕ)
-      (x : NumberedForm) → IsForm k marks parameters places x → (f : Form)
+  pub form-is : (test : Name → Bool) (types : List ℕ) → types ≡ row s known.resolved test
+      → (parameters places : List ℕ) (x : NumberedForm) → IsForm k types parameters places x → (f : Form)
       → filter test (entity_names s) ≡ types_of s en f → parameters ≡ counts_of s en f
       → AreAt (all_places s) places (places_of s en f) → IsFormOf s en f x
-  form-is test marks on parameters places x h f types counts at = record {
-    types = ap (map (name_at s)) rows ∙ row-names s known.resolved test ∙ types;
+  form-is test types on parameters places x h f same counts at = record {
+    types = ap (map (name_at s)) rows ∙ row-names s known.resolved test ∙ same;
     numbered = subst (AreNumbered s) (sym rows) (row-numbered s known.resolved test);
     abstract_leaves = h.broken.abstract_leaves
-        ∙ ap (how_many (λ i. not (is_marked h.above i) && is_abstract_at s i)) rows
-        ∙ abstract-is s known.resolved (graph_of k.above.now) known.above en g test h.above above
-        ∙ ap (abstract_leaves s en) types;
+        ∙ ap (how_many (λ i. not (has h.supertypes i) && is_abstract_at s i)) on
+        ∙ abstract-is s known.resolved (graph_of k.above.now) known.above en g test h.supertypes above
+        ∙ ap (abstract_leaves s en) same;
     missing_supertypes = h.broken.missing_supertypes
-        ∙ ap (λ ms. how_many (λ i. not (is_marked ms i)) (numbers h.above)) on
-        ∙ missing-is s known.resolved (graph_of k.above.now) known.above en g test h.above above
-        ∙ ap (missing_supertypes s en) types;
+        ∙ ap (λ ts. how_many (λ i. not (has ts i)) h.supertypes) on
+        ∙ missing-is s known.resolved (graph_of k.above.now) known.above en g test h.supertypes above
+        ∙ ap (missing_supertypes s en) same;
     broken_one_ofs = h.broken.broken_one_ofs
-        ∙ ap (λ ms. how_many (marks_two ms) (graph_of k.one_ofs.now)) on
-        ∙ broken-is s known.resolved (graph_of k.above.now) known.above en g test h.above above (graph_of k.one_ofs.now)
+        ∙ ap (λ ts. how_many (has_two ts) (graph_of k.one_ofs.now)) on
+        ∙ broken-is s known.resolved (graph_of k.above.now) known.above en g test h.supertypes above (graph_of k.one_ofs.now)
         known.one_ofs
-        ∙ ap (broken_one_ofs s en) types;
+        ∙ ap (broken_one_ofs s en) same;
     counts = h.counts ∙ counts;
     slots = subst (λ ts. AreSlotsOf s en ts (places_of s en f) x.slots.items)
-        (row-names s known.resolved test ∙ types)
+        (row-names s known.resolved test ∙ same)
         (slots-are s known.resolved k.uses.now known.uses en g (row s known.resolved test)
         (row-entities s known.resolved test) (row-numbered s known.resolved test) places (places_of s en f)
-        x.slots.items at (subst (λ xs. AllZip (IsSlotAt k.uses.now xs) places x.slots.items) rows h.slots));
+        x.slots.items at (subst (λ xs. AllZip (IsSlotAt k.uses.now xs) places x.slots.items) on h.slots));
   }
     where
       rows : x.types.items ≡ row s known.resolved test
-      rows = h.types ∙ ap numbers on
+      rows = h.types ∙ on
 
-      above : AreMarks (length s.declarations) (is_above (graph_of k.above.now) (row s known.resolved test)) h.above
-      above =
-          subst (λ xs. AreMarks (length s.declarations) (is_above (graph_of k.above.now) xs) h.above) rows h.are_above
+      above : AreSorted (is_above (graph_of k.above.now) (row s known.resolved test)) h.supertypes
+      above = subst (λ xs. AreSorted (is_above (graph_of k.above.now) xs) h.supertypes) on h.above
 
   -- of an internally mapped instance
-  kinds-on : (n : Name) (i : ℕ) → IsEntity s n → HasNumber s n i → (marks : List Bool)
-      → AreMarks (length s.declarations) (is_kind (graph_of k.above.now) i) marks → marks ≡ marks_on s (en.is_kind_of n)
-  kinds-on n i e l marks h =
-      marks-are-on s known.resolved (en.is_kind_of n) (is_kind (graph_of k.above.now) i) marks
+  kinds-on : (n : Name) (i : ℕ) → IsEntity s n → HasNumber s n i → (types : List ℕ)
+      → AreSorted (is_kind (graph_of k.above.now) i) types → types ≡ row s known.resolved (en.is_kind_of n)
+  kinds-on n i e l types h =
+      rows-are s known.resolved (en.is_kind_of n) (is_kind (graph_of k.above.now) i) types
       (λ m j f o. sym (kind-is s known.resolved (graph_of k.above.now) known.above en g n m i j l o))
       (λ j t. only j (either (eqb i j) (has (next (graph_of k.above.now) i) j) t)) h
     where
@@ -84,11 +83,11 @@ module _ (k : Knowledge) (known : AreKnown k) (en : Entities) (g : AreEntities (
       only j (inl same) = (n, e, subst (HasNumber s n) (same-number i j same) l)
       only j (inr t) = above-entity s known.resolved (graph_of k.above.now) known.above n i j l t
 
-  pub internal-is : (r : Record) (i : ℕ) → NameEntities s (r ∷ []) (i ∷ []) → (marks : List Bool)
-      → AreMarks (length s.declarations) (is_kind (graph_of k.above.now) i) marks → (parameters places : List ℕ)
+  pub internal-is : (r : Record) (i : ℕ) → NameEntities s (r ∷ []) (i ∷ []) → (types : List ℕ)
+      → AreSorted (is_kind (graph_of k.above.now) i) types → (parameters places : List ℕ)
       → parameters ≡ length places ∷ [] → places ≡ next (graph_of k.places.now) i → (x : NumberedForm)
-      → IsForm k marks parameters places x → IsFormOf s en (internal r) x
-  internal-is r i ((e, l), done) marks h parameters places count is x made =
+      → IsForm k types parameters places x → IsFormOf s en (internal r) x
+  internal-is r i ((e, l), done) types h parameters places count is x made =
       by (known.places (named_entity r) i e l)
     where
       by : ((ps : List Place) × IsPlaces s (named_entity r) ps
@@ -99,7 +98,7 @@ module _ (k : Knowledge) (known : AreKnown k) (en : Entities) (g : AreEntities (
           sym gives ∙ solutions-are-one s known.resolved make_places f en.places solves g.places (named_entity r) e in
           let here : AreAt (all_places s) places (en.places (named_entity r)) =
           subst (λ qs. AreAt (all_places s) places qs) same (subst (λ row. AreAt (all_places s) row ps) (sym is) at) in
-          form-is (en.is_kind_of (named_entity r)) marks (kinds-on (named_entity r) i e l marks h) parameters places x
+          form-is (en.is_kind_of (named_entity r)) types (kinds-on (named_entity r) i e l types h) parameters places x
           made (internal r) refl
           (count ∙ ap (λ c. c ∷ []) (as-many (all_places s) places (en.places (named_entity r)) here)) here
 
@@ -131,10 +130,10 @@ module _ (k : Knowledge) (known : AreKnown k) (en : Entities) (g : AreEntities (
           (named_entity r, h.0.0, subst (HasNumber s (named_entity r)) (sym (same-number j i same)) h.0.1)
       by (inr behind) more = more behind
 
-  named-on : (rs : List Record) (is : List ℕ) → NameEntities s rs is → (marks : List Bool)
-      → AreMarks (length s.declarations) (has is) marks → marks ≡ marks_on s (λ e. among e (map named_entity rs))
-  named-on rs is h marks on =
-      marks-are-on s known.resolved (λ e. among e (map named_entity rs)) (has is) marks
+  named-on : (rs : List Record) (is : List ℕ) → NameEntities s rs is → (types : List ℕ)
+      → AreSorted (has is) types → types ≡ row s known.resolved (λ e. among e (map named_entity rs))
+  named-on rs is h types on =
+      rows-are s known.resolved (λ e. among e (map named_entity rs)) (has is) types
       (λ m j f o. sym (among-is s m j o is (numbers-are rs is h)) ∙ ap (among m) (names-are rs is h))
       (only-entities rs is h) on
 
@@ -166,12 +165,12 @@ module _ (k : Knowledge) (known : AreKnown k) (en : Entities) (g : AreEntities (
       (own_places_of s (named_entity r)) (places_of s en (external rs)) (own-at (named_entity r) i h.0.0 h.0.1)
       (places-are rs is h.1)
 
-  pub external-is : (rs : List Record) (is : List ℕ) → NameEntities s rs is → (marks : List Bool)
-      → AreMarks (length s.declarations) (has is) marks → (parameters places : List ℕ)
+  pub external-is : (rs : List Record) (is : List ℕ) → NameEntities s rs is → (types : List ℕ)
+      → AreSorted (has is) types → (parameters places : List ℕ)
       → parameters ≡ map (λ i. length (next (graph_of k.own.now) i)) is
       → places ≡ concat (map (next (graph_of k.own.now)) is) → (x : NumberedForm)
-      → IsForm k marks parameters places x → IsFormOf s en (external rs) x
-  external-is rs is h marks on parameters places count at x made =
-      form-is (λ e. among e (map named_entity rs)) marks (named-on rs is h marks on) parameters places x made
+      → IsForm k types parameters places x → IsFormOf s en (external rs) x
+  external-is rs is h types on parameters places count at x made =
+      form-is (λ e. among e (map named_entity rs)) types (named-on rs is h types on) parameters places x made
       (external rs) refl (count ∙ counts-are rs is h)
       (subst (λ row. AreAt (all_places s) row (places_of s en (external rs))) (sym at) (places-are rs is h))

@@ -2,10 +2,11 @@ pub mod Naming
 pub mod Listing
 pub mod Kindred
 pub mod Counted
-pub mod Setting
+pub mod Rising
 pub mod Operating
 pub mod Typed
 pub mod Slotted
+pub mod Placed
 pub mod Breaking
 pub mod Existing
 pub mod Formed

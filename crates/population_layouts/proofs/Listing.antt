@@ -1,22 +1,14 @@
 -- The numbers of what is marked.
-use Rattle.std.specs.Prelude.{◌≡◌, ℕ, ◌+◌, ◌<◌, ◌≤◌, Bool, true, false, cond, ◌||◌, List, [], ◌∷◌, ◌++◌, map, length, drop, get_or, slice_get, Some, eqb}
+use Rattle.std.specs.Prelude.{◌≡◌, ℕ, ◌+◌, ◌<◌, Bool, true, false, cond, ◌||◌, List, [], ◌∷◌, map, get_or, slice_get, Some, eqb}
 use Rattle.std.specs.List.{filter, IsDistinct, AllByRecursion}
-use Rattle.std.proofs.Common.{refl, ap, sym, ◌∙◌, arith, zero, suc}
+use Rattle.std.proofs.Common.{refl, ap, ◌∙◌, arith, zero, suc}
 use Rattle.std.proofs.lemmas.Bool.Decides.{nat_tests}
 use Rattle.digraph.specs.Graphs.{has}
-use Rattle.std.proofs.lemmas.List.{append-nil, append_assoc, drop_more, drop_all}
 use Rattle.express_syntax.specs.Schemas.{Declaration, type, entity, skipped, Entity}
 use Rattle.express_syntax.specs.Profile.{Every}
 use Rattle.schema_semantics.specs.Names.{Name, entities_of}
 use Rattle.schema_bases.specs.Seen.{name_in}
-use Rattle.population_layouts.specs.Marked.{numbers_from, numbers, passes}
-
--- one mark more
-pub numbers-next : (marks : List Bool) (i : ℕ) → i < length marks
-    → numbers_from i (drop i marks)
-    ≡ cond (get_or marks i false) (i ∷ numbers_from (i + 1) (drop (i + 1) marks))
-    (numbers_from (i + 1) (drop (i + 1) marks))
-numbers-next marks i lt = ap (numbers_from i) (drop_more marks i false lt)
+use Rattle.population_layouts.specs.Marked.{numbers_from, passes}
 
 -- the names of what is marked
 names-of : (name : ℕ → Name) (b : Bool) (k : ℕ) (n : Name) (row : List ℕ) (ns : List Name) → name k ≡ n
@@ -39,7 +31,7 @@ module _ (test : Name → Bool) (name : ℕ → Name) where
       marked-names (k + 1) ds (λ i j d e at. h i (suc j) d (omega arith) at)
 
 -- whether a number is one of these
-none-below : (k i : ℕ) (marks : List Bool) → i < k → has (numbers_from k marks) i ≡ false
+pub none-below : (k i : ℕ) (marks : List Bool) → i < k → has (numbers_from k marks) i ≡ false
 none-below k i [] lt = refl
 none-below k i (true ∷ marks) lt =
     let here : eqb i k ≡ false = grind (arith, nat_tests) in
@@ -77,23 +69,3 @@ each-listed P k [] h = tt
 each-listed P k (true ∷ marks) h =
     (h k 0 (omega arith) refl, each-listed P (k + 1) marks (λ i j e at. h i (suc j) (omega arith) at))
 each-listed P k (false ∷ marks) h = each-listed P (k + 1) marks (λ i j e at. h i (suc j) (omega arith) at)
-
-pub numbers-more : (marks : List Bool) (i : ℕ) (old new : List ℕ) → i < length marks
-    → old ++ numbers_from i (drop i marks) ≡ numbers marks
-    → new ≡ old ++ cond (get_or marks i false) (i ∷ []) []
-    → new ++ numbers_from (i + 1) (drop (i + 1) marks) ≡ numbers marks
-numbers-more marks i old new lt h is =
-    ap (λ xs. xs ++ rest) is ∙ append_assoc old (cond (get_or marks i false) (i ∷ []) []) rest
-    ∙ ap (λ xs. old ++ xs) (split (get_or marks i false)) ∙ ap (λ xs. old ++ xs) (sym (numbers-next marks i lt)) ∙ h
-  where
-    rest : List ℕ
-    rest = numbers_from (i + 1) (drop (i + 1) marks)
-
-    split : (b : Bool) → cond b (i ∷ []) [] ++ rest ≡ cond b (i ∷ rest) rest
-    split true = refl
-    split false = refl
-
-pub numbers-whole : (marks : List Bool) (i : ℕ) (row : List ℕ) → length marks ≤ i
-    → row ++ numbers_from i (drop i marks) ≡ numbers marks → row ≡ numbers marks
-numbers-whole marks i row far h =
-    sym (append-nil row) ∙ ap (λ ms. row ++ numbers_from i ms) (sym (drop_all i marks far)) ∙ h

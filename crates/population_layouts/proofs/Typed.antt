@@ -1,8 +1,7 @@
 -- The types of an instance, by number.
-use Rattle.std.specs.Prelude.{◌≡◌, ℕ, ◌<◌, Bool, true, false, List, [], ◌∷◌, map, length, get_or, slice_get, Some, eqb}
+use Rattle.std.specs.Prelude.{◌≡◌, ℕ, Bool, true, false, List, [], ◌∷◌, map, get_or, slice_get, None, Some, eqb}
 use Rattle.std.specs.List.{filter, IsDistinct}
 use Rattle.std.proofs.Common.{refl, ap, sym, subst, ◌∙◌, arith, zero, suc}
-use Rattle.std.proofs.lemmas.List.{ext_get_or, length-map}
 use Rattle.digraph.specs.Graphs.{has}
 use Rattle.express_syntax.specs.Schemas.{Schema, Declaration, type, entity, skipped, Entity}
 use Rattle.express_syntax.specs.Profile.{Every}
@@ -12,9 +11,10 @@ use Rattle.schema_names.specs.Numbers.{HasNumber, IsAt}
 use Rattle.schema_names.proofs.Numbers.{stands-at}
 use Rattle.schema_bases.specs.Seen.{name_in, name_at}
 use Rattle.conformance.specs.Fitting.{entity_names}
-use Rattle.population_layouts.specs.Marked.{numbers, is_marked, passes, marks_on, AreMarks}
+use Rattle.population_layouts.specs.Marked.{numbers, is_marked, passes, marks_on, AreSorted}
 use Rattle.population_layouts.proofs.Naming.{name-at, has-own-name, entity-at, own-number, AreNumbered}
 use Rattle.population_layouts.proofs.Listing.{marked-names, listed-is, listed-once, each-listed}
+use Rattle.population_layouts.proofs.Rising.{listed-as}
 
 module _ (s : Schema) (r : IsResolved s) where
   -- an entity has this number
@@ -43,21 +43,25 @@ module _ (s : Schema) (r : IsResolved s) where
           let here : slice_get s.declarations i ≡ Some (entity x) = entity-at s n i x stands k in absurd (cc)
       none false e = refl
 
-  at-is : {A B : Type 0} (g : A → B) (xs : List A) (i : ℕ) (d : B) (b : B)
-      → ((x : A) → slice_get xs i ≡ Some x → b ≡ g x) → i < length xs → b ≡ get_or (map g xs) i d
-  at-is g [] i d b h lt = absurd (omega arith)
-  at-is g (x ∷ xs) zero d b h lt = h x refl
-  at-is g (x ∷ xs) (suc i) d b h lt = at-is g xs i d b h (omega arith)
+  marks-at : {A : Type 0} (g : A → Bool) (xs : List A) (i : ℕ) (b : Bool)
+      → ((x : A) → slice_get xs i ≡ Some x → b ≡ g x) → (slice_get xs i ≡ None → b ≡ false)
+      → b ≡ get_or (map g xs) i false
+  marks-at g [] i b h none = none refl
+  marks-at g (x ∷ xs) zero b h none = h x refl
+  marks-at g (x ∷ xs) (suc i) b h none = marks-at g xs i b h none
 
-  pub marks-are-on : (test : Name → Bool) (f : ℕ → Bool) (marks : List Bool)
+  passes-marked : (test : Name → Bool) (f : ℕ → Bool)
       → ((n : Name) (i : ℕ) → IsEntity s n → HasNumber s n i → f i ≡ test n)
-      → ((i : ℕ) → f i ≡ true → IsNumberOfEntity i) → AreMarks (length s.declarations) f marks
-      → marks ≡ marks_on s test
-  marks-are-on test f marks same only h =
-      ext_get_or false marks (marks_on s test) (h.same ∙ sym (length-map s.declarations (passes test)))
-      (λ i lt. (let long = h.same in let within : i < length s.declarations = omega (arith, lt, long) in
-      h.told i within
-      ∙ at-is (passes test) s.declarations i false (f i) (λ d at. passes-at test f same only i d at) within))
+      → ((i : ℕ) → f i ≡ true → IsNumberOfEntity i) → (i : ℕ) → f i ≡ is_marked (marks_on s test) i
+  passes-marked test f same only i =
+      marks-at (passes test) s.declarations i (f i) (λ d at. passes-at test f same only i d at)
+      (λ none. outside (f i) refl none)
+    where
+      outside : (b : Bool) → f i ≡ b → slice_get s.declarations i ≡ None → b ≡ false
+      outside true e none =
+          let (n, (x, stands), k) = only i e in
+          let here : slice_get s.declarations i ≡ Some (entity x) = entity-at s n i x stands k in absurd (cc)
+      outside false e none = refl
 
   -- what is marked is an entity that passes
   passed : (test : Name → Bool) (ds : List Declaration) (j : ℕ) → get_or (map (passes test) ds) j false ≡ true
@@ -88,11 +92,19 @@ module _ (s : Schema) (r : IsResolved s) where
         let k = own-number s r i x here in
         (x.name, (x, stands-at s x.name i k ∙ here), k)))
 
-    pub row-has : (i : ℕ) → has row i ≡ is_marked (marks_on s test) i
+    row-has : (i : ℕ) → has row i ≡ is_marked (marks_on s test) i
     row-has i = listed-is 0 i i (marks_on s test) (omega arith)
 
     pub row-once : IsDistinct eqb row
     row-once = listed-once 0 (marks_on s test)
+
+  -- numbers that rise, of the entities that pass
+  pub rows-are : (test : Name → Bool) (f : ℕ → Bool) (xs : List ℕ)
+      → ((n : Name) (i : ℕ) → IsEntity s n → HasNumber s n i → f i ≡ test n)
+      → ((i : ℕ) → f i ≡ true → IsNumberOfEntity i) → AreSorted f xs → xs ≡ row test
+  rows-are test f xs same only h =
+      listed-as xs (marks_on s test) h.rise
+      (λ i. h.told i ∙ passes-marked test f same only i ∙ sym (row-has test i))
 
   numbered : (xs : List ℕ) → Every IsNumberOfEntity xs → AreNumbered s xs
   numbered [] h = tt

@@ -1,6 +1,7 @@
--- Marks on declarations, and the numbers of what is marked.
-use Rattle.std.specs.Prelude.{◌≡◌, ℕ, ◌+◌, ◌<◌, ◌==◌, Bool, false, cond, ◌||◌, ◌&&◌, not, List, [], ◌∷◌, map, length, get_or, slice_get, Option, None, Some}
+-- Numbers of declarations, in rising order, and those of the entities that pass a test.
+use Rattle.std.specs.Prelude.{◌≡◌, ℕ, ◌+◌, ◌==◌, Bool, false, cond, ◌||◌, ◌&&◌, not, List, [], ◌∷◌, map, get_or, slice_get, Option, None, Some}
 use Rattle.std.specs.List.{list_any, find}
+use Rattle.std.specs.List.Sorted.{IsStrictlyIncreasing}
 use Rattle.digraph.specs.Graphs.{Graph, has, next}
 use Rattle.express_syntax.specs.Schemas.{Schema, Declaration, type, entity, skipped}
 use Rattle.schema_semantics.specs.Names.{Name}
@@ -18,6 +19,11 @@ numbers marks = numbers_from 0 marks
 abbrev pub is_marked : List Bool → ℕ → Bool
 is_marked marks i = get_or marks i false
 
+-- the numbers of which this holds, each below the next
+pub record AreSorted (test : ℕ → Bool) (row : List ℕ) : Type 0 where
+  pub rise : IsStrictlyIncreasing row
+  pub told : (i : ℕ) → has row i ≡ test i
+
 -- it declares an entity that passes
 abbrev pub passes : (Name → Bool) → Declaration → Bool
 passes test (type t) = false
@@ -28,24 +34,14 @@ passes test (skipped p) = false
 abbrev pub marks_on : Schema → (Name → Bool) → List Bool
 marks_on s test = map (passes test) s.declarations
 
--- as many marks, by this test
-pub record AreMarks (n : ℕ) (test : ℕ → Bool) (marks : List Bool) : Type 0 where
-  pub same : length marks ≡ n
-  pub told : (i : ℕ) → i < n → is_marked marks i ≡ test i
-
--- .. and those of a row more
-pub record Marks (old : List Bool) (row : List ℕ) (new : List Bool) : Type 0 where
-  pub same : length new ≡ length old
-  pub told : (i : ℕ) → i < length old → is_marked new i ≡ (is_marked old i || has row i)
-
 -- another one than the first
-abbrev pub marks_another : List Bool → List ℕ → Option ℕ → Bool
-marks_another marks row None = false
-marks_another marks row (Some first) = list_any (λ i. not (i == first) && is_marked marks i) row
+abbrev pub has_another : List ℕ → List ℕ → Option ℕ → Bool
+has_another row numbers None = false
+has_another row numbers (Some first) = list_any (λ i. not (i == first) && has row i) numbers
 
--- whether two numbers of a row are marked
-abbrev pub marks_two : List Bool → List ℕ → Bool
-marks_two marks row = marks_another marks row (find (is_marked marks) row)
+-- whether two of these numbers stand in a row
+abbrev pub has_two : List ℕ → List ℕ → Bool
+has_two row numbers = has_another row numbers (find (has row) numbers)
 
 -- whether an entity is ABSTRACT
 abbrev pub is_abstract_at : Schema → ℕ → Bool

@@ -3,17 +3,13 @@
 
 ghost use Rattle.std.specs.Prelude.{◌≡◌, ◌&&◌, not, Some};
 ghost use Rattle.std.specs.List.{find};
-ghost use Rattle.digraph.specs.Graphs.{graph_of};
+ghost use Rattle.std.specs.List.Sorted.{IsNonDecreasing};
+ghost use Rattle.digraph.specs.Graphs.{graph_of, has};
 ghost use Rattle.express_syntax.specs.SchemaViews.{schema_of};
 ghost use Rattle.conformance.specs.Entities.{how_many};
-ghost use Rattle.population_layouts.specs.Marked.{
-  is_abstract_at,
-  is_marked,
-  marks_another,
-  marks_two,
-};
+ghost use Rattle.population_layouts.specs.Marked.{has_another, has_two, is_abstract_at};
 
-use crate::marks::is_marked;
+use crate::sorted::contains;
 use express_syntax::tree::Declaration;
 use schema_names::names::Names;
 
@@ -27,60 +23,64 @@ fn is_abstract(names: &Names<'_, '_>, number: u32) -> bool
     }
 }
 
-/// How many types are ABSTRACT, with no other below: `above` has marks on the proper supertypes of
-/// all types.
-pub(crate) fn abstract_leaves(names: &Names<'_, '_>, types: &[u32], above: &[bool]) -> usize
-    ensures { result ≡ how_many (λ i. not (is_marked above.now i)
+/// How many types are ABSTRACT, with no other below: `supertypes` has the proper supertypes of all
+/// types.
+pub(crate) fn abstract_leaves(names: &Names<'_, '_>, types: &[u32], supertypes: &[u32]) -> usize
+    ensures { IsNonDecreasing supertypes.now → result
+        ≡ how_many (λ i. not (has supertypes.now i)
         && is_abstract_at (schema_of names.now.schema.now) i) types.now }
 {
     types
         .iter()
-        .filter(|number| !is_marked(above, **number) && is_abstract(names, **number))
+        .filter(|number| !contains(supertypes, **number) && is_abstract(names, **number))
         .count()
 }
 
-/// How many of these aren't marked.
-pub(crate) fn unmarked_ones(marks: &[bool], numbers: &[u32]) -> usize
-    ensures { result ≡ how_many (λ i. not (is_marked marks.now i)) numbers.now }
+/// How many of these numbers don't stand in the row.
+pub(crate) fn numbers_outside(row: &[u32], numbers: &[u32]) -> usize
+    ensures { IsNonDecreasing row.now → result
+        ≡ how_many (λ i. not (has row.now i)) numbers.now }
 {
     numbers
         .iter()
-        .filter(|number| !is_marked(marks, **number))
+        .filter(|number| !contains(row, **number))
         .count()
 }
 
-/// The first that is marked.
-fn first_marked(marks: &[bool], numbers: &[u32]) -> Option<u32>
-    ensures { result ≡ find (is_marked marks.now) numbers.now }
+/// The first of these numbers that stands in the row.
+fn first_in(row: &[u32], numbers: &[u32]) -> Option<u32>
+    ensures { IsNonDecreasing row.now → result ≡ find (has row.now) numbers.now }
 {
     numbers
         .iter()
-        .find(|number| is_marked(marks, **number))
+        .find(|number| contains(row, **number))
         .copied()
 }
 
-/// Whether another one than this is marked.
-fn marks_another(marks: &[bool], numbers: &[u32], first: u32) -> bool
-    ensures { result ≡ marks_another marks.now numbers.now (Some first) }
+/// Whether another one than this stands in the row.
+fn has_another(row: &[u32], numbers: &[u32], first: u32) -> bool
+    ensures { IsNonDecreasing row.now
+        → result ≡ has_another row.now numbers.now (Some first) }
 {
     numbers
         .iter()
-        .any(|number| *number != first && is_marked(marks, *number))
+        .any(|number| *number != first && contains(row, *number))
 }
 
-/// Whether two numbers are marked.
-fn marks_two(marks: &[bool], numbers: &[u32]) -> bool
-    ensures { result ≡ marks_two marks.now numbers.now }
+/// Whether two of these numbers stand in the row.
+fn has_two(row: &[u32], numbers: &[u32]) -> bool
+    ensures { IsNonDecreasing row.now → result ≡ has_two row.now numbers.now }
 {
-    match first_marked(marks, numbers) {
-        Some(first) => marks_another(marks, numbers, first),
+    match first_in(row, numbers) {
+        Some(first) => has_another(row, numbers, first),
         None => false,
     }
 }
 
-/// How many rows have two numbers that are marked.
-pub(crate) fn rows_with_two(marks: &[bool], rows: &[Vec<u32>]) -> usize
-    ensures { result ≡ how_many (marks_two marks.now) (graph_of rows.now) }
+/// Of how many rows two numbers stand in this one.
+pub(crate) fn rows_with_two(row: &[u32], rows: &[Vec<u32>]) -> usize
+    ensures { IsNonDecreasing row.now
+        → result ≡ how_many (has_two row.now) (graph_of rows.now) }
 {
-    rows.iter().filter(|row| marks_two(marks, row)).count()
+    rows.iter().filter(|each| has_two(row, each)).count()
 }

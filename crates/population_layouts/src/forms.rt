@@ -1,49 +1,46 @@
 //! Making the form of an instance from the entities that its records name.
 
 ghost use Rattle.std.specs.Prelude.{◌≡◌, ℕ, ◌∷◌, [], List, length, map, IfOk};
-ghost use Rattle.std.specs.List.{concat};
+ghost use Rattle.std.specs.List.Sorted.{IsNonDecreasing};
 ghost use Rattle.digraph.specs.Graphs.{graph_of, next};
 ghost use Rattle.step_structures.specs.Trees.{Record, internal, external};
 ghost use Rattle.conformance.specs.Entities.{Entities, AreEntities};
 ghost use Rattle.population_layouts.specs.Knowing.{AreKnown, schema_in};
 ghost use Rattle.population_layouts.specs.Forms.{IsFormOf, NameEntities};
-ghost use Rattle.population_layouts.specs.Marked.{numbers, is_above};
+ghost use Rattle.population_layouts.specs.Marked.{is_above};
 ghost use Rattle.population_layouts.specs.Making.{IsForm};
 
-use crate::counting::{abstract_leaves, rows_with_two, unmarked_ones};
+use crate::counting::{abstract_leaves, numbers_outside, rows_with_two};
 use crate::knowledge::Knowledge;
-use crate::marks::{marked_numbers, marks_above, marks_on, marks_on_kinds, row_at};
 pub use crate::operands::one_ofs;
 use crate::slots::slots;
+use crate::sorted::{all_above, joined_rows, kinds, row_at, sorted_copy};
 use population_rows::form::Form;
 use std::alloc::{AllocError, Global};
 use std::slice;
 
-/// The form of instances whose types are marked, and whose records have to have so many
-/// parameters, with values of the attributes of these places. The proper supertypes of `some` of
-/// the types are those of all of them, so that only what stands above these few is looked up.
+/// The form of instances of these types, whose records have to have so many parameters, with values
+/// of the attributes of these places. The proper supertypes of `some` of the types are those of all
+/// of them, so that only what stands above these few is looked up.
 fn form(
     alloc: Global,
     known: &Knowledge<'_, '_, '_>,
-    marks: &[bool],
+    types: Vec<u32>,
     some: &[u32],
     counts: Vec<usize>,
     places: &[u32],
 ) -> Result<Form, AllocError>
-    requires count { length marks.now
-        ≡ length known.now.names.now.schema.now.declarations.items }
+    requires rise { IsNonDecreasing types.items }
     requires some { (j : ℕ) → is_above (graph_of known.now.above.now) some.now j
-        ≡ is_above (graph_of known.now.above.now) (numbers marks.now) j }
-    ensures { IfOk result (IsForm known.now marks.now counts.items places.now) }
+        ≡ is_above (graph_of known.now.above.now) types.items j }
+    ensures { IfOk result (IsForm known.now types.items counts.items places.now) }
 {
-    let types = marked_numbers(alloc, marks)?;
-    let above = marks_above(alloc, known, some)?;
-    let supertypes = marked_numbers(alloc, &above)?;
+    let supertypes = all_above(alloc, known.above, some)?;
     let slots = slots(alloc, known.uses, &types, places)?;
     Ok(Form {
-        abstract_leaves: abstract_leaves(known.names, &types, &above),
-        missing_supertypes: unmarked_ones(marks, &supertypes),
-        broken_one_ofs: rows_with_two(marks, known.one_ofs),
+        abstract_leaves: abstract_leaves(known.names, &types, &supertypes),
+        missing_supertypes: numbers_outside(&types, &supertypes),
+        broken_one_ofs: rows_with_two(&types, known.one_ofs),
         types,
         counts,
         slots,
@@ -62,13 +59,13 @@ pub fn internal_form(
         → (r : Record) → NameEntities (schema_in known.now) (r ∷ []) (entity ∷ [])
         → IsFormOf (schema_in known.now) en (internal r) f) }
 {
-    let marks = marks_on_kinds(alloc, known, entity)?;
+    let types = kinds(alloc, known.above, entity)?;
     let places = row_at(known.places, entity);
     let counts = vec![in alloc; places.len()]?;
     form(
         alloc,
         known,
-        &marks,
+        types,
         slice::from_ref(&entity),
         counts,
         places,
@@ -91,22 +88,6 @@ fn own_counts(
     Ok(counts)
 }
 
-/// The places of the attributes that each of these entities declares itself.
-fn own_places(
-    alloc: Global,
-    known: &Knowledge<'_, '_, '_>,
-    entities: &[u32],
-) -> Result<Vec<u32>, AllocError>
-    ensures { IfOk result (λ places. places.items
-        ≡ concat (map (next (graph_of known.now.own.now)) entities.now)) }
-{
-    let mut places = Vec::new(alloc);
-    for entity in entities {
-        places.extend_from_slice(row_at(known.own, *entity))?;
-    }
-    Ok(places)
-}
-
 /// The form of instances that are mapped externally, by records of these entities
 /// (ISO 10303-21, 11.2.5.3).
 pub fn external_form(
@@ -119,10 +100,10 @@ pub fn external_form(
         → (rs : List Record) → NameEntities (schema_in known.now) rs entities.now
         → IsFormOf (schema_in known.now) en (external rs) f) }
 {
-    let marks = marks_on(alloc, known, entities)?;
+    let types = sorted_copy(alloc, entities)?;
     let counts = own_counts(alloc, known, entities)?;
-    let places = own_places(alloc, known, entities)?;
-    form(alloc, known, &marks, entities, counts, &places)
+    let places = joined_rows(alloc, known.own, entities)?;
+    form(alloc, known, types, entities, counts, &places)
 }
 
 /// There are functions that say what the entities of a schema say.

@@ -5,7 +5,7 @@
 mod counting;
 pub mod forms;
 pub mod knowledge;
-mod marks;
 mod operands;
 mod slots;
+mod sorted;
 pub mod tables;

@@ -1,14 +1,17 @@
 //! The attributes of which an instance has values (ISO 10303-11, 9.2.1 and 9.2.3.4).
 
-ghost use Rattle.std.specs.Prelude.{◌≡◌, ◌++◌, map, flat_map, IfOk, OnOk};
-ghost use Rattle.std.specs.List.{AllZip, list_all, list_any};
+ghost use Rattle.std.specs.Prelude.{◌≡◌, ℕ, ◌++◌, [], map, flat_map, filter_map, slice_get, IfOk, OnOk};
+ghost use Rattle.std.specs.List.{AllZip, cons_option, list_all, list_any};
 ghost use Rattle.digraph.specs.Graphs.{graph_of, has, next};
-ghost use Rattle.schema_uses.specs.Uses.{of_place, uses_at};
+ghost use Rattle.referrers.specs.Referring.{referrers_of};
+ghost use Rattle.schema_uses.specs.Uses.{uses_at};
 ghost use Rattle.schema_uses.specs.declared.uses.AttributeUse.{AttributeUse};
 ghost use Rattle.population_layouts.specs.Slots.{IsSlotAt};
+ghost use Rattle.population_layouts.specs.ComputedReferences.{references_from};
 
-use crate::marks::row_at;
+use crate::sorted::row_at;
 use population_rows::form::SlotForm;
+use referrers::referrers::{Reference, Referrers};
 use schema_uses::uses::{AttributeUse, Uses};
 use std::alloc::{AllocError, Global};
 
@@ -22,35 +25,57 @@ fn uses_at(uses: &Uses, number: u32) -> &[AttributeUse]
     }
 }
 
-/// Adds those of a place.
-fn add_uses(
+/// The declarations of attributes by these types, in the order of the text.
+fn all_uses(alloc: Global, uses: &Uses, types: &[u32]) -> Result<Vec<AttributeUse>, AllocError>
+    ensures { IfOk result (λ found. found.items ≡ flat_map (uses_at uses.now) types.now) }
+{
+    let mut found = Vec::new(alloc);
+    for entity in types {
+        found.extend_from_slice(uses_at(uses, *entity))?;
+    }
+    Ok(found)
+}
+
+/// References from these declarations, by their numbers, to the places of their attributes.
+fn references(alloc: Global, uses: &[AttributeUse]) -> Result<Vec<Reference>, AllocError>
+    ensures { IfOk result (λ v. v.items ≡ references_from 0 uses.now) }
+{
+    let mut references = Vec::with_capacity(alloc, uses.len())?;
+    for i in 0..uses.len() {
+        references.push(Reference {
+            target: uses[i].place as u64,
+            referrer: i as u64,
+        })?;
+    }
+    Ok(references)
+}
+
+/// Adds the declaration of a number, where there is one.
+fn add_use(
     found: &mut Vec<AttributeUse>,
     uses: &[AttributeUse],
-    place: u32,
+    number: u64,
 ) -> Result<(), AllocError>
-    ensures { OnOk result (found.new.items ≡ found.old.items ++ of_place place uses.now) }
+    ensures { OnOk result (found.new.items
+        ≡ found.old.items ++ cons_option (slice_get uses.now number) []) }
 {
-    for each in uses {
-        if each.place == place {
-            found.push(*each)?;
-        }
+    if let Some(each) = uses.get(number as usize) {
+        found.push(*each)?;
     }
     Ok(())
 }
 
-/// The declarations of the attribute of a place by these types, in the order of the text.
-fn uses_by(
+/// The declarations of these numbers, in turn.
+fn uses_of(
     alloc: Global,
-    uses: &Uses,
-    types: &[u32],
-    place: u32,
+    uses: &[AttributeUse],
+    numbers: &[u64],
 ) -> Result<Vec<AttributeUse>, AllocError>
-    ensures { IfOk result (λ found. found.items
-        ≡ flat_map (λ t. of_place place (uses_at uses.now t)) types.now) }
+    ensures { IfOk result (λ found. found.items ≡ filter_map (slice_get uses.now) numbers.now) }
 {
     let mut found = Vec::new(alloc);
-    for entity in types {
-        add_uses(&mut found, uses_at(uses, *entity), place)?;
+    for number in numbers {
+        add_use(&mut found, uses, *number)?;
     }
     Ok(found)
 }
@@ -79,11 +104,22 @@ fn data_types_of(alloc: Global, uses: &[AttributeUse]) -> Result<Vec<u32>, Alloc
     uses.iter().map(|each| each.data_type).collect(alloc)
 }
 
-/// What is asked of the value of the attribute of a place.
-fn slot(alloc: Global, uses: &Uses, types: &[u32], place: u32) -> Result<SlotForm, AllocError>
+/// What is asked of the value of the attribute of a place, by all declarations of attributes by these
+/// types.
+fn slot(
+    alloc: Global,
+    uses: &Uses,
+    types: &[u32],
+    all: &[AttributeUse],
+    by_place: &Referrers,
+    place: u32,
+) -> Result<SlotForm, AllocError>
+    requires all { all.now ≡ flat_map (uses_at uses.now) types.now }
+    requires by_place { (q : ℕ) → referrers_of q by_place.now
+        ≡ referrers_of q (references_from 0 all.now) }
     ensures { IfOk result (IsSlotAt uses.now types.now place) }
 {
-    let found = uses_by(alloc, uses, types, place)?;
+    let found = uses_of(alloc, all, by_place.find(place as u64))?;
     Ok(SlotForm {
         place,
         is_derived: is_derived(uses, types, place),
@@ -92,7 +128,32 @@ fn slot(alloc: Global, uses: &Uses, types: &[u32], place: u32) -> Result<SlotFor
     })
 }
 
+/// What is asked of the values of the attributes of these places, by all declarations of attributes
+/// by these types.
+fn slots_in_turn(
+    alloc: Global,
+    uses: &Uses,
+    types: &[u32],
+    all: &[AttributeUse],
+    by_place: &Referrers,
+    places: &[u32],
+) -> Result<Vec<SlotForm>, AllocError>
+    requires all { all.now ≡ flat_map (uses_at uses.now) types.now }
+    requires by_place { (q : ℕ) → referrers_of q by_place.now
+        ≡ referrers_of q (references_from 0 all.now) }
+    ensures { IfOk result (λ found. AllZip (IsSlotAt uses.now types.now) places.now found.items) }
+{
+    let mut found = Vec::new(alloc);
+    for place in places {
+        let slot = slot(alloc, uses, types, all, by_place, *place)?;
+        found.push(slot)?;
+    }
+    Ok(found)
+}
+
 /// What is asked of the values of the attributes of these places, by an instance of these types.
+///
+/// It takes time for the declarations of attributes by these types, and to sort them.
 pub(crate) fn slots(
     alloc: Global,
     uses: &Uses,
@@ -101,10 +162,7 @@ pub(crate) fn slots(
 ) -> Result<Vec<SlotForm>, AllocError>
     ensures { IfOk result (λ found. AllZip (IsSlotAt uses.now types.now) places.now found.items) }
 {
-    let mut found = Vec::new(alloc);
-    for place in places {
-        let slot = slot(alloc, uses, types, *place)?;
-        found.push(slot)?;
-    }
-    Ok(found)
+    let all = all_uses(alloc, uses, types)?;
+    let by_place = Referrers::of(alloc, references(alloc, &all)?)?;
+    slots_in_turn(alloc, uses, types, &all, &by_place, places)
 }

@@ -34,7 +34,8 @@ use Rattle.schema_bases.specs.Seen.{name_at}
 use Rattle.population_rows.specs.declared.form.SlotForm.{SlotForm}
 use Rattle.population_rows.specs.declared.form.Form.{Form}
 use Rattle.conformance.specs.Populations.{Slot, Instance, instance_at, slot_at, value_in, value_of, types_in, types_at}
-use Rattle.population_typed.specs.Seen.{or_nowhere, place_at, slots_seen, instance_seen, instances_seen, section_numbers, population_seen, nodes_seen}
+use Rattle.population_typed.specs.Rows.{or_nowhere, place_at, slots_seen, instance_seen, instances_seen, section_numbers}
+use Rattle.population_typed.specs.Seen.{population_seen, nodes_seen}
 use Rattle.population_typed.specs.Whole.{form_among, types_by_form, slots_by_form, slot_count, ArePlaced, HaveEntities, AreNumbered, HaveSlots}
 use Rattle.population_typed.specs.Ordering.{picked_at, position_among}
 use Rattle.population_typed.specs.declared.population.Population.{Population}
@@ -151,22 +152,22 @@ pub record IsKept (p : Population) : Type 0 where
 
 pub kept : (p : Population) → IsKept p
 kept p = record {
-  index = λ y. ∥∥₁_elim p.whole (option-set _ _) (λ w. w.index y);
+  index = λ y. ∥∥₁_elim p.typed (option-set _ _) (λ w. w.whole.index y);
   sections = ∥∥₁_elim p.exchange.now.counted (ℕ_set _ _)
       (λ c. all-numbers p.exchange.now.sections.items (length p.exchange.now.names) c);
-  forms = ∥∥₁_elim p.whole (ℕ_set _ _) (λ w. w.forms);
-  values = ∥∥₁_elim p.whole (ℕ_set _ _) (λ w. w.values);
-  placed = ∥∥₁_elim p.whole (every-prop _ (λ o. placed-prop (schema_of p.types.now.names.schema.now)
-      (form_among p.rows.forms.items o)) p.rows.form_of.items) (λ w. w.placed);
-  entities = ∥∥₁_elim p.whole (every-prop _ (λ o. entities-prop (schema_of p.types.now.names.schema.now)
-      (form_among p.rows.forms.items o)) p.rows.form_of.items) (λ w. w.entities);
+  forms = ∥∥₁_elim p.typed (ℕ_set _ _) (λ w. w.whole.forms);
+  values = ∥∥₁_elim p.typed (ℕ_set _ _) (λ w. w.whole.values);
+  placed = ∥∥₁_elim p.typed (every-prop _ (λ o. placed-prop (schema_of p.types.now.names.schema.now)
+      (form_among p.rows.forms.items o)) p.rows.form_of.items) (λ w. w.whole.placed);
+  entities = ∥∥₁_elim p.typed (every-prop _ (λ o. entities-prop (schema_of p.types.now.names.schema.now)
+      (form_among p.rows.forms.items o)) p.rows.form_of.items) (λ w. w.whole.entities);
   one = λ a b q e f. ∥∥₁_elim p.types.now.resolved (ℕ_set _ _)
       (λ r. places-are-one (schema_of p.types.now.names.schema.now) r.once a b q e f);
-  numbered = ∥∥₁_elim p.whole (every-prop _ (numbered-prop (schema_of p.types.now.names.schema.now)) p.rows.forms.items)
-      (λ w. w.numbered);
+  numbered = ∥∥₁_elim p.typed (every-prop _ (numbered-prop (schema_of p.types.now.names.schema.now)) p.rows.forms.items)
+      (λ w. w.whole.numbered);
   refers = named-rows p.exchange.now.names p.values.rows
-      (∥∥₁_elim p.whole (all-there-prop p.exchange.now.names p.values.rows)
-      (λ w. rows-there p.exchange.now.names p.values.rows w.refers));
+      (∥∥₁_elim p.typed (all-there-prop p.exchange.now.names p.values.rows)
+      (λ w. rows-there p.exchange.now.names p.values.rows w.whole.refers));
 }
 
 module _ (s : Schema) (forms : List Form) where
@@ -403,8 +404,8 @@ module _ (p : Population) where
 
   pub population-nodes : sum_by nodes_in p.values.rows ≡ nodes_seen (population_seen p)
   population-nodes =
-      ∥∥₁_elim p.whole (ℕ_set _ _) (λ w. nodes-in-rows schema_seen p.rows.forms.items p.exchange.now.names _
-      p.rows.form_of.items p.values.rows is-kept.sections is-kept.forms is-kept.values w.slots)
+      ∥∥₁_elim p.typed (ℕ_set _ _) (λ w. nodes-in-rows schema_seen p.rows.forms.items p.exchange.now.names _
+      p.rows.form_of.items p.values.rows is-kept.sections is-kept.forms is-kept.values w.whole.slots)
 
   pub row-within : (y i : ℕ) → found p.rows.index y ≡ Some i → i < length p.exchange.now.names
   row-within y i e = within p.exchange.now.names i (sym (is-kept.index y) ∙ e)

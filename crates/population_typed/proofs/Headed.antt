@@ -7,7 +7,7 @@ use Rattle.std.proofs.lemmas.List.{take_all, take_more, drop_more, length-replic
 use Rattle.step_equal.specs.declared.row.RowHead.{RowHead}
 use Rattle.step_exchange.specs.declared.section.Section.{Section}
 use Rattle.step_exchange.specs.Sections.{CountsTo}
-use Rattle.population_typed.specs.Seen.{section_numbers}
+use Rattle.population_typed.specs.Rows.{section_numbers}
 use Rattle.population_typed.specs.Ordering.{heads_made}
 
 repeated : {A : Type 0} (n : ℕ) (x : A) → repeat n (x ∷ []) ≡ replicate n x

@@ -23,7 +23,8 @@ use Rattle.step_equal.specs.Rows.{Row}
 use Rattle.step_equal.specs.Settled.{AreInOrder, IsSettled}
 use Rattle.step_equal.specs.Views.{head_names, heads_seen, or_none, rows_from, types_at}
 use Rattle.step_equal.specs.declared.row.RowHead.{RowHead}
-use Rattle.population_typed.specs.Seen.{or_nowhere, place_at, slots_seen, instance_seen, instances_seen, section_numbers, population_seen}
+use Rattle.population_typed.specs.Rows.{or_nowhere, place_at, slots_seen, instance_seen, instances_seen, section_numbers}
+use Rattle.population_typed.specs.Seen.{population_seen}
 use Rattle.population_typed.specs.Whole.{form_among, ArePlaced}
 use Rattle.conformance.specs.PlainRows.{or_unset, values_at, IsRowOf, AreRowsOf}
 use Rattle.population_typed.specs.Ordering.{position_among, StandAt, IsOrder, AreOrders, picked_at, picked, order_among, row_picked, rows_picked, types_in, types_each, heads_made}

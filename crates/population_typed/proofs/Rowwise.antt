@@ -8,7 +8,8 @@ use Rattle.step_values.specs.Values.{Values}
 use Rattle.population_rows.specs.Index.{found}
 use Rattle.population_rows.specs.Rows.{form_at as form_in_rows}
 use Rattle.population_rows.specs.declared.form.Form.{Form}
-use Rattle.population_typed.specs.Seen.{instance_seen, instances_seen, section_numbers, population_seen}
+use Rattle.population_typed.specs.Rows.{instance_seen, instances_seen, section_numbers}
+use Rattle.population_typed.specs.Seen.{population_seen}
 use Rattle.population_typed.specs.Whole.{form_among, ArePlaced, HaveEntities, AreNumbered}
 use Rattle.population_typed.specs.declared.population.Population.{Population}
 use Rattle.population_typed.proofs.Turns.{got, form-of-row}

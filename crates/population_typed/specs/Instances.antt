@@ -2,7 +2,8 @@
 use Rattle.std.specs.Prelude.{◌≡◌, ℕ, Some, slice_get}
 use Rattle.express_syntax.specs.SchemaViews.{schema_of}
 use Rattle.population_typed.specs.Whole.{form_among, ArePlaced, HaveEntities}
-use Rattle.population_typed.specs.Seen.{instance_seen, population_seen}
+use Rattle.population_typed.specs.Rows.{instance_seen}
+use Rattle.population_typed.specs.Seen.{population_seen}
 use Rattle.population_typed.specs.declared.population.Population.{Population}
 use Rattle.population_typed.specs.declared.instances.InstanceRow.{InstanceRow}
 

@@ -1,53 +1,11 @@
 -- The instances that the tables of a population are.
-use Rattle.std.specs.Prelude.{ℕ, suc, ◌-◌, List, [], ◌∷◌, ◌++◌, map, Option, None, Some, slice_get}
-use Rattle.std.specs.List.{repeat, sum_by}
-use Rattle.express_syntax.specs.Schemas.{Schema}
+use Rattle.std.specs.Prelude.{ℕ, List}
+use Rattle.std.specs.List.{sum_by}
 use Rattle.express_syntax.specs.SchemaViews.{schema_of}
-use Rattle.schema_semantics.specs.Attributes.{Place}
-use Rattle.schema_places.specs.Places.{all_places}
-use Rattle.step_exchange.specs.declared.section.Section.{Section}
 use Rattle.step_values.specs.NodeCounts.{nodes_of}
-use Rattle.step_values.specs.Values.{Values, more}
-use Rattle.schema_bases.specs.Seen.{name_at}
-use Rattle.population_rows.specs.declared.form.SlotForm.{SlotForm}
-use Rattle.population_rows.specs.declared.form.Form.{Form}
 use Rattle.conformance.specs.Populations.{Slot, Instance}
-use Rattle.population_typed.specs.Whole.{form_among}
+use Rattle.population_typed.specs.Rows.{instances_seen, section_numbers}
 use Rattle.population_typed.specs.declared.population.Population.{Population}
-
-abbrev pub or_nowhere : Option Place → Place
-or_nowhere None = ([], [])
-or_nowhere (Some p) = p
-
--- the place of a number
-abbrev pub place_at : Schema → ℕ → Place
-place_at s q = or_nowhere (slice_get (all_places s) q)
-
-module _ (s : Schema) where
-  abbrev pub slots_seen : List SlotForm → Values → List Slot
-  slots_seen (x ∷ xs) (more v vs) = record { place = place_at s x.place; value = v } ∷ slots_seen xs vs
-  slots_seen xs vs = []
-
-  -- an instance of this form, with these values
-  abbrev pub instance_seen : ℕ → ℕ → Option Form → Values → Instance
-  instance_seen name section None vs = record { name = name; section = section; types = []; slots = [] }
-  instance_seen name section (Some f) vs = record {
-    name = name;
-    section = section;
-    types = map (name_at s) f.types.items;
-    slots = slots_seen f.slots.items vs;
-  }
-
-  -- instances one by one: their names, sections, forms and values
-  abbrev pub instances_seen : List Form → List ℕ → List ℕ → List (Option ℕ) → List Values → List Instance
-  instances_seen forms (n ∷ ns) (k ∷ ks) (f ∷ fs) (vs ∷ vss) =
-      instance_seen n k (form_among forms f) vs ∷ instances_seen forms ns ks fs vss
-  instances_seen forms ns ks fs vss = []
-
--- the section of each instance, behind so many
-abbrev pub section_numbers : ℕ → ℕ → List Section → List ℕ
-section_numbers from k [] = []
-section_numbers from k (x ∷ xs) = repeat (x.past - from) (k ∷ []) ++ section_numbers x.past (suc k) xs
 
 abbrev pub population_seen : Population → List Instance
 population_seen p =

@@ -23,7 +23,8 @@ ghost use Rattle.step_equal.specs.Settled.{IsSettled};
 ghost use Rattle.step_equal.specs.Views.{heads_seen, rows_from, type_lists_of};
 ghost use Rattle.population_rows.specs.Index.{found, place_of};
 ghost use Rattle.population_fits.specs.References.{IsFound, AreFound};
-ghost use Rattle.population_typed.specs.Seen.{section_numbers, population_seen};
+ghost use Rattle.population_typed.specs.Rows.{section_numbers};
+ghost use Rattle.population_typed.specs.Seen.{population_seen};
 ghost use Rattle.conformance.specs.PlainRows.{AreRowsOf};
 ghost use Rattle.population_typed.specs.Ordering.{
   AreOrders,

@@ -1,7 +1,7 @@
 //! Typed populations.
 
 ghost use Rattle.express_syntax.specs.SchemaViews.{schema_of};
-ghost use Rattle.population_typed.specs.Whole.{IsWhole};
+ghost use Rattle.population_typed.specs.Typed.{IsPopulation};
 
 use population_rows::rows::Rows;
 use schema_types::types::ResolvedTypes;
@@ -17,6 +17,6 @@ pub struct Population<'s, 't, 'r, 'a> {
     pub rows: Rows,
     /// For each instance the values of its attributes, in the order of its form.
     pub values: ValueRows<'r>,
-    pub ghost whole: { ∥ IsWhole (schema_of types.now.names.schema.now) exchange.now.names rows
+    pub ghost typed: { ∥ IsPopulation (schema_of types.now.names.schema.now) exchange.now rows
         values ∥₁ },
 }

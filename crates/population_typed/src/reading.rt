@@ -2,6 +2,8 @@
 
 ghost use Rattle.std.specs.Prelude.{◌≡◌, ◌<◌, ◌≤◌, ℕ, None, Some, length, map, IfSome};
 ghost use Rattle.parsing.specs.Nodes.{IsColumn};
+ghost use Rattle.step_exchange.specs.Exchanges.{structure};
+ghost use Rattle.step_values.specs.Building.{AreRunsOf};
 ghost use Rattle.step_values.specs.Cells.{value_nodes};
 ghost use Rattle.step_values.specs.Targets.{LeadTo, targets_of};
 ghost use Rattle.express_syntax.specs.Profile.{Every};
@@ -13,7 +15,9 @@ ghost use Rattle.population_rows.specs.Rows.{form_at as form_in_rows};
 ghost use Rattle.population_rows.specs.Index.{found, place_of};
 ghost use Rattle.schema_bases.specs.Seen.{name_at};
 ghost use Rattle.conformance.specs.Populations.{value_of, types_at};
-ghost use Rattle.population_typed.specs.Seen.{place_at, population_seen, nodes_seen};
+ghost use Rattle.population_typed.specs.Rows.{place_at};
+ghost use Rattle.population_typed.specs.Seen.{population_seen, nodes_seen};
+ghost use Rattle.population_typed.specs.Typed.{IsTyped};
 ghost use Rattle.population_typed.specs.Ordering.{position_among};
 ghost use Rattle.population_typed.specs.Whole.{form_among, slots_by_form, types_by_form};
 
@@ -36,6 +40,13 @@ pub fn position_of(slots: &[SlotForm], place: u32) -> Option<usize>
 }
 
 impl<'s, 't, 'r, 'a> Population<'s, 't, 'r, 'a> {
+    /// Its instances are those of its exchange structure by its types, with which nothing is wrong but
+    /// for rules (ISO 10303-21, 11).
+    pub fn is_of_its_exchange(&self)
+        ensures { ∥ IsTyped (schema_of self.now.types.now.names.schema.now)
+            (structure self.now.exchange.now) (population_seen self.now) ∥₁ }
+    {}
+
     /// How many instances there are.
     pub fn len(&self) -> usize
         ensures { result ≡ length (population_seen self.now) }
@@ -116,11 +127,13 @@ impl<'s, 't, 'r, 'a> Population<'s, 't, 'r, 'a> {
         }
     }
 
-    /// The whole column of cells, one for each node of a value, what is inside each before it, and
-    /// in each reference the row that it names. It takes no memory.
+    /// The whole column of cells, the values of each instance side by side: one for each node of a
+    /// value, what is inside each before it, and in each reference the row that it names. It takes no
+    /// memory.
     pub fn cells(&self) -> &[Cell<'r>]
         ensures column { IsColumn value_nodes result.now }
         ensures count { length result.now ≡ nodes_seen (population_seen self.now) }
+        ensures rows { AreRunsOf result.now self.now.values.rows }
         ensures references { ∥ LeadTo self.now.exchange.now.names (targets_of result.now) ∥₁ }
     {
         self.values.cells()

@@ -16,7 +16,7 @@ use Rattle.conformance.specs.Referring.{inverse_value}
 use Rattle.schema_rules.specs.declared.inverses.InverseAttribute.{InverseAttribute}
 use Rattle.schema_rules.specs.declared.tables.RuleTables.{RuleTables}
 use Rattle.schema_rules.specs.Seen.{inverse_seen, rules_seen, IsNumberedInverse}
-use Rattle.population_typed.specs.Seen.{instance_seen}
+use Rattle.population_typed.specs.Rows.{instance_seen}
 use Rattle.population_typed.specs.Whole.{form_among, AreNumbered}
 use Rattle.step_extent.specs.Inverses.{numbers_by, row_by}
 use Rattle.population_uniqueness.specs.Bounds.{keeps, breach_in, breaches_at}

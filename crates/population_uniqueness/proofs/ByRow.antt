@@ -7,7 +7,8 @@ use Rattle.conformance.specs.RuleFindings.{key}
 use Rattle.schema_rules.specs.declared.uniques.UniqueRule.{UniqueRule}
 use Rattle.schema_rules.specs.Seen.{unique_seen, IsNumberedUnique}
 use Rattle.population_typed.specs.Instances.{IsInstance}
-use Rattle.population_typed.specs.Seen.{instance_seen, population_seen}
+use Rattle.population_typed.specs.Rows.{instance_seen}
+use Rattle.population_typed.specs.Seen.{population_seen}
 use Rattle.population_typed.specs.Whole.{form_among}
 use Rattle.population_typed.specs.declared.instances.InstanceRow.{InstanceRow}
 use Rattle.population_typed.specs.declared.population.Population.{Population}

@@ -16,7 +16,7 @@ use Rattle.conformance.specs.RuleFindings.{given, with_part, parts, key}
 use Rattle.schema_rules.specs.declared.uniques.UniqueRule.{UniqueRule}
 use Rattle.schema_rules.specs.Seen.{unique_seen, IsNumberedUnique}
 use Rattle.population_typed.specs.Ordering.{picked_at, position_among}
-use Rattle.population_typed.specs.Seen.{place_at, slots_seen, instance_seen}
+use Rattle.population_typed.specs.Rows.{place_at, slots_seen, instance_seen}
 use Rattle.population_typed.specs.Whole.{form_among, ArePlaced, AreNumbered}
 use Rattle.population_typed.proofs.Found.{value-at-number}
 use Rattle.population_uniqueness.specs.Positions.{numbers_in, with_position, positions_of, positions_by, if_there, positions_among}

@@ -32,7 +32,7 @@ pub fn repeats(
         (repeats (unique_seen (schema_of population.now.types.now.names.schema.now) rule.now) []
         (population_seen population.now))) }
 {
-    let positions = positions_by_form(alloc, population.forms(), rule)?;
+    let positions = positions_by_form(alloc, keys, population.forms(), rule)?;
     let mut met = IndexSet::with_hasher(alloc, keys);
     let mut names = Vec::new(alloc);
     for row in 0..population.len() {

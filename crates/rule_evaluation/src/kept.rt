@@ -8,7 +8,7 @@ ghost use Rattle.rule_settings.specs.Settings.{Meant};
 ghost use Rattle.rule_evaluation.specs.Kept.{AreRight, IsRight, IsWorth};
 
 use express_logic::datum::Datum;
-use rule_values::copies::{copied, share};
+use rule_values::copies::copied;
 use rule_values::part::Part;
 use schema_sources::source::Derivation;
 use std::alloc::{AllocError, Global};
@@ -94,6 +94,7 @@ impl<'p, 'r> KeptValues<'p, 'r> {
     /// Puts the value of a derived attribute there, where it is kept; whether it is.
     pub(crate) fn put(
         &self,
+        alloc: Global,
         wanted: Wanted,
         value: &mut Datum<'r, Part<'p, 'r>>,
     ) -> Result<bool, AllocError>
@@ -103,9 +104,7 @@ impl<'p, 'r> KeptValues<'p, 'r> {
         let Some(kept) = self.find(wanted) else {
             return Ok(false);
         };
-        let Some(known) = copied(&kept.value)? else {
-            return Ok(false);
-        };
+        let known = copied(alloc, &kept.value)?;
         *value = known;
         Ok(true)
     }
@@ -113,14 +112,12 @@ impl<'p, 'r> KeptValues<'p, 'r> {
     /// Keeps the value of a derived attribute.
     pub(crate) fn keep(
         &mut self,
-        alloc: Global,
         wanted: Wanted,
         value: Datum<'r, Part<'p, 'r>>,
     ) -> Result<(), AllocError>
         ensures { OnOk result ((S : Setting) → (m : Meant S) → AreRight S m self.old
             → IsWorth S m wanted (datum_of holding value.entry) → AreRight S m self.new) }
     {
-        let value = share(alloc, value)?;
         self.places.insert(key(wanted), self.values.len())?;
         self.values.push(KeptValue { wanted, value })?;
         Ok(())

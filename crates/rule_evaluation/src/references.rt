@@ -282,7 +282,7 @@ fn derived<'p, 'e, 'r, 't, 's: 'r, 'a, 'k>(
         instance,
         derivation,
     };
-    let is_kept = context.kept.put(wanted, value)?;
+    let is_kept = context.kept.put(alloc, wanted, value)?;
     if is_kept {
         return Ok(());
     }

@@ -73,7 +73,7 @@ fn keep_wanted<'p, 'e, 'r, 't, 's: 'r, 'a>(
     match formula_value(
         alloc, setting, kept, &mut scope, formula, instance, &mut value,
     ) {
-        Ok(()) => kept.keep(alloc, wanted, value),
+        Ok(()) => kept.keep(wanted, value),
         Err(stopped) => {
             wait_for(waiting, scope, wanted, stopped)?;
             Ok(())

@@ -3,3 +3,4 @@ pub mod Saying
 pub mod Letters
 pub mod Spelt
 pub mod Enumerations
+pub mod Indexed

@@ -11,6 +11,7 @@ use rule_values::types::ValueTypes;
 use schema_bases::base::Base;
 use schema_data_types::forms::{DataTypes, data_types};
 use schema_data_types::items::Items;
+use schema_rules::inverses::InverseAttribute;
 use schema_sources::sources::AttributeSources;
 use schema_types::types::ResolvedTypes;
 use schema_uses::uses::Uses;
@@ -35,13 +36,15 @@ pub struct SettingTables<'r, 'a> {
 }
 
 impl<'r, 'a: 'r> SettingTables<'r, 'a> {
-    /// Those of a schema whose types and tables are these. Names are hashed by these keys.
+    /// Those of a schema whose types, inverse attributes and tables are these. Names are hashed by
+    /// these keys.
     ///
     /// An error says that memory ran out.
     pub fn of<'t>(
         alloc: Global,
         keys: RandomState,
         types: &'r ResolvedTypes<'a, 't>,
+        inverses: &[InverseAttribute<'_>],
         tables: &'r SchemaTables,
     ) -> Result<SettingTables<'r, 'a>, AllocError>
         requires made { IsMade types.now }
@@ -50,8 +53,8 @@ impl<'r, 'a: 'r> SettingTables<'r, 'a> {
     {
         let bases = tables.bases(types);
         let value_types = ValueTypes::of(alloc, keys, &bases)?;
-        let sources = AttributeSources::of(alloc, types)?;
-        let declared = declared_bases(alloc, types, tables)?;
+        let sources = AttributeSources::of(alloc, types, inverses)?;
+        let declared = declared_bases(alloc, keys, types, tables)?;
         let data_types = data_types(alloc, &types.names)?;
         let items = Items::of(alloc, keys, &types.names)?;
         Ok(SettingTables {

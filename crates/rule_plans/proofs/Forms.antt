@@ -27,7 +27,7 @@ use Rattle.schema_bases.specs.Tables.{IsNumbered}
 use Rattle.population_rows.specs.declared.form.Form.{Form}
 use Rattle.population_rows.specs.declared.form.SlotForm.{SlotForm}
 use Rattle.population_typed.specs.Instances.{IsInstance}
-use Rattle.population_typed.specs.Seen.{place_at, slots_seen, instance_seen}
+use Rattle.population_typed.specs.Rows.{place_at, slots_seen, instance_seen}
 use Rattle.population_typed.specs.Whole.{form_among, types_by_form, ArePlaced}
 use Rattle.population_typed.specs.declared.instances.InstanceRow.{InstanceRow}
 use Rattle.population_typed.proofs.Found.{kept}

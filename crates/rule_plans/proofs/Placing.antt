@@ -32,7 +32,7 @@ use Rattle.population_rows.specs.declared.form.Form.{Form}
 use Rattle.population_rows.specs.declared.form.SlotForm.{SlotForm}
 use Rattle.population_layouts.specs.Slots.{uses_by}
 use Rattle.population_layouts.proofs.Naming.{among-is}
-use Rattle.population_typed.specs.Seen.{or_nowhere, place_at, slots_seen, instance_seen}
+use Rattle.population_typed.specs.Rows.{or_nowhere, place_at, slots_seen, instance_seen}
 use Rattle.population_typed.specs.Whole.{types_by_form, ArePlaced, HaveEntities}
 use Rattle.step_extent.proofs.Held.{HasNumbers}
 use Rattle.express_logic.specs.Data.{Datum}

@@ -1,7 +1,10 @@
 -- Where the values of sources stand.
 use Rattle.std.specs.Prelude.{◌≡◌, ℕ, List, Option, None, Some}
-use Rattle.std.proofs.Common.{refl}
+use Rattle.std.proofs.Common.{refl, ap, ◌∙◌}
 use Rattle.population_rows.specs.declared.form.SlotForm.{SlotForm}
+use Rattle.population_rows.specs.declared.index.RowIndex.{RowIndex}
+use Rattle.population_rows.specs.Index.{found}
+use Rattle.form_positions.specs.Positions.{ArePositions}
 use Rattle.schema_sources.specs.declared.source.Source.{Source}
 use Rattle.schema_sources.specs.declared.source.Source.TheVariants.{Explicit, Derived, Inverse, Unclear}
 use Rattle.population_typed.specs.Ordering.{position_among}
@@ -18,6 +21,19 @@ source-kept slots (Explicit place) = by (position_among slots place)
 source-kept slots (Derived d) = refl
 source-kept slots (Inverse i) = refl
 source-kept slots Unclear = refl
+
+-- a source that is no explicit attribute
+pub other-kept : (slots : List SlotForm) (x : Source) → ((place : ℕ) → x ≡ Explicit place → ⊥)
+    → at.Other x ≡ form_source slots x
+other-kept slots (Explicit place) none = absurd (none place refl)
+other-kept slots (Derived d) none = refl
+other-kept slots (Inverse i) none = refl
+other-kept slots Unclear none = refl
+
+-- an index tells the position
+pub position-told : (slots : List SlotForm) (t : RowIndex) (place : ℕ) (o : Option ℕ) → ArePositions slots t
+    → o ≡ found t place → explicit_at place o ≡ form_source slots (Explicit place)
+position-told slots t place o are e = ap (explicit_at place) (e ∙ are place)
 
 -- the explicit attribute of a place stands at its position
 pub position-kept : (slots : List SlotForm) (place position : ℕ)

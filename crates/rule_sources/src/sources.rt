@@ -4,6 +4,7 @@ ghost use Rattle.std.specs.Prelude.{◌≡◌, List, Some, IfOk, OnOk, IfSome};
 ghost use Rattle.express_syntax.specs.Schemas.{Schema};
 ghost use Rattle.express_syntax.specs.Profile.{Every};
 ghost use Rattle.express_syntax.specs.ExpressionViews.{capitals};
+ghost use Rattle.form_positions.specs.Positions.{ArePositions};
 ghost use Rattle.population_rows.specs.declared.form.Form.{Form};
 ghost use Rattle.conformance.specs.Rules.{InverseAttribute as InverseTree};
 ghost use Rattle.population_typed.specs.Whole.{form_among, AreNumbered};
@@ -18,14 +19,19 @@ ghost use Rattle.rule_sources.specs.Sources.{
 };
 
 use express_syntax::tree::{Declaration, Derived, Inverse};
+use form_positions::positions::{FEW, positions};
 use population_rows::form::{Form, SlotForm};
-use population_typed::reading::position_of;
+use population_rows::index::RowIndex;
 use schema_rules::inverses::InverseAttribute;
 use schema_sources::source::Source;
 use schema_sources::sources::{AttributeSources, attribute_source};
 use schema_types::types::ResolvedTypes;
 use std::alloc::{AllocError, Global};
+use std::hash::RandomState;
 use step_literals::literal::Word;
+
+/// A form with more names and more types than so many for each of its instances has no row.
+const MANY: usize = 64;
 
 /// Where instances of a form have the value of an attribute.
 #[derive(Clone, Copy)]
@@ -43,21 +49,26 @@ pub struct NamedSource<'s> {
 }
 
 /// By form, where its instances have the values of its explicit attributes, and of the derived and
-/// inverse ones that its types declare.
+/// inverse ones that its types declare, in the order of their names; nothing where the names and the
+/// types are many and the instances few.
 #[derive(Drop)]
 pub struct FormSources<'s> {
     pub rows: Vec<Vec<NamedSource<'s>>>,
 }
 
-/// Where instances with these explicit attributes have the value of a source.
-fn form_source(slots: &[SlotForm], source: Source) -> FormSource
-    ensures { result ≡ form_source slots.now source }
+/// Where instances of a form have the value of a source, by where its explicit attributes stand.
+fn form_source(positions: &RowIndex, source: Source) -> FormSource
+    ensures { (form : Form) → ArePositions form.slots.items positions.now
+        → result ≡ form_source form.slots.items source }
 {
     let Source::Explicit(place) = source else {
         return FormSource::Other(source);
     };
-    match position_of(slots, place) {
-        Some(position) => FormSource::Explicit { place, position },
+    match positions.find(place as u64) {
+        Some(position) => FormSource::Explicit {
+            place,
+            position: position as usize,
+        },
         None => FormSource::Other(source),
     }
 }
@@ -68,17 +79,19 @@ fn named_source<'s>(
     sources: &AttributeSources,
     inverses: &[InverseAttribute<'_>],
     form: &Form,
+    positions: &RowIndex,
     name: Word<'s>,
 ) -> Option<NamedSource<'s>>
     requires known { IsKnown schema.now sources.now inverses.now }
     requires numbered { AreNumbered (schema_in schema.now) form.now }
+    requires positions { ArePositions form.now.slots.items positions.now }
     ensures { IfSome result (IsNamedSource (schema_in schema.now)
         (inverses_seen (schema_in schema.now) inverses.now) form.now) }
 {
     match attribute_source(schema, sources, inverses, &form.types, name) {
         Some(source) => Some(NamedSource {
             name,
-            source: form_source(&form.slots, source),
+            source: form_source(positions, source),
         }),
         None => None,
     }
@@ -91,194 +104,224 @@ fn add_named<'s>(
     sources: &AttributeSources,
     inverses: &[InverseAttribute<'_>],
     form: &Form,
+    positions: &RowIndex,
     name: Word<'s>,
 ) -> Result<(), AllocError>
     requires known { IsKnown schema.now sources.now inverses.now }
     requires numbered { AreNumbered (schema_in schema.now) form.now }
+    requires positions { ArePositions form.now.slots.items positions.now }
     requires row { AreNamedSources (schema_in schema.now)
         (inverses_seen (schema_in schema.now) inverses.now) form.now row.old.items }
     ensures { OnOk result (AreNamedSources (schema_in schema.now)
         (inverses_seen (schema_in schema.now) inverses.now) form.now row.new.items) }
 {
-    let Some(named) = named_source(schema, sources, inverses, form, name) else {
+    let Some(named) = named_source(schema, sources, inverses, form, positions, name) else {
         return Ok(());
     };
     row.push(named)?;
     Ok(())
 }
 
-/// .. of the explicit attribute of a number.
+/// Adds the name of the explicit attribute of a number.
 fn add_place<'s>(
     schema: &ResolvedTypes<'s, '_>,
-    row: &mut Vec<NamedSource<'s>>,
-    sources: &AttributeSources,
-    inverses: &[InverseAttribute<'_>],
-    form: &Form,
+    names: &mut Vec<Word<'s>>,
     number: u32,
-) -> Result<(), AllocError>
-    requires known { IsKnown schema.now sources.now inverses.now }
-    requires numbered { AreNumbered (schema_in schema.now) form.now }
-    requires row { AreNamedSources (schema_in schema.now)
-        (inverses_seen (schema_in schema.now) inverses.now) form.now row.old.items }
-    ensures { OnOk result (AreNamedSources (schema_in schema.now)
-        (inverses_seen (schema_in schema.now) inverses.now) form.now row.new.items) }
-{
-    match schema.places.attributes.get(number as usize) {
-        Some(place) => add_named(schema, row, sources, inverses, form, *place.attribute),
-        None => Ok(()),
+) -> Result<(), AllocError> {
+    if let Some(place) = schema.places.attributes.get(number as usize) {
+        names.push(*place.attribute)?;
     }
+    Ok(())
 }
 
-/// .. of its explicit attributes.
+/// Adds the names of explicit attributes.
 fn add_slots<'s>(
     schema: &ResolvedTypes<'s, '_>,
-    row: &mut Vec<NamedSource<'s>>,
-    sources: &AttributeSources,
-    inverses: &[InverseAttribute<'_>],
-    form: &Form,
-) -> Result<(), AllocError>
-    requires known { IsKnown schema.now sources.now inverses.now }
-    requires numbered { AreNumbered (schema_in schema.now) form.now }
-    requires row { AreNamedSources (schema_in schema.now)
-        (inverses_seen (schema_in schema.now) inverses.now) form.now row.old.items }
-    ensures { OnOk result (AreNamedSources (schema_in schema.now)
-        (inverses_seen (schema_in schema.now) inverses.now) form.now row.new.items) }
-{
-    for slot in &form.slots {
-        add_place(schema, row, sources, inverses, form, slot.place)?;
+    names: &mut Vec<Word<'s>>,
+    slots: &[SlotForm],
+) -> Result<(), AllocError> {
+    for slot in slots {
+        add_place(schema, names, slot.place)?;
     }
     Ok(())
 }
 
 /// .. of these derived attributes.
 fn add_derived<'s>(
-    schema: &ResolvedTypes<'s, '_>,
-    row: &mut Vec<NamedSource<'s>>,
-    sources: &AttributeSources,
-    inverses: &[InverseAttribute<'_>],
-    form: &Form,
+    names: &mut Vec<Word<'s>>,
     attributes: &[Derived<'s>],
-) -> Result<(), AllocError>
-    requires known { IsKnown schema.now sources.now inverses.now }
-    requires numbered { AreNumbered (schema_in schema.now) form.now }
-    requires row { AreNamedSources (schema_in schema.now)
-        (inverses_seen (schema_in schema.now) inverses.now) form.now row.old.items }
-    ensures { OnOk result (AreNamedSources (schema_in schema.now)
-        (inverses_seen (schema_in schema.now) inverses.now) form.now row.new.items) }
-{
+) -> Result<(), AllocError> {
     for each in attributes {
-        add_named(schema, row, sources, inverses, form, each.attribute.name())?;
+        names.push(each.attribute.name())?;
     }
     Ok(())
 }
 
 /// .. of these inverse attributes.
 fn add_inverse<'s>(
-    schema: &ResolvedTypes<'s, '_>,
-    row: &mut Vec<NamedSource<'s>>,
-    sources: &AttributeSources,
-    inverses: &[InverseAttribute<'_>],
-    form: &Form,
+    names: &mut Vec<Word<'s>>,
     attributes: &[Inverse<'s>],
-) -> Result<(), AllocError>
-    requires known { IsKnown schema.now sources.now inverses.now }
-    requires numbered { AreNumbered (schema_in schema.now) form.now }
-    requires row { AreNamedSources (schema_in schema.now)
-        (inverses_seen (schema_in schema.now) inverses.now) form.now row.old.items }
-    ensures { OnOk result (AreNamedSources (schema_in schema.now)
-        (inverses_seen (schema_in schema.now) inverses.now) form.now row.new.items) }
-{
+) -> Result<(), AllocError> {
     for each in attributes {
-        add_named(schema, row, sources, inverses, form, each.attribute.name())?;
+        names.push(each.attribute.name())?;
     }
     Ok(())
 }
 
 /// .. of the derived and inverse attributes of a declaration, where it is an entity's.
 fn add_declared<'s>(
-    schema: &ResolvedTypes<'s, '_>,
-    row: &mut Vec<NamedSource<'s>>,
-    sources: &AttributeSources,
-    inverses: &[InverseAttribute<'_>],
-    form: &Form,
+    names: &mut Vec<Word<'s>>,
     declaration: &Declaration<'s>,
-) -> Result<(), AllocError>
-    requires known { IsKnown schema.now sources.now inverses.now }
-    requires numbered { AreNumbered (schema_in schema.now) form.now }
-    requires row { AreNamedSources (schema_in schema.now)
-        (inverses_seen (schema_in schema.now) inverses.now) form.now row.old.items }
-    ensures { OnOk result (AreNamedSources (schema_in schema.now)
-        (inverses_seen (schema_in schema.now) inverses.now) form.now row.new.items) }
-{
+) -> Result<(), AllocError> {
     let Declaration::Entity(entity) = declaration else {
         return Ok(());
     };
-    let derived = entity.derived_attributes();
-    add_derived(schema, row, sources, inverses, form, derived)?;
-    let inverse = entity.inverse_attributes();
-    add_inverse(schema, row, sources, inverses, form, inverse)
+    add_derived(names, entity.derived_attributes())?;
+    add_inverse(names, entity.inverse_attributes())
 }
 
 /// .. of those of the declaration of a number.
 fn add_type<'s>(
     schema: &ResolvedTypes<'s, '_>,
-    row: &mut Vec<NamedSource<'s>>,
-    sources: &AttributeSources,
-    inverses: &[InverseAttribute<'_>],
-    form: &Form,
+    names: &mut Vec<Word<'s>>,
     number: u32,
-) -> Result<(), AllocError>
-    requires known { IsKnown schema.now sources.now inverses.now }
-    requires numbered { AreNumbered (schema_in schema.now) form.now }
-    requires row { AreNamedSources (schema_in schema.now)
-        (inverses_seen (schema_in schema.now) inverses.now) form.now row.old.items }
-    ensures { OnOk result (AreNamedSources (schema_in schema.now)
-        (inverses_seen (schema_in schema.now) inverses.now) form.now row.new.items) }
-{
+) -> Result<(), AllocError> {
     match schema.names.at(number) {
-        Some(declaration) => add_declared(schema, row, sources, inverses, form, declaration),
+        Some(declaration) => add_declared(names, declaration),
         None => Ok(()),
     }
 }
 
-/// .. of those of each of its types.
+/// .. of those of each of these types.
 fn add_types<'s>(
     schema: &ResolvedTypes<'s, '_>,
-    row: &mut Vec<NamedSource<'s>>,
-    sources: &AttributeSources,
-    inverses: &[InverseAttribute<'_>],
-    form: &Form,
-) -> Result<(), AllocError>
-    requires known { IsKnown schema.now sources.now inverses.now }
-    requires numbered { AreNumbered (schema_in schema.now) form.now }
-    requires row { AreNamedSources (schema_in schema.now)
-        (inverses_seen (schema_in schema.now) inverses.now) form.now row.old.items }
-    ensures { OnOk result (AreNamedSources (schema_in schema.now)
-        (inverses_seen (schema_in schema.now) inverses.now) form.now row.new.items) }
-{
-    for number in &form.types {
-        add_type(schema, row, sources, inverses, form, *number)?;
+    names: &mut Vec<Word<'s>>,
+    types: &[u32],
+) -> Result<(), AllocError> {
+    for number in types {
+        add_type(schema, names, *number)?;
     }
     Ok(())
 }
 
-/// Where instances of a form have the values of their attributes, the explicit ones first.
-fn form_row<'s>(
+/// The names of the explicit attributes of a form, and of the derived and inverse ones that its
+/// types declare or redeclare, in order, each once.
+fn attribute_names<'s>(
+    alloc: Global,
+    schema: &ResolvedTypes<'s, '_>,
+    form: &Form,
+) -> Result<Vec<Word<'s>>, AllocError> {
+    let mut names = Vec::new(alloc);
+    add_slots(schema, &mut names, &form.slots)?;
+    add_types(schema, &mut names, &form.types)?;
+    names.sort_unstable();
+    names.dedup();
+    Ok(names)
+}
+
+/// Where instances of a form have the values of the attributes of these names, in turn.
+fn named_sources<'s>(
     alloc: Global,
     schema: &ResolvedTypes<'s, '_>,
     sources: &AttributeSources,
     inverses: &[InverseAttribute<'_>],
     form: &Form,
+    positions: &RowIndex,
+    names: &[Word<'s>],
+) -> Result<Vec<NamedSource<'s>>, AllocError>
+    requires known { IsKnown schema.now sources.now inverses.now }
+    requires numbered { AreNumbered (schema_in schema.now) form.now }
+    requires positions { ArePositions form.now.slots.items positions.now }
+    ensures { IfOk result (λ t. AreNamedSources (schema_in schema.now)
+        (inverses_seen (schema_in schema.now) inverses.now) form.now t.items) }
+{
+    let mut row: Vec<NamedSource<'s>> = Vec::new(alloc);
+    for name in names {
+        add_named(schema, &mut row, sources, inverses, form, positions, *name)?;
+    }
+    Ok(row)
+}
+
+/// Whether names and types of a form are many beside its instances. A row takes time for each of its
+/// names by the types, which is too much where both are many and hardly any name is asked for.
+fn are_many(names: usize, types: usize, instances: usize) -> bool {
+    names / MANY > instances && types / MANY > instances
+}
+
+/// Where so many instances of a form have the values of their attributes, in the order of their
+/// names; nothing where the names and the types are many beside them.
+fn form_row<'s>(
+    alloc: Global,
+    keys: RandomState,
+    schema: &ResolvedTypes<'s, '_>,
+    sources: &AttributeSources,
+    inverses: &[InverseAttribute<'_>],
+    form: &Form,
+    count: usize,
 ) -> Result<Vec<NamedSource<'s>>, AllocError>
     requires known { IsKnown schema.now sources.now inverses.now }
     requires numbered { AreNumbered (schema_in schema.now) form.now }
     ensures { IfOk result (λ t. AreNamedSources (schema_in schema.now)
         (inverses_seen (schema_in schema.now) inverses.now) form.now t.items) }
 {
-    let mut row: Vec<NamedSource<'s>> = Vec::new(alloc);
-    add_slots(schema, &mut row, sources, inverses, form)?;
-    add_types(schema, &mut row, sources, inverses, form)?;
-    Ok(row)
+    let names = attribute_names(alloc, schema, form)?;
+    if are_many(names.len(), form.types.len(), count) {
+        return Ok(Vec::new(alloc));
+    }
+    let positions = positions(alloc, keys, &form.slots)?;
+    named_sources(alloc, schema, sources, inverses, form, &positions, &names)
+}
+
+/// Counts an instance of a form.
+fn count_instance(counts: &mut [usize], form: Option<u32>) {
+    let Some(form) = form else {
+        return;
+    };
+    if let Some(count) = counts.get_mut(form as usize) {
+        *count = count.saturating_add(1);
+    }
+}
+
+/// How many instances each form has, where these are the forms of instances.
+fn instance_counts(
+    alloc: Global,
+    forms: usize,
+    form_of: &[Option<u32>],
+) -> Result<Vec<usize>, AllocError> {
+    let mut counts = vec![in alloc; 0; forms]?;
+    for form in form_of {
+        count_instance(&mut counts, *form);
+    }
+    Ok(counts)
+}
+
+/// How many instances a form has.
+fn count_of(counts: &[usize], form: usize) -> usize {
+    match counts.get(form) {
+        Some(count) => *count,
+        None => 0,
+    }
+}
+
+/// The source at a place of the row, where it has this name.
+fn named_at<'n, 's>(
+    row: &'n [NamedSource<'s>],
+    at: usize,
+    name: Word<'_>,
+) -> Option<&'n NamedSource<'s>>
+    ensures { (s : Schema) (inverses : List InverseTree) (form : Form)
+        → AreNamedSources s inverses form row.entry.now
+        → IfSome result (λ x. IsFormSource s inverses (Some form) (capitals name.entry) x.now.source) }
+{
+    let Some(each) = row.get(at) else {
+        return None;
+    };
+    if each.name == name { Some(each) } else { None }
+}
+
+/// Where a search in a row in the order of names leads to.
+fn searched(row: &[NamedSource<'_>], name: Word<'_>) -> usize {
+    row.partition_point(|each| each.name < name)
 }
 
 /// The first of these sources whose name is spelt so, in the case of each letter too. None says
@@ -296,54 +339,55 @@ fn find_spelt<'n, 's>(row: &'n [NamedSource<'s>], name: Word<'_>) -> Option<&'n 
     None
 }
 
-/// .. is spelt so in any case.
-fn find_in_any_case<'n, 's>(
-    row: &'n [NamedSource<'s>],
-    name: Word<'_>,
-) -> Option<&'n NamedSource<'s>>
+/// The first of these sources whose name is spelt so, where they are few. None says nothing.
+fn find_among_few<'n, 's>(row: &'n [NamedSource<'s>], name: Word<'_>) -> Option<&'n NamedSource<'s>>
     ensures { (s : Schema) (inverses : List InverseTree) (form : Form)
         → AreNamedSources s inverses form row.entry.now
         → IfSome result (λ x. IsFormSource s inverses (Some form) (capitals name.entry) x.now.source) }
 {
-    for each in row {
-        if each.name == name {
-            return Some(each);
-        }
+    if row.len() > FEW {
+        return None;
     }
-    None
+    find_spelt(row, name)
 }
 
-/// The first of these sources of a name: an expression mostly spells names as they are declared.
+/// The source of a name in a row in the order of names: an expression mostly spells names as they
+/// are declared. None says nothing.
 fn find_in<'n, 's>(row: &'n [NamedSource<'s>], name: Word<'_>) -> Option<&'n NamedSource<'s>>
     ensures { (s : Schema) (inverses : List InverseTree) (form : Form)
         → AreNamedSources s inverses form row.entry.now
         → IfSome result (λ x. IsFormSource s inverses (Some form) (capitals name.entry) x.now.source) }
 {
-    match find_spelt(row, name) {
+    match find_among_few(row, name) {
         Some(named) => Some(named),
-        None => find_in_any_case(row, name),
+        None => named_at(row, searched(row, name), name),
     }
 }
 
 impl<'s> FormSources<'s> {
-    /// That of these forms, which are of the types of a schema.
+    /// That of these forms, which are of the types of a schema; `form_of` has the number of the form
+    /// of each instance. Places are hashed by these keys.
     ///
     /// An error says that memory ran out.
     pub fn of(
         alloc: Global,
+        keys: RandomState,
         schema: &ResolvedTypes<'s, '_>,
         sources: &AttributeSources,
         inverses: &[InverseAttribute<'_>],
         forms: &[Form],
+        form_of: &[Option<u32>],
     ) -> Result<FormSources<'s>, AllocError>
         requires known { IsKnown schema.now sources.now inverses.now }
         requires numbered { Every (AreNumbered (schema_in schema.now)) forms.now }
         ensures { IfOk result (AreFormSources (schema_in schema.now)
             (inverses_seen (schema_in schema.now) inverses.now) forms.now) }
     {
+        let counts = instance_counts(alloc, forms.len(), form_of)?;
         let mut rows = Vec::new(alloc);
         for n in 0..forms.len() {
-            let row = form_row(alloc, schema, sources, inverses, &forms[n])?;
+            let count = count_of(&counts, n);
+            let row = form_row(alloc, keys, schema, sources, inverses, &forms[n], count)?;
             rows.push(row)?;
         }
         Ok(FormSources { rows })

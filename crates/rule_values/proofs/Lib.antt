@@ -5,6 +5,5 @@ pub mod Items
 pub mod Tabled
 pub mod Worth
 mod Examples
-mod Keeping
 pub mod Kept
 pub mod Scopes

@@ -57,23 +57,20 @@ content_shape (contents.Values p t b vs) = values_shape p b.now
 content_shape (contents.Instances ys) = bag
 
 abbrev pub kept_elements : Kept → Data
-kept_elements k = picked k.indices.items (content_elements k.content.value)
+kept_elements k = picked k.indices.value.items (content_elements k.content)
 
 -- all of a value
 abbrev pub content_in : Extent → Content
 content_in (extents.Whole c) = c
-content_in (extents.Shared c) = c.value
-content_in (extents.Kept k) = k.value.content.value
+content_in (extents.Kept k) = k.value.content
 
 abbrev pub elements_in : Extent → Data
 elements_in (extents.Whole c) = content_elements c
-elements_in (extents.Shared c) = content_elements c.value
 elements_in (extents.Kept k) = kept_elements k.value
 
 abbrev pub shape_in : Extent → Shape
 shape_in (extents.Whole c) = content_shape c
-shape_in (extents.Shared c) = content_shape c.value
-shape_in (extents.Kept k) = kept_shape (content_shape k.value.content.value)
+shape_in (extents.Kept k) = kept_shape (content_shape k.value.content)
 
 -- all elements, of which there may be some that a QUERY didn't keep
 unfoldable pub whole_elements : Part → Data

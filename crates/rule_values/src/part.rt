@@ -1,7 +1,7 @@
 //! Typed values and aggregates of a population, whole or as far as a QUERY keeps their elements.
 #![tactic(auto, unfolding(crate::specs::Parts::element_datum, crate::specs::Parts::holding, crate::specs::Parts::whole_elements))]
 
-ghost use Rattle.std.specs.Prelude.{◌≡◌, ◌<◌, [], length, slice_index, IfOk, IfSome};
+ghost use Rattle.std.specs.Prelude.{◌≡◌, ◌<◌, [], length, slice_index, IfOk};
 ghost use Rattle.std.specs.Option.{option_map};
 ghost use Rattle.step_values.specs.Values.{typed, sequence, bag};
 ghost use Rattle.step_values.specs.Views.{word_of};
@@ -65,18 +65,16 @@ enum Content<'p, 'r> {
 #[derive(Drop)]
 struct Kept<'p, 'r> {
     /// All of it.
-    content: Rc<Content<'p, 'r>>,
-    /// The indices of the elements.
-    indices: Vec<usize>,
+    content: Content<'p, 'r>,
+    /// The indices of the elements. Copies share them.
+    indices: Rc<Vec<usize>>,
 }
 
-/// All of a value, or some elements: these stand apart, since they are rare, and values are moved.
+/// All of a value, or some elements: these are boxed, since they are rare, and values are moved.
 #[derive(Drop)]
 enum Extent<'p, 'r> {
     Whole(Content<'p, 'r>),
-    /// .. that has several owners.
-    Shared(Rc<Content<'p, 'r>>),
-    Kept(Rc<Kept<'p, 'r>>),
+    Kept(Box<Kept<'p, 'r>>),
 }
 
 /// A typed value or an aggregate.
@@ -130,6 +128,31 @@ fn name_at(names: &[u64], index: usize) -> Option<u64>
 }
 
 impl<'p, 'r> Content<'p, 'r> {
+    /// The same once more.
+    fn again(&self) -> Content<'p, 'r>
+        ensures { result ≡ self.now }
+    {
+        match self {
+            Content::Typed { types, word, inner } => Content::Typed {
+                types: *types,
+                word: *word,
+                inner: inner.again(),
+            },
+            Content::Values {
+                is_ordered,
+                types,
+                base,
+                values,
+            } => Content::Values {
+                is_ordered: *is_ordered,
+                types: *types,
+                base: *base,
+                values: values.again(),
+            },
+            Content::Instances(names) => Content::Instances(*names),
+        }
+    }
+
     /// How many elements there are.
     fn len(&self) -> usize
         ensures { result ≡ size_of (content_elements self.now) }
@@ -204,6 +227,20 @@ impl<'p, 'r> Content<'p, 'r> {
 }
 
 impl<'p, 'r> Kept<'p, 'r> {
+    /// The same elements once more.
+    ///
+    /// An error says that memory ran out.
+    fn again(&self) -> Result<Kept<'p, 'r>, AllocError>
+        ensures { IfOk result (λ k. (k.content ≡ self.now.content)
+            × (k.indices.value ≡ self.now.indices.value)) }
+    {
+        let indices = self.indices.clone()?;
+        Ok(Kept {
+            content: self.content.again(),
+            indices,
+        })
+    }
+
     /// The element of this index; nothing where there are fewer.
     fn element(&self, index: usize) -> Element<'p, 'r>
         ensures { element_datum result
@@ -227,7 +264,6 @@ impl<'r, 'p> Held<'r> for Part<'p, 'r> {
         match &self.extent {
             Extent::Whole(content) => content.len(),
             Extent::Kept(kept) => kept.indices.len(),
-            Extent::Shared(content) => content.len(),
         }
     }
 
@@ -317,20 +353,21 @@ impl<'p, 'r> Part<'p, 'r> {
     {
         match &self.extent {
             Extent::Whole(content) => content,
-            Extent::Shared(content) => content.as_ref(),
-            Extent::Kept(kept) => kept.content.as_ref(),
+            Extent::Kept(kept) => &kept.content,
         }
     }
 
-    /// .. for several owners, without the indices of elements.
-    fn into_content(self, alloc: Global) -> Result<Rc<Content<'p, 'r>>, AllocError>
-        ensures { IfOk result (λ content. content.value ≡ content_in self.entry.extent) }
+    /// .. without the indices of elements.
+    fn into_content(self) -> Content<'p, 'r>
+        ensures { result ≡ content_in self.entry.extent }
     {
         let Part { extent } = self;
         match extent {
-            Extent::Whole(content) => Ok(Rc::new(alloc, content)?),
-            Extent::Shared(content) => Ok(content),
-            Extent::Kept(kept) => Ok(kept.content.clone()?),
+            Extent::Whole(content) => content,
+            Extent::Kept(kept) => {
+                let Kept { content, .. } = Box::into_inner(kept);
+                content
+            }
         }
     }
 
@@ -358,7 +395,6 @@ impl<'p, 'r> Part<'p, 'r> {
     {
         match &self.extent {
             Extent::Whole(content) => content.shape(),
-            Extent::Shared(content) => content.shape(),
             Extent::Kept(kept) => kept.content.shape().kept(),
         }
     }
@@ -370,7 +406,6 @@ impl<'p, 'r> Part<'p, 'r> {
     {
         match &self.extent {
             Extent::Whole(content) => content.element(index),
-            Extent::Shared(content) => content.element(index),
             Extent::Kept(kept) => kept.element(index),
         }
     }
@@ -383,7 +418,6 @@ impl<'p, 'r> Part<'p, 'r> {
     {
         match &self.extent {
             Extent::Whole(_) => index,
-            Extent::Shared(_) => index,
             Extent::Kept(kept) => place_at(&kept.indices, index),
         }
     }
@@ -396,45 +430,31 @@ impl<'p, 'r> Part<'p, 'r> {
         ensures { IfOk result (λ p. holding p
             ≡ kept_of (holding self.entry) (picked kept.items (whole_elements self.entry))) }
     {
-        let content = self.into_content(alloc)?;
         let kept = Kept {
-            content,
-            indices: kept,
+            content: self.into_content(),
+            indices: Rc::new(alloc, kept)?,
         };
         Ok(Part {
-            extent: Extent::Kept(Rc::new(alloc, kept)?),
+            extent: Extent::Kept(Box::new(alloc, kept)?),
         })
     }
 
-    /// The same, so that there can be more of it (`copied`).
+    /// The same value once more. Both share the indices of what a QUERY kept, if it is such a value.
     ///
     /// An error says that memory ran out.
-    pub fn share(self, alloc: Global) -> Result<Part<'p, 'r>, AllocError>
-        ensures { IfOk result (λ p. holding p ≡ holding self.entry) }
-    {
-        let Part { extent } = self;
-        match extent {
-            Extent::Whole(content) => Ok(Part {
-                extent: Extent::Shared(Rc::new(alloc, content)?),
-            }),
-            other => Ok(Part { extent: other }),
-        }
-    }
-
-    /// The same once more; none where it isn't shared (`share`).
-    ///
-    /// An error says that memory ran out.
-    pub fn copied(&self) -> Result<Option<Part<'p, 'r>>, AllocError>
-        ensures { IfOk result (λ o. IfSome o (λ p. holding p ≡ holding self.now)) }
+    pub fn again(&self, alloc: Global) -> Result<Part<'p, 'r>, AllocError>
+        ensures { IfOk result (λ p. holding p ≡ holding self.now) }
     {
         match &self.extent {
-            Extent::Whole(_) => Ok(None),
-            Extent::Shared(content) => Ok(Some(Part {
-                extent: Extent::Shared(content.clone()?),
-            })),
-            Extent::Kept(kept) => Ok(Some(Part {
-                extent: Extent::Kept(kept.clone()?),
-            })),
+            Extent::Whole(content) => Ok(Part {
+                extent: Extent::Whole(content.again()),
+            }),
+            Extent::Kept(kept) => {
+                let kept = kept.again()?;
+                Ok(Part {
+                    extent: Extent::Kept(Box::new(alloc, kept)?),
+                })
+            }
         }
     }
 }

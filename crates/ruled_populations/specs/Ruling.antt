@@ -1,4 +1,5 @@
--- What the rules of a schema say of a population, and which of its instances are pinned by the weak rules.
+-- What the rules of a schema say of a population, which of its instances are pinned by the weak rules, and what the gentle
+-- rules are kept by.
 use Rattle.std.specs.Prelude.{◌≢◌, ◌↔◌, ℕ, Bool, IsTrue, List, []}
 use Rattle.express_syntax.specs.Schemas.{Schema}
 use Rattle.schema_semantics.specs.Names.{Name}
@@ -13,6 +14,7 @@ use Rattle.conformance.specs.Populations.{Instance}
 use Rattle.conformance.specs.Said.{Said}
 use Rattle.pin_choices.specs.Chosen.{AreChosen}
 use Rattle.pin_choices.specs.declared.choice.Chosen.{Chosen}
+use Rattle.step_pins.specs.Lists.{AreUniqueOf}
 use Rattle.step_pins.specs.Pinned.{is_pinned}
 use Rattle.check_findings.specs.Findings.{AreRuleFindings}
 use Rattle.ruled_populations.specs.declared.ruled.Ruled.{Ruled}
@@ -30,7 +32,9 @@ module _ (s : Schema) (is : List Instance) where
   abbrev pub AreFound : List RuleFinding → ℕ → Type 0
   AreFound gs n = (said : Said s) → PopulationConforms s said.domain said.entities is → AreRuleFindings s said is gs n
 
-  -- Some rules are broken, so; or none is, and these are the weak pins.
+  -- Some rules are broken, so; or none is, and these are the weak pins, and the lists of what stands in LISTs and ARRAYs OF
+  -- UNIQUE.
   abbrev pub IsRuled : RuleTables → Chosen → Ruled → Type 0
   IsRuled t chosen (Broken r) = (r.findings.items ≢ []) × AreFound r.findings.items r.unknown
-  IsRuled t chosen (Kept unknown weak) = AreFound [] unknown × AreWeakPins t chosen (is_pinned weak)
+  IsRuled t chosen (Kept unknown weak) =
+      AreFound [] unknown × AreWeakPins t chosen (is_pinned weak.pins) × AreUniqueOf s is weak.lists

@@ -16,8 +16,8 @@ use rule_names::tables::SettingTables;
 use std::alloc::{AllocError, Global};
 use std::hash::RandomState;
 use step_extent::extents::Extents;
-use step_pins::pins::Pins;
 use step_pins::weak::pins;
+use step_pins::weak_pins::WeakPins;
 
 /// What the rules of a schema say of a population.
 #[derive(Drop)]
@@ -29,8 +29,8 @@ pub enum Ruled<'s> {
         /// Of how many pairs of an instance and a domain rule it isn't known whether the instance
         /// keeps the rule; 2^64 - 1 where there are more.
         unknown: u64,
-        /// The weak pins of the population.
-        weak: Pins,
+        /// The weak pins of the population, and what the gentle ones are found by.
+        weak: WeakPins,
     },
 }
 

@@ -1,13 +1,13 @@
 //! The items of SELECTs, at any depth.
 
-ghost use Rattle.std.specs.Prelude.{◌≡◌, ℕ, ◌<◌, ◌^◌, ◌&&◌, not, ◌++◌, length, IfOk, OnOk};
+ghost use Rattle.std.specs.Prelude.{◌≡◌, ℕ, ◌<◌, ◌^◌, length, IfOk};
 ghost use Rattle.std.specs.List.Sorted.{IsNonDecreasing};
-ghost use Rattle.digraph.specs.Graphs.{graph_of, next, has, IsGraph};
+ghost use Rattle.digraph.specs.Graphs.{graph_of, next, has, IsGraph, IsAcyclic};
 ghost use Rattle.schema_bases.specs.Making.{is_select, is_select_at, opened, item_of, AreItems};
 
 use crate::base::Base;
 use crate::making::entry;
-use digraph::closures::closure;
+use schema_data_types::gathering::gathered;
 use std::alloc::{AllocError, Global};
 
 /// Whether it is a SELECT, or stands for one.
@@ -55,47 +55,68 @@ fn opened(alloc: Global, declared: &[Base], edges: &[Vec<u32>]) -> Result<Vec<Ve
     Ok(rows)
 }
 
-/// Adds a number where what is declared there stands for no SELECT.
-fn add_item(row: &mut Vec<u32>, declared: &[Base], number: u32) -> Result<(), AllocError>
-    ensures { OnOk result (row.new.items ≡ row.old.items ++ item_of declared.now number) }
+/// Its own number, where what is declared at a number stands for no SELECT.
+fn own_row(alloc: Global, declared: &[Base], number: u32) -> Result<Vec<u32>, AllocError>
+    ensures { IfOk result (λ v. v.items ≡ item_of declared.now number) }
 {
+    let mut row = Vec::new(alloc);
     if !is_select_at(declared, number) {
         row.push(number)?;
     }
-    Ok(())
+    Ok(row)
 }
 
-/// Those of a row of numbers that stand for no SELECT, in order.
-fn sorted_items(alloc: Global, declared: &[Base], reached: &[u32]) -> Result<Vec<u32>, AllocError>
+/// By declaration, its own number where it stands for no SELECT.
+fn own_rows(alloc: Global, declared: &[Base], count: usize) -> Result<Vec<Vec<u32>>, AllocError>
+    requires few { count < 2 ^ 32 }
+    ensures length { IfOk result (λ t. length t.items ≡ count) }
+    ensures rows { IfOk result (λ t. (i : ℕ)
+        → i < count → next (graph_of t.items) i ≡ item_of declared.now i) }
+{
+    let mut rows = Vec::new(alloc);
+    for i in 0..count {
+        let row = own_row(alloc, declared, i as u32)?;
+        rows.push(row)?;
+    }
+    Ok(rows)
+}
+
+/// What a SELECT has in its row, in order; nothing where a number stands for no SELECT.
+fn sorted_row(
+    alloc: Global,
+    declared: &[Base],
+    number: u32,
+    row: &[u32],
+) -> Result<Vec<u32>, AllocError>
     ensures items { IfOk result (λ v. (j : ℕ)
-        → has v.items j ≡ (has reached.now j && not (is_select_at declared.now j))) }
+        → has v.items j ≡ has (opened declared.now number row.now) j) }
     ensures sorted { IfOk result (λ v. IsNonDecreasing v.items) }
 {
-    let mut row = Vec::new(alloc);
-    for number in reached {
-        add_item(&mut row, declared, *number)?;
-    }
-    row.sort_unstable();
-    Ok(row)
+    let mut sorted = opened_row(alloc, declared, number, row)?;
+    sorted.sort_unstable();
+    Ok(sorted)
 }
 
 /// By declaration, the numbers of its items at any depth.
 ///
-/// It takes time for each item that a SELECT has, at any depth.
+/// It takes time for each item that a SELECT takes over from one of its items, and to bring those
+/// of each SELECT in order.
 pub(crate) fn item_rows(
     alloc: Global,
     declared: &[Base],
     edges: &[Vec<u32>],
 ) -> Result<Vec<Vec<u32>>, AllocError>
     requires graph { IsGraph (graph_of edges.now) }
+    requires acyclic { IsAcyclic (graph_of edges.now) }
     requires few { length edges.now < 2 ^ 32 }
     ensures { IfOk result (λ t. AreItems declared.now (graph_of edges.now) (graph_of t.items)) }
 {
     let opened = opened(alloc, declared, edges)?;
-    let reached = closure(alloc, &opened)?;
+    let own = own_rows(alloc, declared, edges.len())?;
+    let found = gathered(alloc, &opened, &own, edges.len())?;
     let mut rows = Vec::new(alloc);
-    for i in 0..reached.len() {
-        let row = sorted_items(alloc, declared, &reached[i])?;
+    for i in 0..found.len() {
+        let row = sorted_row(alloc, declared, i as u32, &found[i])?;
         rows.push(row)?;
     }
     Ok(rows)

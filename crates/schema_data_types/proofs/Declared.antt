@@ -4,18 +4,24 @@ use Rattle.std.specs.List.{list_any}
 use Rattle.std.proofs.Common.{refl, inl, inr, ap, sym, subst, ◌∙◌, arith}
 use Rattle.std.proofs.lemmas.List.{length-map}
 use Rattle.std.proofs.lemmas.Bool.Decides.{nat_tests}
-use Rattle.digraph.specs.Graphs.{Graph, has, next, Leads}
-use Rattle.express_syntax.specs.Schemas.{Schema, Declaration, type, entity, skipped, TypeDeclaration, Entity, Underlying, enumeration, select, data_type, DataType, named}
-use Rattle.schema_semantics.specs.Names.{Name, declaration_of, IsEntity, StandsFor, IsMadeOf}
+use Rattle.digraph.specs.Graphs.{Graph, graph_of, has, next, Step, Reaches}
+use Rattle.express_syntax.specs.Schemas.{Schema, Declaration, type, entity, skipped, TypeDeclaration, Entity, Underlying, enumeration, select, data_type, DataType, integer, number, boolean, logical, real, string, binary, array, list, bag, set, named}
+use Rattle.schema_semantics.specs.Names.{Name, declaration_of, IsEntity, StandsFor}
 use Rattle.schema_semantics.specs.Shapes.{Atom, value, instance, an_item, IsSelect, IsOverSelect, IsSort, IsOf}
 use Rattle.schema_names.specs.Numbers.{HasNumber, IsAt, AreAt, AreRowsOf}
+use Rattle.schema_names.specs.Edges.{IsGraphOf, parts_in}
 use Rattle.schema_names.proofs.Numbers.{stands-at, what-stands, each-number, one-name}
 use Rattle.schema_names.proofs.Edges.{made-of-forth, made-of-back, number-within}
 use Rattle.schema_names.proofs.Items.{front-at, row-at}
 use Rattle.schema_data_types.specs.Numbered.{whole_underlying, whole_types, all_data_types}
+use Rattle.schema_data_types.specs.declared.giving.Parts.{Parts}
+use Rattle.schema_data_types.specs.Gathering.{Gathers, IsGathered}
+use Rattle.schema_data_types.specs.declared.giving.Wanted.TheVariants.{Giving, Selects}
+use Rattle.schema_data_types.specs.Giving.{is_leaf, gives_by, some_gives, gives_at, own_row}
 use Rattle.schema_data_types.specs.Values.{AreParts}
 use Rattle.schema_data_types.specs.Leaves.{IsLeaf, LeafGives, Gives, OneGives}
-use Rattle.schema_data_types.specs.Selects.{is_of_items, is_select, is_some_select, is_select_at, is_over_select}
+use Rattle.schema_data_types.specs.Selects.{is_of_items, is_select, is_some_select, is_select_at}
+use Rattle.schema_data_types.proofs.OwnRows.{one-has, has-one}
 use Rattle.schema_data_types.proofs.Leading.{Way, Tells, made-over, names-made, of-forth, of-back, stands-one, no-select, no-enumeration, not-both}
 
 first-at : {A : Type 0} (all : List A) (row : List ℕ) (x : A) → AreAt all row (x ∷ []) → (n : ℕ)
@@ -177,54 +183,102 @@ module _ (s : Schema) where
           which (inr e) =
               inr (subst (λ y. Gives s y w x) (one-name s m n i (subst (HasNumber s m) e there) k) g)
 
+  -- what gives something is told so by its number
+  leaf-told : (k : DataType) → IsLeaf k → is_leaf k ≡ true
+  leaf-told integer h = refl
+  leaf-told number h = refl
+  leaf-told boolean h = refl
+  leaf-told logical h = refl
+  leaf-told (real p) h = refl
+  leaf-told (string w) h = refl
+  leaf-told (binary w) h = refl
+  leaf-told (array b o u k) h = refl
+  leaf-told (list b u k) h = refl
+  leaf-told (bag b k) h = refl
+  leaf-told (set b k) h = refl
+  leaf-told (named n) h = absurd h
+
+  pub enumeration-told : (n : Name) (i : ℕ) (items : List Name) → HasNumber s n i → StandsFor s n (enumeration items)
+      → gives_at s i ≡ true
+  enumeration-told n i items k (t, at, u) = ap some_gives (sym (stands-at s n i k) ∙ at) ∙ ap gives_by u
+
+  gives-told : (n : Name) (i : ℕ) (w : Bool) (x : Atom) → HasNumber s n i → Gives s n w x → gives_at s i ≡ true
+  gives-told n i w (value t v) k (e, inl ((items, stands), is)) = enumeration-told n i items k stands
+  gives-told n i w (value t v) k (e, inr (l, (r, at, u), leaf, h)) =
+      ap some_gives (sym (stands-at s n i k) ∙ at) ∙ ap gives_by u ∙ leaf-told l leaf
+  gives-told n i w (instance m) k (e, (r, at)) = ap some_gives (sym (stands-at s n i k) ∙ at)
+
   -- each declaration has a row
-  pub parts-within : {X : Type 0} (items : X → List ℕ) (rows : List X) → AreParts s (map items rows) → (n : Name) (i :
-      ℕ)
-      → HasNumber s n i → i < length rows
-  parts-within items rows are n i k =
+  pub parts-within : {X : Type 0} (items : X → List ℕ) (rows : List X) (g : Graph) (own : ℕ → List ℕ)
+      → IsGraphOf s parts_in g → IsGathered g own (map items rows) → (n : Name) (i : ℕ) → HasNumber s n i
+      → i < length rows
+  parts-within items rows g own drawn are n i k =
       let lt = number-within s n i k in
-      let long : length (map items rows) ≡ length s.declarations = are.closed.same ∙ are.drawn.same in
+      let long : length (map items rows) ≡ length s.declarations = are.same ∙ drawn.same in
       let same = length-map rows items in
       omega (arith, lt, long, same)
 
-  -- what a name leads to has a number in its row
-  module _ (rows : Graph) (are : AreParts s rows) where
-    pub part-named : (n : Name) (i j : ℕ) → HasNumber s n i → has (next rows i) j ≡ true → (m : Name) × HasNumber s m j
-    part-named n i j k h =
-        let (m, there, way) = made-of-forth s are.graph are.drawn n i j k ((are.closed.reached i j).0 h) in (m, there)
-
-    pub way-forth : (n m : Name) (i j : ℕ) → HasNumber s n i → HasNumber s m j → has (next rows i) j ≡ true → Way s n m
-    way-forth n m i j k l h =
-        let (o, there, way) = made-of-forth s are.graph are.drawn n i j k ((are.closed.reached i j).0 h) in
-        inr (subst (λ y. Leads (IsMadeOf s) (named n) (named y)) (one-name s o m j there l) way)
+  module _ (t : Parts) (are : AreParts s t) where
+    -- what a name leads to has a number
+    pub part-named : (n : Name) (i j : ℕ) → HasNumber s n i → Reaches are.graph i j → (m : Name) × HasNumber s m j
+        × Way s n m
+    part-named n i j k way =
+        let (m, there, leads) = made-of-forth s are.graph are.drawn n i j k way in (m, there, inr leads)
 
     name-of : (a b : Name) → named a ≡ named b → a ≡ b
     name-of a b e = cc
 
-    pub way-back : (n m : Name) (i j : ℕ) → HasNumber s n i → HasNumber s m j → Way s n m → (n ≡ m)
-        ⊎ (has (next rows i) j ≡ true)
+    pub way-back : (n m : Name) (i j : ℕ) → HasNumber s n i → HasNumber s m j → Way s n m
+        → (n ≡ m) ⊎ Reaches are.graph i j
     way-back n m i j k l (inl e) = inl (name-of n m e)
-    way-back n m i j k l (inr way) =
-        inr ((are.closed.reached i j).1 (made-of-back s are.graph are.drawn n m i j k l way))
+    way-back n m i j k l (inr way) = inr (made-of-back s are.graph are.drawn n m i j k l way)
+
+    -- what stands in the row of a name
+    pub giving-named : (n : Name) (i j : ℕ) → HasNumber s n i → Step (graph_of t.giving.items) i j → (m : Name)
+        × HasNumber s m j × Way s n m
+    giving-named n i j k h = by ((are.giving.each i j).0 h)
+      where
+        by : Gathers are.graph (own_row Giving s) i j → (m : Name) × HasNumber s m j × Way s n m
+        by (inl mine) =
+            (n, subst (HasNumber s n) (sym (one-has (gives_at s i) i j mine).0) k, inl refl)
+        by (inr (b, way, mine)) =
+            let (m, there, leads) = part-named n i b k way in
+            (m, subst (HasNumber s m) (sym (one-has (gives_at s b) b j mine).0) there, leads)
+
+    pub giving-back : (n m : Name) (i j : ℕ) → HasNumber s n i → HasNumber s m j → Way s n m → gives_at s j ≡ true
+        → (l : ℕ) × HasNumber s m l × Step (graph_of t.giving.items) i l
+    giving-back n m i j k l way gives = which (way-back n m i j k l way)
+      where
+        which : (n ≡ m) ⊎ Reaches are.graph i j → (l : ℕ) × HasNumber s m l × Step (graph_of t.giving.items) i l
+        which (inl e) =
+            let other : Some j ≡ Some i = sym l ∙ subst (λ y. HasNumber s y i) e k in
+            let same : j ≡ i = cc in
+            let here : gives_at s i ≡ true = ap (gives_at s) (sym same) ∙ gives in (
+              i,
+              subst (λ y. HasNumber s y i) e k,
+              (are.giving.each i i).1 (inl (has-one (gives_at s i) i here)),
+            )
+        which (inr reach) = (
+          j,
+          l,
+          (are.giving.each i j).1 (inr (j, reach, has-one (gives_at s j) j gives)),
+        )
 
     -- what the values of a name may be
     pub named-is : (n : Name) (i : ℕ) (w : Bool) → HasNumber s n i → Tells s n w → (x : Atom)
-        → (Gives s n w x ⊎ OneGives s (next rows i) w x) ↔ IsOf s (named n) x
+        → OneGives s (next (graph_of t.giving.items) i) w x ↔ IsOf s (named n) x
     named-is n i w k told x = (forth, back)
       where
-        forth : Gives s n w x ⊎ OneGives s (next rows i) w x → IsOf s (named n) x
-        forth (inl g) = of-back s n w told x n (inl refl) g
-        forth (inr (j, h, m, there, g)) = of-back s n w told x m (way-forth n m i j k there h) g
+        forth : OneGives s (next (graph_of t.giving.items) i) w x → IsOf s (named n) x
+        forth (j, h, m, there, g) =
+            let (o, here, way) = giving-named n i j k h in
+            of-back s n w told x m (subst (Way s n) (one-name s o m j here there) way) g
 
-        at : (m : Name) → Gives s m w x → (j : ℕ) → HasNumber s m j → (n ≡ m) ⊎ (has (next rows i) j ≡ true)
-            → Gives s n w x ⊎ OneGives s (next rows i) w x
-        at m g j l (inl e) = inl (subst (λ y. Gives s y w x) (sym e) g)
-        at m g j l (inr h) = inr (j, h, m, l, g)
-
-        back : IsOf s (named n) x → Gives s n w x ⊎ OneGives s (next rows i) w x
+        back : IsOf s (named n) x → OneGives s (next (graph_of t.giving.items) i) w x
         back h =
             let (m, way, g) = of-forth s n w told x h in
-            let (j, l) = gives-number m w x g in at m g j l (way-back n m i j k l way)
+            let (j, l) = gives-number m w x g in
+            let (o, there, step) = giving-back n m i j k l way (gives-told m j w x l g) in (o, step, m, there, g)
 
     -- whether it is over a SELECT
     select-here : (u : Underlying) (n : Name) → StandsFor s n u → is_of_items u ≡ true → IsSelect s n
@@ -247,35 +301,30 @@ module _ (s : Schema) where
     select-back n i k (items, (t, at, u)) =
         ap is_some_select (sym (stands-at s n i k) ∙ at) ∙ ap is_of_items u
 
-    pub over-told : (n : Name) (i : ℕ) → HasNumber s n i → Tells s n (is_over_select s rows i)
+    pub over-told : (n : Name) (i : ℕ) → HasNumber s n i → Tells s n (has (next (graph_of t.selects.items) i) 0)
     over-told n i k = (forth, back)
       where
-        forth : is_over_select s rows i ≡ true → IsOverSelect s (named n)
-        forth h = by (is_select_at s i) refl h
+        forth : has (next (graph_of t.selects.items) i) 0 ≡ true → IsOverSelect s (named n)
+        forth h = by ((are.selects.each i 0).0 h)
           where
-            by : (c : Bool) → is_select_at s i ≡ c → (c || list_any (is_select_at s) (next rows i)) ≡ true
-                → IsOverSelect s (named n)
-            by true e h = (n, inl refl, select-forth n i k e)
-            by false e h =
-                let (j, l, g) = some-one (is_select_at s) (next rows i) h in
-                let (m, there) = part-named n i j k l in
-                made-over s (named n) m (way-forth n m i j k there l) (select-forth m j there g)
+            by : Gathers are.graph (own_row Selects s) i 0 → IsOverSelect s (named n)
+            by (inl mine) = (n, inl refl, select-forth n i k (one-has (is_select_at s i) 0 0 mine).1)
+            by (inr (b, way, mine)) =
+                let (m, there, leads) = part-named n i b k way in
+                made-over s (named n) m leads (select-forth m b there (one-has (is_select_at s b) 0 0 mine).1)
 
-        number : (m : Name) → IsSelect s m → (j : ℕ) × HasNumber s m j
-        number m (items, (t, at, u)) = each-number 0 s.declarations m (type t) at
+        numbered : (m : Name) → IsSelect s m → (j : ℕ) × HasNumber s m j
+        numbered m (items, (r, at, u)) = each-number 0 s.declarations m (type r) at
 
-        put : (c d : Bool) → (c ≡ true) ⊎ (d ≡ true) → (c || d) ≡ true
-        put true d h = refl
-        put false d (inl e) = absurd (cc)
-        put false d (inr e) = e
-
-        back : IsOverSelect s (named n) → is_over_select s rows i ≡ true
+        back : IsOverSelect s (named n) → has (next (graph_of t.selects.items) i) 0 ≡ true
         back (m, way, sel) =
-            let (j, l) = number m sel in
-            put (is_select_at s i) (list_any (is_select_at s) (next rows i))
-            (which j l (way-back n m i j k l (names-made s (named n) (named m) way)))
+            let (j, l) = numbered m sel in which j l (way-back n m i j k l (names-made s (named n) (named m) way))
           where
-            which : (j : ℕ) → HasNumber s m j → (n ≡ m) ⊎ (has (next rows i) j ≡ true)
-                → (is_select_at s i ≡ true) ⊎ (list_any (is_select_at s) (next rows i) ≡ true)
-            which j l (inl e) = inl (select-back n i k (subst (IsSelect s) (sym e) sel))
-            which j l (inr h) = inr (one-of (is_select_at s) (next rows i) j h (select-back m j l sel))
+            which : (j : ℕ) → HasNumber s m j → (n ≡ m) ⊎ Reaches are.graph i j
+                → has (next (graph_of t.selects.items) i) 0 ≡ true
+            which j l (inl e) =
+                (are.selects.each i 0).1
+                (inl (has-one (is_select_at s i) 0 (select-back n i k (subst (IsSelect s) (sym e) sel))))
+            which j l (inr reach) =
+                (are.selects.each i 0).1
+                (inr (j, reach, has-one (is_select_at s j) 0 (select-back m j l sel)))

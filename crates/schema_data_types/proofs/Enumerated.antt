@@ -1,11 +1,11 @@
 -- Items of enumerations by the declarations that list them, and by the numbers of these.
-use Rattle.std.specs.Prelude.{◌≡◌, ℕ, ◌+◌, ◌<◌, length, get_or, take, Bool, true, false, not, ◌&&◌, ◌||◌, List, [], ◌∷◌, ◌++◌, map, bytes_eq, ◌⊎◌, ◌↔◌}
+use Rattle.std.specs.Prelude.{◌≡◌, ℕ, ◌+◌, ◌<◌, length, get_or, take, Bool, true, false, not, ◌&&◌, ◌||◌, List, [], ◌∷◌, ◌++◌, map, bytes_eq, ◌↔◌}
 use Rattle.std.specs.List.{list_any}
 use Rattle.std.proofs.Common.{refl, inl, inr, ap, sym, subst, ◌∙◌}
 use Rattle.std.proofs.lemmas.Slice.Eq.{bytes_eq-Decides}
 use Rattle.std.proofs.lemmas.List.{append-nil}
 use Rattle.std.proofs.lemmas.List.Folds.{list_any-append}
-use Rattle.digraph.specs.Graphs.{Graph, has, next}
+use Rattle.digraph.specs.Graphs.{graph_of, next}
 use Rattle.express_syntax.specs.Schemas.{Schema, Declaration, type, entity, skipped, Underlying, enumeration, select, data_type, named}
 use Rattle.express_syntax.specs.declared.tree.Declaration.{Declaration as Declared}
 use Rattle.express_syntax.specs.Views.{declaration_of}
@@ -20,9 +20,9 @@ use Rattle.schema_names.specs.Numbers.{HasNumber, IsAt}
 use Rattle.schema_names.proofs.Numbers.{stands-at, what-stands, each-number}
 use Rattle.schema_names.proofs.Rows.{take-more, map-joined, flat-joined}
 use Rattle.schema_data_types.specs.Values.{AreParts}
-use Rattle.schema_data_types.specs.Selects.{is_over_select}
-use Rattle.schema_data_types.proofs.Declared.{some-one, one-of, type-here, part-named, way-forth, way-back, over-told}
-use Rattle.schema_data_types.proofs.Leading.{by-names, names-made, named-not-over}
+use Rattle.schema_data_types.specs.declared.giving.Parts.{Parts}
+use Rattle.schema_data_types.proofs.Declared.{some-one, one-of, type-here, giving-named, giving-back, enumeration-told}
+use Rattle.schema_data_types.proofs.Leading.{Tells, by-names, names-made, named-not-over}
 use Rattle.schema_data_types.specs.Enumerated.{includes, items_in, all_items, some_items, has_item_at, has_item_within}
 
 includes-forth : (ns : List Name) (n : Name) → includes ns n ≡ true → Among n ns
@@ -149,47 +149,38 @@ module _ (s : Schema) where
       ap (λ o. includes (some_items o) n) (sym (stands-at s e i k) ∙ at)
       ∙ includes-back (items_of t.underlying) n (subst (λ x. Among n (items_of x)) (sym u) m)
 
-  module _ (rows : Graph) (are : AreParts s rows) (t n : Name) (i : ℕ) (k : HasNumber s t i) where
-    within-forth : (IsOverSelect s (named t) → ⊥) → has_item_within s rows n i ≡ true → IsItemOf s t n
-    within-forth free h = by (has_item_at s n i) refl h
-      where
-        by : (b : Bool) → has_item_at s n i ≡ b → (b || list_any (has_item_at s n) (next rows i)) ≡ true
-            → IsItemOf s t n
-        by true e g = let (items, stands-for, m) = at-forth n t i k e in (t, items, inl refl, stands-for, m)
-        by false e g =
-            let (j, l, here) = some-one (has_item_at s n) (next rows i) g in
-            let (x, there) = part-named s rows are t i j k l in
-            let (items, stands-for, m) = at-forth n x j there here in
-            let way = by-names s (named t) (named x) free (way-forth s rows are t x i j k there l) in
-            (x, items, way, stands-for, m)
+  module _ (parts : Parts) (are : AreParts s parts) (t n : Name) (i : ℕ) (k : HasNumber s t i) where
+    within-forth : (IsOverSelect s (named t) → ⊥) → has_item_within s (graph_of parts.giving.items) n i ≡ true
+        → IsItemOf s t n
+    within-forth free h =
+        let (j, l, here) = some-one (has_item_at s n) (next (graph_of parts.giving.items) i) h in
+        let (x, there, leads) = giving-named s parts are t i j k l in
+        let (items, stands-for, m) = at-forth n x j there here in
+        (x, items, by-names s (named t) (named x) free leads, stands-for, m)
 
-    within-back : IsItemOf s t n → has_item_within s rows n i ≡ true
+    within-back : IsItemOf s t n → has_item_within s (graph_of parts.giving.items) n i ≡ true
     within-back (e, items, way, stands-for, m) =
         let (j, l) = number-of e (enumeration items) stands-for in
-        by j l (way-back s rows are t e i j k l (names-made s (named t) (named e) way))
-      where
-        by : (j : ℕ) → HasNumber s e j → (t ≡ e) ⊎ (has (next rows i) j ≡ true) → has_item_within s rows n i ≡ true
-        by j l (inl same) =
-            or-left (has_item_at s n i) (list_any (has_item_at s n) (next rows i))
-            (at-back n t i items k (subst (λ a. StandsFor s a (enumeration items)) (sym same) stands-for) m)
-        by j l (inr h) =
-            or-right (has_item_at s n i) (list_any (has_item_at s n) (next rows i))
-            (one-of (has_item_at s n) (next rows i) j h (at-back n e j items l stands-for m))
+        let (o, there, step) =
+        giving-back s parts are t e i j k l (names-made s (named t) (named e) way) (enumeration-told s e j items l stands-for)
+        in
+        one-of (has_item_at s n) (next (graph_of parts.giving.items) i) o step (at-back n e o items there stands-for m)
 
     not-over : IsItemOf s t n → IsOverSelect s (named t) → ⊥
     not-over (e, items, way, stands-for, m) over =
         named-not-over s (named t) (named e) an_item way ((items, stands-for), refl) over
 
     -- the test of `is_item_of`
-    pub item-told : (not (is_over_select s rows i) && has_item_within s rows n i) ≡ true ↔ IsItemOf s t n
-    item-told = (forth, back)
+    pub item-told : (over : Bool) → Tells s t over
+        → (not over && has_item_within s (graph_of parts.giving.items) n i) ≡ true ↔ IsItemOf s t n
+    item-told over told = (forth, back)
       where
-        forth : (not (is_over_select s rows i) && has_item_within s rows n i) ≡ true → IsItemOf s t n
+        forth : (not over && has_item_within s (graph_of parts.giving.items) n i) ≡ true → IsItemOf s t n
         forth h =
-            let (free, here) = both-hold (not (is_over_select s rows i)) (has_item_within s rows n i) h in
-            within-forth (λ o. not-so (is_over_select s rows i) free ((over-told s rows are t i k).1 o)) here
+            let (free, here) = both-hold (not over) (has_item_within s (graph_of parts.giving.items) n i) h in
+            within-forth (λ o. not-so over free (told.1 o)) here
 
-        back : IsItemOf s t n → (not (is_over_select s rows i) && has_item_within s rows n i) ≡ true
+        back : IsItemOf s t n → (not over && has_item_within s (graph_of parts.giving.items) n i) ≡ true
         back h =
-            both-so (is_over_select s rows i) (has_item_within s rows n i)
-            (is-false (is_over_select s rows i) (λ o. not-over h ((over-told s rows are t i k).0 o))) (within-back h)
+            both-so over (has_item_within s (graph_of parts.giving.items) n i)
+            (is-false over (λ o. not-over h (told.0 o))) (within-back h)

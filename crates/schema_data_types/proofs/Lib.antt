@@ -7,7 +7,7 @@ pub mod Leading
 pub mod Sets
 pub mod Declared
 pub mod Single
-mod Known
+pub mod Known
 mod Asked
 mod Shown
 mod Along
@@ -17,3 +17,5 @@ mod Parts
 mod OneShape
 mod FromTrees
 mod Enumerated
+pub mod Gathered
+pub mod OwnRows

@@ -1,5 +1,5 @@
 -- The items that declarations give, and which are enumerations with an item (ISO 10303-11, 8.4.1).
-use Rattle.std.specs.Prelude.{ℕ, Bool, ◌||◌, List, [], Option, None, Some, slice_get, flat_map, bytes_eq}
+use Rattle.std.specs.Prelude.{ℕ, Bool, List, [], Option, None, Some, slice_get, flat_map, bytes_eq}
 use Rattle.std.specs.List.{list_any}
 use Rattle.digraph.specs.Graphs.{Graph, next}
 use Rattle.express_syntax.specs.Schemas.{Schema, Declaration, type, entity, skipped}
@@ -27,6 +27,6 @@ some_items (Some d) = items_in d
 abbrev pub has_item_at : Schema → Name → ℕ → Bool
 has_item_at s n i = includes (some_items (slice_get s.declarations i)) n
 
--- .. or is among what it is made of
+-- .. or is among these
 abbrev pub has_item_within : Schema → Graph → Name → ℕ → Bool
-has_item_within s parts n i = has_item_at s n i || list_any (has_item_at s n) (next parts i)
+has_item_within s parts n i = list_any (has_item_at s n) (next parts i)

@@ -10,3 +10,5 @@ pub mod Making
 pub mod Laws
 pub mod Items
 pub mod Enumerated
+pub mod Giving
+pub mod Gathering

@@ -1,7 +1,5 @@
--- Which declarations are SELECTs, and which lead to one.
-use Rattle.std.specs.Prelude.{ℕ, Bool, true, false, ◌||◌, Option, None, Some, slice_get}
-use Rattle.std.specs.List.{list_any}
-use Rattle.digraph.specs.Graphs.{Graph, next}
+-- Which declarations are SELECTs.
+use Rattle.std.specs.Prelude.{ℕ, Bool, true, false, Option, None, Some, slice_get}
 use Rattle.express_syntax.specs.Schemas.{Schema, Declaration, type, Underlying, select}
 
 abbrev pub is_of_items : Underlying → Bool
@@ -19,7 +17,3 @@ is_some_select (Some d) = is_select d
 -- a SELECT has this number
 abbrev pub is_select_at : Schema → ℕ → Bool
 is_select_at s i = is_some_select (slice_get s.declarations i)
-
--- .. or is among what it is made of
-abbrev pub is_over_select : Schema → Graph → ℕ → Bool
-is_over_select s parts i = is_select_at s i || list_any (is_select_at s) (next parts i)

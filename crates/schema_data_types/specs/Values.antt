@@ -1,7 +1,6 @@
 -- What the values of a data type may be, by number (ISO 10303-11, 8).
 use Rattle.std.specs.Prelude.{◌≡◌, ◌<◌, ◌^◌, List, Some, length, map, slice_get, ◌⊎◌, ◌↔◌}
 use Rattle.digraph.specs.Graphs.{Graph, graph_of}
-use Rattle.digraph.specs.Closures.{IsClosure}
 use Rattle.express_syntax.specs.Schemas.{Schema, DataType}
 use Rattle.express_syntax.specs.SchemaViews.{schema_of}
 use Rattle.schema_semantics.specs.Names.{Name, OneOf}
@@ -14,6 +13,10 @@ use Rattle.schema_data_types.specs.declared.values.Sort.TheVariants as sorts
 use Rattle.schema_data_types.specs.declared.values.Atom.{Atom as Numbered}
 use Rattle.schema_data_types.specs.declared.values.Atom.TheVariants as atoms
 use Rattle.schema_data_types.specs.declared.values.Tables.{Tables}
+use Rattle.schema_data_types.specs.declared.giving.Parts.{Parts}
+use Rattle.schema_data_types.specs.Gathering.{IsGathered}
+use Rattle.schema_data_types.specs.Giving.{own_row}
+use Rattle.schema_data_types.specs.declared.giving.Wanted.TheVariants as wanted
 use Rattle.schema_data_types.specs.Numbered.{form_in, whole_types, all_data_types}
 
 abbrev pub sort_of : Sort → shapes.Sort
@@ -38,12 +41,13 @@ Holds s xs x = OneOf (λ (a : Numbered). IsMeant s a x) xs
 abbrev pub AddsAll : Schema → List Numbered → (Atom → Type 0) → List Numbered → Type 0
 AddsAll s old P new = (x : Atom) → Holds s new x ↔ (Holds s old x ⊎ P x)
 
--- The rows lead from each declaration to all that it is made of, through names and SELECTs (ISO 10303-11, 8.3.2
--- and 8.4.2).
-pub record AreParts (s : Schema) (rows : Graph) : Type 0 where
+-- By declaration, what it leads to through names and SELECTs that gives values by itself, and whether it is a SELECT or
+-- leads to one (ISO 10303-11, 8.3.2 and 8.4.2).
+pub record AreParts (s : Schema) (t : Parts) : Type 0 where
   pub graph : Graph
   pub drawn : IsGraphOf s parts_in graph
-  pub closed : IsClosure graph rows
+  pub giving : IsGathered graph (own_row wanted.Giving s) (graph_of t.giving.items)
+  pub selects : IsGathered graph (own_row wanted.Selects s) (graph_of t.selects.items)
 
 -- The tables are those of the schema.
 pub record AreTables (t : Tables) : Type 0 where
@@ -52,7 +56,7 @@ pub record AreTables (t : Tables) : Type 0 where
   pub few : length t.data_types.now.forms.items < 2 ^ 32
   pub rows : AreRowsOf whole_types (all_data_types (schema_of t.names.now.schema.now))
       (schema_of t.names.now.schema.now).declarations (graph_of t.data_types.now.rows.items)
-  pub parts : AreParts (schema_of t.names.now.schema.now) (graph_of t.parts.now)
+  pub parts : AreParts (schema_of t.names.now.schema.now) t.parts.now
 
 -- the schema of tables
 abbrev pub schema_at : Tables → Schema

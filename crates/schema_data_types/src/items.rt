@@ -1,6 +1,6 @@
 //! Items by name.
 
-ghost use Rattle.std.specs.Prelude.{◌≡◌, ◌<◌, ◌&&◌, ◌||◌, ◌↔◌, length, not, is_some, IfOk, OnOk, IsTrue};
+ghost use Rattle.std.specs.Prelude.{◌≡◌, ◌<◌, ◌||◌, ◌↔◌, length, is_some, IfOk, OnOk, IsTrue};
 ghost use Rattle.std.specs.List.{list_any};
 ghost use Rattle.indexmap.specs.IndexMap.{get};
 ghost use Rattle.digraph.specs.Graphs.{graph_of};
@@ -12,7 +12,6 @@ ghost use Rattle.schema_semantics.specs.Faults.{IsResolved, items_of as of_under
 ghost use Rattle.schema_semantics.specs.Sets.{IsItemOf};
 ghost use Rattle.schema_names.specs.Words.{same_word};
 ghost use Rattle.schema_data_types.specs.Values.{AreTables, schema_at};
-ghost use Rattle.schema_data_types.specs.Selects.{is_over_select};
 ghost use Rattle.schema_data_types.specs.Items.{AreItems, has_item};
 ghost use Rattle.schema_data_types.specs.Enumerated.{
   includes,
@@ -135,11 +134,11 @@ fn any_has_item(tables: &Tables<'_, '_, '_>, parts: &[u32], name: Word<'_>) -> b
 
 /// Whether a defined type, or one that it is made of, is an enumeration with an item of this name.
 fn has_item_within(tables: &Tables<'_, '_, '_>, part: u32, name: Word<'_>) -> bool
-    requires { part < length tables.now.parts.now }
-    ensures { result ≡ has_item_within (schema_at tables.now) (graph_of tables.now.parts.now)
-        (capitals name.entry) part }
+    requires { part < length tables.now.parts.now.giving.items }
+    ensures { result ≡ has_item_within (schema_at tables.now)
+        (graph_of tables.now.parts.now.giving.items) (capitals name.entry) part }
 {
-    has_item_at(tables, part, name) || any_has_item(tables, &tables.parts[part as usize], name)
+    any_has_item(tables, &tables.parts.giving[part as usize], name)
 }
 
 /// Whether a defined type is an enumeration with an item of this name, under whatever names.

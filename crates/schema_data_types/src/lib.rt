@@ -4,6 +4,8 @@
 
 pub mod alike;
 pub mod forms;
+pub mod gathering;
+pub mod giving;
 pub mod items;
 pub mod laws;
 pub mod shape_table;

@@ -12,22 +12,24 @@ ghost use Rattle.std.specs.Prelude.{
   Some,
   length,
   slice_get,
+  ◌↔◌,
   OnOk,
 };
-ghost use Rattle.std.specs.List.{cons_option, list_any};
+ghost use Rattle.std.specs.List.{cons_option};
 ghost use Rattle.digraph.specs.Graphs.{graph_of, has, next};
 ghost use Rattle.express_syntax.specs.Schemas.{DataType as DataTypeTree, named};
 ghost use Rattle.express_syntax.specs.Views.{declaration_of, underlying_of};
 ghost use Rattle.express_syntax.specs.SchemaViews.{schema_of};
 ghost use Rattle.schema_semantics.specs.Names.{Name, StandsFor};
-ghost use Rattle.schema_semantics.specs.Shapes.{IsOf};
+ghost use Rattle.schema_semantics.specs.Shapes.{IsOf, IsOverSelect};
 ghost use Rattle.schema_names.specs.Numbers.{number_of, HasNumber};
 ghost use Rattle.schema_data_types.specs.Numbered.{all_data_types};
 ghost use Rattle.schema_data_types.specs.Values.{AddsAll, AreTables, schema_at};
 ghost use Rattle.schema_data_types.specs.Leaves.{leaf_atom, LeafGives, Gives, OneGives};
-ghost use Rattle.schema_data_types.specs.Selects.{is_select, is_select_at, is_over_select};
+ghost use Rattle.schema_data_types.specs.Selects.{is_select};
 
 use crate::forms::{DataTypes, Form};
+use crate::giving::Parts;
 use express_syntax::tree::{Declaration, Underlying};
 use schema_names::names::Names;
 use std::alloc::AllocError;
@@ -59,8 +61,8 @@ pub enum Atom {
 pub struct Tables<'a, 't, 'r> {
     pub names: &'r Names<'a, 't>,
     pub data_types: &'r DataTypes,
-    /// By declaration, all that it is made of.
-    pub parts: &'r [Vec<u32>],
+    /// What types and entities lead to that gives values by itself.
+    pub parts: &'r Parts,
 }
 
 /// What a data type without a name gives, by its form and its number.
@@ -109,7 +111,7 @@ fn add_leaf(
 }
 
 /// Whether a SELECT is declared.
-fn is_select(declaration: &Declaration<'_>) -> bool
+pub(crate) fn is_select(declaration: &Declaration<'_>) -> bool
     ensures { result ≡ is_select (declaration_of declaration.now) }
 {
     match declaration {
@@ -118,35 +120,14 @@ fn is_select(declaration: &Declaration<'_>) -> bool
     }
 }
 
-/// Whether a SELECT is declared at this number.
-fn is_select_at(tables: &Tables<'_, '_, '_>, part: u32) -> bool
-    ensures { result ≡ is_select_at (schema_at tables.now) part }
-{
-    match tables.names.at(part) {
-        Some(declaration) => is_select(declaration),
-        None => false,
-    }
-}
-
-/// Whether a SELECT is declared at one of these numbers.
-fn any_select(tables: &Tables<'_, '_, '_>, parts: &[u32]) -> bool
-    ensures { result ≡ list_any (is_select_at (schema_at tables.now)) parts.now }
-{
-    for part in parts {
-        if is_select_at(tables, *part) {
-            return true;
-        }
-    }
-    false
-}
-
 /// Whether a defined type is a SELECT, or stands for one under whatever names.
 pub fn is_over_select(tables: &Tables<'_, '_, '_>, part: u32) -> bool
-    requires { part < length tables.now.parts.now }
-    ensures { result ≡ is_over_select (schema_at tables.now) (graph_of tables.now.parts.now)
-        part }
+    requires tables { AreTables tables.now }
+    requires named { (n : Name) × HasNumber (schema_at tables.now) n part }
+    ensures { (n : Name) → HasNumber (schema_at tables.now) n part
+        → (result ≡ true) ↔ IsOverSelect (schema_at tables.now) (named n) }
 {
-    is_select_at(tables, part) || any_select(tables, &tables.parts[part as usize])
+    tables.parts.selects[part as usize].contains(&0)
 }
 
 /// The number of the data type behind the `=` of a defined type, where there is one.
@@ -244,8 +225,12 @@ pub fn add_named(
         (IsOf (schema_at tables.now) (named n)) atoms.new.items) }
 {
     let is_of_select = is_over_select(tables, part);
-    add_part(tables, part, is_of_select, atoms)?;
-    add_parts(tables, &tables.parts[part as usize], is_of_select, atoms)
+    add_parts(
+        tables,
+        &tables.parts.giving[part as usize],
+        is_of_select,
+        atoms,
+    )
 }
 
 /// Adds what the values of what a name means may be; nothing where it means nothing.
@@ -269,7 +254,8 @@ fn add_meant(
 /// Adds what the values of the data type of a number may be, SELECTs being replaced by their items
 /// (ISO 10303-11, 8.4.2).
 ///
-/// It takes time for each type and entity that the data type's name leads to.
+/// It takes time for each type and entity that the data type's name leads to and that gives values
+/// by itself.
 pub fn add_values(
     tables: &Tables<'_, '_, '_>,
     number: u32,

@@ -13,6 +13,7 @@ use Rattle.schema_places.specs.Above.{AreAbove}
 use Rattle.schema_places.specs.Places.{all_places, HavePlaces}
 use Rattle.schema_places.specs.Lines.{HaveLines}
 use Rattle.schema_bases.specs.Seen.{name_at}
+use Rattle.schema_rules.specs.Ordered.{is_place}
 use Rattle.schema_rules.specs.declared.inverses.InverseAttribute.{InverseAttribute as InverseRow}
 use Rattle.conformance.specs.Attributes.{Source, explicit, derived, inverse, unclear, IsDeclaring, IsUnderived, IsSource, IsNamed, IsInGroup}
 use Rattle.schema_sources.specs.Seen.{types_seen, AreTypes, inverses_seen}
@@ -21,7 +22,7 @@ use Rattle.schema_sources.specs.declared.declaring.Declarer.{Declarer}
 use Rattle.schema_sources.specs.declared.declaring.Declarer.TheVariants.{Nobody, One, Several}
 use Rattle.schema_sources.specs.Deriving.{first_giving, derives}
 use Rattle.schema_sources.specs.Lowest.{leads, lowest_from, is_below}
-use Rattle.schema_sources.specs.Stored.{is_place, is_inverse, IsOwnPlace, IsStored, AreInverses}
+use Rattle.schema_sources.specs.Stored.{is_inverse, IsOwnPlace, IsStored, AreInverses}
 use Rattle.schema_sources.specs.Grouping.{IsInherited, IsMember}
 use Rattle.schema_sources.proofs.Naming.{nobody-declares, several-declare, one-declares, number-at, declares-alone, named-none, named-one, named-two}
 use Rattle.schema_sources.proofs.Giving.{derives-first}

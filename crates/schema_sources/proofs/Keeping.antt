@@ -12,22 +12,25 @@ use Rattle.express_syntax.specs.Profile.{Every}
 use Rattle.schema_semantics.specs.Names.{Name, Among, IsEntity, DeclaresExplicit, Declares, explicit_names, derived_names, inverse_names, own_names, entities, listed}
 use Rattle.schema_semantics.specs.Faults.{IsResolved}
 use Rattle.schema_semantics.specs.Attributes.{Place, IsNth}
-use Rattle.schema_semantics.proofs.Lists.{among-either, among-map, among-flat}
+use Rattle.schema_semantics.proofs.Lists.{among-either, among-map, among-flat, every-at}
 use Rattle.schema_semantics.proofs.Placed.{is-same, same-itself, explicit-have-places}
 use Rattle.schema_semantics.proofs.Climbing.{places-are-explicit}
 use Rattle.schema_semantics.proofs.Supertypes.{entity-name}
 use Rattle.schema_names.specs.Numbers.{number_of, HasNumber, AreAt}
-use Rattle.schema_names.proofs.Items.{front-at, back-at}
+use Rattle.schema_names.proofs.Items.{front-at, back-at, mapped-at}
 use Rattle.schema_places.specs.Places.{all_places, HavePlaces}
+use Rattle.schema_places.proofs.Distinct.{at-among}
 use Rattle.conformance.specs.Bases.{Domain}
 use Rattle.conformance.specs.Rules.{InverseAttribute, IsInverseAttribute, InTurn, declared_inverses, is_own}
 use Rattle.schema_bases.specs.Seen.{name_at}
 use Rattle.schema_rules.specs.Seen.{place_at, or_nowhere, inverse_seen, IsNumberedInverse}
 use Rattle.schema_rules.specs.declared.inverses.InverseAttribute.{InverseAttribute as InverseRow}
 use Rattle.conformance.specs.Attributes.{Source, explicit, derived, inverse, unclear, IsInverse, DerivesIt, IsSource, IsUnderived}
-use Rattle.schema_sources.specs.Stored.{is_place, is_inverse, IsOwnPlace, DeclaresInverse, IsStored, IsStoredAt, AreInverses}
+use Rattle.schema_rules.specs.Ordered.{is_place}
+use Rattle.schema_sources.specs.Stored.{is_inverse, HasTest, IsOwnPlace, DeclaresInverse, IsStored, IsStoredAt, AreInverses}
 use Rattle.schema_sources.proofs.Members.{both, both-so, has-first, has-later, has-split, none-found, one-found, one-number}
 use Rattle.schema_sources.proofs.Positions.{first-found, none-there, Decides}
+use Rattle.schema_sources.proofs.Apart.{first-alone, one-inverse}
 
 -- what stands at the numbers of a row
 in-row : (all : List Place) (row : List ℕ) (ps : List Place) (q : ℕ) → AreAt all row ps → has row q ≡ true
@@ -178,6 +181,22 @@ module _ (s : Schema) (p a : Name) (i : ℕ) (k : HasNumber s p i) (is : p ≡ n
         first-found (inverse_seen s) (is_inverse i a) IsIt 0 rows n (decide-each rows h.numbered) e in
         let same : j ≡ n = omega (arith, counted) in
         (y, subst (λ x. slice_get (map (inverse_seen s) rows) x ≡ Some y) same at, first)
+
+    -- one that passes the test is the first
+    pub inverse-tested : IsResolved s → (n : ℕ) → HasTest (is_inverse i a) rows n
+        → (y : InverseAttribute) × (slice_get (map (inverse_seen s) rows) n ≡ Some y)
+        × IsInverse s (map (inverse_seen s) rows) p a y
+    unfolding IsIt
+    inverse-tested r n (x, at, t) =
+        let there = mapped-at (inverse_seen s) rows n x at in
+        let it = (decides x (every-at (IsNumberedInverse s) x rows h.numbered (at-among rows n x at))).0 t in
+        let (domain, turns) = h.declared in (
+          inverse_seen s x,
+          there,
+          first-alone (λ (j : InverseAttribute). (j.entity ≡ p) × (j.name ≡ a)) (map (inverse_seen s) rows) n
+              (inverse_seen s x) there it (λ m z here q. one-inverse s domain r (map (inverse_seen s) rows) turns m n z
+              (inverse_seen s x) here there (q.0 ∙ sym it.0) (q.1 ∙ sym it.1)),
+        )
 
     pub inverse-there : DeclaresInverse s p a → position_from (is_inverse i a) 0 rows ≡ None → ⊥
     unfolding IsIt

@@ -1,5 +1,6 @@
 pub mod Members
 pub mod Positions
+pub mod Apart
 pub mod Giving
 pub mod Above
 pub mod Least

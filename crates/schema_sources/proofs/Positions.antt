@@ -1,13 +1,33 @@
 -- The first of a list that passes a test, by its number.
-use Rattle.std.specs.Prelude.{◌≡◌, ℕ, zero, suc, ◌+◌, ◌<◌, Bool, true, false, cond, List, [], ◌∷◌, None, Some, map, slice_get, ◌↔◌}
+use Rattle.std.specs.Prelude.{◌≡◌, ℕ, zero, suc, ◌+◌, ◌<◌, Bool, true, false, cond, List, [], ◌∷◌, Option, None, Some, map, slice_get, ◌↔◌}
 use Rattle.std.specs.List.{position_from}
 use Rattle.std.proofs.Common.{refl, inl, inr, ap, sym, subst, ◌∙◌, arith}
 use Rattle.express_syntax.specs.Profile.{Every}
 use Rattle.schema_semantics.specs.Names.{Among, IsFirst}
 use Rattle.schema_semantics.specs.Attributes.{IsNth}
+use Rattle.schema_sources.specs.Stored.{HasTest, IsTested}
 
 one-place : (k n : ℕ) → Some k ≡ Some n → n ≡ k + 0
 one-place k n e = let same : k ≡ n = cc in omega (arith, same)
+
+-- what stands where the first that passes a test is found
+position-tested : {A : Type 0} (test : A → Bool) (k : ℕ) (xs : List A) (n : ℕ) → position_from test k xs ≡ Some n
+    → (i : ℕ) × (n ≡ k + i) × HasTest test xs i
+position-tested test k [] n h = absurd (cc)
+position-tested test k (x ∷ xs) n h = by (test x) refl h (position-tested test (k + 1) xs n)
+  where
+    by : (b : Bool) → test x ≡ b → cond b (Some k) (position_from test (k + 1) xs) ≡ Some n
+        → (position_from test (k + 1) xs ≡ Some n → (i : ℕ) × (n ≡ k + 1 + i) × HasTest test xs i)
+        → (i : ℕ) × (n ≡ k + i) × HasTest test (x ∷ xs) i
+    by true e h more = (0, one-place k n h, (x, refl, e))
+    by false e h more = let (i, counted, passes) = more h in (suc i, omega (arith, counted), passes)
+
+pub is-tested : {A : Type 0} (test : A → Bool) (xs : List A) (o : Option ℕ) → o ≡ position_from test 0 xs
+    → IsTested test xs o
+is-tested test xs None e = sym e
+is-tested test xs (Some n) e =
+    let (i, counted, passes) = position-tested test 0 xs n (sym e) in
+    let same : i ≡ n = omega (arith, counted) in subst (HasTest test xs) same passes
 
 module _ {A : Type 0} (test : A → Bool) where
   -- what stands there passes, and what stands before doesn't

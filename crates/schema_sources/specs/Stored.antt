@@ -1,10 +1,11 @@
 -- Attributes whose values are stored: explicit ones, and inverse ones by who refers (ISO 10303-11, 9.2.1.1 and 9.2.1.3).
-use Rattle.std.specs.Prelude.{◌≡◌, ℕ, Bool, false, ◌&&◌, List, Option, None, Some, MatchOption, slice_get, eqb, bytes_eq, map, ◌⊎◌}
+use Rattle.std.specs.Prelude.{◌≡◌, ℕ, Bool, true, ◌&&◌, List, Option, None, Some, MatchOption, slice_get, eqb, bytes_eq, map, ◌⊎◌}
+use Rattle.std.specs.List.{position_from}
 use Rattle.express_syntax.specs.ExpressionViews.{capitals}
 use Rattle.express_syntax.specs.Schemas.{Schema, Entity}
 use Rattle.express_syntax.specs.Profile.{Every}
 use Rattle.schema_semantics.specs.Names.{Name, Among, IsEntityAt, inverse_names, DeclaresExplicit}
-use Rattle.schema_semantics.specs.Attributes.{Place, same_place}
+use Rattle.schema_semantics.specs.Attributes.{Place}
 use Rattle.schema_places.specs.Places.{all_places}
 use Rattle.conformance.specs.Bases.{Domain}
 use Rattle.conformance.specs.Rules.{InverseAttribute, IsInverseAttribute, InTurn, declared_inverses}
@@ -12,12 +13,16 @@ use Rattle.schema_rules.specs.Seen.{inverse_seen, IsNumberedInverse}
 use Rattle.schema_rules.specs.declared.inverses.InverseAttribute.{InverseAttribute as InverseRow}
 use Rattle.conformance.specs.Attributes.{Source, explicit, derived, inverse, unclear, IsInverse}
 
-abbrev pub is_place : Place → Option Place → Bool
-is_place p None = false
-is_place p (Some q) = same_place q p
-
 abbrev pub is_inverse : ℕ → Name → InverseRow → Bool
 is_inverse p a i = eqb i.entity p && bytes_eq (capitals i.name) a
+
+-- what stands at a number passes a test
+abbrev pub HasTest : {A : Type 0} → (A → Bool) → List A → ℕ → Type 0
+HasTest {A} test xs n = (x : A) × (slice_get xs n ≡ Some x) × (test x ≡ true)
+
+-- .. and where there is no such number, none does
+abbrev pub IsTested : {A : Type 0} → (A → Bool) → List A → Option ℕ → Type 0
+IsTested test xs o = MatchOption o (position_from test 0 xs ≡ None) (HasTest test xs)
 
 -- the number of an explicit attribute; none where it is none
 abbrev pub IsOwnPlace : Schema → Place → Option ℕ → Type 0

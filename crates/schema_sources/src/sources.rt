@@ -34,6 +34,7 @@ use crate::stored::stored_source;
 use schema_names::graphs::supertype_graph;
 use schema_places::lines::lines;
 use schema_rules::inverses::InverseAttribute;
+use schema_rules::ordered::{ordered_inverses, ordered_places};
 use schema_types::types::ResolvedTypes;
 use std::alloc::{AllocError, Global};
 use step_literals::literal::Word;
@@ -43,6 +44,11 @@ use step_literals::literal::Word;
 pub struct AttributeSources {
     /// By declaration, the line of an entity: itself, then the lines of its supertypes in turn.
     pub lines: Vec<Vec<u32>>,
+    /// The numbers of the explicit attributes, in the order of their entities' names, and then of
+    /// their own.
+    pub places: Vec<u32>,
+    /// The numbers of the inverse attributes, in the order of their entities, and then of their names.
+    pub inverses: Vec<u32>,
 }
 
 /// Where the value of an attribute is found that a type of an instance derives: the lowest, if that
@@ -107,21 +113,32 @@ fn source_of(
 {
     match lowest(schema, &sources.lines, asked, types) {
         Some(lowest) => derived_source(schema, sources, asked, lowest, types),
-        None => stored_source(schema, inverses, asked),
+        None => stored_source(schema, sources, inverses, asked),
     }
 }
 
 impl AttributeSources {
-    /// The tables of a schema whose names are resolved.
+    /// The tables of a schema whose names are resolved, and of its inverse attributes.
     ///
-    /// It takes time for each number that an entity's line takes over from a supertype.
-    pub fn of(alloc: Global, schema: &ResolvedTypes<'_, '_>) -> Result<AttributeSources, AllocError>
+    /// It takes time for each number that an entity's line takes over from a supertype, and to sort
+    /// the attributes.
+    pub fn of(
+        alloc: Global,
+        schema: &ResolvedTypes<'_, '_>,
+        inverses: &[InverseAttribute<'_>],
+    ) -> Result<AttributeSources, AllocError>
         requires { IsMade schema.now }
         ensures { IfOk result (AreSources (schema_in schema.now)) }
     {
         let supertypes = supertype_graph(alloc, &schema.names)?;
         let lines = lines(alloc, &schema.names, &supertypes)?;
-        Ok(AttributeSources { lines })
+        let places = ordered_places(alloc, &schema.places.attributes)?;
+        let inverses = ordered_inverses(alloc, inverses)?;
+        Ok(AttributeSources {
+            lines,
+            places,
+            inverses,
+        })
     }
 }
 

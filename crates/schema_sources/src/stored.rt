@@ -1,7 +1,8 @@
 //! Where the value of an attribute is found that no type of an instance derives
 //! (ISO 10303-11, 9.2.1.1 and 9.2.1.3).
 
-ghost use Rattle.std.specs.Prelude.{◌≡◌, ℕ, slice_get};
+ghost use Rattle.std.specs.Prelude.{◌≡◌, ℕ, true, IfSome, slice_get};
+ghost use Rattle.digraph.specs.Graphs.{graph_of, next};
 ghost use Rattle.std.specs.List.{find, position_from};
 ghost use Rattle.express_syntax.specs.ExpressionViews.{capitals};
 ghost use Rattle.schema_places.specs.Places.{places_of};
@@ -15,9 +16,11 @@ ghost use Rattle.schema_sources.specs.Seen.{
   source_seen,
   IsNumbered,
 };
+ghost use Rattle.schema_rules.specs.Ordered.{is_place};
 ghost use Rattle.schema_sources.specs.Stored.{
-  is_place,
   is_inverse,
+  HasTest,
+  IsTested,
   IsOwnPlace,
   IsStored,
   IsStoredAt,
@@ -26,21 +29,16 @@ ghost use Rattle.schema_sources.specs.Stored.{
 
 use crate::derivations::{Asked, row_of};
 use crate::source::Source;
+use crate::sources::AttributeSources;
 use schema_places::attributes::Place;
+use schema_places::own::{Meant, declares_at};
 use schema_rules::inverses::InverseAttribute;
+use schema_rules::ordered::{find_inverse, find_place, is_place};
 use schema_types::types::ResolvedTypes;
 use step_literals::literal::Word;
 
-/// Whether an explicit attribute has this number, this entity and this name.
-fn is_place(places: &[Place<'_, '_>], number: u32, entity: Word<'_>, name: Word<'_>) -> bool
-    ensures { result ≡ is_place (capitals entity.entry, capitals name.entry)
-        (slice_get (places_of places.now) number) }
-{
-    match places.get(number as usize) {
-        Some(place) => *place.entity == entity && *place.attribute == name,
-        None => false,
-    }
-}
+/// So many attributes of an entity are looked at one by one.
+const FEW: usize = 16;
 
 /// The first of these numbers that is the one of the explicit attribute of this entity and name.
 fn place_among(
@@ -57,8 +55,38 @@ fn place_among(
         .copied()
 }
 
+/// The number of the attribute that is asked for, where it is explicit, of an entity with many
+/// attributes.
+fn place_among_many(
+    schema: &ResolvedTypes<'_, '_>,
+    sources: &AttributeSources,
+    entity: Word<'_>,
+    asked: Asked<'_>,
+    row: &[u32],
+) -> Option<u32>
+    requires made { IsMade schema.now }
+    requires number { HasNumber (schema_in schema.now) (capitals entity) asked.entity }
+    requires entity { IsEntity (schema_in schema.now) (capitals entity) }
+    requires row { row.now ≡ next (graph_of schema.now.places.rows.items) asked.entity }
+    ensures { IsOwnPlace (schema_in schema.now)
+        (capitals entity.entry, capitals asked.entry.name) result }
+{
+    if !declares_at(&schema.names, asked.entity, Meant::Explicit, asked.name) {
+        return None;
+    }
+    let places = schema.places.attributes.as_slice();
+    match find_place(places, &sources.places, entity, asked.name) {
+        Some(place) => Some(place),
+        None => place_among(places, row, entity, asked.name),
+    }
+}
+
 /// The number of the attribute that is asked for, where it is explicit.
-fn own_place(schema: &ResolvedTypes<'_, '_>, asked: Asked<'_>) -> Option<u32>
+fn own_place(
+    schema: &ResolvedTypes<'_, '_>,
+    sources: &AttributeSources,
+    asked: Asked<'_>,
+) -> Option<u32>
     requires made { IsMade schema.now }
     requires number { HasNumber (schema_in schema.now) (name_at (schema_in schema.now) asked.entity)
         asked.entity }
@@ -71,6 +99,9 @@ fn own_place(schema: &ResolvedTypes<'_, '_>, asked: Asked<'_>) -> Option<u32>
         return None;
     };
     let row = row_of(&schema.places.rows, asked.entity);
+    if row.len() > FEW {
+        return place_among_many(schema, sources, entity, asked, row);
+    }
     place_among(&schema.places.attributes, row, entity, asked.name)
 }
 
@@ -81,8 +112,38 @@ fn is_inverse(inverse: &InverseAttribute<'_>, asked: Asked<'_>) -> bool
     inverse.entity == asked.entity && inverse.name == asked.name
 }
 
-/// The number of the inverse attribute that is asked for.
-fn inverse_number(inverses: &[InverseAttribute<'_>], asked: Asked<'_>) -> Option<usize>
+/// Whether the inverse attribute of a number is the one that is asked for.
+fn is_inverse_at(inverses: &[InverseAttribute<'_>], number: u32, asked: Asked<'_>) -> bool
+    ensures { result ≡ true → HasTest (is_inverse asked.entry.entity (capitals asked.entry.name))
+        inverses.now number }
+{
+    match inverses.get(number as usize) {
+        Some(inverse) => is_inverse(inverse, asked),
+        None => false,
+    }
+}
+
+/// The number of the inverse attribute that is asked for, as a search finds it. None says nothing.
+fn searched_inverse(
+    sources: &AttributeSources,
+    inverses: &[InverseAttribute<'_>],
+    asked: Asked<'_>,
+) -> Option<u32>
+    ensures { IfSome result
+        (HasTest (is_inverse asked.entry.entity (capitals asked.entry.name)) inverses.now) }
+{
+    let Some(found) = find_inverse(inverses, &sources.inverses, asked.entity, asked.name) else {
+        return None;
+    };
+    if is_inverse_at(inverses, found, asked) {
+        Some(found)
+    } else {
+        None
+    }
+}
+
+/// The number of the inverse attribute that is asked for; all are looked at.
+fn inverse_among(inverses: &[InverseAttribute<'_>], asked: Asked<'_>) -> Option<usize>
     ensures { result ≡ position_from (is_inverse asked.entry.entity (capitals asked.entry.name)) 0
         inverses.now }
 {
@@ -91,9 +152,25 @@ fn inverse_number(inverses: &[InverseAttribute<'_>], asked: Asked<'_>) -> Option
         .position(|inverse| is_inverse(inverse, asked))
 }
 
+/// The number of the inverse attribute that is asked for.
+fn inverse_number(
+    sources: &AttributeSources,
+    inverses: &[InverseAttribute<'_>],
+    asked: Asked<'_>,
+) -> Option<usize>
+    ensures { IsTested (is_inverse asked.entry.entity (capitals asked.entry.name)) inverses.now
+        result }
+{
+    match searched_inverse(sources, inverses, asked) {
+        Some(number) => Some(number as usize),
+        None => inverse_among(inverses, asked),
+    }
+}
+
 /// Where the value of an explicit or an inverse attribute is found.
 pub(crate) fn stored_source(
     schema: &ResolvedTypes<'_, '_>,
+    sources: &AttributeSources,
     inverses: &[InverseAttribute<'_>],
     asked: Asked<'_>,
 ) -> Source
@@ -111,10 +188,10 @@ pub(crate) fn stored_source(
     ensures numbered { IsNumbered (schema_in schema.now)
         (inverses_seen (schema_in schema.now) inverses.now) result }
 {
-    if let Some(place) = own_place(schema, asked) {
+    if let Some(place) = own_place(schema, sources, asked) {
         return Source::Explicit(place);
     }
-    match inverse_number(inverses, asked) {
+    match inverse_number(sources, inverses, asked) {
         Some(number) => Source::Inverse(number),
         None => Source::Unclear,
     }

@@ -4,10 +4,8 @@ ghost use Rattle.std.specs.Prelude.{◌≡◌, ◌↔◌, ◌⊎◌, false, IsTr
 ghost use Rattle.express_syntax.specs.Trees.{comparison, interval};
 ghost use Rattle.express_syntax.specs.ExpressionViews.{tree_of};
 ghost use Rattle.express_syntax.specs.SchemaViews.{schema_of};
-ghost use Rattle.express_syntax.specs.Schemas.{named};
 ghost use Rattle.express_syntax.specs.Views.{if_some};
 ghost use Rattle.schema_semantics.specs.Names.{Name, IsEntity, IsType};
-ghost use Rattle.schema_semantics.specs.Shapes.{IsOverSelect};
 ghost use Rattle.schema_semantics.specs.Reasons.{
   HasBareValue,
   MayBeDeep,
@@ -19,7 +17,6 @@ ghost use Rattle.schema_semantics.specs.Reasons.{
   IsBadKind,
 };
 ghost use Rattle.schema_names.specs.Numbers.{HasNumber};
-ghost use Rattle.schema_data_types.specs.Values.{AreTables, schema_at};
 ghost use Rattle.schema_expressions.specs.Scopes.{IsScope, schema_around, own_in, variables_in};
 ghost use Rattle.schema_surveys.specs.Questions.{
   tested,
@@ -32,7 +29,7 @@ ghost use Rattle.schema_surveys.specs.Questions.{
 use crate::atoms::{has_bare_value, is_deep, is_unordered};
 use express_syntax::expression::{Expr, Function, Relation};
 use express_syntax::tree::Declaration;
-use schema_data_types::values::Tables;
+use schema_data_types::values::is_over_select;
 use schema_expressions::said::said_type;
 use schema_expressions::scope::Scope;
 use schema_expressions::sets::{possible, possible_elements};
@@ -102,16 +99,6 @@ fn is_entity(names: &Names<'_, '_>, part: u32) -> bool
         Declaration::Type(_) => false,
         Declaration::Skipped(_) => false,
     }
-}
-
-/// Whether a defined type of this number is over a SELECT.
-fn is_over_select(tables: &Tables<'_, '_, '_>, part: u32) -> bool
-    requires tables { AreTables tables.now }
-    requires numbered { (n : Name) × HasNumber (schema_at tables.now) n part }
-    ensures { (n : Name) → HasNumber (schema_at tables.now) n part
-        → IsTrue result ↔ IsOverSelect (schema_at tables.now) (named n) }
-{
-    schema_data_types::values::is_over_select(tables, part)
 }
 
 /// Whether a name, of which a string tells the number, tests the type of an expression

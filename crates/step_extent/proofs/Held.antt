@@ -22,7 +22,7 @@ use Rattle.schema_rules.specs.declared.gathering.Gathering.{Gathering}
 use Rattle.schema_rules.specs.declared.gathering.Gathering.TheVariants as gatherings
 use Rattle.schema_rules.specs.declared.inverses.InverseAttribute.{InverseAttribute}
 use Rattle.population_typed.specs.Ordering.{picked_at, position_among}
-use Rattle.population_typed.specs.Seen.{place_at, slots_seen, instance_seen, instances_seen}
+use Rattle.population_typed.specs.Rows.{place_at, slots_seen, instance_seen, instances_seen}
 use Rattle.population_typed.specs.Whole.{form_among, ArePlaced, AreNumbered}
 use Rattle.population_typed.proofs.Found.{value-at-number}
 use Rattle.step_extent.specs.Gathering.{position_by, position_at}

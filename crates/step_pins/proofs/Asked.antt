@@ -1,6 +1,5 @@
 -- What the data types of an attribute ask of its value, by number.
 use Rattle.std.specs.Prelude.{◌≡◌, ℕ, Bool, true, false, cond, List, [], ◌∷◌, ◌++◌, map, Option, None, Some, slice_get, ◌↔◌}
-use Rattle.std.specs.BTreeSet.{BTreeSet}
 use Rattle.std.proofs.Common.{refl, sym, ap, subst, ◌∙◌, inl, inr}
 use Rattle.std.proofs.lemmas.List.{map-append}
 use Rattle.step_values.specs.Slots.{nth}
@@ -20,8 +19,10 @@ use Rattle.schema_uses.specs.declared.uses.Uses.{Uses}
 use Rattle.schema_uses.specs.Uses.{HasPlace, of_place, uses_at, seen, said, AreUses}
 use Rattle.population_layouts.specs.Slots.{uses_by}
 use Rattle.conformance.specs.Elements.{HasUnique}
-use Rattle.step_pins.specs.Pinning.{Pins}
-use Rattle.step_pins.proofs.Pinning.{pins-alike}
+use Rattle.step_pins.specs.Elements.{Question}
+use Rattle.step_pins.specs.Gathering.{Gathers}
+use Rattle.step_pins.specs.declared.weak_pins.WeakPins.{WeakPins}
+use Rattle.step_pins.proofs.Gathering.{gathers-alike}
 use Rattle.step_pins.specs.Holding.{may_hold}
 use Rattle.step_pins.specs.Slots.{slot_by, slots_of, asked, HasUniqueAt}
 use Rattle.step_pins.proofs.Unheld.{none-held}
@@ -81,14 +82,14 @@ module _ (s : Schema) (d : Domain) (P : Values → Type 0) (vs : Values) (i : �
     )
 
 -- the value at a position
-pub at-value : (s : Schema) (d : Domain) (P : ℕ → Values → Type 0) (vs : Values) (i : ℕ) (b : Base) (v : Value)
-    (old new : BTreeSet ℕ) → Some v ≡ nth vs i → Pins (λ y. HasUnique s d (P y) b v) old new
-    → Pins (λ y. HasUniqueAt s d (P y) vs (i, b)) old new
+pub at-value : (s : Schema) (d : Domain) (P : Question → Values → Type 0) (vs : Values) (i : ℕ) (b : Base) (v : Value)
+    (old new : WeakPins) → Some v ≡ nth vs i → Gathers (λ q. HasUnique s d (P q) b v) old new
+    → Gathers (λ q. HasUniqueAt s d (P q) vs (i, b)) old new
 at-value s d P vs i b v old new at h =
-    pins-alike (λ y. HasUnique s d (P y) b v) (λ y. HasUniqueAt s d (P y) vs (i, b)) old new
-    (λ y. (
+    gathers-alike (λ q. HasUnique s d (P q) b v) (λ q. HasUniqueAt s d (P q) vs (i, b)) old new
+    (λ q. (
       (λ k. (v, sym at, k)),
-      (λ k. subst (HasUnique s d (P y) b) (same-value k.0 v (nth vs i) k.1 (sym at)) k.2),
+      (λ k. subst (HasUnique s d (P q) b) (same-value k.0 v (nth vs i) k.1 (sym at)) k.2),
     )) h
 
 map-map : {A B C : Type 0} (f : A → B) (g : B → C) (xs : List A) → map g (map f xs) ≡ map (λ x. g (f x)) xs

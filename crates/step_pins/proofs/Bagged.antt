@@ -7,7 +7,7 @@ use Rattle.schema_semantics.specs.Names.{OneOf}
 use Rattle.conformance.specs.Populations.{Slot}
 use Rattle.conformance.specs.Standing.{InBag}
 use Rattle.population_rows.specs.declared.form.SlotForm.{SlotForm}
-use Rattle.population_typed.specs.Seen.{slots_seen}
+use Rattle.population_typed.specs.Rows.{slots_seen}
 use Rattle.step_values.specs.Slots.{nth}
 use Rattle.step_values.specs.Values.{Value, Values, none, more}
 use Rattle.step_values.proofs.Walks.{after, after_at}

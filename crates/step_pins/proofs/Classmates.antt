@@ -1,5 +1,5 @@
--- The elements of one class, by the first of them.
-use Rattle.std.specs.Prelude.{◌≡◌, ◌≢◌, ℕ, ◌==◌, Bool, true, false, cond, List, [], ◌∷◌, ◌++◌, Option, None, Some, ◌⊎◌, ◌↔◌}
+-- The instances of one class, by the first of them.
+use Rattle.std.specs.Prelude.{◌≡◌, ◌≢◌, ℕ, ◌==◌, Bool, true, false, cond, List, [], ◌∷◌, ◌++◌, length, drop, slice_get, Option, None, Some, ◌⊎◌, ◌↔◌}
 use Rattle.std.specs.BTreeMap.{BTreeMap, get}
 use Rattle.std.specs.BTreeSet.{BTreeSet}
 use Rattle.std.specs.Ordering.{nat_cmp}
@@ -8,14 +8,11 @@ use Rattle.std.proofs.lemmas.Bool.{eqb-true, eqb-false, eq-eqb}
 use Rattle.schema_semantics.specs.Names.{Among}
 use Rattle.schema_semantics.proofs.Lists.{among-left, among-right, among-either}
 use Rattle.step_equal.specs.Tables.{same_class}
-use Rattle.step_values.specs.Values.{Value, leaf, reference, typed, sequence, bag, Values, none, more}
-use Rattle.conformance.specs.Elements.{AnElement, IsReferenceTo, IsAnotherOfClass}
-use Rattle.step_values.specs.ComputedAgreement.{size}
-use Rattle.step_values.specs.Slots.{nth}
-use Rattle.step_values.proofs.Walks.{after, after_at, after_all}
 use Rattle.step_pins.specs.Pinning.{Pins}
-use Rattle.step_pins.specs.Classes.{AreFirsts, share_class, with_name, member_in, with_member, members_in, first_of, ComesBeside, ComesAfter, HasClassmate}
-use Rattle.step_pins.proofs.Pinning.{pins-alike, pins-both}
+use Rattle.step_pins.specs.Classes.{AreFirsts, share_class, with_name, with_member, members_of, first_of, ComesBeside, ComesAfter, HasClassmate}
+use Rattle.step_pins.specs.Lists.{StandsBeside}
+use Rattle.step_pins.proofs.Adding.{drop-item, drop-all}
+use Rattle.step_pins.proofs.Pinning.{pins-alike, pins-both, pins-nothing}
 
 -- two numbers are one, or not
 same-or-not : (a b : ℕ) → (a ≡ b) ⊎ (a ≢ b)
@@ -179,7 +176,7 @@ comes-after ms (Some (c, n)) y = (
   (λ t. elim t [ inl h ↦ kept ms c n y h | inr h ↦ back ms c n y (first_of ms c) refl h ]),
 )
 
--- The elements that have one of their class beside them.
+-- Instances that have one of their class beside them.
 module _ (of : ℕ → Option ℕ) where
   named : (c y : ℕ) → of y ≡ Some c → with_name y (of y) ≡ Some (c, y)
   named c y e = ap (with_name y) e
@@ -197,110 +194,92 @@ module _ (of : ℕ → Option ℕ) where
       let z : b ≡ c = cc in
       eq-eqb d b (x ∙ sym z)
 
-  -- a member is an element that has its class
-  one-member : (c y : ℕ) (v : Value) (ms : List (ℕ × ℕ)) → Among (c, y) (with_member (member_in of v) ms)
-      → ((of y ≡ Some c) × IsReferenceTo y v) ⊎ Among (c, y) ms
-  one-member c y (leaf a) ms m = inr m
-  one-member c y (typed n v) ms m = inr m
-  one-member c y (sequence vs) ms m = inr m
-  one-member c y (bag vs) ms m = inr m
-  one-member c y (reference z) ms m = by (of z) refl m
-    where
-      by : (o : Option ℕ) → of z ≡ o → Among (c, y) (with_member (with_name z o) ms)
-          → ((of y ≡ Some c) × IsReferenceTo y (reference z)) ⊎ Among (c, y) ms
-      by None e m = inr m
-      by (Some d) e (inl p) =
-          let same = pair-second (d, z) (c, y) p in
-          inl (subst (λ x. of x ≡ Some c) same (e ∙ ap Some (pair-first (d, z) (c, y) p)), ap reference same)
-      by (Some d) e (inr k) = inr k
+  -- a member is a name that has its class
+  one-member : (c y z : ℕ) (o : Option ℕ) (ms : List (ℕ × ℕ)) → of z ≡ o → Among (c, y) (with_member (with_name z o) ms)
+      → ((of y ≡ Some c) × (z ≡ y)) ⊎ Among (c, y) ms
+  one-member c y z None ms e m = inr m
+  one-member c y z (Some d) ms e (inl p) =
+      let same = pair-second (d, z) (c, y) p in
+      inl (subst (λ x. of x ≡ Some c) same (e ∙ ap Some (pair-first (d, z) (c, y) p)), same)
+  one-member c y z (Some d) ms e (inr k) = inr k
 
   stays-behind : (o : Option (ℕ × ℕ)) (m : ℕ × ℕ) (ms : List (ℕ × ℕ)) → Among m ms → Among m (with_member o ms)
   stays-behind None m ms k = k
   stays-behind (Some n) m ms k = inr k
 
-  its-member : (c y : ℕ) (v : Value) (ms : List (ℕ × ℕ)) → of y ≡ Some c → IsReferenceTo y v
-      → Among (c, y) (with_member (member_in of v) ms)
-  its-member c y v ms e is =
-      subst (λ w. Among (c, y) (with_member (member_in of w) ms)) (sym is)
+  its-member : (c y z : ℕ) (ms : List (ℕ × ℕ)) → of y ≡ Some c → z ≡ y
+      → Among (c, y) (with_member (with_name z (of z)) ms)
+  its-member c y z ms e is =
+      subst (λ x. Among (c, y) (with_member (with_name x (of x)) ms)) (sym is)
       (subst (λ o. Among (c, y) (with_member o ms)) (sym (named c y e)) (inl refl))
 
-  from-members : (c y : ℕ) (vs : Values) → Among (c, y) (members_in of vs)
-      → (of y ≡ Some c) × AnElement (IsReferenceTo y) vs
-  from-members c y none m = absurd m
-  from-members c y (more v vs) m = elim (one-member c y v (members_in of vs) m) [
+  from-members : (c y : ℕ) (l : List ℕ) → Among (c, y) (members_of of l) → (of y ≡ Some c) × Among y l
+  from-members c y [] m = absurd m
+  from-members c y (z ∷ l) m = elim (one-member c y z (of z) (members_of of l) refl m) [
     | inl h ↦ (h.0, inl h.1)
-    | inr k ↦ let h = from-members c y vs k in (h.0, inr h.1)
+    | inr k ↦ let h = from-members c y l k in (h.0, inr h.1)
   ]
 
-  to-members : (c y : ℕ) (vs : Values) → of y ≡ Some c → AnElement (IsReferenceTo y) vs
-      → Among (c, y) (members_in of vs)
-  to-members c y none e h = absurd h
-  to-members c y (more v vs) e (inl is) = its-member c y v (members_in of vs) e is
-  to-members c y (more v vs) e (inr h) =
-      stays-behind (member_in of v) (c, y) (members_in of vs) (to-members c y vs e h)
+  to-members : (c y : ℕ) (l : List ℕ) → of y ≡ Some c → Among y l → Among (c, y) (members_of of l)
+  to-members c y [] e h = absurd h
+  to-members c y (z ∷ l) e (inl is) = its-member c y z (members_of of l) e is
+  to-members c y (z ∷ l) e (inr h) =
+      stays-behind (with_name z (of z)) (c, y) (members_of of l) (to-members c y l e h)
 
-  another : (y z : ℕ) (vs : Values) → z ≢ y → share_class of y z ≡ true → AnElement (IsReferenceTo z) vs
-      → AnElement (IsAnotherOfClass (share_class of) y) vs
-  another y z none n e h = absurd h
-  another y z (more v vs) n e (inl is) = inl (z, is, n, e)
-  another y z (more v vs) n e (inr h) = inr (another y z vs n e h)
-
-  from-another : (y : ℕ) (vs : Values) → AnElement (IsAnotherOfClass (share_class of) y) vs
-      → (z : ℕ) × AnElement (IsReferenceTo z) vs × (z ≢ y) × (share_class of y z ≡ true)
-  from-another y none h = absurd h
-  from-another y (more v vs) (inl h) = (h.0, inl h.1, h.2, h.3)
-  from-another y (more v vs) (inr h) =
-      let more-there = from-another y vs h in
-      (more-there.0, inr more-there.1, more-there.2, more-there.3)
-
-  pub classmates : (y : ℕ) (vs : Values) → HasClassmate (members_in of vs) y
-      ↔ (AnElement (IsReferenceTo y) vs × AnElement (IsAnotherOfClass (share_class of) y) vs)
-  classmates y vs = (forth, back)
+  pub classmates : (y : ℕ) (l : List ℕ) → HasClassmate (members_of of l) y ↔ StandsBeside (share_class of) y l
+  classmates y l = (forth, back)
     where
-      forth : HasClassmate (members_in of vs) y
-          → AnElement (IsReferenceTo y) vs × AnElement (IsAnotherOfClass (share_class of) y) vs
+      forth : HasClassmate (members_of of l) y → StandsBeside (share_class of) y l
       forth (c, z, here, there, other) =
-          let one = from-members c y vs here in
-          let two = from-members c z vs there in
-          (one.1, another y z vs other (to-same (of y) (of z) c one.0 two.0) two.1)
+          let one = from-members c y l here in
+          let two = from-members c z l there in
+          (one.1, z, two.1, other, to-same (of y) (of z) c one.0 two.0)
 
-      back : AnElement (IsReferenceTo y) vs × AnElement (IsAnotherOfClass (share_class of) y) vs
-          → HasClassmate (members_in of vs) y
-      back (here, h) =
-          let (z, there, other, same) = from-another y vs h in
+      back : StandsBeside (share_class of) y l → HasClassmate (members_of of l) y
+      back (here, z, there, other, same) =
           let (c, e, f) = same-of (of y) (of z) same in
-          (c, z, to-members c y vs e here, to-members c z vs f there, other)
+          (c, z, to-members c y l e here, to-members c z l f there, other)
 
-  -- how far the elements of a list are gone over
-  pub record IsGone (vs : Values) (i : ℕ) (firsts : BTreeMap ℕ ℕ) (old new : BTreeSet ℕ) : Type 0 where
+  -- how far a list is gone over
+  pub record IsGone (l : List ℕ) (i : ℕ) (firsts : BTreeMap ℕ ℕ) (old new : BTreeSet ℕ) : Type 0 where
     pub before : List (ℕ × ℕ)
-    pub all : before ++ members_in of (after i vs) ≡ members_in of vs
+    pub all : before ++ members_of of (drop i l) ≡ members_of of l
     pub first : AreFirsts firsts before
     pub pinned : Pins (HasClassmate before) old new
+
+  pub gone-first : (l : List ℕ) (firsts : BTreeMap ℕ ℕ) (set : BTreeSet ℕ) → AreFirsts firsts []
+      → IsGone l 0 firsts set set
+  gone-first l firsts set h = record {
+    before = [];
+    all = refl;
+    first = h;
+    pinned = pins-nothing (HasClassmate []) set (λ y k. k.2);
+  }
 
   joined-member : (o : Option (ℕ × ℕ)) (before ms : List (ℕ × ℕ))
       → (before ++ with_member o []) ++ ms ≡ before ++ with_member o ms
   joined-member None before ms = ap (λ l. l ++ ms) (append-nil before)
   joined-member (Some m) before ms = append_assoc before (m ∷ []) ms
 
-  pub gone-next : (vs : Values) (i : ℕ) (v : Value) (firsts newer : BTreeMap ℕ ℕ) (old mid new : BTreeSet ℕ)
-      → nth vs i ≡ Some v → IsGone vs i firsts old mid
+  pub gone-next : (l : List ℕ) (i y : ℕ) (firsts newer : BTreeMap ℕ ℕ) (old mid new : BTreeSet ℕ)
+      → slice_get l i ≡ Some y → IsGone l i firsts old mid
       → ((before : List (ℕ × ℕ)) → AreFirsts firsts before
-      → AreFirsts newer (before ++ with_member (member_in of v) []) × Pins (ComesAfter before (member_in of v)) mid new)
-      → IsGone vs (i + 1) newer old new
-  gone-next vs i v firsts newer old mid new at h step =
+      → AreFirsts newer (before ++ with_member (with_name y (of y)) [])
+      × Pins (ComesAfter before (with_name y (of y))) mid new)
+      → IsGone l (i + 1) newer old new
+  gone-next l i y firsts newer old mid new at h step =
       let goes = step h.before h.first in record {
-        before = h.before ++ with_member (member_in of v) [];
-        all = joined-member (member_in of v) h.before (members_in of (after (i + 1) vs))
-            ∙ ap (λ us. h.before ++ members_in of us) (sym (after_at vs i v at)) ∙ h.all;
+        before = h.before ++ with_member (with_name y (of y)) [];
+        all = joined-member (with_name y (of y)) h.before (members_of of (drop (i + 1) l))
+            ∙ ap (λ us. h.before ++ members_of of us) (sym (drop-item l i y at)) ∙ h.all;
         first = goes.0;
-        pinned = pins-alike _ (HasClassmate (h.before ++ with_member (member_in of v) [])) old new
-            (λ y. let c = comes-after h.before (member_in of v) y in (c.1, c.0))
-            (pins-both (HasClassmate h.before) (ComesAfter h.before (member_in of v)) old mid new h.pinned goes.1);
+        pinned = pins-alike _ (HasClassmate (h.before ++ with_member (with_name y (of y)) [])) old new
+            (λ z. let c = comes-after h.before (with_name y (of y)) z in (c.1, c.0))
+            (pins-both (HasClassmate h.before) (ComesAfter h.before (with_name y (of y))) old mid new h.pinned goes.1);
       }
 
-  pub gone-all : (vs : Values) (i : ℕ) (firsts : BTreeMap ℕ ℕ) (old new : BTreeSet ℕ) → size vs ≤ i
-      → IsGone vs i firsts old new → Pins (HasClassmate (members_in of vs)) old new
-  gone-all vs i firsts old new past h =
-      subst (λ l. Pins (HasClassmate l) old new)
-      (sym (append-nil h.before) ∙ ap (λ us. h.before ++ members_in of us) (sym (after_all vs i past)) ∙ h.all) h.pinned
+  pub gone-all : (l : List ℕ) (i : ℕ) (firsts : BTreeMap ℕ ℕ) (old new : BTreeSet ℕ) → length l ≤ i
+      → IsGone l i firsts old new → Pins (HasClassmate (members_of of l)) old new
+  gone-all l i firsts old new past h =
+      subst (λ ms. Pins (HasClassmate ms) old new)
+      (sym (append-nil h.before) ∙ ap (λ us. h.before ++ members_of of us) (sym (drop-all l i past)) ∙ h.all) h.pinned

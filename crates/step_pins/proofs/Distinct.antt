@@ -7,7 +7,8 @@ use Rattle.step_values.specs.Values.{Values}
 use Rattle.population_rows.specs.declared.form.Form.{Form}
 use Rattle.step_exchange.proofs.Named.{distinct}
 use Rattle.conformance.specs.RuleLaws.{names}
-use Rattle.population_typed.specs.Seen.{instance_seen, instances_seen, section_numbers, population_seen}
+use Rattle.population_typed.specs.Rows.{instance_seen, instances_seen, section_numbers}
+use Rattle.population_typed.specs.Seen.{population_seen}
 use Rattle.population_typed.specs.Whole.{form_among}
 use Rattle.population_typed.specs.declared.population.Population.{Population}
 use Rattle.population_typed.proofs.Found.{kept, schema_seen}

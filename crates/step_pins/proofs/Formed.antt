@@ -32,7 +32,7 @@ use Rattle.schema_rules.specs.Seen.{unique_seen, IsNumberedUnique}
 use Rattle.pin_choices.specs.Chosen.{is_chosen, AreChosen}
 use Rattle.pin_choices.specs.declared.choice.Chosen.{Chosen}
 use Rattle.population_typed.specs.Ordering.{position_among, picked_at}
-use Rattle.population_typed.specs.Seen.{place_at, slots_seen}
+use Rattle.population_typed.specs.Rows.{place_at, slots_seen}
 use Rattle.population_typed.specs.Whole.{AreNumbered}
 use Rattle.population_typed.proofs.Found.{value-at-number}
 use Rattle.step_extent.proofs.Held.{take-next}

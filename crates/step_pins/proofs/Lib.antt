@@ -1,4 +1,6 @@
+pub mod Growing
 pub mod Pinning
+pub mod Gathering
 pub mod SameNames
 pub mod Listing
 pub mod Walking
@@ -16,3 +18,6 @@ pub mod Ruled
 pub mod Sided
 pub mod Assembled
 pub mod Bagged
+pub mod Stretches
+pub mod Added
+pub mod Beside

@@ -1,10 +1,11 @@
--- Names that are pinned for items of a list in turn.
+-- What weak pins tell of the items of a list in turn.
 use Rattle.std.specs.Prelude.{◌≡◌, ℕ, ◌+◌, ◌≤◌, List, [], ◌∷◌, ◌++◌, drop, length, Some, slice_get, ◌⊎◌, ◌↔◌}
-use Rattle.std.specs.BTreeSet.{BTreeSet}
 use Rattle.std.proofs.Common.{sym, subst, inl, inr}
 use Rattle.schema_semantics.specs.Names.{OneOf}
-use Rattle.step_pins.specs.Pinning.{Pins, PinsUpTo}
-use Rattle.step_pins.proofs.Pinning as pinning
+use Rattle.step_pins.specs.Elements.{Question}
+use Rattle.step_pins.specs.Gathering.{Gathers, GathersUpTo}
+use Rattle.step_pins.specs.declared.weak_pins.WeakPins.{WeakPins}
+use Rattle.step_pins.proofs.Gathering as gathering
 use Rattle.step_pins.proofs.Adding.{drop-item, drop-all}
 
 pub one-either : {A : Type 0} (P : A → Type 0) (xs ys : List A) → OneOf P (xs ++ ys) → OneOf P xs ⊎ OneOf P ys
@@ -21,20 +22,21 @@ pub one-right : {A : Type 0} (P : A → Type 0) (xs ys : List A) → OneOf P ys 
 one-right P [] ys h = h
 one-right P (x ∷ xs) ys h = inr (one-right P xs ys h)
 
-module _ {A : Type 0} (R : ℕ → A → Type 0) (xs : List A) (i : ℕ) (old : BTreeSet ℕ) where
+module _ {A : Type 0} (R : Question → A → Type 0) (xs : List A) (i : ℕ) (old : WeakPins) where
   -- one item more
-  pub next : (x : A) (mid new : BTreeSet ℕ) → slice_get xs i ≡ Some x
-      → PinsUpTo (λ y. OneOf (R y) xs) (λ y. OneOf (R y) (drop i xs)) old mid → Pins (λ y. R y x) mid new
-      → PinsUpTo (λ y. OneOf (R y) xs) (λ y. OneOf (R y) (drop (i + 1) xs)) old new
+  pub next : (x : A) (mid new : WeakPins) → slice_get xs i ≡ Some x
+      → GathersUpTo (λ q. OneOf (R q) xs) (λ q. OneOf (R q) (drop i xs)) old mid → Gathers (λ q. R q x) mid new
+      → GathersUpTo (λ q. OneOf (R q) xs) (λ q. OneOf (R q) (drop (i + 1) xs)) old new
   next x mid new at h k =
-      pinning.next (λ y. OneOf (R y) xs) (λ y. OneOf (R y) (drop i xs)) (λ y. R y x)
-      (λ y. OneOf (R y) (drop (i + 1) xs)) old mid new h k
-      (λ y. subst (λ l. OneOf (R y) l ↔ (R y x ⊎ OneOf (R y) (drop (i + 1) xs))) (sym (drop-item xs i x at))
+      gathering.next (λ q. OneOf (R q) xs) (λ q. OneOf (R q) (drop i xs)) (λ q. R q x)
+      (λ q. OneOf (R q) (drop (i + 1) xs)) old mid new h k
+      (λ q. subst (λ l. OneOf (R q) l ↔ (R q x ⊎ OneOf (R q) (drop (i + 1) xs))) (sym (drop-item xs i x at))
       ((λ t. t), (λ t. t)))
 
   -- all of them
-  pub ends : (new : BTreeSet ℕ) → length xs ≤ i
-      → PinsUpTo (λ y. OneOf (R y) xs) (λ y. OneOf (R y) (drop i xs)) old new → Pins (λ y. OneOf (R y) xs) old new
+  pub ends : (new : WeakPins) → length xs ≤ i
+      → GathersUpTo (λ q. OneOf (R q) xs) (λ q. OneOf (R q) (drop i xs)) old new
+      → Gathers (λ q. OneOf (R q) xs) old new
   ends new past h =
-      pinning.ends (λ y. OneOf (R y) xs) (λ y. OneOf (R y) (drop i xs)) old new h
-      (λ y l. subst (OneOf (R y)) (drop-all xs i past) l)
+      gathering.ends (λ q. OneOf (R q) xs) (λ q. OneOf (R q) (drop i xs)) old new h
+      (λ q l. subst (OneOf (R q)) (drop-all xs i past) l)

@@ -1,12 +1,14 @@
 -- Names that are pinned one behind the other.
-use Rattle.std.specs.Prelude.{◌≡◌, ℕ, ◌==◌, Bool, true, false, cond, ◌⊎◌, ◌↔◌, nat_lt}
+use Rattle.std.specs.Prelude.{◌≡◌, ℕ, ◌==◌, Bool, true, false, cond, IsTrue, ◌⊎◌, ◌↔◌, nat_lt}
 use Rattle.std.specs.BTreeSet.{BTreeSet}
 use Rattle.std.specs.BTreeMap.{is_at}
 use Rattle.std.specs.Ordering.{nat_cmp, is_eq}
 use Rattle.std.specs.declared.cmp.Ordering.TheVariants.{Less, Equal, Greater}
-use Rattle.std.proofs.Common.{refl, ◌∙◌, inl, inr, arith}
+use Rattle.std.proofs.Common.{refl, ◌∙◌, arith}
 use Rattle.std.proofs.lemmas.Bool.{eqb-true, ltb-true}
+use Rattle.step_equal.specs.Maps.{is_pinned}
 use Rattle.step_pins.specs.Pinning.{Pins, PinsUpTo}
+use Rattle.step_pins.proofs.Growing as growing
 
 -- a query for a name finds that name alone
 pub finds : (n y : ℕ) → is_at (nat_cmp n) y ≡ (n == y)
@@ -21,65 +23,37 @@ finds n y = by (nat_lt n y) (n == y) refl refl
     by false true a b = refl
     by false false a b = refl
 
+-- the names that are pinned
+abbrev In : BTreeSet ℕ → ℕ → Type 0
+In s y = IsTrue (is_pinned s y)
+
 pub pins-nothing : (P : ℕ → Type 0) (s : BTreeSet ℕ) → ((y : ℕ) → P y → ⊥) → Pins P s s
-pins-nothing P s none y = ((λ t. inl t), (λ t. elim t [ inl k ↦ k | inr p ↦ absurd (none y p) ]))
+pins-nothing P s none = growing.nothing P (In s) none
 
 -- P and Q hold of the same names
 pub pins-alike : (P Q : ℕ → Type 0) (old new : BTreeSet ℕ) → ((y : ℕ) → P y ↔ Q y) → Pins P old new → Pins Q old new
-pins-alike P Q old new same h y = (
-  (λ t. elim ((h y).0 t) [ inl k ↦ inl k | inr p ↦ inr ((same y).0 p) ]),
-  (λ t. (h y).1 (elim t [ inl k ↦ inl k | inr q ↦ inr ((same y).1 q) ])),
-)
+pins-alike P Q old new same h = growing.alike P Q (In old) (In new) same h
 
 pub pins-both : (P Q : ℕ → Type 0) (old mid new : BTreeSet ℕ) → Pins P old mid → Pins Q mid new
     → Pins (λ y. P y ⊎ Q y) old new
-pins-both P Q old mid new h k y = (
-  (λ t. elim ((k y).0 t) [
-    | inl m ↦ elim ((h y).0 m) [ inl o ↦ inl o | inr p ↦ inr (inl p) ]
-    | inr q ↦ inr (inr q)
-  ]),
-  (λ t. elim t [
-    | inl o ↦ (k y).1 (inl ((h y).1 (inl o)))
-    | inr u ↦ elim u [
-      | inl p ↦ (k y).1 (inl ((h y).1 (inr p)))
-      | inr q ↦ (k y).1 (inr q)
-    ]
-  ]),
-)
+pins-both P Q old mid new h k = growing.both P Q (In old) (In mid) (In new) h k
 
 -- all are left at first
 pub starts : (P : ℕ → Type 0) (s : BTreeSet ℕ) → PinsUpTo P P s s
-starts P s y = ((λ t. t), (λ t. t))
+starts P s = growing.starts P (In s)
 
 -- some of what is left
 pub next : (P left here behind : ℕ → Type 0) (old mid new : BTreeSet ℕ) → PinsUpTo P left old mid
     → Pins here mid new → ((y : ℕ) → left y ↔ (here y ⊎ behind y)) → PinsUpTo P behind old new
-next P left here behind old mid new h k cut y = (
-  (λ t. elim t [
-    | inl n ↦ elim ((k y).0 n) [
-      | inl m ↦ (h y).0 (inl m)
-      | inr x ↦ (h y).0 (inr ((cut y).1 (inl x)))
-    ]
-    | inr b ↦ (h y).0 (inr ((cut y).1 (inr b)))
-  ]),
-  (λ t. elim ((h y).1 t) [
-    | inl m ↦ inl ((k y).1 (inl m))
-    | inr l ↦ elim ((cut y).0 l) [ inl x ↦ inl ((k y).1 (inr x)) | inr b ↦ inr b ]
-  ]),
-)
+next P left here behind old mid new h k cut =
+    growing.next P left here behind (In old) (In mid) (In new) h k cut
 
 -- .. of which nothing is pinned
 pub passes : (P left behind : ℕ → Type 0) (old new : BTreeSet ℕ) → PinsUpTo P left old new
     → ((y : ℕ) → left y ↔ behind y) → PinsUpTo P behind old new
-passes P left behind old new h same y = (
-  (λ t. (h y).0 (elim t [ inl n ↦ inl n | inr b ↦ inr ((same y).1 b) ])),
-  (λ t. elim ((h y).1 t) [ inl n ↦ inl n | inr l ↦ inr ((same y).0 l) ]),
-)
+passes P left behind old new h same = growing.passes P left behind (In old) (In new) h same
 
 -- nothing is left
 pub ends : (P left : ℕ → Type 0) (old new : BTreeSet ℕ) → PinsUpTo P left old new → ((y : ℕ) → left y → ⊥)
     → Pins P old new
-ends P left old new h none y = (
-  (λ t. (h y).0 (inl t)),
-  (λ t. elim ((h y).1 t) [ inl n ↦ n | inr l ↦ absurd (none y l) ]),
-)
+ends P left old new h none = growing.ends P left (In old) (In new) h none

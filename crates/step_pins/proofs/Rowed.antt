@@ -1,6 +1,5 @@
 -- What is asked of the values of an instance, by its form.
 use Rattle.std.specs.Prelude.{◌≡◌, ℕ, zero, suc, ◌+◌, ◌<◌, true, List, [], ◌∷◌, length, map, Option, None, Some, slice_get, ◌↔◌}
-use Rattle.std.specs.BTreeSet.{BTreeSet}
 use Rattle.std.specs.Global.{Vec}
 use Rattle.std.specs.List.{AllZip}
 use Rattle.std.proofs.Common.{refl, sym, ap, subst, arith, inl, inr}
@@ -23,10 +22,12 @@ use Rattle.population_rows.specs.declared.form.Form.{Form}
 use Rattle.population_rows.specs.declared.form.SlotForm.{SlotForm}
 use Rattle.population_layouts.specs.Slots.{uses_by}
 use Rattle.conformance.specs.Elements.{HasUnique, HasUniqueValue}
-use Rattle.population_typed.specs.Seen.{or_nowhere, place_at, slots_seen, instance_seen}
+use Rattle.population_typed.specs.Rows.{or_nowhere, place_at, slots_seen, instance_seen}
 use Rattle.population_typed.specs.Whole.{form_among, ArePlaced, HaveEntities, AreNumbered}
-use Rattle.step_pins.specs.Pinning.{Pins}
-use Rattle.step_pins.proofs.Pinning.{pins-alike}
+use Rattle.step_pins.specs.Elements.{Question}
+use Rattle.step_pins.specs.Gathering.{Gathers}
+use Rattle.step_pins.specs.declared.weak_pins.WeakPins.{WeakPins}
+use Rattle.step_pins.proofs.Gathering.{gathers-alike}
 use Rattle.step_pins.specs.declared.slots.UniqueSlot.{UniqueSlot}
 use Rattle.step_pins.specs.Slots.{slot_seen, HaveNumbers, slots_of, asked, form_slots, IsUniqueRow, IsRowOf, slots_at, HasUniqueAt}
 use Rattle.step_pins.proofs.Asked.{nowhere, all-asked, types-are}
@@ -151,14 +152,14 @@ module _ (r s : Schema) (same : r ≡ s) (t : Uses) (forms listed : List Form) (
   have-numbers =
       subst (λ z. HaveNumbers z slots) (sym same) (row-numbers s t (form_among forms f) slots there)
 
-  pub pins-instance : AreUses s t → (d : Domain) → IsDomain s d → (en : Entities) → AreEntities s en
+  pub gathers-instance : AreUses s t → (d : Domain) → IsDomain s d → (en : Entities) → AreEntities s en
       → Every (AreNumbered s) listed → ArePlaced s (form_among forms f) → HaveEntities s (form_among forms f)
-      → (P : ℕ → Values → Type 0) (n k : ℕ) (vs : Values) (old new : BTreeSet ℕ)
-      → Pins (λ y. OneOf (HasUniqueAt r d (P y) vs) (map (slot_seen r) slots)) old new
-      → Pins (λ y. HasUniqueValue s d en (P y) (instance_seen s n k (form_among forms f) vs)) old new
-  pins-instance uses d dom en g numbered placed entities P n k vs old new h =
-      pins-alike (λ y. OneOf (HasUniqueAt s d (P y) vs) (map (slot_seen s) slots))
-      (λ y. HasUniqueValue s d en (P y) (instance_seen s n k (form_among forms f) vs)) old new
-      (λ y. instance-said s t uses d dom en g (P y) n k (form_among forms f) vs slots there placed entities
+      → (P : Question → Values → Type 0) (n k : ℕ) (vs : Values) (old new : WeakPins)
+      → Gathers (λ q. OneOf (HasUniqueAt r d (P q) vs) (map (slot_seen r) slots)) old new
+      → Gathers (λ q. HasUniqueValue s d en (P q) (instance_seen s n k (form_among forms f) vs)) old new
+  gathers-instance uses d dom en g numbered placed entities P n k vs old new h =
+      gathers-alike (λ q. OneOf (HasUniqueAt s d (P q) vs) (map (slot_seen s) slots))
+      (λ q. HasUniqueValue s d en (P q) (instance_seen s n k (form_among forms f) vs)) old new
+      (λ q. instance-said s t uses d dom en g (P q) n k (form_among forms f) vs slots there placed entities
       (numbers-of s forms f (subst (Every (AreNumbered s)) is numbered)))
-      (subst (λ z. Pins (λ y. OneOf (HasUniqueAt z d (P y) vs) (map (slot_seen z) slots)) old new) same h)
+      (subst (λ z. Gathers (λ q. OneOf (HasUniqueAt z d (P q) vs) (map (slot_seen z) slots)) old new) same h)

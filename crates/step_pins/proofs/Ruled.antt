@@ -20,7 +20,7 @@ use Rattle.conformance.specs.Pins.{HasUnchosenLeaf, OccursAt}
 use Rattle.conformance.specs.Rules as rules
 use Rattle.schema_rules.specs.Seen.{unique_seen, IsNumberedUnique}
 use Rattle.pin_choices.specs.Chosen.{AreChosen}
-use Rattle.population_typed.specs.Seen.{instance_seen}
+use Rattle.population_typed.specs.Rows.{instance_seen}
 use Rattle.population_typed.specs.Whole.{form_among, ArePlaced, HaveEntities, AreNumbered}
 use Rattle.step_values.specs.Slots.{nth}
 use Rattle.step_values.specs.Values.{Values}

@@ -21,7 +21,7 @@ use Rattle.schema_rules.specs.Seen.{inverse_seen, IsNumberedInverse}
 use Rattle.schema_rules.specs.declared.inverses.InverseAttribute.{InverseAttribute}
 use Rattle.step_extent.specs.Extents.{inverse_value_by}
 use Rattle.step_extent.specs.Inverses.{numbers_by, row_by}
-use Rattle.population_typed.specs.Seen.{instance_seen}
+use Rattle.population_typed.specs.Rows.{instance_seen}
 use Rattle.population_typed.specs.Whole.{form_among, AreNumbered}
 use Rattle.step_values.specs.Values.{Values}
 use Rattle.step_pins.specs.Sides.{IsOnSide, IsOnSideOf}

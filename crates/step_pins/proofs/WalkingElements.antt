@@ -1,19 +1,20 @@
--- What is pinned in a value, by its parts.
-use Rattle.std.specs.Prelude.{◌≡◌, ℕ, ◌+◌, ◌≤◌, true, false, Option, Some, ◌⊎◌}
-use Rattle.std.specs.BTreeSet.{BTreeSet}
+-- What weak pins tell of a value, by its parts.
+use Rattle.std.specs.Prelude.{◌≡◌, ℕ, ◌+◌, ◌≤◌, true, false, Option, Some, ◌⊎◌, ◌↔◌}
 use Rattle.std.proofs.Common.{refl, sym, ap, subst, ◌∙◌, inl, inr}
 use Rattle.step_values.specs.ComputedAgreement.{size}
 use Rattle.step_values.specs.Slots.{nth}
 use Rattle.step_values.specs.Values.{Value, typed, sequence, bag, Values}
-use Rattle.step_values.proofs.Walks.{after}
+use Rattle.step_values.proofs.Walks.{after, after_at, after_all}
 use Rattle.express_syntax.specs.Schemas.{Schema}
 use Rattle.schema_semantics.specs.Names.{Name}
 use Rattle.conformance.specs.Bases.{Aggregate, Base, integer, number, boolean, logical, string, binary, enumeration, entity, select, aggregate, Domain, base}
 use Rattle.conformance.specs.Fitting.{inner}
 use Rattle.conformance.specs.Elements.{HasUnique, HasUniqueAmong}
-use Rattle.step_pins.specs.Pinning.{Pins, PinsUpTo}
-use Rattle.step_pins.proofs.Pinning.{pins-alike, pins-both, pins-nothing}
-use Rattle.step_pins.proofs.Walking as walking
+use Rattle.step_pins.specs.Elements.{Question}
+use Rattle.step_pins.specs.Gathering.{Gathers, GathersUpTo}
+use Rattle.step_pins.specs.declared.weak_pins.WeakPins.{WeakPins}
+use Rattle.step_pins.proofs.Gathering.{gathers-alike, gathers-both, gathers-nothing}
+use Rattle.step_pins.proofs.Gathering as gathering
 use Rattle.step_pins.specs.Holding.{is_unique, may_hold, IsUnique, HasInElements}
 use Rattle.step_pins.proofs.Unheld.{not-both, none-held-among}
 
@@ -36,78 +37,85 @@ unique-aggregate (entity n) e = absurd (cc)
 unique-aggregate (select m) e = absurd (cc)
 unique-aggregate (aggregate a) e = (a, refl, e)
 
-module _ (s : Schema) (d : Domain) (P : ℕ → Values → Type 0) (old new : BTreeSet ℕ) where
+module _ (s : Schema) (d : Domain) (P : Question → Values → Type 0) (old new : WeakPins) where
   -- a typed value of an item of a SELECT
   pub in-typed : (b c : Base) (word : Name) (v w : Value) → typed word v ≡ w → inner s d b word ≡ Some c
-      → Pins (λ y. HasUnique s d (P y) c v) old new → Pins (λ y. HasUnique s d (P y) b w) old new
+      → Gathers (λ q. HasUnique s d (P q) c v) old new → Gathers (λ q. HasUnique s d (P q) b w) old new
   in-typed b c word v w is at h =
-      subst (λ x. Pins (λ y. HasUnique s d (P y) b x) old new) is
-      (pins-alike (λ y. HasUnique s d (P y) c v) (λ y. HasUnique s d (P y) b (typed word v)) old new
-      (λ y. (
+      subst (λ x. Gathers (λ q. HasUnique s d (P q) b x) old new) is
+      (gathers-alike (λ q. HasUnique s d (P q) c v) (λ q. HasUnique s d (P q) b (typed word v)) old new
+      (λ q. (
         (λ k. (c, at, k)),
-        (λ k. subst (λ e. HasUnique s d (P y) e v) (same-base k.0 c (inner s d b word) k.1 at) k.2),
+        (λ k. subst (λ e. HasUnique s d (P q) e v) (same-base k.0 c (inner s d b word) k.1 at) k.2),
       )) h)
 
   -- both parts of what is asked of a LIST or ARRAY
-  pub in-sequence : (b : Base) (vs : Values) (w : Value) (mid : BTreeSet ℕ) → sequence vs ≡ w
-      → Pins (λ y. IsUnique (P y) b vs) old mid → Pins (λ y. HasInElements s d (P y) b vs) mid new
-      → Pins (λ y. HasUnique s d (P y) b w) old new
+  pub in-sequence : (b : Base) (vs : Values) (w : Value) (mid : WeakPins) → sequence vs ≡ w
+      → Gathers (λ q. IsUnique (P q) b vs) old mid → Gathers (λ q. HasInElements s d (P q) b vs) mid new
+      → Gathers (λ q. HasUnique s d (P q) b w) old new
   in-sequence b vs w mid is h k =
-      subst (λ x. Pins (λ y. HasUnique s d (P y) b x) old new) is
-      (pins-alike (λ y. IsUnique (P y) b vs ⊎ HasInElements s d (P y) b vs)
-      (λ y. HasUnique s d (P y) b (sequence vs)) old new
-      (λ y. (forth y, back y))
-      (pins-both (λ y. IsUnique (P y) b vs) (λ y. HasInElements s d (P y) b vs) old mid new h k))
+      subst (λ x. Gathers (λ q. HasUnique s d (P q) b x) old new) is
+      (gathers-alike (λ q. IsUnique (P q) b vs ⊎ HasInElements s d (P q) b vs)
+      (λ q. HasUnique s d (P q) b (sequence vs)) old new
+      (λ q. (forth q, back q))
+      (gathers-both (λ q. IsUnique (P q) b vs) (λ q. HasInElements s d (P q) b vs) old mid new h k))
     where
-      forth : (y : ℕ) → IsUnique (P y) b vs ⊎ HasInElements s d (P y) b vs → HasUnique s d (P y) b (sequence vs)
-      forth y (inl (u, p)) = let (a, e, w) = unique-aggregate b u in (a, e, inl (w, p))
-      forth y (inr (a, e, h)) = (a, e, inr h)
+      forth : (q : Question) → IsUnique (P q) b vs ⊎ HasInElements s d (P q) b vs → HasUnique s d (P q) b (sequence vs)
+      forth q (inl (u, p)) = let (a, e, w) = unique-aggregate b u in (a, e, inl (w, p))
+      forth q (inr (a, e, h)) = (a, e, inr h)
 
-      back : (y : ℕ) → HasUnique s d (P y) b (sequence vs) → IsUnique (P y) b vs ⊎ HasInElements s d (P y) b vs
-      back y (a, e, inl (u, p)) = inl (ap is_unique e ∙ u, p)
-      back y (a, e, inr h) = inr (a, e, h)
+      back : (q : Question) → HasUnique s d (P q) b (sequence vs) → IsUnique (P q) b vs ⊎ HasInElements s d (P q) b vs
+      back q (a, e, inl (u, p)) = inl (ap is_unique e ∙ u, p)
+      back q (a, e, inr h) = inr (a, e, h)
 
   pub in-bag : (b : Base) (vs : Values) (w : Value) → bag vs ≡ w
-      → Pins (λ y. HasInElements s d (P y) b vs) old new → Pins (λ y. HasUnique s d (P y) b w) old new
-  in-bag b vs w is h = subst (λ x. Pins (λ y. HasUnique s d (P y) b x) old new) is h
+      → Gathers (λ q. HasInElements s d (P q) b vs) old new → Gathers (λ q. HasUnique s d (P q) b w) old new
+  in-bag b vs w is h = subst (λ x. Gathers (λ q. HasUnique s d (P q) b x) old new) is h
 
   -- the elements of an aggregate, by what is asked of them
   pub in-elements : (b e : Base) (a : Aggregate) (vs : Values) → b ≡ aggregate a → e ≡ base d a.element
-      → Pins (λ y. HasUniqueAmong s d (P y) e vs) old new → Pins (λ y. HasInElements s d (P y) b vs) old new
+      → Gathers (λ q. HasUniqueAmong s d (P q) e vs) old new → Gathers (λ q. HasInElements s d (P q) b vs) old new
   in-elements b e a vs is asked h =
-      pins-alike (λ y. HasUniqueAmong s d (P y) e vs) (λ y. HasInElements s d (P y) b vs) old new
-      (λ y. (
-        (λ k. (a, is, subst (λ c. HasUniqueAmong s d (P y) c vs) asked k)),
-        (λ k. subst (λ c. HasUniqueAmong s d (P y) c vs)
+      gathers-alike (λ q. HasUniqueAmong s d (P q) e vs) (λ q. HasInElements s d (P q) b vs) old new
+      (λ q. (
+        (λ k. (a, is, subst (λ c. HasUniqueAmong s d (P q) c vs) asked k)),
+        (λ k. subst (λ c. HasUniqueAmong s d (P q) c vs)
             (ap (λ (c : Aggregate). base d c.element) (same-aggregate k.0 a (sym k.1 ∙ is)) ∙ sym asked) k.2),
       )) h
 
-module _ (P : ℕ → Values → Type 0) where
-  pub if-unique : (old new : BTreeSet ℕ) (b : Base) (vs : Values) → is_unique b ≡ true
-      → Pins (λ y. P y vs) old new → Pins (λ y. IsUnique (P y) b vs) old new
+module _ (P : Question → Values → Type 0) where
+  pub if-unique : (old new : WeakPins) (b : Base) (vs : Values) → is_unique b ≡ true
+      → Gathers (λ q. P q vs) old new → Gathers (λ q. IsUnique (P q) b vs) old new
   if-unique old new b vs u h =
-      pins-alike (λ y. P y vs) (λ y. IsUnique (P y) b vs) old new (λ y. ((λ p. (u, p)), (λ k. k.1))) h
+      gathers-alike (λ q. P q vs) (λ q. IsUnique (P q) b vs) old new (λ q. ((λ p. (u, p)), (λ k. k.1))) h
 
-  pub if-not-unique : (set : BTreeSet ℕ) (b : Base) (vs : Values) → is_unique b ≡ false
-      → Pins (λ y. IsUnique (P y) b vs) set set
-  if-not-unique set b vs u = pins-nothing (λ y. IsUnique (P y) b vs) set (λ y h. not-both (is_unique b) u h.0)
+  pub if-not-unique : (set : WeakPins) (b : Base) (vs : Values) → is_unique b ≡ false
+      → Gathers (λ q. IsUnique (P q) b vs) set set
+  if-not-unique set b vs u = gathers-nothing (λ q. IsUnique (P q) b vs) set (λ q h. not-both (is_unique b) u h.0)
 
-module _ (s : Schema) (d : Domain) (P : ℕ → Values → Type 0) (set : BTreeSet ℕ) where
+module _ (s : Schema) (d : Domain) (P : Question → Values → Type 0) (set : WeakPins) where
   pub not-among : (b : Base) (vs : Values) → may_hold d b ≡ false
-      → Pins (λ y. HasUniqueAmong s d (P y) b vs) set set
+      → Gathers (λ q. HasUniqueAmong s d (P q) b vs) set set
   not-among b vs e =
-      pins-nothing (λ y. HasUniqueAmong s d (P y) b vs) set (λ y h. none-held-among s d (P y) b vs e h)
+      gathers-nothing (λ q. HasUniqueAmong s d (P q) b vs) set (λ q h. none-held-among s d (P q) b vs e h)
 
 -- one value more, and all of them
-module _ (s : Schema) (d : Domain) (P : ℕ → Values → Type 0) (b : Base) (vs : Values) (i : ℕ) (old : BTreeSet ℕ) where
-  abbrev One : ℕ → Values → Type 0
-  One y us = HasUniqueAmong s d (P y) b us
+module _ (s : Schema) (d : Domain) (P : Question → Values → Type 0) (b : Base) (vs : Values) (i : ℕ) (old : WeakPins) where
+  abbrev One : Question → Values → Type 0
+  One q us = HasUniqueAmong s d (P q) b us
 
-  pub next : (v : Value) (mid new : BTreeSet ℕ) → nth vs i ≡ Some v
-      → PinsUpTo (λ y. One y vs) (λ y. One y (after i vs)) old mid → Pins (λ y. HasUnique s d (P y) b v) mid new
-      → PinsUpTo (λ y. One y vs) (λ y. One y (after (i + 1) vs)) old new
-  next = walking.next (λ y v. HasUnique s d (P y) b v) One (λ y h. h) (λ y v us. ((λ t. t), (λ t. t))) vs i old
+  pub next : (v : Value) (mid new : WeakPins) → nth vs i ≡ Some v
+      → GathersUpTo (λ q. One q vs) (λ q. One q (after i vs)) old mid
+      → Gathers (λ q. HasUnique s d (P q) b v) mid new
+      → GathersUpTo (λ q. One q vs) (λ q. One q (after (i + 1) vs)) old new
+  next v mid new at h k =
+      gathering.next (λ q. One q vs) (λ q. One q (after i vs)) (λ q. HasUnique s d (P q) b v)
+      (λ q. One q (after (i + 1) vs)) old mid new h k
+      (λ q. subst (λ us. One q us ↔ (HasUnique s d (P q) b v ⊎ One q (after (i + 1) vs))) (sym (after_at vs i v at))
+      ((λ t. t), (λ t. t)))
 
-  pub ends : (new : BTreeSet ℕ) → size vs ≤ i → PinsUpTo (λ y. One y vs) (λ y. One y (after i vs)) old new
-      → Pins (λ y. One y vs) old new
-  ends = walking.ends (λ y v. HasUnique s d (P y) b v) One (λ y h. h) (λ y v us. ((λ t. t), (λ t. t))) vs i old
+  pub ends : (new : WeakPins) → size vs ≤ i → GathersUpTo (λ q. One q vs) (λ q. One q (after i vs)) old new
+      → Gathers (λ q. One q vs) old new
+  ends new past h =
+      gathering.ends (λ q. One q vs) (λ q. One q (after i vs)) old new h
+      (λ q l. subst (One q) (after_all vs i past) l)

@@ -1,10 +1,9 @@
--- The classes of instances, and the elements that have one of their class beside them.
+-- The classes of instances, and those that have one of their class beside them.
 use Rattle.std.specs.Prelude.{◌≡◌, ◌≢◌, ℕ, ◌==◌, Bool, cond, List, [], ◌∷◌, Option, None, Some, ◌⊎◌}
 use Rattle.std.specs.Ordering.{nat_cmp}
 use Rattle.std.specs.BTreeMap.{BTreeMap, get}
 use Rattle.schema_semantics.specs.Names.{Among}
 use Rattle.step_equal.specs.Tables.{same_class}
-use Rattle.step_values.specs.Values.{Value, reference, Values, none, more}
 use Rattle.step_pins.specs.declared.classes.Classes.{Classes}
 
 abbrev pub or_none : Option (Option ℕ) → Option ℕ
@@ -27,15 +26,10 @@ abbrev pub with_member : Option (ℕ × ℕ) → List (ℕ × ℕ) → List (ℕ
 with_member None ms = ms
 with_member (Some m) ms = m ∷ ms
 
-module _ (of : ℕ → Option ℕ) where
-  -- what a value is, where it is an instance that has a class: that class, and its name
-  abbrev pub member_in : Value → Option (ℕ × ℕ)
-  member_in (reference y) = with_name y (of y)
-  member_in v = None
-
-  abbrev pub members_in : Values → List (ℕ × ℕ)
-  members_in none = []
-  members_in (more v vs) = with_member (member_in v) (members_in vs)
+-- those of some names that have a class, each with it
+abbrev pub members_of : (ℕ → Option ℕ) → List ℕ → List (ℕ × ℕ)
+members_of of [] = []
+members_of of (y ∷ ys) = with_member (with_name y (of y)) (members_of of ys)
 
 -- the first name of a class
 abbrev pub first_of : List (ℕ × ℕ) → ℕ → Option ℕ
@@ -49,12 +43,12 @@ AreFirsts firsts ms = (c : ℕ) → get nat_cmp firsts c ≡ first_of ms c
 abbrev pub HasClassmate : List (ℕ × ℕ) → ℕ → Type 0
 HasClassmate ms y = (c : ℕ) × (z : ℕ) × Among (c, y) ms × Among (c, z) ms × (z ≢ y)
 
--- behind the first of its class comes an element that is another instance
+-- behind the first of its class comes another instance
 abbrev pub ComesBeside : Option ℕ → ℕ → ℕ → Type 0
 ComesBeside None name y = ⊥
 ComesBeside (Some first) name y = (first ≢ name) × ((y ≡ first) ⊎ (y ≡ name))
 
--- .. an element, behind these
+-- .. an instance, behind these
 abbrev pub ComesAfter : List (ℕ × ℕ) → Option (ℕ × ℕ) → ℕ → Type 0
 ComesAfter before None y = ⊥
 ComesAfter before (Some m) y = ComesBeside (first_of before m.0) m.1 y

@@ -5,5 +5,8 @@ pub mod Holding
 pub mod Slots
 pub mod Forms
 pub mod Rows
+pub mod Runs
 pub mod Sides
+pub mod Lists
 pub mod Pinned
+pub mod Gathering

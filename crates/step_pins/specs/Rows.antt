@@ -10,7 +10,7 @@ use Rattle.conformance.specs.Standing.{InBag}
 use Rattle.conformance.specs.Pins.{HasUnchosenLeaf, OccursAt}
 use Rattle.conformance.specs.Rules.{UniqueRule}
 use Rattle.population_rows.specs.declared.form.Form.{Form}
-use Rattle.population_typed.specs.Seen.{slots_seen}
+use Rattle.population_typed.specs.Rows.{slots_seen}
 use Rattle.step_values.specs.Slots.{nth}
 use Rattle.step_values.specs.Values.{Values}
 use Rattle.step_pins.specs.declared.forms.FormRules.{FormRules}

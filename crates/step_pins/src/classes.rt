@@ -1,4 +1,4 @@
-//! The classes of instances, and pinning elements that have one of their class beside them.
+//! The classes of instances, and pinning those that have one of their class beside them.
 
 ghost use Rattle.std.specs.Prelude.{◌≡◌, ℕ, List, [], ◌∷◌, ◌++◌, Some, IfOk, OnOk};
 ghost use Rattle.step_equal.specs.TableViews.{table_of};
@@ -6,9 +6,9 @@ ghost use Rattle.step_equal.specs.Tables.{class_at};
 ghost use Rattle.step_pins.specs.Pinning.{Pins};
 ghost use Rattle.step_pins.specs.Classes.{
   class_of,
-  member_in,
+  with_name,
   with_member,
-  members_in,
+  members_of,
   first_of,
   AreFirsts,
   ComesBeside,
@@ -20,7 +20,6 @@ use crate::pinned_names::pin;
 use std::alloc::{AllocError, Global};
 use std::collections::{BTreeMap, BTreeSet};
 use step_equal::table::{Table, class_above};
-use step_values::slot::{Node, Slot, Slots};
 
 /// The classes of instances at the last round of a table.
 #[derive(Drop)]
@@ -51,22 +50,9 @@ impl Classes {
     {
         self.classes.get(&name).copied().flatten()
     }
-
-    /// The instance that an element is, where it is one that has a class, with that class.
-    fn member(&self, value: &Slot<'_, '_>) -> Option<(u32, u64)>
-        ensures { result ≡ member_in (class_of self.now) value.now }
-    {
-        let Node::Reference(name) = value.node() else {
-            return None;
-        };
-        match self.class(name) {
-            Some(class) => Some((class, name)),
-            None => None,
-        }
-    }
 }
 
-/// Pins the first element of a class and a later one, where they are two instances.
+/// Pins the first name of a class and a later one, where they are two.
 fn pin_two(pinned: &mut BTreeSet<u64>, first: u64, name: u64) -> Result<(), AllocError>
     ensures { OnOk result (Pins (ComesBeside (Some first) name) pinned.old pinned.new) }
 {
@@ -77,7 +63,7 @@ fn pin_two(pinned: &mut BTreeSet<u64>, first: u64, name: u64) -> Result<(), Allo
     Ok(())
 }
 
-/// Goes on with an element of this class; the first of each class are kept.
+/// Goes on with an instance of this class; the first of each class are kept.
 fn pin_beside_first(
     pinned: &mut BTreeSet<u64>,
     firsts: &mut BTreeMap<u32, u64>,
@@ -97,38 +83,38 @@ fn pin_beside_first(
     }
 }
 
-/// Goes on with an element; one that is no instance with a class is passed over.
+/// Goes on with an instance; one that has no class is passed over.
 fn pin_element(
     pinned: &mut BTreeSet<u64>,
     firsts: &mut BTreeMap<u32, u64>,
     classes: &Classes,
-    value: &Slot<'_, '_>,
+    name: u64,
 ) -> Result<(), AllocError>
     ensures { (before : List (ℕ × ℕ)) → AreFirsts firsts.old before
         → OnOk result (AreFirsts firsts.new
-        (before ++ with_member (member_in (class_of classes.now) value.now) [])
-        × Pins (ComesAfter before (member_in (class_of classes.now) value.now))
+        (before ++ with_member (with_name name (class_of classes.now name)) [])
+        × Pins (ComesAfter before (with_name name (class_of classes.now name)))
         pinned.old pinned.new) }
 {
-    match classes.member(value) {
-        Some((class, name)) => pin_beside_first(pinned, firsts, class, name),
+    match classes.class(name) {
+        Some(class) => pin_beside_first(pinned, firsts, class, name),
         None => Ok(()),
     }
 }
 
-/// Pins the elements that are instances, where another one of their class is an element too.
+/// Pins those of these instances of whose class another one is among them.
 pub(crate) fn pin_classmates(
     alloc: Global,
     pinned: &mut BTreeSet<u64>,
     classes: &Classes,
-    values: &Slots<'_, '_>,
+    names: &[u64],
 ) -> Result<(), AllocError>
-    ensures { OnOk result (Pins (HasClassmate (members_in (class_of classes.now) values.now))
+    ensures { OnOk result (Pins (HasClassmate (members_of (class_of classes.now) names.now))
         pinned.old pinned.new) }
 {
     let mut firsts = BTreeMap::new(alloc);
-    for i in 0..values.len() {
-        pin_element(pinned, &mut firsts, classes, &values.at(i))?;
+    for name in names {
+        pin_element(pinned, &mut firsts, classes, *name)?;
     }
     Ok(())
 }

@@ -6,113 +6,112 @@ ghost use Rattle.conformance.specs.Bases.{Domain, IsDomain};
 ghost use Rattle.schema_bases.specs.Seen.{base_seen, schema_at};
 ghost use Rattle.schema_bases.specs.Tables.{AreBases, IsNumbered};
 ghost use Rattle.conformance.specs.Elements.{HasUnique, HasUniqueAmong};
-ghost use Rattle.step_pins.specs.Pinning.{Pins};
+ghost use Rattle.step_pins.specs.Gathering.{Gathers};
 ghost use Rattle.step_pins.specs.Elements.{Asks};
 ghost use Rattle.step_pins.specs.Holding.{IsUnique, HasInElements};
 
-use crate::elements::Elements;
+use crate::elements::pin_inside;
 use crate::holding::{is_unique, may_hold};
+use crate::weak_pins::WeakPins;
 use population_fits::inside::item;
 use schema_bases::base::Base;
 use schema_bases::lookup::Bases;
-use std::alloc::{AllocError, Global};
-use std::collections::BTreeSet;
+use std::alloc::AllocError;
 use step_values::slot::{Node, Slot, Slots};
 
-/// Pins those of which this is asked in the elements of a LIST or ARRAY that is one OF UNIQUE; of
-/// another one none.
-fn pin_if_unique(
-    alloc: Global,
-    pinned: &mut BTreeSet<u64>,
-    elements: Elements<'_>,
+/// Adds a list of these elements, and pins what stands inside them.
+fn gather(weak: &mut WeakPins, values: &Slots<'_, '_>) -> Result<(), AllocError>
+    ensures { OnOk result (Gathers (λ q. Asks q values.now) weak.old weak.new) }
+{
+    weak.lists.add(values)?;
+    pin_inside(&mut weak.pins.names, values)
+}
+
+/// .. of a LIST or ARRAY that is one OF UNIQUE; of another one nothing.
+fn gather_if_unique(
+    weak: &mut WeakPins,
     base: Base,
     values: &Slots<'_, '_>,
 ) -> Result<(), AllocError>
-    ensures { (s : Schema) → OnOk result (Pins
-        (λ y. IsUnique (Asks elements.entry y) (base_seen s base) values.now)
-        pinned.old pinned.new) }
+    ensures { (s : Schema) → OnOk result (Gathers
+        (λ q. IsUnique (Asks q) (base_seen s base) values.now)
+        weak.old weak.new) }
 {
     if !is_unique(base) {
         return Ok(());
     }
-    elements.pin(alloc, pinned, values)
+    gather(weak, values)
 }
 
-/// Pins those of which this is asked in the elements of each LIST and ARRAY OF UNIQUE that a value
-/// is, or that stands in it at any depth, by what is asked of the value.
+/// .. of each LIST and ARRAY OF UNIQUE that a value is, or that stands in it at any depth, by what is
+/// asked of the value.
 #[cycle(walk)]
-pub(crate) fn pin_in_value(
-    alloc: Global,
+pub(crate) fn gather_in_value(
     bases: &Bases<'_, '_, '_>,
-    pinned: &mut BTreeSet<u64>,
-    elements: Elements<'_>,
+    weak: &mut WeakPins,
     base: Base,
     value: &Slot<'_, '_>,
 ) -> Result<(), AllocError>
     requires bases { AreBases bases.now }
     requires numbered { IsNumbered (schema_at bases.now) base }
-    ensures { (d : Domain) → IsDomain (schema_at bases.now) d → OnOk result (Pins
-        (λ y. HasUnique (schema_at bases.now) d (Asks elements.entry y)
-        (base_seen (schema_at bases.now) base) value.now) pinned.old pinned.new) }
+    ensures { (d : Domain) → IsDomain (schema_at bases.now) d → OnOk result (Gathers
+        (λ q. HasUnique (schema_at bases.now) d (Asks q)
+        (base_seen (schema_at bases.now) base) value.now) weak.old weak.new) }
 {
     match value.node() {
         Node::Typed(word, inner) => match item(bases, base, word) {
-            Some(within) => pin_in_value(alloc, bases, pinned, elements, within, &inner),
+            Some(within) => gather_in_value(bases, weak, within, &inner),
             None => Ok(()),
         },
         Node::Sequence(values) => {
-            pin_if_unique(alloc, pinned, elements, base, &values)?;
-            pin_in_elements(alloc, bases, pinned, elements, base, &values)
+            gather_if_unique(weak, base, &values)?;
+            gather_in_elements(bases, weak, base, &values)
         }
-        Node::Bag(values) => pin_in_elements(alloc, bases, pinned, elements, base, &values),
+        Node::Bag(values) => gather_in_elements(bases, weak, base, &values),
         _ => Ok(()),
     }
 }
 
 /// .. that stands in an element of an aggregate.
 #[cycle(walk)]
-fn pin_in_elements(
-    alloc: Global,
+fn gather_in_elements(
     bases: &Bases<'_, '_, '_>,
-    pinned: &mut BTreeSet<u64>,
-    elements: Elements<'_>,
+    weak: &mut WeakPins,
     base: Base,
     values: &Slots<'_, '_>,
 ) -> Result<(), AllocError>
     requires bases { AreBases bases.now }
     requires numbered { IsNumbered (schema_at bases.now) base }
-    ensures { (d : Domain) → IsDomain (schema_at bases.now) d → OnOk result (Pins
-        (λ y. HasInElements (schema_at bases.now) d (Asks elements.entry y)
-        (base_seen (schema_at bases.now) base) values.now) pinned.old pinned.new) }
+    ensures { (d : Domain) → IsDomain (schema_at bases.now) d → OnOk result (Gathers
+        (λ q. HasInElements (schema_at bases.now) d (Asks q)
+        (base_seen (schema_at bases.now) base) values.now) weak.old weak.new) }
 {
     let Base::Aggregate(aggregate) = base else {
         return Ok(());
     };
     let element = bases.of_number(aggregate.element);
-    pin_in_each(alloc, bases, pinned, elements, element, values)
+    gather_in_each(bases, weak, element, values)
 }
 
 /// .. that one of these values is or has in it.
 #[cycle(walk)]
-fn pin_in_each(
-    alloc: Global,
+fn gather_in_each(
     bases: &Bases<'_, '_, '_>,
-    pinned: &mut BTreeSet<u64>,
-    elements: Elements<'_>,
+    weak: &mut WeakPins,
     base: Base,
     values: &Slots<'_, '_>,
 ) -> Result<(), AllocError>
     requires bases { AreBases bases.now }
     requires numbered { IsNumbered (schema_at bases.now) base }
-    ensures { (d : Domain) → IsDomain (schema_at bases.now) d → OnOk result (Pins
-        (λ y. HasUniqueAmong (schema_at bases.now) d (Asks elements.entry y)
-        (base_seen (schema_at bases.now) base) values.now) pinned.old pinned.new) }
+    ensures { (d : Domain) → IsDomain (schema_at bases.now) d → OnOk result (Gathers
+        (λ q. HasUniqueAmong (schema_at bases.now) d (Asks q)
+        (base_seen (schema_at bases.now) base) values.now) weak.old weak.new) }
 {
     if !may_hold(bases, base) {
         return Ok(());
     }
     for i in 0..values.len() {
-        pin_in_value(alloc, bases, pinned, elements, base, &values.at(i))?;
+        gather_in_value(bases, weak, base, &values.at(i))?;
     }
     Ok(())
 }

@@ -10,13 +10,15 @@ ghost use Rattle.conformance.specs.Pins.{IsWeaklyPinned};
 ghost use Rattle.schema_rules.specs.Seen.{AreNumbered, rules_seen};
 ghost use Rattle.pin_choices.specs.Chosen.{AreChosen};
 ghost use Rattle.population_typed.specs.Seen.{population_seen};
+ghost use Rattle.step_pins.specs.Lists.{AreUniqueOf};
 ghost use Rattle.step_pins.specs.Pinned.{is_pinned};
 
-use crate::elements::Elements;
+use crate::lists::UniqueLists;
 use crate::pins::Pins;
 use crate::rows::pin_by_forms;
 use crate::sides::pin_sides;
-use crate::unique_elements::pin_elements;
+use crate::unique_elements::gather_elements;
+use crate::weak_pins::WeakPins;
 use pin_choices::choice::Chosen;
 use std::alloc::{AllocError, Global};
 use std::collections::BTreeSet;
@@ -36,24 +38,33 @@ pub fn pins(
     alloc: Global,
     extents: &Extents<'_, '_, '_, '_, '_>,
     chosen: &Chosen,
-) -> Result<Pins, AllocError>
+) -> Result<WeakPins, AllocError>
     requires made { IsMade extents.now.population.now.types.now }
     requires numbered { AreNumbered
         (schema_of extents.now.population.now.types.now.names.schema.now) extents.now.rules.now }
-    ensures { (d : Domain) (en : Entities) (names : List Name)
+    ensures pins { (d : Domain) (en : Entities) (names : List Name)
         → IsDomain (schema_of extents.now.population.now.types.now.names.schema.now) d
         → AreEntities (schema_of extents.now.population.now.types.now.names.schema.now) en
         → AreChosen (schema_of extents.now.population.now.types.now.names.schema.now) names
         chosen.now
-        → IfOk result (λ t. (y : ℕ) → IsTrue (is_pinned t y) ↔ IsWeaklyPinned
+        → IfOk result (λ t. (y : ℕ) → IsTrue (is_pinned t.pins y) ↔ IsWeaklyPinned
         (schema_of extents.now.population.now.types.now.names.schema.now) d en
         (rules_seen (schema_of extents.now.population.now.types.now.names.schema.now)
         extents.now.rules.now) names (population_seen extents.now.population.now) y) }
+    // Whatever the classes of instances are, the gentle rules are kept by these lists.
+    ensures lists { IfOk result (λ t. AreUniqueOf
+        (schema_of extents.now.population.now.types.now.names.schema.now)
+        (population_seen extents.now.population.now) t.lists) }
 {
     let population = extents.population;
     let mut names = BTreeSet::new(alloc);
     pin_by_forms(alloc, population, &mut names, extents.rules, chosen)?;
     pin_sides(alloc, extents, &mut names)?;
-    pin_elements(alloc, population, &mut names, Elements::Inside)?;
-    Ok(Pins { names })
+    let lists = UniqueLists::new(alloc);
+    let mut weak = WeakPins {
+        pins: Pins { names },
+        lists,
+    };
+    gather_elements(alloc, population, &mut weak)?;
+    Ok(weak)
 }

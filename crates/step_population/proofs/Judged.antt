@@ -32,7 +32,7 @@ use Rattle.population_faults.specs.Rows.{rows_in, AreRowsOf, HaveForms, AreNumbe
 use Rattle.population_rows.specs.declared.rows.Rows.{Rows}
 use Rattle.step_exchange.proofs.Named.{names-are, rows-are}
 use Rattle.population_typed.specs.Whole.{form_among, slot_count, ArePlaced, HaveEntities, AreNumbered, HaveSlots, IsWhole}
-use Rattle.population_typed.specs.Seen.{instances_seen, section_numbers}
+use Rattle.population_typed.specs.Rows.{instances_seen, section_numbers}
 use Rattle.step_population.specs.Making.{AreRowsReady, values_by, row_by, rows_by}
 use Rattle.step_population.proofs.Clean.{HasClean, AreClean, absent-or-found, last-none, rows-clean, rows-ready}
 use Rattle.step_population.proofs.Entities.{form-entities}

@@ -19,7 +19,7 @@ use Rattle.conformance.specs.Populations.{Instance, first_base, value_at, slots_
 use Rattle.population_rows.specs.declared.form.SlotForm.{SlotForm}
 use Rattle.population_rows.specs.declared.form.Form.{Form}
 use Rattle.population_layouts.specs.Forms.{AreSlotsOf, IsSlotOf, IsFormOf}
-use Rattle.population_typed.specs.Seen.{or_nowhere, place_at, slots_seen, instance_seen, instances_seen, section_numbers}
+use Rattle.population_typed.specs.Rows.{or_nowhere, place_at, slots_seen, instance_seen, instances_seen, section_numbers}
 use Rattle.population_typed.specs.Whole.{form_among}
 use Rattle.step_population.specs.Making.{first_asked, value_by, values_by, row_by, rows_by}
 use Rattle.population_fits.specs.References.{IsFound}

@@ -24,9 +24,9 @@ use Rattle.population_fits.specs.References.{AreFound}
 use Rattle.population_faults.specs.Rows.{rows_in, AreRowsOf}
 use Rattle.population_rows.specs.declared.rows.Rows.{Rows}
 use Rattle.population_typed.specs.Whole.{IsWhole}
-use Rattle.population_typed.specs.Seen.{instances_seen, section_numbers}
+use Rattle.population_typed.specs.Rows.{instances_seen, section_numbers}
 use Rattle.step_population.specs.Making.{AreRowsReady, rows_by}
-use Rattle.step_population.specs.Verdicts.{HasFunctions}
+use Rattle.population_typed.specs.Typed.{HasFunctions, IsTyped, IsPopulation, typed_seen}
 use Rattle.step_population.proofs.Judged.{names-found, as-many-forms, rows-are-ready, all-whole, seen-is}
 
 pub empty-so : {A : Type 0} (xs : List A) (n : ℕ) → n ≡ length xs → n ≤ 0 → xs ≡ []
@@ -96,14 +96,23 @@ module _ (n : Names) (k : Knowledge) (b : Bases) (x : Exchange) (t : Rows) (same
             subst (λ m. (d : Domain) → IsDomain (schema_by m) d
             → now.rows ≡ rows_by (schema_by m) d t.forms.items (rows_in x) t.form_of.items) same-bases made
 
-        pub whole-is : IsWhole (schema_by n) x.names t now
+        whole-is : IsWhole (schema_by n) x.names t now
         whole-is =
             all-whole (schema_by n) d-is.0 en-is.0 x t are-rows (none-so none) now (made-so d-is.0 d-is.1) leads refers
             resolved-is
 
-        pub population-so : (d : Domain) (en : Entities) → IsDomain (schema_by n) d → AreEntities (schema_by n) en
+        population-so : (d : Domain) (en : Entities) → IsDomain (schema_by n) d → AreEntities (schema_by n) en
             → instances_seen (schema_by n) t.forms.items x.names (section_numbers 0 0 x.sections.items)
             t.form_of.items now.rows ≡ population_of (schema_by n) d en (structure x)
         population-so d en domain entities =
             seen-is (schema_by n) d en x t (rows-said en entities) (sym (told-so d en domain entities) ∙ none) now.rows
             (made-so d domain)
+
+        pub typed-so : IsTyped (schema_by n) (structure x) (typed_seen (schema_by n) x t now)
+        typed-so = (
+          functions-are,
+          λ d en domain entities. (sym (told-so d en domain entities) ∙ none, population-so d en domain entities),
+        )
+
+        pub population-is : IsPopulation (schema_by n) x t now
+        population-is = record { whole = whole-is; typed = typed-so }

@@ -7,24 +7,13 @@ use Rattle.step_structures.specs.Trees.{File}
 use Rattle.conformance.specs.Bases.{Domain, IsDomain}
 use Rattle.conformance.specs.Entities.{Entities, AreEntities}
 use Rattle.conformance.specs.Findings.{findings}
-use Rattle.conformance.specs.Populations.{Instance, population_of}
 use Rattle.conformance.specs.declared.finding.Finding.{Finding}
 use Rattle.step_exchange.specs.Exchanges.{structure}
 use Rattle.step_exchange.specs.declared.structure.Exchange.{Exchange}
 use Rattle.step_population.specs.declared.populate.Verdict.{Verdict}
 use Rattle.step_population.specs.declared.populate.Verdict.TheVariants.{Typed, Faulty}
 use Rattle.population_typed.specs.Seen.{population_seen}
-
--- there are functions of the data types and of the entities of a schema
-abbrev pub HasFunctions : Schema → Type 0
-HasFunctions s = ((d : Domain) × IsDomain s d) × ((en : Entities) × AreEntities s en)
-
--- Nothing is wrong with the file, and this is its population, whichever functions are those of the schema; and there are
--- some.
-abbrev pub IsTyped : Schema → File → List Instance → Type 0
-IsTyped s f is = HasFunctions s
-    × ((d : Domain) (en : Entities) → IsDomain s d → AreEntities s en
-    → (findings s d en f ≡ []) × (is ≡ population_of s d en f))
+use Rattle.population_typed.specs.Typed.{HasFunctions, IsTyped}
 
 -- This is all that is wrong with it, whichever functions these are, and something is.
 abbrev pub IsFaulty : Schema → File → List Finding → Type 0

@@ -9,7 +9,6 @@ use express_text::read_schema;
 use express_types::graph::TypeGraph;
 use express_types::resolving::resolve;
 use pin_choices::choice::{Choice, Chosen, Names};
-use population_typed::population::Population;
 use std::alloc::{AllocError, Global};
 use std::collections::BTreeSet;
 use std::hash::RandomState;
@@ -21,6 +20,7 @@ use step_extent::extents::Extents;
 use step_literals::literal::Word;
 use step_pins::pins::Pins;
 use step_pins::weak::pins;
+use step_pins::weak_pins::WeakPins;
 use step_population::populate::{Verdict, populate};
 
 const GEO: &'static [u8] = b"SCHEMA geo;
@@ -318,15 +318,12 @@ fn are_pinned(pins: &Pins, wanted: &[u64]) -> bool {
 // Whether these are pinned by the gentle rules and a table.
 fn are_gentle(
     alloc: Global,
-    population: &Population<'_, '_, '_, '_>,
-    weak: &Pins,
+    weak: &WeakPins,
     rounds: Rounds,
     wanted: &[u64],
-) -> Result<bool, AllocError>
-    requires { IsMade population.now.types.now }
-{
+) -> Result<bool, AllocError> {
     let table = table(alloc, rounds)?;
-    let gentle = weak.gentle(alloc, population, &table)?;
+    let gentle = weak.gentle(alloc, &table)?;
     Ok(are_pinned(&gentle, wanted))
 }
 
@@ -347,16 +344,12 @@ fn is_inverse(
 fn is_answered(
     alloc: Global,
     extents: &Extents<'_, '_, '_, '_, '_>,
-    weak: &Pins,
+    weak: &WeakPins,
     question: Question,
-) -> Result<bool, AllocError>
-    requires { IsMade extents.now.population.now.types.now }
-{
+) -> Result<bool, AllocError> {
     match question {
-        Question::Weak(wanted) => Ok(are_pinned(weak, wanted)),
-        Question::Gentle(rounds, wanted) => {
-            are_gentle(alloc, extents.population, weak, rounds, wanted)
-        }
+        Question::Weak(wanted) => Ok(are_pinned(&weak.pins, wanted)),
+        Question::Gentle(rounds, wanted) => are_gentle(alloc, weak, rounds, wanted),
         Question::Inverse(name, entity, attribute, wanted) => {
             Ok(is_inverse(extents, name, entity, attribute, wanted))
         }

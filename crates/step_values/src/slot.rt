@@ -105,6 +105,13 @@ impl<'p, 'a> Slot<'p, 'a> {
         Slot { column, place }
     }
 
+    /// The same value once more.
+    pub fn again(&self) -> Slot<'p, 'a>
+        ensures { result ≡ self.now }
+    {
+        Slot::of(self.column, self.place)
+    }
+
     /// Its outermost part.
     pub fn node(&self) -> Node<'p, 'a>
         ensures { node_value result ≡ self.now }
@@ -163,6 +170,13 @@ impl<'p, 'a> Slots<'p, 'a> {
         ensures { result ≡ values_of_run column.now run }
     {
         Slots { column, run }
+    }
+
+    /// The same values once more.
+    pub fn again(&self) -> Slots<'p, 'a>
+        ensures { result ≡ self.now }
+    {
+        Slots::of(self.column, self.run)
     }
 
     /// How many they are.

@@ -14,7 +14,7 @@ use Rattle.schema_types.specs.Resolving.{IsNameFault}
 use Rattle.conformance.specs.Choices.{Choice, chosen_names}
 use Rattle.conformance.specs.Populations.{Instance}
 use Rattle.pin_choices.specs.Chosen.{IsChoiceFault}
-use Rattle.step_population.specs.Verdicts.{IsTyped}
+use Rattle.population_typed.specs.Typed.{IsTyped}
 use Rattle.merged_populations.specs.Headline.{ChecksProve}
 use Rattle.files.specs.Faults.{text_fault}
 use Rattle.files.specs.declared.fault.Role.TheVariants as roles

@@ -16,7 +16,7 @@ use Rattle.conformance.specs.Populations.{Instance}
 use Rattle.conformance.specs.Said.{Said, instances}
 use Rattle.pin_choices.specs.Chosen.{AreChosen}
 use Rattle.pin_choices.specs.declared.choice.Chosen.{Chosen}
-use Rattle.step_population.specs.Verdicts.{IsTyped}
+use Rattle.population_typed.specs.Typed.{IsTyped}
 use Rattle.faults.specs.declared.fault.Fault.{Fault}
 use Rattle.verifying.specs.declared.fault.TablesFault.{TablesFault}
 use Rattle.verifying.specs.declared.fault.TablesFault.TheVariants.{Refused, Memory}

@@ -157,7 +157,7 @@ fn judge_input<'r, 't, 's: 'r>(
         chosen.now (structure exchange.entry.now) }
     ensures ready { IfOk result (λ judged. IfOk judged IsReady) }
 {
-    let settings = SettingTables::of(alloc, keys, &graph.types, tables)?;
+    let settings = SettingTables::of(alloc, keys, &graph.types, &graph.rules.inverses, tables)?;
     judge_by_settings(
         alloc,
         keys,

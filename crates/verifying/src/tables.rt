@@ -6,13 +6,13 @@ ghost use Rattle.certificate_text.specs.Texts.{IsCertificate};
 ghost use Rattle.express_syntax.specs.SchemaViews.{schema_of};
 ghost use Rattle.conformance.specs.PlainRows.{AreRowsOf};
 ghost use Rattle.schema_semantics.specs.Names.{Name};
-ghost use Rattle.schema_types.specs.Made.{IsMade};
 ghost use Rattle.step_exchange.specs.Exchanges.{structure};
 ghost use Rattle.step_equal.specs.Rows.{IsPopulation};
 ghost use Rattle.step_equal.specs.Standard.{IsWellFormed};
 ghost use Rattle.step_equal.specs.Tables.{IsValid};
 ghost use Rattle.step_equal.specs.TableViews.{table_of};
 ghost use Rattle.row_shapes.specs.Signatures.{AreSignatures};
+ghost use Rattle.step_pins.specs.Lists.{AreUniqueOf};
 ghost use Rattle.step_pins.specs.Pinned.{is_pinned};
 ghost use Rattle.population_typed.specs.Seen.{population_seen};
 ghost use Rattle.verifying.specs.ComputedPassing.{
@@ -37,6 +37,7 @@ use step_equal::laws::equal_tables_are_the_same;
 use step_equal::plain::Plain;
 use step_equal::table::Table;
 use step_pins::pins::Pins;
+use step_pins::weak_pins::WeakPins;
 
 /// The rows of an input, and the table by whose classes they are merged.
 #[derive(Drop)]
@@ -51,20 +52,21 @@ fn pinned_rows<'s: 'r, 't, 'r, 'a>(
     alloc: Global,
     keys: RandomState,
     population: Population<'s, 't, 'r, 'a>,
-    weak: &Pins,
+    weak: &WeakPins,
     first: &Table,
 ) -> Result<(Plain<'r>, Pins), AllocError>
-    requires made { IsMade population.types.now }
+    requires lists { AreUniqueOf (schema_of population.types.now.names.schema.now)
+        (population_seen population) weak.now.lists }
     ensures rows { IfOk result (λ p. AreRowsOf
         (schema_of population.entry.types.now.names.schema.now) (population_seen population.entry)
         p.0) }
     ensures population { IfOk result (λ p. IsPopulation p.0) }
     ensures pins { IfOk result (λ p. AddBeside
         (schema_of population.entry.types.now.names.schema.now) (population_seen population.entry)
-        (is_pinned weak.now) (table_of first.now) (is_pinned p.1)) }
+        (is_pinned weak.now.pins) (table_of first.now) (is_pinned p.1)) }
 {
-    let gentle = weak.gentle(alloc, &population, first)?;
     let rows = plain_rows(alloc, keys, population)?;
+    let gentle = weak.gentle(alloc, first)?;
     Ok((rows, gentle))
 }
 
@@ -131,24 +133,25 @@ fn judge_pair<'s: 'r, 't, 'r, 'a>(
     alloc: Global,
     keys: RandomState,
     population: Population<'s, 't, 'r, 'a>,
-    weak: &Pins,
+    weak: &WeakPins,
     first: Table,
     second: Table,
 ) -> Result<Judged<'r>, TablesFault>
-    requires made { IsMade population.types.now }
+    requires lists { AreUniqueOf (schema_of population.types.now.names.schema.now)
+        (population_seen population) weak.now.lists }
     requires first { IsWellFormed (table_of first) }
     requires second { IsWellFormed (table_of second) }
     ensures judged { (chosen : List Name) (certificate : List ℕ)
         → IsCertificate certificate (table_of first) (table_of second)
         → AreKnown (schema_of population.entry.types.now.names.schema.now) chosen
         (structure population.entry.exchange.now) (population_seen population.entry)
-        (is_pinned weak.now)
+        (is_pinned weak.now.pins)
         → IsJudgement (schema_of population.entry.types.now.names.schema.now) chosen
         (structure population.entry.exchange.now) certificate result }
     ensures ready { IfOk result IsReady }
 {
     let (rows, gentle) = pinned_rows(alloc, keys, population, weak, &first)?;
-    judge_tables(alloc, keys, &rows, weak, &gentle, first, &second)?;
+    judge_tables(alloc, keys, &rows, &weak.pins, &gentle, first, &second)?;
     Ok(Judged {
         rows,
         table: second,
@@ -161,14 +164,15 @@ pub(crate) fn judge_certificate<'s: 'r, 't, 'r, 'a>(
     alloc: Global,
     keys: RandomState,
     population: Population<'s, 't, 'r, 'a>,
-    weak: &Pins,
+    weak: &WeakPins,
     certificate: Vec<u8>,
 ) -> Result<Judged<'r>, TablesFault>
-    requires made { IsMade population.types.now }
+    requires lists { AreUniqueOf (schema_of population.types.now.names.schema.now)
+        (population_seen population) weak.now.lists }
     ensures judged { (chosen : List Name)
         → AreKnown (schema_of population.entry.types.now.names.schema.now) chosen
         (structure population.entry.exchange.now) (population_seen population.entry)
-        (is_pinned weak.now)
+        (is_pinned weak.now.pins)
         → IsJudgement (schema_of population.entry.types.now.names.schema.now) chosen
         (structure population.entry.exchange.now) certificate.items result }
     ensures ready { IfOk result IsReady }

@@ -1,7 +1,7 @@
 use Rattle.std.proofs.lemmas.List.{take_all}
 use Rattle.std.proofs.Common.{◌≡◌, ◌<◌, ◌≤◌, arith, ◌+◌, ◌∙◌, [], ◌++◌, length, map, take, flat_map, ap, sym, subst}
 use Rattle.express_syntax.specs.Profile.{Every}
-use Rattle.population_typed.specs.Seen.{instance_seen}
+use Rattle.population_typed.specs.Rows.{instance_seen}
 use Rattle.population_typed.specs.Whole.{form_among}
 use Rattle.population_typed.proofs.Found.{kept}
 use Rattle.step_extent.specs.Inverses.{row_by}

@@ -6,7 +6,13 @@ use Rattle.merge_tables.proofs.Coming.{comes-broken, comes-clean}
 use Rattle.merge_tables.proofs.merging.merged_by_population.Goals as goal
 
 pub standard_tables-requires : goal.standard_tables-requires
-standard_tables-requires c = record { made = c.requires.ready.made }
+standard_tables-requires c =
+    let p = c.args.population in
+    let s = schema_of p.types.now.names.schema.now in
+    record {
+      lists = (subst (IsRuled s (population_seen p) c.args.graph.now.rules c.args.chosen.now) c.in-Kept.is
+          c.in_ok-ruled.ensures).2;
+    }
 
 pub returns-in-Broken : goal.returns-in-Broken
 returns-in-Broken c =

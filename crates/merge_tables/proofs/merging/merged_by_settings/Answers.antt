@@ -3,7 +3,8 @@ use Rattle.express_syntax.specs.SchemaViews.{schema_of}
 use Rattle.conformance.specs.Said.{Said}
 use Rattle.step_exchange.specs.Exchanges.{structure}
 use Rattle.population_typed.specs.Seen.{population_seen}
-use Rattle.step_population.specs.Verdicts.{IsTyped, IsVerdict}
+use Rattle.population_typed.specs.Typed.{IsTyped}
+use Rattle.step_population.specs.Verdicts.{IsVerdict}
 use Rattle.check_findings.specs.Ruling.{AreReady}
 use Rattle.merge_tables.specs.ComputedTables.{Comes}
 use Rattle.merge_tables.proofs.Coming.{comes-one-by-one}

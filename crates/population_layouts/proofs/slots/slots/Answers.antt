@@ -1,11 +1,10 @@
-use Rattle.std.proofs.Common.{◌<◌, length, arith}
-use Rattle.population_layouts.specs.Slots.{IsSlotAt}
-use Rattle.population_layouts.proofs.Slotted.{zip-more}
+use Rattle.std.proofs.Common.{◌∙◌, ap, sym}
+use Rattle.referrers.specs.Referring.{referrers_of}
+use Rattle.population_layouts.specs.ComputedReferences.{references_from}
 use Rattle.population_layouts.proofs.slots.slots.Goals as goal
 
-pub loop-place-preserved : goal.loop-place-preserved
-loop-place-preserved c =
-    let lt : c.loop-place.place-index < length c.args.places.now = omega (arith, c.loop-place-test.true) in
-    zip-more (IsSlotAt c.args.uses.now c.args.types.now) c.args.places.now c.loop-place.place-index
-    c.loop-place.found.items c.push.new.self.items c.in_ok-slot.slot lt c.loop-place.invariant c.in_ok-slot.ensures
-    c.in_ok-push.ensures.items
+pub slots_in_turn-requires-clause-by_place : goal.slots_in_turn-requires-clause-by_place
+slots_in_turn-requires-clause-by_place c q =
+    c.in_ok-by_place.ensures q
+    ∙ ap (referrers_of q)
+    (c.in_ok-references.ensures ∙ ap (references_from 0) (c.deref.ensures.value ∙ sym c.deref-2.ensures.value))

@@ -1,7 +1,7 @@
 use Rattle.std.proofs.Common.{◌≡◌, ◌∙◌, length, sym, ap, subst}
 use Rattle.step_values.specs.Targets.{LeadTo, ReferTo}
 use Rattle.step_equal.specs.Views.{head_names}
-use Rattle.population_typed.specs.Seen.{section_numbers}
+use Rattle.population_typed.specs.Rows.{section_numbers}
 use Rattle.population_typed.proofs.RowsMade.{heads-names, mapped-length}
 use Rattle.population_typed.proofs.plain.rows_with.Goals as goal
 

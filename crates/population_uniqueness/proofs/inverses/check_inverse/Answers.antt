@@ -4,7 +4,8 @@ use Rattle.express_syntax.specs.SchemaViews.{schema_of}
 use Rattle.conformance.specs.RuleFindings.{breaches_of_inverse}
 use Rattle.schema_rules.specs.declared.finding.RuleFindingKind.TheVariants.{InverseBound}
 use Rattle.schema_rules.specs.Seen.{rules_seen}
-use Rattle.population_typed.specs.Seen.{population_seen, instance_seen}
+use Rattle.population_typed.specs.Rows.{instance_seen}
+use Rattle.population_typed.specs.Seen.{population_seen}
 use Rattle.population_typed.specs.Whole.{form_among}
 use Rattle.population_typed.proofs.Found.{kept}
 use Rattle.step_extent.specs.Findings.{Adds}

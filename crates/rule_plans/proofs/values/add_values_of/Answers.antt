@@ -9,7 +9,7 @@ use Rattle.schema_places.proofs.Distinct.{at-among}
 use Rattle.schema_data_types.specs.declared.forms.Form.{Form}
 use Rattle.conformance.specs.Populations.{Instance}
 use Rattle.conformance.specs.Conforming.{Conforms, typing_of}
-use Rattle.population_typed.specs.Seen.{instance_seen}
+use Rattle.population_typed.specs.Rows.{instance_seen}
 use Rattle.population_typed.specs.Whole.{form_among, types_by_form, AreNumbered}
 use Rattle.step_extent.proofs.Held.{numbers-of}
 use Rattle.express_logic.specs.Data.{Datum}

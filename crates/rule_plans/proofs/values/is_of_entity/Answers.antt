@@ -6,7 +6,8 @@ use Rattle.express_syntax.specs.SchemaViews.{schema_of}
 use Rattle.conformance.specs.Fitting.{among}
 use Rattle.conformance.specs.Populations.{Instance}
 use Rattle.schema_bases.specs.Seen.{name_at}
-use Rattle.population_typed.specs.Seen.{population_seen, instance_seen}
+use Rattle.population_typed.specs.Rows.{instance_seen}
+use Rattle.population_typed.specs.Seen.{population_seen}
 use Rattle.population_typed.specs.Whole.{form_among, types_by_form, AreNumbered}
 use Rattle.step_extent.proofs.Held.{numbers-of}
 use Rattle.rule_plans.proofs.Placing.{one-instance, is-of-entity}

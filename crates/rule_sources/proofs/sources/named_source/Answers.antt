@@ -16,7 +16,7 @@ returns-in-Some c =
     subst (λ ts. IsSourceOf s inverses ts a x) c.deref.ensures.value
     (record { value = c.in-Some.ensures.value; numbered = c.in-Some.ensures.numbered }) in
     let is : c.form_source.result ≡ form_source form.slots.items x =
-    c.form_source.ensures ∙ ap (λ l. form_source l x) c.deref-in-Some.ensures.value in
+    c.form_source.ensures form c.requires.positions in
     let same : source_in c.form_source.result ≡ x = ap source_in is ∙ source-kept form.slots.items x in
     record {
       source = subst (IsSourceOf s inverses form.types.items a) (sym same) told;

@@ -26,5 +26,6 @@ returns c =
     let none = empty-so found.items c.len-broken.result (c.len-broken.ensures ∙ sym whole) (omega arith) in (
       subst (λ l. AreFound (schema_of e.population.now.types.now.names.schema.now) (population_seen e.population.now) l
           c.in_ok-report.report.unknown) none c.in_ok-report.ensures,
-      c.in_ok-weak.ensures,
+      c.in_ok-weak.ensures.pins,
+      c.in_ok-weak.ensures.lists,
     )

@@ -4,6 +4,7 @@ use Rattle.express_syntax.specs.SchemaViews.{schema_of}
 use Rattle.schema_names.specs.Edges.{parts_in}
 use Rattle.schema_names.proofs.Edges.{is-graph}
 use Rattle.schema_data_types.specs.Numbered.{all_data_types}
+use Rattle.schema_data_types.proofs.Known.{no-cycle}
 use Rattle.schema_bases.specs.declared.base.Base.{Base}
 use Rattle.schema_bases.specs.Making.{bases_from, AreItems}
 use Rattle.schema_bases.proofs.Tables.{are-base-types}
@@ -12,6 +13,10 @@ use Rattle.schema_bases.proofs.bases.base_types.Goals as goal
 pub item_rows-requires-clause-graph : goal.item_rows-requires-clause-graph
 item_rows-requires-clause-graph c =
     is-graph (schema_of c.args.names.now.schema.now) parts_in (graph_of c.args.edges.now) c.requires.drawn
+
+pub item_rows-requires-clause-acyclic : goal.item_rows-requires-clause-acyclic
+item_rows-requires-clause-acyclic c =
+    no-cycle (schema_of c.args.names.now.schema.now) c.requires.resolved (graph_of c.args.edges.now) c.requires.drawn
 
 pub returns : goal.returns
 returns c =

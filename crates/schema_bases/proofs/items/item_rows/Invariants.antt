@@ -1,7 +1,7 @@
-use Rattle.std.proofs.Common.{◌≡◌, ℕ, ◌<◌, ◌&&◌, not, length, map}
+use Rattle.std.proofs.Common.{◌≡◌, ℕ, ◌<◌, length, map}
 use Rattle.std.specs.List.Sorted.{IsNonDecreasing}
 use Rattle.digraph.specs.Graphs.{has, next}
-use Rattle.schema_bases.specs.Making.{is_select_at}
+use Rattle.schema_bases.specs.Making.{opened}
 use Rattle.schema_bases.proofs.items.item_rows.Given as goal
 
 abbrev pub invariant-loop-i : goal.invariant-loop-i
@@ -9,6 +9,6 @@ invariant-loop-i l = record {
   long : length l.rows.items ≡ l.i;
   items : (a : ℕ) → a < l.i → (j : ℕ)
       → has (next (map (λ v. v.items) l.rows.items) a) j
-      ≡ (has (next (map (λ v. v.items) l.reached.items) a) j && not (is_select_at l.declared j));
+      ≡ has (opened l.declared a (next (map (λ v. v.items) l.found.items) a)) j;
   sorted : (a : ℕ) → a < l.i → IsNonDecreasing (next (map (λ v. v.items) l.rows.items) a);
 }

@@ -1,18 +1,29 @@
-use Rattle.std.proofs.Common.{◌∙◌, ◌||◌, ap, sym}
-use Rattle.std.specs.List.{list_any}
-use Rattle.digraph.specs.Graphs.{next, graph_of}
+use Rattle.std.proofs.Common.{rules, ◌≡◌, ◌∙◌, length, vec_len, ap, sym, subst, arith}
+use Rattle.digraph.specs.Graphs.{has}
+use Rattle.digraph.proofs.Found.{has-turned}
 use Rattle.digraph.proofs.RowLists.{row-is}
 use Rattle.schema_data_types.specs.Values.{schema_at}
-use Rattle.schema_data_types.specs.Selects.{is_select_at}
+use Rattle.schema_data_types.proofs.Leading.{Tells}
+use Rattle.schema_data_types.proofs.Declared.{over-told, parts-within}
 use Rattle.schema_data_types.proofs.values.is_over_select.Goals as goal
 
-pub returns-else-is_select_at : goal.returns-else-is_select_at
-returns-else-is_select_at c =
+pub index-requires : goal.index-requires
+index-requires c =
+    let (n, k) = c.requires.named in
+    let are = c.requires.tables.parts in
+    let selects = c.args.tables.now.parts.now.selects in
+    let lt = parts-within (schema_at c.args.tables.now) (λ v. v.items) selects.items are.graph _ are.drawn are.selects n c.args.part k in
+    let whole : length selects.items ≡ vec_len selects = search rules in
+    omega (arith, lt, whole)
+
+pub returns : goal.returns
+returns c n k =
     let s = schema_at c.args.tables.now in
-    let parts = c.args.tables.now.parts.now in
+    let are = c.requires.tables.parts in
+    let rows = c.args.tables.now.parts.now.selects.items in
+    let within = parts-within s (λ v. v.items) rows are.graph _ are.drawn are.selects n c.args.part k in
     let row =
-    row-is (λ v. v.items) parts c.args.part c.index-tables-part.result c.deref.result.now c.requires
-    c.index-tables-part.is (c.deref.ensures.value ∙ ap (λ v. v.items) (sym c.index-tables-part.is)) in
-    c.any_select.ensures ∙ ap (list_any (is_select_at s)) row
-    ∙ ap (λ b. b || list_any (is_select_at s) (next (graph_of parts) c.args.part))
-    (sym c.if-is_select_at.false ∙ c.is_select_at.ensures)
+    row-is (λ v. v.items) rows c.args.part c.index.result.now c.deref.result.now within c.index.ensures c.deref.ensures.value in
+    subst (Tells s n)
+    (sym (c.contains.ensures.value ∙ has-turned c.deref.result.now 0 ∙ ap (λ r. has r 0) row))
+    (over-told s c.args.tables.now.parts.now are n c.args.part k)

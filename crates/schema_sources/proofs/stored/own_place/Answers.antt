@@ -1,12 +1,15 @@
-use Rattle.std.proofs.Common.{◌≡◌, ◌∙◌, ap, Some, None, slice_get, ℕ}
+use Rattle.std.proofs.Common.{◌≡◌, ◌∙◌, ap, sym, subst, Some, None, slice_get, ℕ}
 use Rattle.std.specs.List.{find}
 use Rattle.digraph.specs.Graphs.{graph_of, next}
 use Rattle.express_syntax.specs.ExpressionViews.{capitals}
 use Rattle.schema_names.proofs.Numbers.{what-stands}
 use Rattle.schema_places.specs.Places.{places_of}
 use Rattle.schema_bases.specs.Seen.{name_at}
+use Rattle.schema_semantics.specs.Names.{IsEntity}
+use Rattle.schema_names.specs.Numbers.{HasNumber}
 use Rattle.schema_sources.specs.Seen.{schema_in}
-use Rattle.schema_sources.specs.Stored.{is_place}
+use Rattle.schema_sources.specs.Stored.{IsOwnPlace}
+use Rattle.schema_rules.specs.Ordered.{is_place}
 use Rattle.schema_sources.proofs.Reading.{tree-within}
 use Rattle.schema_sources.proofs.Keeping.{own-place, word-is}
 use Rattle.schema_sources.proofs.stored.own_place.Goals as goal
@@ -22,6 +25,31 @@ returns-in_default c =
     let (d, at, named) = what-stands s (name_at s c.args.asked.entity) c.args.asked.entity c.requires.number in
     let none : None ≡ Some (name_at s c.args.asked.entity) = c.in_default.ensures d at ∙ named in
     absurd (cc)
+
+pub place_among_many-requires-clause-number : goal.place_among_many-requires-clause-number
+place_among_many-requires-clause-number c =
+    let s = schema_in c.args.schema.now in
+    let (d, at, named) = what-stands s (name_at s c.args.asked.entity) c.args.asked.entity c.requires.number in
+    let w = word-is c.in-Some.entity (name_at s c.args.asked.entity) (c.in-Some.ensures d at ∙ named) in
+    subst (λ n. HasNumber s n c.args.asked.entity) (sym w) c.requires.number
+
+pub place_among_many-requires-clause-entity : goal.place_among_many-requires-clause-entity
+place_among_many-requires-clause-entity c =
+    let s = schema_in c.args.schema.now in
+    let (d, at, named) = what-stands s (name_at s c.args.asked.entity) c.args.asked.entity c.requires.number in
+    let w = word-is c.in-Some.entity (name_at s c.args.asked.entity) (c.in-Some.ensures d at ∙ named) in
+    subst (IsEntity s) (sym w) c.requires.entity
+
+pub place_among_many-requires-clause-row : goal.place_among_many-requires-clause-row
+place_among_many-requires-clause-row c =
+    c.row_of-row.ensures ∙ ap (λ rows. next (graph_of rows) c.args.asked.entity) c.deref.ensures.value
+
+pub returns-then-row-gt-FEW : goal.returns-then-row-gt-FEW
+returns-then-row-gt-FEW c =
+    let s = schema_in c.args.schema.now in
+    let (d, at, named) = what-stands s (name_at s c.args.asked.entity) c.args.asked.entity c.requires.number in
+    let w = word-is c.in-Some.entity (name_at s c.args.asked.entity) (c.in-Some.ensures d at ∙ named) in
+    subst (λ n. IsOwnPlace s (n, capitals c.args.asked.name) c.place_among_many.result) w c.place_among_many.ensures
 
 pub returns : goal.returns
 returns c =

@@ -3,7 +3,7 @@ use Rattle.std.proofs.lemmas.Iterator.Search.{find_from_yields_List}
 use Rattle.std.proofs.lemmas.Iterator.{YieldsList-from_slice}
 use Rattle.express_syntax.specs.ExpressionViews.{capitals}
 use Rattle.schema_places.specs.Places.{places_of}
-use Rattle.schema_sources.specs.Stored.{is_place}
+use Rattle.schema_rules.specs.Ordered.{is_place}
 use Rattle.schema_sources.proofs.stored.place_among.Goals as goal
 
 pub returns : goal.returns

@@ -5,7 +5,7 @@ use Rattle.conformance.specs.Rules.{InverseAttribute}
 use Rattle.schema_bases.specs.Seen.{name_at}
 use Rattle.schema_sources.specs.Seen.{schema_in, inverses_seen, or_unclear}
 use Rattle.schema_sources.specs.Stored.{IsStoredAt}
-use Rattle.schema_sources.proofs.Keeping.{inverse-found, inverse-there, not-stored}
+use Rattle.schema_sources.proofs.Keeping.{inverse-tested, inverse-there, not-stored}
 use Rattle.schema_sources.proofs.stored.stored_source.Goals as goal
 
 pub returns-in-Some-inverse_number-clause-source : goal.returns-in-Some-inverse_number-clause-source
@@ -15,8 +15,8 @@ returns-in-Some-inverse_number-clause-source c =
     let a = capitals c.args.asked.name in
     let inverses = inverses_seen s c.args.inverses.now in
     let (y, at, first) =
-    inverse-found s (name_at s i) a i c.requires.number refl c.args.inverses.now c.requires.inverses
-    c.in-Some-inverse_number.number (sym c.in-Some-inverse_number.ensures) in
+    inverse-tested s (name_at s i) a i c.requires.number refl c.args.inverses.now c.requires.inverses
+    c.requires.made.resolved c.in-Some-inverse_number.number c.in-Some-inverse_number.ensures in
     subst (λ (o : Option InverseAttribute). IsStoredAt s inverses (name_at s i) a (or_unclear o)) (sym at)
     (first, λ d. c.in_default.ensures d)
 
@@ -26,8 +26,8 @@ returns-in-Some-inverse_number-clause-numbered c =
     let i = c.args.asked.entity in
     let a = capitals c.args.asked.name in
     let (y, at, first) =
-    inverse-found s (name_at s i) a i c.requires.number refl c.args.inverses.now c.requires.inverses
-    c.in-Some-inverse_number.number (sym c.in-Some-inverse_number.ensures) in
+    inverse-tested s (name_at s i) a i c.requires.number refl c.args.inverses.now c.requires.inverses
+    c.requires.made.resolved c.in-Some-inverse_number.number c.in-Some-inverse_number.ensures in
     slice_get_within (inverses_seen s c.args.inverses.now) c.in-Some-inverse_number.number y at
 
 pub returns-in-None-clause-source : goal.returns-in-None-clause-source
@@ -37,4 +37,4 @@ returns-in-None-clause-source c =
     let a = capitals c.args.asked.name in
     not-stored s (name_at s i) a c.requires.stored (λ d. c.in_default.ensures d)
     (λ d. inverse-there s (name_at s i) a i c.requires.number refl c.args.inverses.now c.requires.inverses d
-    (sym c.in-None.ensures))
+    c.in-None.ensures)

@@ -6,7 +6,8 @@ use Rattle.conformance.specs.Referring.{holds, times_at, held}
 use Rattle.referrers.specs.Referring.{referrers_of}
 use Rattle.schema_rules.specs.Seen.{gathering_seen, inverse_seen}
 use Rattle.population_typed.specs.Ordering.{picked_at}
-use Rattle.population_typed.specs.Seen.{instance_seen, population_seen}
+use Rattle.population_typed.specs.Rows.{instance_seen}
+use Rattle.population_typed.specs.Seen.{population_seen}
 use Rattle.population_typed.specs.Whole.{form_among}
 use Rattle.population_typed.proofs.Found.{kept}
 use Rattle.step_extent.specs.Gathering.{position_at, position_by}

@@ -1,16 +1,18 @@
-use Rattle.std.proofs.Common.{arith}
+use Rattle.std.proofs.Common.{arith, slice_index_or}
+use Rattle.std.proofs.lemmas.Option.{slice_get-get_or}
 use Rattle.step_pins.specs.Classes.{class_of}
 use Rattle.step_pins.proofs.Classmates.{gone-next, gone-all}
 use Rattle.step_pins.proofs.classes.pin_classmates.Goals as goal
 
-pub loop-i-preserved : goal.loop-i-preserved
-loop-i-preserved c =
-    gone-next (class_of c.args.classes.now) c.args.values.now c.loop-i.i c.at.result c.loop-i.firsts _ _ c.loop-i.pinned
-    _ c.at.ensures c.loop-i.invariant c.in_ok-pin_element.ensures
+pub loop-name-preserved : goal.loop-name-preserved
+loop-name-preserved c =
+    let names = c.args.names.now in
+    let k = c.loop-name.name-index in
+    gone-next (class_of c.args.classes.now) names k (slice_index_or names k 0) c.loop-name.firsts _ _ c.loop-name.pinned
+    _ (slice_get-get_or names k 0 c.loop-name-test.true) c.loop-name.invariant c.in_ok-pin_element.ensures
 
 pub returns : goal.returns
 returns c =
-    let past = c.loop-i-test.false in
-    let end = c.len-i-end.ensures in
-    gone-all (class_of c.args.classes.now) c.args.values.now c.loop-i.i c.loop-i.firsts _ c.loop-i.pinned
-    (omega (arith, past, end)) c.loop-i.invariant
+    let past = c.loop-name-test.false in
+    gone-all (class_of c.args.classes.now) c.args.names.now c.loop-name.name-index c.loop-name.firsts _
+    c.loop-name.pinned (omega (arith, past)) c.loop-name.invariant

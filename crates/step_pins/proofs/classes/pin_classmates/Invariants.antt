@@ -2,5 +2,5 @@ use Rattle.step_pins.specs.Classes.{class_of}
 use Rattle.step_pins.proofs.Classmates.{IsGone}
 use Rattle.step_pins.proofs.classes.pin_classmates.Given as goal
 
-abbrev pub invariant-loop-i : goal.invariant-loop-i
-invariant-loop-i l = IsGone (class_of l.classes) l.values l.i l.firsts l.fn.pinned l.pinned
+abbrev pub invariant-loop-name : goal.invariant-loop-name
+invariant-loop-name l = IsGone (class_of l.classes) l.names l.name-index l.firsts l.fn.pinned l.pinned

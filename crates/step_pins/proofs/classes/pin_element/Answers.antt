@@ -1,5 +1,5 @@
-use Rattle.std.proofs.Common.{OnOk, ◌++◌, [], ◌∙◌, sym, subst}
-use Rattle.step_pins.specs.Classes.{with_member, AreFirsts, ComesAfter}
+use Rattle.std.proofs.Common.{OnOk, ◌++◌, [], ◌∙◌, sym, ap, subst}
+use Rattle.step_pins.specs.Classes.{with_name, with_member, AreFirsts, ComesAfter}
 use Rattle.step_pins.specs.Pinning.{Pins}
 use Rattle.step_pins.proofs.classes.pin_element.Goals as goal
 
@@ -7,4 +7,4 @@ pub returns-in-Some : goal.returns-in-Some
 returns-in-Some c before h =
     subst (λ o. OnOk c.pin_beside_first.result (AreFirsts c.pin_beside_first.new.firsts (before ++ with_member o [])
     × Pins (ComesAfter before o) c.args.pinned.now c.pin_beside_first.new.pinned))
-    (sym c.in-Some.is ∙ c.member.ensures) (c.pin_beside_first.ensures before h)
+    (ap (with_name c.args.name) (sym c.in-Some.is ∙ c.class.ensures)) (c.pin_beside_first.ensures before h)

@@ -3,7 +3,7 @@ use Rattle.express_syntax.specs.Schemas.{Schema}
 use Rattle.schema_semantics.specs.Names.{OneOf}
 use Rattle.conformance.specs.Populations.{Slot}
 use Rattle.conformance.specs.Standing.{InBag}
-use Rattle.population_typed.specs.Seen.{slots_seen}
+use Rattle.population_typed.specs.Rows.{slots_seen}
 use Rattle.step_values.proofs.Walks.{after}
 use Rattle.step_pins.specs.Pinning.{PinsUpTo}
 use Rattle.step_pins.proofs.rows.pin_bags.Given as goal

@@ -6,7 +6,8 @@ use Rattle.schema_places.specs.Above.{AreAbove}
 use Rattle.std.specs.List.{AllZip}
 use Rattle.express_syntax.specs.SchemaViews.{schema_of}
 use Rattle.schema_rules.specs.Seen.{unique_seen, IsNumberedUnique}
-use Rattle.population_typed.specs.Seen.{instance_seen, population_seen}
+use Rattle.population_typed.specs.Rows.{instance_seen}
+use Rattle.population_typed.specs.Seen.{population_seen}
 use Rattle.population_typed.specs.Whole.{form_among}
 use Rattle.population_typed.proofs.Found.{kept}
 use Rattle.step_pins.specs.Pinning.{Pins}

@@ -5,7 +5,7 @@ use Rattle.conformance.specs.Populations.{Slot}
 use Rattle.conformance.specs.Standing.{InBag}
 use Rattle.population_rows.specs.declared.form.SlotForm.{SlotForm}
 use Rattle.conformance.specs.Pins.{OccursAt}
-use Rattle.population_typed.specs.Seen.{slots_seen}
+use Rattle.population_typed.specs.Rows.{slots_seen}
 use Rattle.step_values.specs.Slots.{nth}
 use Rattle.step_pins.specs.Pinning.{Pins}
 use Rattle.step_pins.proofs.Pinning.{pins-both}

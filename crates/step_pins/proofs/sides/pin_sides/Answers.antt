@@ -3,7 +3,8 @@ use Rattle.express_syntax.specs.SchemaViews.{schema_of}
 use Rattle.schema_rules.specs.Seen.{inverse_seen}
 use Rattle.schema_semantics.specs.Names.{OneOf}
 use Rattle.step_extent.specs.Inverses.{numbers_by, row_by}
-use Rattle.population_typed.specs.Seen.{instance_seen, population_seen}
+use Rattle.population_typed.specs.Rows.{instance_seen}
+use Rattle.population_typed.specs.Seen.{population_seen}
 use Rattle.population_typed.specs.Whole.{form_among}
 use Rattle.population_typed.proofs.Found.{kept}
 use Rattle.step_pins.specs.Pinning.{Pins}

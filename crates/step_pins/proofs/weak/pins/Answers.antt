@@ -2,17 +2,20 @@ use Rattle.std.proofs.Common.{ℕ}
 use Rattle.std.specs.Prelude.{◌⊎◌}
 use Rattle.express_syntax.specs.SchemaViews.{schema_of}
 use Rattle.schema_semantics.specs.Names.{OneOf}
-use Rattle.conformance.specs.Pins.{IsInverseSide, StandsInsideUnique, IsWeaklyPinned}
+use Rattle.conformance.specs.Pins.{IsInverseSide, StandsInsideUnique, StandsBesideItsClass, IsWeaklyPinned}
 use Rattle.schema_rules.specs.Seen.{rules_seen}
 use Rattle.population_typed.specs.Seen.{population_seen}
 use Rattle.step_pins.proofs.Pinning.{pins-both, pins-alike}
+use Rattle.step_pins.specs.Elements.{inside, beside}
+use Rattle.step_pins.specs.Lists.{StandsBeside}
 use Rattle.step_pins.specs.Rows.{PinsByForm}
 use Rattle.step_pins.proofs.Assembled.{together, from-none}
+use Rattle.step_pins.proofs.Beside.{from-empty}
 use Rattle.step_pins.proofs.Distinct.{names-distinct}
 use Rattle.step_pins.proofs.weak.pins.Goals as goal
 
-pub returns : goal.returns
-returns c d en names domain are chosen =
+pub returns-clause-pins : goal.returns-clause-pins
+returns-clause-pins c d en names domain are chosen =
     let p = c.args.extents.now.population.now in
     let s = schema_of p.types.now.names.schema.now in
     let rules = rules_seen s c.args.extents.now.rules.now in
@@ -23,10 +26,18 @@ returns c d en names domain are chosen =
     let old = c.new-names.result in
     let formed = c.pin_by_forms.new.pinned in
     let sided = c.pin_sides.new.pinned in
-    let new = c.pin_elements.new.pinned in
+    let new = c.gather_elements.new.weak.pins.names in
     from-none (IsWeaklyPinned s d en rules names is) old new c.new-names.ensures.empty
     (pins-alike (λ y. (ByForm y ⊎ Side y) ⊎ Inside y) (IsWeaklyPinned s d en rules names is) old new
     (together s d en rules names is (names-distinct p))
     (pins-both (λ y. ByForm y ⊎ Side y) Inside old sided new
     (pins-both ByForm Side old formed sided (c.in_ok-pin_by_forms.ensures en names are chosen) c.in_ok-pin_sides.ensures)
-    (c.in_ok-pin_elements.ensures d en domain are)))
+    (λ y. c.in_ok-gather_elements.ensures d en domain are (inside y))))
+
+pub returns-clause-lists : goal.returns-clause-lists
+returns-clause-lists c d en domain are E y =
+    let p = c.args.extents.now.population.now in
+    let s = schema_of p.types.now.names.schema.now in
+    from-empty (StandsBeside E y) (OneOf (StandsBeside E y) c.gather_elements.new.weak.lists)
+    (OneOf (StandsBesideItsClass s d en E y) (population_seen p)) c.new-lists.result c.new-lists.ensures
+    (c.in_ok-gather_elements.ensures d en domain are (beside E y))

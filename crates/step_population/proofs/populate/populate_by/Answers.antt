@@ -1,5 +1,5 @@
 use Rattle.std.proofs.Common.{refl, rules, length, vec_len, ◌≡◌, ◌∙◌, ◌<◌, sym, arith}
-use Rattle.step_population.proofs.Verdicts.{empty-so, full-so, functions-are, index-is, matched-is, told-so, ready-is, whole-is, population-so}
+use Rattle.step_population.proofs.Verdicts.{empty-so, full-so, functions-are, index-is, matched-is, told-so, ready-is, typed-so, population-is}
 use Rattle.step_population.proofs.populate.populate_by.Goals as goal
 
 pub returns-then-wrong-gt0 : goal.returns-then-wrong-gt0
@@ -36,33 +36,22 @@ values_of-requires-clause-ready c =
 
 pub invariant_of-result : goal.invariant_of-result
 invariant_of-result c = record {
-  whole = ∣ whole-is c.args.types.now.names c.knowledge-known.result c.bases-bases.result c.args.exchange.now c.in_ok-rows.rows
-      c.knowledge-known.ensures.same c.bases-bases.ensures.same c.entities_are_said.ensures
-      c.bases-bases.ensures.bases c.in_ok-rows.ensures c.in_ok-found.found.items c.in_ok-found.ensures (empty-so c.in_ok-found.found.items c.len-wrong.result
+  typed = ∣ population-is c.args.types.now.names c.knowledge-known.result c.bases-bases.result c.args.exchange.now
+      c.in_ok-rows.rows c.knowledge-known.ensures.same c.bases-bases.ensures.same c.entities_are_said.ensures
+      c.bases-bases.ensures.bases c.in_ok-rows.ensures c.in_ok-found.found.items c.in_ok-found.ensures
+      (empty-so c.in_ok-found.found.items c.len-wrong.result
       (c.len-wrong.ensures ∙ sym (let whole : length c.in_ok-found.found.items ≡ vec_len c.in_ok-found.found = search rules in whole)) (omega arith))
       c.in_ok-values.values c.in_ok-values.ensures.rows c.in_ok-values.ensures.leads c.in_ok-values.ensures.refers ∣₁;
 }
 
 pub returns : goal.returns
-returns c =
-    let none = empty-so c.in_ok-found.found.items c.len-wrong.result (c.len-wrong.ensures ∙ sym (let whole : length c.in_ok-found.found.items ≡ vec_len c.in_ok-found.found = search rules in whole)) (omega arith) in (
-      refl,
-      refl,
-      (
-        functions-are c.args.types.now.names c.knowledge-known.result c.bases-bases.result c.args.exchange.now c.in_ok-rows.rows
-            c.knowledge-known.ensures.same c.bases-bases.ensures.same c.entities_are_said.ensures
-            c.bases-bases.ensures.bases c.in_ok-rows.ensures,
-        λ d en domain entities. (
-          sym (told-so c.args.types.now.names c.knowledge-known.result c.bases-bases.result c.args.exchange.now c.in_ok-rows.rows
-              c.knowledge-known.ensures.same c.bases-bases.ensures.same c.entities_are_said.ensures
-              c.bases-bases.ensures.bases c.in_ok-rows.ensures
-              c.in_ok-found.found.items c.in_ok-found.ensures d en domain entities) ∙ none,
-          population-so c.args.types.now.names c.knowledge-known.result c.bases-bases.result c.args.exchange.now c.in_ok-rows.rows
-              c.knowledge-known.ensures.same c.bases-bases.ensures.same c.entities_are_said.ensures
-              c.bases-bases.ensures.bases c.in_ok-rows.ensures
-              c.in_ok-found.found.items c.in_ok-found.ensures none
-              c.in_ok-values.values c.in_ok-values.ensures.rows c.in_ok-values.ensures.leads c.in_ok-values.ensures.refers
-              d en domain entities,
-        ),
-      ),
-    )
+returns c = (
+  refl,
+  refl,
+  typed-so c.args.types.now.names c.knowledge-known.result c.bases-bases.result c.args.exchange.now
+      c.in_ok-rows.rows c.knowledge-known.ensures.same c.bases-bases.ensures.same c.entities_are_said.ensures
+      c.bases-bases.ensures.bases c.in_ok-rows.ensures c.in_ok-found.found.items c.in_ok-found.ensures
+      (empty-so c.in_ok-found.found.items c.len-wrong.result
+      (c.len-wrong.ensures ∙ sym (let whole : length c.in_ok-found.found.items ≡ vec_len c.in_ok-found.found = search rules in whole)) (omega arith))
+      c.in_ok-values.values c.in_ok-values.ensures.rows c.in_ok-values.ensures.leads c.in_ok-values.ensures.refers,
+)

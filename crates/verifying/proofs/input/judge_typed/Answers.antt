@@ -14,7 +14,13 @@ use Rattle.verifying.proofs.Weak.{are_weak}
 use Rattle.verifying.proofs.input.judge_typed.Goals as goal
 
 pub judge_certificate-requires : goal.judge_certificate-requires
-judge_certificate-requires c = record { made = c.requires.ready.made }
+judge_certificate-requires c =
+    let q = c.args.population in
+    let s = schema_of q.types.now.names.schema.now in
+    record {
+      lists = (subst (IsRuled s (population_seen q) c.args.graph.now.rules c.args.chosen.now) c.in-Kept.is
+          c.in_ok-ruled.ensures).2;
+    }
 
 pub returns-in_err-ruled-clause-finds : goal.returns-in_err-ruled-clause-finds
 returns-in_err-ruled-clause-finds c schema input header_bytes choice settles are reads typed =
@@ -50,7 +56,7 @@ returns-clause-finds c schema input header_bytes choice settles are reads typed 
     let is = population_seen q in
     let t = c.args.graph.now.rules in
     let names = chosen_names s choice in
-    let (found, weak) = subst (IsRuled s is t c.args.chosen.now) c.in-Kept.is c.in_ok-ruled.ensures in
+    let (found, weak, lists) = subst (IsRuled s is t c.args.chosen.now) c.in-Kept.is c.in_ok-ruled.ensures in
     let none : AreFindings s f [] [] c.in-Kept.unknown = found-by-rules s f c.requires.said
     c.no_findings_exactly_where_it_conforms.ensures is [] [] c.in-Kept.unknown typed refl found in
     let input_is : IsInput s input f = record {
@@ -63,6 +69,6 @@ returns-clause-finds c schema input header_bytes choice settles are reads typed 
       input_is,
       c.judge_certificate.ensures.judged names (record {
         instances_are = same;
-        are_weak = are_weak s f is t c.args.chosen.now (is_pinned c.in-Kept.weak) names c.requires.ready.rules weak are same;
+        are_weak = are_weak s f is t c.args.chosen.now (is_pinned c.in-Kept.weak.pins) names c.requires.ready.rules weak are same;
       }),
     )

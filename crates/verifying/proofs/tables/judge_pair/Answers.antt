@@ -19,7 +19,7 @@ returns-in_err-judge_tables-clause-judged c chosen certificate text known =
     let p = err_from_is_err_and c.from_residual-in_err-judge_tables.result
     c.from_residual-in_err-judge_tables.ensures.1 in
     rw (p.1, p.2) (lack (schema_of q.types.now.names.schema.now) chosen (structure q.exchange.now) certificate
-    (table_of c.args.first) (table_of c.args.second) text (population_seen q) (is_pinned c.args.weak.now) known
+    (table_of c.args.first) (table_of c.args.second) text (population_seen q) (is_pinned c.args.weak.now.pins) known
     c.in_ok-rows.rows c.in_ok-rows.ensures.rows c.in_ok-rows.ensures.population (is_pinned c.in_ok-rows.gentle)
     c.in_ok-rows.ensures.pins _ c.in_err-judge_tables.ensures)
 
@@ -27,7 +27,7 @@ pub returns-clause-judged : goal.returns-clause-judged
 returns-clause-judged c chosen certificate text known =
     let q = c.args.population in
     hold (schema_of q.types.now.names.schema.now) chosen (structure q.exchange.now) certificate
-    (table_of c.args.first) (table_of c.args.second) text (population_seen q) (is_pinned c.args.weak.now) known
+    (table_of c.args.first) (table_of c.args.second) text (population_seen q) (is_pinned c.args.weak.now.pins) known
     c.in_ok-rows.rows c.in_ok-rows.ensures.rows c.in_ok-rows.ensures.population (is_pinned c.in_ok-rows.gentle)
     c.in_ok-rows.ensures.pins (record { rows = c.in_ok-rows.rows; table = c.args.second }) refl refl
     c.in_ok-judge_tables.ensures

@@ -2,7 +2,7 @@ use Rattle.std.proofs.Common.{◌∙◌, sym, subst}
 use Rattle.std.proofs.Math.Logic.{∥∥₁_map}
 use Rattle.express_syntax.specs.SchemaViews.{schema_of}
 use Rattle.step_values.specs.Targets.{LeadTo}
-use Rattle.population_typed.specs.Whole.{IsWhole}
+use Rattle.population_typed.specs.Typed.{IsPopulation}
 use Rattle.population_typed.proofs.Found.{population-nodes}
 use Rattle.population_typed.proofs.population.Population.cells.Goals as goal
 
@@ -12,6 +12,6 @@ returns-clause-count c = c.cells.ensures.count ∙ population-nodes c.args.self.
 pub returns-clause-references : goal.returns-clause-references
 returns-clause-references c =
     let p = c.args.self.now in
-    ∥∥₁_map p.whole
-    (λ (w : IsWhole (schema_of p.types.now.names.schema.now) p.exchange.now.names p.rows p.values).
-    subst (LeadTo p.exchange.now.names) (sym c.cells.ensures.targets) w.leads)
+    ∥∥₁_map p.typed
+    (λ (w : IsPopulation (schema_of p.types.now.names.schema.now) p.exchange.now p.rows p.values).
+    subst (LeadTo p.exchange.now.names) (sym c.cells.ensures.targets) w.whole.leads)

@@ -2,7 +2,7 @@ use Rattle.std.proofs.Common.{◌≡◌, ◌∙◌, None, Some, sym, ap}
 use Rattle.std.specs.Prelude.{option_copied}
 use Rattle.express_syntax.specs.SchemaViews.{schema_of}
 use Rattle.population_rows.specs.Rows.{form_at}
-use Rattle.population_typed.specs.Seen.{place_at}
+use Rattle.population_typed.specs.Rows.{place_at}
 use Rattle.population_typed.specs.Ordering.{picked_at, position_among}
 use Rattle.population_typed.specs.Whole.{slots_by_form}
 use Rattle.population_typed.proofs.Found.{no-value, instance-there, value_by_form, value-of-row, position-beyond}

@@ -1,4 +1,4 @@
-use Rattle.std.proofs.Common.{subst, sym, ◌∙◌}
+use Rattle.std.proofs.Common.{subst, sym}
 use Rattle.express_syntax.specs.Profile.{Every}
 use Rattle.rule_evaluation.specs.Kept.{IsRight}
 use Rattle.rule_evaluation.proofs.Keeping.{every-pushed}
@@ -7,5 +7,4 @@ use Rattle.rule_evaluation.proofs.kept.KeptValues.keep.Goals as goal
 pub returns : goal.returns
 returns c S m right worth =
     subst (Every (IsRight S m)) (sym c.in_ok-push.ensures.items)
-    (every-pushed (IsRight S m) c.args.self.now.values.items _ right
-    (λ number f is. c.in_ok-value.ensures ∙ worth number f is))
+    (every-pushed (IsRight S m) c.args.self.now.values.items _ right worth)

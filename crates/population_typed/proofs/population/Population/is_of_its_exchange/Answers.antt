@@ -1,0 +1,10 @@
+use Rattle.std.proofs.Math.Logic.{∥∥₁_map}
+use Rattle.express_syntax.specs.SchemaViews.{schema_of}
+use Rattle.population_typed.specs.Typed.{IsPopulation}
+use Rattle.population_typed.proofs.population.Population.is_of_its_exchange.Goals as goal
+
+pub returns : goal.returns
+returns c =
+    let p = c.args.self.now in
+    ∥∥₁_map p.typed
+    (λ (w : IsPopulation (schema_of p.types.now.names.schema.now) p.exchange.now p.rows p.values). w.typed)

@@ -1,8 +1,0 @@
-use Rattle.std.proofs.Common.{◌≡◌, drop}
-use Rattle.population_uniqueness.specs.Positions.{positions_of}
-use Rattle.population_uniqueness.proofs.Behind.{behind}
-use Rattle.population_uniqueness.proofs.positions.positions_of.Given as goal
-
-abbrev pub invariant-loop-place : goal.invariant-loop-place
-invariant-loop-place l =
-    behind l.positions.items (positions_of l.slots (drop l.place-index l.places)) ≡ positions_of l.slots l.places

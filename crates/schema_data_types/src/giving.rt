@@ -1,0 +1,177 @@
+//! What entities and defined types lead to that gives values by itself.
+
+ghost use Rattle.std.specs.Prelude.{◌≡◌, ℕ, length, IfOk};
+ghost use Rattle.digraph.specs.Graphs.{graph_of, next};
+ghost use Rattle.express_syntax.specs.Views.{
+  data_type_of,
+  underlying_of,
+  declaration_of as declaration_seen,
+};
+ghost use Rattle.express_syntax.specs.SchemaViews.{schema_of};
+ghost use Rattle.schema_semantics.specs.Faults.{IsResolved};
+ghost use Rattle.schema_names.specs.Edges.{IsGraphOf, parts_in};
+ghost use Rattle.schema_data_types.specs.Selects.{is_select_at};
+ghost use Rattle.schema_data_types.specs.Giving.{is_leaf, gives_by, gives_in, gives_at, one_if, own_row};
+ghost use Rattle.schema_data_types.specs.Gathering.{IsGathered};
+ghost use Rattle.schema_data_types.specs.Values.{AreParts};
+
+use crate::gathering::gathered;
+use crate::values::is_select;
+use express_syntax::tree::{DataType, Declaration, Underlying};
+use schema_names::names::Names;
+use std::alloc::{AllocError, Global};
+
+/// What the types and entities of a schema lead to, through names and SELECTs, by declaration.
+#[derive(Drop)]
+pub struct Parts {
+    /// The numbers of those that give values by themselves: entities, enumerations, and defined types
+    /// that stand for a data type without a name. One that does is among its own.
+    pub giving: Vec<Vec<u32>>,
+    /// 0, where it is a SELECT or leads to one.
+    pub selects: Vec<Vec<u32>>,
+}
+
+/// What is gathered.
+#[derive(Clone, Copy)]
+enum Wanted {
+    /// The number of each that gives values by itself.
+    Giving,
+    /// 0 for each SELECT.
+    Selects,
+}
+
+/// Whether it is a data type without a name.
+fn is_leaf(data_type: &DataType<'_>) -> bool
+    ensures { result ≡ is_leaf (data_type_of data_type.now) }
+{
+    match data_type {
+        DataType::Named(_) => false,
+        DataType::Integer | DataType::Number | DataType::Boolean | DataType::Logical => true,
+        DataType::Real(_) | DataType::String(_) | DataType::Binary(_) => true,
+        DataType::Array { .. } | DataType::List { .. } => true,
+        DataType::Bag { .. } | DataType::Set { .. } => true,
+    }
+}
+
+/// Whether what stands behind the `=` of a defined type gives values by itself.
+fn gives_by(underlying: &Underlying<'_>) -> bool
+    ensures { result ≡ gives_by (underlying_of underlying.now) }
+{
+    match underlying {
+        Underlying::Enumeration(_) => true,
+        Underlying::Select(_) => false,
+        Underlying::DataType(data_type) => is_leaf(data_type),
+    }
+}
+
+/// Whether what is declared gives values by itself.
+fn gives(declaration: &Declaration<'_>) -> bool
+    ensures { result ≡ gives_in (declaration_seen declaration.now) }
+{
+    match declaration {
+        Declaration::Entity(_) => true,
+        Declaration::Type(declared) => gives_by(&declared.underlying),
+        Declaration::Skipped(_) => false,
+    }
+}
+
+/// Whether what is declared at a number gives values by itself.
+fn gives_at(names: &Names<'_, '_>, number: u32) -> bool
+    ensures { result ≡ gives_at (schema_of names.now.schema.now) number }
+{
+    match names.at(number) {
+        Some(declaration) => gives(declaration),
+        None => false,
+    }
+}
+
+/// Whether a SELECT is declared at this number.
+fn is_select_at(names: &Names<'_, '_>, number: u32) -> bool
+    ensures { result ≡ is_select_at (schema_of names.now.schema.now) number }
+{
+    match names.at(number) {
+        Some(declaration) => is_select(declaration),
+        None => false,
+    }
+}
+
+/// A row of a number, or of none.
+fn one_if(alloc: Global, is_there: bool, number: u32) -> Result<Vec<u32>, AllocError>
+    ensures { IfOk result (λ row. row.items ≡ one_if is_there number) }
+{
+    let mut row = Vec::new(alloc);
+    if is_there {
+        row.push(number)?;
+    }
+    Ok(row)
+}
+
+/// What a declaration has of its own.
+fn own_row(
+    alloc: Global,
+    names: &Names<'_, '_>,
+    wanted: Wanted,
+    number: u32,
+) -> Result<Vec<u32>, AllocError>
+    ensures { IfOk result (λ row. row.items
+        ≡ own_row wanted (schema_of names.now.schema.now) number) }
+{
+    match wanted {
+        Wanted::Giving => one_if(alloc, gives_at(names, number), number),
+        Wanted::Selects => one_if(alloc, is_select_at(names, number), 0),
+    }
+}
+
+/// What each declaration has of its own.
+fn own_rows(
+    alloc: Global,
+    names: &Names<'_, '_>,
+    wanted: Wanted,
+) -> Result<Vec<Vec<u32>>, AllocError>
+    ensures length { IfOk result (λ t. length t.items
+        ≡ length names.now.schema.now.declarations.items) }
+    ensures rows { IfOk result (λ t. (i : ℕ) → next (graph_of t.items) i
+        ≡ own_row wanted (schema_of names.now.schema.now) i) }
+{
+    let mut rows = Vec::new(alloc);
+    for i in 0..names.declarations().len() {
+        let row = own_row(alloc, names, wanted, i as u32)?;
+        rows.push(row)?;
+    }
+    Ok(rows)
+}
+
+/// What each declaration and all that it leads to have.
+fn gathered_rows(
+    alloc: Global,
+    names: &Names<'_, '_>,
+    edges: &[Vec<u32>],
+    wanted: Wanted,
+) -> Result<Vec<Vec<u32>>, AllocError>
+    requires resolved { IsResolved (schema_of names.now.schema.now) }
+    requires graph { IsGraphOf (schema_of names.now.schema.now) parts_in (graph_of edges.now) }
+    ensures { IfOk result (λ t. IsGathered (graph_of edges.now)
+        (own_row wanted (schema_of names.now.schema.now)) (graph_of t.items)) }
+{
+    let own = own_rows(alloc, names, wanted)?;
+    gathered(alloc, edges, &own, edges.len())
+}
+
+/// The parts of a schema whose names are resolved, by the graph of what its defined types are made
+/// of.
+///
+/// It takes time for each declaration, and for each part that a type takes over from one that it is
+/// made of.
+pub fn parts_of(
+    alloc: Global,
+    names: &Names<'_, '_>,
+    edges: &[Vec<u32>],
+) -> Result<Parts, AllocError>
+    requires resolved { IsResolved (schema_of names.now.schema.now) }
+    requires graph { IsGraphOf (schema_of names.now.schema.now) parts_in (graph_of edges.now) }
+    ensures { IfOk result (AreParts (schema_of names.now.schema.now)) }
+{
+    let giving = gathered_rows(alloc, names, edges, Wanted::Giving)?;
+    let selects = gathered_rows(alloc, names, edges, Wanted::Selects)?;
+    Ok(Parts { giving, selects })
+}
