@@ -75,6 +75,38 @@ CYCLE = FRAME % "".join(f"#{k}=NODE(#{k % NODES + 1});\n" for k in range(1, NODE
 ONE_NODE = FRAME % "#1=NODE(#1);\n"
 ONE_CLASS = "rounds 0\nC0\n" + "".join(f"#{k}=C0\n" for k in range(1, NODES + 1))
 
+# Schemas whose names are wrong, and the fault of each.
+NAMES = {
+    "unknown.exp": ("ENTITY a; x : b; END_ENTITY;", "S3 UnknownName B"),
+    "twice_a.exp": ("ENTITY a; END_ENTITY;\nENTITY A; END_ENTITY;", "S4 DuplicateName A"),
+    "below.exp": ("ENTITY a SUBTYPE OF (b); END_ENTITY;\nENTITY b SUBTYPE OF (a); END_ENTITY;", "S5 SupertypeCycle A"),
+    "within.exp": ("TYPE a = SELECT (b); END_TYPE;\nTYPE b = SELECT (a); END_TYPE;", "S6 TypeCycle A"),
+}
+DIFFERENT = FRAME % EQUAL.replace("#2=POINT((0.0,1.E0));", "#2=POINT((5.,1.));")
+SPLIT = ["rounds 2", "C0", "C1", "C2=C0@1", "C3=C1@2", "#1=C0", "#2=C2", "#3=C1", "#4=C3"]
+
+
+def certified(*changes, end="end\n"):
+    """A certificate of DIFFERENT, where lines of both tables have become others."""
+    lines = SPLIT.copy()
+    for place, line in changes:
+        lines[place] = line
+    tables = "".join(f"table {k}\n" + "".join(f"{line}\n" for line in lines) for k in (1, 2))
+    return f"STEPCERT 2\n{tables}{end}"
+
+
+# Certificates that were changed, and the fault of each.
+CHANGED = {
+    "rounds.cert": (certified((0, "rounds 4294967296")), "C1 BadText at line 3"),
+    "own_parent.cert": (certified((3, "C2=C2@1")), "C1 BadText at line 6"),
+    "late_round.cert": (certified((3, "C2=C0@3")), "C1 BadText at line 6"),
+    "early_round.cert": (certified((4, "C3=C2@1")), "C1 BadText at line 7"),
+    "no_class.cert": (certified((6, "#2=C9")), "C1 BadText at line 9"),
+    "order.cert": (certified((6, SPLIT[7]), (7, SPLIT[6])), "C2 WrongNames"),
+    "no_end.cert": (certified(end=""), "C1 BadText at line 22"),
+    "two_ends.cert": (certified(end="end\nend\n"), "C1 BadText at line 23"),
+}
+
 # A value that is asked for twice, one within sixty brackets, and one within thirty queries.
 DERIVED = {
     "twice.exp": derived(lambda name: f"{name} AND {name}"),
@@ -203,6 +235,7 @@ RUNS = [
     Run(["check", "geo.exp", "missing.stp"], 4, err="device: file\n"),
     Run(["check", "geo.exp", "broken.stp"], 4, full_out=True, err="device: output after 0 bytes\n"),
     Run(["check", "geo.exp", "large.stp"], 5, megabytes=96, err="memory\n"),
+    *(Run(["check", name, "small.stp"], 2, err=f"schema: {fault}\n") for name, (_, fault) in NAMES.items()),
     *(Run(["check", name, "derived.stp"], 0, out="instances 1\nunknown 0\nfindings 0\n") for name in DERIVED),
     Run(["plain", "/dev/stdin"], 0, stdin="spelt.stp", out=NORMAL),
     Run(["check", "/dev/stdin", "small.stp"], 0, stdin="geo.exp", out="instances 1\nunknown 0\nfindings 0\n"),
@@ -210,6 +243,10 @@ RUNS = [
     Run(["plain", "spelt.stp"], 4, closed_out=True, err="device: output after 0 bytes\n"),
     *(Run(["shrink", *words], status, **wanted) for words, status, wanted in SHRINKING),
     *(Run(["verify", *words], status, **wanted) for words, status, wanted in VERIFYING),
+    Run(["verify", "geo.exp", "differ.stp", "differ.stp", "split.cert", *MERGE], 0,
+        out="instances 4\nkept 4\nrounds 2\ncertificate holds\n"),
+    *(Run(["verify", "geo.exp", "differ.stp", "differ.stp", name, *MERGE], 6, err=f"certificate: {fault}\n")
+      for name, (_, fault) in CHANGED.items()),
 ]
 
 
@@ -218,6 +255,8 @@ FILES = {
     "equal.stp": FRAME % EQUAL, "self.stp": FRAME % EQUAL, "smaller.stp": SMALLER,
     "geo.exp": SCHEMA, "cut.exp": SCHEMA[:len(SCHEMA) // 2], "procedure.exp": PROCEDURE,
     **DERIVED, "derived.stp": FRAME % "#1=A(.T.,(.T.));\n", "node.exp": NODE, "cycle.stp": CYCLE,
+    **{name: f"SCHEMA s;\n{body}\nEND_SCHEMA;\n" for name, (body, _) in NAMES.items()},
+    "differ.stp": DIFFERENT, "split.cert": certified(), **{name: text for name, (text, _) in CHANGED.items()},
     "right.cert": CERTIFICATE, "old.cert": "STEPCERT 1\nrounds 0\nend\n", "bad.cert": "STEPCERT 2\ntable 1\nrounds 00\n",
 }
 
