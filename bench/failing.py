@@ -5,7 +5,8 @@
 
 Runs each command on the files of bench/statuses.py with a small library before the C library, which `cc` makes: it
 refuses the Nth block of memory, or fails the Nth call that opens, reads, writes, keeps, renames or asks about a file,
-or asks for random bytes, for each N; and once it reads and writes one byte a call.
+or asks for random bytes, for each N; and once it reads and writes one byte a call. `shrink` also has each call fail
+where it reads and writes one byte a call.
 
 Where memory is refused the program has to say `memory`, with status 5, and to have written nothing; or to do all that
 it does where nothing is refused, since some blocks are only asked for ahead or made smaller; or that the output or the
@@ -16,6 +17,7 @@ has to change nothing.
 Status 0: all of it is so. 1: something isn't. 2: the words are wrong.
 """
 import os
+import re
 import subprocess
 import sys
 import tempfile
@@ -107,11 +109,9 @@ class Trial(NamedTuple):
     library: str
     folder: str
 
-    def run(self, words, name="", number=0):
+    def run(self, words, **failing):
         write_files(self.folder, SMALL)
-        environment = {**os.environ, "LD_PRELOAD": self.library}
-        if name:
-            environment[name] = str(number)
+        environment = {**os.environ, "LD_PRELOAD": self.library, **{name: str(it) for name, it in failing.items()}}
         done = subprocess.run([self.program, *words], cwd=self.folder, stdin=subprocess.DEVNULL, env=environment,
                               capture_output=True, text=True, timeout=60, check=False)
         return Answer(done.returncode, done.stdout, done.stderr, changed(self.folder))
@@ -131,10 +131,10 @@ def is_front(answer, whole):
     return answer.status == 4 and said and fronts and whole.out.startswith(answer.out)
 
 
-def counts(trial, words):
+def counts(trial, words, **failing):
     """How many blocks of memory are asked for, and how many calls there are."""
     path = trial.library + ".counts"
-    trial.run(words, "FAILING_COUNTS", path)
+    trial.run(words, FAILING_COUNTS=path, **failing)
     with open(path, encoding="ascii") as file:
         return map(int, file.read().split())
 
@@ -143,7 +143,7 @@ def failures(trial, words, whole, name, count, is_right):
     """How often all was done though something failed; none where an answer is wrong."""
     done = 0
     for number in range(1, count + 1):
-        answer = trial.run(words, name, number)
+        answer = trial.run(words, **{name: number})
         if not is_right(answer, whole):
             print(f"{words}, {name} {number}: {answer}")
             return None
@@ -158,10 +158,34 @@ def is_robust(trial, words):
     if done is None or failures(trial, words, whole, "FAILING_CALL", calls, is_front) is None:
         return False
     print(f"{' '.join(words)}: {blocks} blocks of memory, all is done without each of {done}; {calls} calls", flush=True)
-    if trial.run(words, "FAILING_SIZE", 1) != whole:
+    if trial.run(words, FAILING_SIZE=1) != whole:
         print(f"{words}: one byte a call makes a difference")
         return False
     return True
+
+
+def is_told_byte_by_byte(trial):
+    """Whether `shrink` tells after how many bytes its output or its certificate fails, for each number of bytes."""
+    words = ["shrink", "geo.exp", "equal.stp", *WRITTEN, *MERGE]
+    whole, told = trial.run(words), set()
+    _, calls = counts(trial, words, FAILING_SIZE=1)
+    for number in range(1, calls + 1):
+        answer = trial.run(words, FAILING_SIZE=1, FAILING_CALL=number)
+        said = re.fullmatch(r"device: (output|certificate) after (\d+) bytes\n", answer.err)
+        written = [answer.made.get(name, "") for name in WRITTEN]
+        if said and answer.made == whole.made:
+            said = None  # the report, which goes to the standard output once both files are whole
+        if said:
+            is_output, count = said[1] == "output", int(said[2])
+            wanted = [whole.made[WRITTEN[0]], whole.made[WRITTEN[1]]]
+            wanted = [wanted[0][:count], ""] if is_output else [wanted[0], wanted[1][:count]]
+            told.add((said[1], count))
+        if not is_front(answer, whole) or said and written != wanted:
+            print(f"{words}, one byte a call, call {number}: {answer}")
+            return False
+    missing = {(role, k) for role, name in zip(ROLES, WRITTEN) for k in range(len(whole.made[name]))} - told
+    print(f"shrink, one byte a call: {calls} calls, {len(told)} numbers of bytes told, {len(missing)} missing")
+    return not missing
 
 
 def main(words):
@@ -173,7 +197,7 @@ def main(words):
         subprocess.run(["cc", "-O1", "-shared", "-fPIC", "-x", "c", "-", "-o", library, "-ldl"], input=LIBRARY, text=True,
                        check=True)
         trial = Trial(os.path.abspath(words[0]), library, files)
-        return 0 if all([is_robust(trial, command) for command in COMMANDS]) else 1
+        return 0 if all([*(is_robust(trial, command) for command in COMMANDS), is_told_byte_by_byte(trial)]) else 1
 
 
 if __name__ == "__main__":
