@@ -1,6 +1,20 @@
 //! Writing certificates.
 
-ghost use Rattle.std.specs.Prelude.{◌≡◌, ◌++◌, ◌∷◌, [], map, is_err, false, decimal};
+ghost use Rattle.std.specs.Prelude.{
+  ◌≡◌,
+  ◌+◌,
+  ◌<◌,
+  ◌≤◌,
+  ◌++◌,
+  ◌∷◌,
+  [],
+  map,
+  drop,
+  length,
+  is_err,
+  false,
+  decimal,
+};
 ghost use Rattle.devices.specs.Emits.{Emits};
 ghost use Rattle.devices.specs.Prints.{Prints};
 ghost use Rattle.step_equal.specs.TableViews.{table_of, origin_of, member_of};
@@ -16,7 +30,11 @@ ghost use Rattle.certificate_text.specs.Texts.{
 
 use devices::device::{Sink, WriteFault};
 use devices::printer::Printer;
+use itoa::write_digits;
 use step_equal::table::{Origin, Table};
+
+/// No line of a class or of a member is longer.
+const ROOM: usize = 80;
 
 /// Writes the certificate of two tables, version 2: `STEPCERT 2`, `table 1`, the lines of the first,
 /// `table 2`, the lines of the second, `end`, each ended by a line feed. The lines of a table are its
@@ -66,28 +84,46 @@ fn print_classes<S: Sink>(printer: &mut Printer, out: &mut S, classes: &[Origin]
     }
 }
 
-/// Prints the line of a class.
+/// Puts a byte before what stands in a line from an index on, and answers where it begins then.
+fn put_before(line: &mut [u8], at: usize, byte: u8) -> usize
+    requires first { 0 < at }
+    requires within { at ≤ length line.old }
+    ensures start { result + 1 ≡ at }
+    ensures written { drop result line.new ≡ byte ∷ drop at line.old }
+{
+    line[at - 1] = byte;
+    at - 1
+}
+
+/// Puts where a class comes from before what stands in a line from an index on, and answers where it
+/// begins then.
+fn put_origin(line: &mut [u8], at: usize, origin: &Origin) -> usize
+    requires room { 43 ≤ at }
+    requires within { at ≤ length line.old }
+    ensures start { (at ≤ result + 43) × (result ≤ at) }
+    ensures written { drop result line.new ≡ origin_text (origin_of origin.now) ++ drop at line.old }
+{
+    let Origin::Split { parent, round } = *origin else {
+        return at;
+    };
+    let at = write_digits(u64::from(round), line, at);
+    let at = put_before(line, at, b'@');
+    let at = write_digits(u64::from(parent), line, at);
+    let at = put_before(line, at, b'C');
+    put_before(line, at, b'=')
+}
+
+/// Prints the line of a class. It is put together from its end.
 fn print_class<S: Sink>(printer: &mut Printer, out: &mut S, number: u64, origin: &Origin)
     ensures { Prints S.held S.has_failed out.old out.new printer.old printer.new
         (class_line number (origin_of origin.now) ++ (10 ∷ [])) }
 {
-    printer.print_byte(out, b'C');
-    print_number(printer, out, number);
-    print_origin(printer, out, origin);
-    printer.print_byte(out, b'\n');
-}
-
-/// Prints where a class comes from.
-fn print_origin<S: Sink>(printer: &mut Printer, out: &mut S, origin: &Origin)
-    ensures { Prints S.held S.has_failed out.old out.new printer.old printer.new
-        (origin_text (origin_of origin.now)) }
-{
-    if let Origin::Split { parent, round } = *origin {
-        printer.print(out, b"=C");
-        print_number(printer, out, u64::from(parent));
-        printer.print_byte(out, b'@');
-        print_number(printer, out, u64::from(round));
-    }
+    let mut line = [0; ROOM];
+    let at = put_before(&mut line, ROOM, b'\n');
+    let at = put_origin(&mut line, at, origin);
+    let at = write_digits(number, &mut line, at);
+    let at = put_before(&mut line, at, b'C');
+    printer.print(out, &line[at..]);
 }
 
 /// Prints a line for each member.
@@ -100,16 +136,19 @@ fn print_members<S: Sink>(printer: &mut Printer, out: &mut S, members: &[(u64, u
     }
 }
 
-/// Prints the line of a member.
+/// Prints the line of a member. It is put together from its end.
 fn print_member<S: Sink>(printer: &mut Printer, out: &mut S, member: (u64, u32))
     ensures { Prints S.held S.has_failed out.old out.new printer.old printer.new
         (member_line (member_of member) ++ (10 ∷ [])) }
 {
-    printer.print_byte(out, b'#');
-    print_number(printer, out, member.0);
-    printer.print(out, b"=C");
-    print_number(printer, out, u64::from(member.1));
-    printer.print_byte(out, b'\n');
+    let mut line = [0; ROOM];
+    let at = put_before(&mut line, ROOM, b'\n');
+    let at = write_digits(u64::from(member.1), &mut line, at);
+    let at = put_before(&mut line, at, b'C');
+    let at = put_before(&mut line, at, b'=');
+    let at = write_digits(member.0, &mut line, at);
+    let at = put_before(&mut line, at, b'#');
+    printer.print(out, &line[at..]);
 }
 
 /// Prints a number, without leading zeros.

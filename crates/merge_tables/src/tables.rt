@@ -104,7 +104,7 @@ fn tables_by(
         (is_pinned weak.now.pins) (table_of t.0) (table_of t.1)) }
 {
     let first = standard_table(alloc, keys, rows, &weak.pins, signatures)?;
-    let gentle = weak.gentle(alloc, &first)?;
+    let gentle = weak.gentle(alloc, keys, &first)?;
     let second = second_table(alloc, keys, rows, &weak.pins, &gentle, signatures, &first)?;
     Ok((first, second))
 }

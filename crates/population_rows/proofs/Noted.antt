@@ -1,12 +1,12 @@
 -- Rows that are noted name by name.
-use Rattle.std.specs.Prelude.{◌≡◌, ℕ, ◌+◌, ◌-◌, ◌<◌, ◌≤◌, Bool, true, false, cond, nat_lt, nat_eq, List, [], ◌∷◌, ◌++◌, Option, None, Some, length, take, set, get_or, slice_get}
+use Rattle.std.specs.Prelude.{◌≡◌, map, ℕ, ◌+◌, ◌-◌, ◌<◌, ◌≤◌, Bool, true, false, cond, nat_lt, nat_eq, List, [], ◌∷◌, ◌++◌, Option, None, Some, length, take, set, get_or, replicate, slice_get}
 use Rattle.std.specs.Option.{option_map}
 use Rattle.std.proofs.Common.{refl, ap, sym, ◌∙◌, arith, zero, suc, add-one}
 use Rattle.std.proofs.Math.Seq.{take-suc}
-use Rattle.std.proofs.lemmas.List.{length-take-le}
+use Rattle.std.proofs.lemmas.List.{get_or-map, length-take-le, map-set}
 use Rattle.std.proofs.lemmas.Grind.{common_steps}
 use Rattle.std.proofs.lemmas.Bool.Decides.{nat_tests}
-use Rattle.population_rows.specs.Index.{place_of, some_row, dense_at}
+use Rattle.population_rows.specs.Index.{place_of, some_row, dense_at, told}
 use Rattle.population_rows.specs.Noting.{earlier}
 
 earlier-or-later : (b c : Bool) (p : Option ℕ) (n : ℕ)
@@ -73,3 +73,29 @@ dense-more least rows n row y le lt =
     ∙ noted-there least rows n y noted le lt
     ∙ old-there least rows n y row le
     ∙ ap (λ o. cond (nat_eq n y) (Some (earlier o row)) o) (sym (dense-seen least rows y))
+
+-- .. in a place where none is told
+pub told-first : (rows : List ℕ) (place row r : ℕ) → place < length rows → r ≡ get_or rows place r → r ≡ 0
+    → map told (set rows place (row + 1))
+    ≡ set (map told rows) place (Some (earlier (get_or (map told rows) place None) row))
+told-first rows place row r lt here free =
+    let none : get_or (map told rows) place None ≡ None =
+    get_or-map told rows place r None lt ∙ ap told (sym here ∙ free) in
+    map-set told rows place (row + 1)
+    ∙ ap (λ n. set (map told rows) place (told n)) (add-one row)
+    ∙ ap (λ o. set (map told rows) place (Some (earlier o row))) (sym none)
+
+same-either : {A : Type 0} (b : Bool) (x : A) → cond b x x ≡ x
+same-either true x = refl
+same-either false x = refl
+
+pub told-none : (width least y : ℕ) → dense_at least (map told (replicate width 0)) y ≡ None
+told-none width least y =
+    dense-seen least (map told (replicate width 0)) y
+    ∙ ap (λ o. cond (nat_lt y least) None o) (nothing width (y - least))
+    ∙ same-either (nat_lt y least) None
+  where
+    nothing : (n i : ℕ) → get_or (map told (replicate n 0)) i None ≡ None
+    nothing zero i = refl
+    nothing (suc n) zero = refl
+    nothing (suc n) (suc i) = nothing n i

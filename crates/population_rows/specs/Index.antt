@@ -1,5 +1,5 @@
 -- Where names stand in a list.
-use Rattle.std.specs.Prelude.{ℕ, suc, ◌==◌, ◌-◌, cond, nat_lt, nat_eq, List, [], ◌∷◌, Option, None, Some, slice_get}
+use Rattle.std.specs.Prelude.{ℕ, zero, suc, map, ◌==◌, ◌-◌, cond, nat_lt, nat_eq, List, [], ◌∷◌, Option, None, Some, slice_get}
 use Rattle.std.specs.Option.{option_map}
 use Rattle.indexmap.specs.IndexMap.{get}
 use Rattle.population_rows.specs.declared.index.RowIndex.{RowIndex}
@@ -18,7 +18,12 @@ some_row (Some r) = r
 abbrev pub dense_at : ℕ → List (Option ℕ) → ℕ → Option ℕ
 dense_at least rows y = cond (nat_lt y least) None (some_row (slice_get rows (y - least)))
 
+-- a row that is counted from 1, where it is told
+abbrev pub told : ℕ → Option ℕ
+told zero = None
+told (suc row) = Some row
+
 -- what is found by a name
 abbrev pub found : RowIndex → ℕ → Option ℕ
-found (Dense least rows) y = dense_at least rows.items y
+found (Dense least rows) y = dense_at least (map told rows.items) y
 found (Hashed map) y = get nat_eq map y

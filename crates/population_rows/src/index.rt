@@ -14,6 +14,7 @@ ghost use Rattle.std.specs.Prelude.{
   set,
   ℕ,
   length,
+  map,
   take,
   EachIndex,
   IfOk,
@@ -22,7 +23,7 @@ ghost use Rattle.std.specs.Prelude.{
   slice_index,
 };
 ghost use Rattle.indexmap.specs.IndexMap.{get};
-ghost use Rattle.population_rows.specs.Index.{place_of, dense_at, found};
+ghost use Rattle.population_rows.specs.Index.{place_of, dense_at, found, told};
 ghost use Rattle.population_rows.specs.Noting.{earlier};
 
 use indexmap::IndexMap;
@@ -34,8 +35,8 @@ use std::hash::RandomState;
 /// author of a text doesn't know.
 #[derive(Drop)]
 pub enum RowIndex {
-    /// By name, less the least one.
-    Dense { least: u64, rows: Vec<Option<u32>> },
+    /// By name, less the least one: the row, counted from 1, or 0 where there is none.
+    Dense { least: u64, rows: Vec<u32> },
     Hashed(IndexMap<u64, u32, RandomState>),
 }
 
@@ -87,13 +88,14 @@ fn dense_range(names: &[u64]) -> Option<(u64, usize)>
 }
 
 /// Notes the row of a name, unless an earlier one stands there.
-fn note(rows: &mut Vec<Option<u32>>, place: usize, row: u32)
-    requires { place < length rows.now.items }
-    ensures { rows.new.items
-        ≡ set rows.old.items place (Some (earlier (get_or rows.old.items place None) row)) }
+fn note(rows: &mut Vec<u32>, place: usize, row: u32)
+    requires within { place < length rows.now.items }
+    requires few { row + 1 < 2 ^ 32 }
+    ensures { map told rows.new.items ≡ set (map told rows.old.items) place
+        (Some (earlier (get_or (map told rows.old.items) place None) row)) }
 {
-    if rows[place].is_none() {
-        rows[place] = Some(row);
+    if rows[place] == 0 {
+        rows[place] = row + 1;
     }
 }
 
@@ -103,13 +105,14 @@ fn dense_rows(
     least: u64,
     width: usize,
     names: &[u64],
-) -> Result<Vec<Option<u32>>, AllocError>
+) -> Result<Vec<u32>, AllocError>
     requires few { length names.now < 2 ^ 32 }
     requires within { EachIndex names.now (λ k. (least ≤ slice_index names.now k)
         × (slice_index names.now k < least + width)) }
-    ensures { IfOk result (λ rows. (y : ℕ) → dense_at least rows.items y ≡ place_of names.now y) }
+    ensures { IfOk result (λ rows. (y : ℕ)
+        → dense_at least (map told rows.items) y ≡ place_of names.now y) }
 {
-    let mut rows = vec![in alloc; None; width]?;
+    let mut rows = vec![in alloc; 0u32; width]?;
     for n in 0..names.len() {
         note(&mut rows, (names[n] - least) as usize, n as u32);
     }
@@ -117,11 +120,12 @@ fn dense_rows(
 }
 
 /// The row of a name among rows that begin with that of the least one.
-fn dense_row(least: u64, rows: &[Option<u32>], name: u64) -> Option<u32>
-    ensures { result ≡ dense_at least rows.now name }
+fn dense_row(least: u64, rows: &[u32], name: u64) -> Option<u32>
+    ensures { result ≡ dense_at least (map told rows.now) name }
 {
     let place = name.checked_sub(least)?;
-    rows.get(place as usize).copied().flatten()
+    let told = *rows.get(place as usize)?;
+    told.checked_sub(1)
 }
 
 /// Adds the row of a name that has none.

@@ -22,7 +22,7 @@ use Rattle.step_values.specs.ComputedAgreement.{size}
 use Rattle.step_values.specs.NodeCounts.{nodes_of, nodes_in}
 use Rattle.step_values.specs.Slots.{nth}
 use Rattle.step_values.specs.References.{EachReference, EachReferenceOf}
-use Rattle.step_values.specs.Targets.{ReferTo}
+use Rattle.step_values.specs.Targets.{LeadTo, ReferTo}
 use Rattle.step_values.specs.Values.{Value, leaf, reference, typed, sequence, bag, Values, none, more}
 use Rattle.step_values.proofs.References.{each_weaker_of}
 use Rattle.schema_names.specs.Numbers.{HasNumber}
@@ -72,6 +72,11 @@ mutual
   references-prop Q h none = λ x z. refl
   references-prop Q h (more v vs) =
       both-props (EachReference Q v) (EachReferenceOf Q vs) (reference-prop Q h v) (references-prop Q h vs)
+
+leads-prop : (names : List ℕ) (ts : List (ℕ × ℕ)) → IsProp (LeadTo names ts)
+leads-prop names [] = λ x z. refl
+leads-prop names (t ∷ ts) =
+    both-props (slice_get names t.1 ≡ Some t.0) (LeadTo names ts) (option-set _ _) (leads-prop names ts)
 
 IsThere : List ℕ → ℕ → Type 0
 IsThere names y = is_some (place_of names y) ≡ true
@@ -148,6 +153,7 @@ pub record IsKept (p : Population) : Type 0 where
       p.rows.form_of.items
   pub one : AreOne (all_places (schema_of p.types.now.names.schema.now))
   pub numbered : Every (AreNumbered (schema_of p.types.now.names.schema.now)) p.rows.forms.items
+  pub leads : LeadTo p.exchange.now.names p.values.targets
   pub refers : ReferTo p.exchange.now.names p.values.rows
 
 pub kept : (p : Population) → IsKept p
@@ -165,6 +171,7 @@ kept p = record {
       (λ r. places-are-one (schema_of p.types.now.names.schema.now) r.once a b q e f);
   numbered = ∥∥₁_elim p.typed (every-prop _ (numbered-prop (schema_of p.types.now.names.schema.now)) p.rows.forms.items)
       (λ w. w.whole.numbered);
+  leads = ∥∥₁_elim p.typed (leads-prop p.exchange.now.names p.values.targets) (λ w. w.whole.leads);
   refers = named-rows p.exchange.now.names p.values.rows
       (∥∥₁_elim p.typed (all-there-prop p.exchange.now.names p.values.rows)
       (λ w. rows-there p.exchange.now.names p.values.rows w.whole.refers));

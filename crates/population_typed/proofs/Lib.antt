@@ -5,3 +5,4 @@ pub mod Orders
 pub mod Headed
 pub mod Copied
 pub mod RowsMade
+mod Moved

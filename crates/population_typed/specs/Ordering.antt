@@ -1,11 +1,12 @@
 -- The order in which the values of instances stand in their rows.
-use Rattle.std.specs.Prelude.{◌≡◌, ℕ, List, [], ◌∷◌, Option, None, Some, map, flat_map, slice_get}
-use Rattle.std.specs.List.{AllZip}
+use Rattle.std.specs.Prelude.{◌≡◌, ⊤, ℕ, List, [], ◌∷◌, Option, None, Some, IsPermutation, length, map, flat_map, slice_get}
+use Rattle.std.specs.List.{AllZip, range_with_len}
 use Rattle.std.specs.Option.{unwrap_or}
 use Rattle.express_syntax.specs.Schemas.{Schema}
 use Rattle.schema_semantics.specs.Attributes.{Place}
 use Rattle.schema_places.specs.Places.{all_places}
 use Rattle.population_rows.specs.Index.{place_of}
+use Rattle.step_values.specs.ComputedAgreement.{size}
 use Rattle.step_values.specs.Slots.{nth}
 use Rattle.step_values.specs.Values.{Value, Values, none, more}
 use Rattle.step_values.specs.Views.{word_of}
@@ -15,6 +16,8 @@ use Rattle.schema_bases.specs.Seen.{name_at}
 use Rattle.conformance.specs.Entities.{own_places_of}
 use Rattle.population_rows.specs.declared.form.SlotForm.{SlotForm}
 use Rattle.population_rows.specs.declared.form.Form.{Form}
+use Rattle.population_typed.specs.declared.ordering.Moves.{Moves}
+use Rattle.population_typed.specs.declared.ordering.Moves.TheVariants as moves
 use Rattle.population_typed.specs.declared.ordering.Order.{Order}
 use Rattle.conformance.specs.PlainRows.{or_unset}
 
@@ -30,10 +33,22 @@ StandsAt s xs p o = (q : ℕ) × (slice_get (all_places s) q ≡ Some p) × (o �
 abbrev pub StandAt : Schema → List SlotForm → List Place → List (Option ℕ) → Type 0
 StandAt s xs ps os = AllZip (StandsAt s xs) ps os
 
+-- these positions are all that there are, each once, where values are moved to them
+abbrev pub AreMoves : List (Option ℕ) → Moves → Type 0
+AreMoves os (moves.Kept n) = os ≡ map Some (range_with_len 0 n)
+AreMoves os (moves.Moved ks) =
+    (os ≡ map Some ks.items) × IsPermutation (range_with_len 0 (length ks.items)) ks.items
+AreMoves os moves.Copied = ⊤
+
+-- .. of an order
+abbrev pub HasMoves : Order → Type 0
+HasMoves o = AreMoves o.positions.items o.moves
+
 -- The types of a form in the order of their letters, and where the attributes stand that they declare, type by type.
 pub record IsOrder (s : Schema) (x : Form) (o : Order) : Type 0 where
   pub types : AreInOrder (map (name_at s) x.types.items) (map word_of o.types.items)
   pub positions : StandAt s x.slots.items (flat_map (own_places_of s) (map word_of o.types.items)) o.positions.items
+  pub moves : HasMoves o
 
 abbrev pub AreOrders : Schema → List Form → List Order → Type 0
 AreOrders s forms orders = AllZip (IsOrder s) forms orders
@@ -62,6 +77,22 @@ row_picked (Some o) vs = picked vs o.positions.items
 abbrev pub rows_picked : List Order → List (Option ℕ) → List Values → List Values
 rows_picked orders (n ∷ ns) (vs ∷ rows) = row_picked (order_among orders n) vs ∷ rows_picked orders ns rows
 rows_picked orders ns rows = []
+
+-- these values can be moved: there is one for each position, or none where there is no order
+abbrev pub FitMoves : Values → Moves → Type 0
+FitMoves vs (moves.Kept n) = size vs ≡ n
+FitMoves vs (moves.Moved ks) = size vs ≡ length ks.items
+FitMoves vs moves.Copied = ⊥
+
+abbrev pub CanMove : Option Order → Values → Type 0
+CanMove None vs = size vs ≡ 0
+CanMove (Some o) vs = FitMoves vs o.moves
+
+-- .. those of each row
+abbrev pub AllCanMove : List Order → List (Option ℕ) → List Values → Type 0
+AllCanMove orders ns rows =
+    (i : ℕ) (n : Option ℕ) (vs : Values) → slice_get ns i ≡ Some n → slice_get rows i ≡ Some vs
+    → CanMove (order_among orders n) vs
 
 -- the types of an instance, in order; one of no form has none
 abbrev pub types_in : Option Order → List (List ℕ)

@@ -7,9 +7,15 @@ ghost use Rattle.std.specs.Prelude.{
   [],
   map,
   flat_map,
+  length,
   IfOk,
+  IfSome,
+  IsPermutation,
   OnOk,
+  Some,
 };
+ghost use Rattle.std.specs.Bool.{OnTrue};
+ghost use Rattle.std.specs.List.{range_with_len};
 ghost use Rattle.digraph.specs.Graphs.{graph_of};
 ghost use Rattle.express_syntax.specs.ExpressionViews.{capitals};
 ghost use Rattle.express_syntax.specs.Profile.{Every};
@@ -23,6 +29,7 @@ ghost use Rattle.step_equal.specs.Settled.{AreInOrder};
 ghost use Rattle.population_typed.specs.Whole.{AreNumbered};
 ghost use Rattle.population_typed.specs.Ordering.{
   position_among,
+  AreMoves,
   StandAt,
   IsOrder,
   AreOrders,
@@ -34,12 +41,25 @@ use schema_names::names::Names;
 use std::alloc::{AllocError, Global};
 use step_literals::literal::Word;
 
+/// How the values of an instance come into an order.
+#[derive(Drop)]
+pub enum Moves {
+    /// So many stand in it already.
+    Kept(usize),
+    /// Each place gets the value of this position; each position stands once.
+    Moved(Vec<usize>),
+    /// A position is none, stands twice, or isn't there: they are copied.
+    Copied,
+}
+
 /// Types in the order of their letters, and the attributes that they declare, type by type.
 #[derive(Drop)]
 pub struct Order<'a> {
     pub types: Vec<Word<'a>>,
     /// Where each of these attributes stands among those of the form.
     pub positions: Vec<Option<usize>>,
+    /// How values are moved to these positions.
+    pub moves: Moves,
 }
 
 /// Adds the name of the type of this number.
@@ -146,6 +166,58 @@ fn positions_of(
     Ok(positions)
 }
 
+/// The positions, where each is one.
+fn told(alloc: Global, positions: &[Option<usize>]) -> Result<Option<Vec<usize>>, AllocError>
+    ensures { IfOk result (λ o. IfSome o (λ v. map Some v.items ≡ positions.now)) }
+{
+    let mut told = Vec::with_capacity(alloc, positions.len())?;
+    for position in positions {
+        let Some(place) = *position else {
+            return Ok(None);
+        };
+        told.push(place)?;
+    }
+    Ok(Some(told))
+}
+
+/// Whether these numbers are 0, 1 and so on.
+fn rise_from_0(numbers: &[usize]) -> bool
+    ensures { OnTrue result (numbers.now ≡ range_with_len 0 (length numbers.now)) }
+{
+    for i in 0..numbers.len() {
+        if numbers[i] != i {
+            return false;
+        }
+    }
+    true
+}
+
+/// Whether these numbers are 0, 1 and so on, in any order.
+fn stand_once(alloc: Global, numbers: &[usize]) -> Result<bool, AllocError>
+    ensures { IfOk result (λ b. OnTrue b
+        (IsPermutation (range_with_len 0 (length numbers.now)) numbers.now)) }
+{
+    let mut sorted = numbers.to_vec(alloc)?;
+    sorted.sort_unstable();
+    Ok(rise_from_0(&sorted))
+}
+
+/// How values are moved to these positions.
+fn moves_of(alloc: Global, positions: &[Option<usize>]) -> Result<Moves, AllocError>
+    ensures { IfOk result (AreMoves positions.now) }
+{
+    let Some(places) = told(alloc, positions)? else {
+        return Ok(Moves::Copied);
+    };
+    if rise_from_0(&places) {
+        return Ok(Moves::Kept(places.len()));
+    }
+    if !stand_once(alloc, &places)? {
+        return Ok(Moves::Copied);
+    }
+    Ok(Moves::Moved(places))
+}
+
 /// The order of the values of instances of this form.
 fn order_of<'a>(
     alloc: Global,
@@ -160,7 +232,12 @@ fn order_of<'a>(
 {
     let types = ordered_types(alloc, names, &form.types)?;
     let positions = positions_of(alloc, names, own, &form.slots, &types)?;
-    Ok(Order { types, positions })
+    let moves = moves_of(alloc, &positions)?;
+    Ok(Order {
+        types,
+        positions,
+        moves,
+    })
 }
 
 /// The order of each of these forms.

@@ -11,11 +11,18 @@ ghost use Rattle.std.specs.Prelude.{
   IfOk,
   MatchResult,
   OnOk,
+  List,
+  ◌<◌,
+  set,
   option_copied,
 };
+ghost use Rattle.std.specs.Bool.{OnTrue};
 ghost use Rattle.std.specs.List.{AllZip};
+ghost use Rattle.std.specs.Option.{IfSome};
+ghost use Rattle.express_syntax.specs.Profile.{Every};
 ghost use Rattle.express_syntax.specs.SchemaViews.{schema_of};
 ghost use Rattle.step_exchange.specs.Sections.{CountsTo};
+ghost use Rattle.step_values.specs.Ordering.{row_at};
 ghost use Rattle.step_values.specs.References.{EachReferenceOf};
 ghost use Rattle.step_values.specs.Targets.{LeadTo, ReferTo};
 ghost use Rattle.step_values.specs.Views.{word_of};
@@ -28,6 +35,9 @@ ghost use Rattle.population_typed.specs.Seen.{population_seen};
 ghost use Rattle.conformance.specs.PlainRows.{AreRowsOf};
 ghost use Rattle.population_typed.specs.Ordering.{
   AreOrders,
+  HasMoves,
+  CanMove,
+  AllCanMove,
   order_among,
   row_picked,
   rows_picked,
@@ -36,7 +46,7 @@ ghost use Rattle.population_typed.specs.Ordering.{
 };
 
 use crate::copying::push_all_picked;
-use crate::ordering::{Order, orders};
+use crate::ordering::{Moves, Order, orders};
 use crate::population::Population;
 use population_rows::index::RowIndex;
 use population_rows::rows::Rows;
@@ -48,6 +58,7 @@ use step_equal::row::RowHead;
 use step_exchange::section::Section;
 use step_exchange::structure::Exchange;
 use step_literals::literal::Word;
+use step_values::cell::Cell;
 use step_values::row_builder::RowBuilder;
 use step_values::rows::ValueRows;
 use step_values::slot::Slots;
@@ -106,6 +117,109 @@ fn ordered_values<'v>(
         push_row(&mut builder, &rows.index, &values.row(i), order)?;
     }
     Ok(builder.finish())
+}
+
+/// Whether these values can be moved into this order; where there is none, there are none.
+fn can_move(order: Option<&Order<'_>>, values: &Slots<'_, '_>) -> bool
+    ensures { OnTrue result (CanMove (option_copied order.entry) values.now) }
+{
+    let Some(order) = order else {
+        return values.len() == 0;
+    };
+    match &order.moves {
+        Moves::Kept(count) => values.len() == *count,
+        Moves::Moved(places) => values.len() == places.len(),
+        Moves::Copied => false,
+    }
+}
+
+/// Whether the values of each row can be moved into the order of its form.
+fn all_can_move(orders: &[Order<'_>], rows: &Rows, values: &ValueRows<'_>) -> bool
+    requires { length rows.now.form_of.items ≡ length values.now.rows }
+    ensures { OnTrue result
+        (AllCanMove orders.now rows.now.form_of.items values.now.rows) }
+{
+    for i in 0..rows.form_of.len() {
+        if !can_move(order_at(orders, rows.form_of[i]), &values.row(i)) {
+            return false;
+        }
+    }
+    true
+}
+
+/// Moves the values of a row into this order. What was spare is forgotten.
+fn reorder_row<'v>(
+    values: &mut ValueRows<'v>,
+    row: usize,
+    order: Option<&Order<'_>>,
+    spare: &mut Vec<Cell<'v>>,
+) -> Result<(), AllocError>
+    requires row { row < length values.old.rows }
+    requires known { IfSome (option_copied order) HasMoves }
+    requires fits { CanMove (option_copied order) (row_at values.old.rows row) }
+    ensures rows { OnOk result (values.new.rows ≡ set values.old.rows row
+        (row_picked (option_copied order.entry) (row_at values.old.rows row))) }
+    ensures targets { (names : List ℕ) → LeadTo names values.old.targets
+        → LeadTo names values.new.targets }
+{
+    let Some(order) = order else {
+        return Ok(());
+    };
+    let Moves::Moved(places) = &order.moves else {
+        return Ok(());
+    };
+    values.reorder(row, places, spare)
+}
+
+/// Moves the values of each row into the order of its form.
+fn reorder_rows<'v>(
+    alloc: Global,
+    orders: &[Order<'_>],
+    rows: &Rows,
+    values: &mut ValueRows<'v>,
+) -> Result<(), AllocError>
+    requires known { Every HasMoves orders.now }
+    requires each { length rows.now.form_of.items ≡ length values.old.rows }
+    requires fits { AllCanMove orders.now rows.now.form_of.items values.old.rows }
+    ensures rows { OnOk result (values.new.rows
+        ≡ rows_picked orders.now rows.now.form_of.items values.old.rows) }
+    ensures targets { (names : List ℕ) → LeadTo names values.old.targets
+        → LeadTo names values.new.targets }
+{
+    let mut spare: Vec<Cell<'v>> = Vec::new(alloc);
+    for i in 0..rows.form_of.len() {
+        let order = order_at(orders, rows.form_of[i]);
+        reorder_row(values, i, order, &mut spare)?;
+    }
+    Ok(())
+}
+
+/// The values of instances with these names and forms, each row in the order of its form: moved
+/// where they stand if that can be, else copied.
+fn reordered<'v>(
+    alloc: Global,
+    names: &[u64],
+    rows: &Rows,
+    values: ValueRows<'v>,
+    orders: &[Order<'_>],
+) -> Result<ValueRows<'v>, AllocError>
+    requires indexed { (y : ℕ) → found rows.now.index y ≡ place_of names.now y }
+    requires known { Every HasMoves orders.now }
+    requires leads { LeadTo names.now values.targets }
+    requires all { ReferTo names.now values.rows }
+    requires forms { length rows.now.form_of.items ≡ length names.now }
+    requires each { length values.rows ≡ length names.now }
+    ensures rows { IfOk result (λ v. v.rows
+        ≡ rows_picked orders.now rows.now.form_of.items values.entry.rows) }
+    ensures leads { IfOk result (λ v. LeadTo names.now v.targets) }
+    ensures refers { IfOk result (λ v. ReferTo names.now v.rows) }
+{
+    if !all_can_move(orders, rows, &values) {
+        return ordered_values(alloc, names, rows, &values, orders);
+    }
+    let mut values = values;
+    reorder_rows(alloc, orders, rows, &mut values)?;
+    Ok(values)
 }
 
 /// By row, the number of the data section that it stands in, counted from 0.
@@ -284,8 +398,8 @@ impl<'s: 'r, 't, 'r, 'a> Population<'s, 't, 'r, 'a> {
         )
     }
 
-    /// The rows that `plain` gives, where the population isn't needed any more: its values are let go
-    /// of as soon as they stand in order.
+    /// The rows that `plain` gives, where the population isn't needed any more: its values are moved
+    /// into their order where they stand.
     ///
     /// `AllocError` comes where memory runs out.
     pub fn into_plain(self, alloc: Global, keys: RandomState) -> Result<Plain<'r>, AllocError>
@@ -293,14 +407,14 @@ impl<'s: 'r, 't, 'r, 'a> Population<'s, 't, 'r, 'a> {
             (schema_of self.entry.types.now.names.schema.now) (population_seen self.entry) p) }
     {
         let orders = self.orders(alloc)?;
-        let in_order = self.in_order(alloc, &orders)?;
         let Population {
             exchange,
             rows,
             values,
             ..
         } = self;
-        drop(values);
-        rows_with(alloc, keys, exchange, &rows.form_of, &orders, in_order)
+        let names = exchange.names.as_slice();
+        let values = reordered(alloc, names, &rows, values, &orders)?;
+        rows_with(alloc, keys, exchange, &rows.form_of, &orders, values)
     }
 }

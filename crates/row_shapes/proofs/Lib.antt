@@ -1,6 +1,6 @@
 mod Firsts
 mod Numbering
-mod Pending
+mod Recent
 mod Referring
 mod Alike
 mod OneShape

@@ -1,5 +1,5 @@
 -- Edges are the references of rows.
-use Rattle.std.proofs.Common.{◌≡◌, ◌<◌, ◌≤◌, ◌+◌, ℕ, suc, List, [], ◌∷◌, ◌++◌, length, Some, refl, sym, ap, ◌∙◌, subst, arith, slice_get, inl, inr, drop, get_or}
+use Rattle.std.proofs.Common.{◌≡◌, ◌<◌, ◌≤◌, ◌+◌, ℕ, zero, suc, ◌⊎◌, List, [], ◌∷◌, ◌++◌, length, Some, refl, sym, ap, ◌∙◌, subst, arith, slice_get, inl, inr, drop, get_or}
 use Rattle.std.specs.Prelude.{◌==◌, ◌↔◌}
 use Rattle.std.specs.List.{All, Contains, IsDistinct, sum_by}
 use Rattle.std.proofs.lemmas.List.Sums.{sum_by-cons}
@@ -9,11 +9,14 @@ use Rattle.class_rounds.specs.declared.edges.Edge.{Edge}
 use Rattle.class_rounds.specs.Edges.{AreEdges, HasEdge}
 use Rattle.step_values.specs.References.{EachReference, EachReferenceOf}
 use Rattle.step_values.specs.Shapes.{outside, outside_each}
+use Rattle.step_values.specs.ComputedAgreement.{size}
+use Rattle.step_values.specs.Slots.{nth}
 use Rattle.step_values.specs.Values.{Value, leaf, reference, typed, sequence, bag, Values, none, more}
+use Rattle.step_values.proofs.Walks.{after, after_all, after_at}
 use Rattle.step_equal.specs.Rows.{Row, IsName, IsPopulation, names, row_at}
 use Rattle.step_equal.proofs.Lookup.{items_from, named, row_name}
 use Rattle.step_equal.proofs.Placing.{name_at}
-use Rattle.row_shapes.specs.ComputedReferences.{AddsEdges, AreOfFirst, IsEdge}
+use Rattle.row_shapes.specs.ComputedReferences.{AddsEdges, AreOfFirst}
 use Rattle.row_shapes.specs.References.{Refers}
 use Rattle.row_shapes.proofs.Naming.{once, one_place, row_stands}
 use Rattle.row_shapes.proofs.Numbering.{last_or_before}
@@ -32,12 +35,23 @@ mutual
   each_outside_holds P (more v vs) h = All-append P (outside v) (outside_each vs) (outside_hold P v h.0)
       (each_outside_holds P vs h.1)
 
--- so each name outside bags is a row's
+-- the names that a row refers to are rows' names
+pub references_named : (rows : List Row) → IsPopulation rows → (i : ℕ) (r : Row) → slice_get rows i ≡ Some r
+    → EachReferenceOf (IsName rows) r.values
+references_named rows population i r at = population.closed r.name r (row_stands rows i r population.distinct at)
+
+pub named_within : (P : ℕ → Type 0) (vs : Values) (i : ℕ) (v : Value) → nth vs i ≡ Some v → EachReferenceOf P vs
+    → EachReference P v
+named_within P none i v at h = absurd (cc)
+named_within P (more u vs) zero v at h = subst (EachReference P) (once u v at) h.0
+named_within P (more u vs) (suc i) v at h = named_within P vs i v at h.1
+
+-- .. so those outside bags are
 pub names_named : (rows : List Row) → IsPopulation rows → (i : ℕ) (r : Row) → slice_get rows i ≡ Some r
     → All (IsName rows) (outside_each r.values)
 names_named rows population i r at =
     each_outside_holds (IsName rows) r.values
-    (population.closed r.name r (row_stands rows i r population.distinct at))
+    (references_named rows population i r at)
 
 -- a name at two places
 same_place : (rows : List Row) (t u y : ℕ) → IsDistinct (◌==◌) (names rows) → slice_get (names rows) t ≡ Some y
@@ -66,66 +80,101 @@ pub counted_from : (rows : List Row) (n : ℕ) (r : Row) → slice_get rows n �
 counted_from rows n r at =
     ap (sum_by reference_count) (items_from rows n r at) ∙ sum_by-cons reference_count r (drop (n + 1) rows)
 
-module _ (rows : List Row) (source : ℕ) (ys : List ℕ) where
-  pub none_added : (es : List Edge) → AddsEdges rows source ys 0 es es
-  none_added es e = (
-    λ h. inl h,
-    λ h. elim h [ inl old ↦ old | inr new ↦ absurd (let lt = new.before in omega (arith, lt)) ],
-  )
+-- an edge from this place to the row of a name, which stands at an index behind k others, those from this place from an
+-- index on
+record IsEdge (rows : List Row) (source first k : ℕ) (ys : List ℕ) (e : Edge) : Type 0 where
+  index : ℕ
+  source_is : e.source ≡ source
+  position_is : first + e.position ≡ k + index
+  name : ℕ
+  name_is : slice_get ys index ≡ Some name
+  target_is : slice_get (names rows) e.target ≡ Some name
 
-  further : (k : ℕ) (e : Edge) → IsEdge rows source ys k e → IsEdge rows source ys (k + 1) e
-  further k e h = record {
-    source_is = h.source_is;
-    before = (let lt = h.before in omega (arith, lt));
-    name = h.name;
-    name_is = h.name_is;
-    target_is = h.target_is;
-  }
+module _ (rows : List Row) (source first : ℕ) where
+  abbrev Adds : List ℕ → List Edge → List Edge → Type 0
+  Adds ys old new = AddsEdges rows source first ys old new
 
-  earlier_edge : (k : ℕ) (e : Edge) → e.position < k → IsEdge rows source ys (k + 1) e → IsEdge rows source ys k e
-  earlier_edge k e lt h = record {
-    source_is = h.source_is;
-    before = lt;
-    name = h.name;
-    name_is = h.name_is;
-    target_is = h.target_is;
-  }
+  -- edges for names and then for others
+  added_then : (ys zs : List ℕ) (old mid new : List Edge) → Adds ys old mid → Adds zs mid new → Adds (ys ++ zs) old new
+  added_then [] zs old mid new h k = subst (λ es. Adds zs es new) h k
+  added_then (y ∷ ys) zs old mid new h k = (h.0, h.1, added_then ys zs (old ++ h.0 ∷ []) mid new h.2 k)
 
-  pub edge_added : IsDistinct (◌==◌) (names rows) → (k t y : ℕ) → slice_get ys k ≡ Some y
-      → slice_get (names rows) t ≡ Some y → (old es : List Edge) → AddsEdges rows source ys k old es
-      → AddsEdges rows source ys (k + 1) old (es ++ record { position = k; source = source; target = t } ∷ [])
-  edge_added distinct k t y at there old es all e = (
-    λ h. elim (Contains-push_cases es this e h) [
-      | inl before ↦ elim ((all e).0 before) [ inl kept ↦ inl kept | inr new ↦ inr (further k e new) ]
-      | inr same ↦ inr (subst (IsEdge rows source ys (k + 1)) same own)
-    ],
-    λ h. elim h [
-      | inl kept ↦ Contains-append_left es (this ∷ []) e ((all e).1 (inl kept))
-      | inr new ↦ elim (last_or_before e.position k new.before) [
-        | inl same ↦ subst (Contains (es ++ this ∷ [])) (is_this new same) (Contains-push es this)
-        | inr lt ↦ Contains-append_left es (this ∷ []) e ((all e).1 (inr (earlier_edge k e lt new)))
-      ]
-    ],
-  )
+  pub added_count : (ys : List ℕ) (old new : List Edge) → Adds ys old new → length new ≡ length old + length ys
+  added_count [] old new h = let e = ap length h in omega (arith, e)
+  added_count (y ∷ ys) old new h =
+      let rest = added_count ys (old ++ h.0 ∷ []) new h.2 in
+      let more = longer old h.0 in
+      omega (arith, rest, more)
+
+  -- what is still to be added leads to what all of it does
+  abbrev pub Left : Values → List Edge → Values → List Edge → Type 0
+  Left all start vs es = (new : List Edge) → Adds (outside_each vs) es new → Adds (outside_each all) start new
+
+  pub added_more : (all : Values) (start : List Edge) (i : ℕ) (v : Value) (es next : List Edge) → nth all i ≡ Some v
+      → Adds (outside v) es next → Left all start (after i all) es → Left all start (after (i + 1) all) next
+  added_more all start i v es next at h left new rest =
+      left new (subst (λ vs. Adds (outside_each vs) es new) (sym (after_at all i v at))
+      (added_then (outside v) (outside_each (after (i + 1) all)) es next new h rest))
+
+  pub added_all : (all : Values) (start : List Edge) (i : ℕ) (es : List Edge) → size all ≤ i
+      → Left all start (after i all) es → Adds (outside_each all) start es
+  added_all all start i es l left =
+      left es (subst (λ vs. Adds (outside_each vs) es es) (sym (after_all all i l)) refl)
+
+  -- what was there stays
+  kept : (ys : List ℕ) (old new : List Edge) → Adds ys old new → (e : Edge) → Contains old e → Contains new e
+  kept [] old new h e there = subst (λ es. Contains es e) (sym h) there
+  kept (y ∷ ys) old new h e there =
+      kept ys (old ++ h.0 ∷ []) new h.2 e (Contains-append_left old (h.0 ∷ []) e there)
+
+  -- and what is there was, or is added
+  told : (ys : List ℕ) (old new : List Edge) → Adds ys old new → (e : Edge) → Contains new e
+      → Contains old e ⊎ IsEdge rows source first (length old) ys e
+  told [] old new h e there = inl (subst (λ es. Contains es e) h there)
+  told (y ∷ ys) old new h e there = elim (told ys (old ++ h.0 ∷ []) new h.2 e there) [
+    | inl before ↦ elim (Contains-push_cases old h.0 e before) [
+      | inl was ↦ inl was
+      | inr same ↦ inr (subst (IsEdge rows source first (length old) (y ∷ ys)) same own)
+    ]
+    | inr later ↦ inr (record {
+      index = suc later.index;
+      source_is = later.source_is;
+      position_is = (let at = later.position_is in let more = longer old h.0 in omega (arith, at, more));
+      name = later.name;
+      name_is = later.name_is;
+      target_is = later.target_is;
+    })
+  ]
     where
-      this : Edge
-      this = record { position = k; source = source; target = t }
-
-      own : IsEdge rows source ys (k + 1) this
+      own : IsEdge rows source first (length old) (y ∷ ys) h.0
       own = record {
-        source_is = refl;
-        before = omega arith;
+        index = 0;
+        source_is = h.1.source_is;
+        position_is = (let at = h.1.position_is in omega (arith, at));
         name = y;
-        name_is = at;
-        target_is = there;
+        name_is = refl;
+        target_is = h.1.target_is;
       }
 
-      is_this : IsEdge rows source ys (k + 1) e → e.position ≡ k → this ≡ e
-      is_this new same =
-          let name : new.name ≡ y = once new.name y (sym new.name_is ∙ ap (slice_get ys) same ∙ at) in
-          let target : t ≡ e.target =
-          same_place rows t e.target y distinct there (new.target_is ∙ ap Some name) in
-          λ i. record { position = sym same i; source = sym new.source_is i; target = target i }
+  added : IsDistinct (◌==◌) (names rows) → (ys : List ℕ) (old new : List Edge) → Adds ys old new → (e : Edge)
+      → (i : ℕ) → first + e.position ≡ length old + i → e.source ≡ source → (y : ℕ) → slice_get ys i ≡ Some y
+      → slice_get (names rows) e.target ≡ Some y → Contains new e
+  added distinct [] old new h e i place from y at there = absurd (cc)
+  added distinct (z ∷ ys) old new h e zero place from y at there =
+      kept ys (old ++ h.0 ∷ []) new h.2 e (subst (Contains (old ++ h.0 ∷ [])) same (Contains-push old h.0))
+    where
+      position : h.0.position ≡ e.position
+      position = let mine = h.1.position_is in omega (arith, mine, place)
+
+      target : h.0.target ≡ e.target
+      target =
+          same_place rows h.0.target e.target z distinct h.1.target_is (there ∙ ap Some (sym (once z y at)))
+
+      same : h.0 ≡ e
+      same = λ i. record { position = position i; source = (h.1.source_is ∙ sym from) i; target = target i }
+  added distinct (z ∷ ys) old new h e (suc i) place from y at there =
+      let more = longer old h.0 in
+      added distinct ys (old ++ h.0 ∷ []) new h.2 e i (omega (arith, place, more)) from y at there
 
 module _ (rows : List Row) where
   pub of_none : AreOfFirst rows 0 []
@@ -135,42 +184,39 @@ module _ (rows : List Row) where
   )
 
   -- one row more
-  pub of_one_more : (n : ℕ) (r : Row) → slice_get rows n ≡ Some r → (old new : List Edge) → AreOfFirst rows n old
-      → AddsEdges rows n (outside_each r.values) (length (outside_each r.values)) old new
+  pub of_one_more : IsDistinct (◌==◌) (names rows) → (n : ℕ) (r : Row) → slice_get rows n ≡ Some r
+      → (old new : List Edge) → AreOfFirst rows n old → AddsEdges rows n (length old) (outside_each r.values) old new
       → AreOfFirst rows (n + 1) new
-  of_one_more n r at old new all added e = (
-    λ h. elim ((added e).0 h) [
-      | inl kept ↦ (let was = (all e).0 kept in (let lt = was.0 in omega (arith, lt), was.1))
+  of_one_more distinct n r at old new all adds e = (
+    λ h. elim (told rows n (length old) ys old new adds e h) [
+      | inl before ↦ (let was = (all e).0 before in (let lt = was.0 in omega (arith, lt), was.1))
       | inr one ↦ (
         (let is = one.source_is in omega (arith, is)),
         record {
           row = r;
           row_is = ap (slice_get rows) one.source_is ∙ at;
           name = one.name;
-          name_is = one.name_is;
+          name_is = ap (slice_get ys) (let place = one.position_is in omega (arith, place)) ∙ one.name_is;
           target_is = one.target_is;
         },
       )
     ],
     λ h. elim (last_or_before e.source n h.0) [
-      | inl same ↦ (added e).1 (inr (edge_of same h.1))
-      | inr lt ↦ (added e).1 (inl ((all e).1 (lt, h.1)))
+      | inl same ↦
+          added rows n (length old) distinct ys old new adds e e.position refl same h.1.name (name_there same h.1)
+          h.1.target_is
+      | inr lt ↦ kept rows n (length old) ys old new adds e ((all e).1 (lt, h.1))
     ],
   )
     where
-      edge_of : e.source ≡ n → Refers rows e.source e.position e.target
-          → IsEdge rows n (outside_each r.values) (length (outside_each r.values)) e
-      edge_of same h =
-          let row : h.row ≡ r = once h.row r (sym h.row_is ∙ ap (slice_get rows) same ∙ at) in
-          let there : slice_get (outside_each r.values) e.position ≡ Some h.name =
-          ap (λ (q : Row). slice_get (outside_each q.values) e.position) (sym row) ∙ h.name_is in
-          record {
-            source_is = same;
-            before = slice_get_within (outside_each r.values) e.position h.name there;
-            name = h.name;
-            name_is = there;
-            target_is = h.target_is;
-          }
+      ys : List ℕ
+      ys = outside_each r.values
+
+      name_there : e.source ≡ n → (h : Refers rows e.source e.position e.target)
+          → slice_get (outside_each r.values) e.position ≡ Some h.name
+      name_there same h =
+          ap (λ (q : Row). slice_get (outside_each q.values) e.position)
+          (once r h.row (sym at ∙ ap (slice_get rows) (sym same) ∙ h.row_is)) ∙ h.name_is
 
   length_named : (rows : List Row) → length (names rows) ≡ length rows
   length_named [] = refl

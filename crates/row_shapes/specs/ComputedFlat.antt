@@ -85,3 +85,7 @@ IsHashFrom {S} write finish start vs hash = (t : S) × FeedsEach write vs start 
 -- .. of a hasher that begins so
 abbrev pub IsHash : FoldHasher → Values → ℕ → Type 0
 IsHash start vs hash = IsHashFrom folding.write folding.finish start vs hash
+
+-- the number that it tells when it is fed these writes
+abbrev pub hash_told : FoldHasher → List (List ℕ) → ℕ
+hash_told start writes = folding.finish (fold folding.write start writes)

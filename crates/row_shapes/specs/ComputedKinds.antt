@@ -35,3 +35,12 @@ pub record AreNumbers (pinned : ℕ → Bool) (rows : List Row) (numbers : List 
         → slice_get numbers i ≡ first (kind_of r)
     pub told : (k : Kind) (m : ℕ) → first k ≡ Some m → (r : Row) × (slice_get rows m ≡ Some r)
         × (pinned r.name ≡ false) × (kind_of r ≡ k)
+
+-- each that is noted of a kind is a row of this kind
+abbrev pub HaveRows : List Row → (Kind → Option ℕ) → Type 0
+HaveRows rows first = (k : Kind) (m : ℕ) → first k ≡ Some m → (r : Row) × (slice_get rows m ≡ Some r) × (kind_of r ≡ k)
+
+-- some places, each of which is noted of the kind of its row
+abbrev pub AreRecent : List Row → (Kind → Option ℕ) → List (Option ℕ) → Type 0
+AreRecent rows first recent =
+    (i m : ℕ) → slice_get recent i ≡ Some (Some m) → (r : Row) × (slice_get rows m ≡ Some r) × (first (kind_of r) ≡ Some m)

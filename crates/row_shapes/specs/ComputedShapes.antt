@@ -1,22 +1,32 @@
 -- What the code computes; no promise stands here. The first row of each shape, by its place.
 use Rattle.std.specs.Prelude.{◌≡◌, ◌<◌, ℕ, Bool, true, false, List, length, map, take, slice_get, Option, Some}
+use Rattle.std.specs.Hash as fed
 use Rattle.std.specs.List.{position_from}
 use Rattle.std.specs.Map.{lookup}
 use Rattle.std.specs.declared.hash.FoldHasher.{FoldHasher}
 use Rattle.step_values.specs.ComputedForms.{AreNormal}
+use Rattle.step_values.specs.contracts.normal.NormalHash.TheImpl.{ghosts as hashes}
+use Rattle.step_values.specs.declared.normal.Normal.{Normal}
 use Rattle.step_values.specs.ComputedLabels.{each_labelled}
 use Rattle.step_values.specs.Values.{Values}
 use Rattle.step_equal.specs.Rows.{Row}
 use Rattle.row_shapes.specs.ComputedLabelling.{of_one_class}
-use Rattle.row_shapes.specs.ComputedFlat.{IsHash, bagless_each, shape_test}
+use Rattle.row_shapes.specs.ComputedFlat.{IsHash, bagless_each, hash_told, shape_test}
 use Rattle.row_shapes.specs.contracts.shapes.ShapePartialEq.TheImpl.{ghosts}
 use Rattle.row_shapes.specs.declared.shapes.Shape.{Shape}
 use Rattle.row_shapes.specs.declared.shapes.Shape.TheVariants.{Flat, Forms}
 
--- the shape holds these values and their hash by a hasher that begins so, or, where a bag stands in them, their normal forms
+-- the number that a hasher tells when it is fed normal forms
+abbrev pub forms_hash : FoldHasher → List Normal → ℕ
+forms_hash start ns = hash_told start (fed.slice hashes.hash_input ns)
+
+-- the shape holds these values, or, where a bag stands in them, their normal forms, with their hash by a hasher that
+-- begins so
 abbrev pub IsShapeOf : FoldHasher → Values → Shape → Type 0
 IsShapeOf start vs (Flat f) = (bagless_each vs ≡ true) × (f.values ≡ vs) × IsHash start vs f.hash
-IsShapeOf start vs (Forms ns) = (bagless_each vs ≡ false) × AreNormal (each_labelled of_one_class vs) ns.items
+IsShapeOf start vs (Forms f) =
+    (bagless_each vs ≡ false) × AreNormal (each_labelled of_one_class vs) f.forms.items
+    × (f.hash ≡ forms_hash start f.forms.items)
 
 -- the derived equality
 abbrev pub same_shape : Shape → Shape → Bool

@@ -13,6 +13,7 @@ ghost use Rattle.row_shapes.specs.ComputedFlat.{
   IsHash,
   bagless,
   bagless_each,
+  hash_told,
   marked,
   word_writes,
 };
@@ -40,6 +41,15 @@ pub(crate) fn hash_of<'p, 'a>(start: FoldHasher, values: &Slots<'p, 'a>) -> Opti
     } else {
         None
     }
+}
+
+/// A number that lists have in common whose items are equal one by one, by a hasher that begins so.
+pub(crate) fn hash_of_all<T: Hash>(start: FoldHasher, items: &[T]) -> u64
+    ensures { result ≡ hash_told start (fed.slice T.hash_input items.now) }
+{
+    let mut state = start;
+    items.hash(&mut state);
+    state.finish()
 }
 
 /// Feeds a hasher what values of one shape have in common, and answers whether no SET or BAG stands in this one.

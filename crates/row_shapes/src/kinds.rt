@@ -7,23 +7,35 @@ ghost use Rattle.std.specs.Prelude.{
   ℕ,
   cond,
   length,
+  slice_get,
   slice_index,
+  ◌⊎◌,
   IfOk,
+  IfSome,
+  OnOk,
+  Option,
   Some,
 };
 ghost use Rattle.step_equal.specs.ComputedKinds.{kind_test};
 ghost use Rattle.step_equal.specs.Keeping.{AreAlike};
 ghost use Rattle.step_equal.specs.Maps.{is_pinned};
-ghost use Rattle.step_equal.specs.Rows.{Kind, names};
+ghost use Rattle.step_equal.specs.Rows.{Kind, kind_of, names};
 ghost use Rattle.step_equal.specs.Views.{row_seen};
-ghost use Rattle.row_shapes.specs.ComputedKinds.{IsNumber, earlier, first_in, kind_seen};
+ghost use Rattle.row_shapes.specs.ComputedKinds.{
+  AreRecent,
+  HaveRows,
+  IsNumber,
+  earlier,
+  first_in,
+  kind_seen,
+};
 
 use indexmap::IndexMap;
 use std::alloc::{AllocError, Global};
 use std::collections::BTreeSet;
 use std::hash::RandomState;
 use step_equal::plain::Plain;
-use step_equal::row::RowSlot;
+use step_equal::row::{RowSlot, is_one_kind};
 use step_literals::literal::Word;
 
 /// The section of a row, and its type words.
@@ -36,6 +48,13 @@ pub(crate) struct RowKind<'p, 'a> {
 /// The kinds of free rows, each with the place of the first. They are hashed by keys that the author of a text doesn't
 /// know, so that nobody can choose kinds that are slow to find.
 type Firsts<'p, 'a> = IndexMap<RowKind<'p, 'a>, u32, RandomState>;
+
+/// How many kinds are remembered.
+const REMEMBERED: usize = 256;
+
+/// Kinds by a few letters of their types, each by the place of its first free row. A population has few kinds, so a row is
+/// mostly compared with the first one of its kind, and its types aren't hashed.
+type Recent = Vec<Option<u32>>;
 
 /// By place, a number for each row. Two rows have one number exactly where they are one row, or where both are free,
 /// stand in one section and have the same types.
@@ -55,9 +74,11 @@ pub fn kinds<'a>(
         (slice_index (names input.now) j)) }
 {
     let mut firsts = IndexMap::with_hasher(alloc, keys);
+    let mut recent = vec![in alloc; None; REMEMBERED]?;
     let mut numbers = Vec::with_capacity(alloc, input.len())?;
     for place in 0..input.len() {
-        let number = number_of(&mut firsts, &input.row(place), pinned, place as u32)?;
+        let row = input.row(place);
+        let number = number_of(&mut firsts, &mut recent, input, &row, pinned, place as u32)?;
         numbers.push(number)?;
     }
     Ok(numbers)
@@ -66,21 +87,88 @@ pub fn kinds<'a>(
 /// The number of the row at a place.
 fn number_of<'p, 'a>(
     firsts: &mut Firsts<'p, 'a>,
+    recent: &mut Recent,
+    input: &Plain<'a>,
     row: &RowSlot<'p, 'a>,
     pinned: &BTreeSet<u64>,
     place: u32,
 ) -> Result<u32, AllocError>
-    ensures { IfOk result (λ number. IsNumber (is_pinned pinned.now) (row_seen row.now) place number
+    ensures number { AreRecent input.now (first_in firsts.old.entries) recent.old.items
+        → IfOk result (λ number. IsNumber (is_pinned pinned.now) (row_seen row.now) place number
         (first_in firsts.old.entries) (first_in firsts.new.entries)) }
+    ensures recent { AreRecent input.now (first_in firsts.old.entries) recent.old.items
+        → HaveRows input.now (first_in firsts.old.entries)
+        → slice_get input.now place ≡ Some (row_seen row.now)
+        → OnOk result (AreRecent input.now (first_in firsts.new.entries) recent.new.items) }
 {
     if pinned.contains(&row.name) {
         return Ok(place);
+    }
+    let letters = letters_of(row.types);
+    if let Some(first) = remembered(recent, letters, input, row) {
+        return Ok(first);
     }
     let kind = RowKind {
         section: row.section,
         types: row.types,
     };
-    first_of(firsts, kind, place)
+    let first = first_of(firsts, kind, place)?;
+    remember(recent, letters, first);
+    Ok(first)
+}
+
+/// A few letters of a word as a number.
+fn letters_in(word: &[u8]) -> usize {
+    let (Some(first), Some(last)) = (word.first(), word.last()) else {
+        return 0;
+    };
+    let letters = (*first as usize)
+        .wrapping_mul(31)
+        .wrapping_add(*last as usize);
+    letters.wrapping_mul(7).wrapping_add(word.len())
+}
+
+/// Where a kind with these types is remembered.
+fn letters_of(types: &[Word<'_>]) -> usize {
+    let mut letters = types.len();
+    for word in types {
+        letters = letters
+            .wrapping_mul(31)
+            .wrapping_add(letters_in(word.spelling()));
+    }
+    letters % REMEMBERED
+}
+
+/// The place of the first free row of the kind of a row, where it is remembered.
+fn remembered<'p, 'a>(
+    recent: &Recent,
+    letters: usize,
+    input: &Plain<'a>,
+    row: &RowSlot<'p, 'a>,
+) -> Option<u32>
+    ensures { (first : Kind → Option ℕ) → AreRecent input.now first recent.now.items
+        → IfSome result (λ m. first (kind_of (row_seen row.now)) ≡ Some m) }
+{
+    let Some(first) = recent.get(letters).copied().flatten() else {
+        return None;
+    };
+    if first as usize >= input.len() {
+        return None;
+    }
+    if !is_one_kind(&input.row(first as usize), row) {
+        return None;
+    }
+    Some(first)
+}
+
+/// Remembers the first free row of a kind, in place of another.
+fn remember(recent: &mut Recent, letters: usize, first: u32)
+    ensures { (i m : ℕ) → slice_get recent.new.items i ≡ Some (Some m)
+        → (m ≡ first) ⊎ (slice_get recent.old.items i ≡ Some (Some m)) }
+{
+    if letters < recent.len() {
+        recent[letters] = Some(first);
+    }
 }
 
 /// The place of the first row of a kind, which is this one where there was none.

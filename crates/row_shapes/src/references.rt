@@ -4,9 +4,9 @@ ghost use Rattle.std.specs.Prelude.{
   ◌≡◌,
   ◌<◌,
   ◌≤◌,
-  ◌++◌,
-  ◌+◌,
+  ◌∷◌,
   ◌↔◌,
+  [],
   ℕ,
   length,
   slice_get,
@@ -17,15 +17,10 @@ ghost use Rattle.std.specs.Prelude.{
 ghost use Rattle.std.specs.List.{All, sum_by};
 ghost use Rattle.class_rounds.specs.Edges.{AreEdges, HasEdge};
 ghost use Rattle.step_equal.specs.Rows.{IsName, names};
-ghost use Rattle.step_values.specs.NodeCounts.{nodes_in};
-ghost use Rattle.step_values.specs.Shapes.{outside_each};
+ghost use Rattle.step_values.specs.References.{EachReference, EachReferenceOf};
+ghost use Rattle.step_values.specs.Shapes.{outside, outside_each};
 ghost use Rattle.step_values.specs.Targets.{target_of, targets_of};
-ghost use Rattle.row_shapes.specs.ComputedReferences.{
-  AddsEdges,
-  Visits,
-  nodes_pending,
-  outside_pending,
-};
+ghost use Rattle.row_shapes.specs.ComputedReferences.{AddsEdges};
 ghost use Rattle.row_shapes.specs.References.{Refers};
 
 use class_rounds::edges::Edge;
@@ -47,11 +42,10 @@ pub fn references<'a>(alloc: Global, input: &Plain<'a>) -> Result<Vec<Edge>, All
     ensures targets { IfOk result (λ edges. All (λ edge. edge.target < length input.now) edges.items) }
 {
     let mut edges = Vec::with_capacity(alloc, reference_count(input.cells()))?;
-    let mut named = Vec::new(alloc);
-    let mut pending: Vec<Slot<'_, 'a>> = Vec::new(alloc);
     for place in 0..input.len() {
-        names_outside(&input.row(place).values, &mut named, &mut pending)?;
-        add_edges(&mut edges, input, place as u32, &named)?;
+        let first = edges.len();
+        let row = input.row(place);
+        push_each(&mut edges, input, place as u32, first, &row.values)?;
     }
     Ok(edges)
 }
@@ -78,32 +72,6 @@ fn references_at<'a>(cell: &Cell<'a>) -> usize
     }
 }
 
-/// Adds edges from a place to those of the rows with these names.
-fn add_edges<'a>(
-    edges: &mut Vec<Edge>,
-    input: &Plain<'a>,
-    source: u32,
-    named: &[u64],
-) -> Result<(), AllocError>
-    requires { All (IsName input.now) named.now }
-    ensures edges { OnOk result (AddsEdges input.now source named.now (length named.now)
-        edges.old.items edges.new.items) }
-    ensures count { OnOk result (length edges.new.items
-        ≡ length edges.old.items + length named.now) }
-{
-    // its contract says that no name stands twice
-    let _rows = input.len();
-    for position in 0..named.len() {
-        let target = place_of(input, named[position]);
-        edges.push(Edge {
-            position: position as u64,
-            source,
-            target,
-        })?;
-    }
-    Ok(())
-}
-
 /// The place of the row of a name that is one.
 fn place_of<'a>(input: &Plain<'a>, name: u64) -> u32
     requires { IsName input.now name }
@@ -117,54 +85,68 @@ fn place_of<'a>(input: &Plain<'a>, name: u64) -> u32
     }
 }
 
-/// The names that values refer to outside bags, in order, in place of those that were there. What was pending is
-/// forgotten.
-fn names_outside<'p, 'a>(
-    values: &Slots<'p, 'a>,
-    named: &mut Vec<u64>,
-    pending: &mut Vec<Slot<'p, 'a>>,
+/// Adds the edge from a place to the row of a name. The edges from there begin at the index `first`.
+fn push_edge<'a>(
+    edges: &mut Vec<Edge>,
+    input: &Plain<'a>,
+    source: u32,
+    first: usize,
+    name: u64,
 ) -> Result<(), AllocError>
-    ensures { OnOk result (named.new.items ≡ outside_each values.now) }
+    requires named { IsName input.now name }
+    requires first { first ≤ length edges.old.items }
+    ensures { OnOk result (AddsEdges input.now source first (name ∷ []) edges.old.items
+        edges.new.items) }
 {
-    named.clear();
-    pending.clear();
-    push_all(pending, values)?;
-    while let Some(value) = pending.pop() {
-        visit(&value, named, pending)?;
-    }
+    let position = (edges.len() - first) as u64;
+    let target = place_of(input, name);
+    edges.push(Edge {
+        position,
+        source,
+        target,
+    })?;
     Ok(())
 }
 
-/// Notes the name of a reference; what is inside a value that is no bag is pending.
-fn visit<'p, 'a>(
-    value: &Slot<'p, 'a>,
-    named: &mut Vec<u64>,
-    pending: &mut Vec<Slot<'p, 'a>>,
+/// Adds those of the references outside bags that a value is or has in it, in order. Values are nested as deep as calls
+/// here are: no deeper than the reader of texts lets them be.
+#[cycle(edges)]
+fn push_edges<'a>(
+    edges: &mut Vec<Edge>,
+    input: &Plain<'a>,
+    source: u32,
+    first: usize,
+    value: &Slot<'_, 'a>,
 ) -> Result<(), AllocError>
-    ensures { OnOk result (Visits value.now named.old.items pending.old.items named.new.items
-        pending.new.items) }
+    requires named { EachReference (IsName input.now) value.now }
+    requires first { first ≤ length edges.old.items }
+    ensures { OnOk result (AddsEdges input.now source first (outside value.now) edges.old.items
+        edges.new.items) }
 {
     match value.node() {
-        Node::Reference(name) => named.push(name)?,
-        Node::Typed(_, inner) => pending.push(inner)?,
-        Node::Sequence(values) => push_all(pending, &values)?,
-        _ => {}
+        Node::Reference(name) => push_edge(edges, input, source, first, name),
+        Node::Typed(_, inner) => push_edges(edges, input, source, first, &inner),
+        Node::Sequence(values) => push_each(edges, input, source, first, &values),
+        _ => Ok(()),
     }
-    Ok(())
 }
 
-/// Puts values on the stack, the first of them on top.
-fn push_all<'p, 'a>(
-    pending: &mut Vec<Slot<'p, 'a>>,
-    values: &Slots<'p, 'a>,
+/// Adds those of some values in turn.
+#[cycle(edges)]
+fn push_each<'a>(
+    edges: &mut Vec<Edge>,
+    input: &Plain<'a>,
+    source: u32,
+    first: usize,
+    values: &Slots<'_, 'a>,
 ) -> Result<(), AllocError>
-    ensures outside { OnOk result (outside_pending pending.new.items
-        ≡ outside_each values.now ++ outside_pending pending.old.items) }
-    ensures nodes { OnOk result (nodes_pending pending.new.items
-        ≡ nodes_in values.now + nodes_pending pending.old.items) }
+    requires named { EachReferenceOf (IsName input.now) values.now }
+    requires first { first ≤ length edges.old.items }
+    ensures { OnOk result (AddsEdges input.now source first (outside_each values.now)
+        edges.old.items edges.new.items) }
 {
-    for index in (0..values.len()).rev() {
-        pending.push(values.at(index))?;
+    for i in 0..values.len() {
+        push_edges(edges, input, source, first, &values.at(i))?;
     }
     Ok(())
 }

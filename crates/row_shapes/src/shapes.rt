@@ -18,11 +18,11 @@ ghost use Rattle.step_values.specs.Shapes.{HaveOneShape};
 ghost use Rattle.row_shapes.specs.ComputedLabelling.{of_one_class};
 ghost use Rattle.row_shapes.specs.ComputedShapes.{IsShapeOf};
 
-use crate::feeding::{hash_of, start_of};
+use crate::feeding::{hash_of, hash_of_all, start_of};
 use crate::flat::FlatValues;
 use indexmap::IndexMap;
 use std::alloc::{AllocError, Global};
-use std::hash::{FoldHasher, Hash, RandomState};
+use std::hash::{FoldHasher, Hash, Hasher, RandomState};
 use step_equal::plain::Plain;
 use step_values::labels::{Label, Labels};
 use step_values::normal::{Normal, normal_forms};
@@ -44,18 +44,39 @@ impl Labels for OneClass {
     }
 }
 
-/// The shape of values.
+/// Normal forms, and what they feed a hasher.
+#[derive(PartialEq, Eq, Drop)]
+pub(crate) struct HashedForms<'a> {
+    pub(crate) hash: u64,
+    pub(crate) forms: Vec<Normal<'a>>,
+}
+
+impl<'a> Hash for HashedForms<'a> {
+    ghost use Rattle.std.specs.Cmp.Rules.{hashing};
+    ghost use Rattle.std.specs.Hash as fed;
+    ghost use borrow.Author.Rules.{rules};
+
+    ghost hash_input = { λ f. fed.u64 f.hash };
+
+    ghost respects_eq = { Prim.search (hashing, rules) };
+
+    fn hash<H: Hasher>(&self, state: &mut H) {
+        state.write_u64(self.hash);
+    }
+}
+
+/// The shape of values, with a number that the author of a text can't foresee.
 #[derive(PartialEq, Eq, Hash, Drop)]
 pub(crate) enum Shape<'p, 'a> {
     /// That of values without SETs and BAGs: the values, where they are kept.
     Flat(FlatValues<'p, 'a>),
     /// That of others: their normal forms, with one label for all references outside SETs and BAGs.
-    Forms(Vec<Normal<'a>>),
+    Forms(HashedForms<'a>),
 }
 
-/// Shapes, each with the place of its first row. They are hashed by keys that the author of a text doesn't know, so that
-/// nobody can choose shapes that are slow to find.
-type FirstPlaces<'p, 'a> = IndexMap<Shape<'p, 'a>, u32, RandomState>;
+/// Shapes, each with the place of its first row. What is hashed of a shape is a number that was made by keys which the
+/// author of a text doesn't know, so that nobody can choose shapes that are slow to find, by whatever hasher.
+type FirstPlaces<'p, 'a> = IndexMap<Shape<'p, 'a>, u32>;
 
 /// By place, a number for the shape of each row's values. Two rows have one number exactly where their values have one
 /// shape: they agree, whatever their references outside SETs and BAGs name. Names, types and sections of rows play no
@@ -75,7 +96,7 @@ pub fn shapes<'a>(
         ↔ HaveOneShape r.values s.values) }
 {
     let start = start_of(keys);
-    let mut firsts: FirstPlaces<'_, 'a> = IndexMap::with_hasher(alloc, keys);
+    let mut firsts: FirstPlaces<'_, 'a> = IndexMap::new(alloc);
     let mut numbers = Vec::with_capacity(alloc, input.len())?;
     for place in 0..input.len() {
         let shape = shape_of(alloc, start, input.row(place).values)?;
@@ -95,13 +116,17 @@ fn shape_of<'p, 'a>(
 {
     match hash_of(start, &values) {
         Some(hash) => Ok(Shape::Flat(FlatValues { hash, values })),
-        None => Ok(Shape::Forms(normal_forms(alloc, &OneClass, &values)?)),
+        None => {
+            let forms = normal_forms(alloc, &OneClass, &values)?;
+            let hash = hash_of_all(start, &forms);
+            Ok(Shape::Forms(HashedForms { hash, forms }))
+        }
     }
 }
 
 /// The place of the first row of a shape, which is this one where there was none.
 fn first_of<K: Eq + Hash + Drop>(
-    firsts: &mut IndexMap<K, u32, RandomState>,
+    firsts: &mut IndexMap<K, u32>,
     shape: K,
     place: u32,
 ) -> Result<u32, AllocError>

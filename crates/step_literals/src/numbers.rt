@@ -129,16 +129,23 @@ pub fn mantissa_len(number: &[u8]) -> usize
     number.iter().take_while(|b| !is_e(**b)).count()
 }
 
-/// The bytes behind the `E`, none where there is none.
-pub fn exponent_text(number: &[u8]) -> &[u8]
+/// The bytes behind the `E`, none where there is none, where so many stand before it.
+pub fn exponent_behind(number: &[u8], mantissa: usize) -> &[u8]
+    requires { mantissa ≡ prefix_len (λ b. not (is_e b)) number.now }
     ensures { result.now ≡ exponent_text number.now }
 {
-    let mantissa = mantissa_len(number);
-    if mantissa == number.len() {
+    if mantissa >= number.len() {
         return b"";
     }
     let (_, exponent) = number.split_at(mantissa + 1);
     exponent
+}
+
+/// The bytes behind the `E`, none where there is none.
+pub fn exponent_text(number: &[u8]) -> &[u8]
+    ensures { result.now ≡ exponent_text number.now }
+{
+    exponent_behind(number, mantissa_len(number))
 }
 
 /// Whether the bytes begin with `-`.

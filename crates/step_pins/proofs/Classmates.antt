@@ -247,15 +247,6 @@ module _ (of : ℕ → Option ℕ) where
     pub first : AreFirsts firsts before
     pub pinned : Pins (HasClassmate before) old new
 
-  pub gone-first : (l : List ℕ) (firsts : BTreeMap ℕ ℕ) (set : BTreeSet ℕ) → AreFirsts firsts []
-      → IsGone l 0 firsts set set
-  gone-first l firsts set h = record {
-    before = [];
-    all = refl;
-    first = h;
-    pinned = pins-nothing (HasClassmate []) set (λ y k. k.2);
-  }
-
   joined-member : (o : Option (ℕ × ℕ)) (before ms : List (ℕ × ℕ))
       → (before ++ with_member o []) ++ ms ≡ before ++ with_member o ms
   joined-member None before ms = ap (λ l. l ++ ms) (append-nil before)

@@ -1,28 +1,20 @@
--- The classes of names, member by member from the last one on.
-use Rattle.std.specs.Prelude.{◌≡◌, ℕ, zero, suc, ◌<◌, ◌==◌, Bool, true, false, cond, List, [], ◌∷◌, length, map, drop, get_or, Option, None, Some}
-use Rattle.std.proofs.Common.{refl, sym, ap, subst, ◌∙◌, arith}
+-- The class of a name is that of the member at its first place.
+use Rattle.std.specs.Prelude.{◌≡◌, ℕ, suc, ◌==◌, Bool, true, false, cond, List, [], ◌∷◌, map, Option, None, Some}
+use Rattle.std.specs.Option.{option_map}
+use Rattle.std.proofs.Common.{refl, ◌∙◌}
+use Rattle.population_rows.specs.Index.{place_of}
 use Rattle.step_equal.specs.TableViews.{member_of}
-use Rattle.step_equal.specs.Tables.{Origin, ancestor, ancestor_of, last_class}
-use Rattle.step_pins.specs.Classes.{or_none}
+use Rattle.step_equal.specs.Tables.{last_class}
+use Rattle.step_pins.specs.Classes.{class_there}
 
-drop-member : (ms : List (ℕ × ℕ)) (k : ℕ) (m : ℕ × ℕ) → k < length ms → m ≡ get_or ms k m
-    → drop k ms ≡ m ∷ drop (suc k) ms
-drop-member [] k m lt e = absurd (omega (arith, lt))
-drop-member (n ∷ ms) zero m lt e = ap (λ z. z ∷ ms) (sym e)
-drop-member (n ∷ ms) (suc k) m lt e = drop-member ms k m (omega (arith, lt)) e
-
--- one member more, before the others
-module _ (ms : List (ℕ × ℕ)) (m : ℕ × ℕ) (classes : List Origin) (rounds y : ℕ) (v : Option ℕ)
-    (old new : Option (Option ℕ)) where
-  pub tabled-next : (k : ℕ) → k < length ms → m ≡ get_or ms k m
-      → v ≡ ancestor classes rounds (suc m.1) m.1 → new ≡ cond (m.0 == y) (Some v) old
-      → or_none old ≡ ancestor_of classes rounds (last_class (map member_of (drop (suc k) ms)) y)
-      → or_none new ≡ ancestor_of classes rounds (last_class (map member_of (drop k ms)) y)
-  tabled-next k lt at up put rest =
-      ap or_none put ∙ by (m.0 == y)
-      ∙ ap (λ l. ancestor_of classes rounds (last_class (map member_of l) y)) (sym (drop-member ms k m lt at))
-    where
-      by : (b : Bool) → or_none (cond b (Some v) old)
-          ≡ ancestor_of classes rounds (cond b (Some m.1) (last_class (map member_of (drop (suc k) ms)) y))
-      by true = up
-      by false = rest
+pub class_by_place : (ms : List (ℕ × ℕ)) (y : ℕ)
+    → class_there (map member_of ms) (place_of (map (λ m. m.0) ms) y) ≡ last_class (map member_of ms) y
+class_by_place [] y = refl
+class_by_place (m ∷ ms) y = by (m.0 == y) (place_of (map (λ n. n.0) ms) y) (class_by_place ms y)
+  where
+    by : (b : Bool) (o : Option ℕ) → class_there (map member_of ms) o ≡ last_class (map member_of ms) y
+        → class_there (m ∷ map member_of ms) (cond b (Some 0) (option_map suc o))
+        ≡ cond b (Some m.1) (last_class (map member_of ms) y)
+    by true o e = refl
+    by false None e = e
+    by false (Some i) e = e

@@ -1,18 +1,23 @@
 -- The classes of instances, and those that have one of their class beside them.
-use Rattle.std.specs.Prelude.{◌≡◌, ◌≢◌, ℕ, ◌==◌, Bool, cond, List, [], ◌∷◌, Option, None, Some, ◌⊎◌}
+use Rattle.std.specs.Prelude.{◌≡◌, ◌≢◌, ℕ, ◌==◌, Bool, cond, List, [], ◌∷◌, Option, None, Some, ◌⊎◌, slice_get}
+use Rattle.std.specs.Option.{option_map}
 use Rattle.std.specs.Ordering.{nat_cmp}
 use Rattle.std.specs.BTreeMap.{BTreeMap, get}
 use Rattle.schema_semantics.specs.Names.{Among}
-use Rattle.step_equal.specs.Tables.{same_class}
+use Rattle.step_equal.specs.TableViews.{table_of}
+use Rattle.step_equal.specs.Tables.{ancestor_of, same_class}
+use Rattle.population_rows.specs.Index.{found}
 use Rattle.step_pins.specs.declared.classes.Classes.{Classes}
 
-abbrev pub or_none : Option (Option ℕ) → Option ℕ
-or_none None = None
-or_none (Some c) = c
+-- the class of the member that stands there
+abbrev pub class_there : List (ℕ × ℕ) → Option ℕ → Option ℕ
+class_there ms None = None
+class_there ms (Some i) = option_map (λ m. m.1) (slice_get ms i)
 
 -- the class of a name, where it has one
 abbrev pub class_of : Classes → ℕ → Option ℕ
-class_of c y = or_none (get nat_cmp c.classes y)
+class_of c y = ancestor_of (table_of c.table.now).classes c.table.now.rounds
+    (class_there (table_of c.table.now).members (found c.places y))
 
 -- two names are of one class
 abbrev pub share_class : (ℕ → Option ℕ) → ℕ → ℕ → Bool

@@ -1,6 +1,6 @@
 //! The classes of instances, and pinning those that have one of their class beside them.
 
-ghost use Rattle.std.specs.Prelude.{◌≡◌, ℕ, List, [], ◌∷◌, ◌++◌, Some, IfOk, OnOk};
+ghost use Rattle.std.specs.Prelude.{◌≡◌, ℕ, List, [], ◌∷◌, ◌++◌, map, Some, IfOk, OnOk};
 ghost use Rattle.step_equal.specs.TableViews.{table_of};
 ghost use Rattle.step_equal.specs.Tables.{class_at};
 ghost use Rattle.step_pins.specs.Pinning.{Pins};
@@ -17,38 +17,59 @@ ghost use Rattle.step_pins.specs.Classes.{
 };
 
 use crate::pinned_names::pin;
+use population_rows::index::RowIndex;
 use std::alloc::{AllocError, Global};
 use std::collections::{BTreeMap, BTreeSet};
+use std::hash::RandomState;
 use step_equal::table::{Table, class_above};
+
+/// No table has more members.
+const MOST_MEMBERS: usize = 0xFFFF_FFFF;
 
 /// The classes of instances at the last round of a table.
 #[derive(Drop)]
-pub struct Classes {
-    /// By name.
-    classes: BTreeMap<u64, Option<u32>>,
+pub struct Classes<'t> {
+    table: &'t Table,
+    /// Where its members stand, by name.
+    places: RowIndex,
 }
 
-impl Classes {
-    /// The classes at the last round of a table.
+/// The names of the members of a table.
+fn member_names(alloc: Global, members: &[(u64, u32)]) -> Result<Vec<u64>, AllocError>
+    ensures { IfOk result (λ v. v.items ≡ map (λ m. m.0) members.now) }
+{
+    let mut names = Vec::with_capacity(alloc, members.len())?;
+    for member in members {
+        names.push(member.0)?;
+    }
+    Ok(names)
+}
+
+impl<'t> Classes<'t> {
+    /// The classes at the last round of a table. Names are hashed by these keys, where they lie far
+    /// apart.
     ///
-    /// It goes once over the members. `AllocError` comes where memory runs out.
-    pub fn of(alloc: Global, table: &Table) -> Result<Classes, AllocError>
+    /// It goes once over the members. `AllocError` comes where memory runs out; for 2^32 members or
+    /// more there is none.
+    pub fn of(alloc: Global, keys: RandomState, table: &'t Table) -> Result<Classes<'t>, AllocError>
         ensures { IfOk result (λ c. (y : ℕ)
             → class_of c y ≡ class_at (table_of table.now) y table.now.rounds) }
     {
-        let mut classes = BTreeMap::new(alloc);
-        for i in (0..table.members.len()).rev() {
-            let (name, class) = table.members[i];
-            classes.insert(name, class_above(&table.classes, table.rounds, class))?;
+        if table.members.len() > MOST_MEMBERS {
+            return Err(AllocError);
         }
-        Ok(Classes { classes })
+        let names = member_names(alloc, &table.members)?;
+        let places = RowIndex::of(alloc, keys, &names)?;
+        Ok(Classes { table, places })
     }
 
     /// The class of a name; none where it has none. It takes no memory.
     pub fn class(&self, name: u64) -> Option<u32>
         ensures { result ≡ class_of self.now name }
     {
-        self.classes.get(&name).copied().flatten()
+        let place = self.places.find(name)?;
+        let (_, class) = *self.table.members.get(place as usize)?;
+        class_above(&self.table.classes, self.table.rounds, class)
     }
 }
 
@@ -87,7 +108,7 @@ fn pin_beside_first(
 fn pin_element(
     pinned: &mut BTreeSet<u64>,
     firsts: &mut BTreeMap<u32, u64>,
-    classes: &Classes,
+    classes: &Classes<'_>,
     name: u64,
 ) -> Result<(), AllocError>
     ensures { (before : List (ℕ × ℕ)) → AreFirsts firsts.old before
@@ -106,7 +127,7 @@ fn pin_element(
 pub(crate) fn pin_classmates(
     alloc: Global,
     pinned: &mut BTreeSet<u64>,
-    classes: &Classes,
+    classes: &Classes<'_>,
     names: &[u64],
 ) -> Result<(), AllocError>
     ensures { OnOk result (Pins (HasClassmate (members_of (class_of classes.now) names.now))

@@ -19,6 +19,7 @@ use crate::lists::UniqueLists;
 use crate::pins::Pins;
 use std::alloc::{AllocError, Global};
 use std::collections::BTreeSet;
+use std::hash::RandomState;
 use step_equal::table::Table;
 
 /// The pins of a population by the weak rules, and what the gentle ones are found by without it.
@@ -34,7 +35,7 @@ pub struct WeakPins {
 fn pin_in_lists(
     alloc: Global,
     pinned: &mut BTreeSet<u64>,
-    classes: &Classes,
+    classes: &Classes<'_>,
     lists: &UniqueLists,
 ) -> Result<(), AllocError>
     ensures { OnOk result (pinning.Pins
@@ -50,6 +51,7 @@ fn pin_in_lists(
 /// .. by the classes at the last round of a table, over which it goes where there is a list.
 fn pin_by_table(
     alloc: Global,
+    keys: RandomState,
     pinned: &mut BTreeSet<u64>,
     lists: &UniqueLists,
     table: &Table,
@@ -61,7 +63,7 @@ fn pin_by_table(
     if lists.len() == 0 {
         return Ok(());
     }
-    let classes = Classes::of(alloc, table)?;
+    let classes = Classes::of(alloc, keys, table)?;
     pin_in_lists(alloc, pinned, &classes, lists)
 }
 
@@ -71,8 +73,14 @@ impl WeakPins {
     /// (ISO 10303-11, 8.2.1 and 8.2.2).
     ///
     /// It goes over the members of the table, where there is such a collection, and over the lists.
-    /// `AllocError` comes where memory runs out.
-    pub fn gentle(&self, alloc: Global, table: &Table) -> Result<Pins, AllocError>
+    /// Names are hashed by these keys, where they lie far apart. `AllocError` comes where memory
+    /// runs out; for 2^32 members or more there is none.
+    pub fn gentle(
+        &self,
+        alloc: Global,
+        keys: RandomState,
+        table: &Table,
+    ) -> Result<Pins, AllocError>
         ensures { (s : Schema) (is : List Instance) → AreUniqueOf s is self.now.lists
             → (d : Domain) (en : Entities) → IsDomain s d → AreEntities s en
             → IfOk result (λ t. (y : ℕ) → IsTrue (is_pinned t y)
@@ -80,7 +88,7 @@ impl WeakPins {
             (shares (table_of table.now) table.now.rounds) y) is)) }
     {
         let mut names = self.pins.names.clone()?;
-        pin_by_table(alloc, &mut names, &self.lists, table)?;
+        pin_by_table(alloc, keys, &mut names, &self.lists, table)?;
         Ok(Pins { names })
     }
 }

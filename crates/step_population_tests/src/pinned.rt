@@ -318,12 +318,13 @@ fn are_pinned(pins: &Pins, wanted: &[u64]) -> bool {
 // Whether these are pinned by the gentle rules and a table.
 fn are_gentle(
     alloc: Global,
+    keys: RandomState,
     weak: &WeakPins,
     rounds: Rounds,
     wanted: &[u64],
 ) -> Result<bool, AllocError> {
     let table = table(alloc, rounds)?;
-    let gentle = weak.gentle(alloc, &table)?;
+    let gentle = weak.gentle(alloc, keys, &table)?;
     Ok(are_pinned(&gentle, wanted))
 }
 
@@ -343,13 +344,14 @@ fn is_inverse(
 // Whether the answer is the one that is wanted, of a population and its weak pins.
 fn is_answered(
     alloc: Global,
+    keys: RandomState,
     extents: &Extents<'_, '_, '_, '_, '_>,
     weak: &WeakPins,
     question: Question,
 ) -> Result<bool, AllocError> {
     match question {
         Question::Weak(wanted) => Ok(are_pinned(&weak.pins, wanted)),
-        Question::Gentle(rounds, wanted) => are_gentle(alloc, weak, rounds, wanted),
+        Question::Gentle(rounds, wanted) => are_gentle(alloc, keys, weak, rounds, wanted),
         Question::Inverse(name, entity, attribute, wanted) => {
             Ok(is_inverse(extents, name, entity, attribute, wanted))
         }
@@ -376,7 +378,7 @@ fn is_answered_by(
     };
     let extents = Extents::build(alloc, &population, &graph.rules)?;
     let weak = pins(alloc, &extents, chosen)?;
-    is_answered(alloc, &extents, &weak, question)
+    is_answered(alloc, keys, &extents, &weak, question)
 }
 
 fn is_fault(fault: &SchemaFault, question: Question) -> bool {

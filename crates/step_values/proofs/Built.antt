@@ -1,7 +1,8 @@
 -- What is built, as cells are pushed and lists closed.
 use Rattle.std.proofs.Common.{◌≡◌, ◌≤◌, ◌+◌, ℕ, suc, List, [], ◌∷◌, ◌++◌, length, take, drop, map, refl, sym, ◌∙◌, ap, subst, arith, length-append, length-drop, append-nil}
-use Rattle.std.specs.List.{sum_by}
+use Rattle.std.specs.List.{All, sum_by}
 use Rattle.std.proofs.lemmas.List.{map-append, take_at, drop_at, drop-map, take-map, take-append-drop}
+use Rattle.std.proofs.lemmas.List.Elements.{All-nil, All-push, All-take, All-drop}
 use Rattle.std.proofs.lemmas.List.Sums.{sum_by_push}
 use Rattle.parsing.specs.Cells.{Cells}
 use Rattle.parsing.specs.Closing.{Closes}
@@ -11,14 +12,15 @@ use Rattle.parsing.proofs.Grown.{goes_on, place_same, said_same, all_later}
 use Rattle.step_literals.specs.declared.literal.Word.{Word}
 use Rattle.step_values.specs.declared.cell.Cell.{Cell}
 use Rattle.step_values.specs.declared.cell.Cell.TheVariants as cells
-use Rattle.step_values.specs.Building.{AreWithin, built, Builds, Building, Holds, rows_by}
-use Rattle.step_values.specs.Cells.{flat_value, inner_of, reach_of, value_at, value_by, value_nodes, values_of_run}
+use Rattle.step_values.specs.Building.{AreWithin, built, Builds, Building, Holds, IsOutside, StandApart, rows_by}
+use Rattle.step_values.specs.Cells.{flat_value, inner_of, reach_of, IsInside, value_at, value_by, value_nodes, values_of_run}
 use Rattle.step_values.specs.NodeCounts.{nodes_of, nodes_in}
 use Rattle.step_values.specs.Targets.{target_of, targets_of, LeadTo}
 use Rattle.step_values.specs.Leaves.{unset}
 use Rattle.step_values.specs.Values.{Value, leaf, typed}
 use Rattle.step_values.specs.Views.{all_of, word_of}
-use Rattle.step_values.proofs.Asking.{asks_inside, run_alike}
+use Rattle.step_values.proofs.Apart.{grown_apart, none_apart, outside_behind, row_apart}
+use Rattle.step_values.proofs.Asking.{asks_inside, inside_reach, run_alike}
 use Rattle.step_values.proofs.Counting.{nodes_all, nodes_one, sum_cut, leads_join, leads_split}
 
 before_join : (i : ℕ) (cs ds : List Cell) → AreBefore value_nodes i cs → AreBefore value_nodes i ds
@@ -46,8 +48,8 @@ rows_stay old rest [] h w = refl
 rows_stay old rest (r ∷ rs) h w =
     let end = w.0 in
     let row : values_of_run (old ++ rest) r ≡ values_of_run old r =
-    ap all_of (run_alike (value_at (old ++ rest)) (value_at old) r.first r.count (length old)
-    (λ k l. place_same value_nodes asks_inside old rest h k l) end) in
+    ap all_of (run_alike (value_at (old ++ rest)) (value_at old) r.first r.count
+    (λ k l m. place_same value_nodes asks_inside old rest h k (omega (arith, m, end)))) in
     λ i. row i ∷ rows_stay old rest rs h w.1 i
 
 said_push : (column cs : List Cell) (c : Cell) → said_by value_nodes column (cs ++ c ∷ [])
@@ -88,7 +90,9 @@ module _ (names : List ℕ) where
   nothing_built = record {
     column_is = λ i c e. absurd (cc);
     within = tt;
+    apart = none_apart;
     before = tt;
+    outside = All-nil (IsOutside []);
     count = refl;
     column_leads = tt;
     pending_leads = tt;
@@ -98,7 +102,10 @@ module _ (names : List ℕ) where
   pub record IsClosed (old : Cells Cell) (runs : List Run) (mark : ℕ) (r : Run) (new : Cells Cell) : Type 0 where
     pub column_is : IsColumn value_nodes new.column
     pub within : AreWithin (length new.column) runs
+    pub behind : AreWithin r.first runs
+    pub apart : StandApart new.column runs
     pub before : AreBefore value_nodes (length new.column) new.pending
+    pub outside : All (IsOutside runs) new.pending
     pub column_leads : LeadTo names (targets_of new.column)
     pub pending_leads : LeadTo names (targets_of new.pending)
     pub count : length new.column + length new.pending ≡ sum_by nodes_in (rows_by old.column runs)
@@ -133,8 +140,11 @@ module _ (names : List ℕ) where
       rw (c.column, c.pending, c.first) (record {
         column_is = go.column;
         within = within_later (length old.column) (length (old.column ++ cs)) runs up h.within;
+        behind = h.within;
+        apart = grown_apart old.column runs h.within h.apart cs (All-drop (IsOutside runs) mark old.pending h.outside);
         before = all_later value_nodes asks_inside (length old.column) (length (old.column ++ cs))
             (take mark old.pending) up parts.0;
+        outside = All-take (IsOutside runs) mark old.pending h.outside;
         column_leads = leads_join names old.column cs h.column_leads leads.1;
         pending_leads = leads.0;
         count = omega (arith, longer, both, nodes, all);
@@ -151,7 +161,7 @@ module _ (names : List ℕ) where
 
   -- one more cell is pending that has nothing inside
   module _ (column : List Cell) (runs : List Run) (pending : List Cell) (c : Cell) where
-    pub pending_pushed : Builds names column runs pending → reach_of c ≤ length column
+    pub pending_pushed : Builds names column runs pending → reach_of c ≡ 0
         → LeadTo names (target_of c) → nodes_of (value_by (value_at column) c) ≡ 1
         → Builds names column runs (pending ++ c ∷ [])
     pending_pushed h b t one =
@@ -163,7 +173,11 @@ module _ (names : List ℕ) where
         record {
           column_is = h.column_is;
           within = h.within;
-          before = before_join (length column) pending (c ∷ []) h.before (b, tt);
+          apart = h.apart;
+          before = before_join (length column) pending (c ∷ []) h.before (omega (arith, b), tt);
+          outside = All-push (IsOutside runs) pending c h.outside
+              (outside_behind (length column) runs h.within c
+              (λ k i. let low = inside_reach c k i in absurd (omega (arith, low, b))));
           count = omega (arith, nodes, more, longer, all, one);
           column_leads = h.column_leads;
           pending_leads = leads_join names pending (c ∷ []) h.pending_leads (alone c t);
@@ -186,8 +200,8 @@ module _ (names : List ℕ) where
         ≡ take mark (said_by value_nodes old.column old.pending) ++ x ∷ []
     parents = said_push new.column new.pending c ∙ (λ i. h.pending_same i ++ says i ∷ [])
 
-    pub parent_pushed : Builds names new.column runs (new.pending ++ c ∷ [])
-    parent_pushed =
+    pub parent_pushed : ((k : ℕ) → IsInside c k → r.first ≤ k) → Builds names new.column runs (new.pending ++ c ∷ [])
+    parent_pushed start =
         let kept = take mark (said_by value_nodes old.column old.pending) in
         let all : sum_by nodes_of (said_by value_nodes new.column (new.pending ++ c ∷ []))
         ≡ sum_by nodes_of kept + nodes_of x = ap (sum_by nodes_of) parents ∙ sum_by_push nodes_of kept x in
@@ -198,7 +212,9 @@ module _ (names : List ℕ) where
         record {
           column_is = h.column_is;
           within = h.within;
+          apart = h.apart;
           before = before_join (length new.column) new.pending (c ∷ []) h.before (low, tt);
+          outside = All-push (IsOutside runs) new.pending c h.outside (outside_behind r.first runs h.behind c start);
           count = omega (arith, all, rows, longer, count, nodes);
           column_leads = h.column_leads;
           pending_leads = leads_join names new.pending (c ∷ []) h.pending_leads
@@ -229,7 +245,7 @@ module _ (names : List ℕ) where
     pub typed_pushed : Builds names new.column runs (new.pending ++ cells.Typed high low w ∷ [])
     typed_pushed = parent_pushed old runs mark r new h (cells.Typed high low w)
         (typed (word_of w) (value_at new.column r.first)) low_typed refl says_inner
-        (nodes_one _ _ last_said)
+        (nodes_one _ _ last_said) (λ k i. omega (arith, i, inner))
 
     pub typed_built : (front : List Value) (v : Value)
         → said_by value_nodes old.column old.pending ≡ front ++ v ∷ [] → mark ≡ length front
@@ -284,7 +300,11 @@ module _ (names : List ℕ) where
         record {
           column_is = h.column_is;
           within = within_join (length new.column) runs (r ∷ []) h.within (omega (arith, end), tt);
+          apart = subst (λ l. StandApart l (runs ++ r ∷ [])) (sym closes.column)
+              (row_apart old.column runs builds.within builds.apart old.pending builds.outside builds.column_is
+              builds.before r first);
           before = h.before;
+          outside = subst (All (IsOutside (runs ++ r ∷ []))) (sym closes.pending) (All-nil (IsOutside (runs ++ r ∷ [])));
           count = omega (arith, sums, inside, empty, all);
           column_leads = h.column_leads;
           pending_leads = h.pending_leads;
@@ -307,4 +327,4 @@ module _ (names : List ℕ) where
         let none : pending ≡ [] = nothing_mapped _ pending seen in
         let all : Builds names column runs [] = subst (Builds names column runs) none h in
         let count = all.count in
-        record { column_is = all.column_is; within = all.within; count = omega (arith, count) }
+        record { column_is = all.column_is; within = all.within; apart = all.apart; count = omega (arith, count) }

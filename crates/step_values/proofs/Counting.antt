@@ -34,7 +34,7 @@ targets_join (c ∷ cs) ds = ap (λ ts. target_of c ++ ts) (targets_join cs ds)
     ∙ sym (append_assoc (target_of c) (targets_of cs) (targets_of ds))
 
 module _ (names : List ℕ) where
-  join : (ts us : List (ℕ × ℕ)) → LeadTo names ts → LeadTo names us → LeadTo names (ts ++ us)
+  pub join : (ts us : List (ℕ × ℕ)) → LeadTo names ts → LeadTo names us → LeadTo names (ts ++ us)
   join [] us h g = g
   join (t ∷ ts) us h g = (h.0, join ts us h.1 g)
 

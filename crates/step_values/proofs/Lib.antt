@@ -8,10 +8,12 @@ pub mod Labelled
 pub mod Sorting
 pub mod NormalForms
 mod Asking
+mod Apart
 mod Places
 mod Counting
 pub mod Leading
 mod Referring
+pub mod Reordered
 mod Built
 pub mod Reading
 pub mod Weights

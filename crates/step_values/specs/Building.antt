@@ -1,11 +1,11 @@
 -- Rows of values in one column, and those that are still to be put together.
-use Rattle.std.specs.Prelude.{◌≡◌, ⊤, ℕ, ◌+◌, ◌≤◌, List, [], ◌∷◌, length, map, refl}
+use Rattle.std.specs.Prelude.{◌≡◌, ⊤, ℕ, ◌+◌, ◌≤◌, List, [], ◌∷◌, Some, length, map, slice_get, refl}
 use Rattle.std.specs.Coded.{Coded, code_by, coded×, coded_ℕ, coded_list}
-use Rattle.std.specs.List.{sum_by}
+use Rattle.std.specs.List.{All, AllPairs, sum_by}
 use Rattle.parsing.specs.Nodes.{said_by, IsColumn, AreBefore}
 use Rattle.parsing.specs.declared.column.Run.{Run}
 use Rattle.step_values.specs.declared.cell.Cell.{Cell}
-use Rattle.step_values.specs.Cells.{value_nodes, values_of_run}
+use Rattle.step_values.specs.Cells.{reach_of, IsIn, IsInside, value_nodes, values_of_run}
 use Rattle.step_values.specs.ComputedCodes.{coded_value, coded_values}
 use Rattle.step_values.specs.NodeCounts.{nodes_of, nodes_in}
 use Rattle.step_values.specs.Targets.{targets_of, LeadTo}
@@ -46,10 +46,27 @@ abbrev pub AreWithin : ℕ → List Run → Type 0
 AreWithin n [] = ⊤
 AreWithin n (r ∷ rs) = (r.first + r.count ≤ n) × AreWithin n rs
 
+-- one run ends before another begins
+abbrev pub EndsBefore : Run → Run → Type 0
+EndsBefore q r = q.first + q.count ≤ r.first
+
+-- what is right inside a cell is in none of these runs
+abbrev pub IsOutside : List Run → Cell → Type 0
+IsOutside runs c = (k : ℕ) → IsInside c k → All (λ r. IsIn r k → ⊥) runs
+
+-- Rows stand one behind another; what is right inside the values of a row stands before it, and no value of a row is right
+-- inside another one.
+pub record StandApart (column : List Cell) (runs : List Run) : Type 0 where
+  pub turn : AllPairs EndsBefore runs
+  pub before : (i : ℕ) (r : Run) → slice_get runs i ≡ Some r → (k : ℕ) (c : Cell) → IsIn r k
+      → slice_get column k ≡ Some c → reach_of c ≤ r.first
+  pub outside : All (IsOutside runs) column
+
 -- a column holds rows, one cell for each node
 pub record Holds (column : List Cell) (runs : List Run) : Type 0 where
   pub column_is : IsColumn value_nodes column
   pub within : AreWithin (length column) runs
+  pub apart : StandApart column runs
   pub count : length column ≡ sum_by nodes_in (rows_by column runs)
 
 -- what a column, its rows and pending cells are, over the names of rows
@@ -64,7 +81,9 @@ built names column runs pending = record {
 pub record Builds (names : List ℕ) (column : List Cell) (runs : List Run) (pending : List Cell) : Type 0 where
   pub column_is : IsColumn value_nodes column
   pub within : AreWithin (length column) runs
+  pub apart : StandApart column runs
   pub before : AreBefore value_nodes (length column) pending
+  pub outside : All (IsOutside runs) pending
   pub count : length column + length pending
       ≡ sum_by nodes_in (rows_by column runs) + sum_by nodes_of (said_by value_nodes column pending)
   pub column_leads : LeadTo names (targets_of column)

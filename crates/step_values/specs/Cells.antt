@@ -1,5 +1,5 @@
 -- What a cell of a column says of a value.
-use Rattle.std.specs.Prelude.{ℕ, suc, ◌+◌, ◌*◌, ◌^◌, List}
+use Rattle.std.specs.Prelude.{◌≡◌, ℕ, suc, ◌+◌, ◌*◌, ◌^◌, ◌<◌, ◌≤◌, List}
 use Rattle.parsing.specs.Nodes.{Nodes, run, said_at}
 use Rattle.parsing.specs.declared.column.Run.{Run}
 use Rattle.step_values.specs.declared.cell.Cell.{Cell}
@@ -18,6 +18,17 @@ reach_of (cells.Typed high low w) = suc (inner_of high low)
 reach_of (cells.Sequence r) = r.first + r.count
 reach_of (cells.Bag r) = r.first + r.count
 reach_of _ = 0
+
+-- the places of a run
+abbrev pub IsIn : Run → ℕ → Type 0
+IsIn r k = (r.first ≤ k) × (k < r.first + r.count)
+
+-- the places right inside a cell
+abbrev pub IsInside : Cell → ℕ → Type 0
+IsInside (cells.Typed high low w) k = k ≡ inner_of high low
+IsInside (cells.Sequence r) k = IsIn r k
+IsInside (cells.Bag r) k = IsIn r k
+IsInside _ k = ⊥
 
 -- the values of a run, where the value at each place is known
 abbrev pub values_at : (ℕ → Value) → Run → Values

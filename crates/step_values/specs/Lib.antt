@@ -15,3 +15,4 @@ pub mod Slots
 pub mod ComputedLabels
 pub mod ComputedForms
 pub mod Laws
+pub mod Ordering

@@ -66,7 +66,7 @@ fn pinned_rows<'s: 'r, 't, 'r, 'a>(
         (is_pinned weak.now.pins) (table_of first.now) (is_pinned p.1)) }
 {
     let rows = plain_rows(alloc, keys, population)?;
-    let gentle = weak.gentle(alloc, first)?;
+    let gentle = weak.gentle(alloc, keys, first)?;
     Ok((rows, gentle))
 }
 

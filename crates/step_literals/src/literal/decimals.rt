@@ -38,6 +38,7 @@ ghost use Rattle.step_literals.specs.Decimals.{
   turned,
 };
 ghost use Rattle.step_literals.specs.DecimalKeys.{digit_writes};
+ghost use Rattle.step_literals.specs.Tokens.{is_e};
 ghost use Rattle.step_literals.specs.DigitStrings.{
   is_significant,
   has_digit,
@@ -52,7 +53,7 @@ ghost use Rattle.step_literals.specs.DigitStrings.{
 
 use super::Decimal;
 use crate::bytes::digits_len;
-use crate::numbers::{exponent_text, is_negative, mantissa_len, number_of, sign_len};
+use crate::numbers::{exponent_behind, is_negative, mantissa_len, number_of, sign_len};
 use std::cmp::Ordering;
 use std::hash::{Hash, Hasher};
 
@@ -258,25 +259,29 @@ fn leading_zeros(whole: &[u8], part: &[u8]) -> usize
 impl<'a> Decimal<'a> {
     ghost use Rattle.step_literals.specs.Digits.{digits_of, magnitude_of};
 
-    /// Its digits before the point and behind it.
-    fn parts(&self) -> (&'a [u8], &'a [u8])
+    /// Its digits before the point and behind it, where so many bytes stand before its exponent.
+    fn parts(&self, mantissa: usize) -> (&'a [u8], &'a [u8])
+        requires within { mantissa ≤ length self.now.text.now }
+        requires mantissa { mantissa ≡ prefix_len (λ b. not (is_e b)) self.now.text.now }
         ensures digits { result.0.now ++ result.1.now ≡ mantissa_digits self.now.text.now }
         ensures part { length result.1.now ≡ length (part_digits self.now.text.now) }
         ensures short { length result.0.now + length result.1.now ≤ 400 }
     {
-        let (mantissa, _) = self.text.split_at(mantissa_len(self.text));
+        let (mantissa, _) = self.text.split_at(mantissa);
         let (_, unsigned) = mantissa.split_at(sign_len(mantissa));
         let (whole, rest) = unsigned.split_at(digits_len(unsigned));
         let (_, part) = rest.split_at(rest.len().min(1));
         (whole, part)
     }
 
-    /// The power of ten of the last digit, in units, where so many stand behind the point.
-    fn shift(&self, part_len: usize) -> u32
-        requires { part_len ≡ length (part_digits self.now.text.now) }
+    /// The power of ten of the last digit, in units, where so many bytes stand before its exponent, and
+    /// so many digits behind the point.
+    fn shift(&self, mantissa: usize, part_len: usize) -> u32
+        requires mantissa { mantissa ≡ prefix_len (λ b. not (is_e b)) self.now.text.now }
+        requires part { part_len ≡ length (part_digits self.now.text.now) }
         ensures { result ≡ shift_of self.now.text.now }
     {
-        let written = exponent_text(self.text);
+        let written = exponent_behind(self.text, mantissa);
         let (_, digits) = written.split_at(sign_len(written));
         let exponent = number_of(digits).unwrap_or(0) as u32;
         let point = FINEST - part_len as u32;
@@ -292,8 +297,9 @@ impl<'a> Decimal<'a> {
         ensures shift { result.shift ≡ shift_of self.now.text.now }
         ensures sign { result.below_zero ≡ is_below_zero self.now.text.now }
     {
-        let (whole, part) = self.parts();
-        let shift = self.shift(part.len());
+        let mantissa = mantissa_len(self.text);
+        let (whole, part) = self.parts(mantissa);
+        let shift = self.shift(mantissa, part.len());
         let zeros = leading_zeros(whole, part);
         let below_zero = is_negative(self.text) && zeros < whole.len() + part.len();
         let (_, significant_part) = part.split_at(zeros.saturating_sub(whole.len()));

@@ -1,10 +1,10 @@
-use Rattle.std.proofs.Common.{◌≡◌, ◌≤◌, ◌∙◌, ap, sym, subst, arith, length}
-use Rattle.std.specs.List.{All, sum_by}
+use Rattle.std.proofs.Common.{◌≡◌, ◌≤◌, ◌∙◌, ap, sym, subst, arith, length, rules, vec_len}
+use Rattle.std.specs.List.{sum_by}
 use Rattle.std.proofs.lemmas.List.{drop_all}
-use Rattle.step_equal.specs.Rows.{IsName}
 use Rattle.step_equal.specs.Views.{row_seen}
+use Rattle.step_values.specs.Shapes.{outside_each}
 use Rattle.row_shapes.specs.ComputedReferences.{AddsEdges, AreOfFirst}
-use Rattle.row_shapes.proofs.Referring.{all_refer, are_edges, counted_from, names_named, of_none, of_one_more, reference_count, targets_inside}
+use Rattle.row_shapes.proofs.Referring.{added_count, all_refer, are_edges, counted_from, of_none, of_one_more, reference_count, references_named, targets_inside}
 use Rattle.row_shapes.proofs.references.references.Goals as goal
 
 pub loop-place-init : goal.loop-place-init
@@ -15,27 +15,27 @@ loop-place-init c =
       count = omega (arith, empty);
     }
 
-pub add_edges-requires : goal.add_edges-requires
-add_edges-requires c =
-    subst (All (IsName c.args.input.now)) (sym (c.deref.ensures.value ∙ c.in_ok-names_outside.ensures))
-    (names_named c.args.input.now c.len-place-end.ensures.population c.loop-place.place (row_seen c.row.result)
-    c.row.ensures)
+pub push_each-requires-clause-named : goal.push_each-requires-clause-named
+push_each-requires-clause-named c =
+    references_named c.args.input.now c.len-place-end.ensures.population c.loop-place.place (row_seen c.row-row.result)
+    c.row-row.ensures
 
 pub loop-place-preserved : goal.loop-place-preserved
 loop-place-preserved c =
     let rows = c.args.input.now in
-    let r = row_seen c.row.result in
+    let r = row_seen c.row-row.result in
     let old = c.loop-place.edges.items in
-    let new = c.add_edges.new.edges.items in
-    let ys = c.deref.ensures.value ∙ c.in_ok-names_outside.ensures in
-    let many : length c.deref.result.now ≡ reference_count r = ap length ys in
+    let new = c.push_each.new.edges.items in
+    let whole : length old ≡ vec_len c.loop-place.edges = search rules in
+    let adds = subst (λ k. AddsEdges rows c.loop-place.place k (outside_each r.values) old new)
+    (c.len-first.ensures ∙ sym whole) c.in_ok-push_each.ensures in
+    let more = added_count rows c.loop-place.place (length old) (outside_each r.values) old new adds in
     let count = c.loop-place.invariant.count in
-    let more = c.in_ok-add_edges.ensures.count in
-    let rest = counted_from rows c.loop-place.place r c.row.ensures in
+    let rest = counted_from rows c.loop-place.place r c.row-row.ensures in
     record {
-      edges = of_one_more rows c.loop-place.place r c.row.ensures old new c.loop-place.invariant.edges
-          (subst (λ ns. AddsEdges rows c.loop-place.place ns (length ns) old new) ys c.in_ok-add_edges.ensures.edges);
-      count = omega (arith, many, count, more, rest);
+      edges = of_one_more rows c.len-place-end.ensures.population.distinct c.loop-place.place r c.row-row.ensures old new
+          c.loop-place.invariant.edges adds;
+      count = omega (arith, count, more, rest);
     }
 
 pub returns-clause-references : goal.returns-clause-references

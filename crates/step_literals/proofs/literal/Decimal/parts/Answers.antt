@@ -5,14 +5,14 @@ use Rattle.step_literals.proofs.literal.Decimal.parts.Goals as goal
 pub returns-clause-digits : goal.returns-clause-digits
 returns-clause-digits c =
     let d = c.args.self.now in
-    (parts_cut d.text.now _ _ _ _ _ _ _ _ _ d.spelled c.mantissa_len.ensures.len c.split_at.ensures.front
+    (parts_cut d.text.now _ _ _ _ _ _ _ _ _ d.spelled c.requires.mantissa c.split_at.ensures.front
     c.sign_len.ensures.value c.split_at-2.ensures.back c.digits_len.ensures.len
     c.split_at-3.ensures.front c.split_at-3.ensures.back c.min.ensures c.split_at-4.ensures.back).0
 
 pub returns-clause-part : goal.returns-clause-part
 returns-clause-part c =
     let d = c.args.self.now in
-    (parts_cut d.text.now _ _ _ _ _ _ _ _ _ d.spelled c.mantissa_len.ensures.len c.split_at.ensures.front
+    (parts_cut d.text.now _ _ _ _ _ _ _ _ _ d.spelled c.requires.mantissa c.split_at.ensures.front
     c.sign_len.ensures.value c.split_at-2.ensures.back c.digits_len.ensures.len
     c.split_at-3.ensures.front c.split_at-3.ensures.back c.min.ensures c.split_at-4.ensures.back).1
 

@@ -24,7 +24,7 @@ invariant_of-self-2 c =
     rw (c.in_ok-push_or_clear.ensures.cells, c.in_ok-push_or_clear.ensures.runs)
     (parent_pushed v.names.now v.cells v.runs.items c.args.mark c.close-run.result new h (Sequence c.close-run.result)
     (sequence (all_of inside)) (omega (arith, end)) refl (ap (λ l. sequence (all_of l)) h.moved)
-    (ap suc (nodes_all inside)))
+    (ap suc (nodes_all inside)) (λ k i. i.0))
 
 pub returns : goal.returns
 returns c =

@@ -1,0 +1,17 @@
+use Rattle.std.proofs.Common.{◌≤◌, length}
+use Rattle.step_values.proofs.Walks.{after}
+use Rattle.step_values.proofs.Weights.{weight, weight_of}
+use Rattle.row_shapes.proofs.Referring.{Left}
+use Rattle.row_shapes.proofs.references.+edges.Given as goal
+
+abbrev pub decreases-push_edges : goal.decreases-push_edges
+decreases-push_edges l = weight l.value.now
+
+abbrev pub decreases-push_each : goal.decreases-push_each
+decreases-push_each l = weight_of l.values.now
+
+abbrev pub invariant-push_each-loop-i : goal.invariant-push_each-loop-i
+invariant-push_each-loop-i l = record {
+  first : l.first ≤ length l.edges.items;
+  left : Left l.input l.source l.first l.values l.fn.edges.items (after l.i l.values) l.edges.items;
+}
