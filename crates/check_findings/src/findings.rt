@@ -2,9 +2,7 @@
 
 ghost use Rattle.std.specs.Prelude.{◌≡◌, true, IfOk};
 ghost use Rattle.express_syntax.specs.SchemaViews.{schema_of};
-ghost use Rattle.express_types.specs.Judging.{AreDomainTables};
-ghost use Rattle.schema_rules.specs.Ruled.{AreRuleTables};
-ghost use Rattle.schema_derivations.specs.Firsts.{AreFirsts};
+ghost use Rattle.express_types.specs.Sound.{IsSound};
 ghost use Rattle.schema_types.specs.Made.{IsMade};
 ghost use Rattle.population_layouts.specs.Tables.{AreTables};
 ghost use Rattle.step_exchange.specs.Exchanges.{structure};
@@ -96,13 +94,13 @@ fn found_without_rules<'r, 't, 's: 'r>(
 }
 
 /// What is found of a file, by its population where nothing is found of its instances one by one.
-fn found_by_population<'r, 't, 's: 'r>(
+fn found_by_population<'r, 't, 's: 'r, 'a: 'r>(
     alloc: Global,
     keys: RandomState,
     graph: &'r TypeGraph<'s, 't>,
     tables: &SchemaTables,
     settings: &SettingTables<'r, 's>,
-    exchange: &'r Exchange<'_>,
+    exchange: &'r Exchange<'a>,
 ) -> Result<Found<'s>, AllocError>
     requires ready { AreReady graph.now.types graph.now.rules graph.now.domain
         graph.now.judged.firsts.items tables.now settings.now }
@@ -132,19 +130,14 @@ fn found_by_population<'r, 't, 's: 'r>(
 }
 
 /// What is found of a file by a schema with these tables.
-fn found_by_tables<'r, 't, 's: 'r>(
+fn found_by_tables<'r, 't, 's: 'r, 'a: 'r>(
     alloc: Global,
     keys: RandomState,
     graph: &'r TypeGraph<'s, 't>,
     tables: &'r SchemaTables,
-    exchange: &'r Exchange<'_>,
+    exchange: &'r Exchange<'a>,
 ) -> Result<Found<'s>, AllocError>
-    requires made { IsMade graph.now.types }
-    requires rules { AreRuleTables (schema_of graph.now.types.names.schema.now) graph.now.rules }
-    requires domain { AreDomainTables (schema_of graph.now.types.names.schema.now)
-        graph.now.domain }
-    requires firsts { AreFirsts (schema_of graph.now.types.names.schema.now)
-        graph.now.judged.firsts.items }
+    requires sound { IsSound graph.now }
     requires tables { AreTables graph.now.types tables.now }
     ensures { IfOk result (λ x. AreFindings (schema_of graph.entry.now.types.names.schema.now)
         (structure exchange.entry.now) x.findings.items x.rules.findings.items x.rules.unknown) }
@@ -163,12 +156,7 @@ pub fn file_findings<'s>(
     graph: &TypeGraph<'s, '_>,
     exchange: &Exchange<'_>,
 ) -> Result<Found<'s>, AllocError>
-    requires made { IsMade graph.now.types }
-    requires rules { AreRuleTables (schema_of graph.now.types.names.schema.now) graph.now.rules }
-    requires domain { AreDomainTables (schema_of graph.now.types.names.schema.now)
-        graph.now.domain }
-    requires firsts { AreFirsts (schema_of graph.now.types.names.schema.now)
-        graph.now.judged.firsts.items }
+    requires sound { IsSound graph.now }
     ensures { IfOk result (λ x. AreFindings (schema_of graph.now.types.names.schema.now)
         (structure exchange.now) x.findings.items x.rules.findings.items x.rules.unknown) }
 {

@@ -48,7 +48,7 @@ pub fn schema_is_said(
 }
 
 /// What the domain rules of a schema say of a population. Places are hashed by these keys.
-fn domain_findings<'e, 'r, 't, 's: 'r, 'a>(
+fn domain_findings<'e, 'r, 't, 's: 'r, 'a: 'r>(
     alloc: Global,
     keys: RandomState,
     domain: &DomainTables<'s, 't>,
@@ -95,7 +95,7 @@ fn domain_findings<'e, 'r, 't, 's: 'r, 'a>(
 /// a domain rule are UNKNOWN. Keys are hashed by these numbers.
 ///
 /// `AllocError` comes where memory runs out.
-pub fn rule_findings<'e, 'r, 't, 's: 'r, 'a>(
+pub fn rule_findings<'e, 'r, 't, 's: 'r, 'a: 'r>(
     alloc: Global,
     keys: RandomState,
     graph: &TypeGraph<'s, 't>,
@@ -123,13 +123,13 @@ pub fn rule_findings<'e, 'r, 't, 's: 'r, 'a>(
 }
 
 /// The findings of a population by these rules, which are those of its schema.
-pub(crate) fn found_by_rules<'r, 't, 's: 'r>(
+pub(crate) fn found_by_rules<'r, 't, 's: 'r, 'a: 'r>(
     alloc: Global,
     keys: RandomState,
     graph: &TypeGraph<'s, 't>,
     tables: &SchemaTables,
     settings: &SettingTables<'r, 's>,
-    population: &Population<'s, 't, 'r, '_>,
+    population: &Population<'s, 't, 'r, 'a>,
 ) -> Result<RuleReport<'s>, AllocError>
     requires ready { AreReady population.now.types.now graph.now.rules graph.now.domain
         graph.now.judged.firsts.items tables.now settings.now }

@@ -2,10 +2,7 @@
 
 ghost use Rattle.std.specs.Prelude.{◌≡◌, ◌≤◌, ◌^◌, IfSome, Some, false, length};
 ghost use Rattle.express_syntax.specs.SchemaViews.{schema_of};
-ghost use Rattle.express_types.specs.Judging.{AreDomainTables};
-ghost use Rattle.schema_rules.specs.Ruled.{AreRuleTables};
-ghost use Rattle.schema_derivations.specs.Firsts.{AreFirsts};
-ghost use Rattle.schema_types.specs.Made.{IsMade};
+ghost use Rattle.express_types.specs.Sound.{IsSound};
 ghost use Rattle.files.specs.declared.fault.Role.TheVariants as roles;
 ghost use Rattle.faults.specs.Devices.{FileFailsAs, is_device};
 ghost use Rattle.checking.specs.Checks.{Checks, FileAnswers, SourceAnswers};
@@ -31,11 +28,7 @@ fn report<'s>(
     graph: TypeGraph<'s, '_>,
     bytes: &[u8],
 ) -> Result<Report<'s>, Fault<'s>>
-    requires made { IsMade graph.types }
-    requires rules { AreRuleTables (schema_of graph.types.names.schema.now) graph.rules }
-    requires domain { AreDomainTables (schema_of graph.types.names.schema.now) graph.domain }
-    requires firsts { AreFirsts (schema_of graph.types.names.schema.now)
-        graph.judged.firsts.items }
+    requires sound { IsSound graph }
     requires within { length bytes.now ≤ 2 ^ 40 }
     ensures { FileAnswers (schema_of graph.entry.types.names.schema.now) bytes.now result }
 {
@@ -69,11 +62,7 @@ fn report_source<'s, S: Source>(
     graph: TypeGraph<'s, '_>,
     file: &mut S,
 ) -> Result<Report<'s>, Fault<'s>>
-    requires made { IsMade graph.types }
-    requires rules { AreRuleTables (schema_of graph.types.names.schema.now) graph.rules }
-    requires domain { AreDomainTables (schema_of graph.types.names.schema.now) graph.domain }
-    requires firsts { AreFirsts (schema_of graph.types.names.schema.now)
-        graph.judged.firsts.items }
+    requires sound { IsSound graph }
     ensures answers { SourceAnswers (schema_of graph.entry.types.names.schema.now)
         (S.to_come file.old) result }
     ensures no_schema_fault { is_device roles.Schema result ≡ false }

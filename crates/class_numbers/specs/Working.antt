@@ -1,5 +1,5 @@
 -- What the code computes; no promise stands here.
-use Rattle.std.specs.Prelude.{◌≡◌, ◌↔◌, ◌⊎◌, ℕ, ◌+◌, ◌-◌, ◌*◌, ◌%◌, ◌<◌, ◌≤◌, List, length, slice_index}
+use Rattle.std.specs.Prelude.{◌≡◌, ◌≢◌, ◌↔◌, ◌⊎◌, ℕ, ◌+◌, ◌-◌, ◌*◌, ◌%◌, ◌<◌, ◌≤◌, List, length, slice_index}
 use Rattle.std.specs.List.{Contains}
 use Rattle.class_parts.specs.Laid.{Layout, IsLaid, size, count, class_in, parent_of}
 use Rattle.class_parts.specs.Parted.{Above, IsAmong, IsAmongFirst}
@@ -71,13 +71,13 @@ pub record IsTraced (p : Layout) (counts rounds before heads : List ℕ) (n : �
 abbrev pub key_of : ℕ → ℕ → ℕ
 key_of round place = round * 4294967296 + place
 
--- of the first n places those whose round is below the limit, in order
+-- of the first n places those whose round is below the limit, each once
 pub record AreKeys (rounds : List ℕ) (limit n : ℕ) (keys : List ℕ) : Type 0 where
   pub few : length keys ≤ n
   pub sound : (c : ℕ) → c < length keys → (h : ℕ) × (h < n) × (slice_index rounds h < limit)
       × (slice_index keys c ≡ key_of (slice_index rounds h) h)
   pub complete : (h : ℕ) → h < n → slice_index rounds h < limit → Contains keys (key_of (slice_index rounds h) h)
-  pub apart : (c d : ℕ) → c < d → d < length keys → slice_index keys c % 4294967296 < slice_index keys d % 4294967296
+  pub apart : (c d : ℕ) → c < d → d < length keys → slice_index keys c % 4294967296 ≢ slice_index keys d % 4294967296
 
 -- all of them, by round and then by place
 pub record AreBirths (rounds : List ℕ) (limit : ℕ) (births : List ℕ) : Type 0 where

@@ -4,6 +4,7 @@ ghost use Rattle.std.specs.Prelude.{ℕ, ◌≡◌, ◌<◌, ◌/◌, ◌%◌, I
 ghost use Rattle.class_numbers.specs.Working.{AreBirths, AreKeys, IsIndex};
 
 use crate::first_places::filled;
+use class_parts::groups::in_groups;
 use std::alloc::{AllocError, Global};
 
 /// A birth is a round times this, and a place.
@@ -23,16 +24,18 @@ pub(crate) fn place_of(birth: u64) -> u32
     (birth % PLACES) as u32
 }
 
-/// The places whose round is below a limit, with their rounds.
+/// The places whose round is below a limit, with their rounds. Those of one round stand side by side,
+/// so that little is left to sort.
 fn keys(alloc: Global, rounds: &[u32], limit: u32) -> Result<Vec<u64>, AllocError>
     requires { length rounds.now < 4294967296 }
     ensures { IfOk result (λ v. AreKeys rounds.now limit (length rounds.now) v.items) }
 {
+    let places = in_groups(alloc, rounds)?;
     let mut keys = Vec::new(alloc);
-    for place in 0..rounds.len() {
-        let round = rounds[place];
+    for place in &places {
+        let round = rounds[*place as usize];
         if round < limit {
-            keys.push(u64::from(round) * PLACES + place as u64)?;
+            keys.push(u64::from(round) * PLACES + u64::from(*place))?;
         }
     }
     Ok(keys)

@@ -23,13 +23,13 @@ one_there p laid x y l m e =
     let two : slice_index p.order (index_in p y) ≡ y = laid.inverse.at_index y (omega arith) in
     sym one ∙ ap (slice_index p.order) e ∙ two
 
-exchanged_left : (i j q : ℕ) → q ≡ i → exchanged i j q ≡ j
+pub exchanged_left : (i j q : ℕ) → q ≡ i → exchanged i j q ≡ j
 exchanged_left i j q e = ap (λ b. cond b j (cond (q == j) i q)) (eq-eqb q i e)
 
-exchanged_right : (i j q : ℕ) → q ≢ i → q ≡ j → exchanged i j q ≡ i
+pub exchanged_right : (i j q : ℕ) → q ≢ i → q ≡ j → exchanged i j q ≡ i
 exchanged_right i j q n e = grind arith
 
-exchanged_other : (i j q : ℕ) → q ≢ i → q ≢ j → exchanged i j q ≡ q
+pub exchanged_other : (i j q : ℕ) → q ≢ i → q ≢ j → exchanged i j q ≡ q
 exchanged_other i j q n e = grind arith
 
 module _ (p q : Layout) (x : ℕ) (laid : IsLaid p) (there : x < size p)

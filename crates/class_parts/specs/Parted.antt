@@ -53,9 +53,10 @@ pub record AreMembers (p : Layout) (c : ℕ) (xs : List ℕ) : Type 0 where
   pub complete : (x : ℕ) → x < size p → class_in p x ≡ c → IsAmong xs x
   pub once : (j k : ℕ) → j < length xs → k < length xs → slice_index xs j ≡ slice_index xs k → j ≡ k
 
--- n places in one class
-pub record IsWhole (n : ℕ) (p : Layout) : Type 0 where
+-- places by numbers that they have: two are in one class exactly where theirs are equal
+pub record IsByNumbers (numbers : List ℕ) (p : Layout) : Type 0 where
   pub laid : IsLaid p
-  pub places : size p ≡ n
   pub settled : NoneIsChosen p
-  pub one : (x : ℕ) → x < n → class_in p x ≡ 0
+  pub places : size p ≡ length numbers
+  pub parts : (x z : ℕ) → x < size p → z < size p → (class_in p x ≡ class_in p z)
+      ↔ (slice_index numbers x ≡ slice_index numbers z)

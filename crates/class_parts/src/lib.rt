@@ -3,6 +3,8 @@
 #![tactic(auto)]
 
 mod exchange;
+pub mod groups;
+mod numbered;
 pub mod pairs;
 mod parting;
 pub mod parts;

@@ -2,8 +2,7 @@
 
 ghost use Rattle.std.specs.Prelude.{◌≡◌, ◌<◌, ℕ, IfOk, length, slice_index};
 ghost use Rattle.class_parts.specs.Laid.{IsLaid, class_in, count, size, parent_of};
-ghost use Rattle.class_parts.specs.Parted.{AreMembers, IsWhole};
-ghost use Rattle.class_parts.specs.Steps.{singles};
+ghost use Rattle.class_parts.specs.Parted.{AreMembers};
 ghost use Rattle.class_parts.specs.Views.{layout};
 
 use std::alloc::{AllocError, Global};
@@ -29,21 +28,6 @@ pub struct Parts {
 }
 
 impl Parts {
-    /// As many places, in one class, or in none where there are no places. `AllocError` comes where memory runs out.
-    pub fn whole(alloc: Global, size: u32) -> Result<Parts, AllocError>
-        ensures { IfOk result (λ p. IsWhole size (layout p)) }
-    {
-        Ok(Parts {
-            class: zeros(alloc, size)?,
-            index: numbers(alloc, size)?,
-            order: numbers(alloc, size)?,
-            first: single(alloc, size, 0)?,
-            middle: single(alloc, size, size)?,
-            end: single(alloc, size, size)?,
-            parent: single(alloc, size, 0)?,
-        })
-    }
-
     /// How many classes there are.
     pub fn count(&self) -> usize
         ensures { result ≡ count (layout self.now) }
@@ -89,7 +73,7 @@ impl Parts {
 }
 
 /// The numbers below a number, in order.
-fn numbers(alloc: Global, size: u32) -> Result<Vec<u32>, AllocError>
+pub(crate) fn numbers(alloc: Global, size: u32) -> Result<Vec<u32>, AllocError>
     ensures length { IfOk result (λ v. length v.items ≡ size) }
     ensures each { IfOk result (λ v. (k : ℕ) → k < size → slice_index v.items k ≡ k) }
 {
@@ -101,7 +85,7 @@ fn numbers(alloc: Global, size: u32) -> Result<Vec<u32>, AllocError>
 }
 
 /// So many zeros.
-fn zeros(alloc: Global, size: u32) -> Result<Vec<u32>, AllocError>
+pub(crate) fn zeros(alloc: Global, size: u32) -> Result<Vec<u32>, AllocError>
     ensures length { IfOk result (λ v. length v.items ≡ size) }
     ensures each { IfOk result (λ v. (k : ℕ) → k < size → slice_index v.items k ≡ 0) }
 {
@@ -109,17 +93,6 @@ fn zeros(alloc: Global, size: u32) -> Result<Vec<u32>, AllocError>
     for i in 0..size {
         all.push(0)?;
         let _index = i;
-    }
-    Ok(all)
-}
-
-/// A list of one number, or of none where there are no places.
-fn single(alloc: Global, size: u32, number: u32) -> Result<Vec<u32>, AllocError>
-    ensures { IfOk result (λ v. v.items ≡ singles size number) }
-{
-    let mut all = Vec::new(alloc);
-    if size > 0 {
-        all.push(number)?;
     }
     Ok(all)
 }

@@ -1,52 +1,63 @@
 -- Indices with their numbers as keys, and what a round's pairs part.
 use Rattle.std.proofs.Common.{◌≡◌, ◌≢◌, ◌≤◌, ◌<◌, ℕ, ◌+◌, List, [], ◌∷◌, ◌++◌, refl, sym, ◌∙◌, ap, subst, inl, inr, length, get_or, arith}
 use Rattle.std.specs.Prelude.{◌↔◌, slice_index}
-use Rattle.std.specs.List.{Contains, All}
+use Rattle.std.specs.List.{Contains, All, range_with_len}
+use Rattle.std.specs.List.Sorted.{IsPermutation}
 use Rattle.std.proofs.lemmas.Bool.{cases_eq, cases_lt}
 use Rattle.std.proofs.lemmas.List.{get_or_default}
 use Rattle.std.proofs.lemmas.List.Elements.{Contains-append_left, Contains-push}
 use Rattle.class_parts.specs.declared.pairs.Pair.{Pair}
 use Rattle.class_parts.specs.Laid.{Layout, size, count, class_in}
-use Rattle.class_parts.specs.Parted.{HasPair, HaveSamePairs, IsPartedByPairs, IsWhole}
+use Rattle.class_parts.specs.Parted.{IsAmongFirst, HasPair, HaveSamePairs, IsPartedByPairs}
+use Rattle.class_parts.proofs.Below.{all_below, each_among}
 use Rattle.class_parts.proofs.Sets.{finer_trans}
 use Rattle.class_rounds.specs.declared.edges.Edge.{Edge}
 use Rattle.class_rounds.specs.Edges.{HasEdge, AreEdges, AgreeAt, ReferAlike}
-use Rattle.class_rounds.specs.Rounds.{IsStarted, OneClass}
+use Rattle.class_rounds.specs.Rounds.{OneClass}
 use Rattle.class_rounds.specs.Steps.{AgreeBelow, AreKeyed, Gathers, IsAlone, IsRound, IsFirstRound}
 use Rattle.class_rounds.proofs.Gathering.{pair, one_more}
 
--- the first n indices
-pub record AreKeyedFirst (numbers : List ℕ) (n : ℕ) (ps : List Pair) : Type 0 where
-  pub sound : (c i x : ℕ) → HasPair ps c i x → (x < n) × (slice_index numbers x ≡ c) × (i ≡ 0)
-  pub complete : (x : ℕ) → x < n → HasPair ps (slice_index numbers x) 0 x
+-- the first n of these indices
+pub record AreKeyedFirst (numbers places : List ℕ) (n : ℕ) (ps : List Pair) : Type 0 where
+  pub sound : (c i x : ℕ) → HasPair ps c i x → IsAmongFirst places n x × (slice_index numbers x ≡ c) × (i ≡ 0)
+  pub complete : (x : ℕ) → IsAmongFirst places n x → HasPair ps (slice_index numbers x) 0 x
 
-pub keyed_more : (numbers : List ℕ) (n k : ℕ) (ps qs : List Pair) → AreKeyedFirst numbers n ps
-    → k ≡ slice_index numbers n → qs ≡ ps ++ pair k 0 n ∷ [] → AreKeyedFirst numbers (n + 1) qs
-keyed_more numbers n k ps qs a k_is is = record {
+pub keyed_more : (numbers places : List ℕ) (n y k : ℕ) (ps qs : List Pair) → AreKeyedFirst numbers places n ps
+    → y ≡ slice_index places n → k ≡ slice_index numbers y → qs ≡ ps ++ pair k 0 y ∷ []
+    → AreKeyedFirst numbers places (n + 1) qs
+keyed_more numbers places n y k ps qs a y_is k_is is = record {
   sound = λ c i x h.
-      elim (one_more ps (pair k 0 n) (pair c i x) (subst (λ l. HasPair l c i x) is h)) [
-        | inl old ↦ let s = a.sound c i x old in let l = s.0 in (omega arith, s.1, s.2)
+      elim (one_more ps (pair k 0 y) (pair c i x) (subst (λ l. HasPair l c i x) is h)) [
+        | inl old ↦ let s = a.sound c i x old in let l = s.0.1 in ((s.0.0, omega arith, s.0.2), s.1, s.2)
         | inr new ↦
-            let place : x ≡ n = ap (λ b. b.place) new in (
-              omega arith,
+            let place : x ≡ y = ap (λ b. b.place) new in (
+              (n, omega arith, sym y_is ∙ sym place),
               ap (slice_index numbers) place ∙ sym k_is ∙ sym (ap (λ b. b.class) new),
               ap (λ b. b.position) new,
             )
       ];
-  complete = λ x l. subst (λ l. HasPair l (slice_index numbers x) 0 x) (sym is) (elim (cases_lt x n) [
-    | inl b ↦ Contains-append_left ps (pair k 0 n ∷ []) (pair (slice_index numbers x) 0 x) (a.complete x b)
+  complete = λ x l. subst (λ l. HasPair l (slice_index numbers x) 0 x) (sym is) (elim (cases_lt l.0 n) [
+    | inl b ↦ Contains-append_left ps (pair k 0 y ∷ []) (pair (slice_index numbers x) 0 x) (a.complete x (l.0, b, l.2))
     | inr b ↦
-        let same : n ≡ x = omega arith in
+        let m = l.1 in
+        let at : n ≡ l.0 = omega arith in
+        let same : y ≡ x = y_is ∙ ap (slice_index places) at ∙ l.2 in
         let key : k ≡ slice_index numbers x = k_is ∙ ap (slice_index numbers) same in
-        subst (Contains (ps ++ pair k 0 n ∷ [])) (λ j. pair (key j) 0 (same j)) (Contains-push ps (pair k 0 n))
+        subst (Contains (ps ++ pair k 0 y ∷ [])) (λ j. pair (key j) 0 (same j)) (Contains-push ps (pair k 0 y))
   ]);
 }
 
-pub keyed_all : (numbers : List ℕ) (n : ℕ) (ps : List Pair) → n ≡ length numbers → AreKeyedFirst numbers n ps
+pub keyed_all : (numbers places : List ℕ) (n : ℕ) (ps : List Pair) → n ≡ length places
+    → IsPermutation (range_with_len 0 (length numbers)) places → AreKeyedFirst numbers places n ps
     → AreKeyed numbers ps
-keyed_all numbers n ps e a = record {
-  sound = λ c i x h. let s = a.sound c i x h in let l = s.0 in (omega arith, s.1, s.2);
-  complete = λ x l. a.complete x (omega arith);
+keyed_all numbers places n ps e moved a = record {
+  sound = λ c i x h.
+      let s = a.sound c i x h in
+      let l = s.0.1 in
+      let below = all_below (length numbers) places moved s.0.0 (omega arith) in
+      let is = s.0.2 in
+      (omega arith, s.1, s.2);
+  complete = λ x l. let at = each_among (length numbers) places moved x l in let m = at.1 in a.complete x (at.0, omega arith, at.2);
 }
 
 pub keyed_places : (numbers : List ℕ) (ps : List Pair) (n : ℕ) → AreKeyed numbers ps → length numbers ≡ n
@@ -67,22 +78,6 @@ same_numbers numbers ps x z a l m = (
         subst (λ j. HasPair ps c j x) (sym s.2) (subst (λ k. HasPair ps k 0 x) (e ∙ s.1) (a.complete x l)),
   ),
 )
-
-pub starts : (kinds : List ℕ) (p q : Layout) (ps : List Pair) (n : ℕ) → n ≡ length kinds → IsWhole n p
-    → AreKeyed kinds ps → IsPartedByPairs p q ps → IsStarted kinds q
-starts kinds p q ps n n_is whole keyed parted =
-    let sizes = parted.finer.places in let size_is = whole.places in
-    record {
-      laid = parted.laid;
-      settled = parted.settled;
-      places = omega arith;
-      parts = λ x z l m.
-          let by = parted.parts x z (omega arith) (omega arith) in
-          let same = same_numbers kinds ps x z keyed (omega arith) (omega arith) in (
-            λ e. same.0 (by.0 e).1,
-            λ e. by.1 (whole.one x (omega arith) ∙ sym (whole.one z (omega arith)), same.1 e),
-          );
-    }
 
 -- pairs of the classes from `low` on, by which the places of a group are parted
 module _ (edges : List Edge) (p groups : Layout) (low : ℕ) (ps : List Pair)

@@ -9,21 +9,20 @@ ghost use Rattle.class_rounds.specs.Steps.{AreKeyed, IsFirstRound, IsRound};
 
 use crate::edges::Edges;
 use crate::gather::{gather, is_alone};
+use class_parts::groups::in_groups;
 use class_parts::pairs::Pair;
 use class_parts::parts::Parts;
 use std::alloc::{AllocError, Global};
 
 /// Round 0: as many places as kinds, two of them in one class exactly where their kinds are equal.
 ///
-/// It takes time by their number and its logarithm. `AllocError` comes where memory runs out.
+/// It takes time by their number, where the kinds are below it, else by its logarithm too. `AllocError` comes where memory
+/// runs out.
 pub fn start(alloc: Global, kinds: &[u32]) -> Result<Parts, AllocError>
     requires { length kinds.now < 4294967296 }
     ensures { IfOk result (λ p. IsStarted kinds.now (layout p)) }
 {
-    let mut parts = Parts::whole(alloc, kinds.len() as u32)?;
-    let pairs = keyed(alloc, kinds)?;
-    parts.part_by_pairs(pairs)?;
-    Ok(parts)
+    Parts::by_numbers(alloc, kinds)
 }
 
 /// What the rounds were.
@@ -133,17 +132,19 @@ fn next_round(alloc: Global, parts: &mut Parts, edges: &Edges, low: u32) -> Resu
     Ok(gathered)
 }
 
-/// Each index with its number as its key, in place of a class.
+/// Each index with its number as its key, in place of a class. Those of one number stand side by side,
+/// so that little is left to sort.
 fn keyed(alloc: Global, numbers: &[u32]) -> Result<Vec<Pair>, AllocError>
     requires { length numbers.now < 4294967296 }
     ensures { IfOk result (λ ps. AreKeyed numbers.now ps.items) }
 {
+    let places = in_groups(alloc, numbers)?;
     let mut pairs = Vec::with_capacity(alloc, numbers.len())?;
-    for i in 0..numbers.len() {
+    for place in &places {
         pairs.push(Pair {
             position: 0,
-            class: numbers[i],
-            place: i as u32,
+            class: numbers[*place as usize],
+            place: *place,
         })?;
     }
     Ok(pairs)

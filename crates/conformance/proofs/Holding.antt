@@ -43,17 +43,17 @@ repeated_among zero w y m = elim m [ ]
 repeated_among (suc n) w y (inl e) = (omega arith, e)
 repeated_among (suc n) w y (inr m) = (omega arith, (repeated_among n w y m).1)
 
--- the instance of a name
-at_name : (x : Instance) (is : List Instance) → IsDistinct (◌==◌) (names is) → Among x is
+-- an instance stands at its own name
+pub at_own_name : (x : Instance) (is : List Instance) → IsDistinct (◌==◌) (names is) → Among x is
     → instance_at is x.name ≡ Some x
-at_name x [] h m = elim m [ ]
-at_name x (z ∷ is) h (inl e) =
+at_own_name x [] h m = elim m [ ]
+at_own_name x (z ∷ is) h (inl e) =
     subst (λ (w : Instance). cond (z.name == w.name) (Some z) (instance_at is w.name) ≡ Some w) e
     (ap (λ (b : Bool). cond b (Some z) (instance_at is z.name)) (eq-eqb z.name z.name refl))
-at_name x (z ∷ is) h (inr m) =
+at_own_name x (z ∷ is) h (inr m) =
     ap (λ (b : Bool). cond b (Some z) (instance_at is x.name))
     (differs z.name x is (IsDistinct-head (◌==◌) z.name (names is) h) m)
-    ∙ at_name x is (IsDistinct-tail (◌==◌) z.name (names is) h) m
+    ∙ at_own_name x is (IsDistinct-tail (◌==◌) z.name (names is) h) m
 
 pub named_at : (y : ℕ) (is : List Instance) (n : Name) → IsTrue (among n (types_at is y))
     → (x : Instance) × Among x is × (x.name ≡ y) × IsTrue (among n x.types)
@@ -75,7 +75,7 @@ module _ (is : List Instance) (i : InverseAttribute) where
       (among-flat (held i z.name) x x.name is m held_here)
     where
       declares : among i.entity (types_at is z.name) ≡ true
-      declares = subst (λ o. among i.entity (types_in o) ≡ true) (sym (at_name z is distinct n)) entity
+      declares = subst (λ o. among i.entity (types_in o) ≡ true) (sym (at_own_name z is distinct n)) entity
 
       held_here : Among x.name (held i z.name x)
       held_here =

@@ -58,3 +58,6 @@ mod MeaningExamples
 mod TypedExamples
 pub mod Ordered
 pub mod RowOneness
+pub mod Rowed
+pub mod FileNames
+mod FileRows

@@ -31,4 +31,5 @@ pub mod Alike
 pub mod MeaningImages
 pub mod MeaningLaws
 pub mod PlainRows
+pub mod RowLaws
 pub mod Said

@@ -87,7 +87,7 @@ struct Tried<'n> {
 }
 
 /// Adds what rules say at an instance.
-fn add_instance<'p, 'e, 'r, 't, 's: 'r, 'a>(
+fn add_instance<'p, 'e, 'r, 't, 's: 'r, 'a: 'r>(
     alloc: Global,
     evaluator: &Evaluator<'s, 't, 'r, 'a, 'e, 'p>,
     report: &mut RuleReport<'s>,
@@ -124,7 +124,7 @@ fn add_instance<'p, 'e, 'r, 't, 's: 'r, 'a>(
 }
 
 /// What rules say at all instances.
-fn planned_report<'p, 'e, 'r, 't, 's: 'r, 'a>(
+fn planned_report<'p, 'e, 'r, 't, 's: 'r, 'a: 'r>(
     alloc: Global,
     evaluator: &Evaluator<'s, 't, 'r, 'a, 'e, 'p>,
     plan: &Plan<'s, 't, '_>,
@@ -163,7 +163,7 @@ fn planned_report<'p, 'e, 'r, 't, 's: 'r, 'a>(
 /// (ISO 10303-11, 9.1 and 9.2.2.2).
 ///
 /// An error says that memory ran out.
-pub fn check_rules<'p, 'e, 'r, 't, 's: 'r, 'a>(
+pub fn check_rules<'p, 'e, 'r, 't, 's: 'r, 'a: 'r>(
     alloc: Global,
     setting: &'p Setting<'s, 't, 'r, 'a, 'e, 'p>,
     rules: &[DomainRule<'s, 't>],

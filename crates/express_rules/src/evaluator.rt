@@ -25,7 +25,7 @@ pub struct Evaluator<'s, 't, 'r, 'a, 'e, 'p> {
     pub limit: u64,
 }
 
-impl<'s: 'r, 't, 'r, 'a, 'e, 'p> Evaluator<'s, 't, 'r, 'a, 'e, 'p> {
+impl<'s: 'r, 't, 'r, 'a: 'r, 'e, 'p> Evaluator<'s, 't, 'r, 'a, 'e, 'p> {
     /// Evaluates by what is made of this schema and this population.
     pub fn of(setting: &'p Setting<'s, 't, 'r, 'a, 'e, 'p>) -> Evaluator<'s, 't, 'r, 'a, 'e, 'p>
         ensures setting { result.setting.now ≡ setting.entry.now }

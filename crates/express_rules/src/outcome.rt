@@ -30,7 +30,7 @@ use schema_conditions::rule::{DomainRule, RuleHolder};
 use std::alloc::{AllocError, Global};
 
 /// What a rule says of a value of SELF.
-fn said_of<'p, 'e, 'r, 't, 's: 'r, 'a>(
+fn said_of<'p, 'e, 'r, 't, 's: 'r, 'a: 'r>(
     alloc: Global,
     evaluator: &Evaluator<'s, 't, 'r, 'a, 'e, 'p>,
     rule: &DomainRule<'s, 't>,
@@ -46,7 +46,7 @@ fn said_of<'p, 'e, 'r, 't, 's: 'r, 'a>(
 }
 
 /// What a rule of an entity says at the instance of a row, which has this name.
-fn entity_outcome<'p, 'e, 'r, 't, 's: 'r, 'a>(
+fn entity_outcome<'p, 'e, 'r, 't, 's: 'r, 'a: 'r>(
     alloc: Global,
     evaluator: &Evaluator<'s, 't, 'r, 'a, 'e, 'p>,
     row: usize,
@@ -71,7 +71,7 @@ fn entity_outcome<'p, 'e, 'r, 't, 's: 'r, 'a>(
 
 /// The least of what a rule of a defined type says of a value, where it is tried for it, and of what
 /// it said of others.
-fn outcome_with<'p, 'e, 'r, 't, 's: 'r, 'a>(
+fn outcome_with<'p, 'e, 'r, 't, 's: 'r, 'a: 'r>(
     alloc: Global,
     evaluator: &Evaluator<'s, 't, 'r, 'a, 'e, 'p>,
     rule: &DomainRule<'s, 't>,
@@ -97,7 +97,7 @@ fn outcome_with<'p, 'e, 'r, 't, 's: 'r, 'a>(
 
 /// What a rule of a defined type says at the instance of a row: of several values the least, TRUE
 /// for none. These are the types of its values.
-fn type_outcome<'p, 'e, 'r, 't, 's: 'r, 'a>(
+fn type_outcome<'p, 'e, 'r, 't, 's: 'r, 'a: 'r>(
     alloc: Global,
     evaluator: &Evaluator<'s, 't, 'r, 'a, 'e, 'p>,
     row: usize,
@@ -139,7 +139,7 @@ fn type_outcome<'p, 'e, 'r, 't, 's: 'r, 'a>(
 
 /// What a rule says at the instance of a row, which has this name: TRUE where it has no value of
 /// SELF there.
-pub(crate) fn outcome<'p, 'e, 'r, 't, 's: 'r, 'a>(
+pub(crate) fn outcome<'p, 'e, 'r, 't, 's: 'r, 'a: 'r>(
     alloc: Global,
     evaluator: &Evaluator<'s, 't, 'r, 'a, 'e, 'p>,
     row: usize,

@@ -4,11 +4,9 @@
 ghost use Rattle.std.specs.Prelude.{◌≡◌, IfOk, MatchResult};
 ghost use Rattle.express_syntax.specs.SchemaViews.{schema_of};
 ghost use Rattle.schema_semantics.specs.Faults.{IsResolved};
-ghost use Rattle.schema_derivations.specs.Firsts.{AreFirsts};
 ghost use Rattle.schema_types.specs.Made.{IsMade};
 ghost use Rattle.schema_types.specs.Resolving.{IsNameFault};
-ghost use Rattle.express_types.specs.Judging.{AreDomainTables};
-ghost use Rattle.schema_rules.specs.Ruled.{AreRuleTables};
+ghost use Rattle.express_types.specs.Sound.{IsSound};
 
 use crate::graph::TypeGraph;
 use crate::judging::{Found, judge};
@@ -27,12 +25,7 @@ fn type_graph<'t, 'a>(
 ) -> Result<TypeGraph<'a, 't>, AllocError>
     requires { IsMade types }
     ensures same { IfOk result (λ g. g.types ≡ types.entry) }
-    ensures rules { IfOk result (λ g. AreRuleTables (schema_of types.entry.names.schema.now)
-        g.rules) }
-    ensures domain { IfOk result (λ g. AreDomainTables (schema_of types.entry.names.schema.now)
-        g.domain) }
-    ensures firsts { IfOk result (λ g. AreFirsts (schema_of types.entry.names.schema.now)
-        g.judged.firsts.items) }
+    ensures sound { IfOk result IsSound }
 {
     let Found {
         judged,
@@ -62,15 +55,9 @@ pub fn resolve<'t, 'a>(
     ensures resolved { MatchResult result (λ g. IsResolved (schema_of schema.entry.now))
         (IsNameFault (schema_of schema.entry.now)) }
     ensures same { IfOk result (λ g. g.types.names.schema.now ≡ schema.entry.now) }
-    // Its tables are those of the schema.
-    ensures made { IfOk result (λ g. IsMade g.types) }
-    // .. and so are its rules that speak of a whole population.
-    ensures rules { IfOk result (λ g. AreRuleTables (schema_of schema.entry.now) g.rules) }
-    // What of it is evaluated are its formulas and its domain rules that are checked,
-    ensures domain { IfOk result (λ g. AreDomainTables (schema_of schema.entry.now) g.domain) }
-    // .. and its derived attributes begin at these numbers.
-    ensures firsts { IfOk result (λ g. AreFirsts (schema_of schema.entry.now)
-        g.judged.firsts.items) }
+    // Its tables are those of the schema: its types, its rules that speak of a whole population, what
+    // of it is evaluated, and where its derived attributes begin.
+    ensures sound { IfOk result IsSound }
 {
     let types = resolve_types(alloc, keys, schema)?;
     match type_graph(alloc, keys, types) {

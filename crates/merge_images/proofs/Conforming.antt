@@ -2,7 +2,6 @@
 use Rattle.std.specs.Prelude.{◌≡◌, ℕ, Bool, IsTrue, true, List, Option, Some, None}
 use Rattle.std.specs.Option.{option_map}
 use Rattle.std.proofs.Common.{refl, sym, ap, subst, ◌∙◌, inl}
-use Rattle.step_values.specs.References.{EachBagReferenceOf}
 use Rattle.step_equal.specs.Rows.{Row, BagsArePinned}
 use Rattle.step_equal.specs.Keeping.{IsValueEquality}
 use Rattle.express_syntax.specs.Schemas.{Schema}
@@ -17,7 +16,8 @@ use Rattle.conformance.specs.Rules.{Rules}
 use Rattle.conformance.specs.Pins.{IsWeaklyPinned, IsGentlyPinned}
 use Rattle.conformance.specs.RuleLaws.{names}
 use Rattle.conformance.proofs.Apart.{gentle_pins_keep_apart}
-use Rattle.conformance.proofs.Pinning.{bag_references_are_pinned, images_stay_in_classes}
+use Rattle.conformance.proofs.Pinning.{images_stay_in_classes}
+use Rattle.conformance.proofs.Rowed.{distinct, names_row, bags_of_rows_are_pinned}
 use Rattle.conformance.specs.MeaningImages.{IsLedTo}
 use Rattle.conformance.specs.MeaningLaws.{IsOnto}
 use Rattle.conformance.proofs.Led.{at_name}
@@ -25,8 +25,6 @@ use Rattle.conformance.proofs.Unbroken.{images_break_no_rule}
 use Rattle.merge_images.specs.Images.{MapsRows}
 use Rattle.merge_images.specs.Laws.{ImagesOfRowsConform}
 use Rattle.merge_images.proofs.Led.{led_along}
-use Rattle.merge_images.proofs.Placed.{bags_at, places}
-use Rattle.merge_images.proofs.Rowed.{instance_of, distinct, names_row}
 
 -- An image of instances, by one of names.
 module _ (s : Schema) (d : Domain) (en : Entities) (is js : List Instance) (h : ℕ → ℕ) (to : IsLedTo is js h)
@@ -65,12 +63,7 @@ module _ (s : Schema) (d : Domain) (en : Entities) (rules : Rules) (chosen : Lis
     (equality : IsValueEquality P weak E)
     (gently : (y : ℕ) → IsGentlyPinned s d en rules chosen is E y → IsTrue (pinned y)) where
   bags : BagsArePinned P pinned
-  bags y p e =
-      let i = instance_of s is P maps.rows y p e in
-      subst (EachBagReferenceOf (λ y. pinned y ≡ true)) (sym i.2.values)
-      (bags_at (λ y. pinned y ≡ true) i.0.slots
-      (bag_references_are_pinned s d en rules chosen is pinned (λ y w. gently y (inl w)) i.0 (at_name y is i.0 i.1).0)
-      (places s p))
+  bags = bags_of_rows_are_pinned s d en rules chosen is P pinned maps.rows (λ y w. gently y (inl w))
 
   one_class : (y z : ℕ) → Among y (names is) → Among z (names is) → h y ≡ h z → E y z ≡ true
   one_class y z m n e =

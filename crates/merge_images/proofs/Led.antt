@@ -19,12 +19,13 @@ use Rattle.conformance.specs.RuleLaws.{names, IsClosed}
 use Rattle.conformance.specs.MeaningImages.{HasPlacesOnce, IsLedTo}
 use Rattle.conformance.specs.MeaningLaws.{IsOnto}
 use Rattle.conformance.proofs.Led.{at_name, place_at}
+use Rattle.conformance.proofs.Holding.{at_own_name}
+use Rattle.conformance.proofs.Rowed.{places, row_of, instance_of, distinct, among_names, names_row}
 use Rattle.merge_images.specs.Layout.{IsLaidOut}
 use Rattle.merge_images.specs.Images.{MapsRows}
 use Rattle.merge_images.specs.Laws.{ImagesOfRowsAreLed}
 use Rattle.merge_images.proofs.Listing.{filter_same}
-use Rattle.merge_images.proofs.Placed.{references_at, agree_at, places, place_in}
-use Rattle.merge_images.proofs.Rowed.{at_own_name, row_of, instance_of, distinct, among_names, names_row}
+use Rattle.merge_images.proofs.Placed.{references_at, agree_at, place_in}
 
 module _ (s : Schema) where
   -- the types of an instance, from those of its row

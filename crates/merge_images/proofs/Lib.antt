@@ -1,7 +1,6 @@
 pub mod Keywords
 pub mod Listing
 pub mod Filed
-pub mod Rowed
 pub mod Placed
 pub mod Led
 pub mod Conforming

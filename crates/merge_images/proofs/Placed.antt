@@ -1,8 +1,8 @@
 -- The values of instances, and of their rows, by place.
-use Rattle.std.specs.Prelude.{◌≡◌, ℕ, ◌==◌, List, [], ◌∷◌, flat_map, Option, Some, None}
-use Rattle.std.proofs.Common.{sym, subst, ◌∙◌, refl, inl, inr}
+use Rattle.std.specs.Prelude.{◌≡◌, ℕ, ◌==◌, List, [], ◌∷◌, Some}
+use Rattle.std.proofs.Common.{sym, subst, ◌∙◌, inl, inr}
 use Rattle.step_values.specs.Values.{Value, Agree, AgreeEach}
-use Rattle.step_values.specs.References.{renamed, renamed_each, EachReference, EachReferenceOf, EachBagReference, EachBagReferenceOf}
+use Rattle.step_values.specs.References.{renamed, renamed_each, EachReference, EachReferenceOf}
 use Rattle.step_equal.specs.Rows.{Row}
 use Rattle.conformance.specs.PlainRows.{or_unset, values_at, IsRowOf}
 use Rattle.express_syntax.specs.Schemas.{Schema}
@@ -13,7 +13,7 @@ use Rattle.schema_semantics.proofs.Recursion.{to-any, from-any}
 use Rattle.schema_semantics.proofs.Supertypes.{entity-name}
 use Rattle.conformance.specs.Entities.{own_in, own_places_of}
 use Rattle.conformance.specs.Populations.{Slot, Instance, slot_at}
-use Rattle.conformance.proofs.Led.{at_place}
+use Rattle.conformance.proofs.Rowed.{places}
 use Rattle.merge_images.specs.Layout.{IsLaidOut}
 
 -- what holds of the references of a row holds of those at a place
@@ -24,16 +24,6 @@ references_at R xs (q ∷ ps) h p (inl same) v e =
     subst (λ o. EachReference R (or_unset o)) e
     (subst (λ (r : Place). EachReference R (or_unset (slot_at xs r))) same h.0)
 references_at R xs (q ∷ ps) h p (inr m) v e = references_at R xs ps h.1 p m v e
-
--- .. and what holds of those of each value holds of those of the row
-pub bags_at : (R : ℕ → Type 0) (xs : List Slot) → ((x : Slot) → Among x xs → EachBagReference R x.value)
-    → (ps : List Place) → EachBagReferenceOf R (values_at xs ps)
-bags_at R xs f [] = tt
-bags_at R xs f (p ∷ ps) = (by (slot_at xs p) refl, bags_at R xs f ps)
-  where
-    by : (o : Option Value) → slot_at xs p ≡ o → EachBagReference R (or_unset o)
-    by None e = tt
-    by (Some v) e = let x = at_place p xs v e in subst (EachBagReference R) x.3 (f x.0 x.1)
 
 -- values of rows that agree do so at each place
 pub agree_at : (h : ℕ → ℕ) (xs zs : List Slot) (ps : List Place)
@@ -55,13 +45,9 @@ module _ (s : Schema) where
       (subst (λ q. Among (q, a) (own_places x)) known.1
       (among-map (λ (b : Name). (x.name, b)) a (explicit_names x) m))
 
-  -- the places of a row
-  abbrev pub places : Row → List Place
-  places p = flat_map (own_places_of s) p.types
-
-  -- .. are all those of an instance
+  -- the places of a row are all those of an instance
   pub place_in : (x : Instance) → IsLaidOut s x → (p : Row) → IsRowOf s x p → (y : Slot) → Among y x.slots
-      → Among y.place (places p)
+      → Among y.place (places s p)
   place_in x laid p row y m =
       let known = (laid.attributes y.place.0 y.place.1).0 (among-map (λ (z : Slot). z.place) y x.slots m) in
       among-flat (own_places_of s) y.place.0 y.place p.types

@@ -21,9 +21,9 @@ use Rattle.express_syntax.specs.Schemas.{Schema}
 use Rattle.schema_semantics.specs.Names.{Name}
 use Rattle.conformance.specs.PlainRows.{AreRowsOf}
 use Rattle.conformance.specs.Said.{Said, instances}
-use Rattle.merge_images.proofs.Rowed.{same_names}
+use Rattle.conformance.proofs.Rowed.{same_names}
+use Rattle.conformance.proofs.FileNames.{names_from}
 use Rattle.merged_populations.specs.Headline.{IsInput, IsMergeOf, IsLeast, IsChecked, ChecksProve}
-use Rattle.merged_populations.proofs.Headed.{names_from}
 use Rattle.step_headings.specs.Headings.{heading_items, SameHeadings}
 use Rattle.shrinking.specs.declared.summary.Summary.{Summary}
 use Rattle.shrinking.specs.Shrinking.{IsDone}
@@ -62,7 +62,8 @@ as_many : (s : Schema) (said : Said s) (f : File) (rows : List Row) → AreRowsO
     → length (rows_of f.sections) ≡ length rows
 as_many s said f rows are =
     sym (length-map (rows_of f.sections) (λ (r : trees.Row). r.name))
-    ∙ ap length (sym (same_names s (instances s said f) rows are ∙ names_from s said 0 f.sections))
+    ∙ ap length (sym (same_names s (instances s said f) rows are
+    ∙ names_from s said.domain said.entities 0 f.sections))
     ∙ length-map rows (λ (r : Row). r.name)
 
 module _ (s : Schema) (chosen : List Name) (bytes output certificate : List ℕ) (m : Summary)

@@ -17,8 +17,8 @@ use Rattle.conformance.specs.PlainRows.{AreRowsOf}
 use Rattle.conformance.specs.Populations.{Instance}
 use Rattle.conformance.specs.RuleLaws.{names}
 use Rattle.conformance.specs.Said.{Said, instances}
-use Rattle.merge_images.proofs.Rowed.{same_names}
-use Rattle.merged_populations.proofs.Headed.{names_from}
+use Rattle.conformance.proofs.Rowed.{same_names}
+use Rattle.conformance.proofs.FileNames.{names_from}
 use Rattle.merged_populations.proofs.PinsFound.{pins_are_found}
 use Rattle.pin_choices.specs.Chosen.{AreChosen}
 use Rattle.pin_choices.specs.declared.choice.Chosen.{Chosen}
@@ -60,5 +60,5 @@ module _ (s : Schema) (said : Said s) (is : List Instance) (weak : ℕ → Bool)
       → (map (λ m. m.0) first.members ≡ x.names) × (map (λ m. m.0) second.members ≡ x.names)
   members-of x e =
       let all = same_names s is tables.rows tables.are_rows ∙ ap names e
-      ∙ names_from s said 0 (structure x).sections ∙ names-are x in
+      ∙ names_from s said.domain said.entities 0 (structure x).sections ∙ names-are x in
       (tables.first_is.members ∙ all, tables.second_is.members ∙ all)

@@ -2,11 +2,8 @@
 
 ghost use Rattle.std.specs.Prelude.{List, IfOk};
 ghost use Rattle.express_syntax.specs.SchemaViews.{schema_of};
-ghost use Rattle.express_types.specs.Judging.{AreDomainTables};
-ghost use Rattle.schema_rules.specs.Ruled.{AreRuleTables};
-ghost use Rattle.schema_derivations.specs.Firsts.{AreFirsts};
+ghost use Rattle.express_types.specs.Sound.{IsSound};
 ghost use Rattle.schema_semantics.specs.Names.{Name};
-ghost use Rattle.schema_types.specs.Made.{IsMade};
 ghost use Rattle.step_exchange.specs.Exchanges.{structure};
 ghost use Rattle.pin_choices.specs.Chosen.{AreChosen};
 ghost use Rattle.population_layouts.specs.Tables.{AreTables};
@@ -53,7 +50,7 @@ pub enum Merging<'s> {
 }
 
 /// What a merge of a typed population comes to.
-fn merged_by_population<'r, 't, 's: 'r, 'a>(
+fn merged_by_population<'r, 't, 's: 'a, 'a: 'r>(
     alloc: Global,
     keys: RandomState,
     graph: &TypeGraph<'s, 't>,
@@ -89,14 +86,14 @@ fn merged_by_population<'r, 't, 's: 'r, 'a>(
 }
 
 /// What a merge of a file comes to, by what is made of its schema.
-fn merged_by_settings<'r, 't, 's: 'r>(
+fn merged_by_settings<'r, 't, 's: 'a, 'a: 'r>(
     alloc: Global,
     keys: RandomState,
     graph: &'r TypeGraph<'s, 't>,
     tables: &SchemaTables,
     settings: &SettingTables<'r, 's>,
     chosen: &Chosen,
-    exchange: &'r Exchange<'_>,
+    exchange: &'r Exchange<'a>,
 ) -> Result<Merging<'s>, AllocError>
     requires ready { AreReady graph.now.types graph.now.rules graph.now.domain
         graph.now.judged.firsts.items tables.now settings.now }
@@ -125,20 +122,15 @@ fn merged_by_settings<'r, 't, 's: 'r>(
 }
 
 /// What a merge of a file comes to, by a schema with these tables.
-fn merged_by_tables<'r, 't, 's: 'r>(
+fn merged_by_tables<'r, 't, 's: 'a, 'a: 'r>(
     alloc: Global,
     keys: RandomState,
     graph: &'r TypeGraph<'s, 't>,
     tables: &'r SchemaTables,
     chosen: &Chosen,
-    exchange: &'r Exchange<'_>,
+    exchange: &'r Exchange<'a>,
 ) -> Result<Merging<'s>, AllocError>
-    requires made { IsMade graph.now.types }
-    requires rules { AreRuleTables (schema_of graph.now.types.names.schema.now) graph.now.rules }
-    requires domain { AreDomainTables (schema_of graph.now.types.names.schema.now)
-        graph.now.domain }
-    requires firsts { AreFirsts (schema_of graph.now.types.names.schema.now)
-        graph.now.judged.firsts.items }
+    requires sound { IsSound graph.now }
     requires tables { AreTables graph.now.types tables.now }
     ensures { IfOk result (Comes (schema_of graph.entry.now.types.names.schema.now) chosen.now
         (structure exchange.entry.now) exchange.entry.now.names) }
@@ -151,19 +143,14 @@ fn merged_by_tables<'r, 't, 's: 'r>(
 /// or what is found of the file, by which it isn't. Names and keys are hashed by these keys.
 ///
 /// `AllocError` comes where memory runs out.
-pub fn merge_tables<'s>(
+pub fn merge_tables<'s: 'a, 'a>(
     alloc: Global,
     keys: RandomState,
     graph: &TypeGraph<'s, '_>,
     chosen: &Chosen,
-    exchange: &Exchange<'_>,
+    exchange: &Exchange<'a>,
 ) -> Result<Merging<'s>, AllocError>
-    requires made { IsMade graph.now.types }
-    requires rules { AreRuleTables (schema_of graph.now.types.names.schema.now) graph.now.rules }
-    requires domain { AreDomainTables (schema_of graph.now.types.names.schema.now)
-        graph.now.domain }
-    requires firsts { AreFirsts (schema_of graph.now.types.names.schema.now)
-        graph.now.judged.firsts.items }
+    requires sound { IsSound graph.now }
     // Where all is merged that is chosen, this is what comes of it.
     ensures merges { (names : List Name)
         → AreChosen (schema_of graph.now.types.names.schema.now) names chosen.now

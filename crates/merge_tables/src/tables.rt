@@ -1,6 +1,6 @@
 //! The tables of a population: under its weak pins, and under the gentle ones that these give.
 
-ghost use Rattle.std.specs.Prelude.{◌≡◌, IfOk, List};
+ghost use Rattle.std.specs.Prelude.{◌≡◌, IfOk, IsTrue, List};
 ghost use Rattle.express_syntax.specs.Schemas.{Schema};
 ghost use Rattle.express_syntax.specs.SchemaViews.{schema_of};
 ghost use Rattle.step_equal.specs.Rows.{IsPopulation};
@@ -18,24 +18,23 @@ use population_typed::population::Population;
 use row_shapes::signatures::{Signatures, signatures_of};
 use std::alloc::{AllocError, Global};
 use std::hash::RandomState;
-use step_classes::classes::refine_by;
+use step_classes::classes::{refine_by, refine_last};
 use step_equal::plain::Plain;
 use step_equal::table::Table;
 use step_pins::pins::Pins;
-use step_pins::weak_pins::WeakPins;
+use step_pins::weak_pins::{GentlePins, WeakPins};
 
 /// The rows of a population, which isn't needed then.
-fn plain_rows<'s: 'r, 't, 'r, 'a>(
+fn plain_rows<'s: 'a, 't, 'r, 'a>(
     alloc: Global,
-    keys: RandomState,
     population: Population<'s, 't, 'r, 'a>,
-) -> Result<Plain<'r>, AllocError>
+) -> Result<Plain<'a>, AllocError>
     ensures rows { IfOk result (λ p. AreRowsOf
         (schema_of population.entry.types.now.names.schema.now) (population_seen population.entry)
         p) }
     ensures population { IfOk result (λ p. IsPopulation p) }
 {
-    let rows = population.into_plain(alloc, keys)?;
+    let rows = population.into_plain(alloc)?;
     // its contract says that no name stands twice and each reference names a row
     let _count = rows.len();
     Ok(rows)
@@ -69,49 +68,68 @@ fn copied(alloc: Global, table: &Table) -> Result<Table, AllocError>
     })
 }
 
-/// The table under the gentle pins. Where these are the weak ones it is the one under the weak ones.
-fn second_table(
+/// The table of partition refinement of rows under these pins. Their shapes and references aren't
+/// needed then.
+fn last_table(
     alloc: Global,
     keys: RandomState,
     rows: &Plain<'_>,
-    weak: &Pins,
-    gentle: &Pins,
-    signatures: &Signatures,
+    pinned: &Pins,
+    signatures: Signatures,
+) -> Result<Table, AllocError>
+    requires { AreSignatures rows.now signatures }
+    ensures { IfOk result (λ t. IsStandard rows.now (is_pinned pinned.now) (table_of t)) }
+{
+    let classes = refine_last(alloc, keys, rows, pinned.names(), signatures)?;
+    Ok(classes.into_table())
+}
+
+/// The table under the gentle pins. Where these are the weak ones it is the one under the weak ones,
+/// and rows are let go of before it is copied.
+fn second_table(
+    alloc: Global,
+    keys: RandomState,
+    rows: Plain<'_>,
+    gentle: &GentlePins,
+    signatures: Signatures,
     first: &Table,
 ) -> Result<Table, AllocError>
-    requires signatures { AreSignatures rows.now signatures.now }
-    requires first { IsStandard rows.now (is_pinned weak.now) (table_of first.now) }
-    ensures { IfOk result (λ t. IsStandard rows.now (is_pinned gentle.now) (table_of t)) }
+    requires signatures { AreSignatures rows signatures }
+    requires first { IsTrue gentle.now.are_weak
+        → IsStandard rows (is_pinned gentle.now.pins) (table_of first.now) }
+    ensures { IfOk result (λ t. IsStandard rows.entry (is_pinned gentle.now.pins) (table_of t)) }
 {
-    if weak.are_same(gentle) {
+    if gentle.are_weak {
+        drop(rows);
+        drop(signatures);
         return copied(alloc, first);
     }
-    standard_table(alloc, keys, rows, gentle, signatures)
+    last_table(alloc, keys, &rows, &gentle.pins, signatures)
 }
 
 /// The tables of rows under these weak pins and under the gentle ones that they give.
 fn tables_by(
     alloc: Global,
     keys: RandomState,
-    rows: &Plain<'_>,
-    weak: &WeakPins,
-    signatures: &Signatures,
+    rows: Plain<'_>,
+    weak: WeakPins,
+    signatures: Signatures,
 ) -> Result<(Table, Table), AllocError>
-    requires population { IsPopulation rows.now }
-    requires signatures { AreSignatures rows.now signatures.now }
-    ensures { (s : Schema) (is : List Instance) → AreRowsOf s is rows.now
-        → AreUniqueOf s is weak.now.lists → IfOk result (λ t. AreTablesUnder s is
-        (is_pinned weak.now.pins) (table_of t.0) (table_of t.1)) }
+    requires population { IsPopulation rows }
+    requires signatures { AreSignatures rows signatures }
+    ensures { (s : Schema) (is : List Instance) → AreRowsOf s is rows.entry
+        → AreUniqueOf s is weak.lists → IfOk result (λ t. AreTablesUnder s is
+        (is_pinned weak.pins) (table_of t.0) (table_of t.1)) }
 {
-    let first = standard_table(alloc, keys, rows, &weak.pins, signatures)?;
-    let gentle = weak.gentle(alloc, keys, &first)?;
-    let second = second_table(alloc, keys, rows, &weak.pins, &gentle, signatures, &first)?;
+    let first = standard_table(alloc, keys, &rows, &weak.pins, &signatures)?;
+    let gentle = weak.into_gentle(alloc, keys, &first)?;
+    let second = second_table(alloc, keys, rows, &gentle, signatures, &first)?;
     Ok((first, second))
 }
 
 /// The table of a population under its weak pins, and the one under the gentle pins by the classes of
 /// the first. Names and keys are hashed by these keys.
-pub(crate) fn standard_tables<'s: 'r, 't, 'r, 'a>(
+pub(crate) fn standard_tables<'s: 'a, 't, 'r, 'a>(
     alloc: Global,
     keys: RandomState,
     population: Population<'s, 't, 'r, 'a>,
@@ -123,7 +141,7 @@ pub(crate) fn standard_tables<'s: 'r, 't, 'r, 'a>(
         (schema_of population.entry.types.now.names.schema.now) (population_seen population.entry)
         (is_pinned weak.pins) (table_of t.0) (table_of t.1)) }
 {
-    let rows = plain_rows(alloc, keys, population)?;
+    let rows = plain_rows(alloc, population)?;
     let signatures = signatures_of(alloc, keys, &rows)?;
-    tables_by(alloc, keys, &rows, &weak, &signatures)
+    tables_by(alloc, keys, rows, weak, signatures)
 }

@@ -1,10 +1,9 @@
 -- The headline, put together.
-use Rattle.std.specs.Prelude.{◌≡◌, ◌≤◌, ◌<◌, ◌^◌, ℕ, suc, Bool, true, false, cond, List, [], ◌∷◌, ◌++◌, map}
+use Rattle.std.specs.Prelude.{◌≡◌, ◌<◌, ◌^◌, ℕ, Bool, true, false, cond, List, [], ◌∷◌, map}
 use Rattle.std.specs.List.{AllByRecursion}
-use Rattle.std.proofs.Common.{refl, sym, ap, subst, ◌∙◌}
-use Rattle.std.proofs.lemmas.List.{map-append}
+use Rattle.std.proofs.Common.{refl, sym, subst, ◌∙◌}
 use Rattle.step_structures.specs.Trees as trees
-use Rattle.step_structures.specs.Trees.{Section, rows_of}
+use Rattle.step_structures.specs.Trees.{rows_of}
 use Rattle.step_structures.specs.Texts.{ReadsAs}
 use Rattle.merged_texts.proofs.MergedReads.{merged_text_reads}
 use Rattle.merged_texts.proofs.Bounded.{names_within}
@@ -17,40 +16,24 @@ use Rattle.step_equal.proofs.Rounds.{tables_decide}
 use Rattle.step_equal.proofs.Outputs.{certificates_prove}
 use Rattle.express_syntax.specs.Schemas.{Schema}
 use Rattle.schema_semantics.specs.Names.{Name}
-use Rattle.conformance.specs.Populations.{Instance, instance_of, instances_from}
 use Rattle.conformance.specs.PopulationLaws.{ImagesConform, NoFindingsExactlyWhereItConforms}
 use Rattle.merge_images.specs.Images.{MapsRows}
 use Rattle.merge_images.proofs.Keywords.{keywords_stand_once}
 use Rattle.merge_images.proofs.Filed.{files_are_laid_out}
 use Rattle.merge_images.proofs.Conforming.{images_of_rows_conform}
-use Rattle.merge_images.proofs.Rowed.{same_names}
+use Rattle.conformance.proofs.Rowed.{same_names}
+use Rattle.conformance.proofs.FileNames.{names_from}
 use Rattle.conformance.specs.Said.{Said, instances}
 use Rattle.merged_populations.specs.Laws.{AreRowsOfFile, merged_by}
 use Rattle.merged_populations.specs.Headline.{IsInput, MergesAreLeast, ChecksProve}
 use Rattle.merged_populations.proofs.Whole.{are_of, bags, laid, merged_files_conform, merged_files_are_least}
-
--- the names of a population are those of the file
-pub names_from : (s : Schema) (said : Said s) (k : ℕ) (xs : List Section)
-    → map (λ (i : Instance). i.name) (instances_from s said.domain said.entities k xs)
-    ≡ map (λ (r : trees.Row). r.name) (rows_of xs)
-names_from s said k [] = refl
-names_from s said k (x ∷ xs) =
-    map-append (λ (i : Instance). i.name) (map (instance_of s said.domain said.entities k) x.rows)
-    (instances_from s said.domain said.entities (suc k) xs)
-    ∙ (λ i. own x.rows i ++ names_from s said (suc k) xs i)
-    ∙ sym (map-append (λ (r : trees.Row). r.name) x.rows (rows_of xs))
-  where
-    own : (rs : List trees.Row) → map (λ (i : Instance). i.name) (map (instance_of s said.domain said.entities k) rs)
-        ≡ map (λ (r : trees.Row). r.name) rs
-    own [] = refl
-    own (r ∷ rs) = ap (λ l. r.name ∷ l) (own rs)
 
 -- the names of rows are those of the file
 pub file_names : (s : Schema) (said : Said s) (chosen : List Name) (text : List ℕ) (input : IsInput s said chosen text)
     → names input.rows ≡ map (λ (r : trees.Row). r.name) (rows_of input.file.sections)
 file_names s said chosen text input =
     same_names s (instances s said input.file) input.rows input.are_rows
-    ∙ names_from s said 0 input.file.sections
+    ∙ names_from s said.domain said.entities 0 input.file.sections
 
 head_within : (ys : List ℕ) (E : ℕ → ℕ → Bool) (x : ℕ) → x < 2 ^ 64 → AllByRecursion (λ n. n < 2 ^ 64) ys
     → head_of ys E x < 2 ^ 64

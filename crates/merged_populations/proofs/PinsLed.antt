@@ -25,7 +25,7 @@ use Rattle.conformance.proofs.There as there
 use Rattle.conformance.specs.MeaningImages.{IsName, HasPlacesOnce, IsLedTo}
 use Rattle.conformance.specs.MeaningLaws.{IsOnto}
 use Rattle.conformance.proofs.Led.{at_name, place_at, AgreeAt, slots_led, refers}
-use Rattle.merge_images.proofs.Rowed.{at_own_name}
+use Rattle.conformance.proofs.Holding.{at_own_name}
 use Rattle.merged_populations.proofs.Standing.{occurs_same, bag_same, element_same, within_same, unique_same, From, occurs_led, occurs_back, bag_led, bag_back, element_led, element_back, within_led, within_back, unique_led, unique_back}
 
 back_again : (v w : Value) → Agree (◌==◌) v w → Agree (◌==◌) w v

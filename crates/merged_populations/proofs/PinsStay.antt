@@ -1,9 +1,9 @@
 -- In an image that respects pins an instance is pinned exactly where the one is that it is led to.
-use Rattle.std.specs.Prelude.{◌≡◌, ◌≢◌, ℕ, ◌==◌, Bool, IsTrue, true, false, cond, List, [], ◌∷◌, ◌⊎◌, ◌↔◌}
+use Rattle.std.specs.Prelude.{◌≡◌, ◌≢◌, ℕ, ◌==◌, Bool, IsTrue, true, false, cond, List, [], ◌∷◌, ◌↔◌}
 use Rattle.std.specs.List.{IsDistinct}
 use Rattle.std.proofs.Common.{refl, sym, ap, subst, ◌∙◌, inl, inr}
 use Rattle.step_values.specs.Values.{Value, Values, Agree, AgreeEach}
-use Rattle.step_values.specs.References.{renamed, renamed_each, EachBagReferenceOf}
+use Rattle.step_values.specs.References.{renamed, renamed_each}
 use Rattle.merged_texts.specs.Merged.{merged_sections}
 use Rattle.step_structures.specs.Normal.{normal_sections}
 use Rattle.step_structures.proofs.NormalLemmas.{normal_stays}
@@ -26,16 +26,14 @@ use Rattle.conformance.specs.Apart.{OccursIn}
 use Rattle.conformance.specs.Elements.{AnElement, IsReferenceTo, IsAnotherOfClass, HasUnique, HasUniqueValue}
 use Rattle.conformance.specs.Pins.{StandsBesideItsClass, IsWeaklyPinned, IsGentlyPinned}
 use Rattle.conformance.specs.RuleLaws as rules
-use Rattle.conformance.proofs.Pinning.{weak_pins_are_gentle, gentle_pins_are_plain, bag_references_are_pinned}
+use Rattle.conformance.proofs.Pinning.{weak_pins_are_gentle, gentle_pins_are_plain}
+use Rattle.conformance.proofs.Rowed as rowed
 use Rattle.conformance.proofs.There.{pinned_are_there, reference_named, at}
 use Rattle.conformance.proofs.Standing.{an_other, value_other, found, one_is, is_occurs}
 use Rattle.conformance.specs.MeaningImages.{IsLedTo}
 use Rattle.conformance.specs.MeaningLaws.{IsOnto}
-use Rattle.conformance.proofs.Led.{at_name}
 use Rattle.merge_images.specs.Images.{MapsRows}
 use Rattle.merge_images.proofs.Led.{led_along}
-use Rattle.merge_images.proofs.Rowed as rowed
-use Rattle.merge_images.proofs.Placed.{bags_at, places}
 use Rattle.conformance.specs.Said.{Said, instances}
 use Rattle.merged_populations.specs.Pinned.{ArePins}
 use Rattle.merged_populations.specs.Laws.{merged_by}
@@ -90,13 +88,7 @@ module _ (s : Schema) (said : Said s) (chosen : List Name) (is js : List Instanc
       (weak_led is js h distinct distinct_there along.0 along.1 s d en said.rules chosen y ((pins.are_weak y).0 k)))
 
   bags_weak : BagsArePinned P pins.weak
-  bags_weak y p e =
-      let i = rowed.instance_of s is P of.rows y p e in
-      subst (EachBagReferenceOf (λ y. pins.weak y ≡ true)) (sym i.2.values)
-      (bags_at (λ y. pins.weak y ≡ true) i.0.slots
-      (bag_references_are_pinned s d en said.rules chosen is pins.weak (λ y w. (pins.are_weak y).1 w) i.0
-      (at_name y is i.0 i.1).0)
-      (places s p))
+  bags_weak = rowed.bags_of_rows_are_pinned s d en said.rules chosen is P pins.weak of.rows (λ y. (pins.are_weak y).1)
 
   image_weak : IsImage P Q h pins.weak
   image_weak = record {

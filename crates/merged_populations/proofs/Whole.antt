@@ -1,10 +1,9 @@
 -- A file that is merged under gentle pins conforms, and is a least image.
-use Rattle.std.specs.Prelude.{◌≡◌, ◌≤◌, ℕ, suc, ◌==◌, Bool, true, List, [], ◌∷◌, ◌++◌, length, map}
+use Rattle.std.specs.Prelude.{◌≡◌, ◌≤◌, ℕ, suc, Bool, List, [], ◌∷◌, length, map}
 use Rattle.std.proofs.Common.{refl, sym, subst, ◌∙◌, inl, arith, length-append}
 use Rattle.std.proofs.lemmas.List.{length-map}
 use Rattle.step_structures.specs.Trees as trees
 use Rattle.step_structures.specs.Trees.{File, Section, rows_of}
-use Rattle.step_values.specs.References.{EachBagReferenceOf}
 use Rattle.step_equal.specs.Rows.{Row, names, IsPopulation, BagsArePinned}
 use Rattle.step_equal.specs.Keeping.{IsCongruence}
 use Rattle.step_equal.specs.Images.{IsImage, head_of, quotient}
@@ -16,15 +15,12 @@ use Rattle.express_syntax.specs.Profile.{Every}
 use Rattle.schema_semantics.specs.Names.{Name}
 use Rattle.conformance.specs.Populations.{Instance, instance_of, instances_from, population_of}
 use Rattle.conformance.specs.PopulationLaws.{AreOf, ImagesConform, NoFindingsExactlyWhereItConforms}
-use Rattle.conformance.proofs.Pinning.{bag_references_are_pinned}
-use Rattle.conformance.proofs.Led.{at_name}
+use Rattle.conformance.proofs.Rowed.{bags_of_rows_are_pinned}
 use Rattle.merge_images.specs.Layout.{IsLaidOut}
 use Rattle.merge_images.specs.Images.{MapsRows}
 use Rattle.merge_images.proofs.Keywords.{keywords_stand_once}
 use Rattle.merge_images.proofs.Filed.{files_are_laid_out}
 use Rattle.merge_images.proofs.Conforming.{images_of_rows_conform}
-use Rattle.merge_images.proofs.Rowed as rowed
-use Rattle.merge_images.proofs.Placed.{bags_at, places}
 use Rattle.conformance.specs.Said.{Said, instances, FileConforms}
 use Rattle.merged_populations.specs.Pinned.{ArePins}
 use Rattle.merged_populations.specs.Led.{merged_rows}
@@ -48,13 +44,9 @@ module _ (s : Schema) (said : Said s) (chosen : List Name) (f : File) (P : List 
   are_of = record { resolved = said.resolved; domain = said.is_domain; entities = said.are_entities }
 
   pub bags : BagsArePinned P pinned
-  bags y p e =
-      let i = rowed.instance_of s is P file.rows y p e in
-      subst (EachBagReferenceOf (λ y. pinned y ≡ true)) (sym i.2.values)
-      (bags_at (λ y. pinned y ≡ true) i.0.slots
-      (bag_references_are_pinned s said.domain said.entities said.rules chosen is pinned
-      (λ y w. (pins.are_gentle y).1 (inl w)) i.0 (at_name y is i.0 i.1).0)
-      (places s p))
+  bags =
+      bags_of_rows_are_pinned s said.domain said.entities said.rules chosen is P pinned file.rows
+      (λ y w. (pins.are_gentle y).1 (inl w))
 
   module _ (law : NoFindingsExactlyWhereItConforms) where
     pub laid : Every (IsLaidOut s) is

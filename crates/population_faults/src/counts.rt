@@ -9,7 +9,7 @@ use crate::keywords::is_internal;
 use step_records::param::Params;
 
 /// 1 for a record that has another number of parameters than the one at this index has to have.
-fn wrong_count(counts: &[usize], index: usize, record: &Params<'_>) -> usize
+fn wrong_count(counts: &[usize], index: usize, record: &Params<'_, '_>) -> usize
     ensures counted { result
         ≡ cond (has_as_many (record_of record.now) (slice_get counts.now index)) 0 1 }
     ensures few { result ≤ 1 }
@@ -22,7 +22,7 @@ fn wrong_count(counts: &[usize], index: usize, record: &Params<'_>) -> usize
 }
 
 /// How many partial records have another number of parameters than they have to have.
-fn wrong_partials(counts: &[usize], partials: &Params<'_>) -> usize
+fn wrong_partials(counts: &[usize], partials: &Params<'_, '_>) -> usize
     ensures { result ≡ miscounts counts.now (map record_in partials.now) }
 {
     let mut wrong: usize = 0;
@@ -33,7 +33,7 @@ fn wrong_partials(counts: &[usize], partials: &Params<'_>) -> usize
 }
 
 /// How many records of an instance have another number of parameters than they have to have.
-pub fn wrong_counts(counts: &[usize], parts: &Params<'_>) -> usize
+pub fn wrong_counts(counts: &[usize], parts: &Params<'_, '_>) -> usize
     ensures { result ≡ miscounts counts.now (records (form_of parts.now)) }
 {
     if !is_internal(parts) {

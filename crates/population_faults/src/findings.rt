@@ -109,7 +109,7 @@ fn tell_form(
     found: &mut Vec<Finding>,
     instance: u64,
     form: &Form,
-    parts: &Params<'_>,
+    parts: &Params<'_, '_>,
 ) -> Result<(), AllocError>
     requires { IsJudge judge.now }
     ensures { OnOk result (TellsBehind judge.now form.now
@@ -132,7 +132,7 @@ fn tell_row(
     rows: &Rows,
     row: usize,
     instance: u64,
-    value: &Param<'_>,
+    value: &Param<'_, '_>,
 ) -> Result<(), AllocError>
     requires { IsJudge judge.now }
     ensures { OnOk result (TellsForm judge.now (form_at rows.now row)
@@ -154,7 +154,7 @@ fn tell_rows(
     found: &mut Vec<Finding>,
     rows: &Rows,
     names: &[u64],
-    instances: &Params<'_>,
+    instances: &Params<'_, '_>,
 ) -> Result<(), AllocError>
     requires { IsJudge judge.now }
     ensures { OnOk result (TellsRows judge.now rows.now (rows_with names.now instances.now)

@@ -153,7 +153,7 @@ impl Made {
         known: &Knowledge<'_, '_, '_>,
         recent: &mut Recent,
         entities: &mut Vec<u32>,
-        parts: &Params<'_>,
+        parts: &Params<'_, '_>,
     ) -> Result<Option<u32>, AllocError>
         requires known { AreKnown known.now }
         requires made { AreMade (schema_in known.now) self.old }

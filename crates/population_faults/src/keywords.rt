@@ -52,7 +52,7 @@ impl Recent {
 }
 
 /// The keyword that stands first.
-fn keyword<'t>(parts: &Params<'t>) -> Option<Word<'t>>
+fn keyword<'a>(parts: &Params<'a, '_>) -> Option<Word<'a>>
     ensures { BeginsWith parts.now result }
 {
     let Some(first) = parts.item(0) else {
@@ -65,7 +65,7 @@ fn keyword<'t>(parts: &Params<'t>) -> Option<Word<'t>>
 }
 
 /// Whether an instance is mapped internally: a keyword stands first.
-pub fn is_internal(parts: &Params<'_>) -> bool
+pub fn is_internal(parts: &Params<'_, '_>) -> bool
     ensures { result ≡ begins_with_keyword parts.now }
 {
     keyword(parts).is_some()
@@ -120,7 +120,7 @@ fn find_recent(names: &Names<'_, '_>, recent: &mut Recent, name: Word<'_>) -> Op
 pub fn recent_entity_of(
     names: &Names<'_, '_>,
     recent: &mut Recent,
-    record: &Params<'_>,
+    record: &Params<'_, '_>,
 ) -> Option<u32>
     requires { IsResolved (schema_of names.now.schema.now) }
     ensures { IsEntityOf (schema_of names.now.schema.now)
@@ -133,7 +133,7 @@ pub fn recent_entity_of(
 }
 
 /// The number of the entity that a record names; none where its keyword is no entity.
-fn entity_of(names: &Names<'_, '_>, record: &Params<'_>) -> Option<u32>
+fn entity_of(names: &Names<'_, '_>, record: &Params<'_, '_>) -> Option<u32>
     requires { IsResolved (schema_of names.now.schema.now) }
     ensures { IsEntityOf (schema_of names.now.schema.now)
         (named_entity (record_of record.now)) result }
@@ -150,7 +150,7 @@ pub fn number_all(
     names: &Names<'_, '_>,
     recent: &mut Recent,
     entities: &mut Vec<u32>,
-    partials: &Params<'_>,
+    partials: &Params<'_, '_>,
 ) -> Result<bool, AllocError>
     requires { IsResolved (schema_of names.now.schema.now) }
     ensures { IfOk result (NumberAll (schema_of names.now.schema.now) (map record_in partials.now)
@@ -167,7 +167,7 @@ pub fn number_all(
 }
 
 /// 1 for a record that names no entity.
-fn unknown_entity(names: &Names<'_, '_>, record: &Params<'_>) -> usize
+fn unknown_entity(names: &Names<'_, '_>, record: &Params<'_, '_>) -> usize
     requires { IsResolved (schema_of names.now.schema.now) }
     ensures counted { result ≡ unknown_among (schema_of names.now.schema.now)
         (record_of record.now ∷ []) }
@@ -180,7 +180,7 @@ fn unknown_entity(names: &Names<'_, '_>, record: &Params<'_>) -> usize
 }
 
 /// How many partial records name no entity.
-fn unknown_partials(names: &Names<'_, '_>, partials: &Params<'_>) -> usize
+fn unknown_partials(names: &Names<'_, '_>, partials: &Params<'_, '_>) -> usize
     requires { IsResolved (schema_of names.now.schema.now) }
     ensures { result ≡ unknown_among (schema_of names.now.schema.now) (map record_in partials.now) }
 {
@@ -192,7 +192,7 @@ fn unknown_partials(names: &Names<'_, '_>, partials: &Params<'_>) -> usize
 }
 
 /// How many records of an instance name no entity.
-pub fn unknown_entities(names: &Names<'_, '_>, parts: &Params<'_>) -> usize
+pub fn unknown_entities(names: &Names<'_, '_>, parts: &Params<'_, '_>) -> usize
     requires { IsResolved (schema_of names.now.schema.now) }
     ensures { result ≡ unknown_among (schema_of names.now.schema.now)
         (records (form_of parts.now)) }

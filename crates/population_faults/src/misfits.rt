@@ -32,14 +32,14 @@ use std::alloc::AllocError;
 use step_records::param::{Node, Param, Params};
 
 /// Whether a parameter is `$`.
-fn is_unset(param: &Param<'_>) -> bool
+fn is_unset(param: &Param<'_, '_>) -> bool
     ensures { result ≡ is_dollar param.now }
 {
     matches!(param.node(), Node::Unset)
 }
 
 /// Whether a parameter is `*` or `$`.
-fn is_left_out(param: &Param<'_>) -> bool
+fn is_left_out(param: &Param<'_, '_>) -> bool
     ensures { result ≡ is_star_or_dollar param.now }
 {
     matches!(param.node(), Node::Unset | Node::Star)
@@ -49,7 +49,7 @@ fn is_left_out(param: &Param<'_>) -> bool
 fn first_misfit(
     judge: &Judge<'_, '_, '_>,
     data_types: &[u32],
-    param: &Param<'_>,
+    param: &Param<'_, '_>,
 ) -> Result<Option<FindingKind>, AllocError>
     requires { IsJudge judge.now }
     ensures { IfOk result (λ f. (d : Domain) → (en : Entities) → AreOf judge.now d en
@@ -69,7 +69,7 @@ fn first_misfit(
 }
 
 /// Whether a parameter is a value left out, where it may be.
-fn is_allowed_unset(slot: &SlotForm, param: &Param<'_>) -> bool
+fn is_allowed_unset(slot: &SlotForm, param: &Param<'_, '_>) -> bool
     ensures { result ≡ (slot.now.is_optional && is_dollar param.now) }
 {
     slot.is_optional && is_unset(param)
@@ -79,7 +79,7 @@ fn is_allowed_unset(slot: &SlotForm, param: &Param<'_>) -> bool
 fn slot_misfit(
     judge: &Judge<'_, '_, '_>,
     slot: &SlotForm,
-    param: &Param<'_>,
+    param: &Param<'_, '_>,
 ) -> Result<Option<FindingKind>, AllocError>
     requires { IsJudge judge.now }
     ensures { IfOk result (λ f. (d : Domain) → (en : Entities) → AreOf judge.now d en
@@ -107,7 +107,7 @@ fn tell_record(
     instance: u64,
     slots: &[SlotForm],
     from: usize,
-    values: &Params<'_>,
+    values: &Params<'_, '_>,
 ) -> Result<usize, AllocError>
     requires { IsJudge judge.now }
     ensures { IfOk result (TellsRecord judge.now instance slots.now from (all_of values.now)
@@ -131,7 +131,7 @@ fn tell_partials(
     found: &mut Vec<Finding>,
     instance: u64,
     slots: &[SlotForm],
-    partials: &Params<'_>,
+    partials: &Params<'_, '_>,
 ) -> Result<(), AllocError>
     requires { IsJudge judge.now }
     ensures { OnOk result (TellsAll judge.now instance slots.now
@@ -151,7 +151,7 @@ pub fn tell_misfits(
     found: &mut Vec<Finding>,
     instance: u64,
     slots: &[SlotForm],
-    parts: &Params<'_>,
+    parts: &Params<'_, '_>,
 ) -> Result<(), AllocError>
     requires { IsJudge judge.now }
     ensures { OnOk result (TellsAll judge.now instance slots.now

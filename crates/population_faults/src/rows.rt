@@ -24,7 +24,7 @@ fn forms_of(
     known: &Knowledge<'_, '_, '_>,
     made: &mut Made,
     alloc: Global,
-    instances: &Params<'_>,
+    instances: &Params<'_, '_>,
 ) -> Result<Vec<Option<u32>>, AllocError>
     requires known { AreKnown known.now }
     requires made { AreMade (schema_in known.now) made.old }

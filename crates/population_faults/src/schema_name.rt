@@ -76,7 +76,7 @@ fn names_schema(name: Word<'_>, text: Text<'_>) -> bool
 }
 
 /// The parameter that is alone among these.
-fn only<'t>(params: &Params<'t>) -> Option<Param<'t>>
+fn only<'a, 't>(params: &Params<'a, 't>) -> Option<Param<'a, 't>>
     ensures { IsAlone params.now result }
 {
     if params.len() == 1 {
@@ -87,7 +87,7 @@ fn only<'t>(params: &Params<'t>) -> Option<Param<'t>>
 
 /// The string that FILE_SCHEMA, the third record of a header, has for the name of the schema, in a
 /// list alone in a list.
-fn schema_text<'t>(header: &Params<'t>) -> Option<Text<'t>>
+fn schema_text<'a>(header: &Params<'a, '_>) -> Option<Text<'a>>
     ensures { IsSchemaText (map record_in header.now) result }
 {
     let Some(record) = header.item(2) else {

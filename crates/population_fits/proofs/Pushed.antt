@@ -2,7 +2,8 @@
 use Rattle.std.proofs.Common.{◌≡◌, ◌<◌, ◌≤◌, ℕ, zero, suc, ◌+◌, true, false, List, [], ◌∷◌, ◌++◌, Option, Some, None, Result, Ok, Err, cond, subst, length, take, drop, slice_get, refl, sym, ◌∙◌, ap, arith, add-one, append_assoc, length-append}
 use Rattle.std.specs.Prelude.{IfOk, MatchResult}
 use Rattle.std.specs.Option.{option_map, unwrap_or}
-use Rattle.step_structures.specs.Trees.{Tree, group}
+use Rattle.step_structures.specs.Words.{Word}
+use Rattle.step_structures.specs.Trees.{Tree, leaf, group}
 use Rattle.step_structures.specs.Trees.{typed as tree_typed}
 use Rattle.step_literals.specs.Words.{upper}
 use Rattle.step_records.specs.Cells.{all_of}
@@ -11,7 +12,7 @@ use Rattle.step_values.specs.Values.{Value, typed, sequence, bag, Values, none, 
 use Rattle.step_values.specs.Views as views
 use Rattle.express_syntax.specs.Schemas.{Schema}
 use Rattle.conformance.specs.Bases.{Domain, IsDomain, Base, integer, number, boolean, logical, string, binary, enumeration, entity, select, aggregate}
-use Rattle.conformance.specs.Fitting.{gathered, element, inner, value_as, values_as, or_this}
+use Rattle.conformance.specs.Fitting.{gathered, element, inner, word_value, value_as, values_as, or_this}
 use Rattle.population_fits.specs.Gathering.{makes_bag}
 use Rattle.population_fits.specs.References.{RefersWithin, ReferWithin}
 use Rattle.population_fits.specs.Pushing.{listed, Pushes, PushesEach}
@@ -82,10 +83,9 @@ sequence_gathered (select n) vs e = refl
 
 -- .. as the answer of the call that closes it says
 pub list_closed : {A E : Type 0} (s : Schema) (make : Values → Value) (old mid new : Building) (mark : ℕ)
-    → mark ≡ length old.pending → (b inside : Base) (xs : List Tree)
-    → ((vs : Values) → make vs ≡ gathered b vs) → (d : Domain) × IsDomain s d
-    → ((d : Domain) → IsDomain s d → inside ≡ element s d b)
-    → ((d : Domain) → IsDomain s d → PushesEach old mid (values_as s d inside (all_of xs))) → (r : Result A E)
+    → mark ≡ length old.pending → (b : Base) (xs : List Tree) → ((vs : Values) → make vs ≡ gathered b vs)
+    → (d : Domain) × IsDomain s d
+    → ((d : Domain) → IsDomain s d → PushesEach old mid (values_as s d (element s d b) (all_of xs))) → (r : Result A E)
     → MatchResult r (λ _. new ≡ record mid {
       pending = take mark mid.pending
           ++ make (views.all_of (drop mark mid.pending)) ∷ [];
@@ -93,11 +93,10 @@ pub list_closed : {A E : Type 0} (s : Schema) (make : Values → Value) (old mid
     (λ _. new.names ≡ mid.names)
     → MatchResult r (λ _. (d : Domain) → IsDomain s d → Pushes old new (value_as s d b (group (all_of xs))))
     (λ _. new.names ≡ old.names)
-list_closed s make old mid new mark m b inside xs gather some says pushed (Ok u) e = λ d h.
-    closed make old mid new (values_as s d inside (all_of xs)) mark (pushed d h) m e
-    ∙ ap (λ v. record old { pending = old.pending ++ v ∷ [] }) (gather (values_as s d inside (all_of xs))
-    ∙ ap (λ z. gathered b (values_as s d z (all_of xs))) (says d h))
-list_closed s make old mid new mark m b inside xs gather some says pushed (Err u) e =
+list_closed s make old mid new mark m b xs gather some pushed (Ok u) e = λ d h.
+    closed make old mid new (values_as s d (element s d b) (all_of xs)) mark (pushed d h) m e
+    ∙ ap (λ v. record old { pending = old.pending ++ v ∷ [] }) (gather (values_as s d (element s d b) (all_of xs)))
+list_closed s make old mid new mark m b xs gather some pushed (Err u) e =
     e ∙ ap (λ (c : Building). c.names) (pushed some.0 some.1)
 
 -- a typed value is closed
@@ -163,3 +162,23 @@ module _ (s : Schema) (d : Domain) (b : Base) where
       ∙ ap (λ vs. record old { pending = vs })
       (append_assoc old.pending (values (take i xs)) (value_as s d b x ∷ [])
       ∙ ap (λ vs. old.pending ++ vs) (sym (taken xs i x at) ∙ ap (λ n. values (take n xs)) (sym (add-one i))))
+
+-- what a data type asks, that is looked up
+pub as_asked : {A E : Type 0} (s : Schema) (old new : Building) (b : Base) (asked : Domain → Base) (x : Tree)
+    → ((d : Domain) → IsDomain s d → b ≡ asked d) → (r : Result A E)
+    → MatchResult r (λ _. (d : Domain) → IsDomain s d → Pushes old new (value_as s d b x))
+    (λ _. new.names ≡ old.names)
+    → MatchResult r (λ _. (d : Domain) → IsDomain s d → Pushes old new (value_as s d (asked d) x))
+    (λ _. new.names ≡ old.names)
+as_asked s old new b asked x says (Ok u) p = λ d h.
+    p d h ∙ ap (λ c. record old { pending = old.pending ++ value_as s d c x ∷ [] }) (says d h)
+as_asked s old new b asked x says (Err u) p = p
+
+-- .. that doesn't matter to a token
+pub whatever_asked : {A E : Type 0} (s : Schema) (old new : Building) (asked : Domain → Base) (w : Word) (x : Tree)
+    → leaf w ≡ x → (r : Result A E) → MatchResult r (λ _. Pushes old new (word_value w)) (λ _. new.names ≡ old.names)
+    → MatchResult r (λ _. (d : Domain) → IsDomain s d → Pushes old new (value_as s d (asked d) x))
+    (λ _. new.names ≡ old.names)
+whatever_asked s old new asked w x is (Ok u) p = λ d h.
+    p ∙ ap (λ y. record old { pending = old.pending ++ value_as s d (asked d) y ∷ [] }) is
+whatever_asked s old new asked w x is (Err u) p = p

@@ -33,7 +33,7 @@ pub fn are_distinct(
     alloc: Global,
     bases: &Bases<'_, '_, '_>,
     base: Base,
-    params: &Params<'_>,
+    params: &Params<'_, '_>,
 ) -> Result<bool, AllocError>
     requires bases { AreBases bases.now }
     requires numbered { IsNumbered (schema_at bases.now) base }
@@ -50,12 +50,12 @@ pub fn are_distinct(
 }
 
 /// The normal forms of the elements that are set.
-fn set_forms<'t>(
+fn set_forms<'a>(
     alloc: Global,
     bases: &Bases<'_, '_, '_>,
     base: Base,
-    params: &Params<'t>,
-) -> Result<Vec<Normal<'t>>, AllocError>
+    params: &Params<'a, '_>,
+) -> Result<Vec<Normal<'a>>, AllocError>
     requires bases { AreBases bases.now }
     requires numbered { IsNumbered (schema_at bases.now) base }
     ensures { IfOk result (λ ns. (d : Domain) → IsDomain (schema_at bases.now) d
@@ -73,7 +73,7 @@ fn set_forms<'t>(
 }
 
 /// Whether a parameter has a value that is set.
-fn is_set(param: &Param<'_>) -> bool
+fn is_set(param: &Param<'_, '_>) -> bool
     ensures { (s : Schema) (d : Domain) (b : BaseTree)
         → result ≡ is_set (value_as s d b param.now) }
 {

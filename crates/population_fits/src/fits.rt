@@ -34,7 +34,7 @@ pub fn misfit(
     bases: &Bases<'_, '_, '_>,
     targets: &Targets<'_>,
     base: &Base,
-    param: &Param<'_>,
+    param: &Param<'_, '_>,
 ) -> Result<Option<FindingKind>, AllocError>
     requires bases { AreBases bases.now }
     requires targets { AreTargets (schema_at bases.now) targets.now }
@@ -53,7 +53,7 @@ fn misfit_node(
     bases: &Bases<'_, '_, '_>,
     targets: &Targets<'_>,
     base: &Base,
-    node: Node<'_>,
+    node: Node<'_, '_>,
 ) -> Result<Option<FindingKind>, AllocError>
     requires bases { AreBases bases.now }
     requires targets { AreTargets (schema_at bases.now) targets.now }
@@ -85,7 +85,7 @@ fn misfit_typed(
     targets: &Targets<'_>,
     base: &Base,
     word: Word<'_>,
-    inner: &Param<'_>,
+    inner: &Param<'_, '_>,
 ) -> Result<Option<FindingKind>, AllocError>
     requires bases { AreBases bases.now }
     requires targets { AreTargets (schema_at bases.now) targets.now }
@@ -108,7 +108,7 @@ fn misfit_list(
     bases: &Bases<'_, '_, '_>,
     targets: &Targets<'_>,
     base: &Base,
-    params: &Params<'_>,
+    params: &Params<'_, '_>,
 ) -> Result<Option<FindingKind>, AllocError>
     requires bases { AreBases bases.now }
     requires targets { AreTargets (schema_at bases.now) targets.now }
@@ -147,7 +147,7 @@ fn misfit_each(
     targets: &Targets<'_>,
     is_optional: bool,
     base: &Base,
-    params: &Params<'_>,
+    params: &Params<'_, '_>,
 ) -> Result<Option<FindingKind>, AllocError>
     requires bases { AreBases bases.now }
     requires targets { AreTargets (schema_at bases.now) targets.now }
@@ -174,7 +174,7 @@ fn misfit_one(
     targets: &Targets<'_>,
     is_optional: bool,
     base: &Base,
-    param: &Param<'_>,
+    param: &Param<'_, '_>,
 ) -> Result<Option<FindingKind>, AllocError>
     requires bases { AreBases bases.now }
     requires targets { AreTargets (schema_at bases.now) targets.now }
@@ -191,7 +191,7 @@ fn misfit_one(
 }
 
 /// Whether a parameter is `$`.
-fn is_dollar(param: &Param<'_>) -> bool
+fn is_dollar(param: &Param<'_, '_>) -> bool
     ensures { result ≡ is_dollar param.now }
 {
     matches!(param.node(), Node::Unset)

@@ -25,12 +25,12 @@ use step_values::normal::Normal;
 ///
 /// `AllocError` comes where memory runs out.
 #[cycle(normals)]
-pub fn normal_value<'t>(
+pub fn normal_value<'a>(
     alloc: Global,
     bases: &Bases<'_, '_, '_>,
     base: Base,
-    param: &Param<'t>,
-) -> Result<Normal<'t>, AllocError>
+    param: &Param<'a, '_>,
+) -> Result<Normal<'a>, AllocError>
     requires bases { AreBases bases.now }
     requires numbered { IsNumbered (schema_at bases.now) base }
     ensures { IfOk result (λ n. (d : Domain) → IsDomain (schema_at bases.now) d
@@ -42,12 +42,12 @@ pub fn normal_value<'t>(
 
 /// The same of its outermost part, with what is inside it.
 #[cycle(normals)]
-fn normal_node<'t>(
+fn normal_node<'a>(
     alloc: Global,
     bases: &Bases<'_, '_, '_>,
     base: Base,
-    node: &Node<'t>,
-) -> Result<Normal<'t>, AllocError>
+    node: &Node<'a, '_>,
+) -> Result<Normal<'a>, AllocError>
     requires bases { AreBases bases.now }
     requires numbered { IsNumbered (schema_at bases.now) base }
     ensures { IfOk result (λ n. (d : Domain) → IsDomain (schema_at bases.now) d
@@ -75,7 +75,7 @@ fn normal_node<'t>(
 }
 
 /// The normal form of a list of these, as a value of a data type that asks this.
-fn gathered<'t>(base: Base, forms: Vec<Normal<'t>>) -> Normal<'t>
+fn gathered<'a>(base: Base, forms: Vec<Normal<'a>>) -> Normal<'a>
     ensures { (s : Schema) (vs : Values) → AreNormal (each_by_name vs) forms.entry.items
         → IsNormal (by_name (gathered (base_seen s base) vs)) result }
 {
@@ -90,12 +90,12 @@ fn gathered<'t>(base: Base, forms: Vec<Normal<'t>>) -> Normal<'t>
 
 /// The normal forms of parameters side by side.
 #[cycle(normals)]
-fn normal_values<'t>(
+fn normal_values<'a>(
     alloc: Global,
     bases: &Bases<'_, '_, '_>,
     base: Base,
-    params: &Params<'t>,
-) -> Result<Vec<Normal<'t>>, AllocError>
+    params: &Params<'a, '_>,
+) -> Result<Vec<Normal<'a>>, AllocError>
     requires bases { AreBases bases.now }
     requires numbered { IsNumbered (schema_at bases.now) base }
     ensures { IfOk result (λ ns. (d : Domain) → IsDomain (schema_at bases.now) d

@@ -6,10 +6,10 @@ ghost use Rattle.step_records.specs.Params.{node_value};
 ghost use Rattle.step_structures.specs.Trees.{typed, group};
 ghost use Rattle.step_values.specs.Values.{reference};
 ghost use Rattle.population_rows.specs.Index.{found};
-ghost use Rattle.conformance.specs.Bases.{Domain, IsDomain};
-ghost use Rattle.conformance.specs.Fitting.{value_as, values_as};
-ghost use Rattle.schema_bases.specs.Seen.{base_seen, schema_at};
-ghost use Rattle.schema_bases.specs.Tables.{AreBases, IsNumbered};
+ghost use Rattle.conformance.specs.Bases.{Domain, IsDomain, base};
+ghost use Rattle.conformance.specs.Fitting.{element, value_as, values_as};
+ghost use Rattle.schema_bases.specs.Seen.{base_seen, schema_at, type_at};
+ghost use Rattle.schema_bases.specs.Tables.{AreBases, IsKnown, IsNumbered};
 ghost use Rattle.population_fits.specs.References.{RefersWithin, ReferWithin, IsFound, AreFound};
 ghost use Rattle.population_fits.specs.Pushing.{Pushes, PushesEach};
 
@@ -22,17 +22,72 @@ use step_literals::literal::Word;
 use step_records::param::{Node, Param, Params};
 use step_values::row_builder::RowBuilder;
 
+/// Pushes the value of a parameter, as one of the data type of this number. Each reference in it is
+/// the name of a row, which the index finds. What the data type asks is looked up for what it
+/// matters to: not for a number, a string or a reference.
+///
+/// `AllocError` comes where memory runs out.
+pub fn push_of_type<'a, 't>(
+    bases: &Bases<'_, '_, '_>,
+    builder: &mut RowBuilder<'_, 'a>,
+    number: u32,
+    index: &RowIndex,
+    param: Param<'a, 't>,
+) -> Result<(), AllocError>
+    requires bases { AreBases bases.now }
+    requires known { IsKnown (schema_at bases.now) (type_at (schema_at bases.now) number) }
+    requires indexed { AreFound builder.old.names (found index.now) }
+    requires within { RefersWithin (found index.now) param }
+    ensures { MatchResult result
+        (λ _. (d : Domain) → IsDomain (schema_at bases.now) d
+        → Pushes builder.old builder.new
+        (value_as (schema_at bases.now) d (base d (type_at (schema_at bases.now) number))
+        param.entry))
+        (λ _. builder.new.names ≡ builder.old.names) }
+{
+    match param.node() {
+        Node::Number(literal) => builder.push_number(literal),
+        Node::Text(text) => builder.push_text(text),
+        Node::Reference(name, _) => push_reference(builder, index, name),
+        _ => push_looked_up(bases, builder, number, index, param),
+    }
+}
+
+/// The same, whatever the parameter is.
+#[inline(never)]
+fn push_looked_up<'a, 't>(
+    bases: &Bases<'_, '_, '_>,
+    builder: &mut RowBuilder<'_, 'a>,
+    number: u32,
+    index: &RowIndex,
+    param: Param<'a, 't>,
+) -> Result<(), AllocError>
+    requires bases { AreBases bases.now }
+    requires known { IsKnown (schema_at bases.now) (type_at (schema_at bases.now) number) }
+    requires indexed { AreFound builder.old.names (found index.now) }
+    requires within { RefersWithin (found index.now) param }
+    ensures { MatchResult result
+        (λ _. (d : Domain) → IsDomain (schema_at bases.now) d
+        → Pushes builder.old builder.new
+        (value_as (schema_at bases.now) d (base d (type_at (schema_at bases.now) number))
+        param.entry))
+        (λ _. builder.new.names ≡ builder.old.names) }
+{
+    let base = bases.of_number(number);
+    push_value(bases, builder, &base, index, &param)
+}
+
 /// Pushes the value of a parameter, as one of a data type that asks this. Each reference in it is
 /// the name of a row, which the index finds.
 ///
 /// `AllocError` comes where memory runs out.
 #[cycle(values)]
-pub fn push_value<'t: 'a, 'a>(
+pub fn push_value<'a, 't>(
     bases: &Bases<'_, '_, '_>,
     builder: &mut RowBuilder<'_, 'a>,
     base: &Base,
     index: &RowIndex,
-    param: &Param<'t>,
+    param: &Param<'a, 't>,
 ) -> Result<(), AllocError>
     requires bases { AreBases bases.now }
     requires numbered { IsNumbered (schema_at bases.now) base.now }
@@ -49,12 +104,12 @@ pub fn push_value<'t: 'a, 'a>(
 
 /// Pushes the value of an outermost part, with what is inside it.
 #[cycle(values)]
-fn push_node<'t: 'a, 'a>(
+fn push_node<'a, 't>(
     bases: &Bases<'_, '_, '_>,
     builder: &mut RowBuilder<'_, 'a>,
     base: &Base,
     index: &RowIndex,
-    node: Node<'t>,
+    node: Node<'a, 't>,
 ) -> Result<(), AllocError>
     requires bases { AreBases bases.now }
     requires numbered { IsNumbered (schema_at bases.now) base.now }
@@ -83,13 +138,13 @@ fn push_node<'t: 'a, 'a>(
 /// Pushes the value of a typed parameter, which has this keyword and this parameter inside.
 #[cycle(values)]
 #[inline(never)]
-fn push_typed<'t: 'a, 'a>(
+fn push_typed<'a, 't>(
     bases: &Bases<'_, '_, '_>,
     builder: &mut RowBuilder<'_, 'a>,
     base: &Base,
     index: &RowIndex,
-    word: Word<'t>,
-    inner: &Param<'t>,
+    word: Word<'a>,
+    inner: &Param<'a, 't>,
 ) -> Result<(), AllocError>
     requires bases { AreBases bases.now }
     requires numbered { IsNumbered (schema_at bases.now) base.now }
@@ -130,12 +185,12 @@ pub fn push_reference(
 /// Pushes the value of a list.
 #[cycle(values)]
 #[inline(never)]
-fn push_list<'t: 'a, 'a>(
+fn push_list<'a, 't>(
     bases: &Bases<'_, '_, '_>,
     builder: &mut RowBuilder<'_, 'a>,
     base: &Base,
     index: &RowIndex,
-    params: &Params<'t>,
+    params: &Params<'a, 't>,
 ) -> Result<(), AllocError>
     requires bases { AreBases bases.now }
     requires numbered { IsNumbered (schema_at bases.now) base.now }
@@ -149,8 +204,7 @@ fn push_list<'t: 'a, 'a>(
         (λ _. builder.new.names ≡ builder.old.names) }
 {
     let mark = builder.pending_len();
-    let inside = element(bases, *base);
-    push_each(bases, builder, &inside, index, params)?;
+    push_each(bases, builder, base, index, params)?;
     if has_no_order(*base) {
         builder.close_bag(mark)
     } else {
@@ -158,14 +212,14 @@ fn push_list<'t: 'a, 'a>(
     }
 }
 
-/// Pushes the values of parameters side by side.
+/// Pushes the values of the elements of a list, side by side.
 #[cycle(values)]
-fn push_each<'t: 'a, 'a>(
+fn push_each<'a, 't>(
     bases: &Bases<'_, '_, '_>,
     builder: &mut RowBuilder<'_, 'a>,
     base: &Base,
     index: &RowIndex,
-    params: &Params<'t>,
+    params: &Params<'a, 't>,
 ) -> Result<(), AllocError>
     requires bases { AreBases bases.now }
     requires numbered { IsNumbered (schema_at bases.now) base.now }
@@ -174,12 +228,69 @@ fn push_each<'t: 'a, 'a>(
     ensures { MatchResult result
         (λ _. (d : Domain) → IsDomain (schema_at bases.now) d
         → PushesEach builder.old builder.new
-        (values_as (schema_at bases.now) d (base_seen (schema_at bases.now) base.now)
+        (values_as (schema_at bases.now) d
+        (element (schema_at bases.now) d (base_seen (schema_at bases.now) base.now))
         (all_of params.now)))
         (λ _. builder.new.names ≡ builder.old.names) }
 {
     for i in 0..params.len() {
-        push_value(bases, builder, base, index, &params.at(i))?;
+        push_element(bases, builder, base, index, params.at(i))?;
     }
     Ok(())
+}
+
+/// Pushes the value of an element of a list. What it has to be is looked up for what it matters to:
+/// not for a number, a string or a reference.
+#[cycle(values)]
+fn push_element<'a, 't>(
+    bases: &Bases<'_, '_, '_>,
+    builder: &mut RowBuilder<'_, 'a>,
+    base: &Base,
+    index: &RowIndex,
+    param: Param<'a, 't>,
+) -> Result<(), AllocError>
+    requires bases { AreBases bases.now }
+    requires numbered { IsNumbered (schema_at bases.now) base.now }
+    requires indexed { AreFound builder.old.names (found index.now) }
+    requires within { RefersWithin (found index.now) param }
+    ensures { MatchResult result
+        (λ _. (d : Domain) → IsDomain (schema_at bases.now) d
+        → Pushes builder.old builder.new
+        (value_as (schema_at bases.now) d
+        (element (schema_at bases.now) d (base_seen (schema_at bases.now) base.now))
+        param.entry))
+        (λ _. builder.new.names ≡ builder.old.names) }
+{
+    match param.node() {
+        Node::Number(literal) => builder.push_number(literal),
+        Node::Text(text) => builder.push_text(text),
+        Node::Reference(name, _) => push_reference(builder, index, name),
+        _ => push_inside(bases, builder, base, index, param),
+    }
+}
+
+/// The same, whatever the element is.
+#[cycle(values)]
+#[inline(never)]
+fn push_inside<'a, 't>(
+    bases: &Bases<'_, '_, '_>,
+    builder: &mut RowBuilder<'_, 'a>,
+    base: &Base,
+    index: &RowIndex,
+    param: Param<'a, 't>,
+) -> Result<(), AllocError>
+    requires bases { AreBases bases.now }
+    requires numbered { IsNumbered (schema_at bases.now) base.now }
+    requires indexed { AreFound builder.old.names (found index.now) }
+    requires within { RefersWithin (found index.now) param }
+    ensures { MatchResult result
+        (λ _. (d : Domain) → IsDomain (schema_at bases.now) d
+        → Pushes builder.old builder.new
+        (value_as (schema_at bases.now) d
+        (element (schema_at bases.now) d (base_seen (schema_at bases.now) base.now))
+        param.entry))
+        (λ _. builder.new.names ≡ builder.old.names) }
+{
+    let inside = element(bases, *base);
+    push_value(bases, builder, &inside, index, &param)
 }

@@ -1,10 +1,12 @@
 -- What stands before the values of instances.
-use Rattle.std.specs.Prelude.{◌≡◌, ℕ, suc, ◌+◌, ◌-◌, ◌<◌, ◌≤◌, List, [], ◌∷◌, ◌++◌, length, take, drop, Option, None, get_or}
-use Rattle.std.specs.List.{repeat}
+use Rattle.std.specs.Prelude.{◌≡◌, ℕ, suc, ◌+◌, ◌-◌, ◌<◌, ◌≤◌, ◌^◌, List, [], ◌∷◌, ◌++◌, length, take, drop, Option, None, get_or}
+use Rattle.std.specs.List.{All, repeat}
 use Rattle.std.specs.Option.{unwrap_or}
 use Rattle.std.proofs.Common.{sym, ap, subst, ◌∙◌, refl, zero, arith, replicate, append_assoc}
-use Rattle.std.proofs.lemmas.List.{take_all, take_more, drop_more, length-replicate, length-append, length-take-le}
+use Rattle.std.proofs.lemmas.List.Elements.{All-push}
+use Rattle.std.proofs.lemmas.List.{map-append, take_all, take_more, drop_more, length-replicate, length-append, length-take-le}
 use Rattle.step_equal.specs.declared.row.RowHead.{RowHead}
+use Rattle.step_equal.specs.Views.{head_names}
 use Rattle.step_exchange.specs.declared.section.Section.{Section}
 use Rattle.step_exchange.specs.Sections.{CountsTo}
 use Rattle.population_typed.specs.Rows.{section_numbers}
@@ -91,3 +93,10 @@ heads-next formless ks ys ns i old new sections forms lt all is =
     } ∷ []) all
     ∙ sym (heads-joined formless (take i ks) (take i ys) (take i ns) (get_or ks i 0) (get_or ys i 0) (get_or ns i None)
     (long-ks ∙ sym long-ys) (long-ns ∙ sym long-ys)))
+
+-- names of 64 bits, one more
+pub range-more : (old new : List RowHead) (h : RowHead) → h.name < 2 ^ 64 → All (λ y. y < 2 ^ 64) (head_names old)
+    → new ≡ old ++ h ∷ [] → All (λ y. y < 2 ^ 64) (head_names new)
+range-more old new h small all is =
+    subst (All (λ y. y < 2 ^ 64)) (sym (ap head_names is ∙ map-append (λ (k : RowHead). k.name) old (h ∷ [])))
+    (All-push (λ y. y < 2 ^ 64) (head_names old) h.name all small)

@@ -13,12 +13,12 @@ use step_values::slot::Slots;
 
 /// An instance of a population.
 #[derive(Drop)]
-pub struct InstanceRow<'p, 'r> {
+pub struct InstanceRow<'p, 'a> {
     pub name: u64,
     /// The number of its form among those of the population.
     pub form: Option<u32>,
     /// The values of its attributes, in the order of its form.
-    pub values: Slots<'p, 'r>,
+    pub values: Slots<'p, 'a>,
 }
 
 impl<'s, 't, 'r, 'a> Population<'s, 't, 'r, 'a> {
@@ -32,7 +32,7 @@ impl<'s, 't, 'r, 'a> Population<'s, 't, 'r, 'a> {
     }
 
     /// The instance of a row, counted from 0 in the order of the file. It takes no memory.
-    pub fn instance(&self, row: usize) -> InstanceRow<'_, 'r>
+    pub fn instance(&self, row: usize) -> InstanceRow<'_, 'a>
         requires { row < length (population_seen self.now) }
         ensures { IsInstance self.now row result }
     {

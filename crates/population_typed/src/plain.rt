@@ -13,11 +13,12 @@ ghost use Rattle.std.specs.Prelude.{
   OnOk,
   List,
   ◌<◌,
+  ◌^◌,
   set,
   option_copied,
 };
 ghost use Rattle.std.specs.Bool.{OnTrue};
-ghost use Rattle.std.specs.List.{AllZip};
+ghost use Rattle.std.specs.List.{All, AllZip};
 ghost use Rattle.std.specs.Option.{IfSome};
 ghost use Rattle.express_syntax.specs.Profile.{Every};
 ghost use Rattle.express_syntax.specs.SchemaViews.{schema_of};
@@ -27,7 +28,7 @@ ghost use Rattle.step_values.specs.References.{EachReferenceOf};
 ghost use Rattle.step_values.specs.Targets.{LeadTo, ReferTo};
 ghost use Rattle.step_values.specs.Views.{word_of};
 ghost use Rattle.step_equal.specs.Settled.{IsSettled};
-ghost use Rattle.step_equal.specs.Views.{heads_seen, rows_from, type_lists_of};
+ghost use Rattle.step_equal.specs.Views.{head_names, heads_seen, rows_from, type_lists_of};
 ghost use Rattle.population_rows.specs.Index.{found, place_of};
 ghost use Rattle.population_fits.specs.References.{IsFound, AreFound};
 ghost use Rattle.population_typed.specs.Rows.{section_numbers};
@@ -55,6 +56,7 @@ use std::alloc::{AllocError, Global};
 use std::hash::RandomState;
 use step_equal::plain::Plain;
 use step_equal::row::RowHead;
+use step_exchange::laws::exchanges_are_named;
 use step_exchange::section::Section;
 use step_exchange::structure::Exchange;
 use step_literals::literal::Word;
@@ -250,8 +252,9 @@ fn heads(
 ) -> Result<Vec<RowHead>, AllocError>
     requires sections { length sections.now ≡ length names.now }
     requires forms { length form_of.now ≡ length names.now }
-    ensures { IfOk result
+    ensures made { IfOk result
         (λ v. v.items ≡ heads_made formless sections.now names.now form_of.now) }
+    ensures range { IfOk result (λ v. All (λ y. y < 2 ^ 64) (head_names v.items)) }
 {
     let mut heads = Vec::with_capacity(alloc, names.len())?;
     for i in 0..names.len() {
@@ -312,8 +315,9 @@ fn heads_of(
     requires sections { length (section_numbers 0 0 exchange.now.sections.items)
         ≡ length exchange.now.names }
     requires forms { length form_of.now ≡ length exchange.now.names }
-    ensures { IfOk result (λ v. v.items ≡ heads_made formless
+    ensures made { IfOk result (λ v. v.items ≡ heads_made formless
         (section_numbers 0 0 exchange.now.sections.items) exchange.now.names form_of.now) }
+    ensures range { IfOk result (λ v. All (λ y. y < 2 ^ 64) (head_names v.items)) }
 {
     let sections = row_sections(alloc, &exchange.sections)?;
     heads(
@@ -326,35 +330,34 @@ fn heads_of(
 }
 
 /// The rows of an exchange structure whose instances have these values, in order, by the numbers of
-/// their forms and by the order of each form.
-fn rows_with<'s: 'r, 'r>(
+/// their forms and by the order of each form. The index finds the rows of names.
+fn rows_with<'s: 'v, 'v>(
     alloc: Global,
-    keys: RandomState,
     exchange: &Exchange<'_>,
     form_of: &[Option<u32>],
     orders: &[Order<'s>],
-    values: ValueRows<'r>,
-) -> Result<Plain<'r>, AllocError>
+    values: ValueRows<'v>,
+    index: RowIndex,
+) -> Result<Plain<'v>, AllocError>
     requires sections { length (section_numbers 0 0 exchange.now.sections.items)
         ≡ length exchange.now.names }
     requires forms { length form_of.now ≡ length exchange.now.names }
     requires each { length values.rows ≡ length exchange.now.names }
     requires leads { LeadTo exchange.now.names values.targets }
     requires refers { ReferTo exchange.now.names values.rows }
+    requires indexed { (y : ℕ) → found index y ≡ place_of exchange.now.names y }
     ensures { IfOk result (λ p. AllZip IsSettled (rows_from (heads_seen (types_each orders.now)
         (heads_made (length orders.now) (section_numbers 0 0 exchange.now.sections.items)
         exchange.now.names form_of.now)) values.entry.rows) p) }
 {
+    exchanges_are_named();
     let formless = beyond(orders)?;
     let heads = heads_of(alloc, exchange, form_of, formless)?;
     let type_lists = type_lists(alloc, orders)?;
-    match Plain::from_parts(alloc, keys, heads, type_lists, values) {
-        Ok(plain) => Ok(plain),
-        Err(_) => Err(AllocError),
-    }
+    Plain::from_parts(heads, type_lists, values, index)
 }
 
-impl<'s: 'r, 't, 'r, 'a> Population<'s, 't, 'r, 'a> {
+impl<'s: 'a, 't, 'r, 'a> Population<'s, 't, 'r, 'a> {
     /// The order of each form.
     fn orders(&self, alloc: Global) -> Result<Vec<Order<'s>>, AllocError>
         ensures { IfOk result (λ v. AreOrders (schema_of self.now.types.now.names.schema.now)
@@ -366,7 +369,7 @@ impl<'s: 'r, 't, 'r, 'a> Population<'s, 't, 'r, 'a> {
     }
 
     /// The values of all instances, each in the order of its form.
-    fn in_order(&self, alloc: Global, orders: &[Order<'_>]) -> Result<ValueRows<'r>, AllocError>
+    fn in_order(&self, alloc: Global, orders: &[Order<'_>]) -> Result<ValueRows<'a>, AllocError>
         ensures rows { IfOk result (λ v. v.rows ≡ rows_picked orders.now
             self.now.rows.form_of.items self.now.values.rows) }
         ensures each { IfOk result (λ v. length v.rows ≡ length self.now.exchange.now.names) }
@@ -382,27 +385,29 @@ impl<'s: 'r, 't, 'r, 'a> Population<'s, 't, 'r, 'a> {
     /// declare, type by type, those of each as it declares them. Names are hashed by these keys.
     ///
     /// `AllocError` comes where memory runs out.
-    pub fn plain(&self, alloc: Global, keys: RandomState) -> Result<Plain<'r>, AllocError>
+    pub fn plain(&self, alloc: Global, keys: RandomState) -> Result<Plain<'a>, AllocError>
         ensures { IfOk result (λ p. AreRowsOf (schema_of self.now.types.now.names.schema.now)
             (population_seen self.now) p) }
     {
+        exchanges_are_named();
         let orders = self.orders(alloc)?;
         let values = self.in_order(alloc, &orders)?;
+        let index = RowIndex::of(alloc, keys, self.exchange.names.as_slice())?;
         rows_with(
             alloc,
-            keys,
             self.exchange,
             &self.rows.form_of,
             &orders,
             values,
+            index,
         )
     }
 
     /// The rows that `plain` gives, where the population isn't needed any more: its values are moved
-    /// into their order where they stand.
+    /// into their order where they stand, and names are found by its index.
     ///
     /// `AllocError` comes where memory runs out.
-    pub fn into_plain(self, alloc: Global, keys: RandomState) -> Result<Plain<'r>, AllocError>
+    pub fn into_plain(self, alloc: Global) -> Result<Plain<'a>, AllocError>
         ensures { IfOk result (λ p. AreRowsOf
             (schema_of self.entry.types.now.names.schema.now) (population_seen self.entry) p) }
     {
@@ -415,6 +420,7 @@ impl<'s: 'r, 't, 'r, 'a> Population<'s, 't, 'r, 'a> {
         } = self;
         let names = exchange.names.as_slice();
         let values = reordered(alloc, names, &rows, values, &orders)?;
-        rows_with(alloc, keys, exchange, &rows.form_of, &orders, values)
+        let Rows { index, form_of, .. } = rows;
+        rows_with(alloc, exchange, &form_of, &orders, values, index)
     }
 }

@@ -15,8 +15,9 @@ pub struct Population<'s, 't, 'r, 'a> {
     pub exchange: &'r Exchange<'a>,
     /// The forms of its instances.
     pub rows: Rows,
-    /// For each instance the values of its attributes, in the order of its form.
-    pub values: ValueRows<'r>,
+    /// For each instance the values of its attributes, in the order of its form. They live as long as
+    /// the text of the exchange structure.
+    pub values: ValueRows<'a>,
     pub ghost typed: { ∥ IsPopulation (schema_of types.now.names.schema.now) exchange.now rows
         values ∥₁ },
 }

@@ -78,7 +78,7 @@ impl<'s, 't, 'r, 'a> Population<'s, 't, 'r, 'a> {
 
     /// The value that the instance of a row has of the attribute that stands at a position among those
     /// of its form; none where it has no value of it. It takes no memory.
-    pub fn value_at(&self, row: u32, position: usize) -> Option<Slot<'_, 'r>>
+    pub fn value_at(&self, row: u32, position: usize) -> Option<Slot<'_, 'a>>
         requires { row < length (population_seen self.now) }
         ensures { (name place : ℕ) → found self.now.rows.index name ≡ Some row
             → place < length (all_places (schema_of self.now.types.now.names.schema.now))
@@ -91,7 +91,7 @@ impl<'s, 't, 'r, 'a> Population<'s, 't, 'r, 'a> {
 
     /// The value that the instance of a name has of the attribute of this number; none where there
     /// is no such instance or attribute, or it has no value of it. It takes no memory.
-    pub fn value(&self, name: u64, place: u32) -> Option<Slot<'_, 'r>>
+    pub fn value(&self, name: u64, place: u32) -> Option<Slot<'_, 'a>>
         ensures there { place < length (all_places (schema_of self.now.types.now.names.schema.now))
             → result ≡ value_of (population_seen self.now) name
             (place_at (schema_of self.now.types.now.names.schema.now) place) }
@@ -130,7 +130,7 @@ impl<'s, 't, 'r, 'a> Population<'s, 't, 'r, 'a> {
     /// The whole column of cells, the values of each instance side by side: one for each node of a
     /// value, what is inside each before it, and in each reference the row that it names. It takes no
     /// memory.
-    pub fn cells(&self) -> &[Cell<'r>]
+    pub fn cells(&self) -> &[Cell<'a>]
         ensures column { IsColumn value_nodes result.now }
         ensures count { length result.now ≡ nodes_seen (population_seen self.now) }
         ensures rows { AreRunsOf result.now self.now.values.rows }

@@ -1,6 +1,7 @@
 mod Firsts
 mod Numbering
 mod Recent
+mod Marking
 mod Referring
 mod Alike
 mod OneShape

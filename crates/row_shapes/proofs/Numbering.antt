@@ -11,7 +11,7 @@ use Rattle.step_equal.proofs.Lookup.{same_row}
 use Rattle.step_equal.proofs.OneKind.{kinds_decide}
 use Rattle.step_equal.proofs.Placing.{stands_at, name_at}
 use Rattle.row_shapes.proofs.Naming.{item_at, once, one_place, row_stands}
-use Rattle.row_shapes.specs.ComputedKinds.{IsNumber, AreNumbers, earlier}
+use Rattle.row_shapes.specs.ComputedKinds.{IsNumber, AreNumbers, earlier, first_in}
 
 pub before : {A : Type 0} (xs : List A) (x : A) (i : ℕ) → i < length xs → slice_get (xs ++ x ∷ []) i ≡ slice_get xs i
 before [] x i l = absurd (omega (arith, l))
@@ -213,3 +213,12 @@ numbers_tell pinned rows distinct ns first all i j lt less =
           (subst (AreAlike rows pinned p.0.name) n
           (subst (λ k. AreAlike rows pinned k (slice_index (names rows) j)) m h)) ∙ sym y,
     )
+
+-- nothing is numbered at first
+pub none_numbered : (pinned : ℕ → Bool) (rows : List Row) → AreNumbers pinned rows [] (first_in []) 0
+none_numbered pinned rows = record {
+  each = refl;
+  of_pinned = λ i r l at p. absurd (omega (arith, l));
+  of_free = λ i r l at p. absurd (omega (arith, l));
+  told = λ k m e. absurd (cc);
+}

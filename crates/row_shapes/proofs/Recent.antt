@@ -1,31 +1,13 @@
 -- First rows of kinds that are remembered, one row more.
-use Rattle.std.proofs.Common.{◌≡◌, ◌<◌, ◌⊎◌, ℕ, zero, suc, Bool, true, false, cond, List, [], ◌∷◌, Option, Some, None, refl, sym, ap, ◌∙◌, subst, slice_get, slice_set, arith, inl, inr}
-use Rattle.std.proofs.Math.ListN.{replicate}
+use Rattle.std.proofs.Common.{◌≡◌, ◌⊎◌, ◌<◌, ℕ, replicate, Bool, true, false, cond, List, Option, Some, None, refl, sym, ap, ◌∙◌, subst, slice_get, inl, inr}
 use Rattle.std.proofs.lemmas.Bool.{false≢true}
+use Rattle.std.proofs.lemmas.List.{get_or-replicate, length-replicate}
+use Rattle.std.proofs.lemmas.Option.{get_or_from_slice_get, slice_get_within}
 use Rattle.step_equal.specs.ComputedKinds.{kind_test}
 use Rattle.step_equal.specs.Rows.{Row, Kind, kind_of}
 use Rattle.step_equal.proofs.OneKind.{kinds_decide}
-use Rattle.row_shapes.specs.ComputedKinds.{AreRecent, HaveRows, IsNumber, earlier}
+use Rattle.row_shapes.specs.ComputedKinds.{AreRecent, HaveRows, IsFirst, IsNumber, earlier}
 use Rattle.row_shapes.proofs.Firsts.{found_again}
-use Rattle.row_shapes.proofs.Naming.{once}
-
--- in the beginning none is
-pub none_recent : (rows : List Row) (first : Kind → Option ℕ) (n : ℕ) → AreRecent rows first (replicate n None)
-none_recent rows first zero i m e = absurd (cc)
-none_recent rows first (suc n) zero m e = absurd (cc)
-none_recent rows first (suc n) (suc i) m e = none_recent rows first n i m e
-
--- what stands in a list that is written to was written, or stood there
-pub put : (os : List (Option ℕ)) (n x i m : ℕ) → slice_get (slice_set os n (Some x)) i ≡ Some (Some m)
-    → (m ≡ x) ⊎ (slice_get os i ≡ Some (Some m))
-put [] n x i m e = absurd (cc)
-put (o ∷ os) zero x zero m e = inl (sym (some x m (once (Some x) (Some m) e)))
-  where
-    some : (a b : ℕ) → Some a ≡ Some b → a ≡ b
-    some a b e = cc
-put (o ∷ os) zero x (suc i) m e = inr e
-put (o ∷ os) (suc n) x zero m e = inr e
-put (o ∷ os) (suc n) x (suc i) m e = put os n x i m e
 
 -- a free row of a kind that is noted already
 pub again : (pinned : ℕ → Bool) (r : Row) (place m : ℕ) (first : Kind → Option ℕ) → pinned r.name ≡ false
@@ -37,13 +19,31 @@ again pinned r place m first free at = record {
   noted = λ e. found_again first (kind_of r) m at;
 }
 
+-- a pinned row
+pub pinned_number : (pinned : ℕ → Bool) (r : Row) (place : ℕ) (first : Kind → Option ℕ) → pinned r.name ≡ true
+    → IsNumber pinned r place place first first
+pinned_number pinned r place first is = record {
+  of_pinned = λ e. refl;
+  kept = λ e k. refl;
+  of_free = λ e. absurd (false≢true (sym e ∙ is));
+  noted = λ e. absurd (false≢true (sym e ∙ is));
+}
+
+-- a free row of a kind that is looked for
+pub free_number : (pinned : ℕ → Bool) (r : Row) (place n : ℕ) (old new : Kind → Option ℕ) → pinned r.name ≡ false
+    → n ≡ earlier (old (kind_of r)) place
+    → ((k : Kind) → new k ≡ cond (kind_test k (kind_of r)) (Some n) (old k)) → IsNumber pinned r place n old new
+free_number pinned r place n old new free is noted = record {
+  of_pinned = λ e. absurd (false≢true (sym free ∙ e));
+  kept = λ e. absurd (false≢true (sym free ∙ e));
+  of_free = λ e. is;
+  noted = λ e. noted;
+}
+
 -- a row that is remembered and has the kind of another
-pub recent_is : (rows : List Row) (first : Kind → Option ℕ) (recent : List (Option ℕ)) (i m : ℕ) (r s : Row)
-    → AreRecent rows first recent → slice_get recent i ≡ Some (Some m) → slice_get rows m ≡ Some s → kind_of s ≡ kind_of r
-    → first (kind_of r) ≡ Some m
-recent_is rows first recent i m r s are at there same =
-    let (t, stands, noted) = are i m at in
-    ap first (sym same ∙ ap kind_of (once s t (sym there ∙ stands))) ∙ noted
+pub recent_by : (rows : List Row) (first : Kind → Option ℕ) (m : ℕ) (r : Row) → IsFirst rows first m
+    → ((s : Row) → slice_get rows m ≡ Some s → kind_of s ≡ kind_of r) → first (kind_of r) ≡ Some m
+recent_by rows first m r (s, stands, noted) same = ap first (sym (same s stands)) ∙ noted
 
 -- a free row whose kind is noted now
 module _ (rows : List Row) (old new : Kind → Option ℕ) (r : Row) (place n : ℕ) (is : n ≡ earlier (old (kind_of r)) place)
@@ -78,3 +78,13 @@ module _ (rows : List Row) (old new : Kind → Option ℕ) (r : Row) (place n : 
     | inl q ↦ subst (λ x. (s : Row) × (slice_get rows x ≡ Some s) × (new (kind_of s) ≡ Some x)) (sym q) (stands at have)
     | inr q ↦ let (s, there, its) = are i m q in (s, there, stays (kind_of s) m its)
   ]
+
+-- nothing is remembered at first
+pub none_recent : (rows : List Row) (first : Kind → Option ℕ) (n : ℕ) → AreRecent rows first (replicate n None)
+none_recent rows first n i m at =
+    let long = length-replicate {A = Option ℕ} n None in
+    let within : i < n = subst (λ k. i < k) long (slice_get_within (replicate n None) i (Some m) at) in
+    absurd (apart m (sym (get_or-replicate n i None None within) ∙ get_or_from_slice_get (replicate n None) i (Some m) None at))
+  where
+    apart : (k : ℕ) → None ≡ Some k → ⊥
+    apart k e = cc

@@ -1,5 +1,5 @@
 -- Edges are the references of rows.
-use Rattle.std.proofs.Common.{◌≡◌, ◌<◌, ◌≤◌, ◌+◌, ℕ, zero, suc, ◌⊎◌, List, [], ◌∷◌, ◌++◌, length, Some, refl, sym, ap, ◌∙◌, subst, arith, slice_get, inl, inr, drop, get_or}
+use Rattle.std.proofs.Common.{◌≡◌, ◌<◌, ◌≤◌, ◌+◌, ℕ, zero, suc, ◌⊎◌, false, List, [], ◌∷◌, ◌++◌, length, Some, refl, sym, ap, ◌∙◌, subst, arith, slice_get, inl, inr, drop, get_or}
 use Rattle.std.specs.Prelude.{◌==◌, ◌↔◌}
 use Rattle.std.specs.List.{All, Contains, IsDistinct, sum_by}
 use Rattle.std.proofs.lemmas.List.Sums.{sum_by-cons}
@@ -10,13 +10,13 @@ use Rattle.class_rounds.specs.Edges.{AreEdges, HasEdge}
 use Rattle.step_values.specs.References.{EachReference, EachReferenceOf}
 use Rattle.step_values.specs.Shapes.{outside, outside_each}
 use Rattle.step_values.specs.ComputedAgreement.{size}
-use Rattle.step_values.specs.Slots.{nth}
+use Rattle.step_values.specs.Slots.{kind_of, nth}
 use Rattle.step_values.specs.Values.{Value, leaf, reference, typed, sequence, bag, Values, none, more}
 use Rattle.step_values.proofs.Walks.{after, after_all, after_at}
 use Rattle.step_equal.specs.Rows.{Row, IsName, IsPopulation, names, row_at}
 use Rattle.step_equal.proofs.Lookup.{items_from, named, row_name}
 use Rattle.step_equal.proofs.Placing.{name_at}
-use Rattle.row_shapes.specs.ComputedReferences.{AddsEdges, AreOfFirst}
+use Rattle.row_shapes.specs.ComputedReferences.{AddsEdges, AreOfFirst, leads_on}
 use Rattle.row_shapes.specs.References.{Refers}
 use Rattle.row_shapes.proofs.Naming.{once, one_place, row_stands}
 use Rattle.row_shapes.proofs.Numbering.{last_or_before}
@@ -34,6 +34,14 @@ mutual
   each_outside_holds P none h = All-nil P
   each_outside_holds P (more v vs) h = All-append P (outside v) (outside_each vs) (outside_hold P v h.0)
       (each_outside_holds P vs h.1)
+
+-- values of other kinds have none
+pub none_outside : (v : Value) → leads_on (kind_of v) ≡ false → outside v ≡ []
+none_outside (leaf a) e = refl
+none_outside (reference y) e = absurd (cc)
+none_outside (typed n v) e = absurd (cc)
+none_outside (sequence vs) e = absurd (cc)
+none_outside (bag vs) e = refl
 
 -- the names that a row refers to are rows' names
 pub references_named : (rows : List Row) → IsPopulation rows → (i : ℕ) (r : Row) → slice_get rows i ≡ Some r

@@ -40,7 +40,10 @@ pub record AreNumbers (pinned : ℕ → Bool) (rows : List Row) (numbers : List 
 abbrev pub HaveRows : List Row → (Kind → Option ℕ) → Type 0
 HaveRows rows first = (k : Kind) (m : ℕ) → first k ≡ Some m → (r : Row) × (slice_get rows m ≡ Some r) × (kind_of r ≡ k)
 
--- some places, each of which is noted of the kind of its row
+-- a place that is noted of the kind of its row
+abbrev pub IsFirst : List Row → (Kind → Option ℕ) → ℕ → Type 0
+IsFirst rows first m = (r : Row) × (slice_get rows m ≡ Some r) × (first (kind_of r) ≡ Some m)
+
+-- .. and some of these
 abbrev pub AreRecent : List Row → (Kind → Option ℕ) → List (Option ℕ) → Type 0
-AreRecent rows first recent =
-    (i m : ℕ) → slice_get recent i ≡ Some (Some m) → (r : Row) × (slice_get rows m ≡ Some r) × (first (kind_of r) ≡ Some m)
+AreRecent rows first recent = (i m : ℕ) → slice_get recent i ≡ Some (Some m) → IsFirst rows first m

@@ -1,7 +1,9 @@
 -- What the code computes; no promise stands here. The edges of one row, and of the first rows.
-use Rattle.std.specs.Prelude.{◌≡◌, ◌<◌, ◌+◌, ◌↔◌, ◌++◌, ℕ, List, [], ◌∷◌, length, Some, slice_get}
+use Rattle.std.specs.Prelude.{◌≡◌, ◌<◌, ◌+◌, ◌↔◌, ◌++◌, ℕ, Bool, true, false, List, [], ◌∷◌, length, Some, slice_get}
 use Rattle.std.specs.List.{Contains}
 use Rattle.class_rounds.specs.declared.edges.Edge.{Edge}
+use Rattle.step_values.specs.declared.slot.Kind.{Kind}
+use Rattle.step_values.specs.declared.slot.Kind.TheVariants as kinds
 use Rattle.step_equal.specs.Rows.{Row, names}
 use Rattle.row_shapes.specs.References.{Refers}
 
@@ -20,3 +22,10 @@ AddsEdges rows source first (y ∷ ys) old new =
 -- the edges of the first n rows
 abbrev pub AreOfFirst : List Row → ℕ → List Edge → Type 0
 AreOfFirst rows n edges = (e : Edge) → Contains edges e ↔ ((e.source < n) × Refers rows e.source e.position e.target)
+
+-- values of these kinds are references, or can have some in them outside bags
+abbrev pub leads_on : Kind → Bool
+leads_on kinds.Reference = true
+leads_on kinds.Typed = true
+leads_on kinds.List = true
+leads_on k = false

@@ -1,4 +1,5 @@
 pub mod ComputedKinds
+pub mod ComputedMarks
 pub mod References
 pub mod ComputedReferences
 pub mod ComputedLabelling

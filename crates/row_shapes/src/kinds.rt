@@ -5,6 +5,7 @@ ghost use Rattle.std.specs.Prelude.{
   ◌<◌,
   ◌↔◌,
   ℕ,
+  Bool,
   cond,
   length,
   slice_get,
@@ -12,6 +13,7 @@ ghost use Rattle.std.specs.Prelude.{
   ◌⊎◌,
   IfOk,
   IfSome,
+  List,
   OnOk,
   Option,
   Some,
@@ -19,23 +21,23 @@ ghost use Rattle.std.specs.Prelude.{
 ghost use Rattle.step_equal.specs.ComputedKinds.{kind_test};
 ghost use Rattle.step_equal.specs.Keeping.{AreAlike};
 ghost use Rattle.step_equal.specs.Maps.{is_pinned};
-ghost use Rattle.step_equal.specs.Rows.{Kind, kind_of, names};
-ghost use Rattle.step_equal.specs.Views.{row_seen};
+ghost use Rattle.step_equal.specs.Rows.{Kind, Row, kind_of, names};
 ghost use Rattle.row_shapes.specs.ComputedKinds.{
   AreRecent,
   HaveRows,
+  IsFirst,
   IsNumber,
   earlier,
   first_in,
   kind_seen,
 };
 
+use crate::marks::marks;
 use indexmap::IndexMap;
 use std::alloc::{AllocError, Global};
 use std::collections::BTreeSet;
 use std::hash::RandomState;
 use step_equal::plain::Plain;
-use step_equal::row::{RowSlot, is_one_kind};
 use step_literals::literal::Word;
 
 /// The section of a row, and its type words.
@@ -52,15 +54,15 @@ type Firsts<'p, 'a> = IndexMap<RowKind<'p, 'a>, u32, RandomState>;
 /// How many kinds are remembered.
 const REMEMBERED: usize = 256;
 
-/// Kinds by a few letters of their types, each by the place of its first free row. A population has few kinds, so a row is
-/// mostly compared with the first one of its kind, and its types aren't hashed.
+/// Kinds by the numbers of their lists of types, each by the place of its first free row. A population has few kinds, so a
+/// row is mostly compared with the first one of its kind, by that number, and its types aren't hashed.
 type Recent = Vec<Option<u32>>;
 
 /// By place, a number for each row. Two rows have one number exactly where they are one row, or where both are free,
 /// stand in one section and have the same types.
 ///
-/// A pinned row has its own place as its number, a free one the place of the first free row of its kind. Kinds are
-/// hashed by these keys. `AllocError` comes where memory runs out.
+/// A pinned row has its own place as its number, a free one the place of the first free row of its kind. Each pinned name
+/// is looked up once. Kinds are hashed by these keys. `AllocError` comes where memory runs out.
 pub fn kinds<'a>(
     alloc: Global,
     keys: RandomState,
@@ -75,99 +77,81 @@ pub fn kinds<'a>(
 {
     let mut firsts = IndexMap::with_hasher(alloc, keys);
     let mut recent = vec![in alloc; None; REMEMBERED]?;
+    let marks = marks(alloc, input, pinned)?;
     let mut numbers = Vec::with_capacity(alloc, input.len())?;
     for place in 0..input.len() {
-        let row = input.row(place);
-        let number = number_of(&mut firsts, &mut recent, input, &row, pinned, place as u32)?;
+        let number = number_of(&mut firsts, &mut recent, input, marks[place], place as u32)?;
         numbers.push(number)?;
     }
     Ok(numbers)
 }
 
-/// The number of the row at a place.
+/// The number of the row at a place, which is pinned or not.
 fn number_of<'p, 'a>(
     firsts: &mut Firsts<'p, 'a>,
     recent: &mut Recent,
-    input: &Plain<'a>,
-    row: &RowSlot<'p, 'a>,
-    pinned: &BTreeSet<u64>,
+    input: &'p Plain<'a>,
+    is_pinned: bool,
     place: u32,
 ) -> Result<u32, AllocError>
-    ensures number { AreRecent input.now (first_in firsts.old.entries) recent.old.items
-        → IfOk result (λ number. IsNumber (is_pinned pinned.now) (row_seen row.now) place number
+    requires { place < length input.now }
+    ensures number { (pinned : ℕ → Bool) (r : Row) → slice_get input.now place ≡ Some r
+        → pinned r.name ≡ is_pinned
+        → AreRecent input.now (first_in firsts.old.entries) recent.old.items
+        → IfOk result (λ number. IsNumber pinned r place number
         (first_in firsts.old.entries) (first_in firsts.new.entries)) }
     ensures recent { AreRecent input.now (first_in firsts.old.entries) recent.old.items
         → HaveRows input.now (first_in firsts.old.entries)
-        → slice_get input.now place ≡ Some (row_seen row.now)
         → OnOk result (AreRecent input.now (first_in firsts.new.entries) recent.new.items) }
 {
-    if pinned.contains(&row.name) {
+    if is_pinned {
         return Ok(place);
     }
-    let letters = letters_of(row.types);
-    if let Some(first) = remembered(recent, letters, input, row) {
+    if let Some(first) = remembered(recent, input, place) {
         return Ok(first);
     }
+    let row = input.row(place as usize);
     let kind = RowKind {
         section: row.section,
         types: row.types,
     };
     let first = first_of(firsts, kind, place)?;
-    remember(recent, letters, first);
+    remember(recent, input.type_list(place as usize), first);
     Ok(first)
 }
 
-/// A few letters of a word as a number.
-fn letters_in(word: &[u8]) -> usize {
-    let (Some(first), Some(last)) = (word.first(), word.last()) else {
-        return 0;
-    };
-    let letters = (*first as usize)
-        .wrapping_mul(31)
-        .wrapping_add(*last as usize);
-    letters.wrapping_mul(7).wrapping_add(word.len())
-}
-
-/// Where a kind with these types is remembered.
-fn letters_of(types: &[Word<'_>]) -> usize {
-    let mut letters = types.len();
-    for word in types {
-        letters = letters
-            .wrapping_mul(31)
-            .wrapping_add(letters_in(word.spelling()));
-    }
-    letters % REMEMBERED
-}
-
-/// The place of the first free row of the kind of a row, where it is remembered.
-fn remembered<'p, 'a>(
-    recent: &Recent,
-    letters: usize,
-    input: &Plain<'a>,
-    row: &RowSlot<'p, 'a>,
-) -> Option<u32>
-    ensures { (first : Kind → Option ℕ) → AreRecent input.now first recent.now.items
-        → IfSome result (λ m. first (kind_of (row_seen row.now)) ≡ Some m) }
+/// The place that is remembered for a list of types.
+fn remembered_at(recent: &Recent, list: u32) -> Option<u32>
+    ensures { (rows : List Row) (first : Kind → Option ℕ) → AreRecent rows first recent.now.items
+        → IfSome result (IsFirst rows first) }
 {
-    let Some(first) = recent.get(letters).copied().flatten() else {
-        return None;
-    };
+    recent.get(list as usize % REMEMBERED).copied().flatten()
+}
+
+/// The place of the first free row of the kind of the row at a place, where it is remembered.
+fn remembered<'a>(recent: &Recent, input: &Plain<'a>, place: u32) -> Option<u32>
+    requires { place < length input.now }
+    ensures { (first : Kind → Option ℕ) (r : Row) → AreRecent input.now first recent.now.items
+        → slice_get input.now place ≡ Some r → IfSome result (λ m. first (kind_of r) ≡ Some m) }
+{
+    let first = remembered_at(recent, input.type_list(place as usize))?;
     if first as usize >= input.len() {
         return None;
     }
-    if !is_one_kind(&input.row(first as usize), row) {
+    if !input.share_kind(first as usize, place as usize) {
         return None;
     }
     Some(first)
 }
 
 /// Remembers the first free row of a kind, in place of another.
-fn remember(recent: &mut Recent, letters: usize, first: u32)
+fn remember(recent: &mut Recent, list: u32, first: u32)
     ensures { (i m : ℕ) → slice_get recent.new.items i ≡ Some (Some m)
         → (m ≡ first) ⊎ (slice_get recent.old.items i ≡ Some (Some m)) }
 {
-    if letters < recent.len() {
-        recent[letters] = Some(first);
+    let at = list as usize % REMEMBERED;
+    if at < recent.len() {
+        recent[at] = Some(first);
     }
 }
 

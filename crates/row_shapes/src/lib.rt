@@ -5,6 +5,7 @@
 mod feeding;
 mod flat;
 pub mod kinds;
+mod marks;
 pub mod references;
 pub mod shapes;
 pub mod signatures;

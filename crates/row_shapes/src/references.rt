@@ -19,15 +19,16 @@ ghost use Rattle.class_rounds.specs.Edges.{AreEdges, HasEdge};
 ghost use Rattle.step_equal.specs.Rows.{IsName, names};
 ghost use Rattle.step_values.specs.References.{EachReference, EachReferenceOf};
 ghost use Rattle.step_values.specs.Shapes.{outside, outside_each};
+ghost use Rattle.step_values.specs.Slots.{kind_of, node_value};
 ghost use Rattle.step_values.specs.Targets.{target_of, targets_of};
-ghost use Rattle.row_shapes.specs.ComputedReferences.{AddsEdges};
+ghost use Rattle.row_shapes.specs.ComputedReferences.{AddsEdges, leads_on};
 ghost use Rattle.row_shapes.specs.References.{Refers};
 
 use class_rounds::edges::Edge;
 use std::alloc::{AllocError, Global};
 use step_equal::plain::Plain;
 use step_values::cell::Cell;
-use step_values::slot::{Node, Slot, Slots};
+use step_values::slot::{Kind, Node, Slot, Slots};
 
 /// The references that stand in no bag, each as one edge from the place of the row that refers to the place of the row
 /// that is named. Their positions are counted from 0 within the row, in the order of its values.
@@ -108,8 +109,15 @@ fn push_edge<'a>(
     Ok(())
 }
 
-/// Adds those of the references outside bags that a value is or has in it, in order. Values are nested as deep as calls
-/// here are: no deeper than the reader of texts lets them be.
+/// Whether a value is a reference, or has values in it and is no bag.
+fn leads_on(value: &Slot<'_, '_>) -> bool
+    ensures { result ≡ leads_on (kind_of value.now) }
+{
+    matches!(value.kind(), Kind::Reference | Kind::Typed | Kind::List)
+}
+
+/// Adds those of the references outside bags that a value is or has in it, in order. Most values are and have none, which
+/// their kind tells. Values are nested as deep as calls here are: no deeper than the reader of texts lets them be.
 #[cycle(edges)]
 fn push_edges<'a>(
     edges: &mut Vec<Edge>,
@@ -123,10 +131,30 @@ fn push_edges<'a>(
     ensures { OnOk result (AddsEdges input.now source first (outside value.now) edges.old.items
         edges.new.items) }
 {
-    match value.node() {
-        Node::Reference(name) => push_edge(edges, input, source, first, name),
-        Node::Typed(_, inner) => push_edges(edges, input, source, first, &inner),
-        Node::Sequence(values) => push_each(edges, input, source, first, &values),
+    if !leads_on(value) {
+        return Ok(());
+    }
+    push_node_edges(edges, input, source, first, &value.node())
+}
+
+/// .. that an outermost part is or has in it.
+#[cycle(edges)]
+fn push_node_edges<'a>(
+    edges: &mut Vec<Edge>,
+    input: &Plain<'a>,
+    source: u32,
+    first: usize,
+    node: &Node<'_, 'a>,
+) -> Result<(), AllocError>
+    requires named { EachReference (IsName input.now) (node_value node.now) }
+    requires first { first ≤ length edges.old.items }
+    ensures { OnOk result (AddsEdges input.now source first (outside (node_value node.now))
+        edges.old.items edges.new.items) }
+{
+    match node {
+        Node::Reference(name) => push_edge(edges, input, source, first, *name),
+        Node::Typed(_, inner) => push_edges(edges, input, source, first, inner),
+        Node::Sequence(values) => push_each(edges, input, source, first, values),
         _ => Ok(()),
     }
 }

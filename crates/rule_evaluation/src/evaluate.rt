@@ -44,7 +44,7 @@ use std::alloc::{AllocError, Global};
 /// An error says that memory ran out.
 #[cycle(evaluation)]
 #[inline(never)]
-pub(crate) fn evaluate<'p, 'e, 'r, 't, 's: 'r, 'a, 'k>(
+pub(crate) fn evaluate<'p, 'e, 'r, 't, 's: 'r, 'a: 'r, 'k>(
     context: &Context<'s, 't, 'r, 'a, 'e, 'p, 'k>,
     expression: &Expr<'s>,
     alloc: Global,
@@ -91,7 +91,7 @@ pub(crate) fn evaluate<'p, 'e, 'r, 't, 's: 'r, 'a, 'k>(
 /// What an expression says as an operand of a logical operator. Conditions make no value.
 #[cycle(evaluation)]
 #[inline(never)]
-pub(crate) fn evaluate_truth<'p, 'e, 'r, 't, 's: 'r, 'a, 'k>(
+pub(crate) fn evaluate_truth<'p, 'e, 'r, 't, 's: 'r, 'a: 'r, 'k>(
     context: &Context<'s, 't, 'r, 'a, 'e, 'p, 'k>,
     expression: &Expr<'s>,
     alloc: Global,
@@ -112,7 +112,7 @@ pub(crate) fn evaluate_truth<'p, 'e, 'r, 't, 's: 'r, 'a, 'k>(
 /// The logical that a condition is worth.
 #[cycle(evaluation)]
 #[inline(never)]
-fn condition<'p, 'e, 'r, 't, 's: 'r, 'a, 'k>(
+fn condition<'p, 'e, 'r, 't, 's: 'r, 'a: 'r, 'k>(
     context: &Context<'s, 't, 'r, 'a, 'e, 'p, 'k>,
     expression: &Expr<'s>,
     alloc: Global,
@@ -161,7 +161,7 @@ fn condition<'p, 'e, 'r, 't, 's: 'r, 'a, 'k>(
 /// Whether a value lies between two others.
 #[cycle(evaluation)]
 #[inline(never)]
-fn between<'p, 'e, 'r, 't, 's: 'r, 'a, 'k>(
+fn between<'p, 'e, 'r, 't, 's: 'r, 'a: 'r, 'k>(
     context: &Context<'s, 't, 'r, 'a, 'e, 'p, 'k>,
     low: &Expr<'s>,
     item: &Expr<'s>,
@@ -191,7 +191,7 @@ fn between<'p, 'e, 'r, 't, 's: 'r, 'a, 'k>(
 /// What a relation says of two expressions.
 #[cycle(evaluation)]
 #[inline(never)]
-fn related<'p, 'e, 'r, 't, 's: 'r, 'a, 'k>(
+fn related<'p, 'e, 'r, 't, 's: 'r, 'a: 'r, 'k>(
     context: &Context<'s, 't, 'r, 'a, 'e, 'p, 'k>,
     left: &Expr<'s>,
     right: &Expr<'s>,
@@ -217,7 +217,7 @@ fn related<'p, 'e, 'r, 't, 's: 'r, 'a, 'k>(
 /// Whether a value is an element of an expression's.
 #[cycle(evaluation)]
 #[inline(never)]
-fn is_member<'p, 'e, 'r, 't, 's: 'r, 'a, 'k>(
+fn is_member<'p, 'e, 'r, 't, 's: 'r, 'a: 'r, 'k>(
     context: &Context<'s, 't, 'r, 'a, 'e, 'p, 'k>,
     expression: &Expr<'s>,
     alloc: Global,
@@ -238,7 +238,7 @@ fn is_member<'p, 'e, 'r, 't, 's: 'r, 'a, 'k>(
 /// What an expression on the right of IN says of a string and a value on its left.
 #[cycle(evaluation)]
 #[inline(never)]
-fn within<'p, 'e, 'r, 't, 's: 'r, 'a, 'k>(
+fn within<'p, 'e, 'r, 't, 's: 'r, 'a: 'r, 'k>(
     context: &Context<'s, 't, 'r, 'a, 'e, 'p, 'k>,
     expression: &Expr<'s>,
     alloc: Global,
@@ -274,7 +274,7 @@ fn within<'p, 'e, 'r, 't, 's: 'r, 'a, 'k>(
 
 /// Puts the value of a function of the language there.
 #[cycle(evaluation)]
-fn call<'p, 'e, 'r, 't, 's: 'r, 'a, 'k>(
+fn call<'p, 'e, 'r, 't, 's: 'r, 'a: 'r, 'k>(
     context: &Context<'s, 't, 'r, 'a, 'e, 'p, 'k>,
     argument: &Expr<'s>,
     alloc: Global,
@@ -296,7 +296,7 @@ fn call<'p, 'e, 'r, 't, 's: 'r, 'a, 'k>(
 /// Puts there how many elements the value of an expression has: SIZEOF. Those that a query keeps are
 /// counted, and not kept.
 #[cycle(evaluation)]
-fn sized<'p, 'e, 'r, 't, 's: 'r, 'a, 'k>(
+fn sized<'p, 'e, 'r, 't, 's: 'r, 'a: 'r, 'k>(
     context: &Context<'s, 't, 'r, 'a, 'e, 'p, 'k>,
     expression: &Expr<'s>,
     alloc: Global,
@@ -322,7 +322,7 @@ fn sized<'p, 'e, 'r, 't, 's: 'r, 'a, 'k>(
 
 /// Puts the first of two values there, or the second where there is none: NVL.
 #[cycle(evaluation)]
-fn first_known<'p, 'e, 'r, 't, 's: 'r, 'a, 'k>(
+fn first_known<'p, 'e, 'r, 't, 's: 'r, 'a: 'r, 'k>(
     context: &Context<'s, 't, 'r, 'a, 'e, 'p, 'k>,
     first: &Expr<'s>,
     second: &Expr<'s>,
@@ -345,7 +345,7 @@ fn first_known<'p, 'e, 'r, 't, 's: 'r, 'a, 'k>(
 /// Puts what the first of two expressions is worth there. Where it wants values that aren't kept, what
 /// the second wants is found too.
 #[cycle(evaluation)]
-pub(crate) fn first_value<'p, 'e, 'r, 't, 's: 'r, 'a, 'k>(
+pub(crate) fn first_value<'p, 'e, 'r, 't, 's: 'r, 'a: 'r, 'k>(
     context: &Context<'s, 't, 'r, 'a, 'e, 'p, 'k>,
     first: &Expr<'s>,
     second: &Expr<'s>,

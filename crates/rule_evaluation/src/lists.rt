@@ -22,7 +22,7 @@ use std::alloc::{AllocError, Global};
 /// AND of a value and some expressions.
 #[cycle(evaluation)]
 #[inline(never)]
-pub(crate) fn and_all<'p, 'e, 'r, 't, 's: 'r, 'a, 'k>(
+pub(crate) fn and_all<'p, 'e, 'r, 't, 's: 'r, 'a: 'r, 'k>(
     context: &Context<'s, 't, 'r, 'a, 'e, 'p, 'k>,
     expressions: &[Expr<'s>],
     alloc: Global,
@@ -51,7 +51,7 @@ pub(crate) fn and_all<'p, 'e, 'r, 't, 's: 'r, 'a, 'k>(
 /// OR and XOR of a value and some terms, from left to right.
 #[cycle(evaluation)]
 #[inline(never)]
-pub(crate) fn or_all<'p, 'e, 'r, 't, 's: 'r, 'a, 'k>(
+pub(crate) fn or_all<'p, 'e, 'r, 't, 's: 'r, 'a: 'r, 'k>(
     context: &Context<'s, 't, 'r, 'a, 'e, 'p, 'k>,
     alternatives: &[Alternative<'s>],
     alloc: Global,
@@ -80,7 +80,7 @@ pub(crate) fn or_all<'p, 'e, 'r, 't, 's: 'r, 'a, 'k>(
 /// Whether a value is equal to one of some expressions.
 #[cycle(evaluation)]
 #[inline(never)]
-pub(crate) fn among_each<'p, 'e, 'r, 't, 's: 'r, 'a, 'k>(
+pub(crate) fn among_each<'p, 'e, 'r, 't, 's: 'r, 'a: 'r, 'k>(
     context: &Context<'s, 't, 'r, 'a, 'e, 'p, 'k>,
     expressions: &[Expr<'s>],
     alloc: Global,
@@ -112,7 +112,7 @@ pub(crate) fn among_each<'p, 'e, 'r, 't, 's: 'r, 'a, 'k>(
 /// they are evaluated again.
 #[cycle(evaluation)]
 #[inline(never)]
-pub(crate) fn want_each<'p, 'e, 'r, 't, 's: 'r, 'a, 'k>(
+pub(crate) fn want_each<'p, 'e, 'r, 't, 's: 'r, 'a: 'r, 'k>(
     context: &Context<'s, 't, 'r, 'a, 'e, 'p, 'k>,
     expressions: &[Expr<'s>],
     alloc: Global,
@@ -132,7 +132,7 @@ pub(crate) fn want_each<'p, 'e, 'r, 't, 's: 'r, 'a, 'k>(
 /// .. what terms want.
 #[cycle(evaluation)]
 #[inline(never)]
-pub(crate) fn want_terms<'p, 'e, 'r, 't, 's: 'r, 'a, 'k>(
+pub(crate) fn want_terms<'p, 'e, 'r, 't, 's: 'r, 'a: 'r, 'k>(
     context: &Context<'s, 't, 'r, 'a, 'e, 'p, 'k>,
     alternatives: &[Alternative<'s>],
     alloc: Global,

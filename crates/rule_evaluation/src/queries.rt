@@ -27,7 +27,7 @@ use step_literals::literal::Word;
 /// Puts there those elements of a value at which a condition is TRUE, where it is an aggregate.
 #[cycle(evaluation)]
 #[inline(never)]
-pub(crate) fn query<'p, 'e, 'r, 't, 's: 'r, 'a, 'k>(
+pub(crate) fn query<'p, 'e, 'r, 't, 's: 'r, 'a: 'r, 'k>(
     context: &Context<'s, 't, 'r, 'a, 'e, 'p, 'k>,
     source: &Expr<'s>,
     condition: &Expr<'s>,
@@ -54,7 +54,7 @@ pub(crate) fn query<'p, 'e, 'r, 't, 's: 'r, 'a, 'k>(
 /// The indices, in the whole of an aggregate, of its elements at which a condition is TRUE.
 #[cycle(evaluation)]
 #[inline(never)]
-fn passing<'p, 'e, 'r, 't, 's: 'r, 'a, 'k>(
+fn passing<'p, 'e, 'r, 't, 's: 'r, 'a: 'r, 'k>(
     context: &Context<'s, 't, 'r, 'a, 'e, 'p, 'k>,
     condition: &Expr<'s>,
     alloc: Global,
@@ -88,7 +88,7 @@ fn passing<'p, 'e, 'r, 't, 's: 'r, 'a, 'k>(
 /// .. that a query keeps.
 #[cycle(evaluation)]
 #[inline(never)]
-pub(crate) fn sized_query<'p, 'e, 'r, 't, 's: 'r, 'a, 'k>(
+pub(crate) fn sized_query<'p, 'e, 'r, 't, 's: 'r, 'a: 'r, 'k>(
     context: &Context<'s, 't, 'r, 'a, 'e, 'p, 'k>,
     source: &Expr<'s>,
     condition: &Expr<'s>,
@@ -116,7 +116,7 @@ pub(crate) fn sized_query<'p, 'e, 'r, 't, 's: 'r, 'a, 'k>(
 /// How many elements of an aggregate there are at which a condition is TRUE.
 #[cycle(evaluation)]
 #[inline(never)]
-fn count_passing<'p, 'e, 'r, 't, 's: 'r, 'a, 'k>(
+fn count_passing<'p, 'e, 'r, 't, 's: 'r, 'a: 'r, 'k>(
     context: &Context<'s, 't, 'r, 'a, 'e, 'p, 'k>,
     condition: &Expr<'s>,
     alloc: Global,
@@ -149,7 +149,7 @@ fn count_passing<'p, 'e, 'r, 't, 's: 'r, 'a, 'k>(
 /// Whether a condition is TRUE at the value of a variable.
 #[cycle(evaluation)]
 #[inline(never)]
-fn passes<'p, 'e, 'r, 't, 's: 'r, 'a, 'k>(
+fn passes<'p, 'e, 'r, 't, 's: 'r, 'a: 'r, 'k>(
     context: &Context<'s, 't, 'r, 'a, 'e, 'p, 'k>,
     condition: &Expr<'s>,
     alloc: Global,
@@ -178,7 +178,7 @@ fn passes<'p, 'e, 'r, 't, 's: 'r, 'a, 'k>(
 /// of them are computed before the condition is tried again.
 #[cycle(evaluation)]
 #[inline(never)]
-fn want_others<'p, 'e, 'r, 't, 's: 'r, 'a, 'k>(
+fn want_others<'p, 'e, 'r, 't, 's: 'r, 'a: 'r, 'k>(
     context: &Context<'s, 't, 'r, 'a, 'e, 'p, 'k>,
     condition: &Expr<'s>,
     alloc: Global,

@@ -36,7 +36,7 @@ use step_literals::literal::Word;
 
 /// Puts there what a reference means: SELF or a name, with its qualifiers.
 #[cycle(evaluation)]
-pub(crate) fn referred<'p, 'e, 'r, 't, 's: 'r, 'a, 'k>(
+pub(crate) fn referred<'p, 'e, 'r, 't, 's: 'r, 'a: 'r, 'k>(
     context: &Context<'s, 't, 'r, 'a, 'e, 'p, 'k>,
     qualifiers: &[Qualifier<'s>],
     alloc: Global,
@@ -60,7 +60,7 @@ pub(crate) fn referred<'p, 'e, 'r, 't, 's: 'r, 'a, 'k>(
 
 /// Puts there what a name with qualifiers means: a variable, else an attribute of SELF, else an item.
 #[cycle(evaluation)]
-fn named<'p, 'e, 'r, 't, 's: 'r, 'a, 'k>(
+fn named<'p, 'e, 'r, 't, 's: 'r, 'a: 'r, 'k>(
     context: &Context<'s, 't, 'r, 'a, 'e, 'p, 'k>,
     qualifiers: &[Qualifier<'s>],
     alloc: Global,
@@ -84,7 +84,7 @@ fn named<'p, 'e, 'r, 't, 's: 'r, 'a, 'k>(
 
 /// Puts there what a name that is no variable means: an attribute of SELF, else an item.
 #[cycle(evaluation)]
-fn unbound<'p, 'e, 'r, 't, 's: 'r, 'a, 'k>(
+fn unbound<'p, 'e, 'r, 't, 's: 'r, 'a: 'r, 'k>(
     context: &Context<'s, 't, 'r, 'a, 'e, 'p, 'k>,
     qualifiers: &[Qualifier<'s>],
     alloc: Global,
@@ -117,7 +117,7 @@ fn unbound<'p, 'e, 'r, 't, 's: 'r, 'a, 'k>(
 /// Puts an item of an enumeration there, or of one that is named before it.
 #[cycle(evaluation)]
 #[inline(never)]
-fn item_behind<'p, 'e, 'r, 't, 's: 'r, 'a, 'k>(
+fn item_behind<'p, 'e, 'r, 't, 's: 'r, 'a: 'r, 'k>(
     context: &Context<'s, 't, 'r, 'a, 'e, 'p, 'k>,
     qualifiers: &[Qualifier<'s>],
     alloc: Global,
@@ -154,7 +154,7 @@ fn item_behind<'p, 'e, 'r, 't, 's: 'r, 'a, 'k>(
 /// Replaces a value by what qualifiers select of it, one after another.
 #[cycle(evaluation)]
 #[inline(never)]
-fn selected<'p, 'e, 'r, 't, 's: 'r, 'a, 'k>(
+fn selected<'p, 'e, 'r, 't, 's: 'r, 'a: 'r, 'k>(
     context: &Context<'s, 't, 'r, 'a, 'e, 'p, 'k>,
     qualifiers: &[Qualifier<'s>],
     alloc: Global,
@@ -176,7 +176,7 @@ fn selected<'p, 'e, 'r, 't, 's: 'r, 'a, 'k>(
 /// Replaces a value, which is no typed one, by what one qualifier selects of it.
 #[cycle(evaluation)]
 #[inline(never)]
-fn select<'p, 'e, 'r, 't, 's: 'r, 'a, 'k>(
+fn select<'p, 'e, 'r, 't, 's: 'r, 'a: 'r, 'k>(
     context: &Context<'s, 't, 'r, 'a, 'e, 'p, 'k>,
     qualifier: &Qualifier<'s>,
     alloc: Global,
@@ -205,7 +205,7 @@ fn select<'p, 'e, 'r, 't, 's: 'r, 'a, 'k>(
 /// Replaces a value by its element at the index that an expression is worth.
 #[cycle(evaluation)]
 #[inline(never)]
-fn element<'p, 'e, 'r, 't, 's: 'r, 'a, 'k>(
+fn element<'p, 'e, 'r, 't, 's: 'r, 'a: 'r, 'k>(
     context: &Context<'s, 't, 'r, 'a, 'e, 'p, 'k>,
     index: &Expr<'s>,
     alloc: Global,
@@ -227,7 +227,7 @@ fn element<'p, 'e, 'r, 't, 's: 'r, 'a, 'k>(
 /// Puts the value of an attribute of an instance there, if it isn't there yet; indeterminate where
 /// there is none.
 #[cycle(evaluation)]
-fn found_value<'p, 'e, 'r, 't, 's: 'r, 'a, 'k>(
+fn found_value<'p, 'e, 'r, 't, 's: 'r, 'a: 'r, 'k>(
     context: &Context<'s, 't, 'r, 'a, 'e, 'p, 'k>,
     found: Found,
     alloc: Global,
@@ -256,7 +256,7 @@ fn found_value<'p, 'e, 'r, 't, 's: 'r, 'a, 'k>(
 /// wanted, and there is an error.
 #[cycle(evaluation)]
 #[inline(never)]
-fn derived<'p, 'e, 'r, 't, 's: 'r, 'a, 'k>(
+fn derived<'p, 'e, 'r, 't, 's: 'r, 'a: 'r, 'k>(
     alloc: Global,
     context: &Context<'s, 't, 'r, 'a, 'e, 'p, 'k>,
     scope: &mut Scope<'p, 'r>,
@@ -295,7 +295,7 @@ fn derived<'p, 'e, 'r, 't, 's: 'r, 'a, 'k>(
 /// Puts what a formula of a rank below the limit is worth at an instance there.
 #[cycle(evaluation)]
 #[inline(never)]
-fn inside<'p, 'e, 'r, 't, 's: 'r, 'a, 'k>(
+fn inside<'p, 'e, 'r, 't, 's: 'r, 'a: 'r, 'k>(
     alloc: Global,
     context: &Context<'s, 't, 'r, 'a, 'e, 'p, 'k>,
     scope: &mut Scope<'p, 'r>,

@@ -22,7 +22,7 @@ use schema_derivations::formula::Formula;
 use std::alloc::{AllocError, Global};
 
 /// Puts what a derived attribute of this formula is worth at an instance there, where what it wants is kept.
-fn formula_value<'p, 'e, 'r, 't, 's: 'r, 'a>(
+fn formula_value<'p, 'e, 'r, 't, 's: 'r, 'a: 'r>(
     alloc: Global,
     setting: &'p Setting<'s, 't, 'r, 'a, 'e, 'p>,
     kept: &KeptValues<'p, 'r>,
@@ -50,7 +50,7 @@ fn formula_value<'p, 'e, 'r, 't, 's: 'r, 'a>(
 
 /// Keeps the value of a derived attribute that is wanted, where it isn't kept; where it wants others,
 /// these are to be kept first.
-fn keep_wanted<'p, 'e, 'r, 't, 's: 'r, 'a>(
+fn keep_wanted<'p, 'e, 'r, 't, 's: 'r, 'a: 'r>(
     alloc: Global,
     setting: &'p Setting<'s, 't, 'r, 'a, 'e, 'p>,
     kept: &mut KeptValues<'p, 'r>,
@@ -102,7 +102,7 @@ fn wait_for<'p, 'r>(
 /// Keeps the values of derived attributes that are wanted, and first of those that they want.
 ///
 /// Each step keeps one or finds one that waits, so that for 2^64 of them there is no memory.
-fn keep_all<'p, 'e, 'r, 't, 's: 'r, 'a>(
+fn keep_all<'p, 'e, 'r, 't, 's: 'r, 'a: 'r>(
     alloc: Global,
     setting: &'p Setting<'s, 't, 'r, 'a, 'e, 'p>,
     kept: &mut KeptValues<'p, 'r>,
@@ -128,7 +128,7 @@ fn keep_all<'p, 'e, 'r, 't, 's: 'r, 'a>(
 /// of a few ranks, and nothing is evaluated more than a few ranks deep, so that the stack is bounded
 /// whatever the schema. An expression that needs values first is begun again when they are there.
 /// An error says that memory ran out.
-pub fn value_at<'p, 'e, 'r, 't, 's: 'r, 'a>(
+pub fn value_at<'p, 'e, 'r, 't, 's: 'r, 'a: 'r>(
     alloc: Global,
     setting: &'p Setting<'s, 't, 'r, 'a, 'e, 'p>,
     expression: &Expr<'s>,

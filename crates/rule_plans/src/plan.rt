@@ -84,7 +84,7 @@ pub fn plan_of<'n, 't, 's>(
 }
 
 /// The numbers of the defined types of the values at an instance for which rules are tried.
-pub fn types_at<'p, 'e, 'r, 't, 's: 'r, 'a>(
+pub fn types_at<'p, 'e, 'r, 't, 's: 'r, 'a: 'r>(
     alloc: Global,
     setting: &Setting<'s, 't, 'r, 'a, 'e, 'p>,
     plan: &Plan<'_, '_, '_>,

@@ -247,7 +247,7 @@ fn add_slots<'p, 'r>(
 }
 
 /// Adds the values of some defined types that the instance of a row has.
-fn add_values_of<'p, 'e, 'r, 't, 's: 'r, 'a>(
+fn add_values_of<'p, 'e, 'r, 't, 's: 'r, 'a: 'r>(
     setting: &Setting<'s, 't, 'r, 'a, 'e, 'p>,
     found: &mut Found<'p, 'r>,
     row: usize,
@@ -301,7 +301,7 @@ pub fn is_of_entity(population: &Population<'_, '_, '_, '_>, row: usize, entity:
 /// by it, where all these are wanted (ISO 10303-11, 9.1).
 ///
 /// An error says that memory ran out.
-pub fn self_values<'p, 'e, 'r, 't, 's: 'r, 'a>(
+pub fn self_values<'p, 'e, 'r, 't, 's: 'r, 'a: 'r>(
     alloc: Global,
     setting: &Setting<'s, 't, 'r, 'a, 'e, 'p>,
     row: usize,
@@ -327,7 +327,7 @@ pub fn self_values<'p, 'e, 'r, 't, 's: 'r, 'a>(
 
 /// The numbers of the defined types of the values that are found at the instance of a row, attribute
 /// by attribute.
-fn types_found<'p, 'e, 'r, 't, 's: 'r, 'a>(
+fn types_found<'p, 'e, 'r, 't, 's: 'r, 'a: 'r>(
     alloc: Global,
     setting: &Setting<'s, 't, 'r, 'a, 'e, 'p>,
     row: usize,
@@ -355,7 +355,7 @@ fn types_found<'p, 'e, 'r, 't, 's: 'r, 'a>(
 /// those of `unsought_by_form`; without them, all attributes are looked at.
 ///
 /// An error says that memory ran out.
-pub fn value_types<'p, 'e, 'r, 't, 's: 'r, 'a>(
+pub fn value_types<'p, 'e, 'r, 't, 's: 'r, 'a: 'r>(
     alloc: Global,
     setting: &Setting<'s, 't, 'r, 'a, 'e, 'p>,
     row: usize,

@@ -86,9 +86,9 @@ fn referring<'p, 'r>(gathering: Gathering, names: &'p [u64]) -> Datum<'r, Part<'
     }
 }
 
-impl<'s: 'r, 't, 'r, 'a, 'e, 'p> Setting<'s, 't, 'r, 'a, 'e, 'p> {
+impl<'s: 'r, 't, 'r, 'a: 'r, 'e, 'p> Setting<'s, 't, 'r, 'a, 'e, 'p> {
     /// What this value of the explicit attribute of a number is worth, as its declaration asks.
-    fn declared_value(&self, place: u32, value: Option<Slot<'p, 'r>>) -> Datum<'r, Part<'p, 'r>>
+    fn declared_value(&self, place: u32, value: Option<Slot<'p, 'a>>) -> Datum<'r, Part<'p, 'r>>
         requires setting { IsSetting self.now }
         requires place { place < length (all_places (schema_in self.now)) }
         ensures { (m : Meant self.now) → (instance : ℕ)

@@ -35,7 +35,7 @@ pub enum Ruled<'s> {
 }
 
 /// What rules say of a population with these extents.
-fn ruled_by_extents<'e, 'r, 't, 's: 'r, 'a>(
+fn ruled_by_extents<'e, 'r, 't, 's: 'r, 'a: 'r>(
     alloc: Global,
     keys: RandomState,
     graph: &TypeGraph<'s, 't>,
@@ -66,14 +66,14 @@ fn ruled_by_extents<'e, 'r, 't, 's: 'r, 'a>(
 /// instances of the chosen entities may be merged. Keys of rules are hashed by these keys.
 ///
 /// `AllocError` comes where memory runs out.
-pub fn ruled_by_population<'r, 't, 's: 'r>(
+pub fn ruled_by_population<'r, 't, 's: 'r, 'a: 'r>(
     alloc: Global,
     keys: RandomState,
     graph: &TypeGraph<'s, 't>,
     tables: &SchemaTables,
     settings: &SettingTables<'r, 's>,
     chosen: &Chosen,
-    population: &Population<'s, 't, 'r, '_>,
+    population: &Population<'s, 't, 'r, 'a>,
 ) -> Result<Ruled<'s>, AllocError>
     requires ready { AreReady population.now.types.now graph.now.rules graph.now.domain
         graph.now.judged.firsts.items tables.now settings.now }

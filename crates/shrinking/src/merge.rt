@@ -2,11 +2,8 @@
 
 ghost use Rattle.std.specs.Prelude.{◌≡◌, ◌≤◌, ◌^◌, ℕ, List, [], false, length};
 ghost use Rattle.express_syntax.specs.SchemaViews.{schema_of};
-ghost use Rattle.express_types.specs.Judging.{AreDomainTables};
-ghost use Rattle.schema_rules.specs.Ruled.{AreRuleTables};
-ghost use Rattle.schema_derivations.specs.Firsts.{AreFirsts};
+ghost use Rattle.express_types.specs.Sound.{IsSound};
 ghost use Rattle.schema_semantics.specs.Names.{Name};
-ghost use Rattle.schema_types.specs.Made.{IsMade};
 ghost use Rattle.step_equal.specs.TableViews.{table_of};
 ghost use Rattle.step_structures.specs.Texts.{ReadsAs};
 ghost use Rattle.step_exchange.specs.Exchanges.{structure};
@@ -101,20 +98,16 @@ fn summary<'s>(
 
 /// Writes the smaller file of an exchange structure, and its certificate, where nothing is found of
 /// it.
-pub(crate) fn shrink_exchange<'s, O: Sink, C: Sink>(
+pub(crate) fn shrink_exchange<'s: 'a, 'a, O: Sink, C: Sink>(
     alloc: Global,
     keys: RandomState,
     graph: TypeGraph<'s, '_>,
     chosen: &Chosen,
-    exchange: &Exchange<'_>,
+    exchange: &Exchange<'a>,
     out: &mut O,
     certificate: &mut C,
 ) -> Result<Summary<'s>, Fault<'s>>
-    requires made { IsMade graph.types }
-    requires rules { AreRuleTables (schema_of graph.types.names.schema.now) graph.rules }
-    requires domain { AreDomainTables (schema_of graph.types.names.schema.now) graph.domain }
-    requires firsts { AreFirsts (schema_of graph.types.names.schema.now)
-        graph.judged.firsts.items }
+    requires sound { IsSound graph }
     ensures shrinks { (names : List Name)
         → AreChosen (schema_of graph.entry.types.names.schema.now) names chosen.now
         → (bytes : List ℕ) → length bytes ≤ 2 ^ 40

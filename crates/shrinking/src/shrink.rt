@@ -13,11 +13,8 @@ ghost use Rattle.std.specs.Prelude.{
   length,
 };
 ghost use Rattle.express_syntax.specs.SchemaViews.{schema_of};
-ghost use Rattle.express_types.specs.Judging.{AreDomainTables};
-ghost use Rattle.schema_rules.specs.Ruled.{AreRuleTables};
-ghost use Rattle.schema_derivations.specs.Firsts.{AreFirsts};
+ghost use Rattle.express_types.specs.Sound.{IsSound};
 ghost use Rattle.schema_semantics.specs.Names.{Name};
-ghost use Rattle.schema_types.specs.Made.{IsMade};
 ghost use Rattle.pin_choices.specs.Chosen.{AreChosen, choice_of};
 ghost use Rattle.checking.specs.Checks.{HasSchema};
 ghost use Rattle.files.specs.declared.fault.Role.TheVariants as roles;
@@ -49,11 +46,7 @@ fn shrink_file<'s, O: Sink, C: Sink>(
     out: &mut O,
     certificate: &mut C,
 ) -> Result<Summary<'s>, Fault<'s>>
-    requires made { IsMade graph.types }
-    requires rules { AreRuleTables (schema_of graph.types.names.schema.now) graph.rules }
-    requires domain { AreDomainTables (schema_of graph.types.names.schema.now) graph.domain }
-    requires firsts { AreFirsts (schema_of graph.types.names.schema.now)
-        graph.judged.firsts.items }
+    requires sound { IsSound graph }
     requires within { length bytes.now ≤ 2 ^ 40 }
     ensures shrinks { (names : List Name)
         → AreChosen (schema_of graph.entry.types.names.schema.now) names chosen.now
@@ -82,11 +75,7 @@ fn shrink_source<'s, F: Source, O: Sink, C: Sink>(
     out: &mut O,
     certificate: &mut C,
 ) -> Result<Summary<'s>, Fault<'s>>
-    requires made { IsMade graph.types }
-    requires rules { AreRuleTables (schema_of graph.types.names.schema.now) graph.rules }
-    requires domain { AreDomainTables (schema_of graph.types.names.schema.now) graph.domain }
-    requires firsts { AreFirsts (schema_of graph.types.names.schema.now)
-        graph.judged.firsts.items }
+    requires sound { IsSound graph }
     ensures shrinks { (names : List Name)
         → AreChosen (schema_of graph.entry.types.names.schema.now) names chosen.now
         → SourceShrinks (schema_of graph.entry.types.names.schema.now) names (F.to_come file.old)
@@ -125,11 +114,7 @@ fn shrink_graph<'s, F: Source, O: Sink, C: Sink>(
     out: &mut O,
     certificate: &mut C,
 ) -> Result<Summary<'s>, Fault<'s>>
-    requires made { IsMade graph.types }
-    requires rules { AreRuleTables (schema_of graph.types.names.schema.now) graph.rules }
-    requires domain { AreDomainTables (schema_of graph.types.names.schema.now) graph.domain }
-    requires firsts { AreFirsts (schema_of graph.types.names.schema.now)
-        graph.judged.firsts.items }
+    requires sound { IsSound graph }
     ensures shrinks { (text : List ℕ)
         → HasSchema (schema_of graph.entry.types.names.schema.now) text
         → Shrinks (choice_of choice.now) choice.now.strict (Some text) (F.to_come file.old)

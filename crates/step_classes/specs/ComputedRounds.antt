@@ -27,6 +27,12 @@ pub record IsByValues (rows : List Row) (start p : Layout) (counts : List ℕ) :
   pub shaped : AreShapes rows shapes
   pub refined : IsRefined edges shapes start p counts
 
+-- .. from some round 0 on
+pub record IsParted (rows : List Row) (pinned : ℕ → Bool) (p : Layout) (counts : List ℕ) : Type 0 where
+  pub start : Layout
+  pub kinds : IsByKinds rows pinned start
+  pub values : IsByValues rows start p counts
+
 -- the numbers of places make the standard table
 pub record IsFound (rows : List Row) (pinned : ℕ → Bool) (last : ℕ) (firsts : List ℕ) (origins : List Origin)
     (members : List ℕ) : Type 0 where

@@ -8,7 +8,7 @@ ghost use Rattle.step_equal.specs.Tables.{class_at};
 ghost use Rattle.row_shapes.specs.Signatures.{AreSignatures};
 ghost use Rattle.step_classes.specs.Heads.{IsHead};
 
-use crate::found::find;
+use crate::found::{find, find_last};
 use crate::tables::classes_of;
 use row_shapes::signatures::{Signatures, signatures_of};
 use std::alloc::{AllocError, Global};
@@ -63,7 +63,7 @@ pub fn refine<'a>(
     ensures short_names { IfOk result (λ t. All (λ m. m.0 < 2 ^ 64) t.members) }
 {
     let signatures = signatures_of(alloc, keys, input)?;
-    refine_by(alloc, keys, input, pinned, &signatures)
+    refine_last(alloc, keys, input, pinned, signatures)
 }
 
 /// The classes of a population's value-equal instances, with these names pinned, where the shapes and
@@ -85,6 +85,28 @@ pub fn refine_by<'a>(
     // its contract says that no name stands twice, and that there are fewer than 2^32
     let _rows = input.len();
     let found = find(alloc, keys, input, pinned, signatures)?;
+    classes_of(alloc, input, found)
+}
+
+/// The same, by shapes and references that aren't needed any more: they are let go of before classes
+/// are numbered.
+pub fn refine_last<'a>(
+    alloc: Global,
+    keys: RandomState,
+    input: &Plain<'a>,
+    pinned: &BTreeSet<u64>,
+    signatures: Signatures,
+) -> Result<Classes, AllocError>
+    requires { AreSignatures input.now signatures }
+    ensures standard { IfOk result (λ t. IsStandard input.now (is_pinned pinned.now) t) }
+    ensures rounds { IfOk result (λ t. t.rounds ≤ length input.now) }
+    ensures short_rounds { IfOk result (λ t. t.rounds < 2 ^ 32) }
+    ensures short_classes { IfOk result (λ t. length t.classes < 2 ^ 32) }
+    ensures short_names { IfOk result (λ t. All (λ m. m.0 < 2 ^ 64) t.members) }
+{
+    // its contract says that no name stands twice, and that there are fewer than 2^32
+    let _rows = input.len();
+    let found = find_last(alloc, keys, input, pinned, signatures)?;
     classes_of(alloc, input, found)
 }
 

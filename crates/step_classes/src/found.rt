@@ -1,11 +1,11 @@
 //! The classes of places, by rounds, and their numbers.
 
-ghost use Rattle.std.specs.Prelude.{◌≡◌, IfOk, length};
+ghost use Rattle.std.specs.Prelude.{◌≡◌, ℕ, Bool, IfOk, length};
 ghost use Rattle.class_parts.specs.Laid.{IsLaid, NoneIsChosen, size};
 ghost use Rattle.class_parts.specs.Views.{layout};
 ghost use Rattle.step_equal.specs.Maps.{is_pinned};
 ghost use Rattle.row_shapes.specs.Signatures.{AreSignatures};
-ghost use Rattle.step_classes.specs.ComputedRounds.{IsByKinds, IsByValues, IsFound};
+ghost use Rattle.step_classes.specs.ComputedRounds.{IsByKinds, IsByValues, IsFound, IsParted};
 
 use class_numbers::laws::refined_are_counted;
 use class_numbers::numbering::{Numbering, number};
@@ -28,6 +28,13 @@ pub(crate) struct Found {
     pub(crate) signed: u64,
 }
 
+/// The classes of a population's places after the last round.
+#[derive(Drop)]
+struct Parted {
+    parts: Parts,
+    rounds: Rounds,
+}
+
 /// Finds the classes of a population's places, with these names pinned, by its signatures.
 pub(crate) fn find<'a>(
     alloc: Global,
@@ -40,11 +47,58 @@ pub(crate) fn find<'a>(
     ensures { IfOk result (λ f. IsFound input.now (is_pinned pinned.now) f.last f.numbering.firsts.items
         f.numbering.origins.items f.numbering.members.items) }
 {
-    // its contract says that no name stands twice
-    let _rows = input.len();
+    let parted = part(alloc, keys, input, pinned, signatures)?;
+    numbered(alloc, input, parted)
+}
+
+/// The same, by signatures that aren't needed any more: they are let go of before classes are
+/// numbered.
+pub(crate) fn find_last<'a>(
+    alloc: Global,
+    keys: RandomState,
+    input: &Plain<'a>,
+    pinned: &BTreeSet<u64>,
+    signatures: Signatures,
+) -> Result<Found, AllocError>
+    requires { AreSignatures input.now signatures }
+    ensures { IfOk result (λ f. IsFound input.now (is_pinned pinned.now) f.last f.numbering.firsts.items
+        f.numbering.origins.items f.numbering.members.items) }
+{
+    let parted = part(alloc, keys, input, pinned, &signatures)?;
+    drop(signatures);
+    numbered(alloc, input, parted)
+}
+
+/// Parts a population's places, with these names pinned, round by round.
+fn part<'a>(
+    alloc: Global,
+    keys: RandomState,
+    input: &Plain<'a>,
+    pinned: &BTreeSet<u64>,
+    signatures: &Signatures,
+) -> Result<Parted, AllocError>
+    requires { AreSignatures input.now signatures.now }
+    ensures { IfOk result (λ q. IsParted input.now (is_pinned pinned.now) (layout q.parts)
+        q.rounds.counts.items) }
+{
     let mut parts = by_kinds(alloc, keys, input, pinned)?;
     let rounds = by_values(alloc, input, &mut parts, signatures)?;
+    Ok(Parted { parts, rounds })
+}
+
+/// The classes of a population's places by their standard numbers.
+fn numbered<'a>(alloc: Global, input: &Plain<'a>, parted: Parted) -> Result<Found, AllocError>
+    requires { (pinned : ℕ → Bool) × IsParted input.now pinned (layout parted.parts)
+        parted.rounds.counts.items }
+    ensures { (pinned : ℕ → Bool)
+        → IsParted input.now pinned (layout parted.parts) parted.rounds.counts.items
+        → IfOk result (λ f. IsFound input.now pinned f.last f.numbering.firsts.items
+        f.numbering.origins.items f.numbering.members.items) }
+{
+    // its contract says that no name stands twice
+    let _rows = input.len();
     refined_are_counted();
+    let Parted { parts, rounds } = parted;
     let numbering = number(alloc, parts, &rounds.counts)?;
     Ok(Found {
         last: rounds.counts.len() as u32 - 1,

@@ -8,7 +8,7 @@ ghost use Rattle.step_classes.specs.ComputedFirsts.{AreFirsts};
 
 use crate::classes::Classes;
 use crate::found::Found;
-use class_numbers::numbering;
+use class_numbers::numbering::{self, Numbering};
 use std::alloc::{AllocError, Global};
 use step_equal::plain::Plain;
 use step_equal::table::{Origin, Table};
@@ -28,16 +28,21 @@ pub(crate) fn classes_of<'a>(
 {
     let rounds = found.last;
     let signed = found.signed;
-    let numbering = found.numbering;
-    let classes = origins(alloc, &numbering.origins)?;
-    let members = members(alloc, input, &numbering.members)?;
+    let Numbering {
+        firsts,
+        origins: began,
+        members: numbers,
+    } = found.numbering;
+    let classes = origins(alloc, &began)?;
+    drop(began);
+    let members = members(alloc, input, &numbers)?;
     Ok(Classes {
         table: Table {
             rounds,
             classes,
             members,
         },
-        firsts: numbering.firsts,
+        firsts,
         signed,
     })
 }

@@ -13,7 +13,7 @@ use Rattle.step_values.proofs.References.{each_weaker_of}
 use Rattle.step_equal.specs.declared.row.PlainRow.{PlainRow}
 use Rattle.step_equal.specs.declared.row.RowHead.{RowHead}
 use Rattle.step_equal.specs.ComputedHeads.{type_lists_within, numbered_heads}
-use Rattle.step_equal.specs.Rows.{Row, names, row_at, IsName, IsPopulation}
+use Rattle.step_equal.specs.Rows.{Row, kind_of, names, row_at, IsName, IsPopulation}
 use Rattle.step_equal.specs.Views.{Head, head_names, head_of, head_seen, heads_seen, or_none, row_from, rows_from, rows_of, types_at, values_within}
 use Rattle.step_equal.proofs.Lookup.{row_cases}
 use Rattle.step_equal.proofs.Placing.{named_at}
@@ -150,3 +150,25 @@ population_from hs rows each ns same distinct refer =
           (λ y at. named_at (rows_from hs rows) at.0 y (ap (λ ms. slice_get ms at.0) (sym named) ∙ at.1)) p.values
           (row_refers ns hs rows refer x p e);
     }
+
+-- the kind of a row is that of its head
+pub kind_there : (lists : List (List (List ℕ))) (hs : List RowHead) (rows : List Values) (i : ℕ) (r : Row)
+    → slice_get (rows_from (heads_seen lists hs) rows) i ≡ Some r
+    → (h : RowHead) × (slice_get hs i ≡ Some h) × (kind_of r ≡ (h.section, types_at lists h.type_list))
+kind_there lists [] rows i r e = absurd (cc)
+kind_there lists (h ∷ hs) [] i r e = absurd (cc)
+kind_there lists (h ∷ hs) (vs ∷ rows) zero r e =
+    let same : row_from (head_seen lists h) vs ≡ r = cc in (h, refl, ap kind_of (sym same))
+kind_there lists (h ∷ hs) (vs ∷ rows) (suc i) r e = kind_there lists hs rows i r e
+
+-- two rows whose heads have one section and one list of types are of one kind
+pub kinds_shared : (lists : List (List (List ℕ))) (hs : List RowHead) (rows : List Values) (i j : ℕ)
+    → ((h k : RowHead) → slice_get hs i ≡ Some h → slice_get hs j ≡ Some k
+    → (h.section ≡ k.section) × (h.type_list ≡ k.type_list)) → (r s : Row)
+    → slice_get (rows_from (heads_seen lists hs) rows) i ≡ Some r
+    → slice_get (rows_from (heads_seen lists hs) rows) j ≡ Some s → kind_of r ≡ kind_of s
+kinds_shared lists hs rows i j shared r s at there =
+    let (h, here, kind) = kind_there lists hs rows i r at in
+    let (k, behind, other) = kind_there lists hs rows j s there in
+    let same = shared h k here behind in
+    kind ∙ (λ x. (same.0 x, types_at lists (same.1 x))) ∙ sym other

@@ -1,10 +1,11 @@
 -- Names in the order of rows, and what they say of the rows.
 use Rattle.std.proofs.Common.{◌≡◌, ◌<◌, ℕ, suc, zero, Bool, true, false, cond, List, [], ◌∷◌, length, get_or, Option, Some, None, nat_eq, refl, sym, ◌∙◌, ap, subst, eqb-true, eq-eqb, arith}
 use Rattle.std.specs.Prelude.{◌==◌, ◌||◌, is_some, slice_get, MatchOption}
-use Rattle.std.specs.List.{IsDistinct, AllByRecursion, list_any}
+use Rattle.std.specs.List.{All, IsDistinct, AllByRecursion, list_any}
 use Rattle.std.specs.Option.{option_map}
 use Rattle.std.proofs.lemmas.Bool.{and_from, false≢true}
 use Rattle.std.proofs.lemmas.List.{length-map}
+use Rattle.std.proofs.lemmas.List.Elements.{All-nil, All-cons}
 use Rattle.std.proofs.lemmas.Option.{slice_get-map}
 use Rattle.population_rows.specs.Index.{place_of}
 use Rattle.step_equal.specs.Rows.{Row, names, row_at, IsName, IsPopulation, AreFew}
@@ -111,6 +112,11 @@ one_at : (P : ℕ → Type 0) (ns : List ℕ) → AllByRecursion P ns → (k : �
 one_at P [] all k l = absurd (omega (arith, l))
 one_at P (n ∷ ns) all zero l = all.0
 one_at P (n ∷ ns) all (suc k) l = one_at P ns all.1 k (omega (arith, l))
+
+-- what holds at each place holds of all
+pub all_of_each : (P : ℕ → Type 0) (ns : List ℕ) → ((k : ℕ) → k < length ns → P (get_or ns k 0)) → All P ns
+all_of_each P [] f = All-nil P
+all_of_each P (n ∷ ns) f = All-cons P n ns (f 0 (omega arith)) (all_of_each P ns (λ k l. f (suc k) (omega (arith, l))))
 
 pub each_in_place : (ns : List ℕ) → ((k : ℕ) → k < length ns → place_of ns (get_or ns k 0) ≡ Some k)
     → IsDistinct nat_eq ns

@@ -4,7 +4,7 @@ ghost use Rattle.std.specs.Prelude.{◌≡◌, ◌<◌, length, map, IfOk};
 ghost use Rattle.step_values.specs.Views.{word_of};
 ghost use Rattle.step_equal.specs.ComputedHeads.{type_lists_within, numbered_heads};
 ghost use Rattle.step_equal.specs.Rows.{names};
-ghost use Rattle.step_equal.specs.Views.{head_names, type_lists_of, rows_of, types_at};
+ghost use Rattle.step_equal.specs.Views.{type_lists_of, rows_of, types_at};
 
 use crate::row::{PlainRow, RowHead};
 use std::alloc::{AllocError, Global};
@@ -17,17 +17,6 @@ pub(crate) fn row_names<'a>(alloc: Global, rows: &[PlainRow<'a>]) -> Result<Vec<
     let mut names = Vec::with_capacity(alloc, rows.len())?;
     for row in rows {
         names.push(row.name)?;
-    }
-    Ok(names)
-}
-
-/// The names of heads, in order.
-pub(crate) fn head_names(alloc: Global, heads: &[RowHead]) -> Result<Vec<u64>, AllocError>
-    ensures { IfOk result (λ ns. ns.items ≡ head_names heads.now) }
-{
-    let mut names = Vec::with_capacity(alloc, heads.len())?;
-    for head in heads {
-        names.push(head.name)?;
     }
     Ok(names)
 }

@@ -3,6 +3,7 @@
 ghost use Rattle.std.specs.Prelude.{
   ◌≡◌,
   ◌<◌,
+  ◌^◌,
   ◌↔◌,
   nat_eq,
   length,
@@ -11,7 +12,7 @@ ghost use Rattle.std.specs.Prelude.{
   IsTrue,
   List,
 };
-ghost use Rattle.std.specs.List.{IsDistinct};
+ghost use Rattle.std.specs.List.{All, IsDistinct};
 ghost use Rattle.step_equal.specs.ComputedPlaces.{Finds};
 ghost use Rattle.step_equal.specs.Faults.{IsFaultOf};
 ghost use Rattle.step_equal.specs.Rows.{Row, names as names_of};
@@ -37,6 +38,7 @@ pub(crate) fn places_of(
     ensures places { IfOk result (λ index. Finds index names.now) }
     ensures few { IfOk result (λ _. length names.now < 4294967296) }
     ensures distinct { IfOk result (λ _. IsDistinct nat_eq names.now) }
+    ensures range { IfOk result (λ _. All (λ y. y < 2 ^ 64) names.now) }
     ensures fault { IfErr result (λ e. (rows : List Row) → names_of rows ≡ names.now
         → IsFaultOf rows e) }
 {
@@ -53,7 +55,8 @@ pub(crate) fn places_of(
 /// Whether each name is found where it stands. Of one that stands twice the first is found.
 fn is_each_in_place(places: &RowIndex, names: &[u64]) -> bool
     requires places { Finds places.now names.now }
-    ensures { IsTrue result ↔ IsDistinct nat_eq names.now }
+    ensures distinct { IsTrue result ↔ IsDistinct nat_eq names.now }
+    ensures range { IsTrue result → All (λ y. y < 2 ^ 64) names.now }
 {
     for n in 0..names.len() {
         let Some(place) = places.find(names[n]) else {

@@ -3,6 +3,7 @@
 ghost use Rattle.std.specs.Prelude.{
   ◌≡◌,
   ◌<◌,
+  ◌^◌,
   nat_eq,
   is_some,
   length,
@@ -15,7 +16,8 @@ ghost use Rattle.std.specs.Prelude.{
   None,
   Some,
 };
-ghost use Rattle.std.specs.List.{IsDistinct, AllZip, sum_by};
+ghost use Rattle.std.specs.Bool.{OnTrue};
+ghost use Rattle.std.specs.List.{All, IsDistinct, AllZip, sum_by};
 ghost use Rattle.parsing.specs.Nodes.{IsColumn};
 ghost use Rattle.step_values.specs.Building.{AreRunsOf};
 ghost use Rattle.step_values.specs.Cells.{value_nodes};
@@ -24,8 +26,9 @@ ghost use Rattle.step_values.specs.Targets.{LeadTo, ReferTo, targets_of};
 ghost use Rattle.step_equal.specs.ComputedCodes.{coded_rows};
 ghost use Rattle.step_equal.specs.ComputedPlaces.{Finds, IsKept};
 ghost use Rattle.step_equal.specs.Faults.{IsFaultOf};
-ghost use Rattle.step_equal.specs.Rows.{Row, AreFew, IsPopulation, names, row_at};
+ghost use Rattle.step_equal.specs.Rows.{Row, AreFew, IsPopulation, kind_of, names, row_at};
 ghost use Rattle.step_equal.specs.Settled.{IsSettled};
+ghost use Rattle.step_equal.specs.declared.row.RowHead.{RowHead};
 ghost use Rattle.step_equal.specs.Views.{
   head_names,
   heads_seen,
@@ -37,7 +40,7 @@ ghost use Rattle.step_equal.specs.Views.{
 
 use crate::fault::PlainFault;
 use crate::laid::laid_down;
-use crate::parts::{head_names, heads_of, row_names, type_lists_of, types_at};
+use crate::parts::{heads_of, row_names, type_lists_of, types_at};
 use crate::places::places_of;
 use crate::row::{PlainRow, RowHead, RowSlot};
 use crate::settled::settle_type_lists;
@@ -100,20 +103,21 @@ impl<'a> Plain<'a> {
     /// The population of these heads, each with its list of types and, in order, its row of values.
     /// Lists of types have numbers, counted from 0; a row whose number is beyond them has no types.
     /// The type words of each list come in order and none twice. The values were put together over
-    /// the names of the heads, so that each reference in them has the place of its row.
+    /// the names of the heads, of which none stands twice, so that each reference in them has the
+    /// place of its row; the index finds these places.
     ///
-    /// Where there are more than 2^32 - 1 rows the fault is `TooManyRows`, else where a name stands
-    /// twice `DuplicateRow`; where memory runs out it is `Memory`.
-    ///
-    /// Names are hashed by these keys.
+    /// `AllocError` comes where memory runs out.
     pub fn from_parts(
-        alloc: Global,
-        keys: RandomState,
         heads: Vec<RowHead>,
         type_lists: Vec<Vec<Word<'a>>>,
         values: ValueRows<'a>,
-    ) -> Result<Plain<'a>, PlainFault>
+        places: RowIndex,
+    ) -> Result<Plain<'a>, AllocError>
         requires each { length heads.items ≡ length values.rows }
+        requires places { Finds places (head_names heads.items) }
+        requires few { length (head_names heads.items) < 4294967296 }
+        requires distinct { IsDistinct nat_eq (head_names heads.items) }
+        requires range { All (λ y. y < 2 ^ 64) (head_names heads.items) }
         requires leads { LeadTo (head_names heads.items) values.targets }
         requires closed { ReferTo (head_names heads.items) values.rows }
         ensures rows { IfOk result
@@ -121,20 +125,16 @@ impl<'a> Plain<'a> {
             (heads_seen (type_lists_of type_lists.entry.items) heads.items) values.entry.rows) p) }
         ensures population { IfOk result (λ p. IsPopulation p) }
         ensures few { IfOk result (λ p. AreFew p) }
-        ensures fault { IfErr result
-            (λ e. IsFaultOf (rows_from
-            (heads_seen (type_lists_of type_lists.entry.items) heads.items) values.entry.rows) e) }
     {
-        let names = head_names(alloc, &heads)?;
-        let places = places_of(alloc, keys, &names)?;
-        Ok(settled(heads, type_lists, values, places)?)
+        settled(heads, type_lists, values, places)
     }
 
-    /// How many rows it has.
+    /// How many rows it has. Their names are numbers of 64 bits.
     pub fn len(&self) -> usize
         ensures length { result ≡ length self.now }
         ensures few { AreFew self.now }
         ensures population { IsPopulation self.now }
+        ensures range { All (λ y. y < 2 ^ 64) (names self.now) }
     {
         self.heads.len()
     }
@@ -153,6 +153,25 @@ impl<'a> Plain<'a> {
         ensures { slice_get (names self.now) place ≡ Some result }
     {
         self.row(place).name
+    }
+
+    /// The number of the list of types of the row at a place. Rows of one number have the same types;
+    /// others may have the same too.
+    pub fn type_list(&self, place: usize) -> u32
+        requires { place < length self.now }
+    {
+        list_number(&self.heads, place)
+    }
+
+    /// Whether the rows at two places stand in one section and have one list of types, by its number.
+    /// They are of one kind then; others may be of one too.
+    pub fn share_kind(&self, place: usize, other: usize) -> bool
+        requires place { place < length self.now }
+        requires other { other < length self.now }
+        ensures { OnTrue result ((r s : Row) → slice_get self.now place ≡ Some r
+            → slice_get self.now other ≡ Some s → kind_of r ≡ kind_of s) }
+    {
+        share_list(&self.heads, place, other)
     }
 
     /// The place of the row of a name.
@@ -184,6 +203,25 @@ impl<'a> Plain<'a> {
     {
         self.values.cells()
     }
+}
+
+/// The number of the list of types of the head at a place.
+fn list_number(heads: &[RowHead], place: usize) -> u32
+    requires { place < length heads.now }
+{
+    heads[place].type_list
+}
+
+/// Whether the heads at two places have one section, and one number of a list of types.
+fn share_list(heads: &[RowHead], place: usize, other: usize) -> bool
+    requires place { place < length heads.now }
+    requires other { other < length heads.now }
+    ensures { OnTrue result ((h k : RowHead) → slice_get heads.now place ≡ Some h
+        → slice_get heads.now other ≡ Some k
+        → (h.section ≡ k.section) × (h.type_list ≡ k.type_list)) }
+{
+    let (head, other) = (heads[place], heads[other]);
+    head.section == other.section && head.type_list == other.type_list
 }
 
 /// The row of the head and the values at a place, with its list of types.
@@ -218,6 +256,7 @@ fn settled<'a>(
     requires places { Finds places (head_names heads.items) }
     requires few { length (head_names heads.items) < 4294967296 }
     requires distinct { IsDistinct nat_eq (head_names heads.items) }
+    requires range { All (λ y. y < 2 ^ 64) (head_names heads.items) }
     requires leads { LeadTo (head_names heads.items) values.targets }
     requires closed { ReferTo (head_names heads.items) values.rows }
     ensures rows { IfOk result

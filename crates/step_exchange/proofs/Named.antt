@@ -1,23 +1,21 @@
 -- The instances of an exchange structure, and their names.
-use Rattle.std.specs.Prelude.{◌≡◌, ℕ, zero, suc, ◌+◌, ◌-◌, ◌<◌, ◌≤◌, ◌^◌, ◌==◌, ◌||◌, Bool, true, false, List, [], ◌∷◌, ◌++◌, length, map, take, drop}
-use Rattle.std.specs.List.{IsDistinct, AllByRecursion}
-use Rattle.std.proofs.Common.{refl, sym, ap, subst, ◌∙◌, arith, take-append-drop, eqb-true, eq-eqb, length-append}
+use Rattle.std.specs.Prelude.{◌≡◌, ℕ, ◌+◌, ◌-◌, ◌<◌, ◌≤◌, ◌^◌, ◌==◌, List, [], ◌∷◌, ◌++◌, length, map, take, drop}
+use Rattle.std.specs.List.{IsDistinct}
+use Rattle.std.proofs.Common.{refl, sym, ap, subst, ◌∙◌, arith, take-append-drop, length-append}
 use Rattle.std.proofs.Math.Logic.{∥∥₁_elim}
 use Rattle.std.proofs.Math.Nat.{ℕ_set}
 use Rattle.std.proofs.Math.Bridge.{le_prop}
 use Rattle.std.proofs.lemmas.List.{length-drop, length-map}
 use Rattle.std.proofs.lemmas.Map.Keys.{IsDistinct-prop}
 use Rattle.step_structures.specs.Trees.{Tree, Row, rows_of}
-use Rattle.step_structures.specs.Fits.{the_rules, FitsRows, has_name}
+use Rattle.step_structures.specs.Fits.{the_rules, FitsRows}
+use Rattle.step_structures.proofs.Named.{rows_distinct}
 use Rattle.step_exchange.specs.declared.section.Section.{Section}
 use Rattle.step_exchange.specs.declared.structure.Exchange.{Exchange}
 use Rattle.step_exchange.specs.Sections.{sections_of, CountsTo}
 use Rattle.step_exchange.specs.Views.{rows_with}
 use Rattle.step_exchange.specs.Exchanges.{structure, ExchangesAreNamed}
 use Rattle.step_exchange.proofs.Counts.{counts-prop}
-
-abbrev names_in : List Row → List ℕ
-names_in rows = map (λ (r : Row). r.name) rows
 
 -- sections hold all instances
 all-held : (from : ℕ) (ss : List Section) (n : ℕ) (rows : List Row) → CountsTo from ss n → n ≡ from + length rows
@@ -59,42 +57,6 @@ names-of (n ∷ ns) (x ∷ xs) h = ap (λ l. n ∷ l) (names-of ns xs (omega (ar
 pub names-are : (x : Exchange) → map (λ (r : Row). r.name) (rows_of (structure x).sections) ≡ x.names
 names-are x =
     ap (map (λ (r : Row). r.name)) (rows-are x) ∙ names-of x.names (drop x.header_len x.trees) (as-many x)
-
-or_parts : (a b : Bool) → (a || b) ≡ false → (a ≡ false) × (b ≡ false)
-or_parts false false e = (refl, refl)
-or_parts false true e = absurd (cc)
-or_parts true b e = absurd (cc)
-
-turned : (a b : ℕ) → (a == b) ≡ false → (b == a) ≡ false
-turned a b e = by (b == a) refl
-  where
-    by : (c : Bool) → (b == a) ≡ c → c ≡ false
-    by false f = refl
-    by true f = sym (eq-eqb a b (sym (eqb-true b a f))) ∙ e
-
-has_last : (n m : ℕ) (xs : List ℕ) → has_name n (xs ++ m ∷ []) ≡ false → (has_name n xs ≡ false) × ((n == m) ≡ false)
-has_last n m [] e = (refl, (or_parts (n == m) false e).0)
-has_last n m (x ∷ xs) e =
-    let parts = or_parts (n == x) (has_name n (xs ++ m ∷ [])) e in
-    let rest = has_last n m xs parts.1 in
-    (ap (λ b. b || has_name n xs) parts.0 ∙ rest.0, rest.1)
-
--- no later name is one of those before
-none_before : (before : List ℕ) (rs : List Row) (n : ℕ) → ((m : ℕ) → has_name m before ≡ false → (m == n) ≡ false)
-    → FitsRows the_rules before rs → AllByRecursion (λ y. (n == y) ≡ false) (names_in rs)
-none_before before [] n f h = tt
-none_before before (r ∷ rs) n f h = (
-  turned r.name n (f r.name h.0),
-  none_before (before ++ r.name ∷ []) rs n (λ m e. f m (has_last m r.name before e).0) h.3,
-)
-
-rows_distinct : (before : List ℕ) (rs : List Row) → FitsRows the_rules before rs → IsDistinct (◌==◌) (names_in rs)
-unfolding IsDistinct
-rows_distinct before [] h = tt
-rows_distinct before (r ∷ rs) h = (
-  none_before (before ++ r.name ∷ []) rs r.name (λ m e. (has_last m r.name before e).1) h.3,
-  rows_distinct (before ++ r.name ∷ []) rs h.3,
-)
 
 rows_few : (before : List ℕ) (rs : List Row) → length before < 2 ^ 32 → FitsRows the_rules before rs
     → length before + length rs < 2 ^ 32

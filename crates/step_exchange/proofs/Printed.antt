@@ -1,17 +1,42 @@
 -- The prints of a text whose references are led.
 use Rattle.std.proofs.Common.{◌≡◌, ℕ, zero, suc, ◌+◌, ◌<◌, ◌≤◌, Bool, true, false, cond, List, [], ◌∷◌, ◌++◌, Some, None, map, take, drop, slice_get, refl, sym, ap, ◌∙◌, append_assoc, append-nil, eq-eqb}
-use Rattle.std.specs.Prelude.{◌==◌, ◌-◌, filter}
-use Rattle.step_structures.specs.Words.{name}
-use Rattle.step_structures.specs.Trees.{Tree, Row, Section}
+use Rattle.std.specs.Prelude.{◌==◌, ◌-◌, ◌&&◌, filter}
+use Rattle.std.proofs.lemmas.Bool.{false≢true}
+use Rattle.step_structures.specs.Words.{name, number, string, binary}
+use Rattle.step_structures.specs.Trees.{Tree, leaf, group, Trees, none, one, Row, Section}
 use Rattle.step_structures.specs.Normal.{plain_tree, plain_trees, plain_more, plain_record, plain_partial_records, plain_rows, plain_row, plain_section, plain_sections}
 use Rattle.step_records.specs.Cells.{all_of}
+use Rattle.step_records.specs.Params.{is_literal_tree, are_literals}
 use Rattle.step_exchange.specs.declared.section.Section as code
 use Rattle.step_exchange.specs.Views.{record_in, form_in, rows_with}
 use Rattle.step_exchange.specs.Sections.{heading_of, sections_of}
 use Rattle.step_exchange.proofs.Cuts.{rows_taken, rows_dropped}
 use Rattle.merged_texts.specs.Merged.{led_tree, led_trees, led_record, led_row, merged_rows, merged_section, merged_sections}
 
+both : (a b : Bool) → (a && b) ≡ true → (a ≡ true) × (b ≡ true)
+both true b e = (refl, e)
+both false b e = absurd (false≢true e)
+
 module _ (h : ℕ → ℕ) where
+  -- there is no reference in literals
+  mutual
+    stays : (x : Tree) → is_literal_tree x ≡ true → led_tree h x ≡ x
+    stays (leaf (number text)) e = refl
+    stays (leaf (string text)) e = refl
+    stays (leaf (binary text)) e = refl
+    stays (group xs) e = ap group (stay xs e)
+    stays _ e = absurd (false≢true e)
+
+    stay : (xs : Trees) → are_literals xs ≡ true → led_trees h xs ≡ xs
+    stay none e = refl
+    stay (one x xs) e =
+        let p = both (is_literal_tree x) (are_literals xs) e in
+        λ i. one (stays x p.0 i) (stay xs p.1 i)
+
+  pub literals_led : (xs : List Tree) (s : List ℕ) → plain_trees (all_of xs) ≡ s → are_literals (all_of xs) ≡ true
+      → s ≡ plain_trees (led_trees h (all_of xs))
+  literals_led xs s e f = sym e ∙ ap plain_trees (sym (stay (all_of xs) f))
+
   pub led_more_push : (xs : List Tree) (y : Tree) → plain_more (led_trees h (all_of (xs ++ y ∷ [])))
       ≡ plain_more (led_trees h (all_of xs)) ++ (44 ∷ plain_tree (led_tree h y))
   led_more_push [] y = append-nil (44 ∷ plain_tree (led_tree h y))

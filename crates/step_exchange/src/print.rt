@@ -124,7 +124,7 @@ fn is_reference(spelling: &[u8]) -> bool
 }
 
 // The spelling of a parameter, where the text has it so.
-fn literal<'t, L: Leads>(leads: &L, param: &Param<'t>) -> Option<&'t [u8]>
+fn literal<'a, L: Leads>(leads: &L, param: &Param<'a, '_>) -> Option<&'a [u8]>
     ensures { IfSome result (λ s. plain_tree (led_tree (L.led leads.now) param.now) ≡ s.now) }
 {
     let spelling = param.literal()?;
@@ -137,7 +137,12 @@ fn literal<'t, L: Leads>(leads: &L, param: &Param<'t>) -> Option<&'t [u8]>
 
 // A parameter; a literal as it is spelt.
 #[cycle(params)]
-fn print_param<S: Sink, L: Leads>(printer: &mut Printer, out: &mut S, leads: &L, param: &Param<'_>)
+fn print_param<S: Sink, L: Leads>(
+    printer: &mut Printer,
+    out: &mut S,
+    leads: &L,
+    param: &Param<'_, '_>,
+)
     ensures { Prints S.held S.has_failed out.old out.new printer.old printer.new
         (plain_tree (led_tree (L.led leads.now) param.now)) }
 {
@@ -149,7 +154,8 @@ fn print_param<S: Sink, L: Leads>(printer: &mut Printer, out: &mut S, leads: &L,
 
 // The outermost part of a parameter, and what is inside it.
 #[cycle(params)]
-fn print_node<S: Sink, L: Leads>(printer: &mut Printer, out: &mut S, leads: &L, node: &Node<'_>)
+#[inline(never)]
+fn print_node<S: Sink, L: Leads>(printer: &mut Printer, out: &mut S, leads: &L, node: &Node<'_, '_>)
     ensures { Prints S.held S.has_failed out.old out.new printer.old printer.new
         (plain_tree (led_tree (L.led leads.now) (node_value node.now))) }
 {
@@ -182,7 +188,24 @@ fn print_params<S: Sink, L: Leads>(
     printer: &mut Printer,
     out: &mut S,
     leads: &L,
-    params: &Params<'_>,
+    params: &Params<'_, '_>,
+)
+    ensures { Prints S.held S.has_failed out.old out.new printer.old printer.new
+        (plain_trees (led_trees (L.led leads.now) (all_of params.now))) }
+{
+    match params.spelling() {
+        Some(spelling) => printer.print(out, spelling),
+        None => print_each(printer, out, leads, params),
+    }
+}
+
+// Parameters one by one, with commas between.
+#[cycle(params)]
+fn print_each<S: Sink, L: Leads>(
+    printer: &mut Printer,
+    out: &mut S,
+    leads: &L,
+    params: &Params<'_, '_>,
 )
     ensures { Prints S.held S.has_failed out.old out.new printer.old printer.new
         (plain_trees (led_trees (L.led leads.now) (all_of params.now))) }
@@ -199,7 +222,7 @@ fn print_params<S: Sink, L: Leads>(
 }
 
 // The keyword that stands first.
-fn first_keyword<'t>(parts: &Params<'t>) -> &'t [u8]
+fn first_keyword<'a>(parts: &Params<'a, '_>) -> &'a [u8]
     ensures { result.now ≡ (record_of parts.now).keyword }
 {
     match parts.item(0) {
@@ -209,7 +232,12 @@ fn first_keyword<'t>(parts: &Params<'t>) -> &'t [u8]
 }
 
 // A keyword and its parameters.
-fn print_parts<S: Sink, L: Leads>(printer: &mut Printer, out: &mut S, leads: &L, parts: &Params<'_>)
+fn print_parts<S: Sink, L: Leads>(
+    printer: &mut Printer,
+    out: &mut S,
+    leads: &L,
+    parts: &Params<'_, '_>,
+)
     ensures { Prints S.held S.has_failed out.old out.new printer.old printer.new
         (plain_record (led_record (L.led leads.now) (record_of parts.now))) }
 {
@@ -225,7 +253,7 @@ fn print_partial_records<S: Sink, L: Leads>(
     printer: &mut Printer,
     out: &mut S,
     leads: &L,
-    partials: &Params<'_>,
+    partials: &Params<'_, '_>,
 )
     ensures { Prints S.held S.has_failed out.old out.new printer.old printer.new
         (plain_partial_records (map (led_record (L.led leads.now)) (map record_in partials.now))) }
@@ -236,7 +264,7 @@ fn print_partial_records<S: Sink, L: Leads>(
 }
 
 // Whether an instance is mapped internally: a keyword stands first.
-fn is_internal(parts: &Params<'_>) -> bool
+fn is_internal(parts: &Params<'_, '_>) -> bool
     ensures { result ≡ begins_with_keyword parts.now }
 {
     match parts.item(0) {
@@ -246,7 +274,12 @@ fn is_internal(parts: &Params<'_>) -> bool
 }
 
 // What stands for an instance behind its `=`.
-fn print_form<S: Sink, L: Leads>(printer: &mut Printer, out: &mut S, leads: &L, parts: &Params<'_>)
+fn print_form<S: Sink, L: Leads>(
+    printer: &mut Printer,
+    out: &mut S,
+    leads: &L,
+    parts: &Params<'_, '_>,
+)
     ensures { Prints S.held S.has_failed out.old out.new printer.old printer.new
         (plain_form (led_form (L.led leads.now) (form_of parts.now))) }
 {
@@ -265,7 +298,7 @@ fn print_row<S: Sink, L: Leads>(
     out: &mut S,
     leads: &L,
     name: u64,
-    form: &Param<'_>,
+    form: &Param<'_, '_>,
 )
     ensures { Prints S.held S.has_failed out.old out.new printer.old printer.new
         (plain_rows (merged_rows (L.led leads.now)
@@ -286,7 +319,7 @@ fn print_rows<S: Sink, L: Leads>(
     out: &mut S,
     leads: &L,
     names: &[u64],
-    forms: &Params<'_>,
+    forms: &Params<'_, '_>,
 )
     ensures { Prints S.held S.has_failed out.old out.new printer.old printer.new
         (plain_rows (merged_rows (L.led leads.now) (rows_with names.now forms.now))) }
@@ -320,7 +353,7 @@ fn print_section<S: Sink, L: Leads>(
     leads: &L,
     section: Section<'_>,
     names: &[u64],
-    forms: &Params<'_>,
+    forms: &Params<'_, '_>,
 )
     ensures { Prints S.held S.has_failed out.old out.new printer.old printer.new
         (plain_section (merged_section (L.led leads.now) (record {
@@ -342,7 +375,7 @@ fn print_sections<S: Sink, L: Leads>(
     leads: &L,
     sections: &[Section<'_>],
     names: &[u64],
-    forms: Params<'_>,
+    forms: Params<'_, '_>,
 )
     ensures { Prints S.held S.has_failed out.old out.new printer.old printer.new
         (plain_sections (merged_sections (L.led leads.now)

@@ -16,7 +16,7 @@ use step_records::tokens::{is_mark, refuse, take};
 use step_structures::fault::{FaultKind, TextFault};
 
 /// The parameter that is alone among these.
-fn only<'t>(params: &Params<'t>) -> Option<Param<'t>>
+fn only<'a, 't>(params: &Params<'a, 't>) -> Option<Param<'a, 't>>
     ensures { MatchOption result
         (length params.now ≡ 1 → ⊥)
         (λ x. params.now ≡ x ∷ []) }
@@ -29,7 +29,7 @@ fn only<'t>(params: &Params<'t>) -> Option<Param<'t>>
 }
 
 /// Whether a record has one parameter, a list of one string.
-fn names_schema(line: &Param<'_>) -> bool
+fn names_schema(line: &Param<'_, '_>) -> bool
     ensures { IsTrue result ↔ NamesSchema (record_in line.now).values }
 {
     let (_, values) = line.parts().split(1);

@@ -1,5 +1,5 @@
 -- Digits, one by one.
-use Rattle.std.proofs.Common.{◌≡◌, ℕ, zero, suc, ◌+◌, ◌-◌, ◌*◌, ◌%◌, ◌^◌, ◌<◌, ◌≤◌, Bool, true, false, cond, not, List, [], ◌∷◌, ◌++◌, length, get_or, drop, fold, min, ltb, refl, sym, ap, ◌∙◌, arith, add-one, one-add, append-nil, eq-eqb, eqb-true}
+use Rattle.std.proofs.Common.{◌≡◌, ℕ, zero, suc, ◌+◌, ◌-◌, ◌*◌, ◌%◌, ◌^◌, ◌<◌, ◌≤◌, Bool, true, false, cond, not, List, [], ◌∷◌, ◌++◌, length, get_or, drop, fold, ltb, refl, sym, ap, ◌∙◌, arith, add-one, one-add, append-nil, eq-eqb, eqb-true}
 use Rattle.std.specs.Prelude.{◌==◌, ◌&&◌, ◌||◌, if◌then◌else◌}
 use Rattle.std.specs.Char.{digit_value}
 use Rattle.std.specs.Hash as fed
@@ -52,7 +52,7 @@ pub front_wraps : (xs : List ℕ) (i v d : ℕ) → v ≡ front_value i xs % 2 ^
     ^ 64 ≡ front_value (i + 1) xs % 2 ^ 64
 front_wraps xs i v d h e = rw (add-one, e) (omega (arith, h))
 
-end_test : (n : ℕ) (xs : List ℕ) (t : Bool) → (digit xs n == 0) ≡ t → (n' : ℕ) → n' ≡ suc n
+pub end_test : (n : ℕ) (xs : List ℕ) (t : Bool) → (digit xs n == 0) ≡ t → (n' : ℕ) → n' ≡ suc n
     → ((digit xs n ≡ 0) → end_of n' xs ≡ end_of n xs) × ((digit xs n ≡ 0 → ⊥) → end_of n' xs ≡ n')
 end_test n xs true h n' e = (λ z. rw (e, h) refl, λ g. absurd (g (grind (arith, nat_tests))))
 end_test n xs false h n' e = (
@@ -60,34 +60,14 @@ end_test n xs false h n' e = (
   λ g. rw (e, h) refl,
 )
 
--- the last digit is left out where it is a zero, and stands where it isn't
-pub end_step : (n : ℕ) (xs : List ℕ) → 0 < n → (digit xs (n - 1) ≡ 0 → end_of n xs ≡ end_of (n - 1) xs)
-    × ((digit xs (n - 1) ≡ 0 → ⊥) → end_of n xs ≡ n)
-end_step n xs h = end_test (n - 1) xs (digit xs (n - 1) == 0) refl n (omega (arith, h))
-
 significant_one : (x : ℕ) (xs : List ℕ) (b : Bool) → drop (prefix_len (λ b. b == 48) xs) xs ≡ significant xs
     → drop (cond b (1 + prefix_len (λ b. b == 48) xs) 0) (x ∷ xs) ≡ cond b (significant xs) (x ∷ xs)
 significant_one x xs true ih = rw one-add ih
 significant_one x xs false ih = refl
 
-significant_cut : (xs : List ℕ) → drop (prefix_len (λ b. b == 48) xs) xs ≡ significant xs
+pub significant_cut : (xs : List ℕ) → drop (prefix_len (λ b. b == 48) xs) xs ≡ significant xs
 significant_cut [] = refl
 significant_cut (x ∷ xs) = significant_one x xs (x == 48) (significant_cut xs)
-
-drop_both : (n : ℕ) (xs ys : List ℕ) → drop (min n (length xs)) xs ++ drop (n - length xs) ys ≡ drop n (xs ++ ys)
-drop_both zero xs ys = (let a : min 0 (length xs) ≡ 0 = omega arith in let b : 0 - length xs ≡ 0 = omega arith in
-    rw (a, b) refl)
-drop_both (suc n) [] ys = (let a : min (suc n) (length {A = ℕ} []) ≡ 0 = omega arith in let b : suc n - length {A = ℕ}
-    [] ≡ suc n = omega arith in rw (a, b) refl)
-drop_both (suc n) (x ∷ xs) ys = (let a : min (suc n) (length (x ∷ xs)) ≡ suc (min n (length xs)) = omega arith in
-    let b : suc n - length (x ∷ xs) ≡ n - length xs = omega arith in rw (a, b) (drop_both n xs ys))
-
--- the digits behind the zeros that lead
-pub behind_zeros : (w p x y all : List ℕ) (n i j : ℕ) → w ++ p ≡ all → n ≡ prefix_len (λ b. b == 48) (w ++ p)
-    → i ≡ min n (length w) → j ≡ n - length w → x ≡ drop i w → y ≡ drop j p → x ++ y ≡ significant all
-behind_zeros w p x y all n i j e hn hi hj hx hy =
-    (λ k. hx k ++ hy k) ∙ (λ k. drop (hi k) w ++ drop (hj k) p) ∙ drop_both n w p ∙ (λ k. drop (hn k) (w ++ p))
-    ∙ significant_cut (w ++ p) ∙ ap significant e
 
 has_digit_is : (xs : List ℕ) → has_digit xs ≡ ltb 0 (length xs)
 has_digit_is [] = refl

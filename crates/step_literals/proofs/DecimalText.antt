@@ -15,12 +15,12 @@ use Rattle.std.proofs.lemmas.Int.{ints}
 use Rattle.std.proofs.lemmas.List.Elements.{filter-append}
 use Rattle.std.proofs.lemmas.Bool.Decides.{nat_tests}
 use Rattle.step_literals.specs.Bytes.{is_digit, Each}
-use Rattle.step_literals.specs.Tokens.{is_sign, sign_len, IsSign, IsDigits, IsExponent}
+use Rattle.step_literals.specs.Tokens.{is_sign, is_e, sign_len, IsSign, IsDigits, IsExponent}
 use Rattle.step_literals.specs.Numbers.{exponent_text, exponent_digits}
 use Rattle.step_literals.specs.Literals.{IsNumber, IsDecimal}
 use Rattle.step_literals.specs.Decimals.{mantissa_text, mantissa_digits, part_digits, is_negative, signed, exponent, finest}
 use Rattle.step_literals.specs.DigitStrings.{shift_of}
-use Rattle.step_literals.proofs.NumberLimits.{no_e, e_is, digits_no_e, signs_no_e, each_append, prefix_passed, drop_one_more, exponent_each}
+use Rattle.step_literals.proofs.NumberLimits.{no_e, e_is, digits_no_e, signs_no_e, each_append, prefix_passed, no_exponent_text, exponent_behind_e, drop_one_more, exponent_each}
 use Rattle.step_literals.proofs.NumberLemmas.{sign_taken}
 
 abbrev pub no_dot : ℕ → Bool
@@ -91,51 +91,27 @@ signs_left_out [] h = refl
 signs_left_out (x ∷ []) h = rw (sign_no_digit x h) refl
 signs_left_out (x ∷ y ∷ ys) h = absurd h
 
--- the pieces of what stands before the exponent, as the code cuts them
+-- the pieces of a number, as the code cuts them
 abbrev unsigned : List ℕ → List ℕ
-unsigned m = drop (sign_len m) m
+unsigned t = drop (sign_len t) t
 
-abbrev whole_of : List ℕ → List ℕ
-whole_of m = take (prefix_len is_digit (unsigned m)) (unsigned m)
+abbrev run_of : List ℕ → List ℕ
+run_of l = take (prefix_len is_digit l) l
 
 abbrev rest_of : List ℕ → List ℕ
-rest_of m = drop (prefix_len is_digit (unsigned m)) (unsigned m)
+rest_of l = drop (prefix_len is_digit l) l
 
-abbrev part_of : List ℕ → List ℕ
-part_of m = drop (min (length (rest_of m)) 1) (rest_of m)
+abbrev behind_one : List ℕ → List ℕ
+behind_one l = drop (min (length l) 1) l
 
--- they are its digits
-record IsCut (m : List ℕ) : Type 0 where
-  digits : whole_of m ++ part_of m ≡ filter is_digit m
-  part : length (part_of m) ≡ length (drop (1 + prefix_len no_dot m) m)
+abbrev behind_point : List ℕ → List ℕ
+behind_point t = behind_one (rest_of (unsigned t))
 
-module _ (s w tail p : List ℕ) (hs : IsSign s) (hw : IsDigits w) (ht : IsTail tail p) where
-  unsigned_is : unsigned ((s ++ w) ++ tail) ≡ w ++ tail
-  unsigned_is = ap unsigned (append_assoc s w tail) ∙ sym (sign_taken s w tail hs hw).1
-
-  len_is : prefix_len is_digit (unsigned ((s ++ w) ++ tail)) ≡ length w
-  len_is = ap (prefix_len is_digit) unsigned_is ∙ prefix_passed is_digit w tail hw.1 ∙ omega (arith, ht.stops)
-
-  whole_is : whole_of ((s ++ w) ++ tail) ≡ w
-  whole_is = (λ i. take (len_is i) (unsigned_is i)) ∙ take-append_seam w tail
-
-  part_is : part_of ((s ++ w) ++ tail) ≡ p
-  part_is = ap (λ r. drop (min (length r) 1) r) ((λ i. drop (len_is i) (unsigned_is i)) ∙ drop-append_seam w tail)
-      ∙ ht.cut
-
-  pub digits_are : filter is_digit ((s ++ w) ++ tail) ≡ w ++ p
-  digits_are =
-      filter-append is_digit (s ++ w) tail ∙ ap (λ x. x ++ filter is_digit tail) (filter-append is_digit s w)
-      ∙ (λ i. (signs_left_out s hs i ++ filter_each is_digit w hw.1 i) ++ ht.kept i)
-
-  pub behind_is : drop (1 + prefix_len no_dot ((s ++ w) ++ tail)) ((s ++ w) ++ tail) ≡ p
-  behind_is = ht.behind (s ++ w) (each_append no_dot s w (signs_no_dot s hs) (digits_no_dot w hw.1))
-
-  cut_is : IsCut ((s ++ w) ++ tail)
-  cut_is = record {
-    digits = (λ i. whole_is i ++ part_is i) ∙ sym digits_are;
-    part = ap length (part_is ∙ sym behind_is);
-  }
+-- they are its digits and its exponent
+record IsCut (t : List ℕ) : Type 0 where
+  digits : run_of (unsigned t) ++ run_of (behind_point t) ≡ mantissa_digits t
+  part : length (run_of (behind_point t)) ≡ length (part_digits t)
+  exponent_is : behind_one (rest_of (behind_point t)) ≡ exponent_text t
 
 pub before_exponent : (front exponent : List ℕ) → Each no_e front → IsExponent exponent
     → mantissa_text (front ++ exponent) ≡ front
@@ -147,36 +123,101 @@ before_exponent front (e ∷ bs) h x =
     ∙ (rw (e_is e x.0) (omega arith)) in
     ap (λ k. take k (front ++ e ∷ bs)) n ∙ take-append_seam front (e ∷ bs)
 
-cut_number : (t : List ℕ) → IsNumber t → IsCut (mantissa_text t)
+exponent_from : (front exponent : List ℕ) → Each no_e front → IsExponent exponent
+    → exponent_text (front ++ exponent) ≡ behind_one exponent
+exponent_from front [] h x = ap exponent_text (append-nil front) ∙ no_exponent_text front h
+exponent_from front (e ∷ bs) h x =
+    let one : min (length (e ∷ bs)) 1 ≡ 1 = omega arith in
+    exponent_behind_e front bs e h x.0 ∙ ap (λ k. drop k (e ∷ bs)) (sym one)
+
+e_no_digit : (b : ℕ) → is_e b ≡ true → is_digit b ≡ false
+e_no_digit b h = grind (arith, nat_tests)
+
+exponent_stops : (x : List ℕ) → IsExponent x → prefix_len is_digit x ≡ 0
+exponent_stops [] h = refl
+exponent_stops (e ∷ bs) h = rw (e_no_digit e h.0) refl
+
+-- a run of digits, and what stands behind it
+module _ (ds r : List ℕ) (h : Each is_digit ds) (stops : prefix_len is_digit r ≡ 0) where
+  run_len : prefix_len is_digit (ds ++ r) ≡ length ds
+  run_len = prefix_passed is_digit ds r h ∙ omega (arith, stops)
+
+  run_is : run_of (ds ++ r) ≡ ds
+  run_is = ap (λ k. take k (ds ++ r)) run_len ∙ take-append_seam ds r
+
+  rest_is : rest_of (ds ++ r) ≡ r
+  rest_is = ap (λ k. drop k (ds ++ r)) run_len ∙ drop-append_seam ds r
+
+module _ (s w tail p : List ℕ) (hs : IsSign s) (hw : IsDigits w) (ht : IsTail tail p) where
+  pub digits_are : filter is_digit ((s ++ w) ++ tail) ≡ w ++ p
+  digits_are =
+      filter-append is_digit (s ++ w) tail ∙ ap (λ x. x ++ filter is_digit tail) (filter-append is_digit s w)
+      ∙ (λ i. (signs_left_out s hs i ++ filter_each is_digit w hw.1 i) ++ ht.kept i)
+
+  pub behind_is : drop (1 + prefix_len no_dot ((s ++ w) ++ tail)) ((s ++ w) ++ tail) ≡ p
+  behind_is = ht.behind (s ++ w) (each_append no_dot s w (signs_no_dot s hs) (digits_no_dot w hw.1))
+
+  -- .. of a number of this form, before an exponent
+  module _ (x : List ℕ) (hp : Each is_digit p) (hx : IsExponent x) (h : Each no_e ((s ++ w) ++ tail))
+      (stops : prefix_len is_digit (tail ++ x) ≡ 0) (cut : behind_one (tail ++ x) ≡ p ++ x) where
+    unsigned_is : unsigned (((s ++ w) ++ tail) ++ x) ≡ w ++ (tail ++ x)
+    unsigned_is =
+        let same : ((s ++ w) ++ tail) ++ x ≡ s ++ (w ++ (tail ++ x)) = simp append_assoc in
+        ap unsigned same ∙ sym (sign_taken s w (tail ++ x) hs hw).1
+
+    point_is : behind_point (((s ++ w) ++ tail) ++ x) ≡ p ++ x
+    point_is = ap behind_one (ap rest_of unsigned_is ∙ rest_is w (tail ++ x) hw.1 stops) ∙ cut
+
+    whole_run : run_of (unsigned (((s ++ w) ++ tail) ++ x)) ≡ w
+    whole_run = ap run_of unsigned_is ∙ run_is w (tail ++ x) hw.1 stops
+
+    part_run : run_of (behind_point (((s ++ w) ++ tail) ++ x)) ≡ p
+    part_run = ap run_of point_is ∙ run_is p x hp (exponent_stops x hx)
+
+    text_is : mantissa_text (((s ++ w) ++ tail) ++ x) ≡ (s ++ w) ++ tail
+    text_is = before_exponent ((s ++ w) ++ tail) x h hx
+
+    cut_is : IsCut (((s ++ w) ++ tail) ++ x)
+    cut_is = record {
+      digits = (λ i. whole_run i ++ part_run i) ∙ sym (ap (filter is_digit) text_is ∙ digits_are);
+      part = ap length (part_run ∙ sym (ap (λ m. drop (1 + prefix_len no_dot m) m) text_is ∙ behind_is));
+      exponent_is = ap (λ l. behind_one (rest_of l)) point_is ∙ ap behind_one (rest_is p x hp (exponent_stops x hx))
+          ∙ sym (exponent_from ((s ++ w) ++ tail) x h hx);
+    }
+
+cut_number : (t : List ℕ) → IsNumber t → IsCut t
 cut_number t (inl h) =
     let front = h.0 ++ h.1 in
     let each : Each no_e front = each_append no_e h.0 h.1 (signs_no_e h.0 h.2) (digits_no_e h.1 h.3.1) in
-    let same : mantissa_text t ≡ front ++ [] = ap mantissa_text (h.4 ∙ sym (append-nil front))
-    ∙ before_exponent front [] each tt ∙ sym (append-nil front) in
-    subst IsCut (sym same) (cut_is h.0 h.1 [] [] h.2 h.3 no_point)
+    let alone : (front ++ []) ++ [] ≡ t = append-nil (front ++ []) ∙ append-nil front ∙ sym h.4 in
+    subst IsCut alone (cut_is h.0 h.1 [] [] h.2 h.3 no_point [] tt tt
+    (subst (Each no_e) (sym (append-nil front)) each) refl refl)
 cut_number t (inr h) =
     let front = h.0 ++ h.1 ++ 46 ∷ h.2 in
     let each : Each no_e front = each_append no_e (h.0 ++ h.1) (46 ∷ h.2) (each_append no_e h.0 h.1 (signs_no_e h.0 h.4)
     (digits_no_e h.1 h.5.1)) (refl, digits_no_e h.2 h.6) in
-    let same : mantissa_text t ≡ front = ap mantissa_text h.8 ∙ before_exponent front h.3 each h.7 in
-    subst IsCut (sym same) (cut_is h.0 h.1 (46 ∷ h.2) h.2 h.4 h.5 (point h.2 h.6))
+    let one : min (length (46 ∷ (h.2 ++ h.3))) 1 ≡ 1 = omega arith in
+    subst IsCut (sym h.8) (cut_is h.0 h.1 (46 ∷ h.2) h.2 h.4 h.5 (point h.2 h.6) h.3 h.6 h.7 each refl
+    (ap (λ k. drop k (46 ∷ (h.2 ++ h.3))) one))
 
-cut_prop : (m : List ℕ) → IsProp (IsCut m)
-cut_prop m = hlevel (is_set ℕ_set, ℕ_set)
+cut_prop : (t : List ℕ) → IsProp (IsCut t)
+cut_prop t = hlevel (is_set ℕ_set, ℕ_set, is_set ℕ_set)
 
--- the digits that the code cuts out of a decimal
-pub parts_cut : (t m u w r p : List ℕ) (n k d j : ℕ) → ∥ IsDecimal t ∥₁ → n ≡ prefix_len no_e t → m ≡ take n t
-    → k ≡ sign_len m → u ≡ drop k m → d ≡ prefix_len is_digit u → w ≡ take d u → r ≡ drop d u
-    → j ≡ min (length r) 1 → p ≡ drop j r → (w ++ p ≡ mantissa_digits t) × (length p ≡ length (part_digits t))
-parts_cut t m u w r p n k d j h hn hm hk hu hd hw hr hj hp =
-    let cut : IsCut (mantissa_text t) = ∥∥₁_elim h (cut_prop (mantissa_text t)) (λ x. cut_number t x.number) in
-    let em : m ≡ mantissa_text t = hm ∙ ap (λ i. take i t) hn in
-    let eu : u ≡ unsigned (mantissa_text t) = hu ∙ ap (λ i. drop i m) hk ∙ ap unsigned em in
-    let ew : w ≡ whole_of (mantissa_text t) = hw ∙ ap (λ i. take i u) hd ∙ ap (λ l. take (prefix_len is_digit l) l) eu
-    in
-    let er : r ≡ rest_of (mantissa_text t) = hr ∙ ap (λ i. drop i u) hd ∙ ap (λ l. drop (prefix_len is_digit l) l) eu in
-    let ep : p ≡ part_of (mantissa_text t) = hp ∙ ap (λ i. drop i r) hj ∙ ap (λ l. drop (min (length l) 1) l) er in
-    ((λ i. ew i ++ ep i) ∙ cut.digits, ap length ep ∙ cut.part)
+-- the digits and the exponent that the code cuts out of a decimal
+pub parts_cut : (t u w r b p l x : List ℕ) (k d j e n : ℕ) → ∥ IsDecimal t ∥₁ → k ≡ sign_len t → u ≡ drop k t
+    → d ≡ prefix_len is_digit u → w ≡ take d u → r ≡ drop d u → j ≡ min (length r) 1 → b ≡ drop j r
+    → e ≡ prefix_len is_digit b → p ≡ take e b → l ≡ drop e b → n ≡ min (length l) 1 → x ≡ drop n l
+    → (w ++ p ≡ mantissa_digits t) × (length p ≡ length (part_digits t)) × (x ≡ exponent_text t)
+parts_cut t u w r b p l x k d j e n h hk hu hd hw hr hj hb he hp hl hn hx =
+    let cut : IsCut t = ∥∥₁_elim h (cut_prop t) (λ y. cut_number t y.number) in
+    let eu : u ≡ unsigned t = hu ∙ ap (λ i. drop i t) hk in
+    let ew : w ≡ run_of (unsigned t) = hw ∙ ap (λ i. take i u) hd ∙ ap run_of eu in
+    let er : r ≡ rest_of (unsigned t) = hr ∙ ap (λ i. drop i u) hd ∙ ap rest_of eu in
+    let eb : b ≡ behind_point t = hb ∙ ap (λ i. drop i r) hj ∙ ap behind_one er in
+    let ep : p ≡ run_of (behind_point t) = hp ∙ ap (λ i. take i b) he ∙ ap run_of eb in
+    let el : l ≡ rest_of (behind_point t) = hl ∙ ap (λ i. drop i b) he ∙ ap rest_of eb in
+    let ex : x ≡ behind_one (rest_of (behind_point t)) = hx ∙ ap (λ i. drop i l) hn ∙ ap behind_one el in
+    ((λ i. ew i ++ ep i) ∙ cut.digits, ap length ep ∙ cut.part, ex ∙ cut.exponent_is)
 
 pub part_short : (t : List ℕ) → ∥ IsDecimal t ∥₁ → length (part_digits t) ≤ 400
 part_short t h = omega (arith, text_short t h, length-drop {A = ℕ}, length-take {A = ℕ})

@@ -12,6 +12,7 @@ pub mod CharacterLemmas
 pub mod ItemLemmas
 pub mod ItemExamples
 pub mod NumberLemmas
+pub mod PlainBytes
 pub mod NumberCuts
 pub mod DigitLemmas
 pub mod NumberLimits
@@ -19,6 +20,7 @@ pub mod WholeNumbers
 pub mod BinaryLemmas
 pub mod LiteralLemmas
 pub mod DecimalDigits
+pub mod DigitSlices
 pub mod DecimalText
 pub mod UnitLemmas
 pub mod LesserExponent

@@ -58,30 +58,6 @@ each_at p [] k h lt = absurd (omega arith)
 each_at p (x ∷ xs) zero h lt = h.0
 each_at p (x ∷ xs) (suc k) h lt = each_at p xs k h.1 (omega arith)
 
-prefix_one : (p : ℕ → Bool) (xs ys : List ℕ) (t : Bool)
-    → (prefix_len p xs < length xs → prefix_len p (xs ++ ys) ≡ prefix_len p xs) → cond t (1 + prefix_len p xs) 0 < suc
-    (length xs)
-    → cond t (1 + prefix_len p (xs ++ ys)) 0 ≡ cond t (1 + prefix_len p xs) 0
-prefix_one p xs ys true ih h = ap (λ n. 1 + n) (ih (omega (arith, h)))
-prefix_one p xs ys false ih h = refl
-
-pub prefix_front : (p : ℕ → Bool) (xs ys : List ℕ) → prefix_len p xs < length xs → prefix_len p (xs ++ ys) ≡ prefix_len
-    p xs
-prefix_front p [] ys h = absurd (omega (arith, h))
-prefix_front p (x ∷ xs) ys h = prefix_one p xs ys (p x) (λ lt. prefix_front p xs ys lt) h
-
-prefix_two : (p : ℕ → Bool) (xs ys : List ℕ) (t : Bool)
-    → (length xs ≤ prefix_len p xs → prefix_len p (xs ++ ys) ≡ prefix_len p xs + prefix_len p ys)
-    → suc (length xs) ≤ cond t (1 + prefix_len p xs) 0
-    → cond t (1 + prefix_len p (xs ++ ys)) 0 ≡ cond t (1 + prefix_len p xs) 0 + prefix_len p ys
-prefix_two p xs ys true ih h = omega (arith, ih (omega (arith, h)))
-prefix_two p xs ys false ih h = absurd (omega (arith, h))
-
-pub prefix_all : (p : ℕ → Bool) (xs ys : List ℕ) → length xs ≤ prefix_len p xs → prefix_len p (xs ++ ys) ≡ prefix_len p
-    xs + prefix_len p ys
-prefix_all p [] ys h = omega arith
-prefix_all p (x ∷ xs) ys h = prefix_two p xs ys (p x) (λ lt. prefix_all p xs ys lt) h
-
 -- a list that begins with a byte
 pub begins_with : (b : ℕ) (l rest : List ℕ) → take 1 l ≡ b ∷ [] → rest ≡ drop 1 l → l ≡ b ∷ rest
 begins_with b l rest h e = sym (take-append-drop 1 l) ∙ (λ i. h i ++ sym e i)

@@ -9,7 +9,7 @@ use Rattle.std.proofs.lemmas.Bool.{cases_order}
 use Rattle.step_literals.specs.declared.literal.Decimal.{Decimal}
 use Rattle.step_literals.specs.Decimals.{is_negative, units}
 use Rattle.step_literals.specs.DigitStrings.{is_significant, has_digit, magnitude, top, end_of, front_value, significant_digits, shift_of, is_below_zero}
-use Rattle.step_literals.specs.DecimalKeys.{units_of, front_writes, digit_writes, key, key_writes}
+use Rattle.step_literals.specs.DecimalKeys.{units_of, front_writes, key, key_writes}
 use Rattle.step_literals.specs.MagnitudeLemmas.{digit_small, magnitude_none, less_by_top}
 use Rattle.step_literals.specs.NormalFormLemmas.{signed_same, units_by_digits, digits_significant, normal_unique, magnitude_end, end_within, end_last, end_some, magnitude_some}
 
@@ -42,16 +42,17 @@ module _ (xs ys : List ℕ) (hx : is_significant xs ≡ true) (hy : is_significa
       let fewer : front_value n xs ≡ front_value n ys = omega (arith, e, digit_small xs hx n, digit_small ys hy n) in
       λ i. same_front_writes n fewer i ++ (if n % 19 == 18 then fed.u64 (e i % 2 ^ 64) else [])
 
-  same_digit_writes : (n m : ℕ) → n ≡ m → front_value n xs ≡ front_value m ys
-      → (n ≡ m) × (digit_writes n xs ≡ digit_writes m ys)
-  same_digit_writes n m same e =
+  same_of_fronts : (n m : ℕ) → n ≡ m → front_value n xs ≡ front_value m ys
+      → (n ≡ m) × (front_value n xs ≡ front_value m ys) × (front_writes n xs ≡ front_writes m ys)
+  same_of_fronts n m same e =
       let one : front_value n xs ≡ front_value n ys = e ∙ ap (λ k. front_value k ys) (sym same) in
-      (same, (λ i. same_front_writes n one i ++ fed.u64 (one i % 2 ^ 64)) ∙ ap (λ k. digit_writes k ys) same)
+      (same, e, same_front_writes n one ∙ ap (λ k. front_writes k ys) same)
 
 same_digits : (xs ys : List ℕ) (a b : ℕ) → is_significant xs ≡ true → is_significant ys ≡ true
     → magnitude xs a ≡ magnitude ys b → (end_of (length xs) xs ≡ end_of (length ys) ys)
-    × (digit_writes (end_of (length xs) xs) xs ≡ digit_writes (end_of (length ys) ys) ys)
-same_digits [] [] a b hx hy e = (refl, refl)
+    × (front_value (end_of (length xs) xs) xs ≡ front_value (end_of (length ys) ys) ys)
+    × (front_writes (end_of (length xs) xs) xs ≡ front_writes (end_of (length ys) ys) ys)
+same_digits [] [] a b hx hy e = (refl, refl, refl)
 same_digits [] (y ∷ ys) a b hx hy e = absurd (omega (arith, e, magnitude_none a, magnitude_some y ys b hy))
 same_digits (x ∷ xs) [] a b hx hy e = absurd (omega (arith, e, magnitude_none b, magnitude_some x xs a hx))
 same_digits (x ∷ xs) (y ∷ ys) a b hx hy e =
@@ -59,7 +60,7 @@ same_digits (x ∷ xs) (y ∷ ys) a b hx hy e =
     let tops = same_top (x ∷ xs) (y ∷ ys) a b hx hy e in
     let one = end_within (x ∷ xs) a hx in
     let two = end_within (y ∷ ys) b hy in
-    same_digit_writes (x ∷ xs) (y ∷ ys) hx hy (end_of (length (x ∷ xs)) (x ∷ xs)) (end_of (length (y ∷ ys)) (y ∷ ys))
+    same_of_fronts (x ∷ xs) (y ∷ ys) hx hy (end_of (length (x ∷ xs)) (x ∷ xs)) (end_of (length (y ∷ ys)) (y ∷ ys))
     (omega (arith, fronts.1, tops, one, two)) fronts.0
 
 same_sign : (xs ys : List ℕ) (a b : ℕ) (p q : Bool) → is_significant xs ≡ true → is_significant ys ≡ true
@@ -79,8 +80,8 @@ key_same s t e =
     let sign = same_sign xs ys a b (is_negative s) (is_negative t) hx hy u.0 u.1 in
     let digits = same_digits xs ys a b hx hy u.0 in
     let tops = same_top xs ys a b hx hy u.0 in
-    (λ i. (2 * digits.0 i + cond (sign i) 1 0, digits.1 i, tops i))
+    (λ i. (digits.1 i % 2 ^ 64 + 2 ^ 64 * (2 * digits.0 i + cond (sign i) 1 0 + 2 ^ 10 * tops i), digits.2 i))
 
 pub key_respects_eq : (x y : Decimal) → IsTrue (on units_of int_eq x y) → key_writes x ≡ key_writes y
-key_respects_eq x y h = ap (λ (k : ℕ × List (List ℕ) × ℕ). fed.u32 k.0 ++ (k.1 ++ fed.u64 k.2))
+key_respects_eq x y h = ap (λ (k : ℕ × List (List ℕ)). fed.u128 k.0 ++ k.1)
     (key_same x.text.now y.text.now ((signed_Decides (units x.text.now) (units y.text.now)).0 h))

@@ -1,5 +1,5 @@
 -- What a number feeds a hasher: what all numbers worth the same share, and no others.
-use Rattle.std.specs.Prelude.{ℕ, zero, suc, ◌+◌, ◌*◌, ◌%◌, ◌^◌, ◌==◌, List, [], ◌++◌, length, ℤ, if◌then◌else◌}
+use Rattle.std.specs.Prelude.{Bool, ℕ, zero, suc, ◌+◌, ◌*◌, ◌%◌, ◌^◌, ◌==◌, List, [], ◌++◌, length, ℤ, if◌then◌else◌}
 use Rattle.std.specs.Hash as fed
 use Rattle.step_literals.specs.declared.literal.Decimal.{Decimal}
 use Rattle.step_literals.specs.Decimals.{units}
@@ -18,17 +18,18 @@ abbrev pub front_writes : ℕ → List ℕ → List (List ℕ)
 front_writes zero xs = []
 front_writes (suc n) xs = front_writes n xs ++ (if n % 19 == 18 then front_write (suc n) xs else [])
 
--- .. and at the last of them
-abbrev pub digit_writes : ℕ → List ℕ → List (List ℕ)
-digit_writes n xs = front_writes n xs ++ front_write n xs
+-- in one number what the first n of at most 400 digits write, modulo 2^64; above that n, twice, and one more below zero;
+-- and above that the power of ten above the first
+abbrev pub summary : ℕ → Bool → List ℕ → ℕ → ℕ
+summary n below_zero xs power =
+    front_value n xs % 2 ^ 64 + 2 ^ 64 * (2 * n + (if below_zero then 1 else 0) + 2 ^ 10 * power)
 
--- what numbers worth the same share: how many digits stand between the zeros, twice, and one more below zero; these
--- digits; and the power of ten above the first
-abbrev pub key : List ℕ → ℕ × List (List ℕ) × ℕ
+-- what numbers worth the same share: the summary of the digits that stand between the zeros, and these digits
+abbrev pub key : List ℕ → ℕ × List (List ℕ)
 key t =
     let xs = significant_digits t in
     let n = end_of (length xs) xs in
-    (2 * n + (if is_below_zero t then 1 else 0), digit_writes n xs, top xs (shift_of t))
+    (summary n (is_below_zero t) xs (top xs (shift_of t)), front_writes n xs)
 
 abbrev pub key_writes : Decimal → List (List ℕ)
-key_writes d = let k = key d.text.now in fed.u32 k.0 ++ (k.1 ++ fed.u64 k.2)
+key_writes d = let k = key d.text.now in fed.u128 k.0 ++ k.1

@@ -5,7 +5,8 @@ use Rattle.std.specs.Cmp.Lexicographic.{pointwise}
 use Rattle.std.specs.Hash as fed
 use Rattle.std.specs.List.{flat_map}
 use Rattle.std.specs.Ordering.{on}
-use Rattle.step_literals.specs.Items.{text_items}
+use Rattle.step_literals.specs.Items.{items_of, pieces_of, text_items}
+use Rattle.step_literals.specs.Strings.{clean}
 use Rattle.step_literals.specs.declared.literal.items.Item.{Item}
 use Rattle.step_literals.specs.declared.literal.items.Item.TheVariants.{Code, Page, Raw}
 use Rattle.step_literals.specs.declared.literal.Text.{Text}
@@ -36,6 +37,10 @@ abbrev pub item_writes : Item → List (List ℕ)
 item_writes (Code c) = code_writes c
 item_writes (Page p b) = fed.u8 129 ++ (fed.u8 p ++ fed.u8 b)
 item_writes (Raw b) = fed.u8 130 ++ fed.u8 b
+
+-- .. of what stands between apostrophes
+abbrev pub content_writes : List ℕ → List (List ℕ)
+content_writes bs = flat_map item_writes (items_of 1 (pieces_of (clean bs)))
 
 abbrev pub text_writes : Text → List (List ℕ)
 text_writes t = flat_map item_writes (text_items t) ++ fed.u8 255

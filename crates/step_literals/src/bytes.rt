@@ -2,7 +2,7 @@
 ghost use Rattle.std.specs.Prelude.{◌≡◌, ◌≤◌, ◌<◌, ◌↔◌, IsTrue, true, length};
 ghost use Rattle.std.specs.Char.{digit_value};
 ghost use Rattle.std.specs.List.{prefix_len};
-ghost use Rattle.step_literals.specs.Bytes.{is_digit, is_letter, is_word_byte, is_hex};
+ghost use Rattle.step_literals.specs.Bytes.{is_digit, is_letter, is_word_byte, is_hex, is_plain};
 ghost use Rattle.step_literals.specs.Tokens.{IsKeyword};
 
 pub fn is_digit(b: u8) -> bool
@@ -57,6 +57,13 @@ pub fn is_hex(b: u8) -> bool
     ensures { result ≡ is_hex b }
 {
     matches!(b, b'0'..=b'9' | b'A'..=b'F' | b'a'..=b'f')
+}
+
+/// Whether a byte of a string is a character by itself, whatever stands around it.
+pub fn is_plain(b: u8) -> bool
+    ensures { result ≡ is_plain b }
+{
+    matches!(b, b' '..=b'&' | b'('..=b'[' | b']'..=b'~')
 }
 
 /// How many hexadecimal digits the bytes begin with.

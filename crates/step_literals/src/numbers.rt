@@ -122,30 +122,23 @@ pub fn number_of(digits: &[u8]) -> Option<u64>
 }
 
 /// How many bytes come before the first `E`.
-pub fn mantissa_len(number: &[u8]) -> usize
+fn mantissa_len(number: &[u8]) -> usize
     ensures within { result ≤ length number.now }
     ensures len { result ≡ prefix_len (λ b. not (is_e b)) number.now }
 {
     number.iter().take_while(|b| !is_e(**b)).count()
 }
 
-/// The bytes behind the `E`, none where there is none, where so many stand before it.
-pub fn exponent_behind(number: &[u8], mantissa: usize) -> &[u8]
-    requires { mantissa ≡ prefix_len (λ b. not (is_e b)) number.now }
-    ensures { result.now ≡ exponent_text number.now }
-{
-    if mantissa >= number.len() {
-        return b"";
-    }
-    let (_, exponent) = number.split_at(mantissa + 1);
-    exponent
-}
-
 /// The bytes behind the `E`, none where there is none.
 pub fn exponent_text(number: &[u8]) -> &[u8]
     ensures { result.now ≡ exponent_text number.now }
 {
-    exponent_behind(number, mantissa_len(number))
+    let mantissa = mantissa_len(number);
+    if mantissa == number.len() {
+        return b"";
+    }
+    let (_, exponent) = number.split_at(mantissa + 1);
+    exponent
 }
 
 /// Whether the bytes begin with `-`.

@@ -1,28 +1,27 @@
 -- What the passes over a population pin together.
-use Rattle.std.specs.Prelude.{◌≡◌, ℕ, ◌==◌, Bool, true, false, cond, IsTrue, List, [], ◌∷◌, map, Option, None, Some, ◌⊎◌, ◌↔◌}
+use Rattle.std.specs.Prelude.{◌≡◌, ℕ, ◌==◌, Bool, true, false, cond, IsTrue, List, [], ◌∷◌, Option, None, Some, ◌⊎◌, ◌↔◌}
 use Rattle.std.specs.BTreeMap.{is_at}
 use Rattle.std.specs.BTreeSet.{BTreeSet}
-use Rattle.std.specs.List.{AllZip, IsDistinct, AllByRecursion, list_any}
+use Rattle.std.specs.List.{AllZip, IsDistinct, list_any}
 use Rattle.std.specs.Ordering.{nat_cmp}
 use Rattle.std.proofs.Common.{refl, sym, ap, subst, ◌∙◌, inl, inr}
-use Rattle.std.proofs.lemmas.Bool.{eqb-true, eq-eqb}
-use Rattle.std.proofs.lemmas.Map.Keys.{IsDistinct-head, IsDistinct-tail}
+use Rattle.std.proofs.lemmas.Bool.{eqb-true}
 use Rattle.express_syntax.specs.Schemas.{Schema}
 use Rattle.schema_semantics.specs.Names.{Name, OneOf, Among}
 use Rattle.schema_semantics.specs.Attributes.{Place}
 use Rattle.conformance.specs.Bases.{Domain}
 use Rattle.conformance.specs.Entities.{Entities}
 use Rattle.conformance.specs.Fitting.{among}
-use Rattle.conformance.specs.Populations.{Slot, Instance, slot_at, instance_at, types_in, types_at}
-use Rattle.conformance.specs.Standing.{InBag, StandsInBag}
+use Rattle.conformance.specs.Populations.{Instance, slot_at, instance_at, types_in, types_at}
+use Rattle.conformance.specs.Standing.{StandsInBag}
 use Rattle.conformance.specs.RuleLaws.{names}
 use Rattle.conformance.specs.Pins.{HasUnchosenLeaf, OccursAt, IsInKey, IsInverseSide, StandsInsideUnique, IsPinnedElsewhere, IsWeaklyPinned}
 use Rattle.conformance.specs.Rules.{UniqueRule, Rules}
-use Rattle.conformance.proofs.Holding.{named_at}
+use Rattle.conformance.proofs.Holding.{at_own_name, named_at}
 use Rattle.conformance.proofs.Standing.{one_is, found}
 use Rattle.step_equal.specs.Maps.{is_pinned}
 use Rattle.step_pins.specs.Pinning.{Pins}
-use Rattle.step_pins.specs.Rows.{ArePinned, StandsInKey, PinsByForm}
+use Rattle.step_pins.specs.Rows.{StandsInKey, PinsByForm}
 
 -- the instance of a name
 at-some : (y : ℕ) (is : List Instance) (x : Instance) → instance_at is y ≡ Some x → Among x is × (y ≡ x.name)
@@ -43,30 +42,13 @@ at-types y is P none h = by (instance_at is y) refl h
     by None e k = absurd (none k)
     by (Some x) e k = let (there, named) = at-some y is x e in (x, there, named, k)
 
-differs : (n : ℕ) (x : Instance) (zs : List Instance) → AllByRecursion (λ y. (n == y) ≡ false) (names zs) → Among x zs
-    → (n == x.name) ≡ false
-differs n x [] h m = absurd m
-differs n x (z ∷ zs) h (inl e) = subst (λ (w : Instance). (n == w.name) ≡ false) e h.0
-differs n x (z ∷ zs) h (inr m) = differs n x zs h.1 m
-
-at-name : (x : Instance) (is : List Instance) → IsDistinct (◌==◌) (names is) → Among x is
-    → instance_at is x.name ≡ Some x
-at-name x [] h m = absurd m
-at-name x (z ∷ is) h (inl e) =
-    subst (λ (w : Instance). cond (z.name == w.name) (Some z) (instance_at is w.name) ≡ Some w) e
-    (ap (λ (b : Bool). cond b (Some z) (instance_at is z.name)) (eq-eqb z.name z.name refl))
-at-name x (z ∷ is) h (inr m) =
-    ap (λ (b : Bool). cond b (Some z) (instance_at is x.name))
-    (differs z.name x is (IsDistinct-head (◌==◌) z.name (names is) h) m)
-    ∙ at-name x is (IsDistinct-tail (◌==◌) z.name (names is) h) m
-
 module _ (s : Schema) (d : Domain) (en : Entities) (rules : Rules) (chosen : List Name) (is : List Instance)
     (distinct : IsDistinct (◌==◌) (names is)) (y : ℕ) where
   abbrev ByForm : Instance → Type 0
   ByForm x = PinsByForm s en chosen rules.uniques y x
 
   types-of : (x : Instance) → Among x is → types_at is x.name ≡ x.types
-  types-of x m = ap types_in (at-name x is distinct m)
+  types-of x m = ap types_in (at_own_name x is distinct m)
 
   -- of the instance of a name
   own-types : (x : Instance) → Among x is → y ≡ x.name → x.types ≡ types_at is y

@@ -1,5 +1,5 @@
 -- The SETs and BAGs among the values of attributes, one by one.
-use Rattle.std.specs.Prelude.{◌≡◌, ℕ, zero, suc, ◌+◌, ◌<◌, ◌≤◌, List, [], ◌∷◌, length, drop, Option, None, Some, ◌⊎◌, ◌↔◌}
+use Rattle.std.specs.Prelude.{◌≡◌, ℕ, zero, suc, ◌+◌, ◌<◌, ◌≤◌, false, List, [], ◌∷◌, length, drop, Option, None, Some, ◌⊎◌, ◌↔◌}
 use Rattle.std.specs.BTreeSet.{BTreeSet}
 use Rattle.std.proofs.Common.{refl, sym, ap, subst, ◌∙◌, arith, add-one}
 use Rattle.express_syntax.specs.Schemas.{Schema}
@@ -8,11 +8,20 @@ use Rattle.conformance.specs.Populations.{Slot}
 use Rattle.conformance.specs.Standing.{InBag}
 use Rattle.population_rows.specs.declared.form.SlotForm.{SlotForm}
 use Rattle.population_typed.specs.Rows.{slots_seen}
-use Rattle.step_values.specs.Slots.{nth}
-use Rattle.step_values.specs.Values.{Value, Values, none, more}
+use Rattle.step_values.specs.Slots.{kind_of, nth}
+use Rattle.step_values.specs.Values.{Value, leaf, reference, typed, sequence, bag, Values, none, more}
 use Rattle.step_values.proofs.Walks.{after, after_at}
+use Rattle.step_pins.specs.Bags.{is_of_parts}
 use Rattle.step_pins.specs.Pinning.{Pins, PinsUpTo}
 use Rattle.step_pins.proofs.Pinning as pinning
+
+-- values of other kinds have no SETs and BAGs in them
+pub none-bagged : (y : ℕ) (v : Value) → is_of_parts (kind_of v) ≡ false → InBag y v → ⊥
+none-bagged y (leaf a) e h = h
+none-bagged y (reference z) e h = h
+none-bagged y (typed n v) e h = absurd (cc)
+none-bagged y (sequence vs) e h = absurd (cc)
+none-bagged y (bag vs) e h = absurd (cc)
 
 drop-some : {A : Type 0} (xs : List A) (i : ℕ) → i < length xs → (x : A) × (drop i xs ≡ x ∷ drop (i + 1) xs)
 drop-some [] i lt = absurd (omega (arith, lt))

@@ -9,4 +9,5 @@ pub mod Runs
 pub mod Sides
 pub mod Lists
 pub mod Pinned
+pub mod Bags
 pub mod Gathering

@@ -1,24 +1,47 @@
 //! Pinning what stands in SETs and BAGs (ISO 10303-11, 8.2.3 and 8.2.4).
 
-ghost use Rattle.std.specs.Prelude.{OnOk};
+ghost use Rattle.std.specs.Prelude.{◌≡◌, OnOk};
 ghost use Rattle.conformance.specs.Standing.{InBag, InBagOf};
+ghost use Rattle.step_values.specs.Slots.{kind_of, node_value};
+ghost use Rattle.step_pins.specs.Bags.{is_of_parts};
 ghost use Rattle.step_pins.specs.Pinning.{Pins};
 
 use crate::targets::pin_each_target;
 use std::alloc::AllocError;
 use std::collections::BTreeSet;
-use step_values::slot::{Node, Slot, Slots};
+use step_values::slot::{Kind, Node, Slot, Slots};
+
+/// Whether a value can have values in it.
+fn has_parts(value: &Slot<'_, '_>) -> bool
+    ensures { result ≡ is_of_parts (kind_of value.now) }
+{
+    matches!(value.kind(), Kind::Typed | Kind::List | Kind::Bag)
+}
 
 /// Pins the instances that stand, at any depth, in a SET or BAG that a value is or has in it at any
 /// depth. `AllocError` comes where memory runs out.
 #[cycle(bags)]
+#[inline(always)]
 pub fn pin_in_bags(pinned: &mut BTreeSet<u64>, value: &Slot<'_, '_>) -> Result<(), AllocError>
     ensures { OnOk result (Pins (λ y. InBag y value.now) pinned.old pinned.new) }
 {
-    match value.node() {
-        Node::Typed(_, inner) => pin_in_bags(pinned, &inner),
-        Node::Sequence(values) => pin_in_bags_of_each(pinned, &values),
-        Node::Bag(values) => pin_each_target(pinned, &values),
+    // most values have none in them
+    if !has_parts(value) {
+        return Ok(());
+    }
+    pin_in_bags_of_node(pinned, &value.node())
+}
+
+/// .. that an outermost part is or has in it.
+#[cycle(bags)]
+#[inline(never)]
+fn pin_in_bags_of_node(pinned: &mut BTreeSet<u64>, node: &Node<'_, '_>) -> Result<(), AllocError>
+    ensures { OnOk result (Pins (λ y. InBag y (node_value node.now)) pinned.old pinned.new) }
+{
+    match node {
+        Node::Typed(_, inner) => pin_in_bags(pinned, inner),
+        Node::Sequence(values) => pin_in_bags_of_each(pinned, values),
+        Node::Bag(values) => pin_each_target(pinned, values),
         _ => Ok(()),
     }
 }

@@ -1,6 +1,6 @@
 //! The pins of a population by the weak rules, and what the gentle ones are found by.
 
-ghost use Rattle.std.specs.Prelude.{ℕ, List, IsTrue, ◌⊎◌, ◌↔◌, IfOk, OnOk};
+ghost use Rattle.std.specs.Prelude.{◌≡◌, ℕ, List, IsTrue, ◌⊎◌, ◌↔◌, IfOk, OnOk};
 ghost use Rattle.express_syntax.specs.Schemas.{Schema};
 ghost use Rattle.schema_semantics.specs.Names.{OneOf};
 ghost use Rattle.conformance.specs.Bases.{Domain, IsDomain};
@@ -67,6 +67,14 @@ fn pin_by_table(
     pin_in_lists(alloc, pinned, &classes, lists)
 }
 
+/// The pins of a population by the gentle rules.
+#[derive(Drop)]
+pub struct GentlePins {
+    pub pins: Pins,
+    /// Whether the weak rules pin the same instances.
+    pub are_weak: bool,
+}
+
 impl WeakPins {
     /// These pins and, of each LIST or ARRAY OF UNIQUE of the population that they are of, the
     /// elements that have another instance of their class at the table's last round beside them
@@ -90,5 +98,34 @@ impl WeakPins {
         let mut names = self.pins.names.clone()?;
         pin_by_table(alloc, keys, &mut names, &self.lists, table)?;
         Ok(Pins { names })
+    }
+
+    /// The pins that `gentle` gives, where the weak ones aren't needed any more: theirs go on with those
+    /// that are added.
+    ///
+    /// `AllocError` comes where memory runs out; for 2^32 members or more there is none.
+    pub fn into_gentle(
+        self,
+        alloc: Global,
+        keys: RandomState,
+        table: &Table,
+    ) -> Result<GentlePins, AllocError>
+        ensures pins { (s : Schema) (is : List Instance) → AreUniqueOf s is self.lists
+            → (d : Domain) (en : Entities) → IsDomain s d → AreEntities s en
+            → IfOk result (λ t. (y : ℕ) → IsTrue (is_pinned t.pins y)
+            ↔ (IsTrue (is_pinned self.pins y) ⊎ OneOf (StandsBesideItsClass s d en
+            (shares (table_of table.now) table.now.rounds) y) is)) }
+        ensures weak { IfOk result (λ t. IsTrue t.are_weak
+            ↔ ((y : ℕ) → is_pinned t.pins y ≡ is_pinned self.pins y)) }
+    {
+        let WeakPins { pins, lists } = self;
+        let mut names = pins.names;
+        let count = names.len();
+        pin_by_table(alloc, keys, &mut names, &lists, table)?;
+        let are_weak = names.len() == count;
+        Ok(GentlePins {
+            pins: Pins { names },
+            are_weak,
+        })
     }
 }

@@ -33,7 +33,7 @@ ghost use Rattle.step_population.specs.Making.{
 };
 
 use population_faults::keywords::is_internal;
-use population_fits::values::push_value;
+use population_fits::values::push_of_type;
 use population_rows::form::{Form, SlotForm};
 use population_rows::index::RowIndex;
 use population_rows::rows::{Rows, form_at};
@@ -56,31 +56,30 @@ pub struct Maker<'a, 't, 'r> {
 
 /// Pushes the value of an attribute, by its parameter: one that is derived, however it is spelt, or
 /// a value of the first of its data types.
-fn push_slot<'p: 'v, 'v>(
+fn push_slot<'a>(
     maker: &Maker<'_, '_, '_>,
-    builder: &mut RowBuilder<'_, 'v>,
+    builder: &mut RowBuilder<'_, 'a>,
     slot: &SlotForm,
-    param: &Param<'p>,
+    param: Param<'a, '_>,
 ) -> Result<(), AllocError>
     requires maker { IsMaker maker.now builder.old.names }
-    requires ready { IsReady (schema_of_maker maker.now) (found_by maker.now) slot.now param.now }
+    requires ready { IsReady (schema_of_maker maker.now) (found_by maker.now) slot.now param }
     ensures { OnOk result (Adds maker.now builder.old builder.new
-        (λ d. value_by (schema_of_maker maker.now) d slot.now param.now ∷ [])) }
+        (λ d. value_by (schema_of_maker maker.now) d slot.now param.entry ∷ [])) }
 {
     if slot.is_derived {
         return builder.push_derived();
     }
     let number = slot.data_types[0];
-    let base = maker.bases.of_number(number);
-    push_value(&maker.bases, builder, &base, maker.index, param)
+    push_of_type(&maker.bases, builder, number, maker.index, param)
 }
 
 /// Pushes the values of attributes in turn, by the parameters of a record.
-fn push_record<'p: 'v, 'v>(
+fn push_record<'a>(
     maker: &Maker<'_, '_, '_>,
-    builder: &mut RowBuilder<'_, 'v>,
+    builder: &mut RowBuilder<'_, 'a>,
     slots: &[SlotForm],
-    values: &Params<'p>,
+    values: &Params<'a, '_>,
 ) -> Result<(), AllocError>
     requires maker { IsMaker maker.now builder.old.names }
     requires ready { AreReady (schema_of_maker maker.now) (found_by maker.now) slots.now
@@ -92,17 +91,17 @@ fn push_record<'p: 'v, 'v>(
         let Some(param) = values.item(i) else {
             return Ok(());
         };
-        push_slot(maker, builder, &slots[i], &param)?;
+        push_slot(maker, builder, &slots[i], param)?;
     }
     Ok(())
 }
 
 /// Pushes the values of attributes in turn, by the parameters of partial records as they stand.
-fn push_partials<'p: 'v, 'v>(
+fn push_partials<'a>(
     maker: &Maker<'_, '_, '_>,
-    builder: &mut RowBuilder<'_, 'v>,
+    builder: &mut RowBuilder<'_, 'a>,
     slots: &[SlotForm],
-    partials: &Params<'p>,
+    partials: &Params<'a, '_>,
 ) -> Result<(), AllocError>
     requires maker { IsMaker maker.now builder.old.names }
     requires ready { AreReady (schema_of_maker maker.now) (found_by maker.now) slots.now
@@ -122,11 +121,11 @@ fn push_partials<'p: 'v, 'v>(
 }
 
 /// Pushes the values of the attributes of an instance, by its records.
-fn push_instance<'p: 'v, 'v>(
+fn push_instance<'a>(
     maker: &Maker<'_, '_, '_>,
-    builder: &mut RowBuilder<'_, 'v>,
+    builder: &mut RowBuilder<'_, 'a>,
     slots: &[SlotForm],
-    parts: &Params<'p>,
+    parts: &Params<'a, '_>,
 ) -> Result<(), AllocError>
     requires maker { IsMaker maker.now builder.old.names }
     requires ready { AreReady (schema_of_maker maker.now) (found_by maker.now) slots.now
@@ -143,11 +142,11 @@ fn push_instance<'p: 'v, 'v>(
 }
 
 /// Makes the row of an instance of this form; one of no form has no values.
-fn push_row<'p: 'v, 'v>(
+fn push_row<'a>(
     maker: &Maker<'_, '_, '_>,
-    builder: &mut RowBuilder<'_, 'v>,
+    builder: &mut RowBuilder<'_, 'a>,
     form: Option<&Form>,
-    instance: &Param<'p>,
+    instance: &Param<'a, '_>,
 ) -> Result<(), AllocError>
     requires maker { IsMaker maker.now builder.old.names }
     requires whole { builder.old.pending ≡ [] }
@@ -164,12 +163,12 @@ fn push_row<'p: 'v, 'v>(
 }
 
 /// Makes the rows of instances with these names, in order.
-fn push_rows<'p: 'v, 'v>(
+fn push_rows<'a>(
     maker: &Maker<'_, '_, '_>,
-    builder: &mut RowBuilder<'_, 'v>,
+    builder: &mut RowBuilder<'_, 'a>,
     rows: &Rows,
     names: &[u64],
-    instances: &Params<'p>,
+    instances: &Params<'a, '_>,
 ) -> Result<(), AllocError>
     requires maker { IsMaker maker.now builder.old.names }
     requires whole { builder.old.pending ≡ [] }
@@ -202,7 +201,7 @@ fn maker_of<'b, 't, 'a>(bases: &Bases<'a, 't, 'b>, rows: &'b Rows) -> Maker<'a, 
 
 /// A builder of the rows of instances with these names, with room for as many; where memory has no
 /// such room, it grows as rows come.
-fn builder_of<'n, 'v>(alloc: Global, names: &'n [u64]) -> RowBuilder<'n, 'v>
+fn builder_of<'n, 'a>(alloc: Global, names: &'n [u64]) -> RowBuilder<'n, 'a>
     ensures { result ≡ record { names = names.now; rows = []; pending = [] } }
 {
     let mut builder = RowBuilder::new(alloc, names);
@@ -214,12 +213,12 @@ fn builder_of<'n, 'v>(alloc: Global, names: &'n [u64]) -> RowBuilder<'n, 'v>
 /// form.
 ///
 /// `AllocError` comes where memory runs out.
-pub fn values_of<'b, 'r>(
+pub fn values_of<'b, 'a>(
     alloc: Global,
     bases: &Bases<'_, '_, 'b>,
     rows: &'b Rows,
-    exchange: &'r Exchange<'_>,
-) -> Result<ValueRows<'r>, AllocError>
+    exchange: &Exchange<'a>,
+) -> Result<ValueRows<'a>, AllocError>
     requires bases { AreBases bases.now }
     requires index { AreFound exchange.now.names (found rows.now.index) }
     requires matched { length rows.now.form_of.items ≡ length exchange.now.names }

@@ -1,8 +1,6 @@
 //! The instances of small files that keep their identity.
 
-ghost use Rattle.express_syntax.specs.SchemaViews.{schema_of};
-ghost use Rattle.schema_rules.specs.Ruled.{AreRuleTables};
-ghost use Rattle.schema_types.specs.Made.{IsMade};
+ghost use Rattle.express_types.specs.Sound.{IsSound};
 
 use express_syntax::fault::{NameFault, SchemaFault};
 use express_text::read_schema;
@@ -367,8 +365,7 @@ fn is_answered_by(
     chosen: &Chosen,
     question: Question,
 ) -> Result<bool, AllocError>
-    requires made { IsMade graph.now.types }
-    requires rules { AreRuleTables (schema_of graph.now.types.names.schema.now) graph.now.rules }
+    requires sound { IsSound graph.now }
 {
     if let Question::Chosen(number, wanted) = question {
         return Ok(chosen.contains(number) == wanted);
@@ -398,8 +395,7 @@ fn is_right_of(
     given: Given,
     question: Question,
 ) -> Result<bool, AllocError>
-    requires made { IsMade graph.now.types }
-    requires rules { AreRuleTables (schema_of graph.now.types.names.schema.now) graph.now.rules }
+    requires sound { IsSound graph.now }
 {
     let choice = choice(alloc, given)?;
     match choice.settle(alloc, &graph.types) {

@@ -263,10 +263,10 @@ fn is_answered(
     }
 }
 
-fn is_right_of(
+fn is_right_of<'s: 'a, 'a>(
     alloc: Global,
     keys: RandomState,
-    population: &Population<'_, '_, '_, '_>,
+    population: &Population<'s, '_, '_, 'a>,
     question: Question,
 ) -> bool {
     match population.plain(alloc, keys) {
@@ -275,11 +275,11 @@ fn is_right_of(
     }
 }
 
-fn is_right_typed(
+fn is_right_typed<'s: 'a, 'a>(
     alloc: Global,
     keys: RandomState,
-    types: &ResolvedTypes<'_, '_>,
-    exchange: &Exchange<'_>,
+    types: &ResolvedTypes<'s, '_>,
+    exchange: &Exchange<'a>,
     question: Question,
 ) -> bool
     requires { IsMade types.now }

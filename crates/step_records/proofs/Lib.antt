@@ -6,6 +6,7 @@ mod ParamKeywords
 mod Spellings
 pub mod Weights
 pub mod Parts
+pub mod Joined
 pub mod Taking
 pub mod Looking
 pub mod ParamSteps

@@ -11,11 +11,11 @@ use Rattle.step_records.specs.Building.{Builds, kept_by, tree_of}
 use Rattle.step_records.proofs.Asking.{asks_inside}
 use Rattle.step_records.proofs.Built.{before_split, text_split}
 
-first_of : {A : Type 0} (x : A) (xs : List A) (c : A) → slice_get (x ∷ xs) 0 ≡ Some c → x ≡ c
+pub first_of : {A : Type 0} (x : A) (xs : List A) (c : A) → slice_get (x ∷ xs) 0 ≡ Some c → x ≡ c
 first_of x xs c e = cc
 
 -- what stands from a place on
-drop_at_place : {A : Type 0} (xs : List A) (i : ℕ) (c : A) → slice_get xs i ≡ Some c → drop i xs ≡ c ∷ drop (suc i) xs
+pub drop_at_place : {A : Type 0} (xs : List A) (i : ℕ) (c : A) → slice_get xs i ≡ Some c → drop i xs ≡ c ∷ drop (suc i) xs
 drop_at_place [] i c e = absurd (cc)
 drop_at_place (x ∷ xs) zero c e = ap (λ y. y ∷ xs) (first_of x xs c e)
 drop_at_place (x ∷ xs) (suc i) c e = drop_at_place xs i c e
@@ -65,7 +65,7 @@ module _ (text : List ℕ) where
   before_one n (d ∷ cs) zero c e h = subst (λ x. (parameters text).reach x ≤ n) (first_of d cs c e) h.0
   before_one n (d ∷ cs) (suc i) c e h = before_one n cs i c e h.1
 
-  text_one : (cs : List Cell) (i : ℕ) (c : Cell) → slice_get cs i ≡ Some c → AreInText text cs
+  pub text_one : (cs : List Cell) (i : ℕ) (c : Cell) → slice_get cs i ≡ Some c → AreInText text cs
       → IsInText text c.kind c.at c.len
   text_one [] i c e h = absurd (cc)
   text_one (d ∷ cs) zero c e h = subst (λ x. IsInText text x.kind x.at x.len) (first_of d cs c e) h.0

@@ -49,6 +49,18 @@ abbrev pub is_keyword : Kind → Bool
 is_keyword (kinds.Leaf leaves.Keyword) = true
 is_keyword _ = false
 
+-- a cell of this kind is a number, a string or a binary
+abbrev pub is_literal : Kind → Bool
+is_literal (kinds.Leaf leaves.Number) = true
+is_literal (kinds.Leaf leaves.Text) = true
+is_literal (kinds.Leaf leaves.Bits) = true
+is_literal _ = false
+
+-- .. or a list
+abbrev pub is_literal_or_list : Kind → Bool
+is_literal_or_list kinds.List = true
+is_literal_or_list k = is_literal k
+
 -- what a keyword and the parameter inside make
 abbrev pub typed_of : List Tree → Tree
 typed_of (leaf (keyword text) ∷ x ∷ []) = typed text x

@@ -4,6 +4,7 @@ pub mod ComputedCodes
 pub mod Building
 pub mod Tokens
 pub mod Params
+pub mod Places
 pub mod Readers
 pub mod Steps
 pub mod Records

@@ -1,5 +1,5 @@
 -- Parameters by their outermost parts (ISO 10303-21, 11).
-use Rattle.std.specs.Prelude.{ℕ, ◌==◌, Bool, true, false, not, List, [], ◌∷◌, get_or}
+use Rattle.std.specs.Prelude.{ℕ, ◌==◌, ◌&&◌, Bool, true, false, not, List, [], ◌∷◌, get_or}
 use Rattle.step_lexis.specs.declared.token.Mark.TheVariants.{Dollar, Asterisk}
 use Rattle.step_structures.specs.Words.{keyword, name, number, element, string, binary, mark}
 use Rattle.step_structures.specs.Trees.{Tree, leaf, typed, group, Trees, none, one}
@@ -42,3 +42,16 @@ stays_as_spelt (leaf (string text)) = true
 stays_as_spelt (leaf (binary text)) = true
 stays_as_spelt (leaf (name n text)) = not (get_or text 1 0 == 48)
 stays_as_spelt _ = false
+
+-- a number, a string or a binary, or a list of such and of such lists
+abbrev mutual
+  pub is_literal_tree : Tree → Bool
+  is_literal_tree (leaf (number text)) = true
+  is_literal_tree (leaf (string text)) = true
+  is_literal_tree (leaf (binary text)) = true
+  is_literal_tree (group xs) = are_literals xs
+  is_literal_tree _ = false
+
+  pub are_literals : Trees → Bool
+  are_literals none = true
+  are_literals (one x xs) = is_literal_tree x && are_literals xs

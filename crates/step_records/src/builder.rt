@@ -114,7 +114,7 @@ impl<'a> Builder<'a> {
     }
 
     /// The trees that are kept so far.
-    pub fn kept(&self) -> Params<'_>
+    pub fn kept(&self) -> Params<'a, '_>
         ensures { result ≡ self.now.kept }
     {
         Params::of(self.text, self.cells.column(), &self.kept)

@@ -40,7 +40,7 @@ impl<'a> Forest<'a> {
     }
 
     /// The trees.
-    pub fn trees(&self) -> Params<'_>
+    pub fn trees(&self) -> Params<'a, '_>
         ensures { result ≡ self.now }
     {
         Params::of(self.text, &self.cells, &self.kept)

@@ -12,4 +12,5 @@ pub mod param;
 pub mod params;
 pub mod reader;
 pub mod records;
+mod stretch;
 pub mod tokens;

@@ -18,6 +18,7 @@ ghost use Rattle.std.specs.Prelude.{
   not,
   is_some,
   IfSome,
+  true,
 };
 ghost use Rattle.parsing.specs.Nodes.{run, said_at};
 ghost use Rattle.step_literals.specs.Tokens as token_kinds;
@@ -25,29 +26,37 @@ ghost use Rattle.step_literals.specs.Tokens.{Spells};
 ghost use Rattle.step_records.specs.Building.{Builds, kept_by, tree_of};
 ghost use Rattle.step_records.specs.Cells.{
   IsSpelt,
+  all_of,
   is_keyword,
   leaf_as,
   name_of,
   parameters,
   typed_of,
 };
-ghost use Rattle.step_records.specs.Params.{node_value, parts_of, keyword_of, stays_as_spelt};
-ghost use Rattle.step_structures.specs.Normal.{plain_tree};
+ghost use Rattle.step_records.specs.Params.{
+  node_value,
+  parts_of,
+  keyword_of,
+  stays_as_spelt,
+  are_literals,
+};
+ghost use Rattle.step_structures.specs.Normal.{plain_tree, plain_trees};
 
 use crate::cell::{Cell, Kind, Leaf};
+use crate::stretch::{bytes_of, is_literal_or_list, side_by_side};
 use std::marker::Model;
 use step_literals::literal::{Bits, Decimal, Text, Word};
 use step_literals::numbers::number_of;
 
 /// A parameter, or a record, of trees that are read: a view into their column.
 #[derive(Drop)]
-pub struct Param<'t> {
-    text: &'t [u8],
+pub struct Param<'a, 't> {
+    text: &'a [u8],
     column: &'t [Cell],
     cell: Cell,
 }
 
-impl<'t> Model for Param<'t> {
+impl<'a, 't> Model for Param<'a, 't> {
     ghost use Rattle.std.specs.Prelude.{[], ◌∷◌};
     ghost use Rattle.step_structures.specs.Trees.{Tree};
     ghost use Rattle.step_records.specs.ComputedCodes.{coded_tree};
@@ -64,14 +73,14 @@ impl<'t> Model for Param<'t> {
 
 /// Parameters side by side.
 #[derive(Drop)]
-pub struct Params<'t> {
-    text: &'t [u8],
+pub struct Params<'a, 't> {
+    text: &'a [u8],
     column: &'t [Cell],
     // A part of the column, or cells over it.
     cells: &'t [Cell],
 }
 
-impl<'t> Model for Params<'t> {
+impl<'a, 't> Model for Params<'a, 't> {
     ghost use Rattle.std.specs.Prelude.{List, []};
     ghost use Rattle.step_structures.specs.Trees.{Tree};
     ghost use Rattle.step_records.specs.ComputedCodes.{coded_trees};
@@ -88,32 +97,32 @@ impl<'t> Model for Params<'t> {
 
 /// The outermost part of a parameter, with what is inside it.
 #[derive(Drop)]
-pub enum Node<'t> {
+pub enum Node<'a, 't> {
     /// `$`, no value
     Unset,
     /// `*`, a value that is derived
     Star,
     /// An integer or a real number.
-    Number(Decimal<'t>),
+    Number(Decimal<'a>),
     /// A string.
-    Text(Text<'t>),
+    Text(Text<'a>),
     /// A binary.
-    Bits(Bits<'t>),
+    Bits(Bits<'a>),
     /// An element of an enumeration, without its dots.
-    Element(Word<'t>),
+    Element(Word<'a>),
     /// A reference to the instance of this name, and how it is spelt.
-    Reference(u64, &'t [u8]),
+    Reference(u64, &'a [u8]),
     /// The keyword of a record, the first in its list.
-    Keyword(Word<'t>),
+    Keyword(Word<'a>),
     /// A typed parameter: its keyword and the parameter inside.
-    Typed(Word<'t>, Param<'t>),
+    Typed(Word<'a>, Param<'a, 't>),
     /// A list of parameters; also a record, its keyword before its parameters.
-    List(Params<'t>),
+    List(Params<'a, 't>),
 }
 
-impl<'t> Param<'t> {
+impl<'a, 't> Param<'a, 't> {
     // The tree that a cell over a column is.
-    fn of(text: &'t [u8], column: &'t [Cell], cell: Cell) -> Param<'t>
+    fn of(text: &'a [u8], column: &'t [Cell], cell: Cell) -> Param<'a, 't>
         requires { Builds text.now column.now (cell ∷ []) [] }
         ensures { result ≡ tree_of text.now column.now cell }
     {
@@ -121,12 +130,12 @@ impl<'t> Param<'t> {
     }
 
     /// Its outermost part.
-    pub fn node(&self) -> Node<'t>
+    pub fn node(&self) -> Node<'a, 't>
         ensures { node_value result ≡ self.now }
     {
         let (text, column, cell) = (self.text, self.column, self.cell);
         match cell.kind {
-            Kind::Leaf(leaf) => leaf_node(leaf, part(text, cell.at, cell.len)),
+            Kind::Leaf(leaf) => return leaf_node(leaf, part(text, cell.at, cell.len)),
             Kind::Typed => typed_node(text, column, cell.at),
             Kind::List => {
                 let cells = part(column, cell.at, cell.len);
@@ -137,7 +146,7 @@ impl<'t> Param<'t> {
 
     /// Its spelling, where the normal text has it as it stands: that of a number, a string, a
     /// binary, or a reference with no zero before its number.
-    pub fn literal(&self) -> Option<&'t [u8]>
+    pub fn literal(&self) -> Option<&'a [u8]>
         ensures says { IfSome result (λ s. plain_tree self.now ≡ s.now) }
         ensures which { is_some result ≡ stays_as_spelt self.now }
     {
@@ -149,7 +158,7 @@ impl<'t> Param<'t> {
 
     /// What is right inside a list of parameters, or the keyword and the parameters of a record;
     /// nothing where it is something else.
-    pub fn parts(&self) -> Params<'t>
+    pub fn parts(&self) -> Params<'a, 't>
         ensures { result ≡ parts_of self.now }
     {
         match self.node() {
@@ -159,7 +168,7 @@ impl<'t> Param<'t> {
     }
 
     /// The keyword that it is; no bytes where it is something else.
-    pub fn keyword(&self) -> &'t [u8]
+    pub fn keyword(&self) -> &'a [u8]
         ensures { result.now ≡ keyword_of self.now }
     {
         match self.node() {
@@ -169,9 +178,9 @@ impl<'t> Param<'t> {
     }
 }
 
-impl<'t> Params<'t> {
+impl<'a, 't> Params<'a, 't> {
     /// The trees that cells over a column are.
-    pub(crate) fn of(text: &'t [u8], column: &'t [Cell], cells: &'t [Cell]) -> Params<'t>
+    pub(crate) fn of(text: &'a [u8], column: &'t [Cell], cells: &'t [Cell]) -> Params<'a, 't>
         requires { Builds text.now column.now cells.now [] }
         ensures { result ≡ kept_by text.now column.now cells.now }
     {
@@ -190,7 +199,7 @@ impl<'t> Params<'t> {
     }
 
     /// One of them, counted from 0.
-    pub fn item(&self, index: usize) -> Option<Param<'t>>
+    pub fn item(&self, index: usize) -> Option<Param<'a, 't>>
         ensures { result ≡ slice_get self.now index }
     {
         if index < self.len() {
@@ -201,7 +210,7 @@ impl<'t> Params<'t> {
     }
 
     /// The first so many of them, or all, and the others.
-    pub fn split(&self, count: usize) -> (Params<'t>, Params<'t>)
+    pub fn split(&self, count: usize) -> (Params<'a, 't>, Params<'a, 't>)
         ensures front { result.0 ≡ take count self.now }
         ensures back { result.1 ≡ drop count self.now }
     {
@@ -212,8 +221,23 @@ impl<'t> Params<'t> {
         )
     }
 
+    /// The stretch of the text where they stand, where the normal text has it as it stands: each is
+    /// a number, a string or a binary, or a list with such right inside it, and one comma stands
+    /// between each and the next.
+    pub fn spelling(&self) -> Option<&'a [u8]>
+        ensures says { IfSome result (λ s. plain_trees (all_of self.now) ≡ s.now) }
+        ensures which { IfSome result (λ s. are_literals (all_of self.now) ≡ true) }
+    {
+        let last = self.cells.last()?;
+        if !is_literal_or_list(last.kind) {
+            return None;
+        }
+        let place = side_by_side(self.text, self.column, self.cells)?;
+        Some(bytes_of(self.text, place))
+    }
+
     /// One of them that is there.
-    pub fn at(&self, index: usize) -> Param<'t>
+    pub fn at(&self, index: usize) -> Param<'a, 't>
         requires { index < length self.now }
         ensures { slice_get self.now index ≡ Some result }
     {
@@ -221,8 +245,8 @@ impl<'t> Params<'t> {
     }
 }
 
-// So many items from a place on.
-fn part<'t, T>(items: &'t [T], at: u64, len: u32) -> &'t [T]
+/// So many items from a place on.
+pub(crate) fn part<'t, T>(items: &'t [T], at: u64, len: u32) -> &'t [T]
     requires { at + len ≤ length items.now }
     ensures { result.now ≡ take len (drop at items.now) }
 {
@@ -254,7 +278,7 @@ fn name_of(spelling: &[u8]) -> u64
 }
 
 // A leaf that is spelt like this.
-fn leaf_node<'t>(leaf: Leaf, spelling: &'t [u8]) -> Node<'t>
+fn leaf_node<'a, 't>(leaf: Leaf, spelling: &'a [u8]) -> Node<'a, 't>
     requires { IsSpelt leaf spelling.now }
     ensures { node_value result ≡ leaf_as leaf spelling.now }
 {
@@ -279,7 +303,7 @@ fn is_shortest(spelling: &[u8]) -> bool
 }
 
 // A leaf that is spelt like this, where the normal text has it so.
-fn leaf_literal<'t>(leaf: Leaf, spelling: &'t [u8]) -> Option<&'t [u8]>
+fn leaf_literal<'a>(leaf: Leaf, spelling: &'a [u8]) -> Option<&'a [u8]>
     requires { IsSpelt leaf spelling.now }
     ensures says { IfSome result (λ s. plain_tree (leaf_as leaf spelling.now) ≡ s.now) }
     ensures which { is_some result ≡ stays_as_spelt (leaf_as leaf spelling.now) }
@@ -303,7 +327,7 @@ fn is_keyword(kind: Kind) -> bool
 
 // The keyword and the parameter that stand at a place of a column; no parameters where what stands
 // there is no keyword.
-fn typed_node<'t>(text: &'t [u8], column: &'t [Cell], at: u64) -> Node<'t>
+fn typed_node<'a, 't>(text: &'a [u8], column: &'t [Cell], at: u64) -> Node<'a, 't>
     requires builds { Builds text.now column.now [] [] }
     requires within { at + 2 ≤ length column.now }
     ensures { node_value result

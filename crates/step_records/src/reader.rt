@@ -225,7 +225,7 @@ impl<'a> Reader<'a> {
     }
 
     /// The trees that are kept.
-    pub fn kept(&self) -> Params<'_>
+    pub fn kept(&self) -> Params<'a, '_>
         ensures { result ≡ self.now.built.kept }
     {
         self.builder.kept()

@@ -22,3 +22,4 @@ pub mod Written
 pub mod PlainLemmas
 pub mod NormalLemmas
 pub mod NormalReads
+pub mod Named

@@ -2,10 +2,7 @@
 
 ghost use Rattle.std.specs.Prelude.{IfOk};
 ghost use Rattle.express_syntax.specs.SchemaViews.{schema_of};
-ghost use Rattle.express_types.specs.Judging.{AreDomainTables};
-ghost use Rattle.schema_derivations.specs.Firsts.{AreFirsts};
-ghost use Rattle.schema_rules.specs.Ruled.{AreRuleTables};
-ghost use Rattle.schema_types.specs.Made.{IsMade};
+ghost use Rattle.express_types.specs.Sound.{IsSound};
 ghost use Rattle.step_exchange.specs.Exchanges.{structure};
 ghost use Rattle.population_layouts.specs.Tables.{AreTables};
 ghost use Rattle.population_typed.specs.Seen.{population_seen};
@@ -50,7 +47,7 @@ pub(crate) struct Claim<'o> {
 
 /// What is found of a certificate's tables, where nothing is wrong with the input's instances one by
 /// one, which are this population.
-fn judge_typed<'r, 't, 's: 'r, 'a>(
+fn judge_typed<'r, 't, 's: 'a, 'a: 'r>(
     alloc: Global,
     keys: RandomState,
     graph: &TypeGraph<'s, 't>,
@@ -59,7 +56,7 @@ fn judge_typed<'r, 't, 's: 'r, 'a>(
     chosen: &Chosen,
     population: Population<'s, 't, 'r, 'a>,
     certificate: Vec<u8>,
-) -> Result<Result<Judged<'r>, TablesFault>, Fault<'s>>
+) -> Result<Result<Judged<'a>, TablesFault>, Fault<'s>>
     requires said { Said (schema_of population.types.now.names.schema.now) }
     requires ready { AreReady population.types.now graph.now.rules graph.now.domain
         graph.now.judged.firsts.items tables.now settings.now }
@@ -88,16 +85,16 @@ fn judge_typed<'r, 't, 's: 'r, 'a>(
 
 /// What is found of a certificate's tables by what is made of the schema, where the input reads as
 /// this structure.
-fn judge_by_settings<'r, 't, 's: 'r>(
+fn judge_by_settings<'r, 't, 's: 'a, 'a: 'r>(
     alloc: Global,
     keys: RandomState,
     graph: &'r TypeGraph<'s, 't>,
     tables: &SchemaTables,
     settings: &SettingTables<'r, 's>,
     chosen: &Chosen,
-    exchange: &'r Exchange<'_>,
+    exchange: &'r Exchange<'a>,
     certificate: Vec<u8>,
-) -> Result<Result<Judged<'r>, TablesFault>, Fault<'s>>
+) -> Result<Result<Judged<'a>, TablesFault>, Fault<'s>>
     requires ready { AreReady graph.now.types graph.now.rules graph.now.domain
         graph.now.judged.firsts.items tables.now settings.now }
     ensures finds { Finds (schema_of graph.entry.now.types.names.schema.now)
@@ -136,21 +133,16 @@ fn judge_by_settings<'r, 't, 's: 'r>(
 
 /// What is found of a certificate's tables, where the input reads as this structure. All else that
 /// this needed is let go.
-fn judge_input<'r, 't, 's: 'r>(
+fn judge_input<'r, 't, 's: 'a, 'a: 'r>(
     alloc: Global,
     keys: RandomState,
     graph: &'r TypeGraph<'s, 't>,
     tables: &'r SchemaTables,
     chosen: &Chosen,
-    exchange: &'r Exchange<'_>,
+    exchange: &'r Exchange<'a>,
     certificate: Vec<u8>,
-) -> Result<Result<Judged<'r>, TablesFault>, Fault<'s>>
-    requires made { IsMade graph.now.types }
-    requires rules { AreRuleTables (schema_of graph.now.types.names.schema.now) graph.now.rules }
-    requires domain { AreDomainTables (schema_of graph.now.types.names.schema.now)
-        graph.now.domain }
-    requires firsts { AreFirsts (schema_of graph.now.types.names.schema.now)
-        graph.now.judged.firsts.items }
+) -> Result<Result<Judged<'a>, TablesFault>, Fault<'s>>
+    requires sound { IsSound graph.now }
     requires tables { AreTables graph.now.types tables.now }
     ensures finds { Finds (schema_of graph.entry.now.types.names.schema.now)
         certificate.items result
@@ -171,21 +163,16 @@ fn judge_input<'r, 't, 's: 'r>(
 }
 
 /// What is proved of an output, where the input reads as this structure.
-fn verify_read<'r, 't, 's: 'r>(
+fn verify_read<'r, 't, 's: 'a, 'a: 'r>(
     alloc: Global,
     keys: RandomState,
     graph: &'r TypeGraph<'s, 't>,
     tables: &'r SchemaTables,
     chosen: &Chosen,
-    exchange: &'r Exchange<'_>,
+    exchange: &'r Exchange<'a>,
     claim: Claim<'_>,
 ) -> Result<Proof, Fault<'s>>
-    requires made { IsMade graph.now.types }
-    requires rules { AreRuleTables (schema_of graph.now.types.names.schema.now) graph.now.rules }
-    requires domain { AreDomainTables (schema_of graph.now.types.names.schema.now)
-        graph.now.domain }
-    requires firsts { AreFirsts (schema_of graph.now.types.names.schema.now)
-        graph.now.judged.firsts.items }
+    requires sound { IsSound graph.now }
     requires tables { AreTables graph.now.types tables.now }
     ensures { AnswersRead (schema_of graph.entry.now.types.names.schema.now)
         claim.entry.output.now claim.entry.certificate.items result chosen.now
@@ -208,12 +195,7 @@ pub(crate) fn verify_input<'s>(
     input: &[u8],
     claim: Claim<'_>,
 ) -> Result<Proof, Fault<'s>>
-    requires made { IsMade graph.now.types }
-    requires rules { AreRuleTables (schema_of graph.now.types.names.schema.now) graph.now.rules }
-    requires domain { AreDomainTables (schema_of graph.now.types.names.schema.now)
-        graph.now.domain }
-    requires firsts { AreFirsts (schema_of graph.now.types.names.schema.now)
-        graph.now.judged.firsts.items }
+    requires sound { IsSound graph.now }
     ensures { AnswersSettled (schema_of graph.now.types.names.schema.now) claim.entry.output.now
         claim.entry.certificate.items result chosen.now input.now }
 {

@@ -59,9 +59,8 @@ fn is_image<'a, 'r, 'b, 'q>(
 }
 
 /// What is proved of an output with this population, where the tables of its certificate hold.
-fn compare<'s: 'r, 't, 'r, 'a, 'b, 'q>(
+fn compare<'s: 'a, 't, 'r, 'a, 'b, 'q>(
     alloc: Global,
-    keys: RandomState,
     population: Population<'s, 't, 'r, 'a>,
     input: &Exchange<'b>,
     judged: &Judged<'q>,
@@ -72,7 +71,7 @@ fn compare<'s: 'r, 't, 'r, 'a, 'b, 'q>(
         (population_seen population.entry) result }
 {
     let output = population.exchange;
-    let rows = plain_rows(alloc, keys, population)?;
+    let rows = plain_rows(alloc, population)?;
     let instances = judged.rows.len() as u64;
     let kept = rows.len() as u64;
     if !is_image(alloc, input, judged, output, &rows)? {
@@ -87,9 +86,8 @@ fn compare<'s: 'r, 't, 'r, 'a, 'b, 'q>(
 
 /// What is proved of an output with this population, or else what was found of the tables of its
 /// certificate.
-fn answer<'s: 'r, 't, 'r, 'a, 'b, 'q>(
+fn answer<'s: 'a, 't, 'r, 'a, 'b, 'q>(
     alloc: Global,
-    keys: RandomState,
     population: Population<'s, 't, 'r, 'a>,
     input: &Exchange<'b>,
     judged: &Result<Judged<'q>, TablesFault>,
@@ -100,18 +98,18 @@ fn answer<'s: 'r, 't, 'r, 'a, 'b, 'q>(
         (population_seen population.entry) result }
 {
     match judged {
-        Ok(judged) => compare(alloc, keys, population, input, judged),
+        Ok(judged) => compare(alloc, population, input, judged),
         Err(fault) => Err(*fault),
     }
 }
 
 /// What is proved of an output that reads as this structure.
-fn verify_image<'s: 'r, 't, 'r, 'b, 'q>(
+fn verify_image<'s: 'a, 't, 'r, 'a, 'b, 'q>(
     alloc: Global,
     keys: RandomState,
     types: &'r ResolvedTypes<'s, 't>,
     tables: &SchemaTables,
-    image: &'r Exchange<'_>,
+    image: &'r Exchange<'a>,
     input: &Exchange<'b>,
     judged: &Result<Judged<'q>, TablesFault>,
 ) -> Result<Proof, Fault<'s>>
@@ -125,7 +123,7 @@ fn verify_image<'s: 'r, 't, 'r, 'b, 'q>(
     let verdict = populate_by(alloc, keys, types, tables, image)?;
     match verdict {
         Verdict::Typed(population) => {
-            let proof = answer(alloc, keys, population, input, judged)?;
+            let proof = answer(alloc, population, input, judged)?;
             Ok(proof)
         }
         Verdict::Faulty(findings) => Err(Fault::Refused {

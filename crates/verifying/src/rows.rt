@@ -8,21 +8,19 @@ ghost use Rattle.population_typed.specs.Seen.{population_seen};
 
 use population_typed::population::Population;
 use std::alloc::{AllocError, Global};
-use std::hash::RandomState;
 use step_equal::plain::Plain;
 
 /// The rows of a population, which isn't needed then.
-pub(crate) fn plain_rows<'s: 'r, 't, 'r, 'a>(
+pub(crate) fn plain_rows<'s: 'a, 't, 'r, 'a>(
     alloc: Global,
-    keys: RandomState,
     population: Population<'s, 't, 'r, 'a>,
-) -> Result<Plain<'r>, AllocError>
+) -> Result<Plain<'a>, AllocError>
     ensures rows { IfOk result (λ p. AreRowsOf
         (schema_of population.entry.types.now.names.schema.now) (population_seen population.entry)
         p) }
     ensures population { IfOk result (λ p. IsPopulation p) }
 {
-    let rows = population.into_plain(alloc, keys)?;
+    let rows = population.into_plain(alloc)?;
     // its contract says that no name stands twice and each reference names a row
     let _count = rows.len();
     Ok(rows)

@@ -41,20 +41,20 @@ use step_pins::weak_pins::WeakPins;
 
 /// The rows of an input, and the table by whose classes they are merged.
 #[derive(Drop)]
-pub(crate) struct Judged<'r> {
-    pub rows: Plain<'r>,
+pub(crate) struct Judged<'a> {
+    pub rows: Plain<'a>,
     pub table: Table,
 }
 
 /// The rows of an input, and its gentle pins by the classes of a table. Its population isn't needed
 /// then.
-fn pinned_rows<'s: 'r, 't, 'r, 'a>(
+fn pinned_rows<'s: 'a, 't, 'r, 'a>(
     alloc: Global,
     keys: RandomState,
     population: Population<'s, 't, 'r, 'a>,
     weak: &WeakPins,
     first: &Table,
-) -> Result<(Plain<'r>, Pins), AllocError>
+) -> Result<(Plain<'a>, Pins), AllocError>
     requires lists { AreUniqueOf (schema_of population.types.now.names.schema.now)
         (population_seen population) weak.now.lists }
     ensures rows { IfOk result (λ p. AreRowsOf
@@ -65,7 +65,7 @@ fn pinned_rows<'s: 'r, 't, 'r, 'a>(
         (schema_of population.entry.types.now.names.schema.now) (population_seen population.entry)
         (is_pinned weak.now.pins) (table_of first.now) (is_pinned p.1)) }
 {
-    let rows = plain_rows(alloc, keys, population)?;
+    let rows = plain_rows(alloc, population)?;
     let gentle = weak.gentle(alloc, keys, first)?;
     Ok((rows, gentle))
 }
@@ -129,14 +129,14 @@ fn judge_tables(
 
 /// What is merged by these tables of a certificate, where both are valid, the second one under the
 /// gentle pins that the first one gives.
-fn judge_pair<'s: 'r, 't, 'r, 'a>(
+fn judge_pair<'s: 'a, 't, 'r, 'a>(
     alloc: Global,
     keys: RandomState,
     population: Population<'s, 't, 'r, 'a>,
     weak: &WeakPins,
     first: Table,
     second: Table,
-) -> Result<Judged<'r>, TablesFault>
+) -> Result<Judged<'a>, TablesFault>
     requires lists { AreUniqueOf (schema_of population.types.now.names.schema.now)
         (population_seen population) weak.now.lists }
     requires first { IsWellFormed (table_of first) }
@@ -160,13 +160,13 @@ fn judge_pair<'s: 'r, 't, 'r, 'a>(
 
 /// What is merged of an input with this population and these weak pins by a certificate, where its
 /// tables hold.
-pub(crate) fn judge_certificate<'s: 'r, 't, 'r, 'a>(
+pub(crate) fn judge_certificate<'s: 'a, 't, 'r, 'a>(
     alloc: Global,
     keys: RandomState,
     population: Population<'s, 't, 'r, 'a>,
     weak: &WeakPins,
     certificate: Vec<u8>,
-) -> Result<Judged<'r>, TablesFault>
+) -> Result<Judged<'a>, TablesFault>
     requires lists { AreUniqueOf (schema_of population.types.now.names.schema.now)
         (population_seen population) weak.now.lists }
     ensures judged { (chosen : List Name)

@@ -37,9 +37,12 @@ ghost use Rattle.step_literals.specs.Decimals.{
   ten_to,
   turned,
 };
-ghost use Rattle.step_literals.specs.DecimalKeys.{digit_writes};
-ghost use Rattle.step_literals.specs.Tokens.{is_e};
+ghost use Rattle.step_literals.specs.DecimalKeys.{front_writes, summary};
+ghost use Rattle.std.specs.Str.Parse.{digits_value_after};
+ghost use Rattle.step_literals.specs.Bytes.{is_digit, Each};
+ghost use Rattle.step_literals.specs.Numbers.{exponent_text};
 ghost use Rattle.step_literals.specs.DigitStrings.{
+  significant,
   is_significant,
   has_digit,
   digit,
@@ -53,7 +56,7 @@ ghost use Rattle.step_literals.specs.DigitStrings.{
 
 use super::Decimal;
 use crate::bytes::digits_len;
-use crate::numbers::{exponent_behind, is_negative, mantissa_len, number_of, sign_len};
+use crate::numbers::{is_negative, number_of, sign_len};
 use std::cmp::Ordering;
 use std::hash::{Hash, Hasher};
 
@@ -65,6 +68,12 @@ const LONGEST_WHOLE: usize = 19;
 
 /// How many digits a number of 64 bits tells.
 const TOLD: usize = 19;
+
+/// Greater than twice the digits of a number, and one.
+const COUNTS: u64 = 1024;
+
+/// How many numbers of 64 bits there are.
+const WORDS: u128 = 0x1_0000_0000_0000_0000;
 
 /// The digits of a number from the first that isn't 0 on, before and behind the point.
 #[derive(Clone, Copy)]
@@ -106,7 +115,8 @@ impl<'a> Digits<'a> {
 
     /// The power of ten above the first digit, 0 where there is none.
     fn top(&self) -> usize
-        ensures { result ≡ top (digits_of self.now) self.now.shift }
+        ensures value { result ≡ top (digits_of self.now) self.now.shift }
+        ensures bound { result < 2 ^ 33 }
     {
         let len = self.len();
         if len == 0 {
@@ -122,29 +132,54 @@ impl<'a> Digits<'a> {
         ensures within { result ≤ length (digits_of self.now) }
         ensures short { result ≤ 400 }
     {
-        let mut end = self.len();
-        while end > 0 && self.digit(end - 1) == 0 {
-            end -= 1;
+        let behind = kept_len(self.part);
+        if behind > 0 {
+            self.whole.len() + behind
+        } else {
+            kept_len(self.whole)
         }
-        end
     }
 
     /// The number that the first digits write, modulo 2^64.
     fn front_value(&self, len: usize) -> u64
         ensures { result ≡ front_value len (digits_of self.now) % 2 ^ 64 }
     {
-        let mut value = 0u64;
-        for i in 0..len {
-            value = value
-                .wrapping_mul(10)
-                .wrapping_add(u64::from(self.digit(i)));
+        let (whole, _) = self.whole.split_at(self.whole.len().min(len));
+        let (part, _) = self.part.split_at(self.part.len().min(len - whole.len()));
+        let mut value = value_behind(value_behind(0, whole), part);
+        let mut place = whole.len() + part.len();
+        while place < len {
+            value = value.wrapping_mul(10);
+            place += 1;
         }
         value
     }
 
-    /// Feeds a hasher the first digits: each nineteen of them, which a number of 64 bits tells, and those that are left.
+    /// What tells a number of fewer than nineteen digits from others, in one: what the first digits write, modulo 2^64,
+    /// and above that how many they are, the sign, and the power of ten above the first.
+    fn summary(&self, len: usize) -> u128
+        requires { len ≤ 400 }
+        ensures { result ≡ summary len self.now.below_zero (digits_of self.now) (top (digits_of self.now) self.now.shift) }
+    {
+        let count = 2 * len as u64 + u64::from(self.below_zero);
+        let above = count + COUNTS * self.top() as u64;
+        u128::from(self.front_value(len)) + WORDS * u128::from(above)
+    }
+
+    /// Feeds a hasher the first digits by each nineteen of them, which a number of 64 bits tells: none where they are
+    /// fewer.
     fn feed<H: Hasher>(&self, len: usize, state: &mut H)
-        ensures { state.new ≡ fold H.write state.old (digit_writes len (digits_of self.now)) }
+        ensures { state.new ≡ fold H.write state.old (front_writes len (digits_of self.now)) }
+    {
+        if len >= TOLD {
+            self.feed_each(len, state);
+        }
+    }
+
+    /// Feeds a hasher the first digits by each nineteen of them, however many they are.
+    #[inline(never)]
+    fn feed_each<H: Hasher>(&self, len: usize, state: &mut H)
+        ensures { state.new ≡ fold H.write state.old (front_writes len (digits_of self.now)) }
     {
         let mut value = 0u64;
         for i in 0..len {
@@ -155,7 +190,6 @@ impl<'a> Digits<'a> {
                 state.write_u64(value);
             }
         }
-        state.write_u64(value);
     }
 
     /// The number with its sign turned, if that is asked for.
@@ -243,45 +277,72 @@ fn zeros_len(bytes: &[u8]) -> usize
     bytes.iter().take_while(|b| **b == b'0').count()
 }
 
-/// How many zeros the digits before and behind the point begin with.
-fn leading_zeros(whole: &[u8], part: &[u8]) -> usize
-    ensures len { result ≡ prefix_len (λ b. b == 48) (whole.now ++ part.now) }
-    ensures within { result ≤ length whole.now + length part.now }
+/// How many of the digits are left without the zeros at their end.
+fn kept_len(digits: &[u8]) -> usize
+    ensures end { result ≡ end_of (length digits.now) digits.now }
+    ensures within { result ≤ length digits.now }
+{
+    let mut end = digits.len();
+    while end > 0 && digits[end - 1] == b'0' {
+        end -= 1;
+    }
+    end
+}
+
+/// The number that digits write behind those of another number, modulo 2^64.
+fn value_behind(front: u64, digits: &[u8]) -> u64
+    requires { Each is_digit digits.now }
+    ensures { result ≡ digits_value_after 10 front digits.now % 2 ^ 64 }
+{
+    let mut value = front;
+    for digit in digits {
+        value = value
+            .wrapping_mul(10)
+            .wrapping_add(u64::from(*digit - b'0'));
+    }
+    value
+}
+
+/// The digits before and behind the point, without the zeros that lead.
+fn without_zeros<'a>(whole: &'a [u8], part: &'a [u8]) -> (&'a [u8], &'a [u8])
+    ensures digits { result.0.now ++ result.1.now ≡ significant (whole.now ++ part.now) }
+    ensures within { length result.0.now + length result.1.now ≤ length whole.now + length part.now }
 {
     let zeros = zeros_len(whole);
+    let (_, left) = whole.split_at(zeros);
     if zeros < whole.len() {
-        zeros
+        (left, part)
     } else {
-        zeros + zeros_len(part)
+        let (_, part) = part.split_at(zeros_len(part));
+        (left, part)
     }
 }
 
 impl<'a> Decimal<'a> {
     ghost use Rattle.step_literals.specs.Digits.{digits_of, magnitude_of};
 
-    /// Its digits before the point and behind it, where so many bytes stand before its exponent.
-    fn parts(&self, mantissa: usize) -> (&'a [u8], &'a [u8])
-        requires within { mantissa ≤ length self.now.text.now }
-        requires mantissa { mantissa ≡ prefix_len (λ b. not (is_e b)) self.now.text.now }
+    /// Its digits before the point and behind it, and the bytes behind its `E`.
+    fn parts(&self) -> (&'a [u8], &'a [u8], &'a [u8])
         ensures digits { result.0.now ++ result.1.now ≡ mantissa_digits self.now.text.now }
         ensures part { length result.1.now ≡ length (part_digits self.now.text.now) }
+        ensures exponent { result.2.now ≡ exponent_text self.now.text.now }
         ensures short { length result.0.now + length result.1.now ≤ 400 }
     {
-        let (mantissa, _) = self.text.split_at(mantissa);
-        let (_, unsigned) = mantissa.split_at(sign_len(mantissa));
+        let (_, unsigned) = self.text.split_at(sign_len(self.text));
         let (whole, rest) = unsigned.split_at(digits_len(unsigned));
-        let (_, part) = rest.split_at(rest.len().min(1));
-        (whole, part)
+        let (_, rest) = rest.split_at(rest.len().min(1));
+        let (part, rest) = rest.split_at(digits_len(rest));
+        let (_, written) = rest.split_at(rest.len().min(1));
+        (whole, part, written)
     }
 
-    /// The power of ten of the last digit, in units, where so many bytes stand before its exponent, and
-    /// so many digits behind the point.
-    fn shift(&self, mantissa: usize, part_len: usize) -> u32
-        requires mantissa { mantissa ≡ prefix_len (λ b. not (is_e b)) self.now.text.now }
+    /// The power of ten of the last digit, in units, where these bytes stand behind its `E`, and so many
+    /// digits behind the point.
+    fn shift(&self, written: &[u8], part_len: usize) -> u32
+        requires exponent { written.now ≡ exponent_text self.now.text.now }
         requires part { part_len ≡ length (part_digits self.now.text.now) }
         ensures { result ≡ shift_of self.now.text.now }
     {
-        let written = exponent_behind(self.text, mantissa);
         let (_, digits) = written.split_at(sign_len(written));
         let exponent = number_of(digits).unwrap_or(0) as u32;
         let point = FINEST - part_len as u32;
@@ -292,22 +353,20 @@ impl<'a> Decimal<'a> {
         }
     }
 
+    #[inline(always)]
     fn digits(&self) -> Digits<'a>
         ensures digits { digits_of result ≡ significant_digits self.now.text.now }
         ensures shift { result.shift ≡ shift_of self.now.text.now }
         ensures sign { result.below_zero ≡ is_below_zero self.now.text.now }
     {
-        let mantissa = mantissa_len(self.text);
-        let (whole, part) = self.parts(mantissa);
-        let shift = self.shift(mantissa, part.len());
-        let zeros = leading_zeros(whole, part);
-        let below_zero = is_negative(self.text) && zeros < whole.len() + part.len();
-        let (_, significant_part) = part.split_at(zeros.saturating_sub(whole.len()));
-        let (_, significant_whole) = whole.split_at(zeros.min(whole.len()));
+        let (whole, part, written) = self.parts();
+        let shift = self.shift(written, part.len());
+        let (whole, part) = without_zeros(whole, part);
+        let below_zero = is_negative(self.text) && whole.len() + part.len() > 0;
         Digits {
             below_zero,
-            whole: significant_whole,
-            part: significant_part,
+            whole,
+            part,
             shift,
         }
     }
@@ -420,8 +479,7 @@ impl<'a> Hash for Decimal<'a> {
     fn hash<H: Hasher>(&self, state: &mut H) {
         let digits = self.digits();
         let end = digits.end();
-        state.write_u32(2 * end as u32 + u32::from(digits.below_zero));
+        state.write_u128(digits.summary(end));
         digits.feed(end, state);
-        state.write_u64(digits.top() as u64);
     }
 }

@@ -2,13 +2,15 @@
 ghost use Rattle.std.specs.Prelude.{◌≡◌, nat_eq};
 ghost use Rattle.std.specs.Cmp.Lexicographic.{slice_cmp, pointwise};
 ghost use Rattle.std.specs.Cmp.Rules.{comparing};
-ghost use Rattle.std.specs.List.{fold};
+ghost use Rattle.std.specs.List.{flat_map, fold};
 ghost use Rattle.std.specs.Ordering.{on, as_partial_cmp, nat_cmp};
 ghost use Rattle.std.proofs.Common.{rules};
-ghost use Rattle.step_literals.specs.ItemKeys.{code_writes};
+ghost use Rattle.step_literals.specs.Items.{text_items};
+ghost use Rattle.step_literals.specs.ItemKeys.{code_writes, content_writes, item_writes};
 
 use super::Text;
 use super::items::{Item, Items};
+use crate::bytes::is_plain;
 use crate::strings::content_of;
 use std::cmp::Ordering;
 use std::hash::{Hash, Hasher};
@@ -27,7 +29,6 @@ const PAGE: u8 = 0x81;
 const RAW: u8 = 0x82;
 
 impl<'a> Text<'a> {
-    ghost use Rattle.step_literals.specs.Items.{text_items};
     ghost use Rattle.step_literals.specs.Rests.{items_left};
 
     /// Its characters in turn.
@@ -35,6 +36,16 @@ impl<'a> Text<'a> {
         ensures { items_left result ≡ text_items self.now }
     {
         Items::of_content(content_of(self.text))
+    }
+
+    /// Feeds a hasher its characters.
+    fn feed_items<H: Hasher>(&self, state: &mut H)
+        ensures { state.new ≡ fold H.write state.old (flat_map item_writes (text_items self.now)) }
+    {
+        let left = feed_plain(content_of(self.text), state);
+        if !left.is_empty() {
+            feed_content(left, state);
+        }
     }
 }
 
@@ -105,20 +116,7 @@ impl<'a> Hash for Text<'a> {
     ghost respects_eq = { writes_respect_eq };
 
     fn hash<H: Hasher>(&self, state: &mut H) {
-        for item in self.items() {
-            match item {
-                Item::Code(code) => feed_code(code, state),
-                Item::Page(page, byte) => {
-                    state.write_u8(PAGE);
-                    state.write_u8(page);
-                    state.write_u8(byte);
-                }
-                Item::Raw(byte) => {
-                    state.write_u8(RAW);
-                    state.write_u8(byte);
-                }
-            }
-        }
+        self.feed_items(state);
         state.write_u8(END);
     }
 }
@@ -132,5 +130,40 @@ fn feed_code<H: Hasher>(code: u32, state: &mut H)
     } else {
         state.write_u8(CODE);
         state.write_u32(code);
+    }
+}
+
+/// Feeds a hasher the characters of a string in front that are spelt by themselves. What is left to feed is the answer.
+fn feed_plain<'b, H: Hasher>(content: &'b [u8], state: &mut H) -> &'b [u8]
+    ensures { fold H.write state.new (content_writes result.now) ≡ fold H.write state.old (content_writes content.now) }
+{
+    let mut left = content;
+    while let Some((byte, after)) = left.split_first() {
+        if !is_plain(*byte) {
+            return left;
+        }
+        state.write_u8(*byte);
+        left = after;
+    }
+    left
+}
+
+/// Feeds a hasher the characters of what stands between apostrophes.
+fn feed_content<H: Hasher>(content: &[u8], state: &mut H)
+    ensures { state.new ≡ fold H.write state.old (content_writes content.now) }
+{
+    for item in Items::of_content(content) {
+        match item {
+            Item::Code(code) => feed_code(code, state),
+            Item::Page(page, byte) => {
+                state.write_u8(PAGE);
+                state.write_u8(page);
+                state.write_u8(byte);
+            }
+            Item::Raw(byte) => {
+                state.write_u8(RAW);
+                state.write_u8(byte);
+            }
+        }
     }
 }

@@ -1,13 +1,21 @@
+use Rattle.std.proofs.Common.{sym, subst}
+use Rattle.step_equal.specs.Standard.{IsStandard}
+use Rattle.step_equal.specs.TableViews.{table_of}
 use Rattle.step_pins.specs.Pinned.{is_pinned}
 use Rattle.merge_tables.proofs.tables.tables_by.Goals as goal
 
+pub second_table-requires-clause-first : goal.second_table-requires-clause-first
+second_table-requires-clause-first c are_weak =
+    subst (λ p. IsStandard c.args.rows p (table_of c.in_ok-first.first))
+    (λ i y. sym (c.in_ok-gentle.ensures.weak.0 are_weak y) i) c.in_ok-first.ensures
+
 pub returns : goal.returns
 returns c s is are unique = record {
-  rows = c.args.rows.now;
+  rows = c.args.rows;
   are_rows = are;
   population = c.requires.population;
-  pinned = is_pinned c.in_ok-gentle.gentle;
-  gentle = c.in_ok-gentle.ensures s is unique;
+  pinned = is_pinned c.in_ok-gentle.gentle.pins;
+  gentle = c.in_ok-gentle.ensures.pins s is unique;
   first_is = c.in_ok-first.ensures;
   second_is = c.in_ok-second.ensures;
 }

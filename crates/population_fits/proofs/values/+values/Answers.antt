@@ -1,5 +1,6 @@
 use Rattle.std.proofs.Common.{◌∙◌, sym, ap, subst, arith}
-use Rattle.conformance.specs.Fitting.{or_this}
+use Rattle.step_structures.specs.Words.{name, number, string}
+use Rattle.conformance.specs.Fitting.{element, or_this}
 use Rattle.step_records.specs.Params.{node_value}
 use Rattle.step_records.proofs.Weights.{weight, lighter}
 use Rattle.step_values.specs.Building.{Building}
@@ -7,7 +8,7 @@ use Rattle.step_values.specs.Values.{sequence, bag}
 use Rattle.schema_bases.specs.Seen.{base_seen, schema_at}
 use Rattle.population_rows.specs.Index.{found}
 use Rattle.population_fits.specs.References.{AreFound, RefersWithin}
-use Rattle.population_fits.proofs.Pushed.{reached, bag_gathered, sequence_gathered, some_pending, or_itself, refers_at, pushed_next, typed_closed, list_closed}
+use Rattle.population_fits.proofs.Pushed.{reached, bag_gathered, sequence_gathered, some_pending, or_itself, refers_at, pushed_next, typed_closed, list_closed, as_asked, whatever_asked}
 use Rattle.population_fits.proofs.values.+values.Goals as goal
 
 pub push_value-push_node-requires : goal.push_value-push_node-requires
@@ -26,8 +27,8 @@ push_value-push_node-requires t c =
       ),
     )
 
-pub push_each-push_value-requires : goal.push_each-push_value-requires
-push_each-push_value-requires t c =
+pub push_each-push_element-requires : goal.push_each-push_element-requires
+push_each-push_element-requires t c =
     let less = lighter c.args.params.now c.loop-i.i c.at.result c.at.ensures in (
       omega (arith, less, c.decreases),
       (
@@ -44,13 +45,58 @@ push_each-push_value-requires t c =
 
 pub push_each-loop-i-preserved : goal.push_each-loop-i-preserved
 push_each-loop-i-preserved t c =
+    let s = schema_at c.args.bases.now in
     let some = c.requires.bases.1.exists in
     record {
-      names = ap (λ (b : Building). b.names) (c.in_ok-push_value.ensures some.0 some.1) ∙ c.loop-i.invariant.names;
-      pushed = λ d h. pushed_next (schema_at c.args.bases.now) d (base_seen (schema_at c.args.bases.now) c.args.base.now)
-          c.args.builder.now c.loop-i.builder c.push_value.new.builder c.args.params.now c.loop-i.i c.at.result
-          c.at.ensures (c.loop-i.invariant.pushed d h) (c.in_ok-push_value.ensures d h);
+      names = ap (λ (b : Building). b.names) (c.in_ok-push_element.ensures some.0 some.1) ∙ c.loop-i.invariant.names;
+      pushed = λ d h. pushed_next s d (element s d (base_seen s c.args.base.now)) c.args.builder.now c.loop-i.builder
+          c.push_element.new.builder c.args.params.now c.loop-i.i c.at.result c.at.ensures
+          (c.loop-i.invariant.pushed d h) (c.in_ok-push_element.ensures d h);
     }
+
+pub push_element-push_reference-requires-clause-within : goal.push_element-push_reference-requires-clause-within
+push_element-push_reference-requires-clause-within t c =
+    subst (RefersWithin (found c.args.index.now)) (sym c.node.ensures ∙ ap node_value c.in-Reference.is) c.requires.within
+
+pub push_element-push_inside-requires : goal.push_element-push_inside-requires
+push_element-push_inside-requires t c = (
+  omega (arith, c.decreases),
+  (c.requires.bases, (c.requires.numbered, (c.requires.indexed, c.requires.within))),
+)
+
+pub push_element-returns-in-Number : goal.push_element-returns-in-Number
+push_element-returns-in-Number t c =
+    let s = schema_at c.args.bases.now in
+    whatever_asked s c.args.builder.now c.push_number.new.self (λ d. element s d (base_seen s c.args.base.now))
+    (number c.in-Number.literal.text.now) c.args.param (ap node_value (sym c.in-Number.is) ∙ c.node.ensures)
+    c.push_number.result c.push_number.ensures
+
+pub push_element-returns-in-Text : goal.push_element-returns-in-Text
+push_element-returns-in-Text t c =
+    let s = schema_at c.args.bases.now in
+    whatever_asked s c.args.builder.now c.push_text.new.self (λ d. element s d (base_seen s c.args.base.now))
+    (string c.in-Text.text.text.now) c.args.param (ap node_value (sym c.in-Text.is) ∙ c.node.ensures)
+    c.push_text.result c.push_text.ensures
+
+pub push_element-returns-in-Reference : goal.push_element-returns-in-Reference
+push_element-returns-in-Reference t c =
+    let s = schema_at c.args.bases.now in
+    whatever_asked s c.args.builder.now c.push_reference.new.builder (λ d. element s d (base_seen s c.args.base.now))
+    (name c.in-Reference.name _) c.args.param (ap node_value (sym c.in-Reference.is) ∙ c.node.ensures)
+    c.push_reference.result c.push_reference.ensures
+
+pub push_inside-push_value-requires : goal.push_inside-push_value-requires
+push_inside-push_value-requires t c = (
+  omega (arith, c.decreases),
+  (c.requires.bases, (c.element-inside.ensures.numbered, (c.requires.indexed, c.requires.within))),
+)
+
+pub push_inside-returns : goal.push_inside-returns
+push_inside-returns t c =
+    let s = schema_at c.args.bases.now in
+    as_asked s c.args.builder.now c.push_value.new.builder (base_seen s c.element-inside.result)
+    (λ d. element s d (base_seen s c.args.base.now)) c.args.param c.element-inside.ensures.says c.push_value.result
+    c.push_value.ensures
 
 pub push_list-close_bag-requires : goal.push_list-close_bag-requires
 push_list-close_bag-requires t c =
@@ -69,20 +115,18 @@ push_list-returns-then-has_no_order t c =
     let s = schema_at c.args.bases.now in
     let some = c.requires.bases.1.exists in
     list_closed s bag c.args.builder.now c.push_each.new.builder c.close_bag.new.self
-    c.pending_len-mark.result c.pending_len-mark.ensures (base_seen s c.args.base.now) (base_seen s c.element-inside.result)
-    c.args.params.now
+    c.pending_len-mark.result c.pending_len-mark.ensures (base_seen s c.args.base.now) c.args.params.now
     (λ vs. bag_gathered (base_seen s c.args.base.now) vs (sym (c.has_no_order.ensures s) ∙ c.if-has_no_order.true))
-    some c.element-inside.ensures.says c.in_ok-push_each.ensures c.close_bag.result c.close_bag.ensures
+    some c.in_ok-push_each.ensures c.close_bag.result c.close_bag.ensures
 
 pub push_list-returns-else-has_no_order : goal.push_list-returns-else-has_no_order
 push_list-returns-else-has_no_order t c =
     let s = schema_at c.args.bases.now in
     let some = c.requires.bases.1.exists in
     list_closed s sequence c.args.builder.now c.push_each.new.builder c.close_sequence.new.self
-    c.pending_len-mark.result c.pending_len-mark.ensures (base_seen s c.args.base.now) (base_seen s c.element-inside.result)
-    c.args.params.now
+    c.pending_len-mark.result c.pending_len-mark.ensures (base_seen s c.args.base.now) c.args.params.now
     (λ vs. sequence_gathered (base_seen s c.args.base.now) vs (sym (c.has_no_order.ensures s) ∙ c.if-has_no_order.false))
-    some c.element-inside.ensures.says c.in_ok-push_each.ensures c.close_sequence.result c.close_sequence.ensures
+    some c.in_ok-push_each.ensures c.close_sequence.result c.close_sequence.ensures
 
 pub push_node-push_typed-requires : goal.push_node-push_typed-requires
 push_node-push_typed-requires t c =

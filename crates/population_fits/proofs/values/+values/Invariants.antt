@@ -1,6 +1,6 @@
 use Rattle.std.proofs.Common.{◌*◌, ◌+◌, ◌≡◌, take}
 use Rattle.conformance.specs.Bases.{Domain, IsDomain}
-use Rattle.conformance.specs.Fitting.{values_as}
+use Rattle.conformance.specs.Fitting.{element, values_as}
 use Rattle.schema_bases.specs.Seen.{base_seen, schema_at}
 use Rattle.step_records.specs.Cells.{all_of}
 use Rattle.step_records.specs.Params.{node_value}
@@ -12,7 +12,8 @@ abbrev pub invariant-push_each-loop-i : goal.invariant-push_each-loop-i
 invariant-push_each-loop-i l = record {
   names : l.builder.names ≡ l.initial.builder.names;
   pushed : (d : Domain) → IsDomain (schema_at l.bases) d → PushesEach l.initial.builder l.builder
-      (values_as (schema_at l.bases) d (base_seen (schema_at l.bases) l.base) (all_of (take l.i l.params)));
+      (values_as (schema_at l.bases) d (element (schema_at l.bases) d (base_seen (schema_at l.bases) l.base))
+      (all_of (take l.i l.params)));
 }
 
 abbrev pub decreases-push_value : goal.decreases-push_value
@@ -29,3 +30,9 @@ decreases-push_list a = 4 * weights a.params.now + 2
 
 abbrev pub decreases-push_each : goal.decreases-push_each
 decreases-push_each a = 4 * weights a.params.now + 1
+
+abbrev pub decreases-push_element : goal.decreases-push_element
+decreases-push_element a = 4 * weight a.param + 3
+
+abbrev pub decreases-push_inside : goal.decreases-push_inside
+decreases-push_inside a = 4 * weight a.param + 2

@@ -1,7 +1,11 @@
-use Rattle.std.proofs.Common.{◌≡◌, take}
+use Rattle.std.proofs.Common.{◌≡◌, ◌<◌, ◌^◌, take}
+use Rattle.std.specs.List.{All}
+use Rattle.step_equal.specs.Views.{head_names}
 use Rattle.population_typed.specs.Ordering.{heads_made}
 use Rattle.population_typed.proofs.plain.heads.Given as goal
 
 abbrev pub invariant-loop-i : goal.invariant-loop-i
-invariant-loop-i l =
-    l.heads.items ≡ heads_made l.formless (take l.i l.sections) (take l.i l.names) (take l.i l.form_of)
+invariant-loop-i l = record {
+  made : l.heads.items ≡ heads_made l.formless (take l.i l.sections) (take l.i l.names) (take l.i l.form_of);
+  range : All (λ y. y < 2 ^ 64) (head_names l.heads.items);
+}

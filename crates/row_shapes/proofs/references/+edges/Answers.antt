@@ -1,9 +1,15 @@
-use Rattle.std.proofs.Common.{◌≡◌, arith}
+use Rattle.std.proofs.Common.{◌≡◌, ◌∙◌, refl, subst, sym, arith}
 use Rattle.step_equal.specs.Rows.{IsName}
 use Rattle.step_values.specs.Shapes.{outside}
 use Rattle.step_values.proofs.Weights.{weight_of, lighter}
-use Rattle.row_shapes.proofs.Referring.{added_all, added_count, added_more, named_within}
+use Rattle.row_shapes.specs.ComputedReferences.{AddsEdges}
+use Rattle.row_shapes.proofs.Referring.{added_all, added_count, added_more, named_within, none_outside}
 use Rattle.row_shapes.proofs.references.+edges.Goals as goal
+
+pub push_edges-returns-then-not-leads_on : goal.push_edges-returns-then-not-leads_on
+push_edges-returns-then-not-leads_on t c =
+    subst (λ ys. AddsEdges c.args.input.now c.args.source c.args.first ys c.args.edges.now.items c.args.edges.now.items)
+    (sym (none_outside c.args.value.now (sym c.leads_on.ensures ∙ c.if-not-leads_on.true))) refl
 
 pub push_each-push_edges-requires : goal.push_each-push_edges-requires
 push_each-push_edges-requires t c =

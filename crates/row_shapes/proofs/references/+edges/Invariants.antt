@@ -1,11 +1,15 @@
-use Rattle.std.proofs.Common.{◌≤◌, length}
+use Rattle.std.proofs.Common.{◌≤◌, suc, length}
+use Rattle.step_values.specs.Slots.{node_value}
 use Rattle.step_values.proofs.Walks.{after}
 use Rattle.step_values.proofs.Weights.{weight, weight_of}
 use Rattle.row_shapes.proofs.Referring.{Left}
 use Rattle.row_shapes.proofs.references.+edges.Given as goal
 
 abbrev pub decreases-push_edges : goal.decreases-push_edges
-decreases-push_edges l = weight l.value.now
+decreases-push_edges l = suc (weight l.value.now)
+
+abbrev pub decreases-push_node_edges : goal.decreases-push_node_edges
+decreases-push_node_edges l = weight (node_value l.node.now)
 
 abbrev pub decreases-push_each : goal.decreases-push_each
 decreases-push_each l = weight_of l.values.now

@@ -1,4 +1,5 @@
-use Rattle.std.proofs.Common.{◌≡◌, ◌∙◌, sym, subst, arith}
+use Rattle.std.proofs.Common.{◌≡◌, ◌<◌, ◌^◌, ◌∙◌, sym, subst, arith}
+use Rattle.std.specs.List.{All}
 use Rattle.std.proofs.lemmas.List.{length-map}
 use Rattle.step_values.specs.Targets.{LeadTo}
 use Rattle.step_equal.specs.ComputedPlaces.{Finds}
@@ -36,6 +37,7 @@ invariant_of-result c =
               length_seen (type_lists_of ks) heads,
               length_from hs rows each,
             ));
+        range = subst (All (λ y. y < 2 ^ 64)) named c.requires.range;
       };
       leads = subst (λ ns. LeadTo ns c.args.values.targets) named c.requires.leads;
     })

@@ -1,8 +1,15 @@
-use Rattle.std.proofs.Common.{◌≡◌, arith}
+use Rattle.std.proofs.Common.{◌≡◌, ◌∙◌, sym, arith}
 use Rattle.conformance.specs.Standing.{InBag, InBagOf}
 use Rattle.step_values.proofs.Weights.{weight_of, lighter}
+use Rattle.step_pins.proofs.Bagged.{none-bagged}
+use Rattle.step_pins.proofs.Pinning.{pins-nothing}
 use Rattle.step_pins.proofs.Walking.{next, ends}
 use Rattle.step_pins.proofs.bags.+bags.Goals as goal
+
+pub pin_in_bags-returns-then-not-has_parts : goal.pin_in_bags-returns-then-not-has_parts
+pin_in_bags-returns-then-not-has_parts t c =
+    pins-nothing (λ y. InBag y c.args.value.now) c.args.pinned.now
+    (λ y. none-bagged y c.args.value.now (sym c.has_parts.ensures ∙ c.if-not-has_parts.true))
 
 pub pin_in_bags_of_each-pin_in_bags-requires : goal.pin_in_bags_of_each-pin_in_bags-requires
 pin_in_bags_of_each-pin_in_bags-requires t c =

@@ -1,11 +1,16 @@
+use Rattle.std.proofs.Common.{suc}
 use Rattle.conformance.specs.Standing.{InBagOf}
+use Rattle.step_values.specs.Slots.{node_value}
 use Rattle.step_values.proofs.Walks.{after}
 use Rattle.step_values.proofs.Weights.{weight, weight_of}
 use Rattle.step_pins.specs.Pinning.{PinsUpTo}
 use Rattle.step_pins.proofs.bags.+bags.Given as goal
 
 abbrev pub decreases-pin_in_bags : goal.decreases-pin_in_bags
-decreases-pin_in_bags l = weight l.value.now
+decreases-pin_in_bags l = suc (weight l.value.now)
+
+abbrev pub decreases-pin_in_bags_of_node : goal.decreases-pin_in_bags_of_node
+decreases-pin_in_bags_of_node l = weight (node_value l.node.now)
 
 abbrev pub decreases-pin_in_bags_of_each : goal.decreases-pin_in_bags_of_each
 decreases-pin_in_bags_of_each l = weight_of l.values.now

@@ -59,3 +59,6 @@ returns c =
     plain-rows c.args.self c.in_ok-orders.orders.items c.deref.result.now c.deref-3.result.now c.in_ok-orders.ensures
     c.deref.ensures.value c.deref-3.ensures.value c.deref-2.result.now c.deref-2.ensures.value
     c.in_ok-values.values.rows c.in_ok-values.ensures.rows c.rows_with.result c.rows_with.ensures
+
+pub rows_with-requires-clause-indexed : goal.rows_with-requires-clause-indexed
+rows_with-requires-clause-indexed c = (kept c.args.self).index

@@ -1,5 +1,5 @@
-use Rattle.std.proofs.Common.{◌<◌, ◌∙◌, sym, ap, length, nat_eq, subst}
-use Rattle.std.specs.List.{IsDistinct}
+use Rattle.std.proofs.Common.{◌<◌, ◌^◌, ◌∙◌, sym, ap, length, nat_eq, subst}
+use Rattle.std.specs.List.{All, IsDistinct}
 use Rattle.std.proofs.lemmas.List.{length-map}
 use Rattle.std.proofs.lemmas.Result.{err_from_is_err_and}
 use Rattle.step_values.specs.Targets.{LeadTo, ReferTo}
@@ -53,6 +53,14 @@ settled-requires-clause-distinct c =
     let same = named ∙ sym (names_numbered 0 c.args.rows.items) ∙ ap head_names (sym heads) in
     subst (IsDistinct nat_eq) same
     (rw c.deref-2.ensures.value at c.in_ok-places.ensures.distinct)
+
+pub settled-requires-clause-range : goal.settled-requires-clause-range
+settled-requires-clause-range c =
+    let named = rw c.deref.ensures.value at c.in_ok-names.ensures in
+    let heads = rw c.deref-5.ensures.value at c.in_ok-heads.ensures in
+    let same = named ∙ sym (names_numbered 0 c.args.rows.items) ∙ ap head_names (sym heads) in
+    subst (All (λ y. y < 2 ^ 64)) same
+    (rw c.deref-2.ensures.value at c.in_ok-places.ensures.range)
 
 pub settled-requires-clause-leads : goal.settled-requires-clause-leads
 settled-requires-clause-leads c =

@@ -1,7 +1,13 @@
-use Rattle.std.proofs.Common.{◌∙◌, ap, sym, length}
+use Rattle.std.proofs.Common.{◌<◌, ◌^◌, ◌∙◌, ap, subst, sym, length}
+use Rattle.std.specs.List.{All}
+use Rattle.step_equal.specs.Rows.{names}
 use Rattle.step_equal.specs.Views.{heads_seen, type_lists_of}
 use Rattle.step_equal.proofs.Parted.{length_from, length_seen}
 use Rattle.step_equal.proofs.plain.Plain.len.Goals as goal
+
+pub returns-clause-range : goal.returns-clause-range
+returns-clause-range c =
+    subst (λ rows. All (λ y. y < 2 ^ 64) (names rows)) c.self.view_is c.self.invariant.placed.range
 
 pub returns-clause-length : goal.returns-clause-length
 returns-clause-length c =

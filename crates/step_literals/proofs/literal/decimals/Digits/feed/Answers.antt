@@ -1,23 +1,8 @@
-use Rattle.std.proofs.Common.{ℕ, List, ◌∙◌, arith}
+use Rattle.std.proofs.Common.{arith}
 use Rattle.step_literals.specs.Digits.{digits_of}
-use Rattle.step_literals.proofs.DecimalDigits.{fed_at, fed_before_it, front_wraps}
+use Rattle.step_literals.proofs.DigitSlices.{few_fed}
 use Rattle.step_literals.proofs.literal.decimals.Digits.feed.Goals as goal
-use Rattle.step_literals.proofs.literal.decimals.Digits.feed.Goals.{then-i, else-i}
 
-pub loop-i-preserved : goal.loop-i-preserved
-loop-i-preserved g c =
-    let write = g.H.Hasher.write in
-    let xs : List ℕ = digits_of c.args.self.now in
-    let i : ℕ = c.loop-i.i in
-    let worth = front_wraps xs i c.loop-i.value c.from.result c.loop-i.invariant.value (c.from.ensures ∙ c.digit.ensures) in
-    record {
-      value = worth;
-      fed = elim c.if-i.branch [
-        | then-i w ↦
-            fed_at write c.args.state.now c.loop-i.state c.if-i.state xs i c.loop-i.invariant.fed _ (omega (arith, w.if-i))
-            worth (w.state-is ∙ w.write_u64.ensures)
-        | else-i w ↦
-            fed_before_it write c.args.state.now c.loop-i.state c.if-i.state xs i c.loop-i.invariant.fed
-            (λ e. omega (arith, e, w.if-i)) w.state-is
-      ];
-    }
+pub returns-else-len-ge-TOLD : goal.returns-else-len-ge-TOLD
+returns-else-len-ge-TOLD g c = few_fed g.H.Hasher.write c.args.state.now c.args.len (digits_of c.args.self.now)
+    (omega (arith, c.if-len-ge-TOLD.false))

@@ -1,0 +1,51 @@
+-- The laws of the rows of populations: what they are named, which of them are pinned, and when they are a population.
+use Rattle.std.specs.Prelude.{◌≡◌, ℕ, ◌==◌, Bool, IsTrue, List, [], map}
+use Rattle.std.specs.List.{IsDistinct}
+use Rattle.step_structures.specs.Trees as trees
+use Rattle.step_structures.specs.Trees.{File, rows_of}
+use Rattle.step_structures.specs.Fits.{the_rules, FitsFile}
+use Rattle.step_equal.specs.Rows as rows
+use Rattle.step_equal.specs.Rows.{Row, IsPopulation, BagsArePinned}
+use Rattle.express_syntax.specs.Schemas.{Schema}
+use Rattle.schema_semantics.specs.Names.{Name}
+use Rattle.conformance.specs.Bases.{Domain}
+use Rattle.conformance.specs.Entities.{Entities, AreEntities}
+use Rattle.conformance.specs.Findings.{findings}
+use Rattle.conformance.specs.Populations.{Instance, population_of}
+use Rattle.conformance.specs.Conforming.{PopulationConforms}
+use Rattle.conformance.specs.PopulationLaws.{AreOf}
+use Rattle.conformance.specs.Rules.{Rules}
+use Rattle.conformance.specs.Pins.{IsWeaklyPinned}
+use Rattle.conformance.specs.PlainRows.{AreRowsOf}
+use Rattle.conformance.specs.RuleLaws.{names}
+
+-- The names of rows are those of the instances that they are of, in order.
+abbrev pub RowsHaveNames : Type 0
+RowsHaveNames = (s : Schema) (is : List Instance) (P : List Row) → AreRowsOf s is P → rows.names P ≡ names is
+
+-- The names of the population of a file are those of its instances, in the order of the text, whatever the schema says;
+-- and where the file fits, none stands twice.
+abbrev pub FilesNameInstances : Type 0
+FilesNameInstances = (s : Schema) (d : Domain) (en : Entities) (f : File)
+    → (names (population_of s d en f) ≡ map (λ (r : trees.Row). r.name) (rows_of f.sections))
+    × (FitsFile the_rules f → IsDistinct (◌==◌) (names (population_of s d en f)))
+
+-- Whatever else is pinned, each reference that stands in a SET or BAG of a row, at any depth, names an instance that is
+-- pinned.
+abbrev pub BagsOfRowsArePinned : Type 0
+BagsOfRowsArePinned = (s : Schema) (d : Domain) (en : Entities) (rules : Rules) (chosen : List Name)
+    (is : List Instance) (P : List Row) (pinned : ℕ → Bool) → AreRowsOf s is P
+    → ((y : ℕ) → IsWeaklyPinned s d en rules chosen is y → IsTrue (pinned y)) → BagsArePinned P pinned
+
+-- The rows of instances that conform, of which no two have one name, are a population: no name stands twice, and each
+-- reference names a row ..
+abbrev pub RowsOfConformingArePopulations : Type 0
+RowsOfConformingArePopulations = (s : Schema) (d : Domain) (en : Entities) → AreEntities s en
+    → (is : List Instance) (P : List Row) → IsDistinct (◌==◌) (names is) → PopulationConforms s d en is
+    → AreRowsOf s is P → IsPopulation P
+
+-- .. and so are those of a file that fits and of which there are no findings.
+abbrev pub RowsOfFilesArePopulations : Type 0
+RowsOfFilesArePopulations = (s : Schema) (d : Domain) (en : Entities) → AreOf s d en
+    → (f : File) (P : List Row) → FitsFile the_rules f → findings s d en f ≡ []
+    → AreRowsOf s (population_of s d en f) P → IsPopulation P

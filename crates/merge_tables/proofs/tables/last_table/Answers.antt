@@ -1,0 +1,12 @@
+use Rattle.std.proofs.Common.{sym, subst}
+use Rattle.step_equal.specs.Maps as maps
+use Rattle.step_equal.specs.Standard.{IsStandard}
+use Rattle.step_pins.specs.Pinned.{is_pinned}
+use Rattle.merge_tables.proofs.tables.last_table.Goals as goal
+
+pub returns : goal.returns
+returns c =
+    let rows = c.args.rows.now in
+    subst (IsStandard rows (is_pinned c.args.pinned.now)) (sym c.into_table.ensures)
+    (subst (λ names. IsStandard rows (maps.is_pinned names) c.in_ok-classes.classes) c.names.ensures
+    c.in_ok-classes.ensures.standard)
