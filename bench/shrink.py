@@ -8,8 +8,9 @@ bench/check.py, and runs both commands on each, the best of five runs. Prints th
 of that of `check`, its memory beside the size of the file, and how many instances are kept.
 
 The files: `points` and `parts` as bench/check.py makes them, where all entities are chosen; `points` also by
-the schemas with rules of the population and with domain rules, and twice as large. And nodes that refer to
-each other, as long a file each: a `cycle`, all nodes of which are one; a `chain` that is parted one node a
+the schemas with rules of the population and with domain rules, and twice as large; `numbers`, `references`, `referrers`
+and `words` of bench/check.py, the last two by the schema with rules of the population. And nodes that refer to each
+other, as long a file each: a `cycle`, all nodes of which are one; a `chain` that is parted one node a
 round, from its end; and a `reversed` chain, whose nodes come in the other order.
 """
 import argparse
@@ -18,7 +19,7 @@ import subprocess
 import sys
 import tempfile
 
-from check import DOMAIN_RULES, FILES, FOOTER, HEADER, RULES, SCHEMA, replaced
+from check import DOMAIN_RULES, FILES, FOOTER, HEADER, RULED_FILES, RULES, SCHEMA, replaced
 from plain import run
 
 NODES = """SCHEMA bench;
@@ -95,6 +96,10 @@ def main():
         for what in (it for it in SCHEMAS if it):
             measure(f"points, {what}", points(size), words.program, paths[what], CHOSEN, folder)
         measure("parts", parts(size // 2), words.program, paths[""], CHOSEN, folder)
+        for name in ("numbers", "references"):
+            measure(name, FILES[name][0](size), words.program, paths[""], CHOSEN, folder)
+        for name in ("referrers", "words"):
+            measure(name, RULED_FILES[name][0](size), words.program, paths["rules of the population"], CHOSEN, folder)
         for make in (cycle, chain, reversed_chain):
             seconds = measure(make.__name__, make(size), words.program, paths["nodes"], "NODE", folder)
             print(f"{make.__name__}: {seconds / plain:.2f} times as long as points")

@@ -6,7 +6,7 @@
 Without PROGRAM, `stepmin` is proved and built in a copy of the repository. Each run has its words, its
 outputs, a stack of 1 MiB and, where memory is to run out, its limit of memory (`ulimit -v`); the status, the
 standard output and the standard error that it has to come to are written beside them, and the files that it
-has to have made. A device that is full is /dev/full. And `check` has to refuse each front of a schema that ends
+has to have made. What `shrink` writes is shrunk once more, and has to stay as it is. A device that is full is /dev/full. And `check` has to refuse each front of a schema that ends
 before its last semicolon. `.ci/run` runs this behind the gate, on the program that the gate has built.
 
 Status 0: each run came to that. 1: one didn't. 2: the words are wrong.
@@ -56,9 +56,32 @@ EQUAL = """#1=POINT((0.,1.));
 SMALLER = FRAME % """#1=POINT((0.,1.));
 #3=PLACEMENT(#1,$);
 """
+USUAL = """#1=DIRECTION((1.,0.));
+#2=DIRECTION((1.0,0.));
+#3=POINT((0.));
+#4=POINT((0.));
+"""
+HEADED = (FRAME % """#1=POINT((0.));
+#2=POINT((0.));
+ENDSEC;
+DATA('b',('GEO'));
+#3=POINT((0.));
+#4=PLACEMENT(#2,$);
+""").replace("DATA;", "DATA('a',('GEO'));")
 TABLE = "rounds 0\nC0\nC1\n#1=C0\n#2=C0\n#3=C1\n#4=C1\n"
-CERTIFICATE = f"STEPCERT 2\ntable 1\n{TABLE}table 2\n{TABLE}end\n"
+
+
+def certificate_of(table):
+    """A certificate whose two tables are these lines."""
+    return f"STEPCERT 2\ntable 1\n{table}table 2\n{table}end\n"
+
+
+CERTIFICATE = certificate_of(TABLE)
+THREE = "rounds 0\nC0\nC1\nC2\n#1=C0\n#2=C0\n#3=C1\n#4=C2\n"
 PROCEDURE = SCHEMA.replace("END_SCHEMA;", "PROCEDURE nothing; END_PROCEDURE;\nEND_SCHEMA;")
+CALLING = SCHEMA.replace("UNIQUE point; END_ENTITY;", "UNIQUE point;\nWHERE wr1 : ok(corners[1]); END_ENTITY;").replace(
+    "END_SCHEMA;", "FUNCTION ok(p : point) : BOOLEAN; RETURN (TRUE); END_FUNCTION;\nEND_SCHEMA;")
+UNCHECKED = "unchecked WHERE LOOP.WR1 Profile\nunchecked FUNCTION OK Skipped\n"
 LARGE = FRAME % "".join(f"#{name}=POINT((0.,1.));\n" for name in range(1, 1_000_000))
 
 
@@ -74,6 +97,11 @@ NODE = "SCHEMA geo;\nENTITY node; next : node; END_ENTITY;\nEND_SCHEMA;\n"
 CYCLE = FRAME % "".join(f"#{k}=NODE(#{k % NODES + 1});\n" for k in range(1, NODES + 1))
 ONE_NODE = FRAME % "#1=NODE(#1);\n"
 ONE_CLASS = "rounds 0\nC0\n" + "".join(f"#{k}=C0\n" for k in range(1, NODES + 1))
+
+# A chain of a thousand nodes, whose last one is a member of a SET: at each round one node is told from those before it.
+CHAIN = FRAME % ("".join(f"#{k}=NODE(#{min(k + 1, 1000)});\n" for k in range(1, 1001)) + "#1001=BUNDLE((#1000));\n")
+PARTED = ("rounds 998\nC0\nC1\nC2\n" + "".join(f"C{k + 2}=C0@{k}\n" for k in range(1, 999))
+          + "".join(f"#{k}=C{0 if k == 1 else 1002 - k}\n" for k in range(1, 1000)) + "#1000=C1\n#1001=C2\n")
 
 # Schemas whose names are wrong, and the fault of each.
 NAMES = {
@@ -155,9 +183,27 @@ SHRINKING = [
      {"out": SHRUNK, "made": {"small.stp": SMALLER, "bad.cert": CERTIFICATE}}),
     (["node.exp", "cycle.stp", *WRITTEN, "--merge", "NODE"], 0,
      {"out": f"instances {NODES}\nunknown 0\nfindings 0\nkept 1\nrounds 0\n", "made": {
-         "out.stp": ONE_NODE, "out.cert": f"STEPCERT 2\ntable 1\n{ONE_CLASS}table 2\n{ONE_CLASS}end\n"}}),
+         "out.stp": ONE_NODE, "out.cert": certificate_of(ONE_CLASS)}}),
+    (["geo.exp", "chain.stp", *WRITTEN, "--merge", "NODE"], 0,
+     {"out": "instances 1001\nunknown 0\nfindings 0\nkept 1001\nrounds 998\n",
+      "made": {"out.stp": CHAIN, "out.cert": certificate_of(PARTED)}}),
+    (["geo.exp", "usual.stp", *WRITTEN], 0,
+     {"out": "instances 4\nunknown 0\nfindings 0\nkept 3\nrounds 0\n", "made": {
+         "out.stp": FRAME % USUAL.replace("#2=DIRECTION((1.0,0.));\n", ""), "out.cert": certificate_of(THREE)}}),
+    (["geo.exp", "headed.stp", *WRITTEN, "--merge", "POINT"], 0,
+     {"out": "instances 4\nunknown 1\nfindings 0\nkept 3\nrounds 0\n", "made": {
+         "out.stp": HEADED.replace("#2=POINT((0.));\n", "").replace("(#2,", "(#1,"), "out.cert": certificate_of(THREE)}}),
+    (["geo.exp", "plate.stp", *WRITTEN, "--merge", "POINT,DIRECTION,PLACEMENT"], 0,
+     {"out": "instances 630\nunknown 0\nfindings 0\nkept 279\nrounds 2\n", "made": {"out.stp": 9022, "out.cert": None}}),
     (["geo.exp", "broken.stp", *WRITTEN], 1,
      {"out": "F5 ParameterCount #1 0\ninstances 1\nunknown 0\nfindings 1\n"}),
+    (["geo.exp", "flat.stp", *WRITTEN], 1,
+     {"out": "F16 WhereFalse #1 DIRECTION.WR1\ninstances 1\nunknown 0\nfindings 1\n"}),
+    (["calling.exp", "empty.stp", *WRITTEN, "--merge", "POINT", "--strict"], 1,
+     {"out": UNCHECKED, "err": "strict: 2 unchecked\n"}),
+    (["calling.exp", "empty.stp", *WRITTEN, "--merge", "POINT"], 0,
+     {"out": UNCHECKED + "instances 0\nunknown 0\nfindings 0\nkept 0\nrounds 0\n",
+      "made": {"out.stp": FRAME % "", "out.cert": certificate_of("rounds 0\n")}}),
     (["procedure.exp", "equal.stp", *WRITTEN, *MERGE], 0,
      {"out": "unchecked PROCEDURE NOTHING Skipped\n" + SHRUNK, "made": BOTH}),
     (["procedure.exp", "equal.stp", *WRITTEN, *MERGE, "--strict"], 1,
@@ -167,7 +213,11 @@ SHRINKING = [
     (["geo.exp", "equal.stp", *WRITTEN, "--merge", "PONIT"], 2, {"err": "schema: S3 UnknownName PONIT\n"}),
     (["geo.exp", "equal.stp", "out.stp"], 3, {"err": "error: ...\n"}),
     (["geo.exp", "equal.stp", "out.stp", "out.stp"], 3, {"err": "error: ...\n"}),
+    (["geo.exp", "equal.stp", *WRITTEN, "--merge", "CIRCLE"], 2, {"err": "schema: S3 UnknownName CIRCLE\n"}),
+    (["cut.exp", "cut.stp", *WRITTEN, "--merge", "PONIT"], 2, {"err": "schema: S2 Expected at byte ...\n"}),
+    (["geo.exp", "cut.stp", *WRITTEN, "--merge", "PONIT"], 2, {"err": "schema: S3 UnknownName PONIT\n"}),
     (["geo.exp", "equal.stp", *WRITTEN, "--merge", "POINT,"], 3, {"err": "error: ...\n"}),
+    (["geo.exp", "equal.stp", *WRITTEN, "--merge", "POINT,,NODE"], 3, {"err": "error: ...\n"}),
     (["missing.exp", "equal.stp", *WRITTEN], 4, {"err": "device: schema\n"}),
     (["geo.exp", "missing.stp", *WRITTEN], 4, {"err": "device: file\n"}),
     (["geo.exp", "equal.stp", "missing/out.stp", "out.cert", *MERGE], 4,
@@ -226,6 +276,7 @@ RUNS = [
     Run(["plain", "large.stp"], 5, megabytes=24, err="memory\n"),
     Run(["plain", "large.stp"], 5, megabytes=96, err="memory\n"),
     Run(["check", "geo.exp", "small.stp"], 0, out="instances 1\nunknown 0\nfindings 0\n"),
+    Run(["check", "calling.exp", "empty.stp"], 0, out=UNCHECKED + "instances 0\nunknown 0\nfindings 0\n"),
     Run(["check", "geo.exp", "broken.stp"], 1,
         out="F5 ParameterCount #1 0\ninstances 1\nunknown 0\nfindings 1\n"),
     Run(["check", "cut.exp", "small.stp"], 2, err="schema: S2 Expected at byte ...\n"),
@@ -253,7 +304,9 @@ RUNS = [
 FILES = {
     "spelt.stp": SPELT, "normal.stp": NORMAL, "cut.stp": CUT, "large.stp": LARGE, "small.stp": SMALL, "broken.stp": BROKEN,
     "equal.stp": FRAME % EQUAL, "self.stp": FRAME % EQUAL, "smaller.stp": SMALLER,
-    "geo.exp": SCHEMA, "cut.exp": SCHEMA[:len(SCHEMA) // 2], "procedure.exp": PROCEDURE,
+    "empty.stp": FRAME % "", "flat.stp": FRAME % "#1=DIRECTION((0.,0.));\n", "usual.stp": FRAME % USUAL, "headed.stp": HEADED,
+    "plate.stp": text_of("examples", "plate.stp"), "chain.stp": CHAIN,
+    "geo.exp": SCHEMA, "cut.exp": SCHEMA[:len(SCHEMA) // 2], "procedure.exp": PROCEDURE, "calling.exp": CALLING,
     **DERIVED, "derived.stp": FRAME % "#1=A(.T.,(.T.));\n", "node.exp": NODE, "cycle.stp": CYCLE,
     **{name: f"SCHEMA s;\n{body}\nEND_SCHEMA;\n" for name, (body, _) in NAMES.items()},
     "differ.stp": DIFFERENT, "split.cert": certified(), **{name: text for name, (text, _) in CHANGED.items()},
@@ -271,13 +324,18 @@ def write_files(folder, files):
             file.write(files[name])
 
 
+def is_as(wanted, found):
+    """Whether a file has the text that is wanted, or as many bytes, or any text where none is named."""
+    return found is not None and (wanted is None or wanted in (found, len(found)))
+
+
 def files_wrong(folder, wanted):
     """The names of files that are missing, that have another text, or that shouldn't be there."""
     found = {}
     for name in os.listdir(folder):
         with open(os.path.join(folder, name), encoding="ascii", errors="replace") as file:
             found[name] = file.read()
-    return [name for name in sorted({*wanted, *found}) if found.get(name) != wanted.get(name)]
+    return [name for name in sorted({*wanted, *found}) if name not in wanted or not is_as(wanted[name], found.get(name))]
 
 
 def comes_to(wanted, found):
@@ -310,6 +368,19 @@ def faults_of(program, folder, run):
     return faults if done.returncode == run.status else [f"the status is {done.returncode}", *faults]
 
 
+def faults_of_second(program, folder, run):
+    """What is wrong with what `shrink` makes of what it has written: it has to write the same."""
+    files = [word for word in run.words[1:] if "." in word or "/" in word]
+    others = [word for word in run.words[1:] if word not in files]
+    schema, _, out, _ = files
+    done = subprocess.run([program, "shrink", schema, out, "again.stp", "again.cert", *others], cwd=folder, timeout=60,
+                          stdout=subprocess.DEVNULL, stderr=subprocess.PIPE, check=False)
+    if done.returncode:
+        return [f"a second run ends with {done.returncode}, {done.stderr[:80]!r}"]
+    first, second = (open(os.path.join(folder, name), "rb").read() for name in (out, "again.stp"))
+    return [] if first == second else ["a second run writes another file"]
+
+
 def fronts_wrong(program, folder):
     """What is wrong with what `check` says of a schema that ends before its last semicolon, for each such end."""
     faults = []
@@ -332,6 +403,8 @@ def main(words):
         wrong = 0
         for run in RUNS:
             faults = faults_of(program, folder, run)
+            if run.words[:1] == ["shrink"] and run.status == 0 and not faults:
+                faults = faults_of_second(program, folder, run)
             wrong += bool(faults)
             for fault in faults:
                 print(f"{run.words}, to end with {run.status}: {fault}")

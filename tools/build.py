@@ -3,8 +3,8 @@
 
     tools/build.py [--proved] [WORDS..]
 
-Without --proved the program is built before any proof, in some three minutes: for a first look. With --proved each
-crate that it stands on is proved first, side by side as the gate does it; that takes most of an hour on four cores,
+Without --proved the program is built before any proof, in some four minutes: for a first look. With --proved each
+crate that it stands on is proved first, side by side as the gate does it; that takes an hour or more on four cores,
 and a minute or two where the gate has passed on this machine. What is built already, from the same sources, isn't
 built again. Needs Rattle's toolchain: `rt` has to be found.
 
