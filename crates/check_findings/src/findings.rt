@@ -71,21 +71,13 @@ fn found_without_rules<'r, 't, 's: 'r>(
     settings: &SettingTables<'r, 's>,
     exchange: &'r Exchange<'_>,
 ) -> Result<Found<'s>, AllocError>
-    requires ready { AreReady graph.now.types graph.now.rules graph.now.domain
-        graph.now.judged.firsts.items tables.now settings.now }
+    requires ready { AreReady graph.now.types graph.now.rules graph.now.domain tables.now
+        settings.now }
     requires without { IsWithout graph.now.rules graph.now.domain }
     ensures { IfOk result (λ x. AreFindings (schema_of graph.entry.now.types.names.schema.now)
         (structure exchange.entry.now) x.findings.items x.rules.findings.items x.rules.unknown) }
 {
-    let firsts = &graph.judged.firsts;
-    schema_is_said(
-        &graph.types,
-        &graph.rules,
-        &graph.domain,
-        firsts,
-        tables,
-        settings,
-    );
+    schema_is_said(&graph.types, &graph.rules, &graph.domain, tables, settings);
     let findings = instance_findings(alloc, keys, &graph.types, tables, exchange)?;
     Ok(Found {
         findings,
@@ -102,20 +94,12 @@ fn found_by_population<'r, 't, 's: 'r, 'a: 'r>(
     settings: &SettingTables<'r, 's>,
     exchange: &'r Exchange<'a>,
 ) -> Result<Found<'s>, AllocError>
-    requires ready { AreReady graph.now.types graph.now.rules graph.now.domain
-        graph.now.judged.firsts.items tables.now settings.now }
+    requires ready { AreReady graph.now.types graph.now.rules graph.now.domain tables.now
+        settings.now }
     ensures { IfOk result (λ x. AreFindings (schema_of graph.entry.now.types.names.schema.now)
         (structure exchange.entry.now) x.findings.items x.rules.findings.items x.rules.unknown) }
 {
-    let firsts = &graph.judged.firsts;
-    schema_is_said(
-        &graph.types,
-        &graph.rules,
-        &graph.domain,
-        firsts,
-        tables,
-        settings,
-    );
+    schema_is_said(&graph.types, &graph.rules, &graph.domain, tables, settings);
     no_findings_exactly_where_it_conforms();
     match populate_by(alloc, keys, &graph.types, tables, exchange)? {
         Verdict::Typed(population) => Ok(Found {

@@ -34,17 +34,16 @@ pub fn schema_is_said(
     types: &ResolvedTypes<'_, '_>,
     rules: &RuleTables<'_>,
     domain: &DomainTables<'_, '_>,
-    firsts: &[u32],
     tables: &SchemaTables,
     settings: &SettingTables<'_, '_>,
 )
-    requires ready { AreReady types.now rules.now domain.now firsts.now tables.now settings.now }
+    requires ready { AreReady types.now rules.now domain.now tables.now settings.now }
     ensures { Said (schema_of types.now.names.schema.now) }
 {
     let known = tables.knowledge(types);
     entities_are_said(&known);
     attributes_are_said(types, &settings.sources, &rules.inverses);
-    formulas_are_said(&domain.formulas, firsts);
+    formulas_are_said(&domain.formulas);
 }
 
 /// What the domain rules of a schema say of a population. Places are hashed by these keys.
@@ -52,13 +51,12 @@ fn domain_findings<'e, 'r, 't, 's: 'r, 'a: 'r>(
     alloc: Global,
     keys: RandomState,
     domain: &DomainTables<'s, 't>,
-    firsts: &[u32],
     tables: &SchemaTables,
     settings: &SettingTables<'r, 's>,
     extents: &Extents<'s, 't, 'r, 'a, 'e>,
 ) -> Result<RuleReport<'s>, AllocError>
     requires ready { AreReady extents.now.population.now.types.now extents.now.rules.now domain.now
-        firsts.now tables.now settings.now }
+        tables.now settings.now }
     ensures { IfOk result (λ r.
         (said : Said (schema_of extents.now.population.now.types.now.names.schema.now))
         → PopulationConforms (schema_of extents.now.population.now.types.now.names.schema.now)
@@ -84,7 +82,6 @@ fn domain_findings<'e, 'r, 't, 's: 'r, 'a: 'r>(
         tables: settings,
         forms: &sources,
         formulas: &domain.formulas,
-        firsts,
     };
     let report = check_rules(alloc, &setting, &domain.rules)?;
     Ok(report)
@@ -104,7 +101,7 @@ pub fn rule_findings<'e, 'r, 't, 's: 'r, 'a: 'r>(
     extents: &Extents<'s, 't, 'r, 'a, 'e>,
 ) -> Result<RuleReport<'s>, AllocError>
     requires ready { AreReady extents.now.population.now.types.now extents.now.rules.now
-        graph.now.domain graph.now.judged.firsts.items tables.now settings.now }
+        graph.now.domain tables.now settings.now }
     ensures { IfOk result (λ r.
         (said : Said (schema_of extents.now.population.now.types.now.names.schema.now))
         → PopulationConforms (schema_of extents.now.population.now.types.now.names.schema.now)
@@ -112,9 +109,7 @@ pub fn rule_findings<'e, 'r, 't, 's: 'r, 'a: 'r>(
         → AreRuleFindings (schema_of extents.now.population.now.types.now.names.schema.now) said
         (population_seen extents.now.population.now) r.findings.items r.unknown) }
 {
-    let domain = &graph.domain;
-    let firsts = &graph.judged.firsts;
-    let mut report = domain_findings(alloc, keys, domain, firsts, tables, settings, extents)?;
+    let mut report = domain_findings(alloc, keys, &graph.domain, tables, settings, extents)?;
     let mut uniques = check_unique(alloc, keys, extents)?;
     let mut bounds = check_inverse(alloc, extents)?;
     report.findings.append(&mut uniques)?;
@@ -131,8 +126,8 @@ pub(crate) fn found_by_rules<'r, 't, 's: 'r, 'a: 'r>(
     settings: &SettingTables<'r, 's>,
     population: &Population<'s, 't, 'r, 'a>,
 ) -> Result<RuleReport<'s>, AllocError>
-    requires ready { AreReady population.now.types.now graph.now.rules graph.now.domain
-        graph.now.judged.firsts.items tables.now settings.now }
+    requires ready { AreReady population.now.types.now graph.now.rules graph.now.domain tables.now
+        settings.now }
     ensures { IfOk result (λ r. (said : Said (schema_of population.now.types.now.names.schema.now))
         → PopulationConforms (schema_of population.now.types.now.names.schema.now) said.domain
         said.entities (population_seen population.now)

@@ -1,2 +1,4 @@
 pub mod Answering
 pub mod Once
+pub mod Texts
+pub mod Oneness

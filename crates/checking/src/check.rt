@@ -103,8 +103,12 @@ fn check_by<'s, S: Source>(
 /// Checks a file against the schema of this text. The file is read to its end once nothing is wrong
 /// with the schema.
 ///
+/// The report has the parts of the schema that aren't checked, all findings in order, how many instances
+/// there are, and of how many pairs of an instance and a domain rule it isn't known whether the instance
+/// keeps the rule.
+///
 /// The fault is that of the schema's text or names (`Schema`), then that of the file's text, the first
-/// that shows (`Text`); `Device` comes where the file's source fails, and `Memory` where memory runs
+/// that shows (`Text`); a text of more than 2^40 bytes has one; `Device` comes where the file's source fails, and `Memory` where memory runs
 /// out. Names are hashed by these keys.
 pub fn check<'s, F: Source>(
     alloc: Global,

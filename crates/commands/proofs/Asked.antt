@@ -10,7 +10,7 @@ use Rattle.commands.specs.Runs.{RunsCheck, RunsPlain}
 use Rattle.commands.specs.Verifies.{RunsVerify}
 use Rattle.commands.proofs.CheckRuns.{check_device, check_says}
 use Rattle.commands.proofs.Endings.{SaysAs}
-use Rattle.commands.proofs.MergeRuns.{smaller_says}
+use Rattle.commands.proofs.MergeRuns.{shrink_device, smaller_says}
 use Rattle.commands.proofs.PlainRuns.{plain_device, plain_says}
 use Rattle.commands.proofs.Running.{refused_device, refused_says, shrink_word, verify_word}
 use Rattle.commands.proofs.VerifyRuns.{verify_device, verify_says}
@@ -19,10 +19,11 @@ use Rattle.commands.proofs.Words.{apart, check_word, merged_once, plain_word}
 abbrev Text : Type 0
 Text = List ℕ
 
-module _ {W : Type 0} (held : W → Option (List ℕ)) (words : List Text) (files : List ℕ → Stored) (holds : List ℕ → Option (List ℕ))
+module _ {W : Type 0} (held : W → Option (List ℕ)) (has_failed : W → Bool) (words : List Text) (files : List ℕ → Stored)
+    (holds : List ℕ → Option (List ℕ))
     (out out' err err' : Output) (status : ℕ) where
   abbrev Is : Type 0
-  Is = Runs held words files holds out out' err err' status
+  Is = Runs held has_failed words files holds out out' err err' status
 
   -- the path that is asked for is the only one
   pub plain_asked : Is → (path : Text) → AsksPlain words path → RunsPlain (files path) out out' err err' status
@@ -54,7 +55,7 @@ module _ {W : Type 0} (held : W → Option (List ℕ)) (words : List Text) (file
   check_asked (inr (inr (inr (inr (none, said))))) schema file other = absurd (none.1 schema file other)
 
   abbrev Makes : Text → Text → Text → Text → Option Text → Bool → Type 0
-  Makes s f o c m t = MakesSmaller held (asked_choice m) t (files s) (files f) (files o).contents (holds o)
+  Makes s f o c m t = MakesSmaller held has_failed (asked_choice m) t (files s) (files f) (files o).contents (holds o)
       (files c).contents (holds c) out out' err err' status
 
   makes_same : (s f o c s' f' o' c' : Text) (m m' : Option Text) (t t' : Bool)
@@ -113,27 +114,19 @@ module _ {W : Type 0} (held : W → Option (List ℕ)) (words : List Text) (file
   pub says : Is → SaysAs out out' err err' status
   says (inl (path, asks, does)) = plain_says (files path) out out' err err' status does
   says (inr (inl (schema, file, asks, does))) = check_says (files schema) (files file) out out' err err' status does
-  says (inr (inr (inl r))) = smaller_says held (asked_choice r.merge) r.strict (files r.schema) (files r.file)
-      (files r.output).contents (holds r.output) (files r.certificate).contents (holds r.certificate) out out' err err'
-      status r.makes
+  says (inr (inr (inl r))) = smaller_says held has_failed (asked_choice r.merge) r.strict (files r.schema)
+      (files r.file) (files r.output).contents (holds r.output) (files r.certificate).contents (holds r.certificate) out
+      out' err err' status r.makes
   says (inr (inr (inr (inl (s, f, o, c, m, asks, does))))) =
       verify_says (asked_choice m) (files s) (files f) (files o) (files c) out out' err err' status does
   says (inr (inr (inr (inr (none, (refusal, calls, r)))))) = refused_says refusal out out' err err' status r
 
-  pub device : Is → status ≡ 4 → IsDevices words files out out' err err'
-  device (inl (path, asks, does)) = plain_device words files path out out' err err' status asks does
+  pub device : Is → status ≡ 4 → IsDevices has_failed words files out out' err err'
+  device (inl (path, asks, does)) = plain_device has_failed words files path out out' err err' status asks does
   device (inr (inl (schema, file, asks, does))) =
-      check_device words files schema file out out' err err' status asks does
-  device (inr (inr (inl r))) = λ is fresh clean. inr (inr (inr (inr (inr (
-    r.schema,
-    r.file,
-    r.output,
-    r.certificate,
-    r.merge,
-    r.strict,
-    r.asks,
-  )))))
+      check_device has_failed words files schema file out out' err err' status asks does
+  device (inr (inr (inl r))) = shrink_device held has_failed words files holds out out' err err' status r
   device (inr (inr (inr (inl (s, f, o, c, m, asks, does))))) =
-      verify_device words files s f o c m (asked_choice m) out out' err err' status asks does
+      verify_device has_failed words files s f o c m (asked_choice m) out out' err err' status asks does
   device (inr (inr (inr (inr (none, (refusal, calls, r)))))) =
-      refused_device words files refusal out out' err err' status r
+      refused_device has_failed words files refusal out out' err err' status r

@@ -27,7 +27,7 @@ use Rattle.commands.specs.Faults.{fault_ending}
 use Rattle.commands.specs.Runs.{Refuses, RunsCheck, check_ending}
 use Rattle.commands.specs.Statuses.{findings_status, report_status}
 use Rattle.commands.proofs.Endings.{IsFit, SaysAs, ends_among, ends_by_devices, ends_say, wanted_of}
-use Rattle.commands.proofs.FaultEndings.{fault_fit}
+use Rattle.commands.proofs.FaultEndings.{fault_fit, file_can, schema_can}
 
 -- the status for findings is that of a run that was done
 found_fit : (found : List Finding) (broken : List RuleFinding)
@@ -132,51 +132,24 @@ one_failed schema file outcome out out' err err' status s f checks es ef ends is
       | inr (inr e) ↦ inr (inr (inr e))
     ]
 
--- it is none of a source that can't fail
-schema_can : (outcome : Result Report Fault) → is_device roles.Schema outcome ≡ true → SchemaFailsAs outcome false → ⊥
-schema_can (Ok report) is h = true≢false (sym is)
-schema_can (Err (faults.Schema fault)) is h = true≢false (sym is)
-schema_can (Err (faults.Text role kind place)) is h = true≢false (sym is)
-schema_can (Err (faults.Unchecked parts)) is h = true≢false (sym is)
-schema_can (Err (faults.Findings report)) is h = true≢false (sym is)
-schema_can (Err (faults.Refused role findings rules)) is h = true≢false (sym is)
-schema_can (Err (faults.Certificate refusal)) is h = true≢false (sym is)
-schema_can (Err (faults.Device role written)) is h = true≢false (sym is ∙ h)
-schema_can (Err faults.Memory) is h = true≢false (sym is)
-
-file_can : (outcome : Result Report Fault) → is_device roles.File outcome ≡ true → FileFailsAs outcome false → ⊥
-file_can (Ok report) is h = true≢false (sym is)
-file_can (Err (faults.Schema fault)) is h = true≢false (sym is)
-file_can (Err (faults.Text role kind place)) is h = true≢false (sym is)
-file_can (Err (faults.Unchecked parts)) is h = true≢false (sym is)
-file_can (Err (faults.Findings report)) is h = true≢false (sym is)
-file_can (Err (faults.Refused role findings rules)) is h = true≢false (sym is)
-file_can (Err (faults.Certificate refusal)) is h = true≢false (sym is)
-file_can (Err (faults.Device roles.File written)) is h = true≢false h
-file_can (Err (faults.Device roles.Schema written)) is h = true≢false (sym is)
-file_can (Err (faults.Device roles.Output written)) is h = true≢false (sym is)
-file_can (Err (faults.Device roles.Certificate written)) is h = true≢false (sym is)
-file_can (Err faults.Memory) is h = true≢false (sym is)
-
-pub check_device : (words : List (List ℕ)) (files : List ℕ → Stored) (schema file : List ℕ)
+pub check_device : {W : Type 0} (has_failed : W → Bool) (words : List (List ℕ)) (files : List ℕ → Stored)
+    (schema file : List ℕ)
     (out out' err err' : Output) (status : ℕ) → AsksCheck words schema file
     → RunsCheck (files schema) (files file) out out' err err' status → status ≡ 4
-    → IsDevices words files out out' err err'
-check_device words files schema file out out' err err' status asks r is = λ fresh clean.
+    → IsDevices has_failed words files out out' err err'
+check_device has_failed words files schema file out out' err err' status asks r is = λ fresh clean.
     elim (check_devices (files schema) (files file) out out' err err' status r is fresh clean) [
       | inl (inl met) ↦ inr (inr (inr (inl (
         schema,
         file,
         asks,
-        inl (λ never. schema_can r.outcome met
-            (subst (λ o. IfSome o (SchemaFailsAs r.outcome)) never r.schema_fails)),
+        inl (schema_can Report r.outcome (files schema) met r.schema_fails),
       ))))
       | inl (inr met) ↦ inr (inr (inr (inl (
         schema,
         file,
         asks,
-        inr (λ never. file_can r.outcome met
-            (subst (λ o. IfSome o (FileFailsAs r.outcome)) never r.file_fails)),
+        inr (file_can Report r.outcome (files file) met r.file_fails),
       ))))
       | inr (inl failed) ↦ inl failed
       | inr (inr failed) ↦ inr (inl failed)

@@ -1,12 +1,14 @@
 -- How a run ends for which a file isn't checked, merged or verified: what its status says.
-use Rattle.std.proofs.Common.{◌≡◌, Bool, true, false, ℕ, Err, inl, inr, refl, sym, subst, ◌∙◌, true≢false, arith}
+use Rattle.std.proofs.Common.{◌≡◌, Bool, true, false, ℕ, Result, Ok, Err, IfSome, inl, inr, refl, sym, subst, ◌∙◌, true≢false, arith}
 use Rattle.std.specs.Prelude.{◌⊎◌}
 use Rattle.express_syntax.specs.declared.fault.SchemaFault.TheVariants as schemas
+use Rattle.files.specs.Stores.{Stored}
 use Rattle.files.specs.declared.fault.Role.{Role}
 use Rattle.files.specs.declared.fault.Role.TheVariants as roles
-use Rattle.faults.specs.Devices.{is_device}
+use Rattle.faults.specs.Devices.{FileFailsAs, SchemaFailsAs, is_device}
 use Rattle.faults.specs.declared.fault.Fault.{Fault}
 use Rattle.faults.specs.declared.fault.Fault.TheVariants.{Certificate, Device, Findings, Memory, Refused, Schema, Text, Unchecked}
+use Rattle.commands.specs.CommandLines.{CanFail}
 use Rattle.commands.specs.Endings.{EndsAs, Output}
 use Rattle.commands.specs.Faults.{fault_ending}
 use Rattle.commands.proofs.Endings.{IsFit, ends_by_devices, ends_in, four, wanted_of}
@@ -83,3 +85,40 @@ module _ (T : Type 0) where
       by roles.File e = inr (inl (ef ∙ e))
       by roles.Output e = inr (inr (inl (eo ∙ e)))
       by roles.Certificate e = inr (inr (inr (inl (ec ∙ e))))
+
+  -- it is none of a source that can't fail
+  no_schema : (outcome : Result T Fault) → is_device roles.Schema outcome ≡ true → SchemaFailsAs outcome false → ⊥
+  no_schema (Ok x) is h = true≢false (sym is)
+  no_schema (Err (Schema fault)) is h = true≢false (sym is)
+  no_schema (Err (Text role kind place)) is h = true≢false (sym is)
+  no_schema (Err (Unchecked parts)) is h = true≢false (sym is)
+  no_schema (Err (Findings report)) is h = true≢false (sym is)
+  no_schema (Err (Refused role findings rules)) is h = true≢false (sym is)
+  no_schema (Err (Certificate refusal)) is h = true≢false (sym is)
+  no_schema (Err (Device role written)) is h = true≢false (sym is ∙ h)
+  no_schema (Err Memory) is h = true≢false (sym is)
+
+  no_file : (outcome : Result T Fault) → is_device roles.File outcome ≡ true → FileFailsAs outcome false → ⊥
+  no_file (Ok x) is h = true≢false (sym is)
+  no_file (Err (Schema fault)) is h = true≢false (sym is)
+  no_file (Err (Text role kind place)) is h = true≢false (sym is)
+  no_file (Err (Unchecked parts)) is h = true≢false (sym is)
+  no_file (Err (Findings report)) is h = true≢false (sym is)
+  no_file (Err (Refused role findings rules)) is h = true≢false (sym is)
+  no_file (Err (Certificate refusal)) is h = true≢false (sym is)
+  no_file (Err (Device roles.File written)) is h = true≢false h
+  no_file (Err (Device roles.Schema written)) is h = true≢false (sym is)
+  no_file (Err (Device roles.Output written)) is h = true≢false (sym is)
+  no_file (Err (Device roles.Certificate written)) is h = true≢false (sym is)
+  no_file (Err Memory) is h = true≢false (sym is)
+
+  -- where the device of the schema, or of the file, has failed, by the answer, it can
+  pub schema_can : (outcome : Result T Fault) (schema : Stored) → is_device roles.Schema outcome ≡ true
+      → IfSome schema.fails (SchemaFailsAs outcome) → CanFail schema
+  schema_can outcome schema met told = λ never.
+      no_schema outcome met (subst (λ o. IfSome o (SchemaFailsAs outcome)) never told)
+
+  pub file_can : (outcome : Result T Fault) (file : Stored) → is_device roles.File outcome ≡ true
+      → IfSome file.fails (FileFailsAs outcome) → CanFail file
+  file_can outcome file met told = λ never.
+      no_file outcome met (subst (λ o. IfSome o (FileFailsAs outcome)) never told)

@@ -1,5 +1,5 @@
 -- What a store keeps of a run that merges a file.
-use Rattle.std.proofs.Common.{◌≡◌, ◌∙◌, Bool, false, List, [], ℕ, Option, IfSome, sym, subst}
+use Rattle.std.proofs.Common.{◌≡◌, ◌∙◌, Bool, false, List, [], ℕ, Option, IfSome, inr, refl, sym, subst}
 use Rattle.conformance.specs.Choices.{Choice}
 use Rattle.command_line.specs.declared.usage.Request.{Request}
 use Rattle.files.specs.Stores.{HoldsWritten, Stored, stored}
@@ -32,7 +32,7 @@ module _ {S W : Type 0} (contents : S → List ℕ → Option (List ℕ)) (fails
       (output held has_failed c) (output held has_failed c') out out' err err' status
       → HoldsWritten (held w') (contents s smaller) (contents t smaller)
       → HoldsWritten (held c') (contents t certificate) (contents u certificate)
-      → MakesSmaller held choice strict (stored contents fails o schema) (stored contents fails o file)
+      → MakesSmaller held has_failed choice strict (stored contents fails o schema) (stored contents fails o file)
       (contents o smaller) (contents u smaller) (contents o certificate) (contents u certificate) out out' err err' status
   makes_smaller choice strict schema file sch fil w w' c c' out out' err err' status s_holds s_fails same f_holds f_fails
       w_fresh w_empty c_fresh c_empty runs w_kept c_kept = record {
@@ -42,6 +42,8 @@ module _ {S W : Type 0} (contents : S → List ℕ → Option (List ℕ)) (fails
         proof' = output held has_failed c';
         made_empty = record { fresh = w_fresh; nothing = w_empty; told = (λ tell. tell w) };
         proof_empty = record { fresh = c_fresh; nothing = c_empty; told = (λ tell. tell c) };
+        made_stands = inr (w', refl);
+        proof_stands = inr (c', refl);
         runs = subst (λ (x : Stored). RunsShrink choice strict x (stored contents fails o file)
             (output held has_failed w) (output held has_failed w') (output held has_failed c)
             (output held has_failed c') out out' err err' status) schema_is
@@ -73,11 +75,13 @@ module _ {S : Type 0} (contents : S → List ℕ → Option (List ℕ)) (fails :
   is_stored_first o file told holds failing = λ i. record { contents = holds i; fails = failing i }
 
 -- what is done for a request that is this one
-pub done_as : {W : Type 0} (held : W → Option (List ℕ)) (request is : Request) (files : List ℕ → Stored)
+pub done_as : {W : Type 0} (held : W → Option (List ℕ)) (has_failed : W → Bool) (request is : Request)
+    (files : List ℕ → Stored)
     (holds : List ℕ → Option (List ℕ)) (out out' err err' : Output) (status : ℕ) → is ≡ request
-    → Does held is files holds out out' err err' status → Does held request files holds out out' err err' status
-done_as held request is files holds out out' err err' status same does =
-    subst (λ asked. Does held asked files holds out out' err err' status) same does
+    → Does held has_failed is files holds out out' err err' status
+    → Does held has_failed request files holds out out' err err' status
+done_as held has_failed request is files holds out out' err err' status same does =
+    subst (λ asked. Does held has_failed asked files holds out out' err err' status) same does
 
 -- a check of two files that these are
 pub checks_as : (s s' f f' : Stored) (out out' err err' : Output) (status : ℕ) → s ≡ s' → f ≡ f'

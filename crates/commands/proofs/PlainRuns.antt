@@ -46,32 +46,39 @@ file_failing (Err faults.Memory) err err' status is e =
       | inr d ↦ inl d
     ]
 
-device_by : (words : List (List ℕ)) (files : List ℕ → Stored) (path : List ℕ) (out out' err err' : Output)
+device_by : {W : Type 0} (has_failed : W → Bool) (words : List (List ℕ)) (files : List ℕ → Stored) (path : List ℕ)
+    (out out' err err' : Output)
     (outcome : Result Unit FileFault) (status : ℕ) → AsksPlain words path
     → Plain (files path).contents out.held out'.held outcome → IfSome (files path).fails (FailsAs outcome)
     → (out.has_failed ≡ false → out'.has_failed ≡ is_output_fault outcome) → Ends outcome err err' status
-    → status ≡ 4 → IsDevices words files out out' err err'
-device_by words files path out out' err err' (Ok x) status asks plain told fails e is =
+    → status ≡ 4 → IsDevices has_failed words files out out' err err'
+device_by has_failed words files path out out' err err' (Ok x) status asks plain told fails e is =
     absurd (omega (arith, e.0, is))
-device_by words files path out out' err err' (Err (faults.Text role kind place)) status asks plain told fails e is =
+device_by has_failed words files path out out' err err'
+    (Err (faults.Text role kind place)) status asks plain told fails e is =
     λ fresh clean. inr (inl (device_printed err err' (line_of (faults.Text role kind place)) 2 status e
     (λ no. omega (arith, no)) is clean))
-device_by words files path out out' err err' (Err (faults.Device roles.File written)) status asks plain told fails e
-    is =
+device_by has_failed words files path out out' err err'
+    (Err (faults.Device roles.File written)) status asks plain told fails e is =
     λ fresh clean. inr (inr (inl (
       path,
       asks,
       λ never. absurd (true≢false (subst (λ o. IfSome o
           (FailsAs (Err (faults.Device roles.File written)))) never told)),
     )))
-device_by words files path out out' err err' (Err (faults.Device roles.Output written)) status asks plain told fails e
-    is = λ fresh clean. inl (fails fresh)
-device_by words files path out out' err err' (Err (faults.Device roles.Schema written)) status asks plain told fails e
-    is = absurd plain
-device_by words files path out out' err err' (Err (faults.Device roles.Certificate written)) status asks plain told
-    fails e is = absurd plain
-device_by words files path out out' err err' (Err faults.Memory) status asks plain told fails e is = λ fresh clean. inr
-    (inl (device_printed err err' (line_of faults.Memory) 5 status e (λ no. omega (arith, no)) is clean))
+device_by has_failed words files path out out' err err'
+    (Err (faults.Device roles.Output written)) status asks plain told fails e is =
+    λ fresh clean. inl (fails fresh)
+device_by has_failed words files path out out' err err'
+    (Err (faults.Device roles.Schema written)) status asks plain told fails e is =
+    absurd plain
+device_by has_failed words files path out out' err err'
+    (Err (faults.Device roles.Certificate written)) status asks plain told fails e is =
+    absurd plain
+device_by has_failed words files path out out' err err'
+    (Err faults.Memory) status asks plain told fails e is =
+    λ fresh clean. inr (inl (device_printed err err' (line_of faults.Memory) 5 status e (λ no. omega (arith, no)) is
+    clean))
 
 pub file_failed : (file : Stored) (out out' err err' : Output) (status : ℕ)
     → RunsPlain file out out' err err' status → file.fails ≡ Some true → (status ≡ 4) ⊎ (status ≡ 5)
@@ -87,11 +94,13 @@ plain_says file out out' err err' status r = record {
   err_failed = ends_failing r.outcome err err' status r.ends;
 }
 
-pub plain_device : (words : List (List ℕ)) (files : List ℕ → Stored) (path : List ℕ) (out out' err err' : Output)
+pub plain_device : {W : Type 0} (has_failed : W → Bool) (words : List (List ℕ)) (files : List ℕ → Stored)
+    (path : List ℕ) (out out' err err' : Output)
     (status : ℕ) → AsksPlain words path → RunsPlain (files path) out out' err err' status → status ≡ 4
-    → IsDevices words files out out' err err'
-plain_device words files path out out' err err' status asks r =
-    device_by words files path out out' err err' r.outcome status asks r.plain r.file_fails r.output_fails r.ends
+    → IsDevices has_failed words files out out' err err'
+plain_device has_failed words files path out out' err err' status asks r =
+    device_by has_failed words files path out out' err err' r.outcome status asks r.plain r.file_fails r.output_fails
+    r.ends
 
 -- words that ask for something are refused for want of memory alone
 pub memory_runs : (refusal : Refusal) (file : Stored) (out out' err err' : Output) (status : ℕ) → refusal ≡ Memory

@@ -44,10 +44,12 @@ none_asked words (requests.Shrink asked) none asks = none.2 asked.schema.now ask
 none_asked words (requests.Verify asked) none asks = none.3 asked.schema.now asked.file.now asked.output.now
     asked.certificate.now (text_of asked.merge) asks
 
-module _ {W : Type 0} (held : W → Option (List ℕ)) (words : List Text) (files : List ℕ → Stored) (holds : List ℕ → Option (List ℕ))
+module _ {W : Type 0} (held : W → Option (List ℕ)) (has_failed : W → Bool) (words : List Text) (files : List ℕ → Stored)
+    (holds : List ℕ → Option (List ℕ))
     (out out' err err' : Output) (status : ℕ) where
-  pub asked_runs : (request : Request) → AskFor words request → Does held request files holds out out' err err' status
-      → Runs held words files holds out out' err err' status
+  pub asked_runs : (request : Request) → AskFor words request
+      → Does held has_failed request files holds out out' err err' status
+      → Runs held has_failed words files holds out out' err err' status
   asked_runs (requests.Plain path) asks does = inl (path.now, asks, does)
   asked_runs (requests.Check schema file) asks does = inr (inl (schema.now, file.now, asks, does))
   asked_runs (requests.Shrink asked) asks does = inr (inr (inl (record {
@@ -98,15 +100,16 @@ apart_asked words (requests.Shrink asked) asks =
 
 -- ---- what was refused
 
-pub refused_device : (words : List Text) (files : List ℕ → Stored) (refusal : Refusal)
+pub refused_device : {W : Type 0} (has_failed : W → Bool) (words : List Text) (files : List ℕ → Stored)
+    (refusal : Refusal)
     (out out' err err' : Output) (status : ℕ) → Refuses refusal out out' err err' status → status ≡ 4
-    → IsDevices words files out out' err err'
-refused_device words files (Shown text) out out' err err' status r is = λ fresh clean. inl (device_printed out out'
-    (string_bytes text) 0 status r.0 (λ no. omega (arith, no)) is fresh)
-refused_device words files (Usage text) out out' err err' status r is = λ fresh clean. inr (inl (device_printed err
-    err' (string_bytes text) 3 status r.1 (λ no. omega (arith, no)) is clean))
-refused_device words files Memory out out' err err' status r is = λ fresh clean. inr (inl (device_printed err err'
-    (line_of faults.Memory) 5 status r.1 (λ no. omega (arith, no)) is clean))
+    → IsDevices has_failed words files out out' err err'
+refused_device has_failed words files (Shown text) out out' err err' status r is = λ fresh clean.
+    inl (device_printed out out' (string_bytes text) 0 status r.0 (λ no. omega (arith, no)) is fresh)
+refused_device has_failed words files (Usage text) out out' err err' status r is = λ fresh clean.
+    inr (inl (device_printed err err' (string_bytes text) 3 status r.1 (λ no. omega (arith, no)) is clean))
+refused_device has_failed words files Memory out out' err err' status r is = λ fresh clean.
+    inr (inl (device_printed err err' (line_of faults.Memory) 5 status r.1 (λ no. omega (arith, no)) is clean))
 
 -- what is said of the outputs where nothing is done
 pub refused_says : (refusal : Refusal) (out out' err err' : Output) (status : ℕ)
@@ -156,12 +159,13 @@ refused_opens words (for_verify s f o c m asks) refusal granted out out' err err
     inr (memory_status refusal out out' err err' status (granted.verify s f o c m asks) r)
 refused_opens words (for_nothing none) refusal granted out out' err err' status r = inl none
 
-module _ {W : Type 0} (held : W → Option (List ℕ)) (words : List Text) (files : List ℕ → Stored) (holds : List ℕ → Option (List ℕ))
+module _ {W : Type 0} (held : W → Option (List ℕ)) (has_failed : W → Bool) (words : List Text) (files : List ℕ → Stored)
+    (holds : List ℕ → Option (List ℕ))
     (out out' err err' : Output) (status : ℕ) where
   -- what was done, where no file has changed
   pub refused_runs : Asks words → (refusal : Refusal) → IsGranted words refusal → CallFor words refusal
       → Refuses refusal out out' err err' status → ((path : Text) → holds path ≡ (files path).contents)
-      → Runs held words files holds out out' err err' status
+      → Runs held has_failed words files holds out out' err err' status
   refused_runs (for_plain path asks) refusal granted calls r same =
       inl (path, asks, memory_runs refusal (files path) out out' err err' status (granted.plain path asks) r)
   refused_runs (for_check schema file asks) refusal granted calls r same = inr (inl (
@@ -178,7 +182,7 @@ module _ {W : Type 0} (held : W → Option (List ℕ)) (words : List Text) (file
     merge = m;
     strict = t;
     asks = asks;
-    makes = refused_smaller held refusal (asked_choice m) t (files s) (files f) (files o).contents (holds o)
+    makes = refused_smaller held has_failed refusal (asked_choice m) t (files s) (files f) (files o).contents (holds o)
         (files c).contents (holds c) out out' err err' status (granted.shrink s f o c m t asks) r (same o) (same c);
   })))
   refused_runs (for_verify s f o c m asks) refusal granted calls r same = inr (inr (inr (inl (

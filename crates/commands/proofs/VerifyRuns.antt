@@ -147,11 +147,12 @@ all_can choice schema file output certificate outcome (inl (fault, is, first)) =
       | inr other ↦ inr (λ never. other (sym (ap (λ o. wanted_of (verify_ending o)) is) ∙ never))
     ]
 
-pub verify_device : (words : List (List ℕ)) (files : List ℕ → Stored) (s f o c : List ℕ) (m : Option (List ℕ))
+pub verify_device : {W : Type 0} (has_failed : W → Bool) (words : List (List ℕ)) (files : List ℕ → Stored)
+    (s f o c : List ℕ) (m : Option (List ℕ))
     (choice : Choice) (out out' err err' : Output) (status : ℕ) → AsksVerify words s f o c m
     → RunsVerify choice (files s) (files f) (files o) (files c) out out' err err' status → status ≡ 4
-    → IsDevices words files out out' err err'
-verify_device words files s f o c m choice out out' err err' status asks r is = λ fresh clean.
+    → IsDevices has_failed words files out out' err err'
+verify_device has_failed words files s f o c m choice out out' err err' status asks r is = λ fresh clean.
     elim (ends_by_devices (CanFail (files s) ⊎ CanFail (files f) ⊎ CanFail (files o) ⊎ CanFail (files c))
     (verify_ending r.outcome) out out' err err' status r.ends
     (all_can choice (files s) (files f) (files o) (files c) r.outcome r.verifies) is fresh clean) [

@@ -12,17 +12,19 @@ use Rattle.commands.specs.Merges.{MakesSmaller, asked_choice}
 use Rattle.commands.specs.Runs.{Refuses, RunsCheck, RunsPlain}
 use Rattle.commands.specs.Verifies.{RunsVerify}
 
--- What is asked for was done, in a store of these files, which hold this behind it, and of writers that hold this.
-abbrev pub Does : {W : Type 0} → (W → Option (List ℕ)) → Request → (List ℕ → Stored) → (List ℕ → Option (List ℕ)) → Output → Output → Output → Output → ℕ
-    → Type 0
-Does held (requests.Plain path) files holds out out' err err' status = RunsPlain (files path.now) out out' err err' status
-Does held (requests.Check schema file) files holds out out' err err' status = RunsCheck (files schema.now) (files file.now) out
-    out' err err' status
-Does held (requests.Shrink asked) files holds out out' err err' status =
-    MakesSmaller held (asked_choice (text_of asked.merge)) asked.strict (files asked.schema.now) (files asked.file.now)
-    (files asked.output.now).contents (holds asked.output.now)
+-- What is asked for was done, in a store of these files, which hold this behind it, and of writers that hold this, and
+-- of which this tells whether they have failed.
+abbrev pub Does : {W : Type 0} → (W → Option (List ℕ)) → (W → Bool) → Request → (List ℕ → Stored)
+    → (List ℕ → Option (List ℕ)) → Output → Output → Output → Output → ℕ → Type 0
+Does held has_failed (requests.Plain path) files holds out out' err err' status =
+    RunsPlain (files path.now) out out' err err' status
+Does held has_failed (requests.Check schema file) files holds out out' err err' status =
+    RunsCheck (files schema.now) (files file.now) out out' err err' status
+Does held has_failed (requests.Shrink asked) files holds out out' err err' status =
+    MakesSmaller held has_failed (asked_choice (text_of asked.merge)) asked.strict (files asked.schema.now)
+    (files asked.file.now) (files asked.output.now).contents (holds asked.output.now)
     (files asked.certificate.now).contents (holds asked.certificate.now) out out' err err' status
-Does held (requests.Verify asked) files holds out out' err err' status =
+Does held has_failed (requests.Verify asked) files holds out out' err err' status =
     RunsVerify (asked_choice (text_of asked.merge)) (files asked.schema.now) (files asked.file.now)
     (files asked.output.now) (files asked.certificate.now) out out' err err' status
 
@@ -37,7 +39,8 @@ RunsChecked words files out out' err err' status = (schema : List ℕ) × (file 
     × RunsCheck (files schema) (files file) out out' err err' status
 
 -- The words ask for a smaller file and its certificate, and both were made of the file.
-pub record RunsMerged {W : Type 0} (held : W → Option (List ℕ)) (words : List (List ℕ)) (files : List ℕ → Stored) (holds : List ℕ → Option (List ℕ))
+pub record RunsMerged {W : Type 0} (held : W → Option (List ℕ)) (has_failed : W → Bool) (words : List (List ℕ))
+    (files : List ℕ → Stored) (holds : List ℕ → Option (List ℕ))
     (out out' err err' : Output) (status : ℕ) : Type 0 where
   pub schema : List ℕ
   pub file : List ℕ
@@ -46,7 +49,8 @@ pub record RunsMerged {W : Type 0} (held : W → Option (List ℕ)) (words : Lis
   pub merge : Option (List ℕ)
   pub strict : Bool
   pub asks : AsksShrink words schema file output certificate merge strict
-  pub makes : MakesSmaller held (asked_choice merge) strict (files schema) (files file) (files output).contents (holds output)
+  pub makes : MakesSmaller held has_failed (asked_choice merge) strict (files schema) (files file)
+      (files output).contents (holds output)
       (files certificate).contents (holds certificate) out out' err err' status
 
 -- The words ask whether an output is proved, and that was verified.
@@ -58,12 +62,12 @@ RunsVerified words files out out' err err' status = (schema : List ℕ) × (file
 
 -- The words ask for the normal text of a file, for a check, for a smaller file, or whether one is proved, and that was
 -- run; or they ask for nothing.
-abbrev pub Runs : {W : Type 0} → (W → Option (List ℕ)) → List (List ℕ) → (List ℕ → Stored) → (List ℕ → Option (List ℕ)) → Output → Output → Output → Output
-    → ℕ → Type 0
-Runs held words files holds out out' err err' status = ((path : List ℕ) × AsksPlain words path × RunsPlain (files path) out
-    out' err err' status)
+abbrev pub Runs : {W : Type 0} → (W → Option (List ℕ)) → (W → Bool) → List (List ℕ) → (List ℕ → Stored)
+    → (List ℕ → Option (List ℕ)) → Output → Output → Output → Output → ℕ → Type 0
+Runs held has_failed words files holds out out' err err' status =
+    ((path : List ℕ) × AsksPlain words path × RunsPlain (files path) out out' err err' status)
     ⊎ RunsChecked words files out out' err err' status
-    ⊎ RunsMerged held words files holds out out' err err' status
+    ⊎ RunsMerged held has_failed words files holds out out' err err' status
     ⊎ RunsVerified words files out out' err err' status
     ⊎ (AsksNothing words × RunsNothing words out out' err err' status)
 
@@ -71,10 +75,16 @@ Runs held words files holds out out' err err' status = ((path : List ℕ) × Ask
 abbrev pub CanFail : Stored → Type 0
 CanFail file = file.fails ≡ Some false → ⊥
 
--- The words ask for a smaller file.
-abbrev pub AsksSmaller : List (List ℕ) → Type 0
-AsksSmaller words = (schema : List ℕ) × (file : List ℕ) × (output : List ℕ) × (certificate : List ℕ)
-    × (merge : Option (List ℕ)) × (strict : Bool) × AsksShrink words schema file output certificate merge strict
+-- One of these writers has failed.
+abbrev pub HasFailedWriter : {W : Type 0} → (W → Bool) → Type 0
+HasFailedWriter {W} has_failed = (writer : W) × (has_failed writer ≡ true)
+
+-- The words ask for a smaller file by a schema and a file of which one can fail, or a writer has failed.
+abbrev pub AsksShrinkFailing : {W : Type 0} → (W → Bool) → List (List ℕ) → (List ℕ → Stored) → Type 0
+AsksShrinkFailing has_failed words files = (schema : List ℕ) × (file : List ℕ) × (output : List ℕ)
+    × (certificate : List ℕ) × (merge : Option (List ℕ)) × (strict : Bool)
+    × AsksShrink words schema file output certificate merge strict
+    × (CanFail (files schema) ⊎ CanFail (files file) ⊎ HasFailedWriter has_failed)
 
 -- The words ask to verify by four files of which one can fail.
 abbrev pub AsksVerifyFailing : List (List ℕ) → (List ℕ → Stored) → Type 0
@@ -83,18 +93,20 @@ AsksVerifyFailing words files = (schema : List ℕ) × (file : List ℕ) × (out
     × (CanFail (files schema) ⊎ CanFail (files file) ⊎ CanFail (files output) ⊎ CanFail (files certificate))
 
 -- The words ask for a file that can fail, for a check of two of which one can, to verify by four of which one can, or for
--- one that is written, as each of these can.
-abbrev pub AsksFailing : List (List ℕ) → (List ℕ → Stored) → Type 0
-AsksFailing words files = ((path : List ℕ) × AsksPlain words path × CanFail (files path))
+-- a smaller file by two of which one can, or where a writer has failed.
+abbrev pub AsksFailing : {W : Type 0} → (W → Bool) → List (List ℕ) → (List ℕ → Stored) → Type 0
+AsksFailing has_failed words files = ((path : List ℕ) × AsksPlain words path × CanFail (files path))
     ⊎ ((schema : List ℕ) × (file : List ℕ) × AsksCheck words schema file
     × (CanFail (files schema) ⊎ CanFail (files file)))
     ⊎ AsksVerifyFailing words files
-    ⊎ AsksSmaller words
+    ⊎ AsksShrinkFailing has_failed words files
 
--- Where no output has failed before, a device's status comes only where one has failed then, or a file can.
-abbrev pub IsDevices : List (List ℕ) → (List ℕ → Stored) → Output → Output → Output → Output → Type 0
-IsDevices words files out out' err err' = out.has_failed ≡ false → err.has_failed ≡ false
-    → (out'.has_failed ≡ true) ⊎ (err'.has_failed ≡ true) ⊎ AsksFailing words files
+-- Where no output has failed before, a device's status comes only where one has failed then, or a file can, or where
+-- the words ask for a smaller file and a writer has failed.
+abbrev pub IsDevices : {W : Type 0} → (W → Bool) → List (List ℕ) → (List ℕ → Stored) → Output → Output → Output → Output
+    → Type 0
+IsDevices has_failed words files out out' err err' = out.has_failed ≡ false → err.has_failed ≡ false
+    → (out'.has_failed ≡ true) ⊎ (err'.has_failed ≡ true) ⊎ AsksFailing has_failed words files
 
 -- The words ask for a smaller file, or a certificate, of this path.
 abbrev pub AsksToWrite : List (List ℕ) → List ℕ → Type 0

@@ -96,7 +96,8 @@ fn shrink_by<'p, S: Store<'p>, O: Sink, E: Sink>(
     err: &mut E,
 ) -> u8
     requires apart { asked.output.now ≡ asked.certificate.now → ⊥ }
-    ensures makes { MakesSmaller S.Writer.held (choice_of choice.now) choice.now.strict
+    ensures makes { MakesSmaller S.Writer.held S.Writer.has_failed
+        (choice_of choice.now) choice.now.strict
         (stored S.contents S.fails store.old asked.entry.schema.now)
         (stored S.contents S.fails store.old asked.entry.file.now)
         (S.contents store.old asked.entry.output.now) (S.contents store.new asked.entry.output.now)
@@ -139,7 +140,8 @@ fn shrink_asked<'p, S: Store<'p>, O: Sink, E: Sink>(
     err: &mut E,
 ) -> u8
     requires apart { asked.output.now ≡ asked.certificate.now → ⊥ }
-    ensures makes { MakesSmaller S.Writer.held (asked_choice (text_of asked.entry.merge)) asked.entry.strict
+    ensures makes { MakesSmaller S.Writer.held S.Writer.has_failed
+        (asked_choice (text_of asked.entry.merge)) asked.entry.strict
         (stored S.contents S.fails store.old asked.entry.schema.now)
         (stored S.contents S.fails store.old asked.entry.file.now)
         (S.contents store.old asked.entry.output.now) (S.contents store.new asked.entry.output.now)
@@ -210,7 +212,8 @@ fn run<'p, S: Store<'p>, O: Sink, E: Sink>(
     err: &mut E,
 ) -> u8
     requires apart { IsApart request }
-    ensures does { Does S.Writer.held request.entry (stored S.contents S.fails store.old) (S.contents store.new)
+    ensures does { Does S.Writer.held S.Writer.has_failed request.entry
+        (stored S.contents S.fails store.old) (S.contents store.new)
         (output O.held O.has_failed out.old) (output O.held O.has_failed out.new)
         (output E.held E.has_failed err.old) (output E.held E.has_failed err.new) result }
     ensures opened { OpensUnlessMemory (S.opened store.old) (S.opened store.new)
@@ -245,6 +248,9 @@ fn run<'p, S: Store<'p>, O: Sink, E: Sink>(
 /// A fault is a line on `err`. Where that can't be printed, or the text of `--help` or `--version`
 /// can't, nothing more is.
 /// Names of instances are hashed by these keys.
+///
+/// Where no output fails or has failed, the store tells that no read fails, and its writers never do,
+/// the status isn't 4.
 pub fn run_command<'p, S: Store<'p>, O: Sink, E: Sink>(
     alloc: Global,
     keys: RandomState,
@@ -253,7 +259,8 @@ pub fn run_command<'p, S: Store<'p>, O: Sink, E: Sink>(
     out: &mut O,
     err: &mut E,
 ) -> u8
-    ensures runs { Runs S.Writer.held (texts words.now) (stored S.contents S.fails store.old) (S.contents store.new)
+    ensures runs { Runs S.Writer.held S.Writer.has_failed (texts words.now)
+        (stored S.contents S.fails store.old) (S.contents store.new)
         (output O.held O.has_failed out.old) (output O.held O.has_failed out.new)
         (output E.held E.has_failed err.old) (output E.held E.has_failed err.new) result }
     // No other file changes than those that a smaller one is asked for by.

@@ -19,7 +19,7 @@ use Rattle.schema_derivations.specs.Formulas.{formula_seen}
 use Rattle.rule_settings.specs.declared.setting.Setting.{Setting}
 use Rattle.rule_settings.specs.Settings.{IsSetting, Meant, schema_in, population_in, setting_by, below_rank}
 use Rattle.rule_evaluation.proofs.Ranked.{below-none, below-rank}
-use Rattle.rule_plans.specs.Limits.{above_rank, IsLimit}
+use Rattle.rule_plans.specs.Limits.{above_rank, AreRanksBelow, IsLimit}
 
 abbrev rank_of : Option attributes.Formula → ℕ
 rank_of None = 0
@@ -30,7 +30,7 @@ below-length [] i x e = absurd (let k : None ≡ Some x = e in cc)
 below-length (y ∷ xs) zero x e = omega arith
 below-length (y ∷ xs) (suc i) x e = omega (arith, below-length xs i x e)
 
-limit-at : (fs : List (Option Formula)) (i n : ℕ) (o : Option Formula) → IsLimit fs n → slice_get fs i ≡ Some o
+limit-at : (fs : List (Option Formula)) (i n : ℕ) (o : Option Formula) → AreRanksBelow fs n → slice_get fs i ≡ Some o
     → above_rank o ≤ n
 limit-at [] i n o h e = absurd (let k : None ≡ Some o = e in cc)
 limit-at (p ∷ fs) zero n o h e =
@@ -60,10 +60,10 @@ module _ (S : Setting) (m : Meant S) (known : IsSetting S) (n : ℕ) (limit : Is
       let s = schema_in S in
       let there : IsFormula s e (Some f) = subst (IsFormula s e) h (m.are_attributes.formulas e) in
       let (j, number) = has-number s e there.1.0 there.1.1 in
-      let rows = S.formulas.now in
-      let within : j < length rows = subst (λ k. j < k) (sym known.formulas.same) (below-length (all_derivations s) j e number) in
+      let rows = S.formulas.now.rows.items in
+      let within : j < length rows = subst (λ k. j < k) (sym known.formulas.rows.same) (below-length (all_derivations s) j e number) in
       let (o, at) = got rows j within in
-      let (g, is, same) = same-rank s e f (option_map formula_seen o) there (known.formulas.each j e o number at) in
+      let (g, is, same) = same-rank s e f (option_map formula_seen o) there (known.formulas.rows.each j e o number at) in
       let less = rank-below o n g (limit-at rows j n o limit at) is in
       omega (arith, less, same)
 

@@ -12,11 +12,10 @@ use Rattle.schema_data_types.specs.Shaped.{AreShapes}
 use Rattle.schema_places.specs.Lines.{HaveLines}
 use Rattle.schema_attributes.specs.Declarations.{AreAttributes}
 use Rattle.schema_data_types.specs.Items.{AreItems}
-use Rattle.schema_derivations.specs.Firsts.{AreFirsts}
 use Rattle.schema_derivations.specs.Ranking.{AreRanksOf}
 use Rattle.schema_parts.specs.Adding.{unchecked_in}
 use Rattle.conformance.specs.DomainRules.{AreDomainRules}
-use Rattle.schema_derivations.specs.Formulas.{AreFormulas}
+use Rattle.schema_derivations.specs.Formulas.{AreFormulasOf}
 use Rattle.schema_conditions.specs.Seen.{rule_seen, IsNumbered}
 use Rattle.schema_rules.specs.Ruled.{AreRuleTables}
 use Rattle.express_types.specs.declared.judging.Types.{Types}
@@ -44,13 +43,12 @@ pub record AreMeanings (s : Schema) (above : Graph) (t : Meanings) : Type 0 wher
 -- This is what is found of its bodies.
 pub record IsJudged (s : Schema) (t : Judged) : Type 0 where
   pub ranks : AreRanksOf s t.ranks.items
-  pub firsts : AreFirsts s t.firsts.items
   pub unchecked : AreUnchecked s (unchecked_in t.unchecked.items)
 
 -- This is what of it is evaluated: its derived attributes are computed so, and these are its domain rules that are
 -- checked, whose numbers are those of what states them.
 pub record AreDomainTables (s : Schema) (t : DomainTables) : Type 0 where
-  pub formulas : AreFormulas s t.formulas.items
+  pub formulas : AreFormulasOf s t.formulas
   pub rules : AreDomainRules s (map (rule_seen s) t.rules.items)
   pub numbered : Every (IsNumbered s) t.rules.items
 

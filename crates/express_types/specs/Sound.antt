@@ -4,18 +4,21 @@
 -- of it.
 use Rattle.express_syntax.specs.SchemaViews.{schema_of}
 use Rattle.schema_types.specs.Made.{IsMade}
-use Rattle.schema_derivations.specs.Firsts.{AreFirsts}
+use Rattle.schema_types.specs.declared.types.ResolvedTypes.{ResolvedTypes}
 use Rattle.schema_rules.specs.Ruled.{AreRuleTables}
+use Rattle.schema_rules.specs.declared.tables.RuleTables.{RuleTables}
 use Rattle.express_types.specs.Judging.{AreDomainTables}
+use Rattle.express_types.specs.declared.judging.DomainTables.{DomainTables}
 use Rattle.express_types.specs.declared.graph.TypeGraph.{TypeGraph}
 
 -- The names of the schema are resolved, and these are its tables.
-pub record IsSound (g : TypeGraph) : Type 0 where
+pub record AreSound (x : ResolvedTypes) (t : RuleTables) (c : DomainTables) : Type 0 where
   -- these are its types, and where its attributes stand; and its names are resolved
-  pub made : IsMade g.types
+  pub made : IsMade x
   -- these are its uniqueness rules and its inverse attributes
-  pub rules : AreRuleTables (schema_of g.types.names.schema.now) g.rules
+  pub rules : AreRuleTables (schema_of x.names.schema.now) t
   -- these are its domain rules that are checked, and so are its derived attributes computed
-  pub domain : AreDomainTables (schema_of g.types.names.schema.now) g.domain
-  -- of each of its declarations, how many derived attributes stand before it
-  pub firsts : AreFirsts (schema_of g.types.names.schema.now) g.judged.firsts.items
+  pub domain : AreDomainTables (schema_of x.names.schema.now) c
+
+abbrev pub IsSound : TypeGraph → Type 0
+IsSound g = AreSound g.types g.rules g.domain

@@ -96,7 +96,7 @@ impl<'a, 't> TypeGraph<'a, 't> {
         let judged = &self.judged;
         rank_at(
             &self.types.names,
-            &judged.firsts,
+            &self.domain.formulas.firsts,
             &judged.ranks,
             entity,
             attribute,

@@ -31,8 +31,7 @@ use schema_data_types::items::Items;
 use schema_data_types::shape_table::shapes;
 use schema_data_types::shapes::Shape;
 use schema_data_types::values::Tables;
-use schema_derivations::asked_ranks::first_derivations;
-use schema_derivations::formula::Formula;
+use schema_derivations::formula::Formulas;
 use schema_names::graphs::{part_graph, supertype_graph};
 use schema_names::names::Names;
 use schema_parts::list::Unchecked;
@@ -123,8 +122,6 @@ fn make_meanings<'a>(
 pub struct Judged {
     /// By number, the ranks of derived attributes; none for one that is set aside.
     pub ranks: Vec<Option<u32>>,
-    /// By declaration, how many derived attributes stand before it.
-    pub firsts: Vec<u32>,
     /// What isn't checked.
     pub unchecked: Vec<Unchecked>,
 }
@@ -133,8 +130,7 @@ pub struct Judged {
 /// are checked (ISO 10303-11, 9.2.1.2, 9.1 and 9.2.2.2).
 #[derive(Drop)]
 pub struct DomainTables<'a, 't> {
-    /// By number, how derived attributes are computed; none for one that is set aside.
-    pub formulas: Vec<Option<Formula<'a, 't>>>,
+    pub formulas: Formulas<'a, 't>,
     /// In the order of the text.
     pub rules: Vec<DomainRule<'a, 't>>,
 }
@@ -174,12 +170,7 @@ fn judge_by<'r, 't, 'a>(
     };
     let unchecked = unchecked_parts(alloc, &findings)?;
     let domain = domain_by(alloc, &findings)?;
-    let firsts = first_derivations(alloc, known.tables.names)?;
-    let judged = Judged {
-        ranks,
-        firsts,
-        unchecked,
-    };
+    let judged = Judged { ranks, unchecked };
     Ok(Bodies { judged, domain })
 }
 

@@ -1,2 +1,3 @@
 pub mod Faults
 pub mod Devices
+pub mod SameFaults

@@ -42,7 +42,7 @@ impl<M: FileMaker + Drop> Making<M> {
         }
     }
 
-    /// Writes to the file, which is made where it isn't.
+    /// Writes to the file, which is made where it isn't; to write nothing makes none.
     fn write_some(&mut self, buf: &[u8]) -> io::Result<usize>
         ensures bound { IfOk result (λ count. count ≤ length buf.now) }
         ensures bytes { WriteAppends
@@ -51,6 +51,9 @@ impl<M: FileMaker + Drop> Making<M> {
     {
         if let Some(file) = &mut self.file {
             return file.write(buf);
+        }
+        if buf.is_empty() {
+            return Ok(0);
         }
         let file = self.maker.make()?;
         self.file.insert(file).write(buf)

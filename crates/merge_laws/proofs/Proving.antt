@@ -1,11 +1,11 @@
 -- What a merge writes is proved, and nothing else is answered of it.
 use Rattle.std.specs.Prelude.{◌≡◌, ◌≢◌, ◌⊎◌, Result, Ok, Err}
-use Rattle.std.proofs.Common.{refl, sym, subst, inl, inr}
+use Rattle.std.proofs.Common.{refl, inl, inr}
 use Rattle.conformance.specs.Choices.{chosen_names}
 use Rattle.merged_populations.specs.Headline.{ChecksProve}
 use Rattle.faults.specs.declared.fault.Fault.{Fault}
 use Rattle.faults.specs.declared.fault.Fault.TheVariants as faults
-use Rattle.shrinking.specs.Shrinking.{Answers}
+use Rattle.shrinking.proofs.Told.{answered}
 use Rattle.verifying.specs.declared.proof.Proof.{Proof}
 use Rattle.verifying.specs.Laws.{AnswersAreOne, SayTheSame}
 use Rattle.verifying.specs.Verifying.{Verifies}
@@ -43,9 +43,4 @@ own_outputs_are_proved law one c strict schema file output certificate m (s, has
 
 pub own_files_are_proved : OwnOutputsAreProved → OwnFilesAreProved
 own_files_are_proved law c strict schema file output certificate m shrinks =
-    law c strict schema file output certificate m
-    (subst (λ t. Answers c strict schema file output t (Ok m)) (sym shrinks.certified)
-    (subst (λ t. Answers c strict schema file t shrinks.certificate (Ok m)) (sym shrinks.written)
-    (subst (λ t. Answers c strict schema t shrinks.output shrinks.certificate (Ok m)) (sym shrinks.bytes_are)
-    (subst (λ t. Answers c strict t shrinks.bytes shrinks.output shrinks.certificate (Ok m)) (sym shrinks.text_is)
-    shrinks.answers))))
+    law c strict schema file output certificate m (answered c strict schema file output certificate (Ok m) shrinks)

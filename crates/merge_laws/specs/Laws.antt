@@ -1,10 +1,10 @@
 -- What is answered of the output and of the certificate that a merge wrote.
-use Rattle.std.specs.Prelude.{◌≡◌, ◌⊎◌, Bool, List, [], Some, Result, Ok, Err, ℕ}
+use Rattle.std.specs.Prelude.{◌≡◌, ◌⊎◌, Bool, List, Some, Result, Ok, Err, ℕ}
 use Rattle.conformance.specs.Choices.{Choice}
 use Rattle.faults.specs.declared.fault.Fault.{Fault}
 use Rattle.faults.specs.declared.fault.Fault.TheVariants.{Memory}
 use Rattle.shrinking.specs.declared.summary.Summary.{Summary}
-use Rattle.shrinking.specs.Shrinking.{Answers, Shrinks}
+use Rattle.shrinking.specs.Shrinking.{Answers, Shrinks, written_anew}
 use Rattle.verifying.specs.declared.proof.Proof.{Proof}
 use Rattle.verifying.specs.Verifying.{Verifies}
 
@@ -28,5 +28,5 @@ OwnOutputsAreProved = (c : Choice) (strict : Bool) (schema file output certifica
 -- The same where sources told the texts, and two sinks that held nothing hold what was written.
 abbrev pub OwnFilesAreProved : Type 0
 OwnFilesAreProved = (c : Choice) (strict : Bool) (schema file output certificate : List ℕ) (m : Summary)
-    → Shrinks c strict (Some schema) (Some file) (Some []) (Some output) (Some []) (Some certificate) (Ok m)
+    → Shrinks c strict (Some schema) (Some file) (written_anew output) (written_anew certificate) (Ok m)
     → IsProved schema file output certificate c (proof_of m)

@@ -2,19 +2,16 @@
 
 ghost use Rattle.std.specs.Prelude.{◌≡◌, IfOk, IsTrue, List};
 ghost use Rattle.express_syntax.specs.Schemas.{Schema};
-ghost use Rattle.express_syntax.specs.SchemaViews.{schema_of};
 ghost use Rattle.step_equal.specs.Rows.{IsPopulation};
 ghost use Rattle.step_equal.specs.Standard.{IsStandard};
 ghost use Rattle.step_equal.specs.TableViews.{table_of};
 ghost use Rattle.conformance.specs.PlainRows.{AreRowsOf};
 ghost use Rattle.conformance.specs.Populations.{Instance};
-ghost use Rattle.population_typed.specs.Seen.{population_seen};
 ghost use Rattle.row_shapes.specs.Signatures.{AreSignatures};
 ghost use Rattle.step_pins.specs.Lists.{AreUniqueOf};
 ghost use Rattle.step_pins.specs.Pinned.{is_pinned};
 ghost use Rattle.merge_tables.specs.ComputedTables.{AreTablesUnder};
 
-use population_typed::population::Population;
 use row_shapes::signatures::{Signatures, signatures_of};
 use std::alloc::{AllocError, Global};
 use std::hash::RandomState;
@@ -23,22 +20,6 @@ use step_equal::plain::Plain;
 use step_equal::table::Table;
 use step_pins::pins::Pins;
 use step_pins::weak_pins::{GentlePins, WeakPins};
-
-/// The rows of a population, which isn't needed then.
-fn plain_rows<'s: 'a, 't, 'r, 'a>(
-    alloc: Global,
-    population: Population<'s, 't, 'r, 'a>,
-) -> Result<Plain<'a>, AllocError>
-    ensures rows { IfOk result (λ p. AreRowsOf
-        (schema_of population.entry.types.now.names.schema.now) (population_seen population.entry)
-        p) }
-    ensures population { IfOk result (λ p. IsPopulation p) }
-{
-    let rows = population.into_plain(alloc)?;
-    // its contract says that no name stands twice and each reference names a row
-    let _count = rows.len();
-    Ok(rows)
-}
 
 /// The table of partition refinement of rows under these pins.
 fn standard_table(
@@ -127,21 +108,19 @@ fn tables_by(
     Ok((first, second))
 }
 
-/// The table of a population under its weak pins, and the one under the gentle pins by the classes of
-/// the first. Names and keys are hashed by these keys.
-pub(crate) fn standard_tables<'s: 'a, 't, 'r, 'a>(
+/// The table of the rows of a population under its weak pins, and the one under the gentle pins by
+/// the classes of the first. Names and keys are hashed by these keys.
+pub(crate) fn standard_tables(
     alloc: Global,
     keys: RandomState,
-    population: Population<'s, 't, 'r, 'a>,
+    rows: Plain<'_>,
     weak: WeakPins,
 ) -> Result<(Table, Table), AllocError>
-    requires lists { AreUniqueOf (schema_of population.types.now.names.schema.now)
-        (population_seen population) weak.lists }
-    ensures { IfOk result (λ t. AreTablesUnder
-        (schema_of population.entry.types.now.names.schema.now) (population_seen population.entry)
+    requires population { IsPopulation rows }
+    ensures { (s : Schema) (is : List Instance) → AreRowsOf s is rows.entry
+        → AreUniqueOf s is weak.lists → IfOk result (λ t. AreTablesUnder s is
         (is_pinned weak.pins) (table_of t.0) (table_of t.1)) }
 {
-    let rows = plain_rows(alloc, population)?;
     let signatures = signatures_of(alloc, keys, &rows)?;
     tables_by(alloc, keys, rows, weak, signatures)
 }

@@ -38,3 +38,10 @@ fn a_chain_is_parted_one_a_round(rt: HostRuntime) -> Result<(), Fail> {
     assert!(rt; sizes::a_chain_is_parted(rt.alloc(), keys));
     Ok(())
 }
+
+#[test]
+fn a_site_keeps_what_has_an_identity(rt: HostRuntime) -> Result<(), Fail> {
+    let keys = RandomState::new(&rt)?;
+    assert!(rt; sizes::a_site_is_merged(rt.alloc(), keys));
+    Ok(())
+}

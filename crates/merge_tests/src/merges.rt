@@ -86,7 +86,9 @@ const ROWS: &'static [Row] = &[
         &["POINT"],
         b"#1=POINT((0.));\n#2=POINT((0.));\n#3=POINT((1.));\n#4=LOOP((#1,#2,#3));\n",
         b"#1=POINT((0.));\n#2=POINT((0.));\n#3=POINT((1.));\n#4=LOOP((#1,#2,#3));\n",
-        None,
+        Some(
+            b"STEPCERT 2\ntable 1\nrounds 1\nC0\nC1\nC2=C0@1\n#1=C0\n#2=C0\n#3=C2\n#4=C1\ntable 2\nrounds 0\nC0\nC1\nC2\nC3\n#1=C0\n#2=C1\n#3=C2\n#4=C3\nend\n",
+        ),
         (4, 4, 0),
     ),
     (
@@ -94,8 +96,18 @@ const ROWS: &'static [Row] = &[
         &["POINT"],
         b"#1=POINT((0.));\n#2=POINT((1.));\n#3=POINT((2.));\n#4=POINT((0.));\n#5=POINT((1.));\n#6=POINT((2.));\n#7=LOOP((#1,#2,#3));\n#8=LOOP((#4,#5,#6));\n",
         b"#1=POINT((0.));\n#2=POINT((1.));\n#3=POINT((2.));\n#7=LOOP((#1,#2,#3));\n#8=LOOP((#1,#2,#3));\n",
-        None,
+        Some(
+            b"STEPCERT 2\ntable 1\nrounds 1\nC0\nC1\nC2\nC3=C0@1\nC4=C0@1\n#1=C0\n#2=C3\n#3=C4\n#4=C0\n#5=C3\n#6=C4\n#7=C1\n#8=C2\ntable 2\nrounds 1\nC0\nC1\nC2\nC3=C0@1\nC4=C0@1\n#1=C0\n#2=C3\n#3=C4\n#4=C0\n#5=C3\n#6=C4\n#7=C1\n#8=C2\nend\n",
+        ),
         (8, 5, 1),
+    ),
+    (
+        "equal points in two lists that may be merged too",
+        &["POINT", "LOOP"],
+        b"#1=POINT((0.));\n#2=POINT((1.));\n#3=POINT((2.));\n#4=POINT((0.));\n#5=POINT((1.));\n#6=POINT((2.));\n#7=LOOP((#1,#2,#3));\n#8=LOOP((#4,#5,#6));\n",
+        b"#1=POINT((0.));\n#2=POINT((1.));\n#3=POINT((2.));\n#7=LOOP((#1,#2,#3));\n",
+        None,
+        (8, 4, 1),
     ),
     (
         "members of a SET keep their identity, in whatever order they stand",
@@ -160,6 +172,16 @@ const ROWS: &'static [Row] = &[
         b"#1=POINT((0.));\nENDSEC;\nDATA;\n#3=POINT((0.));\n",
         None,
         (3, 2, 0),
+    ),
+    (
+        "two data sections with headings, and a reference from one to the other",
+        &["POINT"],
+        b"DATA('a',('GEO'));\n#1=POINT((0.));\n#2=POINT((0.));\nENDSEC;\nDATA('b',('GEO'));\n#3=POINT((0.));\n#4=PLACEMENT(#2,$);\n",
+        b"DATA('a',('GEO'));\n#1=POINT((0.));\nENDSEC;\nDATA('b',('GEO'));\n#3=POINT((0.));\n#4=PLACEMENT(#1,$);\n",
+        Some(
+            b"STEPCERT 2\ntable 1\nrounds 0\nC0\nC1\nC2\n#1=C0\n#2=C0\n#3=C1\n#4=C2\ntable 2\nrounds 0\nC0\nC1\nC2\n#1=C0\n#2=C0\n#3=C1\n#4=C2\nend\n",
+        ),
+        (4, 3, 0),
     ),
 ];
 

@@ -27,6 +27,17 @@ const MERGED: &'static [u8] = b"#1=POINT((0.,1.));\n#3=PLACEMENT(#1,$);\n";
 const DIFFERENT: &'static [u8] =
     b"#1=POINT((0.,1.));\n#2=POINT((5.,1.));\n#3=PLACEMENT(#1,$);\n#4=PLACEMENT(#2,$);\n";
 
+/// A loop of three points, of which two are equal.
+const LOOPED: &'static [u8] =
+    b"#1=POINT((0.));\n#2=POINT((0.));\n#3=POINT((1.));\n#4=LOOP((#1,#2,#3));\n";
+
+/// Points in two data sections, and a reference from one to the other.
+const SECTIONS: &'static [u8] =
+    b"DATA('a',('GEO'));\n#1=POINT((0.));\n#2=POINT((0.));\nENDSEC;\nDATA('b',('GEO'));\n#3=POINT((0.));\n#4=PLACEMENT(#2,$);\n";
+
+const OF_SECTIONS: &'static [u8] =
+    b"STEPCERT 2\ntable 1\nrounds 0\nC0\nC1\nC2\n#1=C0\n#2=C0\n#3=C1\n#4=C2\ntable 2\nrounds 0\nC0\nC1\nC2\n#1=C0\n#2=C0\n#3=C1\n#4=C2\nend\n";
+
 const ROWS: &'static [Row] = &[
     (
         "an output in another order, its literals spelt differently",
@@ -112,6 +123,45 @@ const ROWS: &'static [Row] = &[
         MERGED,
         b"STEPCERT 1\nrounds 0\nend\n",
         Err(Refusal::OldVersion),
+    ),
+    (
+        "equal corners that are told apart in the first table already",
+        LOOPED,
+        LOOPED,
+        b"STEPCERT 2\ntable 1\nrounds 1\nC0\nC1\nC2=C0@1\nC3=C0@1\n#1=C0\n#2=C3\n#3=C2\n#4=C1\ntable 2\nrounds 0\nC0\nC1\nC2\nC3\n#1=C0\n#2=C1\n#3=C2\n#4=C3\nend\n",
+        Err(Refusal::GroundlessSplit),
+    ),
+    (
+        "corners that differ, left together in the first table",
+        LOOPED,
+        LOOPED,
+        b"STEPCERT 2\ntable 1\nrounds 0\nC0\nC1\n#1=C0\n#2=C0\n#3=C0\n#4=C1\ntable 2\nrounds 0\nC0\nC1\nC2\nC3\n#1=C0\n#2=C1\n#3=C2\n#4=C3\nend\n",
+        Err(Refusal::Unstable),
+    ),
+    (
+        "two data sections with headings",
+        SECTIONS,
+        b"DATA('a',('GEO'));\n#1=POINT((0.));\nENDSEC;\nDATA('b',('GEO'));\n#3=POINT((0.));\n#4=PLACEMENT(#1,$);\n",
+        OF_SECTIONS,
+        Ok(Proof {
+            instances: 4,
+            kept: 3,
+            rounds: 0,
+        }),
+    ),
+    (
+        "a point in the other section",
+        SECTIONS,
+        b"DATA('a',('GEO'));\n#1=POINT((0.));\n#3=POINT((0.));\nENDSEC;\nDATA('b',('GEO'));\n#4=PLACEMENT(#1,$);\n",
+        OF_SECTIONS,
+        Err(Refusal::NotTheImage),
+    ),
+    (
+        "another heading",
+        SECTIONS,
+        b"DATA('a',('GEO'));\n#1=POINT((0.));\nENDSEC;\nDATA('c',('GEO'));\n#3=POINT((0.));\n#4=PLACEMENT(#1,$);\n",
+        OF_SECTIONS,
+        Err(Refusal::NotTheImage),
     ),
 ];
 

@@ -3,7 +3,7 @@ use Rattle.std.specs.Prelude.{◌≡◌, ◌<◌, ◌^◌, ℕ, Bool, true, fals
 use Rattle.std.specs.List.{AllByRecursion}
 use Rattle.std.proofs.Common.{refl, sym, subst, ◌∙◌}
 use Rattle.step_structures.specs.Trees as trees
-use Rattle.step_structures.specs.Trees.{rows_of}
+use Rattle.step_structures.specs.Trees.{File, rows_of}
 use Rattle.step_structures.specs.Texts.{ReadsAs}
 use Rattle.merged_texts.proofs.MergedReads.{merged_text_reads}
 use Rattle.merged_texts.proofs.Bounded.{names_within}
@@ -23,19 +23,24 @@ use Rattle.merge_images.proofs.Filed.{files_are_laid_out}
 use Rattle.merge_images.proofs.Conforming.{images_of_rows_conform}
 use Rattle.conformance.proofs.Rowed.{same_names}
 use Rattle.conformance.proofs.FileNames.{names_from}
+use Rattle.conformance.specs.PlainRows.{AreRowsOf}
 use Rattle.conformance.specs.Said.{Said, instances}
 use Rattle.merged_populations.specs.Laws.{AreRowsOfFile, merged_by}
 use Rattle.merged_populations.specs.Headline.{IsInput, MergesAreLeast, ChecksProve}
 use Rattle.merged_populations.proofs.Whole.{are_of, bags, laid, merged_files_conform, merged_files_are_least}
 
 -- the names of rows are those of the file
+pub names_of_file : (s : Schema) (said : Said s) (f : File) (P : List Row) → AreRowsOf s (instances s said f) P
+    → names P ≡ map (λ (r : trees.Row). r.name) (rows_of f.sections)
+names_of_file s said f P rows =
+    same_names s (instances s said f) P rows ∙ names_from s said.domain said.entities 0 f.sections
+
+-- .. of an input
 pub file_names : (s : Schema) (said : Said s) (chosen : List Name) (text : List ℕ) (input : IsInput s said chosen text)
     → names input.rows ≡ map (λ (r : trees.Row). r.name) (rows_of input.file.sections)
-file_names s said chosen text input =
-    same_names s (instances s said input.file) input.rows input.are_rows
-    ∙ names_from s said.domain said.entities 0 input.file.sections
+file_names s said chosen text input = names_of_file s said input.file input.rows input.are_rows
 
-head_within : (ys : List ℕ) (E : ℕ → ℕ → Bool) (x : ℕ) → x < 2 ^ 64 → AllByRecursion (λ n. n < 2 ^ 64) ys
+pub head_within : (ys : List ℕ) (E : ℕ → ℕ → Bool) (x : ℕ) → x < 2 ^ 64 → AllByRecursion (λ n. n < 2 ^ 64) ys
     → head_of ys E x < 2 ^ 64
 head_within [] E x l w = l
 head_within (y ∷ ys) E x l w = go (E y x) (head_within ys E x l w.1)

@@ -1,12 +1,14 @@
 -- The laws of merged files.
-use Rattle.std.specs.Prelude.{◌≡◌, ◌≤◌, ℕ, Bool, List, length}
+use Rattle.std.specs.Prelude.{◌≡◌, ◌≤◌, ℕ, Bool, List, length, map}
 use Rattle.step_structures.specs.Trees.{File, rows_of}
 use Rattle.step_structures.specs.Fits.{the_rules, FitsFile}
 use Rattle.step_structures.specs.Normal.{normal_file}
-use Rattle.merged_texts.specs.Merged.{merged_file}
+use Rattle.step_structures.specs.Texts.{ReadsAs}
+use Rattle.merged_texts.specs.Merged.{merged_file, merged_text}
 use Rattle.step_equal.specs.Rows.{Row, names, IsPopulation, BagsArePinned}
 use Rattle.step_equal.specs.Keeping.{IsValueEquality, IsCongruence}
 use Rattle.step_equal.specs.Images.{IsImage, head_of, quotient}
+use Rattle.step_equal.specs.Tables.{Table, shares, HasMembers}
 use Rattle.conformance.specs.PlainRows.{AreRowsOf}
 use Rattle.express_syntax.specs.Schemas.{Schema}
 use Rattle.schema_semantics.specs.Names.{Name}
@@ -27,6 +29,21 @@ MergedPopulationsAreLed = (s : Schema) (d : Domain) (en : Entities) (h : ℕ →
 -- the file that is merged by a test
 abbrev pub merged_by : List Row → (ℕ → ℕ → Bool) → File → File
 merged_by P F f = normal_file (merged_file (head_of (names P) F) f)
+
+-- to the first member of the same class at the last round
+abbrev pub head_by : Table → ℕ → ℕ
+head_by t = head_of (map (λ m. m.0) t.members) (shares t t.rounds)
+
+-- Where a text is merged by the classes of a table's last round, whatever the rules of the schema say of it, the output
+-- reads as the merged structure, whose rows are those of the quotient. Where these classes are a congruence, that is an
+-- image.
+abbrev pub OutputsAreQuotients : Type 0
+OutputsAreQuotients = (s : Schema) (said : Said s) (text header_bytes : List ℕ) (f : File) (P : List Row) (pinned : ℕ → Bool)
+    (t : Table) → ReadsAs text header_bytes f → AreRowsOf s (instances s said f) P → IsPopulation P → HasMembers P t
+    → IsCongruence P pinned (shares t t.rounds)
+    → ReadsAs (merged_text (head_by t) header_bytes f.sections) header_bytes (normal_file (merged_file (head_by t) f))
+    × AreRowsOf s (instances s said (normal_file (merged_file (head_by t) f))) (quotient P (shares t t.rounds))
+    × IsImage P (quotient P (shares t t.rounds)) (head_by t) pinned × IsPopulation (quotient P (shares t t.rounds))
 
 -- P are the rows of the instances of a file that is read, of which nothing is wrong
 pub record AreRowsOfFile (s : Schema) (said : Said s) (f : File) (P : List Row) : Type 0 where

@@ -7,6 +7,7 @@ ghost use Rattle.merged_populations.specs.Laws.{
   MergedFilesAreLeast,
   MergedFilesConform,
   MergedPopulationsAreLed,
+  OutputsAreQuotients,
 };
 
 use conformance::value_laws::{images_conform, no_findings_exactly_where_it_conforms};
@@ -15,6 +16,12 @@ use conformance::value_laws::{images_conform, no_findings_exactly_where_it_confo
 /// are the merged rows.
 pub fn merged_populations_are_led()
     ensures { MergedPopulationsAreLed }
+{}
+
+/// The output that is merged by a table reads as the merged structure, and its rows are those of the
+/// quotient by the classes of the table's last round, whatever the rules of the schema say of it.
+pub fn outputs_are_quotients()
+    ensures { OutputsAreQuotients }
 {}
 
 /// A file that is merged by a congruence under gentle pins has nothing wrong with it where nothing

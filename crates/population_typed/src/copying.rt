@@ -52,7 +52,7 @@ fn push_node<'p, 'a>(
         Node::Text(text) => builder.push_text(*text),
         Node::Bits(bits) => builder.push_bits(*bits),
         Node::Element(word) => builder.push_element(*word),
-        Node::Reference(name) => push_reference(builder, index, *name),
+        Node::Reference(name, _) => push_reference(builder, index, *name),
         Node::Typed(word, inner) => {
             push_copy(builder, index, inner)?;
             builder.close_typed(*word)

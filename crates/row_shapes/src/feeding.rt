@@ -62,7 +62,7 @@ fn feed<'p, 'a, H: Hasher>(value: &Slot<'p, 'a>, state: &mut H) -> bool
     match value.node() {
         Node::Number(number) => feed_number(&number, state),
         Node::Text(text) => feed_text(&text, state),
-        Node::Reference(_) => feed_mark(6, state),
+        Node::Reference(..) => feed_mark(6, state),
         node => feed_node(&node, state),
     }
 }
@@ -80,7 +80,7 @@ fn feed_node<'p, 'a, H: Hasher>(node: &Node<'p, 'a>, state: &mut H) -> bool
         Node::Text(text) => feed_text(text, state),
         Node::Bits(bits) => feed_bits(bits, state),
         Node::Element(word) => feed_word(5, word, state),
-        Node::Reference(_) => feed_mark(6, state),
+        Node::Reference(..) => feed_mark(6, state),
         Node::Typed(word, inner) => {
             let _word = feed_word(7, word, state);
             feed(inner, state)

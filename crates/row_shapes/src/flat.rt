@@ -60,7 +60,7 @@ fn values_alike<'p, 'a, 'q, 'b>(v: &Slot<'p, 'a>, w: &Slot<'q, 'b>) -> bool
     match (v.node(), w.node()) {
         (Node::Number(a), Node::Number(b)) => same_number(&a, &b),
         (Node::Text(a), Node::Text(b)) => same_text(&a, &b),
-        (Node::Reference(_), Node::Reference(_)) => true,
+        (Node::Reference(..), Node::Reference(..)) => true,
         (a, b) => nodes_alike(&a, &b),
     }
 }
@@ -77,7 +77,7 @@ fn nodes_alike<'p, 'a, 'q, 'b>(v: &Node<'p, 'a>, w: &Node<'q, 'b>) -> bool
         (Node::Text(a), Node::Text(b)) => same_text(a, b),
         (Node::Bits(a), Node::Bits(b)) => same_bits(a, b),
         (Node::Element(a), Node::Element(b)) => same_word(a, b),
-        (Node::Reference(_), Node::Reference(_)) => true,
+        (Node::Reference(..), Node::Reference(..)) => true,
         (Node::Typed(n, a), Node::Typed(m, b)) => {
             if same_word(n, m) {
                 values_alike(a, b)

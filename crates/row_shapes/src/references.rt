@@ -73,26 +73,31 @@ fn references_at<'a>(cell: &Cell<'a>) -> usize
     }
 }
 
-/// The place of the row of a name that is one.
-fn place_of<'a>(input: &Plain<'a>, name: u64) -> u32
+/// The place of the row of a name that is one: this place, if the row there has the name.
+fn place_of<'a>(input: &Plain<'a>, name: u64, told: u32) -> u32
     requires { IsName input.now name }
     ensures { slice_get (names input.now) result ≡ Some name }
 {
     // its contract says that its places have numbers of 32 bits
-    let _rows = input.len();
+    let rows = input.len();
+    if (told as usize) < rows && input.name(told as usize) == name {
+        return told;
+    }
     match input.find(name) {
         None => 0,
         Some(place) => place as u32,
     }
 }
 
-/// Adds the edge from a place to the row of a name. The edges from there begin at the index `first`.
+/// Adds the edge from a place to the row of a name, which is mostly this one. The edges from there begin at the index
+/// `first`.
 fn push_edge<'a>(
     edges: &mut Vec<Edge>,
     input: &Plain<'a>,
     source: u32,
     first: usize,
     name: u64,
+    row: u32,
 ) -> Result<(), AllocError>
     requires named { IsName input.now name }
     requires first { first ≤ length edges.old.items }
@@ -100,7 +105,7 @@ fn push_edge<'a>(
         edges.new.items) }
 {
     let position = (edges.len() - first) as u64;
-    let target = place_of(input, name);
+    let target = place_of(input, name, row);
     edges.push(Edge {
         position,
         source,
@@ -152,7 +157,7 @@ fn push_node_edges<'a>(
         edges.old.items edges.new.items) }
 {
     match node {
-        Node::Reference(name) => push_edge(edges, input, source, first, *name),
+        Node::Reference(name, row) => push_edge(edges, input, source, first, *name, *row),
         Node::Typed(_, inner) => push_edges(edges, input, source, first, inner),
         Node::Sequence(values) => push_each(edges, input, source, first, values),
         _ => Ok(()),

@@ -45,7 +45,7 @@ fn is_flat(value: &Slot<'_, '_>) -> bool
 {
     match value.node() {
         Node::Unset | Node::Derived | Node::Number(_) | Node::Text(_) => true,
-        Node::Bits(_) | Node::Element(_) | Node::Reference(_) => true,
+        Node::Bits(_) | Node::Element(_) | Node::Reference(..) => true,
         Node::Typed(_, _) => false,
         Node::Sequence(values) => are_plain(&values),
         Node::Bag(values) => are_plain(&values),

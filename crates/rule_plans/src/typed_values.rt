@@ -80,7 +80,7 @@ fn add_inside<'p, 'r>(
 {
     match node {
         Node::Unset | Node::Derived | Node::Number(_) | Node::Text(_) => Ok(()),
-        Node::Bits(_) | Node::Element(_) | Node::Reference(_) => Ok(()),
+        Node::Bits(_) | Node::Element(_) | Node::Reference(..) => Ok(()),
         Node::Typed(word, inner) => {
             let within = seeker.by_name(word);
             add_values(seeker, found, within, seeker.types.of_name(word), inner)

@@ -21,8 +21,7 @@ use Rattle.schema_sources.specs.declared.source.Derivation.{Derivation as Number
 use Rattle.schema_sources.specs.Seen.{inverses_seen, derivation_seen}
 use Rattle.schema_sources.specs.Tables.{IsKnown}
 use Rattle.rule_sources.specs.Sources.{AreFormSources}
-use Rattle.schema_derivations.specs.Firsts.{AreFirsts}
-use Rattle.schema_derivations.specs.Formulas.{AreFormulas}
+use Rattle.schema_derivations.specs.Formulas.{AreFormulasOf}
 use Rattle.rule_names.specs.Tables.{AreSettingTables}
 use Rattle.rule_settings.specs.declared.setting.Setting.{Setting}
 use Rattle.rule_settings.specs.declared.attributes.Found.{Found}
@@ -45,8 +44,7 @@ pub record IsSetting (S : Setting) : Type 0 where
   pub known : IsKnown S.extents.now.population.now.types.now S.tables.now.sources S.extents.now.rules.now.inverses.items
   pub tables : AreSettingTables S.extents.now.population.now.types.now S.tables.now
   pub forms : AreFormSources (schema_in S) (inverses_in S) S.extents.now.population.now.rows.forms.items S.forms.now
-  pub formulas : AreFormulas (schema_in S) S.formulas.now
-  pub firsts : AreFirsts (schema_in S) S.firsts.now
+  pub formulas : AreFormulasOf (schema_in S) S.formulas.now
 
 -- What the schema says, as functions, and that the population conforms to it.
 pub record Meant (S : Setting) : Type 0 where

@@ -20,15 +20,10 @@ impl<'s: 'r, 't, 'r, 'a, 'e, 'p> Setting<'s, 't, 'r, 'a, 'e, 'p> {
             → HasNumber (schema_in self.now) (name_at (schema_in self.now) derivation.entity)
             derivation.entity → option_map formula_seen result
             ≡ m.attributes.formula (derivation_in self.now derivation) }
-        ensures place { result ≡ option_flatten (slice_get self.now.formulas.now
-            (formula_place self.now.firsts.now (length self.now.formulas.now) derivation.entity
-            derivation.number)) }
+        ensures place { result ≡ option_flatten (slice_get self.now.formulas.now.rows.items
+            (formula_place self.now.formulas.now.firsts.items
+            (length self.now.formulas.now.rows.items) derivation.entity derivation.number)) }
     {
-        formula_at(
-            self.formulas,
-            self.firsts,
-            derivation.entity,
-            derivation.number,
-        )
+        formula_at(self.formulas, derivation.entity, derivation.number)
     }
 }

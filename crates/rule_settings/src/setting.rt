@@ -2,7 +2,7 @@
 
 use rule_names::tables::SettingTables;
 use rule_sources::sources::FormSources;
-use schema_derivations::formula::Formula;
+use schema_derivations::formula::Formulas;
 use step_extent::extents::Extents;
 
 /// A population with all that an expression can ask of it and of its schema.
@@ -12,8 +12,5 @@ pub struct Setting<'s, 't, 'r, 'a, 'e, 'p> {
     pub tables: &'p SettingTables<'r, 's>,
     /// By form of an instance, where the values of its attributes are.
     pub forms: &'p FormSources<'s>,
-    /// By number of a derived attribute, how it is computed; none for one that is set aside.
-    pub formulas: &'p [Option<Formula<'s, 't>>],
-    /// By declaration, how many derived attributes stand before it.
-    pub firsts: &'p [u32],
+    pub formulas: &'p Formulas<'s, 't>,
 }

@@ -67,7 +67,7 @@ fn node_scalar<'p, 'r>(types: &ValueTypes<'r>, base: &Base, node: &Node<'p, 'r>)
     ensures { scalar_of result ≡ scalar (coded_datum types.now base.now (node_value node.now)) }
 {
     match node {
-        Node::Unset | Node::Derived | Node::Reference(_) => Scalar::Nothing,
+        Node::Unset | Node::Derived | Node::Reference(..) => Scalar::Nothing,
         Node::Number(decimal) => Scalar::Number(AnyNumber::Written {
             decimal: *decimal,
             is_negated: false,

@@ -45,7 +45,7 @@ fn node_datum<'p, 'r>(
         Node::Text(text) => Datum::Text(text),
         Node::Bits(bits) => Datum::Bits(bits),
         Node::Element(word) => element_datum(base, word),
-        Node::Reference(name) => Datum::Instance(name),
+        Node::Reference(name, _) => Datum::Instance(name),
         Node::Typed(word, inner) => Datum::Typed(Part::typed(types, word, inner)),
         Node::Sequence(values) => Datum::Aggregate(Part::in_order(types, base, values)),
         Node::Bag(values) => Datum::Aggregate(Part::in_no_order(types, base, values)),

@@ -1,4 +1,7 @@
-//! What the rules of a schema say of a typed population, and which instances keep their identity where none is broken.
+//! What is found of a file by its schema; or, where nothing is, the rows of its population and which of
+//! its instances keep their identity.
 #![tactic(auto)]
 
-pub mod ruled;
+pub mod checked;
+pub mod rows;
+mod ruled;

@@ -4,7 +4,7 @@ ghost use Rattle.std.specs.Prelude.{IfOk};
 ghost use Rattle.express_syntax.specs.SchemaViews.{schema_of};
 ghost use Rattle.population_typed.specs.Seen.{population_seen};
 ghost use Rattle.check_findings.specs.Ruling.{AreReady};
-ghost use Rattle.ruled_populations.specs.Ruling.{IsRuled};
+ghost use Rattle.ruled_populations.specs.ComputedRuling.{IsRuled};
 
 use check_findings::rules::rule_findings;
 use express_rules::report::RuleReport;
@@ -21,7 +21,7 @@ use step_pins::weak_pins::WeakPins;
 
 /// What the rules of a schema say of a population.
 #[derive(Drop)]
-pub enum Ruled<'s> {
+pub(crate) enum Ruled<'s> {
     /// Some are broken: where, and of how many pairs of an instance and a domain rule it isn't known.
     Broken(RuleReport<'s>),
     /// None is.
@@ -45,7 +45,7 @@ fn ruled_by_extents<'e, 'r, 't, 's: 'r, 'a: 'r>(
     extents: &Extents<'s, 't, 'r, 'a, 'e>,
 ) -> Result<Ruled<'s>, AllocError>
     requires ready { AreReady extents.now.population.now.types.now extents.now.rules.now
-        graph.now.domain graph.now.judged.firsts.items tables.now settings.now }
+        graph.now.domain tables.now settings.now }
     ensures { IfOk result (IsRuled
         (schema_of extents.now.population.now.types.now.names.schema.now)
         (population_seen extents.now.population.now) extents.now.rules.now chosen.now) }
@@ -66,7 +66,7 @@ fn ruled_by_extents<'e, 'r, 't, 's: 'r, 'a: 'r>(
 /// instances of the chosen entities may be merged. Keys of rules are hashed by these keys.
 ///
 /// `AllocError` comes where memory runs out.
-pub fn ruled_by_population<'r, 't, 's: 'r, 'a: 'r>(
+pub(crate) fn ruled_by_population<'r, 't, 's: 'r, 'a: 'r>(
     alloc: Global,
     keys: RandomState,
     graph: &TypeGraph<'s, 't>,
@@ -75,8 +75,8 @@ pub fn ruled_by_population<'r, 't, 's: 'r, 'a: 'r>(
     chosen: &Chosen,
     population: &Population<'s, 't, 'r, 'a>,
 ) -> Result<Ruled<'s>, AllocError>
-    requires ready { AreReady population.now.types.now graph.now.rules graph.now.domain
-        graph.now.judged.firsts.items tables.now settings.now }
+    requires ready { AreReady population.now.types.now graph.now.rules graph.now.domain tables.now
+        settings.now }
     ensures { IfOk result (IsRuled (schema_of population.now.types.now.names.schema.now)
         (population_seen population.now) graph.now.rules chosen.now) }
 {

@@ -48,6 +48,14 @@ one-name m n e = cc
 one-declaration : (c d : Declaration) → Some c ≡ Some d → c ≡ d
 one-declaration c d e = cc
 
+-- what stands at the place of a formula, by lists that are the same
+pub same-there : (rows xs : List (Option Formula)) (firsts ns : List ℕ) (i n : ℕ) → rows ≡ xs → firsts ≡ ns
+    → option_flatten (slice_get rows (formula_place firsts (length rows) i n))
+    ≡ option_flatten (slice_get xs (formula_place ns (length xs) i n))
+same-there rows xs firsts ns i n same begun =
+    ap (λ ys. option_flatten (slice_get ys (formula_place firsts (length ys) i n))) same
+    ∙ ap (λ ms. option_flatten (slice_get xs (formula_place ms (length xs) i n))) begun
+
 -- one declaration more
 first-more : (ds : List Declaration) (i : ℕ) (d : Declaration) → slice_get ds i ≡ Some d
     → first_of ds (i + 1) ≡ first_of ds i + length (derivations_in d)

@@ -7,6 +7,8 @@ use Rattle.conformance.specs.Attributes as meanings
 use Rattle.conformance.specs.Attributes.{IsFormula}
 use Rattle.schema_attributes.specs.Derivations.{all_derivations, HasDerivation}
 use Rattle.schema_derivations.specs.declared.formula.Formula.{Formula}
+use Rattle.schema_derivations.specs.declared.formula.Formulas.{Formulas}
+use Rattle.schema_derivations.specs.Firsts.{AreFirsts}
 
 abbrev pub formula_seen : Formula → meanings.Formula
 formula_seen f = record { rank = f.rank; expression = tree_of f.expression.now }
@@ -16,6 +18,11 @@ pub record AreFormulas (s : Schema) (table : List (Option Formula)) : Type 0 whe
   pub same : length table ≡ length (all_derivations s)
   pub each : (j : ℕ) (d : Derivation) (o : Option Formula) → HasDerivation s j d → slice_get table j ≡ Some o
       → IsFormula s d (option_map formula_seen o)
+
+-- So are the derived attributes of a schema computed, and so many stand before each of its declarations.
+pub record AreFormulasOf (s : Schema) (t : Formulas) : Type 0 where
+  pub rows : AreFormulas s t.rows.items
+  pub firsts : AreFirsts s t.firsts.items
 
 -- The place in the table of the n-th derived attribute of the entity that has the number i, where those of the
 -- entities begin at these places; the end of the table where that entity has no n-th.

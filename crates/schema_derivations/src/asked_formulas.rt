@@ -7,10 +7,9 @@ ghost use Rattle.schema_semantics.specs.Names.{Name};
 ghost use Rattle.schema_names.specs.Numbers.{HasNumber};
 ghost use Rattle.conformance.specs.Rules.{InverseAttribute};
 ghost use Rattle.conformance.specs.Attributes.{Attributes, AreAttributes};
-ghost use Rattle.schema_derivations.specs.Firsts.{AreFirsts};
-ghost use Rattle.schema_derivations.specs.Formulas.{formula_seen, formula_place, AreFormulas};
+ghost use Rattle.schema_derivations.specs.Formulas.{formula_seen, formula_place, AreFormulasOf};
 
-use crate::formula::Formula;
+use crate::formula::{Formula, Formulas};
 
 /// The number of the first derived attribute from a declaration on, of so many; their count behind
 /// the last declaration.
@@ -48,18 +47,19 @@ fn formula_in<'t, 'a>(formulas: &[Option<Formula<'a, 't>>], place: usize) -> Opt
 /// of the entity of this number; none where there is none, or where it is set aside
 /// (ISO 10303-11, 9.2.1.2).
 pub fn formula_at<'t, 'a>(
-    formulas: &[Option<Formula<'a, 't>>],
-    firsts: &[u32],
+    formulas: &Formulas<'a, 't>,
     entity: u32,
     number: usize,
 ) -> Option<Formula<'a, 't>>
-    ensures meant { (s : Schema) → AreFormulas s formulas.now → AreFirsts s firsts.now
+    ensures meant { (s : Schema) → AreFormulasOf s formulas.now
         → (inverses : List InverseAttribute) (attributes : Attributes)
         → AreAttributes s inverses attributes → (e : Name) → HasNumber s e entity
         → option_map formula_seen result ≡ attributes.formula (e, number) }
-    ensures place { result ≡ option_flatten (slice_get formulas.now
-        (formula_place firsts.now (length formulas.now) entity number)) }
+    ensures place { result ≡ option_flatten (slice_get formulas.now.rows.items
+        (formula_place formulas.now.firsts.items (length formulas.now.rows.items) entity number)) }
 {
-    let place = place_of(firsts, formulas.len(), entity, number);
-    formula_in(formulas, place)
+    let rows = formulas.rows.as_slice();
+    let firsts = formulas.firsts.as_slice();
+    let place = place_of(firsts, rows.len(), entity, number);
+    formula_in(rows, place)
 }

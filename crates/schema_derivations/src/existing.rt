@@ -4,15 +4,13 @@ ghost use Rattle.std.specs.Prelude.{List, Option};
 ghost use Rattle.express_syntax.specs.Schemas.{Schema};
 ghost use Rattle.schema_semantics.specs.Attributes.{Derivation};
 ghost use Rattle.conformance.specs.Attributes.{Formula as Meant, IsFormula};
-ghost use Rattle.schema_derivations.specs.Firsts.{AreFirsts};
-ghost use Rattle.schema_derivations.specs.Formulas.{AreFormulas};
+ghost use Rattle.schema_derivations.specs.Formulas.{AreFormulasOf};
 
-use crate::formula::Formula;
+use crate::formula::Formulas;
 
 /// There is a function that says how each derived attribute of a schema is computed
 /// (ISO 10303-11, 9.2.1.2).
-pub fn formulas_are_said(formulas: &[Option<Formula<'_, '_>>], firsts: &[u32])
-    ensures { (s : Schema) → AreFormulas s formulas.now → AreFirsts s firsts.now
-        → (formula : Derivation → Option Meant)
+pub fn formulas_are_said(formulas: &Formulas<'_, '_>)
+    ensures { (s : Schema) → AreFormulasOf s formulas.now → (formula : Derivation → Option Meant)
         × ((e : Derivation) → IsFormula s e (formula e)) }
 {}

@@ -1,4 +1,4 @@
-//! How a derived attribute is computed.
+//! How derived attributes are computed.
 
 use express_syntax::expression::Expr;
 
@@ -8,4 +8,13 @@ use express_syntax::expression::Expr;
 pub struct Formula<'a, 't> {
     pub rank: u32,
     pub expression: &'t Expr<'a>,
+}
+
+/// How the derived attributes of a schema are computed.
+#[derive(Drop)]
+pub struct Formulas<'a, 't> {
+    /// By number of a derived attribute, how it is computed; none for one that is set aside.
+    pub rows: Vec<Option<Formula<'a, 't>>>,
+    /// By declaration, how many derived attributes stand before it.
+    pub firsts: Vec<u32>,
 }

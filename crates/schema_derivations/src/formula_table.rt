@@ -6,10 +6,11 @@ ghost use Rattle.express_syntax.specs.SchemaViews.{schema_of};
 ghost use Rattle.schema_semantics.specs.Faults.{IsResolved};
 ghost use Rattle.schema_derivations.specs.Asked.{deriveds_in};
 ghost use Rattle.schema_derivations.specs.Ranking.{AreRanksOf};
-ghost use Rattle.schema_derivations.specs.Formulas.{formula_seen, AreFormulas};
+ghost use Rattle.schema_derivations.specs.Formulas.{formula_seen, AreFormulasOf};
 ghost use Rattle.schema_derivations.specs.Making.{formula_by, Adds};
 
-use crate::formula::Formula;
+use crate::asked_ranks::first_derivations;
+use crate::formula::{Formula, Formulas};
 use express_syntax::tree::{Body, Declaration, Derived};
 use schema_names::names::Names;
 use std::alloc::{AllocError, Global};
@@ -80,21 +81,22 @@ fn add_all<'t, 'a>(
     Ok(())
 }
 
-/// By number, how the derived attributes of a schema are computed whose names are resolved; none
-/// for one that is set aside (ISO 10303-11, 9.2.1.2).
+/// How the derived attributes of a schema are computed whose names are resolved
+/// (ISO 10303-11, 9.2.1.2).
 ///
 /// It takes time for each declaration and each derived attribute once. An error says that memory
-/// ran out.
+/// ran out, or that there are more than 2^32 - 1 derived attributes.
 pub fn formulas<'t, 'a>(
     alloc: Global,
     names: &Names<'a, 't>,
     ranks: &[Option<u32>],
-) -> Result<Vec<Option<Formula<'a, 't>>>, AllocError>
+) -> Result<Formulas<'a, 't>, AllocError>
     requires resolved { IsResolved (schema_of names.now.schema.now) }
     requires ranks { AreRanksOf (schema_of names.now.schema.now) ranks.now }
-    ensures { IfOk result (λ t. AreFormulas (schema_of names.now.schema.now) t.items) }
+    ensures { IfOk result (AreFormulasOf (schema_of names.now.schema.now)) }
 {
-    let mut formulas: Vec<Option<Formula<'a, 't>>> = Vec::new(alloc);
-    add_all(&mut formulas, ranks, &names.schema.declarations)?;
-    Ok(formulas)
+    let mut rows: Vec<Option<Formula<'a, 't>>> = Vec::new(alloc);
+    add_all(&mut rows, ranks, &names.schema.declarations)?;
+    let firsts = first_derivations(alloc, names)?;
+    Ok(Formulas { rows, firsts })
 }

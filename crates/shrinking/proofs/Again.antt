@@ -1,18 +1,14 @@
 -- A run on what a run wrote.
-use Rattle.std.specs.Prelude.{◌≡◌, ◌≤◌, ◌<◌, ◌^◌, ℕ, Bool, List, length, Result, Ok, Err, None}
-use Rattle.std.specs.String.{string_bytes}
-use Rattle.std.proofs.Common.{sym, subst, ◌∙◌, arith, inl, inr}
+use Rattle.std.specs.Prelude.{◌≡◌, ◌<◌, ◌^◌, ℕ, Bool, List, length, Result, Ok, Err, None}
+use Rattle.std.proofs.Common.{sym, subst, ◌∙◌, inl, inr}
 use Rattle.step_structures.specs.Trees.{File}
 use Rattle.step_structures.proofs.Once as texts
 use Rattle.express_syntax.specs.Schemas.{Schema}
 use Rattle.express_syntax.specs.declared.fault.SchemaFault.{SchemaFault}
 use Rattle.express_syntax.specs.declared.fault.SchemaFault.TheVariants as schemas
 use Rattle.express_syntax.proofs.UniqueSchemas.{one_schema}
-use Rattle.express_syntax.proofs.FirstFault.{reads_no_fault}
 use Rattle.schema_semantics.specs.Names.{Name}
-use Rattle.schema_semantics.specs.Faults.{IsFault}
 use Rattle.schema_semantics.specs.Parts.{AreUnchecked}
-use Rattle.schema_semantics.proofs.Faults.{faults-are-one}
 use Rattle.schema_parts.specs.Adding.{unchecked_in}
 use Rattle.conformance.specs.Choices.{Choice, chosen_names, unknown_choice}
 use Rattle.conformance.specs.Said.{FileConforms}
@@ -21,8 +17,9 @@ use Rattle.merged_populations.specs.Headline.{SecondMergesStay}
 use Rattle.files.specs.declared.fault.Role.TheVariants as roles
 use Rattle.faults.specs.declared.fault.Fault.{Fault}
 use Rattle.faults.specs.declared.fault.Fault.TheVariants as faults
-use Rattle.checking.specs.Checks.{HasSchema, HasSchemaFault}
+use Rattle.checking.specs.Checks.{HasSchema}
 use Rattle.checking.specs.Reporting.{IsReport}
+use Rattle.checking.proofs.Texts.{no_schema_fault}
 use Rattle.shrinking.specs.declared.summary.Summary.{Summary}
 use Rattle.shrinking.specs.Shrinking.{Passes, IsUnknown, IsDone, Answers}
 use Rattle.shrinking.specs.Laws.{OwnOutputsPass, SecondRunsStay, Stays}
@@ -42,18 +39,6 @@ own_outputs_pass law s chosen bytes output merged =
           (law s said f r.findings.items r.rule_findings.items r.unknown report.findings).1
           (subst (FileConforms s said) (sym one.1) least.conforms),
     )
-
--- a schema that is resolved has no fault
-pub no_schema_fault : (s : Schema) (text : List ℕ) → HasSchema s text → (f : SchemaFault) → HasSchemaFault f text → ⊥
-no_schema_fault s text has (schemas.Text kind place) (inl h) =
-    let more : 2 ^ 40 < length text = h.0 in
-    let less : length text ≤ 2 ^ 40 = has.within in
-    omega (arith, more, less)
-no_schema_fault s text has (schemas.Text kind place) (inr h) = reads_no_fault text s kind place has.reads h.1
-no_schema_fault s text has (schemas.Name kind name) h =
-    let one = one_schema text h.1.0 s h.1.1 has.reads in
-    (faults-are-one s).1 kind (string_bytes name) (subst (λ t. IsFault t kind (string_bytes name)) one h.1.2) has.resolved
-no_schema_fault s text has schemas.Memory h = h
 
 module _ (c : Choice) (strict : Bool) (text bytes output certificate : List ℕ) (s : Schema) (m : Summary)
     (has : HasSchema s text) (passes : Passes strict s) (known : unknown_choice s c ≡ None)
@@ -76,7 +61,7 @@ module _ (c : Choice) (strict : Bool) (text bytes output certificate : List ℕ)
       subst (λ u. IsDone u (chosen_names u c) output again recertified n) (one h.0 h.1) h.4 in
       let said = done.merged.some_said in
       stay s said (chosen_names s c) bytes output again (done.merged.merge said) (redone.merged.merge said)
-  stays own stay again recertified (Err (faults.Schema f)) (inl h, none) = absurd (no_schema_fault s text has f h)
+  stays own stay again recertified (Err (faults.Schema f)) (inl h, none) = absurd (no_schema_fault text s has f h)
   stays own stay again recertified (Err (faults.Schema f)) (inr h, none) = absurd (not_unknown h.0 f (one h.0 h.1) h.3)
   stays own stay again recertified (Err (faults.Unchecked us)) (h, none) =
       absurd (none_unchecked s us.items (passes h.2)

@@ -27,7 +27,7 @@ use Rattle.faults.specs.declared.fault.Fault.{Fault}
 use Rattle.faults.specs.declared.fault.Fault.TheVariants as faults
 use Rattle.checking.specs.Checks.{HasSchema}
 use Rattle.shrinking.specs.declared.summary.Summary.{Summary}
-use Rattle.shrinking.specs.Shrinking.{Passes, IsDone, FileAnswers, Answers, Shrinks}
+use Rattle.shrinking.specs.Shrinking.{Passes, IsDone, FileAnswers, Answers, Shrinks, Written}
 use Rattle.shrinking.specs.ComputedAnswers.{Writes, FileShrinks, SourceShrinks}
 
 -- what stays grows by nothing
@@ -35,6 +35,10 @@ kept_appends : (a b : Option (List ℕ)) → Keeps a b → Appends a b []
 kept_appends None b h = tt
 kept_appends (Some xs) None h = absurd h
 kept_appends (Some xs) (Some ys) h = h ∙ sym (append-nil xs)
+
+-- a sink holds what it held
+abbrev pub unwritten : Option (List ℕ) → Written
+unwritten held = record { before = held; after = held }
 
 -- bytes that are to come where that is told, else any
 some_text : (told : Option (List ℕ)) → (text : List ℕ) × IfSome told (λ t. t ≡ text)
@@ -51,7 +55,7 @@ long_text limit (Some text) h = (text, refl, h)
 module _ (s : Schema) (chosen : List Name) (bytes : List ℕ) where
   -- nothing was written
   pub idle : (out cert : Option (List ℕ)) (r : Result Summary Fault) → FileAnswers s chosen bytes [] [] r
-      → FileShrinks s chosen bytes out out cert cert r
+      → FileShrinks s chosen bytes (unwritten out) (unwritten cert) r
   idle out cert r h = record {
     output = [];
     certificate = [];
@@ -61,10 +65,10 @@ module _ (s : Schema) (chosen : List Name) (bytes : List ℕ) where
   }
 
   -- both texts were
-  pub all_written : (out out' cert cert' : Option (List ℕ)) (text certified : List ℕ) (m : Summary)
-      → IsDone s chosen bytes text certified m → Appends out out' text → Appends cert cert' certified
-      → FileShrinks s chosen bytes out out' cert cert' (Ok m)
-  all_written out out' cert cert' text certified m h a b = record {
+  pub all_written : (out cert : Written) (text certified : List ℕ) (m : Summary)
+      → IsDone s chosen bytes text certified m → Appends out.before out.after text
+      → Appends cert.before cert.after certified → FileShrinks s chosen bytes out cert (Ok m)
+  all_written out cert text certified m h a b = record {
     output = text;
     certificate = certified;
     answers = h;
@@ -73,14 +77,14 @@ module _ (s : Schema) (chosen : List Name) (bytes : List ℕ) where
   }
 
   -- .. or a front of them
-  pub cut : (out out' cert cert' : Option (List ℕ)) (text certified : List ℕ) (m : Summary) (f : FileFault) (r : Fault)
-      → r ≡ of_file f → IsDone s chosen bytes text certified m → Writes out out' cert cert' text certified (Err f)
-      → FileShrinks s chosen bytes out out' cert cert' (Err r)
-  cut out out' cert cert' text certified m f r e done h =
-      subst (λ (x : Fault). FileShrinks s chosen bytes out out' cert cert' (Err x)) (sym e) (by f h)
+  pub cut : (out cert : Written) (text certified : List ℕ) (m : Summary) (f : FileFault) (r : Fault)
+      → r ≡ of_file f → IsDone s chosen bytes text certified m → Writes out cert text certified (Err f)
+      → FileShrinks s chosen bytes out cert (Err r)
+  cut out cert text certified m f r e done h =
+      subst (λ (x : Fault). FileShrinks s chosen bytes out cert (Err x)) (sym e) (by f h)
     where
-      by : (f : FileFault) → Writes out out' cert cert' text certified (Err f)
-          → FileShrinks s chosen bytes out out' cert cert' (Err (of_file f))
+      by : (f : FileFault) → Writes out cert text certified (Err f)
+          → FileShrinks s chosen bytes out cert (Err (of_file f))
       by (files.Text role kind place) h = absurd h
       by (files.Device roles.Schema written) h = absurd h
       by (files.Device roles.File written) h = absurd h
@@ -96,7 +100,7 @@ module _ (s : Schema) (chosen : List Name) (bytes : List ℕ) where
           refl,
         );
         written = h.0.told;
-        certified = kept_appends cert cert' h.1;
+        certified = kept_appends cert.before cert.after h.1;
       }
       by (files.Device roles.Certificate written) h = record {
         output = text;
@@ -114,30 +118,29 @@ module _ (s : Schema) (chosen : List Name) (bytes : List ℕ) where
         output = [];
         certificate = [];
         answers = (refl, refl);
-        written = kept_appends out out' h.0;
-        certified = kept_appends cert cert' h.1;
+        written = kept_appends out.before out.after h.0;
+        certified = kept_appends cert.before cert.after h.1;
       }
 
   -- the text of the file isn't read
   pub unread_text : (out cert : Option (List ℕ)) (e : TextFault) (f : FileFault) (r : Fault)
       → f ≡ text_fault roles.File e → r ≡ of_file f → length bytes ≤ 2 ^ 40 → IsFaultOf bytes e
-      → FileShrinks s chosen bytes out out cert cert (Err r)
+      → FileShrinks s chosen bytes (unwritten out) (unwritten cert) (Err r)
   unread_text out cert e f r is so within h =
-      subst (λ (x : Fault). FileShrinks s chosen bytes out out cert cert (Err x))
+      subst (λ (x : Fault). FileShrinks s chosen bytes (unwritten out) (unwritten cert) (Err x))
       (sym (so ∙ (λ i. of_file (is i)))) (by e h)
     where
       by : (e : TextFault) → IsFaultOf bytes e
-          → FileShrinks s chosen bytes out out cert cert (Err (of_file (text_fault roles.File e)))
+          → FileShrinks s chosen bytes (unwritten out) (unwritten cert) (Err (of_file (text_fault roles.File e)))
       by (texts.Fault kind place) h =
           idle out cert (Err (faults.Text roles.File kind place)) (inr (within, h), (refl, refl))
       by texts.Memory h = idle out cert (Err faults.Memory) (refl, refl)
 
 -- bytes that a source gave to its end
 pub given : (s : Schema) (chosen : List Name) (file left : Option (List ℕ)) (bytes : List ℕ)
-    (out out' cert cert' : Option (List ℕ)) (r : Result Summary Fault)
-    → Consumes file left bytes × IsAtEnd left → FileShrinks s chosen bytes out out' cert cert' r
-    → SourceShrinks s chosen file out out' cert cert' r
-given s chosen file left bytes out out' cert cert' r h k = record {
+    (out cert : Written) (r : Result Summary Fault) → Consumes file left bytes × IsAtEnd left
+    → FileShrinks s chosen bytes out cert r → SourceShrinks s chosen file out cert r
+given s chosen file left bytes out cert r h k = record {
   bytes = bytes;
   bytes_are = Consumes-whole file left bytes (λ b. b ≡ bytes) h.0 h.1 refl;
   shrinks = k;
@@ -146,18 +149,18 @@ given s chosen file left bytes out out' cert cert' r h k = record {
 -- the file isn't read to its end
 pub not_given : (s : Schema) (chosen : List Name) (file out cert : Option (List ℕ)) (e : ReadFault) (r : Fault)
     → r ≡ unread roles.File e → (e ≡ reads.TooLarge → IsBeyond (2 ^ 40) file)
-    → SourceShrinks s chosen file out out cert cert (Err r)
+    → SourceShrinks s chosen file (unwritten out) (unwritten cert) (Err r)
 not_given s chosen file out cert e r is beyond =
-    subst (λ (x : Fault). SourceShrinks s chosen file out out cert cert (Err x)) (sym is) (by e beyond)
+    subst (λ (x : Fault). SourceShrinks s chosen file (unwritten out) (unwritten cert) (Err x)) (sym is) (by e beyond)
   where
     any : (x : Fault) → ((bytes : List ℕ) → FileAnswers s chosen bytes [] [] (Err x))
-        → SourceShrinks s chosen file out out cert cert (Err x)
+        → SourceShrinks s chosen file (unwritten out) (unwritten cert) (Err x)
     any x h =
         let text = some_text file in
         record { bytes = text.0; bytes_are = text.1; shrinks = idle s chosen text.0 out cert (Err x) (h text.0) }
 
     by : (e : ReadFault) → (e ≡ reads.TooLarge → IsBeyond (2 ^ 40) file)
-        → SourceShrinks s chosen file out out cert cert (Err (unread roles.File e))
+        → SourceShrinks s chosen file (unwritten out) (unwritten cert) (Err (unread roles.File e))
     by reads.Device h = any (faults.Device roles.File 0) (λ bytes. (refl, (refl, refl)))
     by reads.TooLarge h =
         let text = long_text (2 ^ 40) file (h refl) in
@@ -200,11 +203,10 @@ file_answered c strict s text bytes output certificate has passes known (Err (fa
 file_answered c strict s text bytes output certificate has passes known (Err faults.Memory) h = h
 
 module _ (c : Choice) (strict : Bool) (text : List ℕ) where
-  pub settled : (s : Schema) (file out out' cert cert' : Option (List ℕ)) (r : Result Summary Fault)
+  pub settled : (s : Schema) (file : Option (List ℕ)) (out cert : Written) (r : Result Summary Fault)
       → HasSchema s text → Passes strict s → unknown_choice s c ≡ None
-      → SourceShrinks s (chosen_names s c) file out out' cert cert' r
-      → Shrinks c strict (Some text) file out out' cert cert' r
-  settled s file out out' cert cert' r has passes known h =
+      → SourceShrinks s (chosen_names s c) file out cert r → Shrinks c strict (Some text) file out cert r
+  settled s file out cert r has passes known h =
       let k = h.shrinks in
       record {
         text = text;
@@ -221,7 +223,7 @@ module _ (c : Choice) (strict : Bool) (text : List ℕ) where
   -- the file isn't looked at
   pub unlooked : (file out cert : Option (List ℕ)) (r : Fault)
       → ((bytes : List ℕ) → Answers c strict text bytes [] [] (Err r))
-      → Shrinks c strict (Some text) file out out cert cert (Err r)
+      → Shrinks c strict (Some text) file (unwritten out) (unwritten cert) (Err r)
   unlooked file out cert r h =
       let bytes = some_text file in
       record {
@@ -239,12 +241,12 @@ module _ (c : Choice) (strict : Bool) (text : List ℕ) where
   -- a chosen name is no entity
   pub unknown : (s : Schema) (file out cert : Option (List ℕ)) (f : SchemaFault) (r : Fault) → r ≡ of_schema f
       → HasSchema s text → Passes strict s → IsChoiceFault s c f
-      → Shrinks c strict (Some text) file out out cert cert (Err r)
+      → Shrinks c strict (Some text) file (unwritten out) (unwritten cert) (Err r)
   unknown s file out cert f r is has passes h =
-      subst (λ (x : Fault). Shrinks c strict (Some text) file out out cert cert (Err x)) (sym is) (by f h)
+      subst (λ (x : Fault). Shrinks c strict (Some text) file (unwritten out) (unwritten cert) (Err x)) (sym is) (by f h)
     where
       by : (f : SchemaFault) → IsChoiceFault s c f
-          → Shrinks c strict (Some text) file out out cert cert (Err (of_schema f))
+          → Shrinks c strict (Some text) file (unwritten out) (unwritten cert) (Err (of_schema f))
       by (schemas.Text kind place) h = absurd h
       by (schemas.Name kind name) h = unlooked file out cert (faults.Schema (schemas.Name kind name))
           (λ bytes. (inr (s, has, passes, h), (refl, refl)))
@@ -253,12 +255,12 @@ module _ (c : Choice) (strict : Bool) (text : List ℕ) where
   -- the text of the schema isn't read
   pub schema_unread : (file out cert : Option (List ℕ)) (f : SchemaFault) (r : Fault) → r ≡ of_schema f
       → length text ≤ 2 ^ 40 → schema_texts.IsFaultOf text f
-      → Shrinks c strict (Some text) file out out cert cert (Err r)
+      → Shrinks c strict (Some text) file (unwritten out) (unwritten cert) (Err r)
   schema_unread file out cert f r is within h =
-      subst (λ (x : Fault). Shrinks c strict (Some text) file out out cert cert (Err x)) (sym is) (by f h)
+      subst (λ (x : Fault). Shrinks c strict (Some text) file (unwritten out) (unwritten cert) (Err x)) (sym is) (by f h)
     where
       by : (f : SchemaFault) → schema_texts.IsFaultOf text f
-          → Shrinks c strict (Some text) file out out cert cert (Err (of_schema f))
+          → Shrinks c strict (Some text) file (unwritten out) (unwritten cert) (Err (of_schema f))
       by (schemas.Text kind place) h = unlooked file out cert (faults.Schema (schemas.Text kind place))
           (λ bytes. (inl (inr (within, h)), (refl, refl)))
       by (schemas.Name kind name) h = absurd h
@@ -267,12 +269,12 @@ module _ (c : Choice) (strict : Bool) (text : List ℕ) where
   -- .. or a name in it is at fault
   pub unresolved : (s : Schema) (file out cert : Option (List ℕ)) (f : SchemaFault) (r : Fault) → r ≡ of_schema f
       → length text ≤ 2 ^ 40 → schema_texts.ReadsAs text s → IsNameFault s f
-      → Shrinks c strict (Some text) file out out cert cert (Err r)
+      → Shrinks c strict (Some text) file (unwritten out) (unwritten cert) (Err r)
   unresolved s file out cert f r is within reads h =
-      subst (λ (x : Fault). Shrinks c strict (Some text) file out out cert cert (Err x)) (sym is) (by f h)
+      subst (λ (x : Fault). Shrinks c strict (Some text) file (unwritten out) (unwritten cert) (Err x)) (sym is) (by f h)
     where
       by : (f : SchemaFault) → IsNameFault s f
-          → Shrinks c strict (Some text) file out out cert cert (Err (of_schema f))
+          → Shrinks c strict (Some text) file (unwritten out) (unwritten cert) (Err (of_schema f))
       by (schemas.Text kind place) h = absurd h
       by (schemas.Name kind name) h = unlooked file out cert (faults.Schema (schemas.Name kind name))
           (λ bytes. (inl (within, (s, reads, h)), (refl, refl)))
@@ -280,10 +282,10 @@ module _ (c : Choice) (strict : Bool) (text : List ℕ) where
 
 -- the schema's bytes are those of a source that gave them
 pub of_source : (c : Choice) (strict : Bool) (schema left : Option (List ℕ)) (bytes : List ℕ)
-    (file out out' cert cert' : Option (List ℕ)) (r : Result Summary Fault)
-    → Consumes schema left bytes × IsAtEnd left → Shrinks c strict (Some bytes) file out out' cert cert' r
-    → Shrinks c strict schema file out out' cert cert' r
-of_source c strict schema left bytes file out out' cert cert' r h k = record {
+    (file : Option (List ℕ)) (out cert : Written) (r : Result Summary Fault)
+    → Consumes schema left bytes × IsAtEnd left → Shrinks c strict (Some bytes) file out cert r
+    → Shrinks c strict schema file out cert r
+of_source c strict schema left bytes file out cert r h k = record {
   text = k.text;
   bytes = k.bytes;
   output = k.output;
@@ -298,13 +300,13 @@ of_source c strict schema left bytes file out out' cert cert' r h k = record {
 -- .. which isn't read to its end
 pub schema_not_given : (c : Choice) (strict : Bool) (schema file out cert : Option (List ℕ)) (e : ReadFault)
     (r : Fault) → r ≡ unread roles.Schema e → (e ≡ reads.TooLarge → IsBeyond (2 ^ 40) schema)
-    → Shrinks c strict schema file out out cert cert (Err r)
+    → Shrinks c strict schema file (unwritten out) (unwritten cert) (Err r)
 schema_not_given c strict schema file out cert e r is beyond =
-    subst (λ (x : Fault). Shrinks c strict schema file out out cert cert (Err x)) (sym is) (by e beyond)
+    subst (λ (x : Fault). Shrinks c strict schema file (unwritten out) (unwritten cert) (Err x)) (sym is) (by e beyond)
   where
     with_text : (text : List ℕ) → IfSome schema (λ t. t ≡ text) → (x : Fault)
         → ((bytes : List ℕ) → Answers c strict text bytes [] [] (Err x))
-        → Shrinks c strict schema file out out cert cert (Err x)
+        → Shrinks c strict schema file (unwritten out) (unwritten cert) (Err x)
     with_text text told x h =
         let bytes = some_text file in
         record {
@@ -320,7 +322,7 @@ schema_not_given c strict schema file out cert e r is beyond =
         }
 
     by : (e : ReadFault) → (e ≡ reads.TooLarge → IsBeyond (2 ^ 40) schema)
-        → Shrinks c strict schema file out out cert cert (Err (unread roles.Schema e))
+        → Shrinks c strict schema file (unwritten out) (unwritten cert) (Err (unread roles.Schema e))
     by reads.Device h =
         let text = some_text schema in
         with_text text.0 text.1 (faults.Device roles.Schema 0) (λ bytes. (refl, (refl, refl)))

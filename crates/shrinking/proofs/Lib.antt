@@ -4,3 +4,4 @@ pub mod Again
 mod Refusing
 pub mod Answering
 mod Outcome
+pub mod Told

@@ -17,7 +17,7 @@ use Rattle.reports.specs.declared.report.Report.{Report}
 use Rattle.faults.specs.declared.fault.Fault.TheVariants.{Findings}
 use Rattle.checking.specs.Reporting.{IsReport}
 use Rattle.shrinking.specs.ComputedAnswers.{FileShrinks}
-use Rattle.shrinking.proofs.Answering.{idle}
+use Rattle.shrinking.proofs.Answering.{idle, unwritten}
 use Rattle.shrinking.proofs.Merging.{IsTabled}
 
 -- something is found
@@ -26,7 +26,7 @@ pub faulty : (s : Schema) (chosen : List Name) (bytes : List ℕ) (x : Exchange)
     → ReadsAs bytes x.header_bytes.now (structure x)
     → (AreFindings s (structure x) found.findings.items found.rules.findings.items found.rules.unknown
     → IsReport s (structure x) r) → r.findings ≡ found.findings → r.rule_findings ≡ found.rules.findings
-    → FileShrinks s chosen bytes out out cert cert (Err (Findings r))
+    → FileShrinks s chosen bytes (unwritten out) (unwritten cert) (Err (Findings r))
 faulty s chosen bytes x out cert m found r is merges within reads report same same_rules =
     let found_all = subst (Merges s chosen (structure x)) is merges in
     let items : r.findings.items ≡ found.findings.items = λ i. (same i).items in

@@ -12,18 +12,17 @@ use Rattle.files.specs.declared.fault.FileFault.{FileFault}
 use Rattle.files.specs.declared.fault.FileFault.TheVariants as files
 use Rattle.faults.specs.declared.fault.Fault.{Fault}
 use Rattle.shrinking.specs.declared.summary.Summary.{Summary}
-use Rattle.shrinking.specs.Shrinking.{FileAnswers}
+use Rattle.shrinking.specs.Shrinking.{FileAnswers, Written}
 
 -- both texts are written, the first one first
-abbrev pub Writes : Option (List ℕ) → Option (List ℕ) → Option (List ℕ) → Option (List ℕ) → List ℕ → List ℕ
-    → Result Unit FileFault → Type 0
-Writes out out' cert cert' text certified (Ok _) = Appends out out' text × Appends cert cert' certified
-Writes out out' cert cert' text certified (Err (files.Device roles.Output written)) =
-    EmitsFront out out' text written × Keeps cert cert'
-Writes out out' cert cert' text certified (Err (files.Device roles.Certificate written)) =
-    Appends out out' text × EmitsFront cert cert' certified written
-Writes out out' cert cert' text certified (Err files.Memory) = Keeps out out' × Keeps cert cert'
-Writes out out' cert cert' text certified (Err f) = ⊥
+abbrev pub Writes : Written → Written → List ℕ → List ℕ → Result Unit FileFault → Type 0
+Writes out cert text certified (Ok _) = Appends out.before out.after text × Appends cert.before cert.after certified
+Writes out cert text certified (Err (files.Device roles.Output written)) =
+    EmitsFront out.before out.after text written × Keeps cert.before cert.after
+Writes out cert text certified (Err (files.Device roles.Certificate written)) =
+    Appends out.before out.after text × EmitsFront cert.before cert.after certified written
+Writes out cert text certified (Err files.Memory) = Keeps out.before out.after × Keeps cert.before cert.after
+Writes out cert text certified (Err f) = ⊥
 
 -- the fault is that of the device of this role
 abbrev pub is_written : Role → Result Unit FileFault → Bool
@@ -36,17 +35,17 @@ abbrev pub IsRefused : Bool → Schema → Type 0
 IsRefused strict s = (strict ≡ true) × (∥ AreUnchecked s [] ∥₁ → ⊥)
 
 -- a file of these bytes is answered
-pub record FileShrinks (s : Schema) (chosen : List Name) (bytes : List ℕ) (out out' cert cert' : Option (List ℕ))
+pub record FileShrinks (s : Schema) (chosen : List Name) (bytes : List ℕ) (to_output to_certificate : Written)
     (result : Result Summary Fault) : Type 0 where
   pub output : List ℕ
   pub certificate : List ℕ
   pub answers : FileAnswers s chosen bytes output certificate result
-  pub written : Appends out out' output
-  pub certified : Appends cert cert' certificate
+  pub written : Appends to_output.before to_output.after output
+  pub certified : Appends to_certificate.before to_certificate.after certificate
 
 -- .. that are to come, where that is told
-pub record SourceShrinks (s : Schema) (chosen : List Name) (file out out' cert cert' : Option (List ℕ))
+pub record SourceShrinks (s : Schema) (chosen : List Name) (file : Option (List ℕ)) (to_output to_certificate : Written)
     (result : Result Summary Fault) : Type 0 where
   pub bytes : List ℕ
   pub bytes_are : IfSome file (λ b. b ≡ bytes)
-  pub shrinks : FileShrinks s chosen bytes out out' cert cert' result
+  pub shrinks : FileShrinks s chosen bytes to_output to_certificate result

@@ -1,5 +1,5 @@
 -- The laws of what is written.
-use Rattle.std.specs.Prelude.{◌≡◌, ◌<◌, ◌^◌, ℕ, Bool, List, length, Result, Ok, Err}
+use Rattle.std.specs.Prelude.{◌≡◌, ◌<◌, ◌^◌, ℕ, Bool, List, length, Some, Result, Ok, Err}
 use Rattle.step_structures.specs.declared.fault.FaultKind.{FaultKind}
 use Rattle.step_structures.specs.Trees.{File}
 use Rattle.express_syntax.specs.Schemas.{Schema}
@@ -12,7 +12,7 @@ use Rattle.faults.specs.declared.fault.Fault.TheVariants as faults
 use Rattle.checking.specs.Checks.{HasFile, HasFileFault}
 use Rattle.checking.specs.Reporting.{IsReport}
 use Rattle.shrinking.specs.declared.summary.Summary.{Summary}
-use Rattle.shrinking.specs.Shrinking.{IsClean, IsMerged, Answers}
+use Rattle.shrinking.specs.Shrinking.{IsClean, IsMerged, Answers, Shrinks, written_anew}
 
 -- What is written has no fault, but that it may be too large, and nothing is found of it.
 abbrev pub OwnOutputsPass : Type 0
@@ -33,3 +33,12 @@ SecondRunsStay =
     (c : Choice) (strict : Bool) (text bytes output certificate again recertified : List ℕ) (m : Summary)
     (result : Result Summary Fault) → Answers c strict text bytes output certificate (Ok m)
     → Answers c strict text output again recertified result → Stays output again result
+
+-- The same where sources tell the texts, and sinks that held nothing hold what was written.
+abbrev pub SecondFilesStay : Type 0
+SecondFilesStay =
+    (c : Choice) (strict : Bool) (schema file output certificate again recertified : List ℕ) (m : Summary)
+    (result : Result Summary Fault)
+    → Shrinks c strict (Some schema) (Some file) (written_anew output) (written_anew certificate) (Ok m)
+    → Shrinks c strict (Some schema) (Some output) (written_anew again) (written_anew recertified) result
+    → Stays output again result

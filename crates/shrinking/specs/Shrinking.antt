@@ -1,5 +1,5 @@
 -- What `shrink` answers to the texts of a schema and of a file, and what it writes.
-use Rattle.std.specs.Prelude.{◌≡◌, ◌≢◌, ◌≤◌, ◌-◌, ◌^◌, ◌++◌, ◌⊎◌, ℕ, min, Bool, true, List, [], length, Option, None, IfSome, Result, Ok, Err}
+use Rattle.std.specs.Prelude.{◌≡◌, ◌≢◌, ◌≤◌, ◌-◌, ◌^◌, ◌++◌, ◌⊎◌, ℕ, min, Bool, true, List, [], length, Option, None, Some, IfSome, Result, Ok, Err}
 use Rattle.std.specs.Io.KnownBytes.{Appends}
 use Rattle.step_structures.specs.Trees.{File, rows_of}
 use Rattle.express_syntax.specs.Schemas.{Schema}
@@ -22,6 +22,18 @@ use Rattle.faults.specs.declared.fault.Fault.TheVariants as faults
 use Rattle.checking.specs.Reporting.{IsReport}
 use Rattle.checking.specs.Checks.{HasSchema, HasSchemaFault, HasFile, HasFileFault}
 use Rattle.shrinking.specs.declared.summary.Summary.{Summary}
+
+-- What a sink held before a call, and what it holds behind it, where it tells that.
+pub record Written : Type 0 where
+  pub before : Option (List ℕ)
+  pub after : Option (List ℕ)
+
+abbrev pub written_to : {S : Type 0} → (S → Option (List ℕ)) → S → S → Written
+written_to held old new = record { before = held old; after = held new }
+
+-- a sink that held nothing holds these bytes
+abbrev pub written_anew : List ℕ → Written
+written_anew bytes = record { before = Some []; after = Some bytes }
 
 -- nothing is found of the file
 abbrev pub IsClean : Report → Type 0
@@ -122,7 +134,7 @@ Answers c strict text bytes output certificate r =
 
 -- That is answered of texts which are those that are to come, where the sources tell them, and what is written stands
 -- behind what the sinks held, where they tell that.
-pub record Shrinks (c : Choice) (strict : Bool) (schema file out out' cert cert' : Option (List ℕ))
+pub record Shrinks (c : Choice) (strict : Bool) (schema file : Option (List ℕ)) (to_output to_certificate : Written)
     (result : Result Summary Fault) : Type 0 where
   pub text : List ℕ
   pub bytes : List ℕ
@@ -131,5 +143,5 @@ pub record Shrinks (c : Choice) (strict : Bool) (schema file out out' cert cert'
   pub text_is : IfSome schema (λ t. t ≡ text)
   pub bytes_are : IfSome file (λ b. b ≡ bytes)
   pub answers : Answers c strict text bytes output certificate result
-  pub written : Appends out out' output
-  pub certified : Appends cert cert' certificate
+  pub written : Appends to_output.before to_output.after output
+  pub certified : Appends to_certificate.before to_certificate.after certificate

@@ -1,6 +1,6 @@
 //! Laws of what is written.
 
-ghost use Rattle.shrinking.specs.Laws.{OwnOutputsPass, SecondRunsStay};
+ghost use Rattle.shrinking.specs.Laws.{OwnOutputsPass, SecondFilesStay, SecondRunsStay};
 
 use check_findings::laws::conforms_where_nothing_is_found;
 use merged_populations::laws::second_merges_stay;
@@ -19,4 +19,11 @@ pub fn second_runs_stay()
 {
     own_outputs_pass();
     second_merges_stay();
+}
+
+/// The same where two sources tell the texts, and two sinks that held nothing hold what was written.
+pub fn second_files_stay()
+    ensures { SecondFilesStay }
+{
+    second_runs_stay();
 }

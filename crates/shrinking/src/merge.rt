@@ -13,7 +13,7 @@ ghost use Rattle.checking.specs.Reporting.{IsReport};
 ghost use Rattle.files.specs.declared.fault.Role.TheVariants as roles;
 ghost use Rattle.faults.specs.Devices.{is_device};
 ghost use Rattle.shrinking.specs.ComputedAnswers.{FileShrinks};
-ghost use Rattle.shrinking.specs.Shrinking.{IsClean};
+ghost use Rattle.shrinking.specs.Shrinking.{IsClean, written_to};
 
 use crate::summary::Summary;
 use crate::write::write_both;
@@ -113,7 +113,8 @@ pub(crate) fn shrink_exchange<'s: 'a, 'a, O: Sink, C: Sink>(
         → (bytes : List ℕ) → length bytes ≤ 2 ^ 40
         → ReadsAs bytes exchange.now.header_bytes.now (structure exchange.now)
         → FileShrinks (schema_of graph.entry.types.names.schema.now) names bytes
-        (O.held out.old) (O.held out.new) (C.held certificate.old) (C.held certificate.new) result }
+        (written_to O.held out.old out.new) (written_to C.held certificate.old certificate.new)
+        result }
     ensures no_schema_fault { is_device roles.Schema result ≡ false }
     ensures no_file_fault { is_device roles.File result ≡ false }
     ensures output_fault { O.has_failed out.old ≡ false

@@ -20,7 +20,7 @@ ghost use Rattle.checking.specs.Checks.{HasSchema};
 ghost use Rattle.files.specs.declared.fault.Role.TheVariants as roles;
 ghost use Rattle.faults.specs.Devices.{FileFailsAs, is_device};
 ghost use Rattle.shrinking.specs.ComputedAnswers.{FileShrinks, IsRefused, SourceShrinks};
-ghost use Rattle.shrinking.specs.Shrinking.{Passes, Shrinks};
+ghost use Rattle.shrinking.specs.Shrinking.{Passes, Shrinks, written_to};
 
 use crate::merge::shrink_exchange;
 use crate::summary::Summary;
@@ -51,7 +51,8 @@ fn shrink_file<'s, O: Sink, C: Sink>(
     ensures shrinks { (names : List Name)
         → AreChosen (schema_of graph.entry.types.names.schema.now) names chosen.now
         → FileShrinks (schema_of graph.entry.types.names.schema.now) names bytes.now
-        (O.held out.old) (O.held out.new) (C.held certificate.old) (C.held certificate.new) result }
+        (written_to O.held out.old out.new) (written_to C.held certificate.old certificate.new)
+        result }
     ensures no_schema_fault { is_device roles.Schema result ≡ false }
     ensures no_file_fault { is_device roles.File result ≡ false }
     ensures output_fault { O.has_failed out.old ≡ false
@@ -79,7 +80,8 @@ fn shrink_source<'s, F: Source, O: Sink, C: Sink>(
     ensures shrinks { (names : List Name)
         → AreChosen (schema_of graph.entry.types.names.schema.now) names chosen.now
         → SourceShrinks (schema_of graph.entry.types.names.schema.now) names (F.to_come file.old)
-        (O.held out.old) (O.held out.new) (C.held certificate.old) (C.held certificate.new) result }
+        (written_to O.held out.old out.new) (written_to C.held certificate.old certificate.new)
+        result }
     ensures no_schema_fault { is_device roles.Schema result ≡ false }
     ensures file_fault { F.has_failed file.old ≡ false
         → F.has_failed file.new ≡ is_device roles.File result }
@@ -118,7 +120,8 @@ fn shrink_graph<'s, F: Source, O: Sink, C: Sink>(
     ensures shrinks { (text : List ℕ)
         → HasSchema (schema_of graph.entry.types.names.schema.now) text
         → Shrinks (choice_of choice.now) choice.now.strict (Some text) (F.to_come file.old)
-        (O.held out.old) (O.held out.new) (C.held certificate.old) (C.held certificate.new) result }
+        (written_to O.held out.old out.new) (written_to C.held certificate.old certificate.new)
+        result }
     ensures no_schema_fault { is_device roles.Schema result ≡ false }
     ensures file_fault { F.has_failed file.old ≡ false
         → F.has_failed file.new ≡ is_device roles.File result }
@@ -149,8 +152,8 @@ fn shrink_by<'s, F: Source, O: Sink, C: Sink>(
 ) -> Result<Summary<'s>, Fault<'s>>
     requires within { length schema.now ≤ 2 ^ 40 }
     ensures shrinks { Shrinks (choice_of choice.now) choice.now.strict (Some schema.now)
-        (F.to_come file.old) (O.held out.old) (O.held out.new)
-        (C.held certificate.old) (C.held certificate.new) result }
+        (F.to_come file.old) (written_to O.held out.old out.new)
+        (written_to C.held certificate.old certificate.new) result }
     ensures no_schema_fault { is_device roles.Schema result ≡ false }
     ensures file_fault { F.has_failed file.old ≡ false
         → F.has_failed file.new ≡ is_device roles.File result }
@@ -188,7 +191,7 @@ fn shrink_by<'s, F: Source, O: Sink, C: Sink>(
 /// - `Device` of the certificate: the smaller file was written, and a front of the certificate.
 ///
 /// `Device` of the file comes where that is read and its source fails, and `Memory` where memory runs
-/// out. Names are hashed by these keys.
+/// out. A text of more than 2^40 bytes has a fault. Names are hashed by these keys.
 pub fn shrink<'s, F: Source, O: Sink, C: Sink>(
     alloc: Global,
     keys: RandomState,
@@ -200,8 +203,8 @@ pub fn shrink<'s, F: Source, O: Sink, C: Sink>(
 ) -> Result<Summary<'s>, Fault<'s>>
     // What is answered and written is what the two texts and the choice say.
     ensures shrinks { Shrinks (choice_of choice.now) choice.now.strict
-        (Some schema.now) (F.to_come file.old) (O.held out.old) (O.held out.new)
-        (C.held certificate.old) (C.held certificate.new) result }
+        (Some schema.now) (F.to_come file.old) (written_to O.held out.old out.new)
+        (written_to C.held certificate.old certificate.new) result }
     // The fault is a device's exactly where that one failed.
     ensures no_schema_fault { is_device roles.Schema result ≡ false }
     ensures file_fault { F.has_failed file.old ≡ false

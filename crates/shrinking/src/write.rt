@@ -7,6 +7,7 @@ ghost use Rattle.step_rewrite.specs.Rewriting.{members, smaller_text};
 ghost use Rattle.certificate_text.specs.Texts.{certificate_text};
 ghost use Rattle.shrinking.specs.ComputedAnswers.{Writes, is_written};
 ghost use Rattle.shrinking.specs.Faults.{rewrite_fault};
+ghost use Rattle.shrinking.specs.Shrinking.{written_to};
 
 use certificate_text::write::write_certificate;
 use devices::device::Sink;
@@ -43,8 +44,8 @@ pub(crate) fn write_both<O: Sink, C: Sink>(
     certificate: &mut C,
 ) -> Result<(), FileFault>
     requires members { members (table_of second.now) ≡ exchange.now.names }
-    ensures writes { Writes (O.held out.old) (O.held out.new)
-        (C.held certificate.old) (C.held certificate.new)
+    ensures writes { Writes (written_to O.held out.old out.new)
+        (written_to C.held certificate.old certificate.new)
         (smaller_text exchange.now (table_of second.now))
         (certificate_text (table_of first.now) (table_of second.now)) result }
     ensures output_fault { O.has_failed out.old ≡ false

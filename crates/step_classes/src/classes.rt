@@ -67,7 +67,8 @@ pub fn refine<'a>(
 }
 
 /// The classes of a population's value-equal instances, with these names pinned, where the shapes and
-/// references of its rows are known: those of [`refine`].
+/// references of its rows are known: those of [`refine`]. Kinds are hashed by these keys. `AllocError`
+/// comes where memory runs out.
 pub fn refine_by<'a>(
     alloc: Global,
     keys: RandomState,
@@ -88,8 +89,10 @@ pub fn refine_by<'a>(
     classes_of(alloc, input, found)
 }
 
-/// The same, by shapes and references that aren't needed any more: they are let go of before classes
-/// are numbered.
+/// The classes of a population's value-equal instances, with these names pinned, by the shapes and
+/// references of its rows, which aren't needed any more: those of [`refine`]. Shapes and references are
+/// let go of before classes are numbered. Kinds are hashed by these keys. `AllocError` comes where
+/// memory runs out.
 pub fn refine_last<'a>(
     alloc: Global,
     keys: RandomState,

@@ -155,8 +155,8 @@ impl<'a> Plain<'a> {
         self.row(place).name
     }
 
-    /// The number of the list of types of the row at a place. Rows of one number have the same types;
-    /// others may have the same too.
+    /// The number of the list of types of the row at a place: a hint, of which no clause speaks. What it
+    /// says of two rows is told by [`share_kind`](Plain::share_kind).
     pub fn type_list(&self, place: usize) -> u32
         requires { place < length self.now }
     {

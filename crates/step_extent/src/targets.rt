@@ -12,7 +12,7 @@ pub(crate) fn add_targets(names: &mut Vec<u64>, value: &Slot<'_, '_>) -> Result<
     ensures { OnOk result (names.new.items ≡ names.old.items ++ targets value.now) }
 {
     match value.node() {
-        Node::Reference(name) => {
+        Node::Reference(name, _) => {
             names.push(name)?;
             Ok(())
         }

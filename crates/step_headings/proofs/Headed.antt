@@ -1,5 +1,5 @@
 -- Headings of a structure by the sections of a program's values.
-use Rattle.std.proofs.Common.{◌≡◌, ◌<◌, ◌≤◌, ◌+◌, ◌-◌, ℕ, Bool, true, false, List, [], ◌∷◌, Option, Some, None, map, take, drop, length, get_or, IsTrue, refl, sym, ap, ◌∙◌, subst, arith}
+use Rattle.std.proofs.Common.{◌≡◌, ◌<◌, ◌≤◌, ◌+◌, ◌-◌, ◌∙◌, ℕ, Bool, true, false, List, [], ◌∷◌, Some, None, map, take, drop, length, get_or, IsTrue, refl, sym, ap, subst, arith}
 use Rattle.std.specs.Prelude.{◌↔◌, nat_eq}
 use Rattle.std.specs.Cmp.Lexicographic.{pointwise}
 use Rattle.std.specs.Ordering.{on}
@@ -16,25 +16,21 @@ use Rattle.step_exchange.specs.declared.section.Section.{Section}
 use Rattle.step_exchange.specs.declared.structure.Exchange.{Exchange}
 use Rattle.step_exchange.specs.Exchanges.{structure}
 use Rattle.step_exchange.specs.Sections.{heading_of, sections_of}
-use Rattle.step_headings.specs.Headings.{heading_items, headings, SameHeadings}
-
-abbrev pub Heading : Type 0
-Heading = Option (List Item × List Item)
-
--- what a section says at its head
-abbrev pub said : Section → Heading
-said s = heading_items (heading_of s.heading)
+use Rattle.step_headings.specs.Headings.{Heading, heading_items, headings, SameHeadings}
+use Rattle.step_headings.specs.Views.{heading_seen}
 
 abbrev in_structure : trees.Section → Heading
 in_structure x = heading_items x.heading
 
 -- wherever the instances are cut
-of_sections : (from : ℕ) (ss : List Section) (rows : List Row) → map in_structure (sections_of from ss rows) ≡ map said ss
+of_sections : (from : ℕ) (ss : List Section) (rows : List Row)
+    → map in_structure (sections_of from ss rows) ≡ map heading_seen ss
 of_sections from [] rows = refl
-of_sections from (s ∷ ss) rows = λ i. said s ∷ of_sections s.past ss (drop (s.past - from) rows) i
+of_sections from (s ∷ ss) rows =
+    λ i. heading_seen s ∷ of_sections s.past ss (drop (s.past - from) rows) i
 
-pub headings_said : (x : Exchange) → headings (structure x) ≡ map said x.sections.items
-headings_said x = of_sections 0 x.sections.items _
+pub headings_seen : (x : Exchange) → headings (structure x) ≡ map heading_seen x.sections.items
+headings_seen x = of_sections 0 x.sections.items _
 
 abbrev schema_items : Heading → List Item
 schema_items None = []
@@ -51,53 +47,63 @@ by_schemas n s m t b c first same second =
       λ e. second ∙ schemas.1 (ap schema_items e),
     )
 
-module _ (x y : Exchange) where
-  abbrev xs : List Section
-  xs = x.sections.items
-
-  abbrev ys : List Section
-  ys = y.sections.items
-
-  pub of_said : SameHeadings (structure x) (structure y) → map said xs ≡ map said ys
-  of_said e = sym (headings_said x) ∙ e ∙ headings_said y
-
-  pub to_said : map said xs ≡ map said ys → SameHeadings (structure x) (structure y)
-  to_said e = headings_said x ∙ e ∙ sym (headings_said y)
-
+module _ (xs ys : List Section) where
   module _ (i : ℕ) (a b : Section) (before : i < length xs) (here : i < length ys) (at : a ≡ get_or xs i a)
       (there : b ≡ get_or ys i b) where
-    heading_at : get_or (map said xs) i None ≡ said a
-    heading_at = get_or-map said xs i a None before ∙ sym (ap said at)
+    heading_at : get_or (map heading_seen xs) i None ≡ heading_seen a
+    heading_at = get_or-map heading_seen xs i a None before ∙ sym (ap heading_seen at)
 
-    other_at : get_or (map said ys) i None ≡ said b
-    other_at = get_or-map said ys i b None here ∙ sym (ap said there)
+    other_at : get_or (map heading_seen ys) i None ≡ heading_seen b
+    other_at = get_or-map heading_seen ys i b None here ∙ sym (ap heading_seen there)
 
     -- one section more
-    pub one_more : said a ≡ said b → take i (map said xs) ≡ take i (map said ys)
-        → take (i + 1) (map said xs) ≡ take (i + 1) (map said ys)
+    pub one_more : heading_seen a ≡ heading_seen b → take i (map heading_seen xs) ≡ take i (map heading_seen ys)
+        → take (i + 1) (map heading_seen xs) ≡ take (i + 1) (map heading_seen ys)
     one_more same e =
-        take_more_same (map said xs) (map said ys) i None (subst (λ n. i < n) (sym (length-map xs said)) before)
-        (subst (λ n. i < n) (sym (length-map ys said)) here) e (heading_at ∙ same ∙ sym other_at)
+        take_more_same (map heading_seen xs) (map heading_seen ys) i None
+        (subst (λ n. i < n) (sym (length-map xs heading_seen)) before)
+        (subst (λ n. i < n) (sym (length-map ys heading_seen)) here) e (heading_at ∙ same ∙ sym other_at)
 
     -- another heading than that of the section at its place
-    pub another : (said a ≡ said b → ⊥) → IsTrue false ↔ SameHeadings (structure x) (structure y)
+    pub another : (heading_seen a ≡ heading_seen b → ⊥) → IsTrue false ↔ (map heading_seen xs ≡ map heading_seen ys)
     another other = (
       λ e. absurd (false≢true e),
-      λ h. absurd (other (sym heading_at ∙ ap (λ l. get_or l i None) (of_said h) ∙ other_at)),
+      λ h. absurd (other (sym heading_at ∙ ap (λ l. get_or l i None) h ∙ other_at)),
     )
 
   -- all of them
-  pub whole : (i : ℕ) → length xs ≤ i → length ys ≤ i → take i (map said xs) ≡ take i (map said ys)
-      → IsTrue true ↔ SameHeadings (structure x) (structure y)
+  pub whole : (i : ℕ) → length xs ≤ i → length ys ≤ i → take i (map heading_seen xs) ≡ take i (map heading_seen ys)
+      → IsTrue true ↔ (map heading_seen xs ≡ map heading_seen ys)
   whole i past beyond e = (
-    λ _. to_said (sym (take_all i (map said xs) (subst (λ n. n ≤ i) (sym (length-map xs said)) past)) ∙ e
-        ∙ take_all i (map said ys) (subst (λ n. n ≤ i) (sym (length-map ys said)) beyond)),
+    λ _. sym (take_all i (map heading_seen xs) (subst (λ n. n ≤ i) (sym (length-map xs heading_seen)) past)) ∙ e
+        ∙ take_all i (map heading_seen ys) (subst (λ n. n ≤ i) (sym (length-map ys heading_seen)) beyond),
     λ _. refl,
   )
 
   -- more sections, or fewer
-  pub as_many : (length xs ≡ length ys → ⊥) → IsTrue false ↔ SameHeadings (structure x) (structure y)
+  pub as_many : (length xs ≡ length ys → ⊥) → IsTrue false ↔ (map heading_seen xs ≡ map heading_seen ys)
   as_many differ = (
     λ e. absurd (false≢true e),
-    λ h. absurd (differ (sym (length-map xs said) ∙ ap length (of_said h) ∙ length-map ys said)),
+    λ h. absurd (differ (sym (length-map xs heading_seen) ∙ ap length h ∙ length-map ys heading_seen)),
   )
+
+-- What is found of slices of sections is found of those of a structure: these are its headings ..
+pub by_sections : (xs mine others : List Section) (y : Exchange) (b : Bool) → mine ≡ xs → others ≡ y.sections.items
+    → (IsTrue b ↔ (map heading_seen mine ≡ map heading_seen others))
+    → IsTrue b ↔ (map heading_seen xs ≡ headings (structure y))
+by_sections xs mine others y b front behind same = (
+  λ e. sym (ap (λ l. map heading_seen l) front) ∙ same.0 e ∙ ap (λ l. map heading_seen l) behind
+      ∙ sym (headings_seen y),
+  λ h. same.1 (ap (λ l. map heading_seen l) front ∙ h ∙ headings_seen y
+      ∙ sym (ap (λ l. map heading_seen l) behind)),
+)
+
+-- .. and those of another structure too
+pub by_structures : (mine others : List Section) (x y : Exchange) (b : Bool) → mine ≡ x.sections.items
+    → others ≡ y.sections.items → (IsTrue b ↔ (map heading_seen mine ≡ map heading_seen others))
+    → IsTrue b ↔ SameHeadings (structure x) (structure y)
+by_structures mine others x y b front behind same =
+    let seen = by_sections x.sections.items mine others y b front behind same in (
+      λ e. headings_seen x ∙ seen.0 e,
+      λ h. seen.1 (sym (headings_seen x) ∙ h),
+    )

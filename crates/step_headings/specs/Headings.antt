@@ -5,12 +5,15 @@ use Rattle.step_literals.specs.declared.literal.items.Item.{Item}
 use Rattle.step_structures.specs.Trees.{File, Section}
 
 -- the characters of the names of a section and of its schema, where the section says them
-abbrev pub heading_items : Option (List ℕ × List ℕ) → Option (List Item × List Item)
+abbrev pub Heading : Type 0
+Heading = Option (List Item × List Item)
+
+abbrev pub heading_items : Option (List ℕ × List ℕ) → Heading
 heading_items None = None
 heading_items (Some h) = Some (string_items h.0, string_items h.1)
 
 -- .. of all sections, in order, whether they have instances or not
-abbrev pub headings : File → List (Option (List Item × List Item))
+abbrev pub headings : File → List Heading
 headings f = map (λ (x : Section). heading_items x.heading) f.sections
 
 abbrev pub SameHeadings : File → File → Type 0

@@ -27,7 +27,8 @@ struct Run {
     end: usize,
 }
 
-/// The instances that are elements of LISTs and ARRAYs OF UNIQUE, list by list.
+/// The instances that are elements of LISTs and ARRAYs OF UNIQUE, list by list: of those that have two
+/// instances or more.
 #[derive(Drop)]
 pub struct UniqueLists {
     /// Those of all lists, one list behind another.
@@ -52,7 +53,7 @@ fn push_element(names: &mut Vec<u64>, value: &Slot<'_, '_>) -> Result<(), AllocE
         (λ _. names.new.items ≡ names.old.items ++ names_in value.now)
         (λ _. names.new.items ≡ names.old.items) }
 {
-    if let Node::Reference(name) = value.node() {
+    if let Node::Reference(name, _) = value.node() {
         names.push(name)?;
     }
     Ok(())

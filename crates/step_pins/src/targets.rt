@@ -16,7 +16,7 @@ pub fn pin_targets(pinned: &mut BTreeSet<u64>, value: &Slot<'_, '_>) -> Result<(
     ensures { OnOk result (Pins (λ y. Occurs y value.now) pinned.old pinned.new) }
 {
     match value.node() {
-        Node::Reference(name) => pin(pinned, name),
+        Node::Reference(name, _) => pin(pinned, name),
         Node::Typed(_, inner) => pin_targets(pinned, &inner),
         Node::Sequence(values) => pin_each_target(pinned, &values),
         Node::Bag(values) => pin_each_target(pinned, &values),
@@ -24,7 +24,7 @@ pub fn pin_targets(pinned: &mut BTreeSet<u64>, value: &Slot<'_, '_>) -> Result<(
     }
 }
 
-/// Pins those that one of these values refers to. `AllocError` comes where memory runs out.
+/// Pins the instances that one of these values refers to, at any depth. `AllocError` comes where memory runs out.
 #[cycle(targets)]
 pub fn pin_each_target(pinned: &mut BTreeSet<u64>, values: &Slots<'_, '_>) -> Result<(), AllocError>
     ensures { OnOk result (Pins (λ y. OccursIn y values.now) pinned.old pinned.new) }

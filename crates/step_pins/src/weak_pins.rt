@@ -100,8 +100,8 @@ impl WeakPins {
         Ok(Pins { names })
     }
 
-    /// The pins that `gentle` gives, where the weak ones aren't needed any more: theirs go on with those
-    /// that are added.
+    /// The pins that `gentle` gives, made in the set of the weak ones, which aren't needed any more, and
+    /// whether none was added. Names are hashed by these keys where they lie far apart.
     ///
     /// `AllocError` comes where memory runs out; for 2^32 members or more there is none.
     pub fn into_gentle(

@@ -76,7 +76,9 @@ fn nodes_agree<'p, 'a, 'q, 'b, F: Labels, G: Labels>(
         (Node::Text(a), Node::Text(b)) => Ok(same_text(a, b)),
         (Node::Bits(a), Node::Bits(b)) => Ok(same_bits(a, b)),
         (Node::Element(a), Node::Element(b)) => Ok(same_word(a, b)),
-        (Node::Reference(y), Node::Reference(z)) => { Ok(same_label(f.outside(*y), g.outside(*z))) }
+        (Node::Reference(y, _), Node::Reference(z, _)) => {
+            Ok(same_label(f.outside(*y), g.outside(*z)))
+        }
         (Node::Typed(n, a), Node::Typed(m, b)) => {
             if same_word(n, m) {
                 values_agree(alloc, f, g, a, b)

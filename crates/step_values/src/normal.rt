@@ -114,7 +114,7 @@ fn node_form<'p, 'a: 'c, 'c, F: Labels>(
         Node::Text(text) => Ok(Normal::Text(*text)),
         Node::Bits(bits) => Ok(Normal::Bits(*bits)),
         Node::Element(word) => Ok(Normal::Element(*word)),
-        Node::Reference(name) => Ok(Normal::Reference(label(f, in_bag, *name))),
+        Node::Reference(name, _) => Ok(Normal::Reference(label(f, in_bag, *name))),
         Node::Typed(word, inner) => {
             let inner = form(alloc, f, in_bag, inner)?;
             Ok(Normal::Typed(*word, Box::new(alloc, inner)?))

@@ -68,15 +68,26 @@ impl<'p, 'a> Model for Slots<'p, 'a> {
 /// The outermost part of a value, with what is inside it.
 #[derive(Drop)]
 pub enum Node<'p, 'a> {
+    /// No value.
     Unset,
+    /// The value of a redeclared attribute that is derived.
     Derived,
+    /// A number.
     Number(Decimal<'a>),
+    /// A string.
     Text(Text<'a>),
+    /// A binary.
     Bits(Bits<'a>),
+    /// An element of an enumeration.
     Element(Word<'a>),
-    Reference(u64),
+    /// A reference to the row of this name, and the number of that row, counted from 0, as its cell has
+    /// it: a hint, of which no clause speaks.
+    Reference(u64, u32),
+    /// A value with the name of its type.
     Typed(Word<'a>, Slot<'p, 'a>),
+    /// A LIST or an ARRAY: its values, in order.
     Sequence(Slots<'p, 'a>),
+    /// A SET or a BAG: its values, in any order.
     Bag(Slots<'p, 'a>),
 }
 
@@ -112,14 +123,14 @@ impl<'p, 'a> Slot<'p, 'a> {
         Slot::of(self.column, self.place)
     }
 
-    /// Its outermost part.
+    /// The outermost part of the value, with what is inside it.
     pub fn node(&self) -> Node<'p, 'a>
         ensures { node_value result ≡ self.now }
     {
         cell_node(self.column, self.column[self.place])
     }
 
-    /// Its kind.
+    /// What kind of value it is.
     pub fn kind(&self) -> Kind
         ensures { result ≡ kind_of self.now }
     {
@@ -130,7 +141,7 @@ impl<'p, 'a> Slot<'p, 'a> {
             Node::Text(_) => Kind::Text,
             Node::Bits(_) => Kind::Bits,
             Node::Element(_) => Kind::Element,
-            Node::Reference(_) => Kind::Reference,
+            Node::Reference(..) => Kind::Reference,
             Node::Typed(_, _) => Kind::Typed,
             Node::Sequence(_) => Kind::List,
             Node::Bag(_) => Kind::Bag,
@@ -149,7 +160,7 @@ impl<'p, 'a> Slot<'p, 'a> {
         }
     }
 
-    /// One of them, counted from 0.
+    /// One of the values right inside it, counted from 0; none where there are no more.
     pub fn item(&self, index: usize) -> Option<Slot<'p, 'a>>
         ensures { result ≡ item_of self.now index }
     {
@@ -179,14 +190,14 @@ impl<'p, 'a> Slots<'p, 'a> {
         Slots::of(self.column, self.run)
     }
 
-    /// How many they are.
+    /// How many values they are.
     pub fn len(&self) -> usize
         ensures { result ≡ size self.now }
     {
         self.run.count
     }
 
-    /// One of them, counted from 0.
+    /// The value at a place, counted from 0; none where there are no more.
     pub fn item(&self, index: usize) -> Option<Slot<'p, 'a>>
         ensures { result ≡ nth self.now index }
     {
@@ -197,7 +208,7 @@ impl<'p, 'a> Slots<'p, 'a> {
         }
     }
 
-    /// One of them that is there.
+    /// The value at a place that there is, counted from 0.
     pub fn at(&self, index: usize) -> Slot<'p, 'a>
         requires { index < size self.now }
         ensures { nth self.now index ≡ Some result }
@@ -219,7 +230,7 @@ fn cell_node<'p, 'a>(column: &'p [Cell<'a>], cell: Cell<'a>) -> Node<'p, 'a>
         Cell::Text(text) => Node::Text(text),
         Cell::Bits(bits) => Node::Bits(bits),
         Cell::Element(word) => Node::Element(word),
-        Cell::Reference { name, .. } => Node::Reference(name),
+        Cell::Reference { name, row } => Node::Reference(name, row),
         Cell::Typed { high, low, word } => Node::Typed(word, Slot::of(column, join(high, low))),
         Cell::Sequence(run) => Node::Sequence(Slots::of(column, run)),
         Cell::Bag(run) => Node::Bag(Slots::of(column, run)),

@@ -13,6 +13,8 @@ use Rattle.schema_semantics.specs.Faults.{IsResolved}
 use Rattle.schema_types.specs.Resolving.{IsNameFault}
 use Rattle.conformance.specs.Choices.{Choice, chosen_names}
 use Rattle.conformance.specs.Populations.{Instance}
+use Rattle.step_headings.specs.Views.{AreHeadingsOf}
+use Rattle.step_headings.specs.declared.headings.Headings.{Headings}
 use Rattle.pin_choices.specs.Chosen.{IsChoiceFault}
 use Rattle.population_typed.specs.Typed.{IsTyped}
 use Rattle.merged_populations.specs.Headline.{ChecksProve}
@@ -71,19 +73,19 @@ module _ (schema input output certificate : List ℕ) (choice : Choice) where
 
         module _ (j : Result Judged TablesFault) (judged : IsJudgement s (chosen_names s choice) f certificate j)
             (header_bytes : List ℕ) (g : File) (out : texts.ReadsAs output header_bytes g) (js : List Instance)
-            (typed : IsTyped s g js) where
-          answered : (r : Result Proof TablesFault) → AnswersTyped s f j g js r
+            (typed : IsTyped s g js) (hs : Headings) (has : AreHeadingsOf hs f) where
+          answered : (r : Result Proof TablesFault) → AnswersTyped s hs j g js r
               → IsAnswer s (chosen_names s choice) f certificate g r
-          answered r h = h (chosen_names s choice) certificate judged
+          answered r h = h (chosen_names s choice) certificate f has judged
               (λ said. (typed.1 said.domain said.entities said.is_domain said.are_entities).1)
 
-          pub refused : (e : TablesFault) → AnswersTyped s f j g js (Err e)
+          pub refused : (e : TablesFault) → AnswersTyped s hs j g js (Err e)
               → Verifies schema input output certificate choice (Err (tables_fault e))
           refused (tables.Refused refusal) h =
               (s, settles, (f, reads, (g, output_is s output header_bytes g js out typed, answered (Err (tables.Refused refusal)) h)))
           refused tables.Memory h = tt
 
-          pub proved : ChecksProve → (p : Proof) → AnswersTyped s f j g js (Ok p)
+          pub proved : ChecksProve → (p : Proof) → AnswersTyped s hs j g js (Ok p)
               → Verifies schema input output certificate choice (Ok p)
           proved law p h = let a = answered (Ok p) h in (
             s,

@@ -1,15 +1,14 @@
 -- What comes of a certificate, by what its tables are found to be.
-use Rattle.std.specs.Prelude.{◌≡◌, ◌↔◌, ℕ, Bool, IsTrue, List, Result, Ok, Err, MatchResult}
+use Rattle.std.specs.Prelude.{◌≡◌, ◌⊎◌, ◌↔◌, ℕ, Bool, IsTrue, List, Result, Ok, Err, MatchResult}
 use Rattle.std.proofs.Common.{refl, sym, subst, inl, inr}
 use Rattle.step_structures.specs.Trees.{File}
-use Rattle.step_equal.specs.Rows.{Row, IsPopulation}
+use Rattle.step_equal.specs.Rows.{Row}
 use Rattle.step_equal.specs.Tables.{Table, shares, IsValid}
 use Rattle.step_equal.specs.TableViews.{table_of}
 use Rattle.express_syntax.specs.Schemas.{Schema}
 use Rattle.schema_semantics.specs.Names.{Name, OneOf}
 use Rattle.conformance.specs.Pins.{StandsBesideItsClass}
-use Rattle.conformance.specs.PlainRows.{AreRowsOf}
-use Rattle.conformance.specs.Populations.{Instance}
+use Rattle.conformance.specs.Said.{Said, instances}
 use Rattle.conformance.proofs.Standing.{either}
 use Rattle.certificate_text.specs.Texts.{IsCertificate}
 use Rattle.certificate_text.specs.Faults as texts
@@ -23,8 +22,8 @@ use Rattle.verifying.specs.declared.fault.TablesFault.{TablesFault}
 use Rattle.verifying.specs.declared.fault.TablesFault.TheVariants.{Refused, Memory}
 use Rattle.verifying.specs.declared.tables.Judged.{Judged}
 use Rattle.verifying.specs.Faults.{certificate_fault, table_fault}
-use Rattle.verifying.specs.Verifying.{AreRows, AreGentle, AreJudged, FirstHolds, BothHold}
-use Rattle.verifying.specs.ComputedPassing.{IsTableFault, AreValid, AreFaulty, AddBeside, AreKnown, IsJudgement}
+use Rattle.verifying.specs.Verifying.{AreRows, AreWeak, AreGentle, AreJudged, FirstHolds, BothHold}
+use Rattle.verifying.specs.ComputedPassing.{IsTableFault, AreValid, AreFaulty, IsJudgement}
 
 -- what is found of a table
 pub of_judge : (rows : List Row) (pinned : ℕ → Bool) (t : Table) (e : TableFault) → judged_tables.IsFaultOf rows pinned t e
@@ -51,6 +50,12 @@ pub valid_first : (rows : List Row) (weak gentle : ℕ → Bool) (first second :
 valid_first rows weak gentle first second (Ok u) valid h = (valid, h)
 valid_first rows weak gentle first second (Err e) valid h = inr (valid, h)
 
+-- gentle pins are the weak ones, and what stands beside its class
+abbrev pub AddBeside : Schema → File → (ℕ → Bool) → Table → (ℕ → Bool) → Type 0
+AddBeside s f weak t gentle = (said : Said s) (y : ℕ) → IsTrue (gentle y)
+    ↔ (IsTrue (weak y)
+    ⊎ OneOf (StandsBesideItsClass s said.domain said.entities (shares t t.rounds) y) (instances s said f))
+
 module _ (s : Schema) (chosen : List Name) (f : File) (certificate : List ℕ) where
   -- the text is no certificate
   pub unread : (e : CertFault) → texts.IsFaultOf certificate e
@@ -59,69 +64,59 @@ module _ (s : Schema) (chosen : List Name) (f : File) (certificate : List ℕ) w
   unread (certificates.BadText line) h = λ g. h
   unread certificates.Memory h = tt
 
-  module _ (first second : Table) (text : IsCertificate certificate first second) (is : List Instance) (weak : ℕ → Bool)
-      (known : AreKnown s chosen f is weak) (rows : List Row) (are : AreRowsOf s is rows) (population : IsPopulation rows)
-    where
-      are_rows : AreRows s f rows
-      are_rows = record {
-        are = λ said. subst (λ l. AreRowsOf s l rows) (known.instances_are said) are;
-        population = population;
-      }
+  module _ (first second : Table) (text : IsCertificate certificate first second) (rows : List Row)
+      (are_rows : AreRows s f rows) (weak : ℕ → Bool) (are_weak : AreWeak s chosen f weak) where
+    abbrev judged : AreJudged s chosen f certificate
+    judged = record {
+      first = first;
+      second = second;
+      certificate_is = text;
+      rows = rows;
+      are_rows = are_rows;
+      weak = weak;
+      are_weak = are_weak;
+    }
 
-      abbrev judged : AreJudged s chosen f certificate
-      judged = record {
-        first = first;
-        second = second;
-        certificate_is = text;
-        rows = rows;
-        are_rows = are_rows;
-        weak = weak;
-        are_weak = known.are_weak;
-      }
+    first_lacks : (e : TablesFault) → IsTableFault rows weak first e → IsJudgement s chosen f certificate (Err e)
+    first_lacks (Refused OldVersion) h = absurd h
+    first_lacks (Refused (BadText line)) h = absurd h
+    first_lacks (Refused WrongNames) h = λ g. inl (judged, h)
+    first_lacks (Refused GroundlessSplit) h = λ g. inl (judged, h)
+    first_lacks (Refused Unstable) h = λ g. inl (judged, h)
+    first_lacks (Refused NotTheImage) h = absurd h
+    first_lacks Memory h = tt
 
-      first_lacks : (e : TablesFault) → IsTableFault rows weak first e → IsJudgement s chosen f certificate (Err e)
-      first_lacks (Refused OldVersion) h = absurd h
-      first_lacks (Refused (BadText line)) h = absurd h
-      first_lacks (Refused WrongNames) h = λ g. inl (judged, h)
-      first_lacks (Refused GroundlessSplit) h = λ g. inl (judged, h)
-      first_lacks (Refused Unstable) h = λ g. inl (judged, h)
-      first_lacks (Refused NotTheImage) h = absurd h
-      first_lacks Memory h = tt
+    module _ (gentle : ℕ → Bool) (beside : AddBeside s f weak first gentle) where
+      are_gentle : AreGentle s chosen f first gentle
+      are_gentle said y =
+          let added = beside said y in
+          let pinned = are_weak said y in (
+            λ p. either pinned.0 (λ b. b) (added.0 p),
+            λ p. added.1 (either pinned.1 (λ b. b) p),
+          )
 
-      module _ (gentle : ℕ → Bool) (beside : AddBeside s is weak first gentle) where
-        are_gentle : AreGentle s chosen f first gentle
-        are_gentle said y =
-            let same = known.instances_are said in
-            let E = shares first first.rounds in
-            let Beside : List Instance → Type 0 = OneOf (StandsBesideItsClass s said.domain said.entities E y) in
-            let added = beside said.domain said.entities said.is_domain said.are_entities y in
-            let pinned = known.are_weak said y in (
-              λ p. either pinned.0 (subst Beside same) (added.0 p),
-              λ p. added.1 (either pinned.1 (subst Beside (sym same)) p),
-            )
+      abbrev held : IsValid rows weak first → FirstHolds s chosen f certificate
+      held valid = record { judged = judged; valid = valid; gentle = gentle; are_gentle = are_gentle }
 
-        abbrev held : IsValid rows weak first → FirstHolds s chosen f certificate
-        held valid = record { judged = judged; valid = valid; gentle = gentle; are_gentle = are_gentle }
+      second_lacks : IsValid rows weak first → (e : TablesFault) → IsTableFault rows gentle second e
+          → IsJudgement s chosen f certificate (Err e)
+      second_lacks valid (Refused OldVersion) h = absurd h
+      second_lacks valid (Refused (BadText line)) h = absurd h
+      second_lacks valid (Refused WrongNames) h = λ g. inr (held valid, h)
+      second_lacks valid (Refused GroundlessSplit) h = λ g. inr (held valid, h)
+      second_lacks valid (Refused Unstable) h = λ g. inr (held valid, h)
+      second_lacks valid (Refused NotTheImage) h = absurd h
+      second_lacks valid Memory h = tt
 
-        second_lacks : IsValid rows weak first → (e : TablesFault) → IsTableFault rows gentle second e
-            → IsJudgement s chosen f certificate (Err e)
-        second_lacks valid (Refused OldVersion) h = absurd h
-        second_lacks valid (Refused (BadText line)) h = absurd h
-        second_lacks valid (Refused WrongNames) h = λ g. inr (held valid, h)
-        second_lacks valid (Refused GroundlessSplit) h = λ g. inr (held valid, h)
-        second_lacks valid (Refused Unstable) h = λ g. inr (held valid, h)
-        second_lacks valid (Refused NotTheImage) h = absurd h
-        second_lacks valid Memory h = tt
+      pub lack : (e : TablesFault) → AreFaulty rows weak gentle first second e
+          → IsJudgement s chosen f certificate (Err e)
+      lack e (inl h) = first_lacks e h
+      lack e (inr h) = second_lacks h.0 e h.1
 
-        pub lack : (e : TablesFault) → AreFaulty rows weak gentle first second e
-            → IsJudgement s chosen f certificate (Err e)
-        lack e (inl h) = first_lacks e h
-        lack e (inr h) = second_lacks h.0 e h.1
-
-        pub hold : (j : Judged) → j.rows ≡ rows → table_of j.table ≡ second
-            → AreValid rows weak gentle first second → IsJudgement s chosen f certificate (Ok j)
-        hold j rows_are table_is valid = (
-          record { held = held valid.0; valid = valid.1 },
-          sym rows_are,
-          sym table_is,
-        )
+      pub hold : (j : Judged) → j.rows ≡ rows → table_of j.table ≡ second
+          → AreValid rows weak gentle first second → IsJudgement s chosen f certificate (Ok j)
+      hold j rows_are table_is valid = (
+        record { held = held valid.0; valid = valid.1 },
+        sym rows_are,
+        sym table_is,
+      )

@@ -2,7 +2,6 @@ mod Judging
 mod Comparing
 mod Accepting
 mod Answering
-mod Weak
 pub mod Reading
 mod Told
 mod Levels

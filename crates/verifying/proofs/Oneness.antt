@@ -20,9 +20,10 @@ use Rattle.check_findings.specs.Findings.{AreBehind, ConformsWhereNothingIsFound
 use Rattle.files.specs.declared.fault.Role.TheVariants as roles
 use Rattle.faults.specs.declared.fault.Fault.{Fault}
 use Rattle.faults.specs.declared.fault.Fault.TheVariants as faults
+use Rattle.faults.specs.SameFaults.{SameFault}
 use Rattle.verifying.specs.declared.proof.Proof.{Proof}
 use Rattle.verifying.specs.Verifying.{Settles, IsSchemaFault}
-use Rattle.verifying.specs.Laws.{SameFault, told, SayTheSame, AnswersAreOne}
+use Rattle.verifying.specs.Laws.{told, SayTheSame, AnswersAreOne}
 use Rattle.verifying.proofs.Told.{told_once}
 use Rattle.verifying.proofs.Levels.{AtOutputFound, AtOutput, AtInputFound, AtInput, AtSchema}
 use Rattle.verifying.proofs.Reached.{reached}

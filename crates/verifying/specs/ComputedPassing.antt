@@ -1,22 +1,23 @@
 -- What the code computes; no promise stands here. What is answered where so much has passed already.
-use Rattle.std.specs.Prelude.{◌≡◌, ◌↔◌, ◌⊎◌, ℕ, Bool, IsTrue, List, length, Result, Ok, Err}
+use Rattle.std.specs.Prelude.{◌≡◌, ◌⊎◌, ℕ, Bool, List, length, Result, Ok, Err}
 use Rattle.step_structures.specs.Trees.{File}
 use Rattle.step_structures.specs.Texts.{ReadsAs}
 use Rattle.step_equal.specs.Rows.{Row}
 use Rattle.step_equal.specs.Standard.{IsWellFormed}
-use Rattle.step_equal.specs.Tables.{Table, HasMembers, IsValid, shares}
+use Rattle.step_equal.specs.Tables.{Table, HasMembers, IsValid}
 use Rattle.step_equal.specs.TableViews.{table_of}
 use Rattle.express_syntax.specs.Schemas.{Schema}
-use Rattle.schema_semantics.specs.Names.{Name, OneOf}
-use Rattle.conformance.specs.Bases.{Domain, IsDomain}
+use Rattle.schema_semantics.specs.Names.{Name}
 use Rattle.conformance.specs.Choices.{Choice, chosen_names}
-use Rattle.conformance.specs.Entities.{Entities, AreEntities}
-use Rattle.conformance.specs.Pins.{StandsBesideItsClass}
 use Rattle.conformance.specs.Populations.{Instance}
 use Rattle.conformance.specs.Said.{Said, instances}
+use Rattle.step_headings.specs.Views.{AreHeadingsOf}
+use Rattle.step_headings.specs.declared.headings.Headings.{Headings}
 use Rattle.pin_choices.specs.Chosen.{AreChosen}
 use Rattle.pin_choices.specs.declared.choice.Chosen.{Chosen}
-use Rattle.population_typed.specs.Typed.{IsTyped}
+use Rattle.step_pins.specs.Lists.{AreUniqueOf}
+use Rattle.step_pins.specs.Pinned.{is_pinned}
+use Rattle.step_pins.specs.declared.weak_pins.WeakPins.{WeakPins}
 use Rattle.faults.specs.declared.fault.Fault.{Fault}
 use Rattle.verifying.specs.declared.fault.TablesFault.{TablesFault}
 use Rattle.verifying.specs.declared.fault.TablesFault.TheVariants.{Refused, Memory}
@@ -44,15 +45,11 @@ pub record IsReady (j : Judged) : Type 0 where
   pub well_formed : IsWellFormed (table_of j.table)
 
 module _ (s : Schema) where
-  -- gentle pins are the weak ones, and what stands beside its class
-  abbrev pub AddBeside : List Instance → (ℕ → Bool) → Table → (ℕ → Bool) → Type 0
-  AddBeside is weak t gentle = (d : Domain) (en : Entities) → IsDomain s d → AreEntities s en → (y : ℕ)
-      → IsTrue (gentle y) ↔ (IsTrue (weak y) ⊎ OneOf (StandsBesideItsClass s d en (shares t t.rounds) y) is)
-
-  -- These are the instances of the input, and the test of the weak pins.
-  pub record AreKnown (chosen : List Name) (f : File) (is : List Instance) (weak : ℕ → Bool) : Type 0 where
-    pub instances_are : (said : Said s) → is ≡ instances s said f
-    pub are_weak : AreWeak s chosen f weak
+  -- These are the rows of the input, and its weak pins, with the lists that the gentle ones are found by.
+  pub record AreKnown (chosen : List Name) (f : File) (rows : List Row) (weak : WeakPins) : Type 0 where
+    pub are_rows : AreRows s f rows
+    pub are_weak : AreWeak s chosen f (is_pinned weak.pins)
+    pub are_unique : (said : Said s) → AreUniqueOf s (instances s said f) weak.lists
 
   module _ (chosen : List Name) (f : File) (certificate : List ℕ) where
     -- What is found of a certificate's tables: both hold, and the second one is this, for these rows; or it is refused,
@@ -79,24 +76,28 @@ module _ (s : Schema) where
     IsAnswer g (Err (Refused refusal)) = IsRefused s chosen f g certificate refusal
     IsAnswer g (Err Memory) = Unit {0}
 
-  -- What is answered of an output with these instances, where the input reads as f, and this is found of the tables.
-  abbrev pub AnswersTyped : File → Result Judged TablesFault → File → List Instance → Result Proof TablesFault → Type 0
-  AnswersTyped f j g js r = (chosen : List Name) (certificate : List ℕ) → IsJudgement chosen f certificate j
-      → ((said : Said s) → js ≡ instances s said g) → IsAnswer chosen f certificate g r
+  -- What is answered of an output with these instances, where the input's sections have these headings, and this is
+  -- found of the tables.
+  abbrev pub AnswersTyped : Headings → Result Judged TablesFault → File → List Instance → Result Proof TablesFault
+      → Type 0
+  AnswersTyped hs j g js r = (chosen : List Name) (certificate : List ℕ) (f : File) → AreHeadingsOf hs f
+      → IsJudgement chosen f certificate j → ((said : Said s) → js ≡ instances s said g)
+      → IsAnswer chosen f certificate g r
 
-  -- What is answered of an output, where nothing is found of the input, which reads as f, and this is found of the
-  -- certificate's tables:
-  module _ (f : File) (j : Result Judged TablesFault) (r : Result Proof Fault) where
+  -- What is answered of an output, where nothing is found of the input, whose sections have these headings, and this is
+  -- found of the certificate's tables:
+  module _ (hs : Headings) (j : Result Judged TablesFault) (r : Result Proof Fault) where
     -- the output reads as this structure
     abbrev pub AnswersOutput : File → Type 0
-    AnswersOutput g = (schema input output certificate header_bytes : List ℕ) (choice : Choice)
-        → Settles schema choice s → IsInput s input f → IsJudgement (chosen_names s choice) f certificate j
-        → ReadsAs output header_bytes g → Verifies schema input output certificate choice r
+    AnswersOutput g = (schema input output certificate header_bytes : List ℕ) (choice : Choice) (f : File)
+        → AreHeadingsOf hs f → Settles schema choice s → IsInput s input f
+        → IsJudgement (chosen_names s choice) f certificate j → ReadsAs output header_bytes g
+        → Verifies schema input output certificate choice r
 
     -- the output is this text
     abbrev pub AnswersClean : List ℕ → Type 0
-    AnswersClean output = (schema input certificate : List ℕ) (choice : Choice) → Settles schema choice s
-        → IsInput s input f → IsJudgement (chosen_names s choice) f certificate j
+    AnswersClean output = (schema input certificate : List ℕ) (choice : Choice) (f : File) → AreHeadingsOf hs f
+        → Settles schema choice s → IsInput s input f → IsJudgement (chosen_names s choice) f certificate j
         → Verifies schema input output certificate choice r
 
   module _ (certificate : List ℕ) where
@@ -108,12 +109,6 @@ module _ (s : Schema) where
       IsFinding (Err e) = (output : List ℕ) → Verifies schema input output certificate choice (Err e)
 
     module _ (r : Result (Result Judged TablesFault) Fault) where
-      -- where nothing is wrong with its instances one by one
-      abbrev pub FindsTyped : Chosen → File → List Instance → Type 0
-      FindsTyped c f is = (schema input header_bytes : List ℕ) (choice : Choice) → Settles schema choice s
-          → AreChosen s (chosen_names s choice) c → ReadsAs input header_bytes f → IsTyped s f is
-          → IsFinding schema input choice f r
-
       -- where the input reads as this structure
       abbrev pub Finds : Chosen → File → Type 0
       Finds c f = (schema input header_bytes : List ℕ) (choice : Choice) → Settles schema choice s

@@ -1,8 +1,5 @@
 -- Answers to the same texts.
 use Rattle.std.specs.Prelude.{◌≡◌, ◌≢◌, ℕ, List, map, Result, Ok, Err}
-use Rattle.std.specs.String.{string_bytes}
-use Rattle.express_syntax.specs.declared.fault.SchemaFault.{SchemaFault}
-use Rattle.express_syntax.specs.declared.fault.SchemaFault.TheVariants as schemas
 use Rattle.schema_semantics.specs.Names.{Name}
 use Rattle.schema_parts.specs.Adding.{said}
 use Rattle.schema_rules.specs.declared.finding.RuleFinding.{RuleFinding}
@@ -10,13 +7,9 @@ use Rattle.schema_rules.specs.declared.finding.RuleFindingKind.{RuleFindingKind}
 use Rattle.conformance.specs.Choices.{Choice}
 use Rattle.faults.specs.declared.fault.Fault.{Fault}
 use Rattle.faults.specs.declared.fault.Fault.TheVariants.{Schema, Text, Refused, Certificate, Memory}
+use Rattle.faults.specs.SameFaults.{SameFault}
 use Rattle.verifying.specs.declared.proof.Proof.{Proof}
 use Rattle.verifying.specs.Verifying.{Verifies}
-
--- the same fault of a schema; of a name, whichever string tells it
-abbrev pub SameFault : SchemaFault → SchemaFault → Type 0
-SameFault (schemas.Name kind name) (schemas.Name other again) = (kind ≡ other) × (string_bytes name ≡ string_bytes again)
-SameFault f g = f ≡ g
 
 -- what a finding of a rule says: its kind, the instance, and what the rule is called
 abbrev pub told : RuleFinding → RuleFindingKind × ℕ × Name

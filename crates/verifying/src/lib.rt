@@ -1,4 +1,4 @@
-//! Whether a certificate proves that an output is the least image of an input, whoever made the two:
+//! Whether a certificate proves that an output is a least image of an input, whoever made the two:
 //! from four texts and a choice of entities.
 #![tactic(auto)]
 
@@ -7,7 +7,6 @@ mod input;
 pub mod laws;
 mod output;
 pub mod proof;
-mod rows;
 pub mod sources;
 mod tables;
 pub mod verify;

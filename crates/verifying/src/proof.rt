@@ -1,6 +1,6 @@
 //! What a certificate proves.
 
-/// A certificate proves that an output conforms and is the least image of an input: so many
+/// A certificate proves that an output conforms and is a least image of an input: so many
 /// instances they have.
 #[derive(Clone, Copy, Debug, PartialEq, Eq)]
 pub struct Proof {

@@ -3,20 +3,15 @@
 ghost use Rattle.std.specs.Prelude.{◌≡◌, ℕ, IfOk, List, MatchResult};
 ghost use Rattle.std.specs.Bool.{OnTrue};
 ghost use Rattle.certificate_text.specs.Texts.{IsCertificate};
-ghost use Rattle.express_syntax.specs.SchemaViews.{schema_of};
-ghost use Rattle.conformance.specs.PlainRows.{AreRowsOf};
+ghost use Rattle.express_syntax.specs.Schemas.{Schema};
 ghost use Rattle.schema_semantics.specs.Names.{Name};
-ghost use Rattle.step_exchange.specs.Exchanges.{structure};
-ghost use Rattle.step_equal.specs.Rows.{IsPopulation};
+ghost use Rattle.step_structures.specs.Trees.{File};
 ghost use Rattle.step_equal.specs.Standard.{IsWellFormed};
 ghost use Rattle.step_equal.specs.Tables.{IsValid};
 ghost use Rattle.step_equal.specs.TableViews.{table_of};
 ghost use Rattle.row_shapes.specs.Signatures.{AreSignatures};
-ghost use Rattle.step_pins.specs.Lists.{AreUniqueOf};
 ghost use Rattle.step_pins.specs.Pinned.{is_pinned};
-ghost use Rattle.population_typed.specs.Seen.{population_seen};
 ghost use Rattle.verifying.specs.ComputedPassing.{
-  AddBeside,
   AreFaulty,
   AreKnown,
   AreValid,
@@ -26,12 +21,10 @@ ghost use Rattle.verifying.specs.ComputedPassing.{
 };
 
 use crate::fault::TablesFault;
-use crate::rows::plain_rows;
 use certificate_text::read::read_certificate;
 use judged_grounds::judge::judge_by;
-use population_typed::population::Population;
 use row_shapes::signatures::{Signatures, signatures_of};
-use std::alloc::{AllocError, Global};
+use std::alloc::Global;
 use std::hash::RandomState;
 use step_equal::laws::equal_tables_are_the_same;
 use step_equal::plain::Plain;
@@ -44,30 +37,6 @@ use step_pins::weak_pins::WeakPins;
 pub(crate) struct Judged<'a> {
     pub rows: Plain<'a>,
     pub table: Table,
-}
-
-/// The rows of an input, and its gentle pins by the classes of a table. Its population isn't needed
-/// then.
-fn pinned_rows<'s: 'a, 't, 'r, 'a>(
-    alloc: Global,
-    keys: RandomState,
-    population: Population<'s, 't, 'r, 'a>,
-    weak: &WeakPins,
-    first: &Table,
-) -> Result<(Plain<'a>, Pins), AllocError>
-    requires lists { AreUniqueOf (schema_of population.types.now.names.schema.now)
-        (population_seen population) weak.now.lists }
-    ensures rows { IfOk result (λ p. AreRowsOf
-        (schema_of population.entry.types.now.names.schema.now) (population_seen population.entry)
-        p.0) }
-    ensures population { IfOk result (λ p. IsPopulation p.0) }
-    ensures pins { IfOk result (λ p. AddBeside
-        (schema_of population.entry.types.now.names.schema.now) (population_seen population.entry)
-        (is_pinned weak.now.pins) (table_of first.now) (is_pinned p.1)) }
-{
-    let rows = plain_rows(alloc, population)?;
-    let gentle = weak.gentle(alloc, keys, first)?;
-    Ok((rows, gentle))
 }
 
 /// Whether a table is valid under these pins.
@@ -129,28 +98,22 @@ fn judge_tables(
 
 /// What is merged by these tables of a certificate, where both are valid, the second one under the
 /// gentle pins that the first one gives.
-fn judge_pair<'s: 'a, 't, 'r, 'a>(
+fn judge_pair<'a>(
     alloc: Global,
     keys: RandomState,
-    population: Population<'s, 't, 'r, 'a>,
+    rows: Plain<'a>,
     weak: &WeakPins,
     first: Table,
     second: Table,
 ) -> Result<Judged<'a>, TablesFault>
-    requires lists { AreUniqueOf (schema_of population.types.now.names.schema.now)
-        (population_seen population) weak.now.lists }
     requires first { IsWellFormed (table_of first) }
     requires second { IsWellFormed (table_of second) }
-    ensures judged { (chosen : List Name) (certificate : List ℕ)
+    ensures judged { (s : Schema) (chosen : List Name) (f : File) (certificate : List ℕ)
         → IsCertificate certificate (table_of first) (table_of second)
-        → AreKnown (schema_of population.entry.types.now.names.schema.now) chosen
-        (structure population.entry.exchange.now) (population_seen population.entry)
-        (is_pinned weak.now.pins)
-        → IsJudgement (schema_of population.entry.types.now.names.schema.now) chosen
-        (structure population.entry.exchange.now) certificate result }
+        → AreKnown s chosen f rows.entry weak.now → IsJudgement s chosen f certificate result }
     ensures ready { IfOk result IsReady }
 {
-    let (rows, gentle) = pinned_rows(alloc, keys, population, weak, &first)?;
+    let gentle = weak.gentle(alloc, keys, &first)?;
     judge_tables(alloc, keys, &rows, &weak.pins, &gentle, first, &second)?;
     Ok(Judged {
         rows,
@@ -158,26 +121,19 @@ fn judge_pair<'s: 'a, 't, 'r, 'a>(
     })
 }
 
-/// What is merged of an input with this population and these weak pins by a certificate, where its
-/// tables hold.
-pub(crate) fn judge_certificate<'s: 'a, 't, 'r, 'a>(
+/// What is merged of an input with these rows and weak pins by a certificate, where its tables hold.
+pub(crate) fn judge_certificate<'a>(
     alloc: Global,
     keys: RandomState,
-    population: Population<'s, 't, 'r, 'a>,
-    weak: &WeakPins,
+    rows: Plain<'a>,
+    weak: WeakPins,
     certificate: Vec<u8>,
 ) -> Result<Judged<'a>, TablesFault>
-    requires lists { AreUniqueOf (schema_of population.types.now.names.schema.now)
-        (population_seen population) weak.now.lists }
-    ensures judged { (chosen : List Name)
-        → AreKnown (schema_of population.entry.types.now.names.schema.now) chosen
-        (structure population.entry.exchange.now) (population_seen population.entry)
-        (is_pinned weak.now.pins)
-        → IsJudgement (schema_of population.entry.types.now.names.schema.now) chosen
-        (structure population.entry.exchange.now) certificate.items result }
+    ensures judged { (s : Schema) (chosen : List Name) (f : File)
+        → AreKnown s chosen f rows.entry weak → IsJudgement s chosen f certificate.items result }
     ensures ready { IfOk result IsReady }
 {
     let (first, second) = read_certificate(alloc, &certificate)?;
     drop(certificate);
-    judge_pair(alloc, keys, population, weak, first, second)
+    judge_pair(alloc, keys, rows, &weak, first, second)
 }

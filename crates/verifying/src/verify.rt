@@ -13,18 +13,21 @@ use std::alloc::Global;
 use std::hash::RandomState;
 
 /// What a certificate proves of an output, by the text of a schema and a choice of its entities: that
-/// the output conforms, and is the least image of the input, of which instances of the chosen entities
+/// the output conforms, and is a least image of the input, of which instances of the chosen entities
 /// may be merged. Who made output and certificate plays no part, nor does whether the choice is strict.
 ///
 /// The fault is the first of these that is due: that of the schema's text, then of its names, then the
 /// first chosen name that is no entity (`Schema`); the fault of the input's text (`Text`); what is
 /// found of the input, of rules too (`Refused`); the fault of the output's text (`Text`); what is
-/// wrong with the output's instances one by one (`Refused`); that the certificate is of version 1, or
-/// no certificate, or its first table not that of the input under the weak pins, or its second one not
-/// under the gentle pins that the first one gives, or the output not what comes of the input by the
-/// second one (`Certificate`). Want of memory may come in place of any, as `Memory`. The limits of 2^40
-/// bytes are the caller's to test. The certificate is let go of once its tables are read. Names, and
-/// keys of rules, are hashed by these keys.
+/// wrong with the output's instances one by one (`Refused`); and as `Certificate`, that the certificate
+/// is of version 1 (`OldVersion`) or no certificate (`BadText`); of its first table under the weak pins
+/// of the input, and then of its second one under the gentle pins that the first one gives, that its
+/// members aren't the input's instances (`WrongNames`), that a split has no ground (`GroundlessSplit`),
+/// or that the last round isn't stable (`Unstable`); and that the output isn't what comes of the input
+/// by the second table (`NotTheImage`). Want of memory may come in place of any, as `Memory`. The limits of 2^40
+/// bytes are the caller's to test. The certificate is let go of once its tables are read, and all of the
+/// input's structure but the headings of its sections before the output is. Names, and keys of rules, are
+/// hashed by these keys.
 pub fn verify<'s>(
     alloc: Global,
     keys: RandomState,

@@ -133,10 +133,10 @@ pub references::derived-inside-requires : goal.references::derived-inside-requir
 references::derived-inside-requires t c =
     let S = c.args.context.now.setting.now in
     let f = c.in-Some.formula in
-    let h : 16 * weight S.formulas.now c.args.context.now.limit ≡ t = c.decreases in
-    let at = formula_place S.firsts.now (length S.formulas.now) c.args.derivation.entity c.args.derivation.number in
-    let w = weighs_more S.formulas.now at f c.args.context.now.limit (sym c.in-Some.ensures.place) c.if-formula-context.false in
-    let r : 16 * (size-Expr f.expression.now + weight S.formulas.now f.rank) + 2 < t = omega (arith, h, w) in
+    let h : 16 * weight S.formulas.now.rows.items c.args.context.now.limit ≡ t = c.decreases in
+    let at = formula_place S.formulas.now.firsts.items (length S.formulas.now.rows.items) c.args.derivation.entity c.args.derivation.number in
+    let w = weighs_more S.formulas.now.rows.items at f c.args.context.now.limit (sym c.in-Some.ensures.place) c.if-formula-context.false in
+    let r : 16 * (size-Expr f.expression.now + weight S.formulas.now.rows.items f.rank) + 2 < t = omega (arith, h, w) in
     (r, c.requires.setting)
 
 pub references::derived-returns : goal.references::derived-returns
@@ -156,8 +156,8 @@ pub references::inside-evaluate-outcome-requires : goal.references::inside-evalu
 references::inside-evaluate-outcome-requires t c =
     let S = c.args.context.now.setting.now in
     let f = c.args.formula in
-    let h : 16 * (size-Expr f.expression.now + weight S.formulas.now f.rank) + 2 ≡ t = c.decreases in
-    let r : 16 * (size-Expr f.expression.now + weight S.formulas.now f.rank) + 1 < t = omega (arith, h) in
+    let h : 16 * (size-Expr f.expression.now + weight S.formulas.now.rows.items f.rank) + 2 ≡ t = c.decreases in
+    let r : 16 * (size-Expr f.expression.now + weight S.formulas.now.rows.items f.rank) + 1 < t = omega (arith, h) in
     (r, c.requires.setting)
 
 pub references::inside-returns : goal.references::inside-returns

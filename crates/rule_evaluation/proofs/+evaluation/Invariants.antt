@@ -12,7 +12,7 @@ use Rattle.rule_evaluation.proofs.+evaluation.Given as goal
 
 -- what is left to do below the limit
 abbrev left : Context → ℕ
-left c = weight c.setting.now.formulas.now c.limit
+left c = weight c.setting.now.formulas.now.rows.items c.limit
 
 abbrev pub decreases-evaluate::evaluate : goal.decreases-evaluate::evaluate
 decreases-evaluate::evaluate l = 16 * (goal.size-evaluate::evaluate l + left l.context.now) + 1
@@ -83,7 +83,7 @@ decreases-queries::want_others l = 16 * (goal.size-queries::want_others l + left
 -- what is left to do inside it
 abbrev pub decreases-references::inside : goal.decreases-references::inside
 decreases-references::inside l =
-    16 * (size-Expr l.formula.expression.now + weight l.context.now.setting.now.formulas.now l.formula.rank) + 2
+    16 * (size-Expr l.formula.expression.now + weight l.context.now.setting.now.formulas.now.rows.items l.formula.rank) + 2
 
 abbrev pub decreases-references::derived : goal.decreases-references::derived
 decreases-references::derived l = 16 * left l.context.now

@@ -15,7 +15,7 @@ found_by_rules-requires c =
     let graph = c.args.graph.now in
     let verdict = subst (IsVerdict graph.types c.args.exchange.now) c.in-Typed.is c.in_ok-population.ensures in
     record {
-      ready = subst (λ t. AreReady t graph.rules graph.domain graph.judged.firsts.items c.args.tables.now c.args.settings.now)
+      ready = subst (λ t. AreReady t graph.rules graph.domain c.args.tables.now c.args.settings.now)
           (sym verdict.0) c.requires.ready;
     }
 

@@ -8,11 +8,11 @@ pub returns : goal.returns
 returns c =
     let graph = c.args.graph.now in
     let s = schema_of graph.types.names.schema.now in
-    let ready = c.requires.ready in (
+    let sound = c.requires.ready.sound in (
       c.schema_is_said.ensures,
       λ said. (
         c.in_ok-findings.ensures said,
-        no-rules-behind s said graph.rules (ready.rules.rules said.domain said.is_domain) graph.domain ready.domain.rules
+        no-rules-behind s said graph.rules (sound.rules.rules said.domain said.is_domain) graph.domain sound.domain.rules
             c.requires.without (instances s said (structure c.args.exchange.now)) _ _ _ c.empty_report.ensures.findings
             c.empty_report.ensures.unknown,
       ),

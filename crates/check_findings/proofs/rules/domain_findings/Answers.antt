@@ -4,7 +4,6 @@ use Rattle.express_syntax.specs.Profile.{Every}
 use Rattle.schema_rules.specs.Findings.{AreFindingsOf}
 use Rattle.schema_rules.specs.declared.finding.RuleFindingKind.TheVariants.{WhereFalse}
 use Rattle.schema_conditions.specs.Seen.{rule_seen, IsNumbered}
-use Rattle.schema_derivations.specs.Formulas.{AreFormulas}
 use Rattle.population_typed.specs.Seen.{population_seen}
 use Rattle.conformance.specs.Attributes.{AreAttributes}
 use Rattle.conformance.specs.DomainFindings.{rule_findings, unknown}
@@ -23,9 +22,9 @@ of-requires-clause-known c =
     let d = ready.tables.base_types.exists in
     subst (IsKnown c.args.extents.now.population.now.types.now c.args.settings.now.sources)
     (sym c.as_slice-inverses.ensures.value) (record {
-      made = ready.made;
+      made = ready.sound.made;
       sources = ready.settings.sources;
-      inverses = record { declared = (d.0, (ready.rules.rules d.0 d.1).inverses); numbered = ready.rules.numbered.inverses };
+      inverses = record { declared = (d.0, (ready.sound.rules.rules d.0 d.1).inverses); numbered = ready.sound.rules.numbered.inverses };
     })
 
 pub check_rules-requires-clause-setting : goal.check_rules-requires-clause-setting
@@ -35,23 +34,22 @@ check_rules-requires-clause-setting c =
     let d = ready.tables.base_types.exists in
     record {
       known = record {
-        made = ready.made;
+        made = ready.sound.made;
         sources = ready.settings.sources;
-        inverses = record { declared = (d.0, (ready.rules.rules d.0 d.1).inverses); numbered = ready.rules.numbered.inverses };
+        inverses = record { declared = (d.0, (ready.sound.rules.rules d.0 d.1).inverses); numbered = ready.sound.rules.numbered.inverses };
       };
       tables = ready.settings;
       forms = subst (λ rows. AreFormSources s (inverses_seen s rows) c.args.extents.now.population.now.rows.forms.items c.in_ok-sources.sources)
           c.as_slice-inverses.ensures.value
           (subst (λ fs. AreFormSources s (inverses_seen s c.as_slice-inverses.result.now) fs c.in_ok-sources.sources)
           c.forms-forms.ensures.forms c.in_ok-sources.ensures);
-      formulas = subst (AreFormulas s) (sym c.deref.ensures.value) ready.domain.formulas;
-      firsts = ready.firsts;
+      formulas = ready.sound.domain.formulas;
     }
 
 pub check_rules-requires-clause-numbered : goal.check_rules-requires-clause-numbered
 check_rules-requires-clause-numbered c =
     let s = schema_of c.args.extents.now.population.now.types.now.names.schema.now in
-    subst (Every (IsNumbered s)) (sym c.deref-2.ensures.value) c.requires.ready.domain.numbered
+    subst (Every (IsNumbered s)) (sym c.deref.ensures.value) c.requires.ready.sound.domain.numbered
 
 pub returns : goal.returns
 returns c said conforms =
@@ -61,9 +59,9 @@ returns c said conforms =
     let ready = c.requires.ready in
     let rules = rules_seen s c.args.extents.now.rules.now in
     let one = rules_are_one s said.domain said.entities rules said.rules said.resolved
-    (ready.rules.rules said.domain said.is_domain) said.are_rules is in
-    let conditions = ap (map (rule_seen s)) c.deref-2.ensures.value ∙ domain_rules_are_one s
-    (map (rule_seen s) c.args.domain.now.rules.items) said.conditions ready.domain.rules said.are_conditions in
+    (ready.sound.rules.rules said.domain said.is_domain) said.are_rules is in
+    let conditions = ap (map (rule_seen s)) c.deref.ensures.value ∙ domain_rules_are_one s
+    (map (rule_seen s) c.args.domain.now.rules.items) said.conditions ready.sound.domain.rules said.are_conditions in
     let r = c.in_ok-report.report in
     record {
       are_false = subst (λ cs. AreFindingsOf WhereFalse (rule_findings s said.domain said.entities said.attributes is cs) r.findings.items)

@@ -14,9 +14,9 @@ rule_findings-requires c =
     let tables = c.args.tables.now in
     let settings = c.args.settings.now in
     record {
-      ready = subst (λ t. AreReady e.population.now.types.now t graph.domain graph.judged.firsts.items tables settings)
+      ready = subst (λ t. AreReady e.population.now.types.now t graph.domain tables settings)
           (sym c.in_ok-extents.ensures.rules)
-          (subst (λ q. AreReady q.types.now graph.rules graph.domain graph.judged.firsts.items tables settings)
+          (subst (λ q. AreReady q.types.now graph.rules graph.domain tables settings)
           (sym c.in_ok-extents.ensures.population) c.requires.ready);
     }
 

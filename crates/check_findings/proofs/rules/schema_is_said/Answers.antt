@@ -3,7 +3,6 @@ use Rattle.express_syntax.specs.SchemaViews.{schema_of}
 use Rattle.schema_rules.specs.Seen.{rules_seen}
 use Rattle.schema_conditions.specs.Seen.{rule_seen}
 use Rattle.schema_sources.specs.Seen.{inverses_seen}
-use Rattle.schema_derivations.specs.Formulas.{AreFormulas}
 use Rattle.conformance.specs.Attributes.{AreAttributes}
 use Rattle.conformance.specs.Entities.{Entities, AreEntities}
 use Rattle.schema_sources.specs.Tables.{IsKnown}
@@ -15,9 +14,9 @@ attributes_are_said-requires c =
     let d = ready.tables.base_types.exists in
     record {
       known = subst (IsKnown c.args.types.now c.args.settings.now.sources) (sym c.deref.ensures.value) (record {
-        made = ready.made;
+        made = ready.sound.made;
         sources = ready.settings.sources;
-        inverses = record { declared = (d.0, (ready.rules.rules d.0 d.1).inverses); numbered = ready.rules.numbered.inverses };
+        inverses = record { declared = (d.0, (ready.sound.rules.rules d.0 d.1).inverses); numbered = ready.sound.rules.numbered.inverses };
       });
     }
 
@@ -28,10 +27,10 @@ returns c =
     let d = ready.tables.base_types.exists in
     let same = ap (λ n. schema_of n.schema.now) c.knowledge-known.ensures.same in
     let en = subst (λ t. (e : Entities) × AreEntities t e) same c.entities_are_said.ensures in
-    let formula = c.formulas_are_said.ensures s (subst (AreFormulas s) (sym c.deref-2.ensures.value) ready.domain.formulas) ready.firsts in
+    let formula = c.formulas_are_said.ensures s ready.sound.domain.formulas in
     let found = c.attributes_are_said.ensures formula.0 formula.1 in
     record {
-      resolved = ready.made.resolved;
+      resolved = ready.sound.made.resolved;
       domain = d.0;
       entities = en.0;
       rules = rules_seen s c.args.rules.now;
@@ -39,7 +38,7 @@ returns c =
       conditions = map (rule_seen s) c.args.domain.now.rules.items;
       is_domain = d.1;
       are_entities = en.1;
-      are_rules = ready.rules.rules d.0 d.1;
+      are_rules = ready.sound.rules.rules d.0 d.1;
       are_attributes = subst (λ rows. AreAttributes s (inverses_seen s rows) found.0) c.deref.ensures.value found.1;
-      are_conditions = ready.domain.rules;
+      are_conditions = ready.sound.domain.rules;
     }

@@ -23,7 +23,8 @@ returns-in-Ok-clause-opened g c = asked_opens (map string_bytes c.args.words.now
 
 pub returns-in-Ok-clause-runs : goal.returns-in-Ok-clause-runs
 returns-in-Ok-clause-runs g c =
-    asked_runs _ (map string_bytes c.args.words.now) (stored g.S.Store.contents g.S.Store.fails c.args.store.now) _ _ _ _ _ _
+    asked_runs _ _ (map string_bytes c.args.words.now)
+    (stored g.S.Store.contents g.S.Store.fails c.args.store.now) _ _ _ _ _ _
     c.in-Ok.request c.in-Ok.ensures.asked c.run.ensures.does
 
 pub returns-in-Ok-clause-kept : goal.returns-in-Ok-clause-kept
@@ -45,7 +46,8 @@ returns-in-Err-clause-opened g c = inr (
 
 pub returns-in-Err-clause-runs : goal.returns-in-Err-clause-runs
 returns-in-Err-clause-runs g c =
-    refused_runs _ (map string_bytes c.args.words.now) (stored g.S.Store.contents g.S.Store.fails c.args.store.now) _ _ _ _ _ _
+    refused_runs _ _ (map string_bytes c.args.words.now)
+    (stored g.S.Store.contents g.S.Store.fails c.args.store.now) _ _ _ _ _ _
     (asks (map string_bytes c.args.words.now) (are_texts c.args.words.now)) c.in-Err.refusal (record {
       plain = c.in-Err.ensures.granted;
       check = c.in-Err.ensures.check_granted;

@@ -4,7 +4,7 @@ use Rattle.files.specs.Stores.{told_by}
 use Rattle.files.specs.declared.fault.Role.TheVariants as roles
 use Rattle.pin_choices.specs.Chosen.{choice_of}
 use Rattle.faults.proofs.Failing.{unread_device, unread_other}
-use Rattle.shrinking.specs.Shrinking.{Shrinks}
+use Rattle.shrinking.specs.Shrinking.{Shrinks, written_to}
 use Rattle.shrinking.specs.declared.summary.Summary.{Summary}
 use Rattle.commands.proofs.FaultEndings.{device_ends, one_failed}
 use Rattle.commands.proofs.MergeRuns.{read_shrink, unread_shrink}
@@ -24,8 +24,8 @@ returns-in-Ok-shrink-clause-runs g c =
     c.args.choice.now.strict _ _ _ _ _ _ _ _ c.tell_merge.result (Ok c.in-Ok-shrink.summary) c.in-Ok.ensures.all
     c.in-Ok.ensures.told
     (subst (λ text. Shrinks (choice_of c.args.choice.now) c.args.choice.now.strict (Some text)
-    (g.F.Source.to_come c.args.file.now) (g.W.Sink.held c.args.smaller.now) (g.W.Sink.held c.shrink.new.out)
-    (g.C.Sink.held c.args.certificate.now) (g.C.Sink.held c.shrink.new.certificate) (Ok c.in-Ok-shrink.summary))
+    (g.F.Source.to_come c.args.file.now) (written_to g.W.Sink.held c.args.smaller.now c.shrink.new.out)
+    (written_to g.C.Sink.held c.args.certificate.now c.shrink.new.certificate) (Ok c.in-Ok-shrink.summary))
     c.deref.ensures.value c.in-Ok-shrink.ensures.shrinks) c.in-Ok-shrink.ensures.no_schema_fault
     c.in-Ok-shrink.ensures.file_told c.in-Ok-shrink.ensures.output_fault c.in-Ok-shrink.ensures.certificate_fault
     c.tell_merge.ensures
@@ -37,8 +37,8 @@ returns-clause-runs g c =
     c.args.choice.now.strict _ _ _ _ _ _ _ _ c.tell_fault-in-Err-shrink.result (Err c.in-Err-shrink.fault)
     c.in-Ok.ensures.all c.in-Ok.ensures.told
     (subst (λ text. Shrinks (choice_of c.args.choice.now) c.args.choice.now.strict (Some text)
-    (g.F.Source.to_come c.args.file.now) (g.W.Sink.held c.args.smaller.now) (g.W.Sink.held c.shrink.new.out)
-    (g.C.Sink.held c.args.certificate.now) (g.C.Sink.held c.shrink.new.certificate) (Err c.in-Err-shrink.fault))
+    (g.F.Source.to_come c.args.file.now) (written_to g.W.Sink.held c.args.smaller.now c.shrink.new.out)
+    (written_to g.C.Sink.held c.args.certificate.now c.shrink.new.certificate) (Err c.in-Err-shrink.fault))
     c.deref.ensures.value c.in-Err-shrink.ensures.shrinks) c.in-Err-shrink.ensures.no_schema_fault
     c.in-Err-shrink.ensures.file_told c.in-Err-shrink.ensures.output_fault c.in-Err-shrink.ensures.certificate_fault
     c.tell_fault-in-Err-shrink.ensures

@@ -2,14 +2,14 @@ use Rattle.std.proofs.Common.{rules, length, vec_len, ◌≡◌, ◌∙◌, ◌<
 use Rattle.express_syntax.specs.SchemaViews.{schema_of}
 use Rattle.population_typed.specs.Seen.{population_seen}
 use Rattle.step_population.proofs.Verdicts.{empty-so, full-so}
-use Rattle.ruled_populations.specs.Ruling.{AreFound}
+use Rattle.ruled_populations.specs.ComputedRuling.{AreFound}
 use Rattle.ruled_populations.proofs.ruled.ruled_by_extents.Goals as goal
 
 pub pins-requires-clause-made : goal.pins-requires-clause-made
-pins-requires-clause-made c = c.requires.ready.made
+pins-requires-clause-made c = c.requires.ready.sound.made
 
 pub pins-requires-clause-numbered : goal.pins-requires-clause-numbered
-pins-requires-clause-numbered c = c.requires.ready.rules.numbered
+pins-requires-clause-numbered c = c.requires.ready.sound.rules.numbered
 
 pub returns-then-broken-gt0 : goal.returns-then-broken-gt0
 returns-then-broken-gt0 c =

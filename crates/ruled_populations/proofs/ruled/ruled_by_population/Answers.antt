@@ -2,7 +2,7 @@ use Rattle.std.proofs.Common.{sym, subst}
 use Rattle.express_syntax.specs.SchemaViews.{schema_of}
 use Rattle.population_typed.specs.Seen.{population_seen}
 use Rattle.check_findings.specs.Ruling.{AreReady}
-use Rattle.ruled_populations.specs.Ruling.{IsRuled}
+use Rattle.ruled_populations.specs.ComputedRuling.{IsRuled}
 use Rattle.ruled_populations.proofs.ruled.ruled_by_population.Goals as goal
 
 pub ruled_by_extents-requires : goal.ruled_by_extents-requires
@@ -12,9 +12,9 @@ ruled_by_extents-requires c =
     let tables = c.args.tables.now in
     let settings = c.args.settings.now in
     record {
-      ready = subst (λ t. AreReady e.population.now.types.now t graph.domain graph.judged.firsts.items tables settings)
+      ready = subst (λ t. AreReady e.population.now.types.now t graph.domain tables settings)
           (sym c.in_ok-extents.ensures.rules)
-          (subst (λ q. AreReady q.types.now graph.rules graph.domain graph.judged.firsts.items tables settings)
+          (subst (λ q. AreReady q.types.now graph.rules graph.domain tables settings)
           (sym c.in_ok-extents.ensures.population) c.requires.ready);
     }
 

@@ -11,7 +11,10 @@ returns c =
     let s = schema_of c.args.names.now.schema.now in
     let ranks = c.args.ranks.now in
     let new = c.add_all.new.formulas.items in
-    are-formulas s ranks c.requires.ranks c.requires.resolved new
-    (subst (λ xs. Adds ranks (flat_map deriveds_in (map declaration_of xs)) [] new) c.deref.ensures.value
-    (subst (λ old. Adds ranks (flat_map deriveds_in (map declaration_of c.deref.result.now)) old new)
-    c.new-formulas.ensures.items c.in_ok-add_all.ensures))
+    record {
+      rows = are-formulas s ranks c.requires.ranks c.requires.resolved new
+          (subst (λ xs. Adds ranks (flat_map deriveds_in (map declaration_of xs)) [] new) c.deref.ensures.value
+          (subst (λ old. Adds ranks (flat_map deriveds_in (map declaration_of c.deref.result.now)) old new)
+          c.new-rows.ensures.items c.in_ok-add_all.ensures));
+      firsts = c.in_ok-firsts.ensures;
+    }

@@ -2,6 +2,7 @@ use Rattle.express_syntax.specs.SchemaViews.{schema_of}
 use Rattle.step_equal.specs.TableViews.{table_of}
 use Rattle.step_rewrite.specs.Rewriting.{smaller_text}
 use Rattle.certificate_text.specs.Texts.{certificate_text}
+use Rattle.shrinking.specs.Shrinking.{written_to}
 use Rattle.shrinking.proofs.Answering.{all_written, cut}
 use Rattle.shrinking.proofs.Merging.{done}
 use Rattle.shrinking.proofs.Outcome.{faulty, is_tabled}
@@ -23,8 +24,8 @@ returns-in-Ok-write_both-clause-shrinks g c = λ names are bytes within reads.
     let said = c.summary-summary in
     let tabled = is_tabled s names bytes x c.in-Ok.merging c.in-Clean.unknown c.in-Clean.first c.in-Clean.second
     c.in-Clean.is (c.in-Ok.ensures.merges names are) reads in
-    all_written s names bytes (g.O.Sink.held c.args.out.now) (g.O.Sink.held c.write_both.new.out)
-    (g.C.Sink.held c.args.certificate.now) (g.C.Sink.held c.write_both.new.certificate) (smaller_text x second)
+    all_written s names bytes (written_to g.O.Sink.held c.args.out.now c.write_both.new.out)
+    (written_to g.C.Sink.held c.args.certificate.now c.write_both.new.certificate) (smaller_text x second)
     (certificate_text first second) said.result
     (done s names bytes x c.in-Clean.unknown first second c.conforms_where_nothing_is_found.ensures
     c.merges_are_least.ensures tabled within said.result (said.ensures.report tabled.found) said.ensures.clean
@@ -39,8 +40,8 @@ returns-clause-shrinks g c = λ names are bytes within reads.
     let said = c.summary-summary in
     let tabled = is_tabled s names bytes x c.in-Ok.merging c.in-Clean.unknown c.in-Clean.first c.in-Clean.second
     c.in-Clean.is (c.in-Ok.ensures.merges names are) reads in
-    cut s names bytes (g.O.Sink.held c.args.out.now) (g.O.Sink.held c.write_both.new.out)
-    (g.C.Sink.held c.args.certificate.now) (g.C.Sink.held c.write_both.new.certificate) (smaller_text x second)
+    cut s names bytes (written_to g.O.Sink.held c.args.out.now c.write_both.new.out)
+    (written_to g.C.Sink.held c.args.certificate.now c.write_both.new.certificate) (smaller_text x second)
     (certificate_text first second) said.result c.in-Err-write_both.fault c.of_file.result c.of_file.ensures
     (done s names bytes x c.in-Clean.unknown first second c.conforms_where_nothing_is_found.ensures
     c.merges_are_least.ensures tabled within said.result (said.ensures.report tabled.found) said.ensures.clean

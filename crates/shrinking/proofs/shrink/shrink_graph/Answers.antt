@@ -5,6 +5,7 @@ use Rattle.schema_parts.specs.Adding.{unchecked_in}
 use Rattle.conformance.specs.Choices.{chosen_names}
 use Rattle.pin_choices.specs.Chosen.{choice_of}
 use Rattle.faults.specs.declared.fault.Fault.TheVariants.{Unchecked}
+use Rattle.shrinking.specs.Shrinking.{written_to}
 use Rattle.shrinking.proofs.Answering.{settled, unknown, unlooked}
 use Rattle.shrinking.proofs.shrink.shrink_graph.Goals as goal
 
@@ -30,8 +31,8 @@ returns-in-Ok-clause-shrinks g c = λ text has.
     let s = schema_of c.args.graph.types.names.schema.now in
     let choice = choice_of c.args.choice.now in
     settled choice c.args.choice.now.strict text s (g.F.Source.to_come c.args.file.now)
-    (g.O.Sink.held c.args.out.now) (g.O.Sink.held c.shrink_source.new.out) (g.C.Sink.held c.args.certificate.now)
-    (g.C.Sink.held c.shrink_source.new.certificate) c.shrink_source.result has c.if-is_refused.ensures
+    (written_to g.O.Sink.held c.args.out.now c.shrink_source.new.out)
+    (written_to g.C.Sink.held c.args.certificate.now c.shrink_source.new.certificate) c.shrink_source.result has c.if-is_refused.ensures
     c.in-Ok.ensures.0 (c.shrink_source.ensures.shrinks (chosen_names s choice) c.in-Ok.ensures.1.0)
 
 pub returns-clause-shrinks : goal.returns-clause-shrinks

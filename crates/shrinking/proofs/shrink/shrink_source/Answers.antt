@@ -4,6 +4,7 @@ use Rattle.express_syntax.specs.SchemaViews.{schema_of}
 use Rattle.files.specs.declared.fault.Role.TheVariants.{Certificate, File, Output, Schema}
 use Rattle.faults.proofs.Failing.{file_read, unread_device, unread_file, unread_other}
 use Rattle.shrinking.specs.ComputedAnswers.{FileShrinks}
+use Rattle.shrinking.specs.Shrinking.{written_to}
 use Rattle.shrinking.specs.declared.summary.Summary.{Summary}
 use Rattle.shrinking.proofs.Answering.{given, not_given}
 use Rattle.shrinking.proofs.shrink.shrink_source.Goals as goal
@@ -11,11 +12,12 @@ use Rattle.shrinking.proofs.shrink.shrink_source.Goals as goal
 pub returns-in-Ok-clause-shrinks : goal.returns-in-Ok-clause-shrinks
 returns-in-Ok-clause-shrinks g c = λ names are.
     let s = schema_of c.args.graph.types.names.schema.now in
-    given s names (g.F.Source.to_come c.args.file.now) _ c.in-Ok.bytes.items (g.O.Sink.held c.args.out.now)
-    (g.O.Sink.held c.shrink_file.new.out) (g.C.Sink.held c.args.certificate.now)
-    (g.C.Sink.held c.shrink_file.new.certificate) c.shrink_file.result c.in-Ok.ensures.all
-    (subst (λ bytes. FileShrinks s names bytes (g.O.Sink.held c.args.out.now) (g.O.Sink.held c.shrink_file.new.out)
-    (g.C.Sink.held c.args.certificate.now) (g.C.Sink.held c.shrink_file.new.certificate) c.shrink_file.result)
+    given s names (g.F.Source.to_come c.args.file.now) _ c.in-Ok.bytes.items
+    (written_to g.O.Sink.held c.args.out.now c.shrink_file.new.out)
+    (written_to g.C.Sink.held c.args.certificate.now c.shrink_file.new.certificate) c.shrink_file.result
+    c.in-Ok.ensures.all
+    (subst (λ bytes. FileShrinks s names bytes (written_to g.O.Sink.held c.args.out.now c.shrink_file.new.out)
+    (written_to g.C.Sink.held c.args.certificate.now c.shrink_file.new.certificate) c.shrink_file.result)
     c.deref.ensures.value (c.shrink_file.ensures.shrinks names are))
 
 pub returns-clause-shrinks : goal.returns-clause-shrinks

@@ -1,4 +1,5 @@
 use Rattle.std.proofs.lemmas.Result.{err_from_is_err_and}
+use Rattle.step_exchange.specs.Exchanges.{structure}
 use Rattle.verifying.proofs.input.verify_read.Goals as goal
 
 pub returns-in_err-judged : goal.returns-in_err-judged
@@ -10,4 +11,5 @@ returns-in_err-judged c schema input header_bytes choice settles are reads =
 pub returns : goal.returns
 returns c schema input header_bytes choice settles are reads =
     let found = c.in_ok-judged.ensures.finds schema input header_bytes choice settles are reads in
-    c.verify_output.ensures schema input c.args.claim.certificate.items choice settles found.0 found.1
+    c.verify_output.ensures schema input c.args.claim.certificate.items choice (structure c.args.exchange)
+    c.of-headings.ensures settles found.0 found.1

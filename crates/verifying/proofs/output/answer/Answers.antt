@@ -9,16 +9,15 @@ pub compare-requires : goal.compare-requires
 compare-requires c = subst (λ r. IfOk r IsReady) c.in-Ok.is c.requires
 
 pub returns-in-Ok : goal.returns-in-Ok
-returns-in-Ok c chosen certificate judged same =
+returns-in-Ok c chosen certificate f has judged same =
     let q = c.args.population in
-    c.compare.ensures chosen certificate
-    (subst (IsJudgement (schema_of q.types.now.names.schema.now) chosen (structure c.args.input.now) certificate)
+    c.compare.ensures chosen certificate f has
+    (subst (IsJudgement (schema_of q.types.now.names.schema.now) chosen f certificate)
     c.in-Ok.is judged) same
 
 pub returns-in-Err : goal.returns-in-Err
-returns-in-Err c chosen certificate judged same =
+returns-in-Err c chosen certificate f has judged same =
     let q = c.args.population in
     let s = schema_of q.types.now.names.schema.now in
-    let f = structure c.args.input.now in
     held_back s chosen f (structure q.exchange.now) certificate c.in-Err.fault
     (subst (IsJudgement s chosen f certificate) c.in-Err.is judged)

@@ -10,6 +10,6 @@ returns-then-not-branch c = (
 
 pub returns : goal.returns
 returns c = (
-  λ e. (c.in_ok-is_merged.ensures.0 c.if-not-branch.false, c.same_headings.ensures.0 e),
-  λ m. c.same_headings.ensures.1 m.1,
+  λ e. (c.in_ok-is_merged.ensures.0 c.if-not-branch.false, c.are_those_of.ensures.0 e),
+  λ m. c.are_those_of.ensures.1 m.1,
 )

@@ -9,54 +9,54 @@ use Rattle.verifying.proofs.Answering.{refused, proved}
 use Rattle.verifying.proofs.output.verify_image.Goals as goal
 
 pub returns-in_err-verdict : goal.returns-in_err-verdict
-returns-in_err-verdict c schema input output certificate header_bytes choice settles reads judged out =
+returns-in_err-verdict c schema input output certificate header_bytes choice f has settles reads judged out =
     let p = err_from_is_err_and c.from_residual.result c.from_residual.ensures.1 in
     rw (p.1, p.2) tt
 
 pub returns-in_err-proof-in-Typed : goal.returns-in_err-proof-in-Typed
-returns-in_err-proof-in-Typed c schema input output certificate header_bytes choice settles reads judged out =
+returns-in_err-proof-in-Typed c schema input output certificate header_bytes choice f has settles reads judged out =
     let types = c.args.types.now in
     let s = schema_of types.names.schema.now in
-    let f = structure c.args.input.now in
+    let hs = c.args.headings.now in
     let g = structure c.args.image.now in
     let j = c.args.judged.now in
     let q = c.in-Typed.population in
     let e = c.in_err-proof-in-Typed.field-0.0 in
     let (same, image, typed) = subst (IsVerdict types c.args.image.now) c.in-Typed.is c.in_ok-verdict.ensures in
-    let h : AnswersTyped s f j g (population_seen q) (Err e) =
-    subst (λ x. AnswersTyped s f j (structure x) (population_seen q) (Err e)) image
-    (subst (λ t. AnswersTyped (schema_of t.names.schema.now) f j (structure q.exchange.now) (population_seen q) (Err e))
+    let h : AnswersTyped s hs j g (population_seen q) (Err e) =
+    subst (λ x. AnswersTyped s hs j (structure x) (population_seen q) (Err e)) image
+    (subst (λ t. AnswersTyped (schema_of t.names.schema.now) hs j (structure q.exchange.now) (population_seen q) (Err e))
     same c.in_err-proof-in-Typed.ensures) in
     let p = err_from_is_err_and c.from_residual-in_err-proof-in-Typed.result c.from_residual-in_err-proof-in-Typed.ensures.1 in
     rw (p.1, p.2) (refused schema input output certificate choice s settles f reads j judged header_bytes g out
-    (population_seen q) typed e h)
+    (population_seen q) typed hs has e h)
 
 pub returns-in_ok-proof-in-Typed : goal.returns-in_ok-proof-in-Typed
-returns-in_ok-proof-in-Typed c schema input output certificate header_bytes choice settles reads judged out =
+returns-in_ok-proof-in-Typed c schema input output certificate header_bytes choice f has settles reads judged out =
     let types = c.args.types.now in
     let s = schema_of types.names.schema.now in
-    let f = structure c.args.input.now in
+    let hs = c.args.headings.now in
     let g = structure c.args.image.now in
     let j = c.args.judged.now in
     let q = c.in-Typed.population in
     let p = c.in_ok-proof-in-Typed.proof in
     let (same, image, typed) = subst (IsVerdict types c.args.image.now) c.in-Typed.is c.in_ok-verdict.ensures in
-    let h : AnswersTyped s f j g (population_seen q) (Ok p) =
-    subst (λ x. AnswersTyped s f j (structure x) (population_seen q) (Ok p)) image
-    (subst (λ t. AnswersTyped (schema_of t.names.schema.now) f j (structure q.exchange.now) (population_seen q) (Ok p))
+    let h : AnswersTyped s hs j g (population_seen q) (Ok p) =
+    subst (λ x. AnswersTyped s hs j (structure x) (population_seen q) (Ok p)) image
+    (subst (λ t. AnswersTyped (schema_of t.names.schema.now) hs j (structure q.exchange.now) (population_seen q) (Ok p))
     same c.in_ok-proof-in-Typed.ensures) in
     proved schema input output certificate choice s settles f reads j judged header_bytes g out (population_seen q)
-    typed c.checks_prove.ensures p h
+    typed hs has c.checks_prove.ensures p h
 
 pub returns-in-Faulty : goal.returns-in-Faulty
-returns-in-Faulty c schema input output certificate header_bytes choice settles reads judged out =
+returns-in-Faulty c schema input output certificate header_bytes choice f has settles reads judged out =
     let types = c.args.types.now in
     let g = structure c.args.image.now in
     let (functions, all, some) = subst (IsVerdict types c.args.image.now) c.in-Faulty.is c.in_ok-verdict.ensures in (
       schema_of types.names.schema.now,
       settles,
       (
-        structure c.args.input.now,
+        f,
         reads,
         (
           header_bytes,

@@ -5,5 +5,5 @@ use Rattle.rule_settings.proofs.setting.Setting.formula.Goals as goal
 pub returns-clause-meant : goal.returns-clause-meant
 returns-clause-meant c m h =
     let S = c.args.self.now in
-    c.formula_at.ensures.meant (schema_in S) c.requires.setting.formulas c.requires.setting.firsts (inverses_in S) m.attributes
-    m.are_attributes (name_at (schema_in S) c.args.derivation.entity) h
+    c.formula_at.ensures.meant (schema_in S) c.requires.setting.formulas (inverses_in S) m.attributes m.are_attributes
+    (name_at (schema_in S) c.args.derivation.entity) h

@@ -11,7 +11,9 @@ use std::alloc::{AllocError, Global};
 use step_equal::plain::Plain;
 
 /// The rows of a population, which isn't needed then.
-pub(crate) fn plain_rows<'s: 'a, 't, 'r, 'a>(
+///
+/// `AllocError` comes where memory runs out.
+pub fn plain_rows<'s: 'a, 't, 'r, 'a>(
     alloc: Global,
     population: Population<'s, 't, 'r, 'a>,
 ) -> Result<Plain<'a>, AllocError>

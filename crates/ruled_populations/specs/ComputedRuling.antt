@@ -1,5 +1,5 @@
--- What the rules of a schema say of a population, which of its instances are pinned by the weak rules, and what the gentle
--- rules are kept by.
+-- What the code computes; no promise stands here. What the rules of a schema say of a population, which of its instances
+-- are pinned by the weak rules, and what the gentle rules are kept by.
 use Rattle.std.specs.Prelude.{◌≢◌, ◌↔◌, ℕ, Bool, IsTrue, List, []}
 use Rattle.express_syntax.specs.Schemas.{Schema}
 use Rattle.schema_semantics.specs.Names.{Name}

@@ -6,24 +6,24 @@ use Rattle.population_typed.specs.Seen.{population_seen}
 use Rattle.population_typed.specs.Typed.{IsTyped}
 use Rattle.step_population.specs.Verdicts.{IsVerdict}
 use Rattle.check_findings.specs.Ruling.{AreReady}
-use Rattle.merge_tables.specs.ComputedTables.{Comes}
-use Rattle.merge_tables.proofs.Coming.{comes-one-by-one}
-use Rattle.merge_tables.proofs.merging.merged_by_settings.Goals as goal
+use Rattle.ruled_populations.specs.Checking.{ChecksFile}
+use Rattle.ruled_populations.proofs.Conforming.{faulty-one-by-one}
+use Rattle.ruled_populations.proofs.checked.checked_by_settings.Goals as goal
 
-pub merged_by_population-requires-clause-said : goal.merged_by_population-requires-clause-said
-merged_by_population-requires-clause-said c =
+pub checked_by_population-requires-clause-said : goal.checked_by_population-requires-clause-said
+checked_by_population-requires-clause-said c =
     let verdict = subst (IsVerdict c.args.graph.now.types c.args.exchange.now) c.in-Typed.is c.in_ok-verdict.ensures in
     subst (λ t. Said (schema_of t.names.schema.now)) (sym verdict.0) c.schema_is_said.ensures
 
-pub merged_by_population-requires-clause-ready : goal.merged_by_population-requires-clause-ready
-merged_by_population-requires-clause-ready c =
+pub checked_by_population-requires-clause-ready : goal.checked_by_population-requires-clause-ready
+checked_by_population-requires-clause-ready c =
     let graph = c.args.graph.now in
     let verdict = subst (IsVerdict graph.types c.args.exchange.now) c.in-Typed.is c.in_ok-verdict.ensures in
-    subst (λ t. AreReady t graph.rules graph.domain graph.judged.firsts.items c.args.tables.now c.args.settings.now)
+    subst (λ t. AreReady t graph.rules graph.domain c.args.tables.now c.args.settings.now)
     (sym verdict.0) c.requires.ready
 
-pub merged_by_population-requires-clause-typed : goal.merged_by_population-requires-clause-typed
-merged_by_population-requires-clause-typed c =
+pub checked_by_population-requires-clause-typed : goal.checked_by_population-requires-clause-typed
+checked_by_population-requires-clause-typed c =
     let p = c.in-Typed.population in
     let types = c.args.graph.now.types in
     let verdict = subst (IsVerdict types c.args.exchange.now) c.in-Typed.is c.in_ok-verdict.ensures in
@@ -35,17 +35,17 @@ returns-in-Typed c =
     let p = c.in-Typed.population in
     let types = c.args.graph.now.types in
     let chosen = c.args.chosen.now in
-    let r = c.merged_by_population.result in
+    let r = c.checked_by_population.result in
     let verdict = subst (IsVerdict types c.args.exchange.now) c.in-Typed.is c.in_ok-verdict.ensures in
-    subst (λ x. IfOk r (Comes (schema_of types.names.schema.now) chosen (structure x) x.names)) verdict.1
-    (subst (λ t. IfOk r (Comes (schema_of t.names.schema.now) chosen (structure p.exchange.now) p.exchange.now.names))
-    verdict.0 c.merged_by_population.ensures)
+    subst (λ x. IfOk r (ChecksFile (schema_of types.names.schema.now) (structure x) chosen)) verdict.1
+    (subst (λ t. IfOk r (ChecksFile (schema_of t.names.schema.now) (structure p.exchange.now) chosen)) verdict.0
+    c.checked_by_population.ensures)
 
 pub returns-in-Faulty : goal.returns-in-Faulty
 returns-in-Faulty c =
     let types = c.args.graph.now.types in
     let x = c.args.exchange.now in
-    comes-one-by-one (schema_of types.names.schema.now) (structure x) c.schema_is_said.ensures c.args.chosen.now x.names
+    faulty-one-by-one (schema_of types.names.schema.now) (structure x) c.schema_is_said.ensures c.args.chosen.now
     (record { findings = c.in-Faulty.findings; rules = c.empty_report.result })
     (subst (IsVerdict types x) c.in-Faulty.is c.in_ok-verdict.ensures) c.empty_report.ensures.findings
     c.empty_report.ensures.unknown

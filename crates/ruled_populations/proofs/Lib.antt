@@ -1,0 +1,2 @@
+mod Weak
+mod Conforming

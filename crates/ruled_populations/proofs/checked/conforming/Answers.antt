@@ -1,0 +1,10 @@
+use Rattle.ruled_populations.proofs.checked.conforming.Goals as goal
+
+pub checked_by_settings-requires : goal.checked_by_settings-requires
+checked_by_settings-requires c = record {
+  ready = record {
+    sound = c.requires.sound;
+    tables = c.requires.tables;
+    settings = c.in_ok-settings.ensures;
+  };
+}
