@@ -6,7 +6,8 @@
 Runs each command on the files of bench/statuses.py with a small library before the C library, which `cc` makes: it
 refuses the Nth block of memory, or fails the Nth call that opens, reads, writes, keeps, renames or asks about a file,
 or asks for random bytes, for each N; and once it reads and writes one byte a call. `shrink` also has each call fail
-where it reads and writes one byte a call.
+where it reads and writes one byte a call. Where a file stands under OUT and one under CERT, the certificate is never
+replaced alone, and the output alone by one failing call, the one that renames the certificate.
 
 Where memory is refused the program has to say `memory`, with status 5, and to have written nothing; or to do all that
 it does where nothing is refused, since some blocks are only asked for ahead or made smaller; or that the output or the
@@ -70,6 +71,7 @@ __attribute__((destructor)) static void count(void) {
 }
 """
 
+REPLACING = ["shrink", "geo.exp", "self.stp", "self.stp", "bad.cert", *MERGE]
 COMMANDS = [
     ["--help"],
     ["plain", "a", "b"],
@@ -77,7 +79,7 @@ COMMANDS = [
     ["check", "geo.exp", "equal.stp"],
     ["check", "geo.exp", "broken.stp"],
     ["shrink", "geo.exp", "equal.stp", *WRITTEN, *MERGE],
-    ["shrink", "geo.exp", "self.stp", "self.stp", "bad.cert", *MERGE],
+    REPLACING,
     ["verify", *FOUR],
 ]
 ROLES = ["output", "certificate"]
@@ -126,7 +128,7 @@ def is_refused(answer, whole):
 def is_front(answer, whole):
     """Whether a device failed, and what was written is a front of the right text."""
     fronts = all(whole.made.get(name, "").startswith(text) for name, text in answer.made.items())
-    is_text = whole.status == 3 or whole.out.startswith("Reads STEP files")
+    is_text = whole.status == 3 or whole.out.startswith("Checks STEP files")
     said = not answer.err if is_text else answer.err.startswith("device: ") and answer.err.count("\n") == 1
     return answer.status == 4 and said and fronts and whole.out.startswith(answer.out)
 
@@ -188,6 +190,16 @@ def is_told_byte_by_byte(trial):
     return not missing
 
 
+def are_replaced_in_turn(trial):
+    """Whether each failing call leaves both files or neither, but for one call, which leaves the output."""
+    _, calls = counts(trial, REPLACING)
+    made = [sorted(trial.run(REPLACING, FAILING_CALL=number).made) for number in range(1, calls + 1)]
+    alone = [names for names in made if len(names) == 1]
+    if alone != [["self.stp"]]:
+        print(f"{REPLACING}: replaced alone by a failing call: {alone}")
+    return alone == [["self.stp"]]
+
+
 def main(words):
     if len(words) != 1 or words[0].startswith("-"):
         print(__doc__.strip())
@@ -197,7 +209,8 @@ def main(words):
         subprocess.run(["cc", "-O1", "-shared", "-fPIC", "-x", "c", "-", "-o", library, "-ldl"], input=LIBRARY, text=True,
                        check=True)
         trial = Trial(os.path.abspath(words[0]), library, files)
-        return 0 if all([*(is_robust(trial, command) for command in COMMANDS), is_told_byte_by_byte(trial)]) else 1
+        return 0 if all([*(is_robust(trial, command) for command in COMMANDS), is_told_byte_by_byte(trial),
+                         are_replaced_in_turn(trial)]) else 1
 
 
 if __name__ == "__main__":

@@ -18,7 +18,8 @@ from check import FILES, RULED_FILES, RULES, SCHEMA, write
 
 SIZE = 60_000_000
 DEPENDENCIES = ["step_pins", "pin_choices", "step_extent", "step_population", "population_typed", "step_exchange",
-                "express_types", "schema_types", "express_text", "express_syntax", "anyhow"]
+                "express_types", "schema_types", "schema_names", "express_text", "express_syntax",
+                "anyhow"]
 RUNS = 5
 
 

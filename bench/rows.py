@@ -4,7 +4,7 @@
     bench/rows.py
 
 Proves and builds bench/rows/main.rt.in in a temporary folder. It makes the rows of a file and lets go of all else but
-the texts of file and schema. The file has points, directions and placements without names by examples/geo.exp, some 32
+the texts of file and schema. The file has points, directions and placements without names by examples/geo.exp, some 35
 bytes an instance. Prints the bytes that a row takes, beside what the same program holds of a file without instances.
 """
 import os

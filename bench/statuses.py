@@ -144,8 +144,8 @@ DERIVED = {
 
 STATUSES = """Exit status:
   0  all is done
-  1  the file breaks its schema
-  2  the text of a file or a schema can't be read
+  1  a file breaks its schema, or --strict refuses the schema
+  2  a text can't be read, or a chosen name is no entity
   3  the words of the command line are wrong
   4  a device fails
   5  memory runs out
@@ -257,7 +257,7 @@ RUNS = [
     Run(["plain", "normal.stp"], 0, out=NORMAL),
     Run(["--version"], 0, out="stepmin 0.1.0\n"),
     Run(["-V"], 0, out="stepmin 0.1.0\n"),
-    Run(["--help"], 0, out="Reads STEP files...\n\n" + STATUSES),
+    Run(["--help"], 0, out="Checks STEP files...\n\n" + STATUSES),
     Run(["plain", "--help"], 0, out="Writes the normal text...\n"),
     Run(["plain", "cut.stp"], 2, err=f"file: E6 Expected at byte {len(CUT)}\n"),
     Run([], 3, err="error: ...\n"),

@@ -1,7 +1,7 @@
 //! The findings of a file by what its schema says.
 
 ghost use Rattle.std.specs.Prelude.{◌≡◌, true, IfOk};
-ghost use Rattle.express_syntax.specs.SchemaViews.{schema_of};
+ghost use Rattle.schema_names.specs.Schemas.{the_schema};
 ghost use Rattle.express_types.specs.Sound.{IsSound};
 ghost use Rattle.schema_types.specs.Made.{IsMade};
 ghost use Rattle.population_layouts.specs.Tables.{AreTables};
@@ -44,7 +44,7 @@ fn instance_findings(
 ) -> Result<Vec<Finding>, AllocError>
     requires made { IsMade types.now }
     requires tables { AreTables types.now tables.now }
-    ensures { IfOk result (λ fs. AreInstanceFindings (schema_of types.now.names.schema.now)
+    ensures { IfOk result (λ fs. AreInstanceFindings (the_schema types.now.names)
         (structure exchange.now) fs.items) }
 {
     let known = tables.knowledge(types);
@@ -74,7 +74,7 @@ fn found_without_rules<'r, 't, 's: 'r>(
     requires ready { AreReady graph.now.types graph.now.rules graph.now.domain tables.now
         settings.now }
     requires without { IsWithout graph.now.rules graph.now.domain }
-    ensures { IfOk result (λ x. AreFindings (schema_of graph.entry.now.types.names.schema.now)
+    ensures { IfOk result (λ x. AreFindings (the_schema graph.entry.now.types.names)
         (structure exchange.entry.now) x.findings.items x.rules.findings.items x.rules.unknown) }
 {
     schema_is_said(&graph.types, &graph.rules, &graph.domain, tables, settings);
@@ -96,7 +96,7 @@ fn found_by_population<'r, 't, 's: 'r, 'a: 'r>(
 ) -> Result<Found<'s>, AllocError>
     requires ready { AreReady graph.now.types graph.now.rules graph.now.domain tables.now
         settings.now }
-    ensures { IfOk result (λ x. AreFindings (schema_of graph.entry.now.types.names.schema.now)
+    ensures { IfOk result (λ x. AreFindings (the_schema graph.entry.now.types.names)
         (structure exchange.entry.now) x.findings.items x.rules.findings.items x.rules.unknown) }
 {
     schema_is_said(&graph.types, &graph.rules, &graph.domain, tables, settings);
@@ -123,7 +123,7 @@ fn found_by_tables<'r, 't, 's: 'r, 'a: 'r>(
 ) -> Result<Found<'s>, AllocError>
     requires sound { IsSound graph.now }
     requires tables { AreTables graph.now.types tables.now }
-    ensures { IfOk result (λ x. AreFindings (schema_of graph.entry.now.types.names.schema.now)
+    ensures { IfOk result (λ x. AreFindings (the_schema graph.entry.now.types.names)
         (structure exchange.entry.now) x.findings.items x.rules.findings.items x.rules.unknown) }
 {
     let settings = SettingTables::of(alloc, keys, &graph.types, &graph.rules.inverses, tables)?;
@@ -141,7 +141,7 @@ pub fn file_findings<'s>(
     exchange: &Exchange<'_>,
 ) -> Result<Found<'s>, AllocError>
     requires sound { IsSound graph.now }
-    ensures { IfOk result (λ x. AreFindings (schema_of graph.now.types.names.schema.now)
+    ensures { IfOk result (λ x. AreFindings (the_schema graph.now.types.names)
         (structure exchange.now) x.findings.items x.rules.findings.items x.rules.unknown) }
 {
     let tables = SchemaTables::of(alloc, &graph.types)?;

@@ -2,9 +2,9 @@
 //! attributes (ISO 10303-11, 9.1, 9.2.1.3 and 9.2.2).
 
 ghost use Rattle.std.specs.Prelude.{IfOk};
-ghost use Rattle.express_syntax.specs.SchemaViews.{schema_of};
 ghost use Rattle.conformance.specs.Conforming.{PopulationConforms};
 ghost use Rattle.conformance.specs.Said.{Said};
+ghost use Rattle.schema_names.specs.Schemas.{the_schema};
 ghost use Rattle.population_typed.specs.Seen.{population_seen};
 ghost use Rattle.check_findings.specs.Findings.{AreRuleFindings};
 ghost use Rattle.check_findings.specs.Ruling.{AreReady, AreDomainFindings};
@@ -38,7 +38,7 @@ pub fn schema_is_said(
     settings: &SettingTables<'_, '_>,
 )
     requires ready { AreReady types.now rules.now domain.now tables.now settings.now }
-    ensures { Said (schema_of types.now.names.schema.now) }
+    ensures { Said (the_schema types.now.names) }
 {
     let known = tables.knowledge(types);
     entities_are_said(&known);
@@ -58,10 +58,10 @@ fn domain_findings<'e, 'r, 't, 's: 'r, 'a: 'r>(
     requires ready { AreReady extents.now.population.now.types.now extents.now.rules.now domain.now
         tables.now settings.now }
     ensures { IfOk result (λ r.
-        (said : Said (schema_of extents.now.population.now.types.now.names.schema.now))
-        → PopulationConforms (schema_of extents.now.population.now.types.now.names.schema.now)
+        (said : Said (the_schema extents.now.population.now.types.now.names))
+        → PopulationConforms (the_schema extents.now.population.now.types.now.names)
         said.domain said.entities (population_seen extents.now.population.now)
-        → AreDomainFindings (schema_of extents.now.population.now.types.now.names.schema.now) said
+        → AreDomainFindings (the_schema extents.now.population.now.types.now.names) said
         (population_seen extents.now.population.now) r) }
 {
     let types = extents.population.types;
@@ -103,10 +103,10 @@ pub fn rule_findings<'e, 'r, 't, 's: 'r, 'a: 'r>(
     requires ready { AreReady extents.now.population.now.types.now extents.now.rules.now
         graph.now.domain tables.now settings.now }
     ensures { IfOk result (λ r.
-        (said : Said (schema_of extents.now.population.now.types.now.names.schema.now))
-        → PopulationConforms (schema_of extents.now.population.now.types.now.names.schema.now)
+        (said : Said (the_schema extents.now.population.now.types.now.names))
+        → PopulationConforms (the_schema extents.now.population.now.types.now.names)
         said.domain said.entities (population_seen extents.now.population.now)
-        → AreRuleFindings (schema_of extents.now.population.now.types.now.names.schema.now) said
+        → AreRuleFindings (the_schema extents.now.population.now.types.now.names) said
         (population_seen extents.now.population.now) r.findings.items r.unknown) }
 {
     let mut report = domain_findings(alloc, keys, &graph.domain, tables, settings, extents)?;
@@ -128,10 +128,10 @@ pub(crate) fn found_by_rules<'r, 't, 's: 'r, 'a: 'r>(
 ) -> Result<RuleReport<'s>, AllocError>
     requires ready { AreReady population.now.types.now graph.now.rules graph.now.domain tables.now
         settings.now }
-    ensures { IfOk result (λ r. (said : Said (schema_of population.now.types.now.names.schema.now))
-        → PopulationConforms (schema_of population.now.types.now.names.schema.now) said.domain
+    ensures { IfOk result (λ r. (said : Said (the_schema population.now.types.now.names))
+        → PopulationConforms (the_schema population.now.types.now.names) said.domain
         said.entities (population_seen population.now)
-        → AreRuleFindings (schema_of population.now.types.now.names.schema.now) said
+        → AreRuleFindings (the_schema population.now.types.now.names) said
         (population_seen population.now) r.findings.items r.unknown) }
 {
     let extents = Extents::build(alloc, population, &graph.rules)?;

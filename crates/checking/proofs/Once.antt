@@ -37,7 +37,7 @@ part-lines (u ∷ us) =
     flat_map-cons unchecked_line u us ∙ ap (λ l. unchecked_line u ++ l) (part-lines us)
     ∙ sym (flat_map-cons part_line (unchecked_of u) (unchecked_in us))
 
-parts-one : (s : Schema) (us vs : List Part) → ∥ AreUnchecked s (unchecked_in us) ∥₁ → ∥ AreUnchecked s (unchecked_in vs) ∥₁
+pub parts-one : (s : Schema) (us vs : List Part) → ∥ AreUnchecked s (unchecked_in us) ∥₁ → ∥ AreUnchecked s (unchecked_in vs) ∥₁
     → flat_map unchecked_line us ≡ flat_map unchecked_line vs
 parts-one s us vs h k =
     ∥∥₁_elim h (one-text _ _) (λ a. ∥∥₁_elim k (one-text _ _) (λ b.

@@ -16,7 +16,7 @@ SayTheSame (Err (faults.Text role kind place)) (Err (faults.Text other fault els
 SayTheSame r q = ⊥
 
 -- The answer is one to texts: no device failed, and memory sufficed.
-abbrev pub IsOfTexts : Result Report Fault → Type 0
+abbrev pub IsOfTexts : {A : Type 0} → Result A Fault → Type 0
 IsOfTexts (Err (faults.Device role written)) = ⊥
 IsOfTexts (Err faults.Memory) = ⊥
 IsOfTexts r = Unit {0}

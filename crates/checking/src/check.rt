@@ -1,7 +1,7 @@
 //! Checking a file against a schema.
 
 ghost use Rattle.std.specs.Prelude.{◌≡◌, ◌≤◌, ◌^◌, IfSome, Some, false, length};
-ghost use Rattle.express_syntax.specs.SchemaViews.{schema_of};
+ghost use Rattle.schema_names.specs.Schemas.{the_schema};
 ghost use Rattle.express_types.specs.Sound.{IsSound};
 ghost use Rattle.files.specs.declared.fault.Role.TheVariants as roles;
 ghost use Rattle.faults.specs.Devices.{FileFailsAs, is_device};
@@ -30,7 +30,7 @@ fn report<'s>(
 ) -> Result<Report<'s>, Fault<'s>>
     requires sound { IsSound graph }
     requires within { length bytes.now ≤ 2 ^ 40 }
-    ensures { FileAnswers (schema_of graph.entry.types.names.schema.now) bytes.now result }
+    ensures { FileAnswers (the_schema graph.entry.types.names) bytes.now result }
 {
     let exchange = match read_exchange(alloc, keys, bytes) {
         Ok(exchange) => exchange,
@@ -63,7 +63,7 @@ fn report_source<'s, S: Source>(
     file: &mut S,
 ) -> Result<Report<'s>, Fault<'s>>
     requires sound { IsSound graph }
-    ensures answers { SourceAnswers (schema_of graph.entry.types.names.schema.now)
+    ensures answers { SourceAnswers (the_schema graph.entry.types.names)
         (S.to_come file.old) result }
     ensures no_schema_fault { is_device roles.Schema result ≡ false }
     ensures file_fault { S.has_failed file.old ≡ false

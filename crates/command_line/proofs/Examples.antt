@@ -61,13 +61,23 @@ options_anywhere = (
   refl,
 )
 
-one_path_for_both : clash (codes "O") (codes "O") None ≡ Some (codes "error: OUT and CERT are the same\n")
+one_path_for_both : clash (codes "S") (codes "F") (codes "O") (codes "O") None
+    ≡ Some (codes "error: OUT and CERT are the same\n")
 one_path_for_both = refl
 
-empty_name : clash (codes "O") (codes "C") (Some (codes "P,,Q")) ≡ Some (codes "error: a name in NAMES is empty\n")
+output_in_place : clash (codes "S") (codes "F") (codes "F") (codes "C") None ≡ None
+output_in_place = refl
+
+certificate_in_place : clash (codes "S") (codes "F") (codes "O") (codes "F") None
+    ≡ Some (codes "error: FILE and CERT are the same\n")
+certificate_in_place = refl
+
+empty_name : clash (codes "S") (codes "F") (codes "O") (codes "C") (Some (codes "P,,Q"))
+    ≡ Some (codes "error: a name in NAMES is empty\n")
 empty_name = refl
 
-no_names : clash (codes "O") (codes "C") (Some []) ≡ Some (codes "error: a name in NAMES is empty\n")
+no_names : clash (codes "S") (codes "F") (codes "O") (codes "C") (Some [])
+    ≡ Some (codes "error: a name in NAMES is empty\n")
 no_names = refl
 
 strict_verify : fault_of stepmin_app (program ∷ codes "verify" ∷ codes "S" ∷ codes "F" ∷ codes "O" ∷ codes "C"

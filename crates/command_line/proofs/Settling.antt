@@ -64,10 +64,11 @@ given_once b words schema file output certificate merge strict all one fits othe
 -- what is said of what was given
 abbrev clash_of : Given → Option Text
 clash_of all =
-    clash (unwrap_or (slice_get all.operands 2) []) (unwrap_or (slice_get all.operands 3) []) all.merge
+    clash (unwrap_or (slice_get all.operands 0) []) (unwrap_or (slice_get all.operands 1) [])
+    (unwrap_or (slice_get all.operands 2) []) (unwrap_or (slice_get all.operands 3) []) all.merge
 
 pub same_clash : (s f o c : Text) (m : Option Text) (t : Bool) (s' f' o' c' : Text) (m' : Option Text) (t' : Bool)
-    → four s f o c m t ≡ four s' f' o' c' m' t' → clash o c m ≡ clash o' c' m'
+    → four s f o c m t ≡ four s' f' o' c' m' t' → clash s f o c m ≡ clash s' f' o' c' m'
 same_clash s f o c m t s' f' o' c' m' t' e = ap clash_of e
 
 -- ---- the values of a command that was met
@@ -185,7 +186,7 @@ settled_granted said request (Err refusal) s none = absurd (true≢false (ap is_
 pub said_once : (b : Bool) {words : List Text} {met : ArgMatches} (k : Merges b words met) (s f o c : Text)
     (m : Option Text) (t : Bool) → four s f o c m t ≡ k.all → (s' f' o' c' : Text) (m' : Option Text) (t' : Bool)
     → AreOfCommand words (command b) (four s' f' o' c' m' t') → Fitting b (four s' f' o' c' m' t')
-    → clash o c m ≡ clash o' c' m'
+    → clash s f o c m ≡ clash s' f' o' c' m'
 said_once b {words} k s f o c m t e s' f' o' c' m' t' of fits = same_clash s f o c m t s' f' o' c' m' t'
     (e ∙ sym (given_once b words s' f' o' c' m' t' k.all of fits k.of k.fits k.are))
 
@@ -202,7 +203,7 @@ some_said x e = true≢false (ap is_some e)
 
 said_or_not : (b : Bool) (words : List Text) (p q o c : Text) (m : Option Text) (s : Bool)
     → AreOfCommand words (command b) (four p q o c m s) → Fitting b (four p q o c m s) → (said : Option Text)
-    → clash o c m ≡ said → AsksAny words ⊎ AsksNothing words
+    → clash p q o c m ≡ said → AsksAny words ⊎ AsksNothing words
 said_or_not true words p q o c m s of fits None is = inl (asks_shrink p q o c m s (of, is))
 said_or_not false words p q o c m s of fits None is = inl (asks_verify p q o c m
     (subst (λ t. AreOfCommand words (codes "verify") (four p q o c m t)) (fits.1 refl) of, is))
@@ -230,7 +231,7 @@ merging_asks b words [] m s of fits are = absurd (omega (arith, are))
 merging_asks b words (p ∷ []) m s of fits are = absurd (omega (arith, are))
 merging_asks b words (p ∷ q ∷ []) m s of fits are = absurd (omega (arith, are))
 merging_asks b words (p ∷ q ∷ o ∷ []) m s of fits are = absurd (omega (arith, are))
-merging_asks b words (p ∷ q ∷ o ∷ c ∷ []) m s of fits are = said_or_not b words p q o c m s of fits (clash o c m) refl
+merging_asks b words (p ∷ q ∷ o ∷ c ∷ []) m s of fits are = said_or_not b words p q o c m s of fits (clash p q o c m) refl
 merging_asks b words (p ∷ q ∷ o ∷ c ∷ d ∷ rest) m s of fits are = absurd (omega (arith, are))
 
 pub any_or_nothing : (words : List Text) → AreTexts words → AsksAny words ⊎ AsksNothing words

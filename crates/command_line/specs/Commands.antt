@@ -91,24 +91,27 @@ abbrev pub has_empty_name : Option (List ℕ) → Bool
 has_empty_name None = false
 has_empty_name (Some names) = list_any (λ name. length name == 0) (pieces names)
 
--- What the program says of words that clap takes and that can't be meant so: one path is that of the output and of the
--- certificate, or a name is empty.
-abbrev pub clash : List ℕ → List ℕ → Option (List ℕ) → Option (List ℕ)
-clash output certificate merge =
+-- What the program says of words that clap takes and that can't be meant so: two of the paths are one, but that the
+-- output may have that of the file, which it replaces then, and what is only read may be one text; or a name is empty.
+abbrev pub clash : List ℕ → List ℕ → List ℕ → List ℕ → Option (List ℕ) → Option (List ℕ)
+clash schema file output certificate merge =
     if bytes_eq output certificate then Some (codes "error: OUT and CERT are the same\n")
-    else (if has_empty_name merge then Some (codes "error: a name in NAMES is empty\n") else None)
+    else (if bytes_eq schema output then Some (codes "error: SCHEMA and OUT are the same\n")
+    else (if bytes_eq schema certificate then Some (codes "error: SCHEMA and CERT are the same\n")
+    else (if bytes_eq file certificate then Some (codes "error: FILE and CERT are the same\n")
+    else (if has_empty_name merge then Some (codes "error: a name in NAMES is empty\n") else None))))
 
 -- The words ask for a smaller file at OUTPUT, and for its certificate at CERTIFICATE.
 abbrev pub AsksShrink : List (List ℕ) → List ℕ → List ℕ → List ℕ → List ℕ → Option (List ℕ) → Bool → Type 0
 AsksShrink words schema file output certificate merge strict =
     AreOfCommand words (codes "shrink") (four schema file output certificate merge strict)
-    × (clash output certificate merge ≡ None)
+    × (clash schema file output certificate merge ≡ None)
 
 -- The words ask whether this certificate is one of this file and of this output.
 abbrev pub AsksVerify : List (List ℕ) → List ℕ → List ℕ → List ℕ → List ℕ → Option (List ℕ) → Type 0
 AsksVerify words schema file output certificate merge =
     AreOfCommand words (codes "verify") (four schema file output certificate merge false)
-    × (clash output certificate merge ≡ None)
+    × (clash schema file output certificate merge ≡ None)
 
 -- They would ask for one of both, but for what the program says of them.
 abbrev pub AsksClashing : List (List ℕ) → List ℕ → Type 0
@@ -116,7 +119,7 @@ AsksClashing words said = (schema : List ℕ) × (file : List ℕ) × (output : 
     × (merge : Option (List ℕ)) × (strict : Bool)
     × (AreOfCommand words (codes "shrink") (four schema file output certificate merge strict)
     ⊎ AreOfCommand words (codes "verify") (four schema file output certificate merge false))
-    × (clash output certificate merge ≡ Some said)
+    × (clash schema file output certificate merge ≡ Some said)
 
 -- They ask for nothing.
 abbrev pub AsksNothing : List (List ℕ) → Type 0

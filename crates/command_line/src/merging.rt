@@ -46,9 +46,10 @@ pub struct ShrinkRequest<'p> {
     pub schema: &'p str,
     /// The path of the file that is read.
     pub file: &'p str,
-    /// The path of the smaller file, which may be that of the file that is read.
+    /// The path of the smaller file, which may be that of the file that is read, and isn't that of
+    /// the schema.
     pub output: &'p str,
-    /// The path of the certificate, which isn't that of the smaller file.
+    /// The path of the certificate, which is none of the others.
     pub certificate: &'p str,
     /// The names of entities whose instances may be merged, with a comma between two, none of them
     /// empty; or the usual ones.
@@ -64,9 +65,9 @@ pub struct VerifyRequest<'p> {
     pub schema: &'p str,
     /// The path of the file that was merged.
     pub file: &'p str,
-    /// The path of the smaller file.
+    /// The path of the smaller file, which isn't that of the schema.
     pub output: &'p str,
-    /// The path of the certificate, which isn't that of the smaller file.
+    /// The path of the certificate, which is none of the others.
     pub certificate: &'p str,
     /// The names of entities whose instances may be merged, with a comma between two, none of them
     /// empty; or the usual ones.
@@ -92,7 +93,7 @@ fn certificate<'a>(alloc: Global) -> Arg<'a>
     Arg::new(alloc, "CERT")
         .required(true)
         .action(ArgAction::Set)
-        .help("The certificate, which isn't OUT")
+        .help("The certificate, a file of its own")
 }
 
 // The option `--merge`.
@@ -104,7 +105,9 @@ fn merge<'a>(alloc: Global) -> Arg<'a>
         .long("merge")
         .value_name("NAMES")
         .action(ArgAction::Set)
-        .help("The entities whose instances may be merged, with commas between")
+        .help(
+            "The entities whose instances may be merged, with commas between; else the usual ones",
+        )
 }
 
 // The option `--strict`.
@@ -243,11 +246,27 @@ fn has_empty_name(merge: Option<&str>) -> bool
 }
 
 // What the program says of words that can't be meant so, if anything.
-pub(crate) fn clash(output: &str, certificate: &str, merge: Option<&str>) -> Option<&'static str>
-    ensures { text_of result ≡ clash output.now certificate.now (text_of merge.entry) }
+pub(crate) fn clash(
+    schema: &str,
+    file: &str,
+    output: &str,
+    certificate: &str,
+    merge: Option<&str>,
+) -> Option<&'static str>
+    ensures { text_of result
+        ≡ clash schema.now file.now output.now certificate.now (text_of merge.entry) }
 {
     if output == certificate {
         return Some("error: OUT and CERT are the same\n");
+    }
+    if schema == output {
+        return Some("error: SCHEMA and OUT are the same\n");
+    }
+    if schema == certificate {
+        return Some("error: SCHEMA and CERT are the same\n");
+    }
+    if file == certificate {
+        return Some("error: FILE and CERT are the same\n");
     }
     if has_empty_name(merge) {
         return Some("error: a name in NAMES is empty\n");

@@ -56,8 +56,8 @@ const VERSION: &str = "0.1.0";
 // What each exit status says, at the end of the help text.
 const STATUSES: &str = "Exit status:\n  \
     0  all is done\n  \
-    1  the file breaks its schema\n  \
-    2  the text of a file or a schema can't be read\n  \
+    1  a file breaks its schema, or --strict refuses the schema\n  \
+    2  a text can't be read, or a chosen name is no entity\n  \
     3  the words of the command line are wrong\n  \
     4  a device fails\n  \
     5  memory runs out\n  \
@@ -81,7 +81,7 @@ pub enum Request<'p> {
 pub enum Refusal {
     /// Help or the version was asked for: this is the text.
     Shown(String),
-    /// The words ask for nothing that there is: a text that says so, and how to ask.
+    /// The words ask for nothing that there is: a text that says so, and mostly how to ask.
     Usage(String),
     /// Memory ran out.
     Memory,
@@ -147,7 +147,7 @@ fn stepmin<'a>(alloc: Global) -> Result<Command<'a>, AllocError>
     let shrink = shrink(alloc)?;
     let verify = verify(alloc)?;
     Command::new(alloc, "stepmin")
-        .about("Reads STEP files (ISO 10303-21)")
+        .about("Checks STEP files (ISO 10303-21), and makes them smaller")
         .version(VERSION)
         .after_help(STATUSES)
         .subcommand_required(true)
@@ -243,8 +243,8 @@ pub fn unread_words(alloc: Global, error: &io::Error) -> Refusal
 }
 
 /// What the words ask for, the program's own name first. `Shown` comes for `--help`, `help` and
-/// `--version`, `Usage` where the words are no command, where OUT and CERT are the same text, or
-/// where a name behind `--merge` is empty, and `Memory` where memory runs out.
+/// `--version`; `Usage` where the words are no command, where OUT or CERT is SCHEMA, where CERT is
+/// FILE or OUT, or where a name behind `--merge` is empty; and `Memory` where memory runs out.
 pub fn read_words<'p>(alloc: Global, words: &'p [String]) -> Result<Request<'p>, Refusal>
     ensures asked { IfOk result (AskFor (texts words.now)) }
     ensures refused { IfErr result (CallFor (texts words.now)) }
@@ -273,12 +273,24 @@ pub fn read_words<'p>(alloc: Global, words: &'p [String]) -> Result<Request<'p>,
         return Ok(Request::Check(schema, file));
     }
     if let Some(asked) = shrink_in(&matches) {
-        let said = clash(asked.output, asked.certificate, asked.merge);
+        let said = clash(
+            asked.schema,
+            asked.file,
+            asked.output,
+            asked.certificate,
+            asked.merge,
+        );
         return settled(alloc, said, Request::Shrink(asked));
     }
     match verify_in(&matches) {
         Some(asked) => {
-            let said = clash(asked.output, asked.certificate, asked.merge);
+            let said = clash(
+                asked.schema,
+                asked.file,
+                asked.output,
+                asked.certificate,
+                asked.merge,
+            );
             settled(alloc, said, Request::Verify(asked))
         }
         // clap lets no such words pass.

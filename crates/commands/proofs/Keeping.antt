@@ -2,9 +2,9 @@
 use Rattle.std.proofs.Common.{◌≡◌, ◌∙◌, Bool, false, List, [], ℕ, Option, IfSome, inr, refl, sym, subst}
 use Rattle.conformance.specs.Choices.{Choice}
 use Rattle.command_line.specs.declared.usage.Request.{Request}
-use Rattle.files.specs.Stores.{HoldsWritten, Stored, stored}
+use Rattle.files.specs.Stores.{HoldsWritten, Stored, file_seen}
 use Rattle.commands.specs.CommandLines.{Does}
-use Rattle.commands.specs.Endings.{Output, output}
+use Rattle.commands.specs.Endings.{Output, output_seen}
 use Rattle.commands.specs.Merges.{MakesSmaller, RunsShrink}
 use Rattle.commands.specs.Runs.{RunsCheck}
 
@@ -28,27 +28,27 @@ module _ {S W : Type 0} (contents : S → List ℕ → Option (List ℕ)) (fails
       → ((y : List ℕ) → fails p y ≡ fails o y) → fil.contents ≡ contents p file → fil.fails ≡ fails p file
       → has_failed w ≡ false → IfSome (held w) (λ bytes. bytes ≡ []) → has_failed c ≡ false
       → IfSome (held c) (λ bytes. bytes ≡ [])
-      → RunsShrink choice strict sch fil (output held has_failed w) (output held has_failed w')
-      (output held has_failed c) (output held has_failed c') out out' err err' status
+      → RunsShrink choice strict sch fil (output_seen held has_failed w) (output_seen held has_failed w')
+      (output_seen held has_failed c) (output_seen held has_failed c') out out' err err' status
       → HoldsWritten (held w') (contents s smaller) (contents t smaller)
       → HoldsWritten (held c') (contents t certificate) (contents u certificate)
-      → MakesSmaller held has_failed choice strict (stored contents fails o schema) (stored contents fails o file)
+      → MakesSmaller held has_failed choice strict (file_seen contents fails o schema) (file_seen contents fails o file)
       (contents o smaller) (contents u smaller) (contents o certificate) (contents u certificate) out out' err err' status
   makes_smaller choice strict schema file sch fil w w' c c' out out' err err' status s_holds s_fails same f_holds f_fails
       w_fresh w_empty c_fresh c_empty runs w_kept c_kept = record {
-        made = output held has_failed w;
-        made' = output held has_failed w';
-        proof = output held has_failed c;
-        proof' = output held has_failed c';
+        made = output_seen held has_failed w;
+        made' = output_seen held has_failed w';
+        proof = output_seen held has_failed c;
+        proof' = output_seen held has_failed c';
         made_empty = record { fresh = w_fresh; nothing = w_empty; told = (λ tell. tell w) };
         proof_empty = record { fresh = c_fresh; nothing = c_empty; told = (λ tell. tell c) };
         made_stands = inr (w', refl);
         proof_stands = inr (c', refl);
-        runs = subst (λ (x : Stored). RunsShrink choice strict x (stored contents fails o file)
-            (output held has_failed w) (output held has_failed w') (output held has_failed c)
-            (output held has_failed c') out out' err err' status) schema_is
-            (subst (λ (x : Stored). RunsShrink choice strict sch x (output held has_failed w)
-            (output held has_failed w') (output held has_failed c) (output held has_failed c') out out' err err' status)
+        runs = subst (λ (x : Stored). RunsShrink choice strict x (file_seen contents fails o file)
+            (output_seen held has_failed w) (output_seen held has_failed w') (output_seen held has_failed c)
+            (output_seen held has_failed c') out out' err err' status) schema_is
+            (subst (λ (x : Stored). RunsShrink choice strict sch x (output_seen held has_failed w)
+            (output_seen held has_failed w') (output_seen held has_failed c) (output_seen held has_failed c') out out' err err' status)
             file_is runs);
         smaller_holds = subst (λ old. HoldsWritten (held w') old (contents u smaller)) (unread smaller)
             (subst (HoldsWritten (held w') (contents s smaller)) (sym (six smaller apart)) w_kept);
@@ -56,22 +56,22 @@ module _ {S W : Type 0} (contents : S → List ℕ → Option (List ℕ)) (fails
             (five certificate (λ is. apart (sym is)) ∙ unread certificate) c_kept;
       }
     where
-      schema_is : sch ≡ stored contents fails o schema
+      schema_is : sch ≡ file_seen contents fails o schema
       schema_is = λ i. record { contents = s_holds i; fails = s_fails i }
 
-      file_is : fil ≡ stored contents fails o file
+      file_is : fil ≡ file_seen contents fails o file
       file_is = λ i. record { contents = (f_holds ∙ one file) i; fails = (f_fails ∙ same file) i }
 
 -- What is told of a reader is what the store tells of its file, in the state that it is handed out in.
 module _ {S : Type 0} (contents : S → List ℕ → Option (List ℕ)) (fails : S → List ℕ → Option Bool) where
   pub is_stored : (o p : S) (file : List ℕ) (told : Stored) → ((y : List ℕ) → contents p y ≡ contents o y)
       → ((y : List ℕ) → fails p y ≡ fails o y) → told.contents ≡ contents p file → told.fails ≡ fails p file
-      → told ≡ stored contents fails o file
+      → told ≡ file_seen contents fails o file
   is_stored o p file told kept same holds failing =
       λ i. record { contents = (holds ∙ kept file) i; fails = (failing ∙ same file) i }
 
   pub is_stored_first : (o : S) (file : List ℕ) (told : Stored) → told.contents ≡ contents o file
-      → told.fails ≡ fails o file → told ≡ stored contents fails o file
+      → told.fails ≡ fails o file → told ≡ file_seen contents fails o file
   is_stored_first o file told holds failing = λ i. record { contents = holds i; fails = failing i }
 
 -- what is done for a request that is this one

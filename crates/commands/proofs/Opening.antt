@@ -7,6 +7,7 @@ use Rattle.command_line.specs.declared.usage.Request.{Request}
 use Rattle.command_line.specs.declared.usage.Request.TheVariants as requests
 use Rattle.files.specs.Stores.{Access, Opens}
 use Rattle.commands.specs.CommandLines.{OpensAsked, check_opens, plain_opens, shrink_opens, verify_opens}
+use Rattle.commands.specs.Endings.{Output}
 use Rattle.commands.specs.ComputedRequests.{OpensUnlessMemory, opened_by, proof_opens, smaller_opens}
 
 -- what is opened behind what was opened
@@ -28,35 +29,37 @@ module _ {S : Type 0} (opened : S → Option (List Access)) where
   opens_four o p q r s w x y z first second third fourth = opens_then (opened o) (opened q) (opened s)
       (w ∷ x ∷ []) (y ∷ z ∷ []) (opens_two o p q w x first second) (opens_two q r s y z third fourth)
 
-  -- .. and nothing behind them
-  pub opens_kept : (o p q r s t u : S) (w x y z : Access) → Opens (opened o) (opened p) (w ∷ [])
+  -- .. and what is kept
+  pub opens_six : (o p q r s t u : S) (w x y z a b : Access) → Opens (opened o) (opened p) (w ∷ [])
       → Opens (opened p) (opened q) (x ∷ []) → Opens (opened q) (opened r) (y ∷ [])
-      → Opens (opened r) (opened s) (z ∷ []) → opened t ≡ opened s → opened u ≡ opened t
-      → Opens (opened o) (opened u) (w ∷ x ∷ y ∷ z ∷ [])
-  opens_kept o p q r s t u w x y z first second third fourth same kept =
-      subst (λ m. Opens (opened o) m (w ∷ x ∷ y ∷ z ∷ [])) (sym (kept ∙ same))
-      (opens_four o p q r s w x y z first second third fourth)
+      → Opens (opened r) (opened s) (z ∷ []) → Opens (opened s) (opened t) (a ∷ [])
+      → Opens (opened t) (opened u) (b ∷ []) → Opens (opened o) (opened u) (w ∷ x ∷ y ∷ z ∷ a ∷ b ∷ [])
+  opens_six o p q r s t u w x y z a b first second third fourth fifth sixth =
+      opens_then (opened o) (opened s) (opened u) (w ∷ x ∷ y ∷ z ∷ []) (a ∷ b ∷ [])
+      (opens_four o p q r s w x y z first second third fourth) (opens_two s t u a b fifth sixth)
 
 -- what is opened for a request that is this one
-pub request_opens : (request is : Request) (old new : Option (List Access)) (status : ℕ) → is ≡ request
-    → OpensUnlessMemory old new (opened_by is) status → OpensUnlessMemory old new (opened_by request) status
-request_opens request is old new status same opens =
-    subst (λ asked. OpensUnlessMemory old new (opened_by asked) status) same opens
+pub request_opens : (request is : Request) (old new : Option (List Access)) (err err' : Output) (status : ℕ)
+    → is ≡ request → OpensUnlessMemory old new (opened_by is) err err' status
+    → OpensUnlessMemory old new (opened_by request) err err' status
+request_opens request is old new err err' status same opens =
+    subst (λ asked. OpensUnlessMemory old new (opened_by asked) err err' status) same opens
 
-pub asked_opens : (words : List (List ℕ)) (request : Request) (old new : Option (List Access)) (status : ℕ)
-    → AskFor words request → OpensUnlessMemory old new (opened_by request) status → OpensAsked words old new status
-asked_opens words request old new status asks (inr none) = inr (none.0, inr none.1)
-asked_opens words (requests.Plain path) old new status asks (inl opens) =
+pub asked_opens : (words : List (List ℕ)) (request : Request) (old new : Option (List Access)) (err err' : Output)
+    (status : ℕ) → AskFor words request → OpensUnlessMemory old new (opened_by request) err err' status
+    → OpensAsked words old new err err' status
+asked_opens words request old new err err' status asks (inr none) = inr (none.0, inr none.1)
+asked_opens words (requests.Plain path) old new err err' status asks (inl opens) =
     inl (opened_by (requests.Plain path), plain_opens path.now asks, opens)
-asked_opens words (requests.Check schema file) old new status asks (inl opens) =
+asked_opens words (requests.Check schema file) old new err err' status asks (inl opens) =
     inl (opened_by (requests.Check schema file), check_opens schema.now file.now asks, opens)
-asked_opens words (requests.Shrink asked) old new status asks (inl opens) = inl (
+asked_opens words (requests.Shrink asked) old new err err' status asks (inl opens) = inl (
   smaller_opens asked,
   shrink_opens asked.schema.now asked.file.now asked.output.now asked.certificate.now (text_of asked.merge)
       asked.strict asks,
   opens,
 )
-asked_opens words (requests.Verify asked) old new status asks (inl opens) = inl (
+asked_opens words (requests.Verify asked) old new err err' status asks (inl opens) = inl (
   proof_opens asked,
   verify_opens asked.schema.now asked.file.now asked.output.now asked.certificate.now (text_of asked.merge) asks,
   opens,

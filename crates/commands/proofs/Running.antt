@@ -96,7 +96,7 @@ apart_asked words (requests.Plain path) asks = tt
 apart_asked words (requests.Check schema file) asks = tt
 apart_asked words (requests.Verify asked) asks = tt
 apart_asked words (requests.Shrink asked) asks =
-    clash_apart asked.output.now asked.certificate.now (text_of asked.merge) asks.1
+    clash_apart asked.schema.now asked.file.now asked.output.now asked.certificate.now (text_of asked.merge) asks.1
 
 -- ---- what was refused
 
@@ -139,24 +139,23 @@ pub record IsGranted (words : List Text) (refusal : Refusal) : Type 0 where
   pub shrink : (s f o c : Text) (m : Option Text) (t : Bool) → AsksShrink words s f o c m t → refusal ≡ Memory
   pub verify : (s f o c : Text) (m : Option Text) → AsksVerify words s f o c m → refusal ≡ Memory
 
-memory_status : (refusal : Refusal) (out out' err err' : Output) (status : ℕ) → refusal ≡ Memory
-    → Refuses refusal out out' err err' status → IsWantOfMemory status
-memory_status refusal out out' err err' status is refuses =
-    let r = subst (λ m. Refuses m out out' err err' status) is refuses in
-    status_printed err err' (line_of faults.Memory) 5 status r.1
+memory_told : (refusal : Refusal) (out out' err err' : Output) (status : ℕ) → refusal ≡ Memory
+    → Refuses refusal out out' err err' status → IsWantOfMemory err err' status
+memory_told refusal out out' err err' status is refuses =
+    (subst (λ m. Refuses m out out' err err' status) is refuses).1
 
 -- no file was opened, and why
 pub refused_opens : (words : List Text) → Asks words → (refusal : Refusal) → IsGranted words refusal
     → (out out' err err' : Output) (status : ℕ) → Refuses refusal out out' err err' status
-    → AsksNothing words ⊎ IsWantOfMemory status
+    → AsksNothing words ⊎ IsWantOfMemory err err' status
 refused_opens words (for_plain path asks) refusal granted out out' err err' status r =
-    inr (memory_status refusal out out' err err' status (granted.plain path asks) r)
+    inr (memory_told refusal out out' err err' status (granted.plain path asks) r)
 refused_opens words (for_check schema file asks) refusal granted out out' err err' status r =
-    inr (memory_status refusal out out' err err' status (granted.check schema file asks) r)
+    inr (memory_told refusal out out' err err' status (granted.check schema file asks) r)
 refused_opens words (for_shrink s f o c m t asks) refusal granted out out' err err' status r =
-    inr (memory_status refusal out out' err err' status (granted.shrink s f o c m t asks) r)
+    inr (memory_told refusal out out' err err' status (granted.shrink s f o c m t asks) r)
 refused_opens words (for_verify s f o c m asks) refusal granted out out' err err' status r =
-    inr (memory_status refusal out out' err err' status (granted.verify s f o c m asks) r)
+    inr (memory_told refusal out out' err err' status (granted.verify s f o c m asks) r)
 refused_opens words (for_nothing none) refusal granted out out' err err' status r = inl none
 
 module _ {W : Type 0} (held : W → Option (List ℕ)) (has_failed : W → Bool) (words : List Text) (files : List ℕ → Stored)

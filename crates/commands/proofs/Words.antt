@@ -57,11 +57,11 @@ merged_once b words s f o c s' f' o' c' m m' t t' x fits y fits_too =
     )
 
 -- what can be meant has two paths
-pub clash_apart : (output certificate : Text) (merge : Option Text) → clash output certificate merge ≡ None
-    → output ≡ certificate → ⊥
-clash_apart output certificate merge none same = some_none (sym clashes ∙ none)
+pub clash_apart : (schema file output certificate : Text) (merge : Option Text)
+    → clash schema file output certificate merge ≡ None → output ≡ certificate → ⊥
+clash_apart schema file output certificate merge none same = some_none (sym clashes ∙ none)
   where
-    clashes : clash output certificate merge ≡ Some (codes "error: OUT and CERT are the same\n")
+    clashes : clash schema file output certificate merge ≡ Some (codes "error: OUT and CERT are the same\n")
     clashes = rw (same, (bytes_eq-Decides certificate certificate).1 refl) refl
 
     some_none : Some (codes "error: OUT and CERT are the same\n") ≡ None → ⊥
@@ -79,11 +79,12 @@ pub data Asks (words : List Text) : Type 0 where
   for_nothing : AsksNothing words → Asks words
 
 -- what can't be meant
-module _ (words : List Text) (s f o c : Text) (m : Option Text) (said : Text) (clashes : clash o c m ≡ Some said) where
-  another_clash : (o' c' : Text) (m' : Option Text) → o ≡ o' → c ≡ c' → m ≡ m' → clash o' c' m' ≡ None → ⊥
-  another_clash o' c' m' same_o same_c same_m none =
-      let same : clash o c m ≡ clash o' c' m' =
-      ap (λ x. clash x c m) same_o ∙ ap (λ x. clash o' x m) same_c ∙ ap (λ x. clash o' c' x) same_m in
+module _ (words : List Text) (s f o c : Text) (m : Option Text) (said : Text) (clashes : clash s f o c m ≡ Some said) where
+  another_clash : (s' f' o' c' : Text) (m' : Option Text) → s ≡ s' → f ≡ f' → o ≡ o' → c ≡ c' → m ≡ m'
+      → clash s' f' o' c' m' ≡ None → ⊥
+  another_clash s' f' o' c' m' same_s same_f same_o same_c same_m none =
+      let same : clash s f o c m ≡ clash s' f' o' c' m' =
+      λ i. clash (same_s i) (same_f i) (same_o i) (same_c i) (same_m i) in
       some_none (sym clashes ∙ same ∙ none)
     where
       some_none : Some said ≡ None → ⊥
@@ -96,7 +97,7 @@ module _ (words : List Text) (s f o c : Text) (m : Option Text) (said : Text) (c
         word),
     (λ s' f' o' c' m' t' asks. let once = merged_once true words s f o c s' f' o' c' m m' t t' of
         (λ e. absurd (true≢false e)) asks.0 (λ e. absurd (true≢false e)) in
-        another_clash o' c' m' once.2 once.3 once.4 asks.1),
+        another_clash s' f' o' c' m' once.0 once.1 once.2 once.3 once.4 asks.1),
     (λ s' f' o' c' m' asks. apart words (codes "verify") (codes "shrink") refl refl
         (given_word words (codes "verify") (four s' f' o' c' m' false) asks.0) word),
   )
@@ -113,7 +114,7 @@ module _ (words : List Text) (s f o c : Text) (m : Option Text) (said : Text) (c
         (given_word words (codes "shrink") (four s' f' o' c' m' t') asks.0) word),
     (λ s' f' o' c' m' asks. let once = merged_once false words s f o c s' f' o' c' m m' false false of (λ e. refl)
         asks.0 (λ e. refl) in
-        another_clash o' c' m' once.2 once.3 once.4 asks.1),
+        another_clash s' f' o' c' m' once.0 once.1 once.2 once.3 once.4 asks.1),
   )
     where
       word : word_of words ≡ codes "verify"
@@ -128,14 +129,14 @@ unstrict words s f o c m strict of none = subst (λ t. AreOfCommand words (codes
 -- four operands are given
 four_asked : (b : Bool) (words : List Text) (s f o c : Text) (m : Option Text) (strict : Bool)
     → AreOfCommand words (command b) (four s f o c m strict) → (b ≡ false → strict ≡ false) → Asks words
-four_asked true words s f o c m strict of fits = go (clash o c m) refl
+four_asked true words s f o c m strict of fits = go (clash s f o c m) refl
   where
-    go : (said : Option Text) → clash o c m ≡ said → Asks words
+    go : (said : Option Text) → clash s f o c m ≡ said → Asks words
     go None none = for_shrink s f o c m strict (of, none)
     go (Some said) is = for_nothing (shrink_clash words s f o c m said is strict of)
-four_asked false words s f o c m strict of fits = go (clash o c m) refl
+four_asked false words s f o c m strict of fits = go (clash s f o c m) refl
   where
-    go : (said : Option Text) → clash o c m ≡ said → Asks words
+    go : (said : Option Text) → clash s f o c m ≡ said → Asks words
     go None none = for_verify s f o c m (unstrict words s f o c m strict of (fits refl), none)
     go (Some said) is =
         for_nothing (verify_clash words s f o c m said is (unstrict words s f o c m strict of (fits refl)))

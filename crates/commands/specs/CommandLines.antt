@@ -1,19 +1,21 @@
 -- What a run of the command line comes to.
-use Rattle.std.specs.Prelude.{◌≡◌, ◌⊎◌, ℕ, List, [], ◌∷◌, Option, Some, Bool, true, false}
+use Rattle.std.specs.Prelude.{◌≡◌, ◌⊎◌, ℕ, List, [], ◌∷◌, Option, Some, Bool, true, false, Err}
 use Rattle.command_line.specs.Commands.{AsksCheck, AsksNothing, AsksPlain, AsksShrink, AsksVerify}
 use Rattle.command_line.specs.AskedMerges.{text_of}
 use Rattle.command_line.specs.Requests.{CallFor}
 use Rattle.command_line.specs.declared.usage.Request.{Request}
 use Rattle.command_line.specs.declared.usage.Request.TheVariants as requests
 use Rattle.command_line.specs.declared.usage.Refusal.{Refusal}
-use Rattle.files.specs.Stores.{Access, Opens, Stored, to_read, to_write}
-use Rattle.commands.specs.Endings.{Output}
+use Rattle.files.specs.Stores.{Access, Opens, Stored, to_keep, to_read, to_write}
+use Rattle.files.specs.declared.fault.FileFault.TheVariants.{Memory}
+use Rattle.commands.specs.Endings.{Ends, Output}
 use Rattle.commands.specs.Merges.{MakesSmaller, asked_choice}
 use Rattle.commands.specs.Runs.{Refuses, RunsCheck, RunsPlain}
 use Rattle.commands.specs.Verifies.{RunsVerify}
 
--- What is asked for was done, in a store of these files, which hold this behind it, and of writers that hold this, and
--- of which this tells whether they have failed.
+-- What is asked for was done, in a store of `files`. Behind it each file `holds` what stands there then; a writer of the
+-- store has `held` what it was given, and tells whether it `has_failed`. `out` and `err` are the outputs before it, `out'`
+-- and `err'` behind it.
 abbrev pub Does : {W : Type 0} → (W → Option (List ℕ)) → (W → Bool) → Request → (List ℕ → Stored)
     → (List ℕ → Option (List ℕ)) → Output → Output → Output → Output → ℕ → Type 0
 Does held has_failed (requests.Plain path) files holds out out' err err' status =
@@ -114,24 +116,26 @@ AsksToWrite words path = (schema : List ℕ) × (file : List ℕ) × (output : L
     × (merge : Option (List ℕ)) × (strict : Bool) × AsksShrink words schema file output certificate merge strict
     × ((path ≡ output) ⊎ (path ≡ certificate))
 
--- The words ask for what opens these files, in this order.
+-- The words ask for what opens these files, and keeps those that it writes, in this order.
 pub data AskToOpen (words : List (List ℕ)) : List Access → Type 0 where
   plain_opens : (path : List ℕ) → AsksPlain words path → AskToOpen words (to_read path ∷ [])
   check_opens : (schema file : List ℕ) → AsksCheck words schema file
       → AskToOpen words (to_read schema ∷ to_read file ∷ [])
   shrink_opens : (schema file output certificate : List ℕ) (merge : Option (List ℕ)) (strict : Bool)
       → AsksShrink words schema file output certificate merge strict
-      → AskToOpen words (to_read schema ∷ to_read file ∷ to_write output ∷ to_write certificate ∷ [])
+      → AskToOpen words (to_read schema ∷ to_read file ∷ to_write output ∷ to_write certificate ∷ to_keep output
+      ∷ to_keep certificate ∷ [])
   verify_opens : (schema file output certificate : List ℕ) (merge : Option (List ℕ))
       → AsksVerify words schema file output certificate merge
       → AskToOpen words (to_read schema ∷ to_read file ∷ to_read output ∷ to_read certificate ∷ [])
 
--- Memory ran out, or the error output failed at the line that says so.
-abbrev pub IsWantOfMemory : ℕ → Type 0
-IsWantOfMemory status = (status ≡ 5) ⊎ (status ≡ 4)
+-- Memory ran out, and that was said on the error output.
+abbrev pub IsWantOfMemory : Output → Output → ℕ → Type 0
+IsWantOfMemory err err' status = Ends (Err Memory) err err' status
 
--- The files that the words ask for were opened, each once, in the order of the words; or none, where they ask for none, or
--- memory ran out before.
-abbrev pub OpensAsked : List (List ℕ) → Option (List Access) → Option (List Access) → ℕ → Type 0
-OpensAsked words old new status = ((files : List Access) × AskToOpen words files × Opens old new files)
-    ⊎ ((new ≡ old) × (AsksNothing words ⊎ IsWantOfMemory status))
+-- The files that the words ask for were opened, each once, in the order of the words, and behind that those to be written
+-- were kept, the output first, whether or not anything was written; or none, where the words ask for none, or memory ran
+-- out before.
+abbrev pub OpensAsked : List (List ℕ) → Option (List Access) → Option (List Access) → Output → Output → ℕ → Type 0
+OpensAsked words old new err err' status = ((files : List Access) × AskToOpen words files × Opens old new files)
+    ⊎ ((new ≡ old) × (AsksNothing words ⊎ IsWantOfMemory err err' status))

@@ -4,8 +4,9 @@ use Rattle.command_line.specs.declared.merging.ShrinkRequest.{ShrinkRequest}
 use Rattle.command_line.specs.declared.merging.VerifyRequest.{VerifyRequest}
 use Rattle.command_line.specs.declared.usage.Request.{Request}
 use Rattle.command_line.specs.declared.usage.Request.TheVariants.{Check, Plain, Shrink, Verify}
-use Rattle.files.specs.Stores.{Access, Opens, to_read, to_write}
+use Rattle.files.specs.Stores.{Access, Opens, to_keep, to_read, to_write}
 use Rattle.commands.specs.CommandLines.{IsWantOfMemory}
+use Rattle.commands.specs.Endings.{Output}
 
 -- its smaller file isn't its certificate
 abbrev pub IsApart : Request → Type 0
@@ -17,10 +18,11 @@ abbrev pub IsWritten : Request → List ℕ → Type 0
 IsWritten (Shrink asked) path = (path ≡ asked.output.now) ⊎ (path ≡ asked.certificate.now)
 IsWritten request path = ⊥
 
--- the files that are opened for it, in turn
+-- the files that are opened and kept for it, in turn
 abbrev pub smaller_opens : ShrinkRequest → List Access
 smaller_opens asked =
-    to_read asked.schema.now ∷ to_read asked.file.now ∷ to_write asked.output.now ∷ to_write asked.certificate.now ∷ []
+    to_read asked.schema.now ∷ to_read asked.file.now ∷ to_write asked.output.now ∷ to_write asked.certificate.now
+    ∷ to_keep asked.output.now ∷ to_keep asked.certificate.now ∷ []
 
 abbrev pub proof_opens : VerifyRequest → List Access
 proof_opens asked =
@@ -33,5 +35,5 @@ opened_by (Shrink asked) = smaller_opens asked
 opened_by (Verify asked) = proof_opens asked
 
 -- these were opened, or none, where memory ran out before
-abbrev pub OpensUnlessMemory : Option (List Access) → Option (List Access) → List Access → ℕ → Type 0
-OpensUnlessMemory old new files status = Opens old new files ⊎ ((new ≡ old) × IsWantOfMemory status)
+abbrev pub OpensUnlessMemory : Option (List Access) → Option (List Access) → List Access → Output → Output → ℕ → Type 0
+OpensUnlessMemory old new files err err' status = Opens old new files ⊎ ((new ≡ old) × IsWantOfMemory err err' status)

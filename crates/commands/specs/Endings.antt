@@ -14,8 +14,9 @@ pub record Output : Type 0 where
   pub held : Option (List ℕ)
   pub has_failed : Bool
 
-abbrev pub output : {S : Type 0} → (S → Option (List ℕ)) → (S → Bool) → S → Output
-output held has_failed sink = record { held = held sink; has_failed = has_failed sink }
+-- what is seen of an output
+abbrev pub output_seen : {S : Type 0} → (S → Option (List ℕ)) → (S → Bool) → S → Output
+output_seen held has_failed sink = record { held = held sink; has_failed = has_failed sink }
 
 -- A front of the text went out.
 abbrev pub AppendsFront : Option (List ℕ) → Option (List ℕ) → List ℕ → Type 0

@@ -9,7 +9,7 @@ use Rattle.faults.specs.Devices.{FileFailsAs, SchemaFailsAs, is_device}
 use Rattle.faults.specs.declared.fault.Fault.{Fault}
 use Rattle.shrinking.specs.Shrinking.{Shrinks, Written}
 use Rattle.shrinking.specs.declared.summary.Summary.{Summary}
-use Rattle.commands.specs.Endings.{Ending, EndsAs, Output, on_output, output}
+use Rattle.commands.specs.Endings.{Ending, EndsAs, Output, on_output, output_seen}
 use Rattle.commands.specs.Faults.{fault_ending}
 
 -- the entities that words choose: the usual ones, or those of NAMES
@@ -53,7 +53,7 @@ pub record IsEmpty {W : Type 0} (held : W → Option (List ℕ)) (made : Output)
 -- It stands behind a run as one of these writers does, or as it stood before.
 abbrev pub StandsAsWriter : {W : Type 0} → (W → Option (List ℕ)) → (W → Bool) → Output → Output → Type 0
 StandsAsWriter {W} held has_failed made made' = (made' ≡ made)
-    ⊎ ((writer : W) × (made' ≡ output held has_failed writer))
+    ⊎ ((writer : W) × (made' ≡ output_seen held has_failed writer))
 
 -- The run merged a file, and a store kept what was written: by what the paths of the smaller file and of the certificate
 -- held before the run, and hold behind it. What was written, and whether that failed, is told by writers of the store.

@@ -1,8 +1,8 @@
 //! Whether a file conforms to a schema.
 
 ghost use Rattle.std.specs.Prelude.{◌≡◌, ◌⊎◌, false, true};
-ghost use Rattle.files.specs.Stores.{told_by};
-ghost use Rattle.commands.specs.Endings.{output};
+ghost use Rattle.files.specs.Stores.{reader_seen};
+ghost use Rattle.commands.specs.Endings.{output_seen};
 ghost use Rattle.commands.specs.Runs.{RunsCheck};
 ghost use Rattle.commands.specs.Statuses.{report_status};
 
@@ -44,9 +44,9 @@ pub fn run_check<S: Source, F: Source, O: Sink, E: Sink>(
     err: &mut E,
 ) -> u8
     ensures runs { RunsCheck
-        (told_by S.to_come S.fails schema.old) (told_by F.to_come F.fails file.old)
-        (output O.held O.has_failed out.old) (output O.held O.has_failed out.new)
-        (output E.held E.has_failed err.old) (output E.held E.has_failed err.new) result }
+        (reader_seen S.to_come S.fails schema.old) (reader_seen F.to_come F.fails file.old)
+        (output_seen O.held O.has_failed out.old) (output_seen O.held O.has_failed out.new)
+        (output_seen E.held E.has_failed err.old) (output_seen E.held E.has_failed err.new) result }
     // A device's status comes only where one fails in the run, if none had before.
     ensures device { result ≡ 4
         → S.has_failed schema.old ≡ false → F.has_failed file.old ≡ false

@@ -5,7 +5,7 @@ ghost use Rattle.std.specs.Io.KnownBytes.{Keeps};
 ghost use Rattle.command_line.specs.Commands.{AsksNothing, texts};
 ghost use Rattle.command_line.specs.AskedMerges.{text_of};
 ghost use Rattle.files.specs.Lines.{line_of};
-ghost use Rattle.files.specs.Stores.{Opens, stored};
+ghost use Rattle.files.specs.Stores.{Opens, file_seen};
 ghost use Rattle.files.specs.declared.fault.FileFault.TheVariants.{Device};
 ghost use Rattle.files.specs.declared.fault.Role.TheVariants.{File};
 ghost use Rattle.pin_choices.specs.Chosen.{choice_of};
@@ -18,7 +18,7 @@ ghost use Rattle.commands.specs.ComputedRequests.{
   proof_opens,
   smaller_opens,
 };
-ghost use Rattle.commands.specs.Endings.{Prints, output};
+ghost use Rattle.commands.specs.Endings.{Prints, output_seen};
 ghost use Rattle.commands.specs.Merges.{MakesSmaller, asked_choice};
 ghost use Rattle.commands.specs.Runs.{Refuses};
 ghost use Rattle.commands.specs.Statuses.{IsStatus};
@@ -43,8 +43,8 @@ use std::hash::RandomState;
 pub fn refuse<O: Sink, E: Sink>(refusal: Refusal, out: &mut O, err: &mut E) -> u8
     ensures status { IsStatus result }
     ensures refuses { Refuses refusal
-        (output O.held O.has_failed out.old) (output O.held O.has_failed out.new)
-        (output E.held E.has_failed err.old) (output E.held E.has_failed err.new) result }
+        (output_seen O.held O.has_failed out.old) (output_seen O.held O.has_failed out.new)
+        (output_seen E.held E.has_failed err.old) (output_seen E.held E.has_failed err.new) result }
     // Nothing goes out but where a text was asked for, and where a device fails.
     ensures unwritten { (result ≡ 0) ⊎ (result ≡ 4) ⊎ Keeps (O.held out.old) (O.held out.new) }
     // Where an output fails, the status says so.
@@ -61,7 +61,7 @@ pub fn refuse<O: Sink, E: Sink>(refusal: Refusal, out: &mut O, err: &mut E) -> u
 /// Prints that no file can be read, and answers the status: where the system gives no keys by which
 /// names can be hashed.
 pub fn refuse_to_read<E: Sink>(err: &mut E) -> u8
-    ensures { Prints (output E.held E.has_failed err.old) (output E.held E.has_failed err.new)
+    ensures { Prints (output_seen E.held E.has_failed err.old) (output_seen E.held E.has_failed err.new)
         (line_of (Device File 0)) 4 result }
 {
     report(
@@ -98,13 +98,13 @@ fn shrink_by<'p, S: Store<'p>, O: Sink, E: Sink>(
     requires apart { asked.output.now ≡ asked.certificate.now → ⊥ }
     ensures makes { MakesSmaller S.Writer.held S.Writer.has_failed
         (choice_of choice.now) choice.now.strict
-        (stored S.contents S.fails store.old asked.entry.schema.now)
-        (stored S.contents S.fails store.old asked.entry.file.now)
+        (file_seen S.contents S.fails store.old asked.entry.schema.now)
+        (file_seen S.contents S.fails store.old asked.entry.file.now)
         (S.contents store.old asked.entry.output.now) (S.contents store.new asked.entry.output.now)
         (S.contents store.old asked.entry.certificate.now)
         (S.contents store.new asked.entry.certificate.now)
-        (output O.held O.has_failed out.old) (output O.held O.has_failed out.new)
-        (output E.held E.has_failed err.old) (output E.held E.has_failed err.new) result }
+        (output_seen O.held O.has_failed out.old) (output_seen O.held O.has_failed out.new)
+        (output_seen E.held E.has_failed err.old) (output_seen E.held E.has_failed err.new) result }
     ensures opened { Opens (S.opened store.old) (S.opened store.new) (smaller_opens asked.entry) }
     ensures kept { (path : List ℕ) → (path ≡ asked.entry.output.now → ⊥)
         → (path ≡ asked.entry.certificate.now → ⊥)
@@ -142,15 +142,16 @@ fn shrink_asked<'p, S: Store<'p>, O: Sink, E: Sink>(
     requires apart { asked.output.now ≡ asked.certificate.now → ⊥ }
     ensures makes { MakesSmaller S.Writer.held S.Writer.has_failed
         (asked_choice (text_of asked.entry.merge)) asked.entry.strict
-        (stored S.contents S.fails store.old asked.entry.schema.now)
-        (stored S.contents S.fails store.old asked.entry.file.now)
+        (file_seen S.contents S.fails store.old asked.entry.schema.now)
+        (file_seen S.contents S.fails store.old asked.entry.file.now)
         (S.contents store.old asked.entry.output.now) (S.contents store.new asked.entry.output.now)
         (S.contents store.old asked.entry.certificate.now)
         (S.contents store.new asked.entry.certificate.now)
-        (output O.held O.has_failed out.old) (output O.held O.has_failed out.new)
-        (output E.held E.has_failed err.old) (output E.held E.has_failed err.new) result }
+        (output_seen O.held O.has_failed out.old) (output_seen O.held O.has_failed out.new)
+        (output_seen E.held E.has_failed err.old) (output_seen E.held E.has_failed err.new) result }
     ensures opened { OpensUnlessMemory (S.opened store.old) (S.opened store.new)
-        (smaller_opens asked.entry) result }
+        (smaller_opens asked.entry) (output_seen E.held E.has_failed err.old)
+        (output_seen E.held E.has_failed err.new) result }
     ensures kept { (path : List ℕ) → (path ≡ asked.entry.output.now → ⊥)
         → (path ≡ asked.entry.certificate.now → ⊥)
         → S.contents store.new path ≡ S.contents store.old path }
@@ -171,14 +172,15 @@ fn verify_asked<'p, S: Store<'p>, O: Sink, E: Sink>(
     err: &mut E,
 ) -> u8
     ensures verifies { RunsVerify (asked_choice (text_of asked.entry.merge))
-        (stored S.contents S.fails store.old asked.entry.schema.now)
-        (stored S.contents S.fails store.old asked.entry.file.now)
-        (stored S.contents S.fails store.old asked.entry.output.now)
-        (stored S.contents S.fails store.old asked.entry.certificate.now)
-        (output O.held O.has_failed out.old) (output O.held O.has_failed out.new)
-        (output E.held E.has_failed err.old) (output E.held E.has_failed err.new) result }
+        (file_seen S.contents S.fails store.old asked.entry.schema.now)
+        (file_seen S.contents S.fails store.old asked.entry.file.now)
+        (file_seen S.contents S.fails store.old asked.entry.output.now)
+        (file_seen S.contents S.fails store.old asked.entry.certificate.now)
+        (output_seen O.held O.has_failed out.old) (output_seen O.held O.has_failed out.new)
+        (output_seen E.held E.has_failed err.old) (output_seen E.held E.has_failed err.new) result }
     ensures opened { OpensUnlessMemory (S.opened store.old) (S.opened store.new)
-        (proof_opens asked.entry) result }
+        (proof_opens asked.entry) (output_seen E.held E.has_failed err.old)
+        (output_seen E.held E.has_failed err.new) result }
     ensures kept { (path : List ℕ) → S.contents store.new path ≡ S.contents store.old path }
 {
     let choice = match chosen(alloc, asked.merge, false) {
@@ -213,11 +215,12 @@ fn run<'p, S: Store<'p>, O: Sink, E: Sink>(
 ) -> u8
     requires apart { IsApart request }
     ensures does { Does S.Writer.held S.Writer.has_failed request.entry
-        (stored S.contents S.fails store.old) (S.contents store.new)
-        (output O.held O.has_failed out.old) (output O.held O.has_failed out.new)
-        (output E.held E.has_failed err.old) (output E.held E.has_failed err.new) result }
+        (file_seen S.contents S.fails store.old) (S.contents store.new)
+        (output_seen O.held O.has_failed out.old) (output_seen O.held O.has_failed out.new)
+        (output_seen E.held E.has_failed err.old) (output_seen E.held E.has_failed err.new) result }
     ensures opened { OpensUnlessMemory (S.opened store.old) (S.opened store.new)
-        (opened_by request.entry) result }
+        (opened_by request.entry) (output_seen E.held E.has_failed err.old)
+        (output_seen E.held E.has_failed err.new) result }
     // No other file changes.
     ensures kept { (path : List ℕ) → (IsWritten request.entry path → ⊥)
         → S.contents store.new path ≡ S.contents store.old path }
@@ -260,15 +263,17 @@ pub fn run_command<'p, S: Store<'p>, O: Sink, E: Sink>(
     err: &mut E,
 ) -> u8
     ensures runs { Runs S.Writer.held S.Writer.has_failed (texts words.now)
-        (stored S.contents S.fails store.old) (S.contents store.new)
-        (output O.held O.has_failed out.old) (output O.held O.has_failed out.new)
-        (output E.held E.has_failed err.old) (output E.held E.has_failed err.new) result }
+        (file_seen S.contents S.fails store.old) (S.contents store.new)
+        (output_seen O.held O.has_failed out.old) (output_seen O.held O.has_failed out.new)
+        (output_seen E.held E.has_failed err.old) (output_seen E.held E.has_failed err.new) result }
     // No other file changes than those that a smaller one is asked for by.
     ensures kept { (path : List ℕ) → (AsksToWrite (texts words.now) path → ⊥)
         → S.contents store.new path ≡ S.contents store.old path }
-    // Just the files are opened that the words ask for, each once; nothing is done to the store where
-    // they ask for none.
-    ensures opened { OpensAsked (texts words.now) (S.opened store.old) (S.opened store.new) result }
+    // Just the files are opened that the words ask for, each once, and those to be written are kept,
+    // the output first; or none, where memory runs out before. Nothing is done to the store where the
+    // words ask for none.
+    ensures opened { OpensAsked (texts words.now) (S.opened store.old) (S.opened store.new)
+        (output_seen E.held E.has_failed err.old) (output_seen E.held E.has_failed err.new) result }
     ensures unopened { AsksNothing (texts words.now) → store.new ≡ store.old }
 {
     match read_words(alloc, words) {

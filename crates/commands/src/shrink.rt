@@ -3,8 +3,8 @@
 ghost use Rattle.std.specs.Prelude.{◌≡◌, ◌⊎◌, false, true};
 ghost use Rattle.pin_choices.specs.Chosen.{choice_of};
 ghost use Rattle.reports.specs.MergeLines.{merge_text};
-ghost use Rattle.files.specs.Stores.{told_by};
-ghost use Rattle.commands.specs.Endings.{EndsAs, on_output, output};
+ghost use Rattle.files.specs.Stores.{reader_seen};
+ghost use Rattle.commands.specs.Endings.{EndsAs, on_output, output_seen};
 ghost use Rattle.commands.specs.Merges.{RunsShrink};
 
 use crate::ending::{DONE, report};
@@ -23,8 +23,8 @@ use std::hash::RandomState;
 // Prints what is said of a file that is merged, on `out`; or tells that the output failed.
 fn tell_merge<O: Sink, E: Sink>(summary: &Summary<'_>, out: &mut O, err: &mut E) -> u8
     ensures { EndsAs (on_output (merge_text summary.now.report summary.now.kept summary.now.rounds) 0)
-        (output O.held O.has_failed out.old) (output O.held O.has_failed out.new)
-        (output E.held E.has_failed err.old) (output E.held E.has_failed err.new) result }
+        (output_seen O.held O.has_failed out.old) (output_seen O.held O.has_failed out.new)
+        (output_seen E.held E.has_failed err.old) (output_seen E.held E.has_failed err.new) result }
 {
     match print_merge(out, &summary.report, summary.kept, summary.rounds) {
         Ok(()) => DONE,
@@ -40,8 +40,8 @@ fn tell_merge<O: Sink, E: Sink>(summary: &Summary<'_>, out: &mut O, err: &mut E)
 /// is strict and parts of the schema aren't checked, these stand on `out`, and the status is 1 with a
 /// line on `err`. In all other cases the line of the fault stands on `err` alone, and the status is 2
 /// for the text of either, a name of the schema or one that is chosen and no entity, 4 for a device,
-/// and 5 where memory runs out. Nothing is written but where the status is 0, or where the output or
-/// the certificate fails. Names are hashed by these keys.
+/// and 5 where memory runs out. Nothing is written but where the status is 0, or where the output, the
+/// certificate or `out` fails. Names are hashed by these keys.
 pub fn run_shrink<S: Source, F: Source, W: Sink, C: Sink, O: Sink, E: Sink>(
     alloc: Global,
     keys: RandomState,
@@ -54,11 +54,11 @@ pub fn run_shrink<S: Source, F: Source, W: Sink, C: Sink, O: Sink, E: Sink>(
     err: &mut E,
 ) -> u8
     ensures runs { RunsShrink (choice_of choice.now) choice.now.strict
-        (told_by S.to_come S.fails schema.old) (told_by F.to_come F.fails file.old)
-        (output W.held W.has_failed smaller.old) (output W.held W.has_failed smaller.new)
-        (output C.held C.has_failed certificate.old) (output C.held C.has_failed certificate.new)
-        (output O.held O.has_failed out.old) (output O.held O.has_failed out.new)
-        (output E.held E.has_failed err.old) (output E.held E.has_failed err.new) result }
+        (reader_seen S.to_come S.fails schema.old) (reader_seen F.to_come F.fails file.old)
+        (output_seen W.held W.has_failed smaller.old) (output_seen W.held W.has_failed smaller.new)
+        (output_seen C.held C.has_failed certificate.old) (output_seen C.held C.has_failed certificate.new)
+        (output_seen O.held O.has_failed out.old) (output_seen O.held O.has_failed out.new)
+        (output_seen E.held E.has_failed err.old) (output_seen E.held E.has_failed err.new) result }
     // A device's status comes only where one fails in the run, if none had before.
     ensures device { result ≡ 4
         → S.has_failed schema.old ≡ false → F.has_failed file.old ≡ false

@@ -2,9 +2,9 @@
 
 ghost use Rattle.std.specs.Prelude.{◌≡◌, ◌⊎◌, false, true};
 ghost use Rattle.pin_choices.specs.Chosen.{choice_of};
-ghost use Rattle.files.specs.Stores.{told_by};
+ghost use Rattle.files.specs.Stores.{reader_seen};
 ghost use Rattle.reports.specs.MergeLines.{proof_text};
-ghost use Rattle.commands.specs.Endings.{EndsAs, on_output, output};
+ghost use Rattle.commands.specs.Endings.{EndsAs, on_output, output_seen};
 ghost use Rattle.commands.specs.Verifies.{RunsVerify};
 
 use crate::ending::{DONE, report};
@@ -21,8 +21,8 @@ use verifying::sources::{read, verify_files};
 // Prints what is proved, on `out`; or tells that the output failed.
 fn tell_proof<O: Sink, E: Sink>(proof: &Proof, out: &mut O, err: &mut E) -> u8
     ensures { EndsAs (on_output (proof_text proof.now.instances proof.now.kept proof.now.rounds) 0)
-        (output O.held O.has_failed out.old) (output O.held O.has_failed out.new)
-        (output E.held E.has_failed err.old) (output E.held E.has_failed err.new) result }
+        (output_seen O.held O.has_failed out.old) (output_seen O.held O.has_failed out.new)
+        (output_seen E.held E.has_failed err.old) (output_seen E.held E.has_failed err.new) result }
 {
     match print_proof(out, proof.instances, proof.kept, proof.rounds) {
         Ok(()) => DONE,
@@ -51,10 +51,10 @@ pub fn run_verify<S: Source, F: Source, W: Source, C: Source, O: Sink, E: Sink>(
     err: &mut E,
 ) -> u8
     ensures runs { RunsVerify (choice_of choice.now)
-        (told_by S.to_come S.fails schema.old) (told_by F.to_come F.fails file.old)
-        (told_by W.to_come W.fails smaller.old) (told_by C.to_come C.fails certificate.old)
-        (output O.held O.has_failed out.old) (output O.held O.has_failed out.new)
-        (output E.held E.has_failed err.old) (output E.held E.has_failed err.new) result }
+        (reader_seen S.to_come S.fails schema.old) (reader_seen F.to_come F.fails file.old)
+        (reader_seen W.to_come W.fails smaller.old) (reader_seen C.to_come C.fails certificate.old)
+        (output_seen O.held O.has_failed out.old) (output_seen O.held O.has_failed out.new)
+        (output_seen E.held E.has_failed err.old) (output_seen E.held E.has_failed err.new) result }
     // A device's status comes only where one fails in the run, if none had before.
     ensures device { result ≡ 4
         → S.has_failed schema.old ≡ false → F.has_failed file.old ≡ false

@@ -55,10 +55,10 @@ same-rank s d f (Some g) h k =
     (g, refl, sym k.2.2 ∙ (ranks-are-one s k.2.0 h.2.0 d k.2.1 h.2.1 k.0 ∙ h.2.2))
 
 module _ (S : Setting) (m : Meant S) (known : IsSetting S) (n : ℕ) (limit : IsLimit S.formulas.now n) where
-  ranked : (e : Derivation) (f : attributes.Formula) → m.attributes.formula e ≡ Some f → f.rank < n
+  ranked : (e : Derivation) (f : attributes.Formula) → m.said.attributes.formula e ≡ Some f → f.rank < n
   ranked e f h =
       let s = schema_in S in
-      let there : IsFormula s e (Some f) = subst (IsFormula s e) h (m.are_attributes.formulas e) in
+      let there : IsFormula s e (Some f) = subst (IsFormula s e) h (m.said.are_attributes.formulas e) in
       let (j, number) = has-number s e there.1.0 there.1.1 in
       let rows = S.formulas.now.rows.items in
       let within : j < length rows = subst (λ k. j < k) (sym known.formulas.rows.same) (below-length (all_derivations s) j e number) in
@@ -67,19 +67,19 @@ module _ (S : Setting) (m : Meant S) (known : IsSetting S) (n : ℕ) (limit : Is
       let less = rank-below o n g (limit-at rows j n o limit at) is in
       omega (arith, less, same)
 
-  settled-by : (y : ℕ) (e : Derivation) (o : Option attributes.Formula) → m.attributes.formula e ≡ o
+  settled-by : (y : ℕ) (e : Derivation) (o : Option attributes.Formula) → m.said.attributes.formula e ≡ o
       → below_rank S m n y e ≡ below_rank S m (above o) y e
   settled-by y e None h = below-none S m n y e h ∙ sym (below-none S m 0 y e h)
   settled-by y e (Some f) h =
       below-rank S m n y e f h (ranked e f h) ∙ sym (below-rank S m (suc f.rank) y e f h (omega arith))
 
   abbrev computed : ℕ → Derivation → Datum
-  computed = derived_value (schema_in S) m.domain m.entities m.attributes (population_in S)
+  computed = derived_value (schema_in S) m.said.domain m.said.entities m.said.attributes (population_in S)
 
   settled : (y : ℕ) (e : Derivation) → below_rank S m n y e ≡ computed y e
-  settled y e = settled-by y e (m.attributes.formula e) refl
+  settled y e = settled-by y e (m.said.attributes.formula e) refl
 
   pub meant-whole : (vs : List Variable) (me : Datum) (x : Tree)
       → means (setting_by S m (below_rank S m n)) vs me x
-      ≡ means (setting_by S m (derived_value (schema_in S) m.domain m.entities m.attributes (population_in S))) vs me x
+      ≡ means (setting_by S m (derived_value (schema_in S) m.said.domain m.said.entities m.said.attributes (population_in S))) vs me x
   meant-whole vs me x = ap (λ c. means (setting_by S m c) vs me x) (λ i y e. settled y e i)

@@ -80,7 +80,7 @@ module _ (S : Setting) (m : Meant S) (y section : ℕ) (vs : Values) where
   Seen o = instance_seen (schema_in S) y section o vs
 
   abbrev values : Instance → RuleHolder → List Datum
-  values x h = selves (schema_in S) m.domain m.entities m.attributes x (holder_seen (schema_in S) h)
+  values x h = selves (schema_in S) m.said.domain m.said.entities m.said.attributes x (holder_seen (schema_in S) h)
 
   -- a rule without a value of SELF is TRUE
   no-values : (x : Instance) (r : DomainRule) → values x r.holder ≡ [] → outcome_in S m x r ≡ True
@@ -160,7 +160,7 @@ module _ (S : Setting) (m : Meant S) (x : Instance) where
 
   pub broken-are : (rules : List DomainRule)
       → flat_map (broken_of S m x) rules
-      ≡ breaches_at (schema_in S) m.domain m.entities m.attributes (population_in S) (map (rule_seen (schema_in S)) rules) x
+      ≡ breaches_at (schema_in S) m.said.domain m.said.entities m.said.attributes (population_in S) (map (rule_seen (schema_in S)) rules) x
   broken-are [] = refl
   broken-are (r ∷ rules) =
       flat_map-cons (broken_of S m x) r rules ∙ by (is_false (outcome_in S m x r)) (broken-are rules)
@@ -169,7 +169,7 @@ module _ (S : Setting) (m : Meant S) (x : Instance) where
       seen = rule_seen (schema_in S) r
 
       rest : List meanings.DomainRule
-      rest = filter (λ (q : meanings.DomainRule). is_false (outcome (schema_in S) m.domain m.entities m.attributes (population_in S) x q))
+      rest = filter (λ (q : meanings.DomainRule). is_false (outcome (schema_in S) m.said.domain m.said.entities m.said.attributes (population_in S) x q))
           (map (rule_seen (schema_in S)) rules)
 
       one : Breach
@@ -184,7 +184,7 @@ module _ (S : Setting) (m : Meant S) (x : Instance) where
 
   pub open-are : (rules : List DomainRule)
       → flat_map (open_of S m x) rules
-      ≡ filter (λ (q : meanings.DomainRule). is_unknown (outcome (schema_in S) m.domain m.entities m.attributes (population_in S) x q))
+      ≡ filter (λ (q : meanings.DomainRule). is_unknown (outcome (schema_in S) m.said.domain m.said.entities m.said.attributes (population_in S) x q))
       (map (rule_seen (schema_in S)) rules)
   open-are [] = refl
   open-are (r ∷ rules) =
@@ -194,7 +194,7 @@ module _ (S : Setting) (m : Meant S) (x : Instance) where
       seen = rule_seen (schema_in S) r
 
       rest : List meanings.DomainRule
-      rest = filter (λ (q : meanings.DomainRule). is_unknown (outcome (schema_in S) m.domain m.entities m.attributes (population_in S) x q))
+      rest = filter (λ (q : meanings.DomainRule). is_unknown (outcome (schema_in S) m.said.domain m.said.entities m.said.attributes (population_in S) x q))
           (map (rule_seen (schema_in S)) rules)
 
       by : (b : Bool) → flat_map (open_of S m x) rules ≡ rest

@@ -74,9 +74,9 @@ module _ (S : Setting) (m : Meant S) (x : Instance) where
 module _ (S : Setting) (m : Meant S) (rules : List DomainRule) where
   abbrev pub broken_in : Instance → List Breach
   broken_in x =
-      breaches_at (schema_in S) m.domain m.entities m.attributes (population_in S) (map (rule_seen (schema_in S)) rules) x
+      breaches_at (schema_in S) m.said.domain m.said.entities m.said.attributes (population_in S) (map (rule_seen (schema_in S)) rules) x
 
   abbrev pub open_in : Instance → List meanings.DomainRule
   open_in x =
-      filter (λ (r : meanings.DomainRule). is_unknown (outcome (schema_in S) m.domain m.entities m.attributes (population_in S) x r))
+      filter (λ (r : meanings.DomainRule). is_unknown (outcome (schema_in S) m.said.domain m.said.entities m.said.attributes (population_in S) x r))
       (map (rule_seen (schema_in S)) rules)

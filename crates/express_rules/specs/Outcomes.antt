@@ -16,7 +16,7 @@ use Rattle.rule_settings.specs.Settings.{Meant, schema_in, population_in}
 
 -- what an expression means at a value of SELF
 abbrev pub meaning_in : (S : Setting) → Meant S → Datum → Tree → Datum
-meaning_in S m me x = meaning (schema_in S) m.domain m.entities m.attributes (population_in S) me x
+meaning_in S m me x = meaning (schema_in S) m.said.domain m.said.entities m.said.attributes (population_in S) me x
 
 -- what a rule says of one
 abbrev pub said_of : (S : Setting) → Meant S → DomainRule → Datum → Logical
@@ -26,8 +26,8 @@ said_of S m r me = says (meaning_in S m me (tree_of r.condition.now))
 abbrev pub said_by : (S : Setting) → Meant S → Instance → DomainRule → RuleHolder → Logical
 said_by S m x r h =
     least (map (λ self. said_of S m r self)
-    (selves (schema_in S) m.domain m.entities m.attributes x (holder_seen (schema_in S) h)))
+    (selves (schema_in S) m.said.domain m.said.entities m.said.attributes x (holder_seen (schema_in S) h)))
 
 abbrev pub outcome_in : (S : Setting) → Meant S → Instance → DomainRule → Logical
 outcome_in S m x r =
-    outcome (schema_in S) m.domain m.entities m.attributes (population_in S) x (rule_seen (schema_in S) r)
+    outcome (schema_in S) m.said.domain m.said.entities m.said.attributes (population_in S) x (rule_seen (schema_in S) r)

@@ -171,11 +171,11 @@ pub fn check_rules<'p, 'e, 'r, 't, 's: 'r, 'a: 'r>(
     requires setting { IsSetting setting.now }
     requires numbered { Every (IsNumbered (schema_in setting.now)) rules.now }
     ensures findings { IfOk result (λ r. (m : Meant setting.entry.now) → AreFindingsOf WhereFalse
-        (rule_findings (schema_in setting.entry.now) m.domain m.entities m.attributes
+        (rule_findings (schema_in setting.entry.now) m.said.domain m.said.entities m.said.attributes
         (population_in setting.entry.now) (map (rule_seen (schema_in setting.entry.now)) rules.now))
         r.findings.items) }
     ensures unknown { IfOk result (λ r. (m : Meant setting.entry.now) → r.unknown
-        ≡ capped (unknown (schema_in setting.entry.now) m.domain m.entities m.attributes
+        ≡ capped (unknown (schema_in setting.entry.now) m.said.domain m.said.entities m.said.attributes
         (population_in setting.entry.now)
         (map (rule_seen (schema_in setting.entry.now)) rules.now))) }
 {

@@ -1,7 +1,8 @@
 //! What is evaluated of a schema: formulas and domain rules (ISO 10303-11, 9.2.1.2, 9.1 and 9.2.2.2).
 
 ghost use Rattle.std.specs.Prelude.{IfOk};
-ghost use Rattle.schema_unchecked.specs.Findings.{AreFound, schema_found};
+ghost use Rattle.schema_references.specs.Taking.{schema_in};
+ghost use Rattle.schema_unchecked.specs.Findings.{AreFound};
 ghost use Rattle.express_types.specs.Judging.{AreDomainTables};
 
 use crate::judging::DomainTables;
@@ -17,7 +18,7 @@ pub(crate) fn domain_by<'t, 'a>(
     findings: &Findings<'a, 't, '_>,
 ) -> Result<DomainTables<'a, 't>, AllocError>
     requires found { AreFound findings.now }
-    ensures { IfOk result (AreDomainTables (schema_found findings.now)) }
+    ensures { IfOk result (AreDomainTables (schema_in findings.now.known)) }
 {
     let formulas = formulas(alloc, findings.known.tables.names, findings.ranks)?;
     let rules = domain_rules(alloc, findings)?;

@@ -2,9 +2,9 @@
 
 ghost use Rattle.std.specs.Prelude.{◌≡◌, ◌<◌, Some, length, slice_get};
 ghost use Rattle.express_syntax.specs.ExpressionViews.{capitals};
-ghost use Rattle.express_syntax.specs.SchemaViews.{schema_of};
 ghost use Rattle.schema_semantics.specs.Parts.{AreUnchecked};
 ghost use Rattle.schema_names.specs.Numbers.{number_of};
+ghost use Rattle.schema_names.specs.Schemas.{the_schema};
 ghost use Rattle.schema_places.specs.Places.{all_places};
 ghost use Rattle.schema_parts.specs.Adding.{unchecked_in};
 ghost use Rattle.schema_derivations.specs.Ranking.{IsRankOf};
@@ -36,16 +36,15 @@ pub struct TypeGraph<'a, 't> {
     /// Its rules that speak of a whole population: uniqueness rules and inverse attributes
     /// (ISO 10303-11, 9.2.2.1 and 9.2.1.3).
     pub rules: RuleTables<'a>,
-    pub ghost judged_is: { ∥ IsJudged (schema_of types.names.schema.now) judged ∥₁ },
-    pub ghost domain_is: { ∥ AreDomainTables (schema_of types.names.schema.now) domain ∥₁ },
-    pub ghost rules_are: { ∥ AreRuleTables (schema_of types.names.schema.now) rules ∥₁ },
+    pub ghost judged_is: { ∥ IsJudged (the_schema types.names) judged ∥₁ },
+    pub ghost domain_is: { ∥ AreDomainTables (the_schema types.names) domain ∥₁ },
+    pub ghost rules_are: { ∥ AreRuleTables (the_schema types.names) rules ∥₁ },
 }
 
 impl<'a, 't> TypeGraph<'a, 't> {
     /// The number of the type or entity of this name; none where there is none.
     pub fn find(&self, name: Word<'_>) -> Option<u32>
-        ensures { result
-            ≡ number_of (schema_of self.now.types.names.schema.now) (capitals name.entry) }
+        ensures { result ≡ number_of (the_schema self.now.types.names) (capitals name.entry) }
     {
         self.types.find(name)
     }
@@ -53,7 +52,7 @@ impl<'a, 't> TypeGraph<'a, 't> {
     /// The proper supertypes of an entity, each once (ISO 10303-11, 9.2.3.3).
     pub fn supers(&self, entity: u32) -> &[u32]
         requires { entity < length self.now.types.names.schema.now.declarations.items }
-        ensures { ∥ AreSupers (schema_of self.now.types.names.schema.now) entity result.now ∥₁ }
+        ensures { ∥ AreSupers (the_schema self.now.types.names) entity result.now ∥₁ }
     {
         self.types.supers(entity)
     }
@@ -62,7 +61,7 @@ impl<'a, 't> TypeGraph<'a, 't> {
     /// (ISO 10303-11, 9.2.3.3).
     pub fn is_kind_of(&self, entity: u32, other: u32) -> bool
         requires { entity < length self.now.types.names.schema.now.declarations.items }
-        ensures { ∥ IsKind (schema_of self.now.types.names.schema.now) entity other result ∥₁ }
+        ensures { ∥ IsKind (the_schema self.now.types.names) entity other result ∥₁ }
     {
         self.types.is_kind_of(entity, other)
     }
@@ -71,15 +70,15 @@ impl<'a, 't> TypeGraph<'a, 't> {
     /// turn, then its own, each once (ISO 10303-11, 9.2.3.3).
     pub fn places(&self, entity: u32) -> &[u32]
         requires { entity < length self.now.types.names.schema.now.declarations.items }
-        ensures { ∥ ArePlacesOf (schema_of self.now.types.names.schema.now) entity result.now ∥₁ }
+        ensures { ∥ ArePlacesOf (the_schema self.now.types.names) entity result.now ∥₁ }
     {
         self.types.places(entity)
     }
 
     /// The explicit attribute of a number, with the entity that declares it.
     pub fn place(&self, number: u32) -> Place<'a, 't>
-        requires { number < length (all_places (schema_of self.now.types.names.schema.now)) }
-        ensures { slice_get (all_places (schema_of self.now.types.names.schema.now)) number
+        requires { number < length (all_places (the_schema self.now.types.names)) }
+        ensures { slice_get (all_places (the_schema self.now.types.names)) number
             ≡ Some (place_of result) }
     {
         self.types.place(number)
@@ -90,7 +89,7 @@ impl<'a, 't> TypeGraph<'a, 't> {
     /// (ISO 10303-11, 9.2.1.2). None where there is none, or it isn't checked.
     pub fn rank(&self, entity: u32, attribute: Word<'_>) -> Option<u32>
         requires { entity < length self.now.types.names.schema.now.declarations.items }
-        ensures { ∥ IsRankOf (schema_of self.now.types.names.schema.now) entity
+        ensures { ∥ IsRankOf (the_schema self.now.types.names) entity
             (capitals attribute.entry) result ∥₁ }
     {
         let judged = &self.judged;
@@ -106,15 +105,14 @@ impl<'a, 't> TypeGraph<'a, 't> {
     /// The parts of the schema that aren't checked, in the order of the text, each with the first
     /// reason that holds.
     pub fn unchecked(&self) -> &[Unchecked]
-        ensures { ∥ AreUnchecked (schema_of self.now.types.names.schema.now)
-            (unchecked_in result.now) ∥₁ }
+        ensures { ∥ AreUnchecked (the_schema self.now.types.names) (unchecked_in result.now) ∥₁ }
     {
         &self.judged.unchecked
     }
 
     /// The same list, of which the types are given up.
     pub fn into_unchecked(self) -> Vec<Unchecked>
-        ensures { ∥ AreUnchecked (schema_of self.entry.types.names.schema.now)
+        ensures { ∥ AreUnchecked (the_schema self.entry.types.names)
             (unchecked_in result.items) ∥₁ }
     {
         let judged = self.judged;

@@ -3,8 +3,8 @@
 
 ghost use Rattle.std.specs.Prelude.{◌≡◌, IfOk, length};
 ghost use Rattle.digraph.specs.Graphs.{graph_of};
-ghost use Rattle.express_syntax.specs.SchemaViews.{schema_of};
 ghost use Rattle.schema_semantics.specs.Faults.{IsResolved};
+ghost use Rattle.schema_names.specs.Schemas.{the_schema};
 ghost use Rattle.schema_places.specs.Above.{AreAbove};
 ghost use Rattle.schema_places.specs.Places.{places_of, all_places, AreRows};
 ghost use Rattle.schema_types.specs.Made.{IsMade};
@@ -57,8 +57,8 @@ struct Types {
 
 /// The data types of a schema.
 fn make_types(alloc: Global, names: &Names<'_, '_>) -> Result<Types, AllocError>
-    requires resolved { IsResolved (schema_of names.now.schema.now) }
-    ensures { IfOk result (AreTypes (schema_of names.now.schema.now)) }
+    requires resolved { IsResolved (the_schema names.now) }
+    ensures { IfOk result (AreTypes (the_schema names.now)) }
 {
     let data_types = data_types(alloc, names)?;
     let edges = part_graph(alloc, names)?;
@@ -73,9 +73,8 @@ fn make_types(alloc: Global, names: &Names<'_, '_>) -> Result<Types, AllocError>
 
 /// The line of each entity: itself, then the lines of its supertypes in turn.
 fn lines_of(alloc: Global, names: &Names<'_, '_>) -> Result<Vec<Vec<u32>>, AllocError>
-    requires resolved { IsResolved (schema_of names.now.schema.now) }
-    ensures lines { IfOk result (λ rows. HaveLines (schema_of names.now.schema.now)
-        (graph_of rows.items)) }
+    requires resolved { IsResolved (the_schema names.now) }
+    ensures lines { IfOk result (λ rows. HaveLines (the_schema names.now) (graph_of rows.items)) }
     ensures each { IfOk result (λ rows. length rows.items
         ≡ length names.now.schema.now.declarations.items) }
 {
@@ -100,10 +99,10 @@ fn make_meanings<'a>(
     types: &Types,
     above: &[Vec<u32>],
 ) -> Result<Meanings<'a>, AllocError>
-    requires resolved { IsResolved (schema_of names.now.schema.now) }
-    requires types { AreTypes (schema_of names.now.schema.now) types.now }
-    requires above { AreAbove (schema_of names.now.schema.now) (graph_of above.now) }
-    ensures { IfOk result (AreMeanings (schema_of names.now.schema.now) (graph_of above.now)) }
+    requires resolved { IsResolved (the_schema names.now) }
+    requires types { AreTypes (the_schema names.now) types.now }
+    requires above { AreAbove (the_schema names.now) (graph_of above.now) }
+    ensures { IfOk result (AreMeanings (the_schema names.now) (graph_of above.now)) }
 {
     let lines = lines_of(alloc, names)?;
     let below = reversal(alloc, above)?;
@@ -220,7 +219,7 @@ pub(crate) fn judge<'r, 't, 'a>(
     resolved: &'r ResolvedTypes<'a, 't>,
 ) -> Result<Found<'a, 't>, AllocError>
     requires { IsMade resolved.now }
-    ensures { IfOk result (AreFound (schema_of resolved.now.names.schema.now)) }
+    ensures { IfOk result (AreFound (the_schema resolved.now.names)) }
 {
     let names = &resolved.names;
     let above = resolved.above.as_slice();

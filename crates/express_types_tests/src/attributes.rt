@@ -1,9 +1,9 @@
 //! Where attributes are declared, and the ranks of those that are derived.
 
 ghost use Rattle.digraph.specs.Graphs.{graph_of};
-ghost use Rattle.express_syntax.specs.SchemaViews.{schema_of};
 ghost use Rattle.schema_semantics.specs.Faults.{IsResolved};
 ghost use Rattle.schema_names.specs.Edges.{IsGraphOf, supertypes_in};
+ghost use Rattle.schema_names.specs.Schemas.{the_schema};
 ghost use Rattle.schema_places.specs.Lines.{HaveLines};
 
 use crate::questions::{Case, Question, Text, wrong_case};
@@ -82,7 +82,7 @@ pub(crate) fn has_rank(
 
 // Whether the entity is there, and the answers are the ones that are wanted.
 fn are_origins(names: &Names<'_, '_>, lines: &[Vec<u32>], question: Question) -> bool
-    requires { HaveLines (schema_of names.now.schema.now) (graph_of lines.now) }
+    requires { HaveLines (the_schema names.now) (graph_of lines.now) }
 {
     let Question::Origins(entity, attribute, declared, explicit) = question else {
         return false;
@@ -106,9 +106,8 @@ fn has_lines(
     supertypes: &[Vec<u32>],
     question: Question,
 ) -> bool
-    requires resolved { IsResolved (schema_of names.now.schema.now) }
-    requires graph { IsGraphOf (schema_of names.now.schema.now) supertypes_in
-        (graph_of supertypes.now) }
+    requires resolved { IsResolved (the_schema names.now) }
+    requires graph { IsGraphOf (the_schema names.now) supertypes_in (graph_of supertypes.now) }
 {
     let Ok(lines) = lines(alloc, names, supertypes) else {
         return false;
@@ -118,7 +117,7 @@ fn has_lines(
 
 /// Whether attributes of a schema have these origins.
 pub(crate) fn has_origins(alloc: Global, names: &Names<'_, '_>, question: Question) -> bool
-    requires { IsResolved (schema_of names.now.schema.now) }
+    requires { IsResolved (the_schema names.now) }
 {
     let Ok(supertypes) = supertype_graph(alloc, names) else {
         return false;

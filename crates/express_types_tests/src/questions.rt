@@ -1,7 +1,7 @@
 //! What is asked of a schema, with the answer.
 
-ghost use Rattle.express_syntax.specs.SchemaViews.{schema_of};
 ghost use Rattle.schema_semantics.specs.Faults.{IsResolved};
+ghost use Rattle.schema_names.specs.Schemas.{the_schema};
 
 use crate::attributes::{has_origins, has_rank};
 use crate::lists::{Part, add_shapes, are_parts, declares};
@@ -46,7 +46,7 @@ pub(crate) type Case = (Text, Question);
 
 // Whether the answer is the one that is wanted, where the names of a schema are resolved.
 fn is_answered(alloc: Global, graph: &TypeGraph<'_, '_>, question: Question) -> bool
-    requires { IsResolved (schema_of graph.now.types.names.schema.now) }
+    requires { IsResolved (the_schema graph.now.types.names) }
 {
     match question {
         Question::Declared(_) => false,

@@ -2,10 +2,10 @@
 
 ghost use Rattle.std.specs.Prelude.{◌≡◌, ◌<◌, ◌^◌, length, map};
 ghost use Rattle.digraph.specs.Graphs.{graph_of};
-ghost use Rattle.express_syntax.specs.SchemaViews.{schema_of};
 ghost use Rattle.schema_semantics.specs.Faults.{IsResolved};
 ghost use Rattle.schema_names.specs.Edges.{IsGraphOf, parts_in};
 ghost use Rattle.schema_names.specs.Numbers.{AreRowsOf};
+ghost use Rattle.schema_names.specs.Schemas.{the_schema};
 ghost use Rattle.schema_data_types.specs.Numbered.{form_in, whole_types, all_data_types};
 ghost use Rattle.schema_data_types.specs.Values.{AreTables};
 ghost use Rattle.schema_data_types.specs.Alike.{IsTable};
@@ -121,12 +121,12 @@ fn has_values_by(
     edges: &[Vec<u32>],
     question: Question,
 ) -> bool
-    requires resolved { IsResolved (schema_of names.now.schema.now) }
-    requires forms { data_types.now.forms.items ≡ map (form_in (schema_of names.now.schema.now))
-        (all_data_types (schema_of names.now.schema.now)) }
-    requires rows { AreRowsOf whole_types (all_data_types (schema_of names.now.schema.now))
-        (schema_of names.now.schema.now).declarations (graph_of data_types.now.rows.items) }
-    requires graph { IsGraphOf (schema_of names.now.schema.now) parts_in (graph_of edges.now) }
+    requires resolved { IsResolved (the_schema names.now) }
+    requires forms { data_types.now.forms.items ≡ map (form_in (the_schema names.now))
+        (all_data_types (the_schema names.now)) }
+    requires rows { AreRowsOf whole_types (all_data_types (the_schema names.now))
+        (the_schema names.now).declarations (graph_of data_types.now.rows.items) }
+    requires graph { IsGraphOf (the_schema names.now) parts_in (graph_of edges.now) }
     requires few { length data_types.now.forms.items < 2 ^ 32 }
 {
     let Ok(parts) = parts_of(alloc, names, edges) else {
@@ -161,12 +161,12 @@ fn are_told_by(
     edges: &[Vec<u32>],
     question: Question,
 ) -> bool
-    requires resolved { IsResolved (schema_of names.now.schema.now) }
-    requires forms { data_types.now.forms.items ≡ map (form_in (schema_of names.now.schema.now))
-        (all_data_types (schema_of names.now.schema.now)) }
-    requires rows { AreRowsOf whole_types (all_data_types (schema_of names.now.schema.now))
-        (schema_of names.now.schema.now).declarations (graph_of data_types.now.rows.items) }
-    requires graph { IsGraphOf (schema_of names.now.schema.now) parts_in (graph_of edges.now) }
+    requires resolved { IsResolved (the_schema names.now) }
+    requires forms { data_types.now.forms.items ≡ map (form_in (the_schema names.now))
+        (all_data_types (the_schema names.now)) }
+    requires rows { AreRowsOf whole_types (all_data_types (the_schema names.now))
+        (the_schema names.now).declarations (graph_of data_types.now.rows.items) }
+    requires graph { IsGraphOf (the_schema names.now) parts_in (graph_of edges.now) }
     requires few { length data_types.now.forms.items < 2 ^ 32 }
 {
     let Ok(shapes) = shapes(alloc, names, data_types, edges) else {
@@ -181,11 +181,11 @@ fn has_types_by(
     data_types: &DataTypes,
     question: Question,
 ) -> bool
-    requires resolved { IsResolved (schema_of names.now.schema.now) }
-    requires forms { data_types.now.forms.items ≡ map (form_in (schema_of names.now.schema.now))
-        (all_data_types (schema_of names.now.schema.now)) }
-    requires rows { AreRowsOf whole_types (all_data_types (schema_of names.now.schema.now))
-        (schema_of names.now.schema.now).declarations (graph_of data_types.now.rows.items) }
+    requires resolved { IsResolved (the_schema names.now) }
+    requires forms { data_types.now.forms.items ≡ map (form_in (the_schema names.now))
+        (all_data_types (the_schema names.now)) }
+    requires rows { AreRowsOf whole_types (all_data_types (the_schema names.now))
+        (the_schema names.now).declarations (graph_of data_types.now.rows.items) }
     requires few { length data_types.now.forms.items < 2 ^ 32 }
 {
     let Ok(edges) = part_graph(alloc, names) else {
@@ -200,7 +200,7 @@ fn has_types_by(
 
 /// Whether data types of a schema have these values, or are alike.
 pub(crate) fn has_types(alloc: Global, names: &Names<'_, '_>, question: Question) -> bool
-    requires { IsResolved (schema_of names.now.schema.now) }
+    requires { IsResolved (the_schema names.now) }
 {
     let Ok(data_types) = data_types(alloc, names) else {
         return false;

@@ -2,7 +2,7 @@
 
 use crate::making::Making;
 use crate::opening::Opening;
-use crate::paths::{PathMaker, PathOpener, remove, take_place};
+use crate::paths::{PathMaker, PathOpener, remove, sync, take_place};
 use devices::counted::Counted;
 use devices::device::WriteFault;
 use files::fault::{FileFault, Role};
@@ -19,6 +19,27 @@ pub struct Folder<'p, R: Files> {
     output: Option<Making<PathMaker<'p, R>>>,
     /// The one behind it.
     certificate: Option<Making<PathMaker<'p, R>>>,
+}
+
+/// Has the device keep all of a file that was taken back and is to take the place of another. A fault is told by its
+/// role.
+fn hold<R: Files>(making: &Option<Making<PathMaker<'_, R>>>, role: Role) -> Result<(), FileFault> {
+    let Some(making) = making else {
+        return Ok(());
+    };
+    match sync(making) {
+        Ok(()) => Ok(()),
+        Err(fault) => Err(FileFault::of_write(role, fault)),
+    }
+}
+
+/// Has the device keep all of both, the output first.
+fn hold_both<R: Files>(
+    output: &Option<Making<PathMaker<'_, R>>>,
+    certificate: &Option<Making<PathMaker<'_, R>>>,
+) -> Result<(), FileFault> {
+    hold(output, Role::Output)?;
+    hold(certificate, Role::Certificate)
 }
 
 /// Puts a file in its place, where one was taken back. A fault is told by its role.
@@ -55,14 +76,20 @@ impl<'p, R: Files> Folder<'p, R> {
     }
 
     /// Puts the files that were written in the places of those that stand under their paths: the output, which was taken
-    /// back first, and then the certificate. `Device` comes where not all of one can be kept, or where it can't be
-    /// renamed; what stands under its path stays then, and so does what stands under that of the one behind it.
+    /// back first, and then the certificate. `Device` comes where not all of one can be kept, and both stay then that
+    /// stand under their paths; or where one can't be renamed, and what stands under its path stays then, and so does
+    /// what stands under that of the one behind it.
     pub fn finish(self) -> Result<(), FileFault> {
         let Folder {
             output,
             certificate,
             ..
         } = self;
+        if let Err(fault) = hold_both(&output, &certificate) {
+            discard(output);
+            discard(certificate);
+            return Err(fault);
+        }
         if let Err(fault) = replace(output, Role::Output) {
             discard(certificate);
             return Err(fault);

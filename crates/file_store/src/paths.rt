@@ -78,18 +78,33 @@ impl<'p, R: Files> FileMaker for PathMaker<'p, R> {
     }
 }
 
-/// Puts a file in the place of the one that stands under its path. `WriteFault` comes where not all of it can be kept, or
-/// where it can't be renamed; the other one stays then.
-pub(crate) fn take_place<R: Files>(making: Making<PathMaker<'_, R>>) -> Result<(), WriteFault> {
-    let Making {
-        maker,
-        file,
-        written,
-    } = making;
-    let (Some(replacement), Some(file)) = (maker.replacement, file) else {
+/// Has the device keep all of a file that is to take the place of the one that stands under its path; of a file where none
+/// stood it does nothing. `WriteFault` comes where it can't.
+pub(crate) fn sync<R: Files>(making: &Making<PathMaker<'_, R>>) -> Result<(), WriteFault> {
+    let (Some(_), Some(file)) = (&making.maker.replacement, &making.file) else {
         return Ok(());
     };
-    match replacement.take_place(maker.rt, file) {
+    match file.sync_all() {
+        Ok(()) => Ok(()),
+        Err(_) => Err(WriteFault {
+            written: making.written,
+        }),
+    }
+}
+
+/// Puts a file, which was synced before, in the place of the one that stands under its path. `WriteFault` comes where it
+/// can't be renamed; the other one stays then.
+pub(crate) fn take_place<R: Files>(making: Making<PathMaker<'_, R>>) -> Result<(), WriteFault> {
+    let Making { maker, written, .. } = making;
+    let PathMaker {
+        rt,
+        replacement,
+        ..
+    } = maker;
+    let Some(replacement) = replacement else {
+        return Ok(());
+    };
+    match replacement.take_place(rt) {
         Ok(()) => Ok(()),
         Err(_) => Err(WriteFault { written }),
     }

@@ -78,15 +78,9 @@ impl Replacement {
         Ok((file, replacement))
     }
 
-    /// Puts the file in the place of the other, once the device has all of it.
-    fn rename<R: Files>(&self, rt: &R, file: R::File) -> io::Result<()> {
-        file.sync_all()?;
-        fs::rename(rt, &self.beside, &self.standing)
-    }
-
-    /// Puts the file in the place of the other. Where that fails it is removed.
-    pub(crate) fn take_place<R: Files>(&self, rt: &R, file: R::File) -> io::Result<()> {
-        let renamed = self.rename(rt, file);
+    /// Puts the file, of which the device has all, in the place of the other. Where that fails it is removed.
+    pub(crate) fn take_place<R: Files>(&self, rt: &R) -> io::Result<()> {
+        let renamed = fs::rename(rt, &self.beside, &self.standing);
         if renamed.is_err() {
             self.remove(rt);
         }

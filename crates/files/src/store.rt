@@ -12,7 +12,7 @@ ghost use Rattle.std.specs.Prelude.{
   false,
   IfSome,
 };
-ghost use Rattle.files.specs.Stores.{Access, HoldsWritten, Opens, to_read, to_write};
+ghost use Rattle.files.specs.Stores.{Access, HoldsWritten, Opens, to_keep, to_read, to_write};
 
 use devices::device::{Sink, Source};
 
@@ -25,7 +25,7 @@ pub trait Store<'p> {
     // whether each read of the file of this path fails, or none does, where the store tells it
     ghost fails: { Self → List ℕ → Option Bool } = { λ _ _. None };
 
-    // the files that were opened, in turn, where the store tells them
+    // the files that were opened and kept, in turn, where the store tells them
     ghost opened: { Self → Option (List Access) } = { λ _. None };
 
     /// A file that is read.
@@ -59,7 +59,7 @@ pub trait Store<'p> {
     fn keep(&mut self, path: &'p str, writer: Self::Writer)
         ensures written { HoldsWritten (Self.Writer.held writer) (contents self.old path.now)
             (contents self.new path.now) }
-        ensures opened { opened self.new ≡ opened self.old }
+        ensures opened { Opens (opened self.old) (opened self.new) (to_keep path.now ∷ []) }
         ensures kept { (other : List ℕ) → (other ≡ path.now → ⊥)
             → contents self.new other ≡ contents self.old other };
 }

@@ -1,7 +1,7 @@
 //! The tables by which a file is merged by its schema.
 
 ghost use Rattle.std.specs.Prelude.{List, IfOk};
-ghost use Rattle.express_syntax.specs.SchemaViews.{schema_of};
+ghost use Rattle.schema_names.specs.Schemas.{the_schema};
 ghost use Rattle.express_types.specs.Sound.{IsSound};
 ghost use Rattle.schema_semantics.specs.Names.{Name};
 ghost use Rattle.step_exchange.specs.Exchanges.{structure};
@@ -50,7 +50,7 @@ fn merged_by_tables<'r, 't, 's: 'a, 'a: 'r>(
 ) -> Result<Merging<'s>, AllocError>
     requires sound { IsSound graph.now }
     requires tables { AreTables graph.now.types tables.now }
-    ensures { IfOk result (Comes (schema_of graph.entry.now.types.names.schema.now) chosen.now
+    ensures { IfOk result (Comes (the_schema graph.entry.now.types.names) chosen.now
         (structure exchange.entry.now) exchange.entry.now.names) }
 {
     let checked = conforming(alloc, keys, graph, tables, chosen, exchange)?;
@@ -86,9 +86,8 @@ pub fn merge_tables<'s: 'a, 'a>(
     requires sound { IsSound graph.now }
     // Where all is merged that is chosen, this is what comes of it.
     ensures merges { (names : List Name)
-        → AreChosen (schema_of graph.now.types.names.schema.now) names chosen.now
-        → IfOk result (Merges (schema_of graph.now.types.names.schema.now) names
-        (structure exchange.now)) }
+        → AreChosen (the_schema graph.now.types.names) names chosen.now
+        → IfOk result (Merges (the_schema graph.now.types.names) names (structure exchange.now)) }
     // The members of both tables are the instances, in order.
     ensures members { IfOk result (HaveMembers exchange.now.names) }
 {

@@ -34,9 +34,9 @@ merged_by P F f = normal_file (merged_file (head_of (names P) F) f)
 abbrev pub head_by : Table → ℕ → ℕ
 head_by t = head_of (map (λ m. m.0) t.members) (shares t t.rounds)
 
--- Where a text is merged by the classes of a table's last round, whatever the rules of the schema say of it, the output
--- reads as the merged structure, whose rows are those of the quotient. Where these classes are a congruence, that is an
--- image.
+-- Where a text is merged by the classes of a table's last round, and these are a congruence, the output reads as the merged
+-- structure, whose rows are those of the quotient, which is a population and an image, whatever the rules of the schema say
+-- of it.
 abbrev pub OutputsAreQuotients : Type 0
 OutputsAreQuotients = (s : Schema) (said : Said s) (text header_bytes : List ℕ) (f : File) (P : List Row) (pinned : ℕ → Bool)
     (t : Table) → ReadsAs text header_bytes f → AreRowsOf s (instances s said f) P → IsPopulation P → HasMembers P t

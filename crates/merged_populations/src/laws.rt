@@ -18,8 +18,9 @@ pub fn merged_populations_are_led()
     ensures { MergedPopulationsAreLed }
 {}
 
-/// The output that is merged by a table reads as the merged structure, and its rows are those of the
-/// quotient by the classes of the table's last round, whatever the rules of the schema say of it.
+/// The output that is merged by a table whose last classes are a congruence, under whatever pins, reads
+/// as the merged structure; its rows are those of the quotient by these classes, which is a population
+/// and an image, whatever the rules of the schema say of it.
 pub fn outputs_are_quotients()
     ensures { OutputsAreQuotients }
 {}

@@ -1,8 +1,8 @@
 //! A choice of entities by name, and the entities that it names.
 
 ghost use Rattle.std.specs.Prelude.{◌≡◌, None, MatchResult};
-ghost use Rattle.express_syntax.specs.SchemaViews.{schema_of};
 ghost use Rattle.conformance.specs.Choices.{unknown_choice, chosen_names};
+ghost use Rattle.schema_names.specs.Schemas.{the_schema};
 ghost use Rattle.pin_choices.specs.Chosen.{choice_of, is_chosen, AreChosen, AreOfEntities, IsChoiceFault};
 
 use crate::marks::chosen_of;
@@ -48,7 +48,7 @@ impl Choice {
         alloc: Global,
         types: &ResolvedTypes<'_, '_>,
     ) -> Result<Chosen, SchemaFault>
-        ensures { let s = schema_of types.now.names.schema.now in
+        ensures { let s = the_schema types.now.names in
             let choice = choice_of self.now in
             MatchResult result (λ c. (unknown_choice s choice ≡ None)
             × (AreChosen s (chosen_names s choice) c × AreOfEntities s c)) (IsChoiceFault s choice) }

@@ -13,6 +13,7 @@ use Rattle.conformance.specs.Bases.{Domain}
 use Rattle.conformance.specs.Entities.{Entities, records, parameters, named_entity, own_places_of, has_count, how_many, types_of, places_of, wrong_counts, abstract_leaves, missing_supertypes, broken_one_ofs}
 use Rattle.conformance.specs.Findings.{whole, or_next, misfits_from, row_findings, target_in, findings}
 use Rattle.population_rows.specs.declared.form.Form.{Form}
+use Rattle.schema_names.specs.Schemas.{the_schema}
 use Rattle.population_layouts.specs.Forms.{IsFormOf, counts_of}
 use Rattle.population_faults.specs.Keywords.{unknown_among}
 use Rattle.digraph.specs.Graphs.{graph_of}
@@ -27,7 +28,7 @@ use Rattle.population_faults.specs.Counting.{miscounts}
 use Rattle.population_faults.specs.declared.judge.Judge.{Judge}
 use Rattle.population_rows.specs.declared.rows.Rows.{Rows}
 use Rattle.population_rows.specs.Rows.{form_at, form_of_number}
-use Rattle.population_faults.specs.Judging.{AreOf, schema_by, target_by, is_sound, types_told, TellsTypes, TellsAll, behind, TellsBehind, IsOfForm, TellsForm, TellsRowsTo, TellsRows, schema_told}
+use Rattle.population_faults.specs.Judging.{AreOf, target_by, is_sound, types_told, TellsTypes, TellsAll, behind, TellsBehind, IsOfForm, TellsForm, TellsRowsTo, TellsRows, schema_told}
 use Rattle.population_faults.proofs.Records.{none-unknown, some-unknown}
 use Rattle.population_faults.proofs.Placing.{form-of-row}
 
@@ -80,18 +81,20 @@ pub counted-so : (s : Schema) (en : Entities) (f : trees.Form) (x : Form) → Is
 counted-so s en f x is = ap (λ ns. miscounts ns (records f)) is.counts ∙ counted s en f
 
 module _ (j : Judge) (x : Form) (r : Row) (old new : List Finding) where
-  told-so : (en : Entities) → IsFormOf (schema_by j) en r.form x → (ys : List Finding)
+  told-so : (en : Entities) → IsFormOf (the_schema j.bases.names.now) en r.form x → (ys : List Finding)
       → or_next (types_told r.name x.abstract_leaves x.missing_supertypes x.broken_one_ofs) ys
-      ≡ or_next (types_told r.name (abstract_leaves (schema_by j) en (types_of (schema_by j) en r.form))
-      (missing_supertypes (schema_by j) en (types_of (schema_by j) en r.form))
-      (broken_one_ofs (schema_by j) en (types_of (schema_by j) en r.form))) ys
+      ≡ or_next (types_told r.name (abstract_leaves (the_schema j.bases.names.now) en
+      (types_of (the_schema j.bases.names.now) en r.form))
+      (missing_supertypes (the_schema j.bases.names.now) en (types_of (the_schema j.bases.names.now) en r.form))
+      (broken_one_ofs (the_schema j.bases.names.now) en (types_of (the_schema j.bases.names.now) en r.form))) ys
   told-so en is ys =
       λ i. or_next (types_told r.name (is.abstract_leaves i) (is.missing_supertypes i) (is.broken_one_ofs i)) ys
 
   after-types : Domain → Entities → List Finding
-  after-types d en = or_next (whole r.name ParameterCount (wrong_counts (schema_by j) en r.form))
-      (misfits_from (schema_by j) d en (target_by j) r.name 0 (types_of (schema_by j) en r.form)
-      (places_of (schema_by j) en r.form) (parameters (records r.form)))
+  after-types d en = or_next (whole r.name ParameterCount (wrong_counts (the_schema j.bases.names.now) en r.form))
+      (misfits_from (the_schema j.bases.names.now) d en (target_by j) r.name 0
+      (types_of (the_schema j.bases.names.now) en r.form)
+      (places_of (the_schema j.bases.names.now) en r.form) (parameters (records r.form)))
 
   -- findings of types
   pub tells-types : is_sound x ≡ false → TellsTypes r.name x old new → TellsBehind j x r old new
@@ -101,7 +104,7 @@ module _ (j : Judge) (x : Form) (r : Row) (old new : List Finding) where
       (sym (types-some r.name x.abstract_leaves x.missing_supertypes x.broken_one_ofs (after-types d en) e)
       ∙ told-so en is (after-types d en))
 
-  sound-so : is_sound x ≡ true → (d : Domain) (en : Entities) → IsFormOf (schema_by j) en r.form x
+  sound-so : is_sound x ≡ true → (d : Domain) (en : Entities) → IsFormOf (the_schema j.bases.names.now) en r.form x
       → after-types d en ≡ behind j d en r
   unfolding after-types
   sound-so e d en is =
@@ -115,11 +118,13 @@ module _ (j : Judge) (x : Form) (r : Row) (old new : List Finding) where
   unfolding after-types
   tells-counts zero e c lt told d en are is = absurd (omega (arith, lt))
   tells-counts (suc n) e c lt told d en are is =
-      let number : suc n ≡ wrong_counts (schema_by j) en r.form = c ∙ counted-so (schema_by j) en r.form x is in
+      let number : suc n ≡ wrong_counts (the_schema j.bases.names.now) en r.form = c
+      ∙ counted-so (the_schema j.bases.names.now) en r.form x is in
       told ∙ ap (λ l. old ++ l)
       (ap (λ k. or_next (whole r.name ParameterCount k)
-      (misfits_from (schema_by j) d en (target_by j) r.name 0 (types_of (schema_by j) en r.form)
-      (places_of (schema_by j) en r.form) (parameters (records r.form)))) number
+      (misfits_from (the_schema j.bases.names.now) d en (target_by j) r.name 0
+      (types_of (the_schema j.bases.names.now) en r.form)
+      (places_of (the_schema j.bases.names.now) en r.form) (parameters (records r.form)))) number
       ∙ sound-so e d en is)
 
   -- .. of parameters
@@ -127,13 +132,15 @@ module _ (j : Judge) (x : Form) (r : Row) (old new : List Finding) where
       → TellsAll j r.name x.slots.items (parameters (records r.form)) old new → TellsBehind j x r old new
   unfolding after-types
   tells-misfits n e c le told d en are is =
-      let number : 0 ≡ wrong_counts (schema_by j) en r.form =
-      (let z : 0 ≡ n = omega (arith, le) in z) ∙ c ∙ counted-so (schema_by j) en r.form x is in
-      told d en are (types_of (schema_by j) en r.form) (places_of (schema_by j) en r.form) is.slots
+      let number : 0 ≡ wrong_counts (the_schema j.bases.names.now) en r.form =
+      (let z : 0 ≡ n = omega (arith, le) in z) ∙ c ∙ counted-so (the_schema j.bases.names.now) en r.form x is in
+      told d en are (types_of (the_schema j.bases.names.now) en r.form)
+      (places_of (the_schema j.bases.names.now) en r.form) is.slots
       ∙ ap (λ l. old ++ l)
       (ap (λ k. or_next (whole r.name ParameterCount k)
-      (misfits_from (schema_by j) d en (target_by j) r.name 0 (types_of (schema_by j) en r.form)
-      (places_of (schema_by j) en r.form) (parameters (records r.form)))) number
+      (misfits_from (the_schema j.bases.names.now) d en (target_by j) r.name 0
+      (types_of (the_schema j.bases.names.now) en r.form)
+      (places_of (the_schema j.bases.names.now) en r.form) (parameters (records r.form)))) number
       ∙ sound-so e d en is)
 
   -- an instance of a form
@@ -143,16 +150,16 @@ module _ (j : Judge) (x : Form) (r : Row) (old new : List Finding) where
       (λ d en are of.
       told d en are of.1
       ∙ ap (λ n. old ++ or_next (whole r.name UnknownEntity n) (behind j d en r))
-      (sym (none-unknown (schema_by j) (records r.form) of.0)))
+      (sym (none-unknown (the_schema j.bases.names.now) (records r.form) of.0)))
 
 -- .. of none
 pub tells-unknown : (j : Judge) (r : Row) (old new : List Finding) (o : Option Form) (n : ℕ) → None ≡ o
-    → n ≡ unknown_among (schema_by j) (records r.form) → new ≡ old ++ whole r.name UnknownEntity n
+    → n ≡ unknown_among (the_schema j.bases.names.now) (records r.form) → new ≡ old ++ whole r.name UnknownEntity n
     → TellsForm j o r old new
 tells-unknown j r old new o n e c told =
     subst (λ k. TellsForm j k r old new) e
     (λ d en are none.
-    let some = some-unknown (schema_by j) (records r.form) none in
+    let some = some-unknown (the_schema j.bases.names.now) (records r.form) none in
     told ∙ ap (λ k. old ++ whole r.name UnknownEntity k) (c ∙ some.1)
     ∙ ap (λ k. old ++ or_next (whole r.name UnknownEntity k) (behind j d en r)) (sym some.1))
 
@@ -172,10 +179,10 @@ pub rows-told-next : (j : Judge) (t : Rows) (rs : List Row) (old : List Finding)
     → drop i rs ≡ r ∷ drop (i + 1) rs → TellsForm j (form_at t i) r mid new
     → TellsRowsTo j t rs old (drop (i + 1) rs) new
 rows-told-next j t rs old i r mid new before at first told d en are have =
-    let F = row_findings (schema_by j) d en (target_by j) in
-    let (o, number, has) = form-of-row (schema_by j) en t rs t.form_of.items i r have at in
+    let F = row_findings (the_schema j.bases.names.now) d en (target_by j) in
+    let (o, number, has) = form-of-row (the_schema j.bases.names.now) en t rs t.form_of.items i r have at in
     ap (λ l. l ++ flat_map F (drop (i + 1) rs))
-    (told d en are (form-is (schema_by j) en t i r.form o number has))
+    (told d en are (form-is (the_schema j.bases.names.now) en t i r.form o number has))
     ∙ append_assoc mid (F r) (flat_map F (drop (i + 1) rs))
     ∙ ap (λ l. mid ++ flat_map F l) (sym first) ∙ before d en are have
 
@@ -183,7 +190,8 @@ pub rows-told : (j : Judge) (t : Rows) (rs : List Row) (old : List Finding) (lef
     → left ≡ [] → TellsRowsTo j t rs old left new → TellsRows j t rs old new
 rows-told j t rs old left new e told d en are have =
     sym (append-nil new)
-    ∙ ap (λ l. new ++ flat_map (row_findings (schema_by j) d en (target_by j)) l) (sym e) ∙ told d en are have
+    ∙ ap (λ l. new ++ flat_map (row_findings (the_schema j.bases.names.now) d en (target_by j)) l) (sym e)
+    ∙ told d en are have
 
 -- where a call succeeds
 pub on-ok : {T E P Q : Type 0} (r : Result T E) → (P → Q) → OnOk r P → OnOk r Q
@@ -197,13 +205,13 @@ three-told old a b new x y z e f g =
 
 -- .. of a file: that of the schema's name, then those of its instances
 pub all-told : (j : Judge) (d : Domain) (en : Entities) (t : Rows) (x : Exchange) (name : Word) (rows : List Row)
-    (first fs : List Finding) → (schema_by j).name ≡ upper name.text.now → rows ≡ rows_in x
+    (first fs : List Finding) → (the_schema j.bases.names.now).name ≡ upper name.text.now → rows ≡ rows_in x
     → first ≡ schema_told (upper name.text.now) (structure x)
-    → TellsRows j t rows first fs → AreOf j d en → AreRowsOf (schema_by j) en (rows_in x) t
+    → TellsRows j t rows first fs → AreOf j d en → AreRowsOf (the_schema j.bases.names.now) en (rows_in x) t
     → j.targets.index.now ≡ t.index → j.targets.forms.now ≡ t.form_of.items → j.targets.types.now ≡ t.types.items
-    → fs ≡ findings (schema_by j) d en (structure x)
+    → fs ≡ findings (the_schema j.bases.names.now) d en (structure x)
 all-told j d en t x name rows first fs called same told tells are of index forms types =
-    let s = schema_by j in
+    let s = the_schema j.bases.names.now in
     let have = subst (λ rs. HaveForms s en t rs t.form_of.items) (sym same) of.forms in
     let leads : target_by j ≡ target_in s d en (rows_in x) =
     target-is s d en t j.targets (of.types ∙ ap graph_of (sym types)) (rows_in x) of.forms

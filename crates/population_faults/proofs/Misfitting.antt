@@ -10,6 +10,7 @@ use Rattle.step_structures.specs.Trees.{Tree, Trees, none}
 use Rattle.step_records.specs.Params.{parts_of}
 use Rattle.step_exchange.specs.Views.{record_of, record_in, begins_with_keyword, form_of}
 use Rattle.step_exchange.proofs.SchemaNames.{values_behind}
+use Rattle.schema_names.specs.Schemas.{the_schema}
 use Rattle.population_faults.proofs.Makings.{form-internal}
 use Rattle.step_records.specs.Cells.{all_of}
 use Rattle.step_exchange.proofs.Cuts.{drop_next}
@@ -26,7 +27,7 @@ use Rattle.conformance.specs.Findings.{misfit_of, misfit_at, misfits_from, at_pl
 use Rattle.population_rows.specs.declared.form.SlotForm.{SlotForm}
 use Rattle.population_layouts.specs.Forms.{AreSlotsOf, IsSlotOf}
 use Rattle.population_faults.specs.declared.judge.Judge.{Judge}
-use Rattle.population_faults.specs.Judging.{AreOf, schema_by, target_by, TellsBetween, TellsRecord, TellsUpTo, TellsAll}
+use Rattle.population_faults.specs.Judging.{AreOf, target_by, TellsBetween, TellsRecord, TellsUpTo, TellsAll}
 
 pub every-get : {A : Type 0} (P : A → Type 0) (xs : List A) (i : ℕ) (d : A) → Every P xs → i < length xs
     → P (get_or xs i d)
@@ -138,20 +139,21 @@ pub tells-next : (j : Judge) (name : ℕ) (slots : List SlotForm) (from : ℕ) (
     → TellsBetween j name slots from xs old place (all_of (drop i values)) mid
     → slice_get values i ≡ Some x → place < length slots → slot ≡ get_or slots place slot
     → ((d : Domain) (en : Entities) → AreOf j d en → (types : List Name) (p : Place)
-    → IsSlotOf (schema_by j) en types p slot → kind ≡ misfit_at (schema_by j) d en (target_by j) types p x)
+    → IsSlotOf (the_schema j.bases.names.now) en types p slot
+    → kind ≡ misfit_at (the_schema j.bases.names.now) d en (target_by j) types p x)
     → new ≡ mid ++ at_place name (place + 1) kind
     → TellsBetween j name slots from xs old (place + 1) (all_of (drop (i + 1) values)) new
 tells-next j name slots from xs old place values i x mid new slot kind before at lt item judged told d en are types ps
     ss ys =
-    let (p, is, rest) = slot-at (schema_by j) en types ps slots place slot ss lt item in
-    let M = misfits_from (schema_by j) d en (target_by j) name in
+    let (p, is, rest) = slot-at (the_schema j.bases.names.now) en types ps slots place slot ss lt item in
+    let M = misfits_from (the_schema j.bases.names.now) d en (target_by j) name in
     let behind : List Finding = M (place + 1) types (drop (place + 1) ps) (joined (all_of (drop (i + 1) values)) ys) in
     let first : drop i values ≡ x ∷ drop (i + 1) values = drop-item values i x at in
     let told-here : List Finding = at_place name (place + 1) kind in
     let step : M place types (drop place ps) (joined (all_of (drop i values)) ys) ≡ told-here ++ behind =
     ap (λ l. M place types l (joined (all_of (drop i values)) ys)) rest
     ∙ ap (λ l. M place types (p ∷ drop (place + 1) ps) (joined (all_of l) ys)) first
-    ∙ ap (λ n. at_place name n (misfit_at (schema_by j) d en (target_by j) types p x)
+    ∙ ap (λ n. at_place name n (misfit_at (the_schema j.bases.names.now) d en (target_by j) types p x)
     ++ M n types (drop (place + 1) ps) (joined (all_of (drop (i + 1) values)) ys)) (sym add-one-is)
     ∙ ap (λ k. at_place name (place + 1) k ++ behind) (sym (judged d en are types p is)) in
     ap (λ l. l ++ behind) told ∙ append_assoc mid told-here behind ∙ ap (λ l. mid ++ l) (sym step)
@@ -168,7 +170,7 @@ pub tells-record-next : (j : Judge) (name : ℕ) (slots : List SlotForm) (xs : T
     → TellsRecord j name slots from (all_of values) mid new to
     → TellsUpTo j name slots xs old to (parameters (map record_in (drop (i + 1) partials))) new
 tells-record-next j name slots xs old from partials i x values mid new to before at e told d en are types ps ss =
-    let M = misfits_from (schema_by j) d en (target_by j) name in
+    let M = misfits_from (the_schema j.bases.names.now) d en (target_by j) name in
     let behind : Trees = parameters (map record_in (drop (i + 1) partials)) in
     let own : (record_in x).values ≡ all_of values = values_behind (parts_of x) ∙ ap all_of (sym e) in
     told d en are types ps ss behind
@@ -180,9 +182,9 @@ pub tells-all : (j : Judge) (name : ℕ) (slots : List SlotForm) (xs : Trees) (o
     (left : Trees) (new : List Finding) → left ≡ none → TellsUpTo j name slots xs old to left new
     → TellsAll j name slots xs old new
 tells-all j name slots xs old to left new e told d en are types ps ss =
-    let M = misfits_from (schema_by j) d en (target_by j) name in
+    let M = misfits_from (the_schema j.bases.names.now) d en (target_by j) name in
     sym (append-nil new)
-    ∙ ap (λ l. new ++ l) (sym (none-left (schema_by j) d en (target_by j) name to types (drop to ps)))
+    ∙ ap (λ l. new ++ l) (sym (none-left (the_schema j.bases.names.now) d en (target_by j) name to types (drop to ps)))
     ∙ ap (λ l. new ++ M to types (drop to ps) l) (sym e) ∙ told d en are types ps ss
 
 pub tells-one : (j : Judge) (name : ℕ) (slots : List SlotForm) (parts values : List Tree) (old new : List Finding)
@@ -194,7 +196,7 @@ tells-one j name slots parts values old new to k e told =
     (tells-all j name slots (parameters (record_of parts ∷ [])) old to none new refl
     (λ d en are types ps ss.
     told d en are types ps ss none
-    ∙ ap (λ l. old ++ misfits_from (schema_by j) d en (target_by j) name 0 types ps (joined l none))
+    ∙ ap (λ l. old ++ misfits_from (the_schema j.bases.names.now) d en (target_by j) name 0 types ps (joined l none))
     (ap all_of e ∙ sym (values_behind parts))))
 
 -- where there are no more attributes, or no more parameters
@@ -202,8 +204,8 @@ pub tells-short : (j : Judge) (name : ℕ) (slots : List SlotForm) (from : ℕ) 
     (left : Trees) (new : List Finding) → length slots ≤ to → TellsBetween j name slots from xs old to left new
     → TellsRecord j name slots from xs old new to
 tells-short j name slots from xs old to left new le told d en are types ps ss ys =
-    let M = misfits_from (schema_by j) d en (target_by j) name in
-    let over = slots-end (schema_by j) en types ps slots to ss le in
+    let M = misfits_from (the_schema j.bases.names.now) d en (target_by j) name in
+    let over = slots-end (the_schema j.bases.names.now) en types ps slots to ss le in
     ap (λ l. new ++ M to types l ys) over ∙ ap (λ l. new ++ M to types l (joined left ys)) (sym over)
     ∙ told d en are types ps ss ys
 
@@ -212,12 +214,16 @@ pub slot-misfit-is : {E : Type 0} (j : Judge) (slot : SlotForm) (x : Tree) (resu
     (ns : List ℕ) → ns ≡ slot.data_types.items → slot.is_derived ≡ false
     → (slot.is_optional && is_dollar x) ≡ false
     → IfOk result (λ f. (d : Domain) → (en : Entities) → AreOf j d en
-    → Every (λ k. IsKnown (schema_by j) (type_at (schema_by j) k)) ns
-    → f ≡ misfit_of (schema_by j) d en (target_by j) (map (type_at (schema_by j)) ns) x)
+    → Every (λ k. IsKnown (the_schema j.bases.names.now) (type_at (the_schema j.bases.names.now) k)) ns
+    → f ≡ misfit_of (the_schema j.bases.names.now) d en (target_by j) (map (type_at (the_schema j.bases.names.now)) ns)
+    x)
     → IfOk result (λ f. (d : Domain) → (en : Entities) → AreOf j d en → (types : List Name) → (p : Place)
-    → IsSlotOf (schema_by j) en types p slot → f ≡ misfit_at (schema_by j) d en (target_by j) types p x)
+    → IsSlotOf (the_schema j.bases.names.now) en types p slot
+    → f ≡ misfit_at (the_schema j.bases.names.now) d en (target_by j) types p x)
 slot-misfit-is j slot x (Ok f) ns e derived unset h = λ d en are types p is.
-    as-asked (schema_by j) d en (target_by j) types p x slot is f derived unset
-    (h d en are (subst (Every (λ k. IsKnown (schema_by j) (type_at (schema_by j) k))) (sym e) is.known)
-    ∙ ap (λ l. misfit_of (schema_by j) d en (target_by j) (map (type_at (schema_by j)) l) x) e)
+    as-asked (the_schema j.bases.names.now) d en (target_by j) types p x slot is f derived unset
+    (h d en are (subst (Every (λ k. IsKnown (the_schema j.bases.names.now) (type_at (the_schema j.bases.names.now) k)))
+    (sym e) is.known)
+    ∙ ap (λ l. misfit_of (the_schema j.bases.names.now) d en (target_by j)
+    (map (type_at (the_schema j.bases.names.now)) l) x) e)
 slot-misfit-is j slot x (Err g) ns e derived unset h = h

@@ -12,7 +12,7 @@ use Rattle.conformance.specs.Fitting.{Target}
 use Rattle.conformance.specs.Findings.{whole, or_next, misfits_from, row_findings}
 use Rattle.conformance.specs.declared.finding.FindingKind.TheVariants.{AbstractInstance, MissingSupertype, OneOfBroken, ParameterCount, SchemaName}
 use Rattle.conformance.specs.declared.finding.Spot.TheVariants.{Nothing}
-use Rattle.schema_bases.specs.Seen.{schema_at}
+use Rattle.schema_names.specs.Schemas.{the_schema}
 use Rattle.schema_bases.specs.Tables.{AreBases}
 use Rattle.population_fits.specs.Targets.{AreTargets, target_of}
 use Rattle.population_rows.specs.declared.form.SlotForm.{SlotForm}
@@ -23,28 +23,25 @@ use Rattle.population_faults.specs.Rows.{HasTypes, HaveForms}
 use Rattle.population_faults.specs.declared.judge.Judge.{Judge}
 use Rattle.population_rows.specs.declared.rows.Rows.{Rows}
 
--- the schema by which is judged
-abbrev pub schema_by : Judge → Schema
-schema_by j = schema_at j.bases
-
 -- what references lead to
 abbrev pub target_by : Judge → ℕ → Target
-target_by j = target_of (schema_by j) j.targets
+target_by j = target_of (the_schema j.bases.names.now) j.targets
 
 abbrev pub IsJudge : Judge → Type 0
-IsJudge j = AreBases j.bases × AreTargets (schema_by j) j.targets
+IsJudge j = AreBases j.bases × AreTargets (the_schema j.bases.names.now) j.targets
 
 -- the functions of the schema
 abbrev pub AreOf : Judge → Domain → Entities → Type 0
-AreOf j d en = IsDomain (schema_by j) d × AreEntities (schema_by j) en
+AreOf j d en = IsDomain (the_schema j.bases.names.now) d × AreEntities (the_schema j.bases.names.now) en
 
 -- Those of the parameters xs behind so many attributes, and then of any others, are what is told and what is left.
 abbrev pub TellsBetween : Judge → ℕ → List SlotForm → ℕ → Trees → List Finding → ℕ → Trees → List Finding → Type 0
 TellsBetween j name slots from xs old to left new =
     (d : Domain) (en : Entities) → AreOf j d en → (types : List Name) (ps : List Place)
-    → AreSlotsOf (schema_by j) en types ps slots → (ys : Trees)
-    → new ++ misfits_from (schema_by j) d en (target_by j) name to types (drop to ps) (joined left ys)
-    ≡ old ++ misfits_from (schema_by j) d en (target_by j) name from types (drop from ps) (joined xs ys)
+    → AreSlotsOf (the_schema j.bases.names.now) en types ps slots → (ys : Trees)
+    → new ++ misfits_from (the_schema j.bases.names.now) d en (target_by j) name to types (drop to ps) (joined left ys)
+    ≡ old ++ misfits_from (the_schema j.bases.names.now) d en (target_by j) name from types (drop from ps)
+    (joined xs ys)
 
 -- .. of a record's, of which none are left
 abbrev pub TellsRecord : Judge → ℕ → List SlotForm → ℕ → Trees → List Finding → List Finding → ℕ → Type 0
@@ -54,9 +51,9 @@ TellsRecord j name slots from xs old new to = TellsBetween j name slots from xs 
 abbrev pub TellsUpTo : Judge → ℕ → List SlotForm → Trees → List Finding → ℕ → Trees → List Finding → Type 0
 TellsUpTo j name slots xs old to left new =
     (d : Domain) (en : Entities) → AreOf j d en → (types : List Name) (ps : List Place)
-    → AreSlotsOf (schema_by j) en types ps slots
-    → new ++ misfits_from (schema_by j) d en (target_by j) name to types (drop to ps) left
-    ≡ old ++ misfits_from (schema_by j) d en (target_by j) name 0 types ps xs
+    → AreSlotsOf (the_schema j.bases.names.now) en types ps slots
+    → new ++ misfits_from (the_schema j.bases.names.now) d en (target_by j) name to types (drop to ps) left
+    ≡ old ++ misfits_from (the_schema j.bases.names.now) d en (target_by j) name 0 types ps xs
 
 -- an instance has a form where all its keywords are entities
 abbrev pub IsOfForm : Schema → Entities → Option Form → trees.Form → Type 0
@@ -67,8 +64,8 @@ IsOfForm s en (Some x) f = HasTypes s f × IsFormOf s en f x
 abbrev pub TellsAll : Judge → ℕ → List SlotForm → Trees → List Finding → List Finding → Type 0
 TellsAll j name slots xs old new =
     (d : Domain) (en : Entities) → AreOf j d en → (types : List Name) (ps : List Place)
-    → AreSlotsOf (schema_by j) en types ps slots
-    → new ≡ old ++ misfits_from (schema_by j) d en (target_by j) name 0 types ps xs
+    → AreSlotsOf (the_schema j.bases.names.now) en types ps slots
+    → new ≡ old ++ misfits_from (the_schema j.bases.names.now) d en (target_by j) name 0 types ps xs
 
 -- a schema asks nothing of the types that they don't have
 abbrev pub is_sound : Form → Bool
@@ -84,35 +81,37 @@ TellsTypes name x old new = new ≡ old ++ types_told name x.abstract_leaves x.m
 -- the findings of an instance of which all keywords are entities
 abbrev pub behind : Judge → Domain → Entities → Row → List Finding
 behind j d en r =
-    let types = types_of (schema_by j) en r.form in
-    or_next (types_told r.name (abstract_leaves (schema_by j) en types) (missing_supertypes (schema_by j) en types)
-    (broken_one_ofs (schema_by j) en types))
-    (or_next (whole r.name ParameterCount (wrong_counts (schema_by j) en r.form))
-    (misfits_from (schema_by j) d en (target_by j) r.name 0 types (places_of (schema_by j) en r.form)
-    (parameters (records r.form))))
+    let types = types_of (the_schema j.bases.names.now) en r.form in
+    or_next (types_told r.name (abstract_leaves (the_schema j.bases.names.now) en types)
+    (missing_supertypes (the_schema j.bases.names.now) en types)
+    (broken_one_ofs (the_schema j.bases.names.now) en types))
+    (or_next (whole r.name ParameterCount (wrong_counts (the_schema j.bases.names.now) en r.form))
+    (misfits_from (the_schema j.bases.names.now) d en (target_by j) r.name 0 types
+    (places_of (the_schema j.bases.names.now) en r.form) (parameters (records r.form))))
 
 abbrev pub TellsBehind : Judge → Form → Row → List Finding → List Finding → Type 0
 TellsBehind j x r old new =
-    (d : Domain) (en : Entities) → AreOf j d en → IsFormOf (schema_by j) en r.form x → new ≡ old ++ behind j d en r
+    (d : Domain) (en : Entities) → AreOf j d en → IsFormOf (the_schema j.bases.names.now) en r.form x
+    → new ≡ old ++ behind j d en r
 
 -- The findings of an instance are told; its form is that of the row.
 abbrev pub TellsForm : Judge → Option Form → Row → List Finding → List Finding → Type 0
 TellsForm j x r old new =
-    (d : Domain) (en : Entities) → AreOf j d en → IsOfForm (schema_by j) en x r.form
-    → new ≡ old ++ row_findings (schema_by j) d en (target_by j) r
+    (d : Domain) (en : Entities) → AreOf j d en → IsOfForm (the_schema j.bases.names.now) en x r.form
+    → new ≡ old ++ row_findings (the_schema j.bases.names.now) d en (target_by j) r
 
 -- .. of each
 abbrev pub TellsRows : Judge → Rows → List Row → List Finding → List Finding → Type 0
 TellsRows j t rs old new =
-    (d : Domain) (en : Entities) → AreOf j d en → HaveForms (schema_by j) en t rs t.form_of.items
-    → new ≡ old ++ flat_map (row_findings (schema_by j) d en (target_by j)) rs
+    (d : Domain) (en : Entities) → AreOf j d en → HaveForms (the_schema j.bases.names.now) en t rs t.form_of.items
+    → new ≡ old ++ flat_map (row_findings (the_schema j.bases.names.now) d en (target_by j)) rs
 
 -- .. where some are left
 abbrev pub TellsRowsTo : Judge → Rows → List Row → List Finding → List Row → List Finding → Type 0
 TellsRowsTo j t rs old left new =
-    (d : Domain) (en : Entities) → AreOf j d en → HaveForms (schema_by j) en t rs t.form_of.items
-    → new ++ flat_map (row_findings (schema_by j) d en (target_by j)) left
-    ≡ old ++ flat_map (row_findings (schema_by j) d en (target_by j)) rs
+    (d : Domain) (en : Entities) → AreOf j d en → HaveForms (the_schema j.bases.names.now) en t rs t.form_of.items
+    → new ++ flat_map (row_findings (the_schema j.bases.names.now) d en (target_by j)) left
+    ≡ old ++ flat_map (row_findings (the_schema j.bases.names.now) d en (target_by j)) rs
 
 -- that of the schema's name
 abbrev pub schema_told : Name → trees.File → List Finding

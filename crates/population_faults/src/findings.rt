@@ -7,8 +7,9 @@ ghost use Rattle.step_exchange.specs.Views.{form_in, form_of, rows_with};
 ghost use Rattle.conformance.specs.Bases.{Domain, IsDomain};
 ghost use Rattle.conformance.specs.Entities.{Entities, AreEntities};
 ghost use Rattle.conformance.specs.Findings.{findings};
+ghost use Rattle.schema_names.specs.Schemas.{the_schema};
 ghost use Rattle.schema_bases.specs.Tables.{AreBases};
-ghost use Rattle.population_layouts.specs.Knowing.{AreKnown, schema_in};
+ghost use Rattle.population_layouts.specs.Knowing.{AreKnown};
 ghost use Rattle.population_faults.specs.Rows.{AreRowsOf, rows_in};
 ghost use Rattle.population_rows.specs.Rows.{form_at};
 ghost use Rattle.population_faults.specs.Judging.{
@@ -181,11 +182,12 @@ pub fn findings(
     requires known { AreKnown known.now }
     requires bases { AreBases bases.now }
     requires same { known.now.names.now.schema.now ≡ bases.now.names.now.schema.now }
-    requires rows { (en : Entities) → AreEntities (schema_in known.now) en
-        → AreRowsOf (schema_in known.now) en (rows_in exchange.now) rows.now }
+    requires rows { (en : Entities) → AreEntities (the_schema known.now.names.now) en
+        → AreRowsOf (the_schema known.now.names.now) en (rows_in exchange.now) rows.now }
     ensures { IfOk result (λ fs. (d : Domain) → (en : Entities)
-        → IsDomain (schema_in known.now) d → AreEntities (schema_in known.now) en
-        → fs.items ≡ findings (schema_in known.now) d en (structure exchange.now)) }
+        → IsDomain (the_schema known.now.names.now) d
+        → AreEntities (the_schema known.now.names.now) en
+        → fs.items ≡ findings (the_schema known.now.names.now) d en (structure exchange.now)) }
 {
     entities_are_said(known);
     let mut found = Vec::new(alloc);

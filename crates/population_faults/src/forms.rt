@@ -4,8 +4,9 @@ ghost use Rattle.std.specs.Prelude.{◌≡◌, ℕ, List, [], ◌∷◌, Some, N
 ghost use Rattle.express_syntax.specs.Schemas.{Schema};
 ghost use Rattle.step_structures.specs.Trees.{Record};
 ghost use Rattle.step_exchange.specs.Views.{form_of};
+ghost use Rattle.schema_names.specs.Schemas.{the_schema};
 ghost use Rattle.population_layouts.specs.Forms.{NameEntities};
-ghost use Rattle.population_layouts.specs.Knowing.{AreKnown, schema_in};
+ghost use Rattle.population_layouts.specs.Knowing.{AreKnown};
 ghost use Rattle.population_faults.specs.Making.{
   AreMade,
   Adds,
@@ -108,10 +109,11 @@ impl Made {
         entity: u32,
     ) -> Result<u32, AllocError>
         requires known { AreKnown known.now }
-        requires made { AreMade (schema_in known.now) self.old }
-        requires named { (r : Record) × NameEntities (schema_in known.now) (r ∷ []) (entity ∷ []) }
-        ensures { IfOk result (MakesOne (schema_in known.now)
-            (IsInternal (schema_in known.now) entity) self.old self.new) }
+        requires made { AreMade (the_schema known.now.names.now) self.old }
+        requires named { (r : Record) × NameEntities (the_schema known.now.names.now) (r ∷ [])
+            (entity ∷ []) }
+        ensures { IfOk result (MakesOne (the_schema known.now.names.now)
+            (IsInternal (the_schema known.now.names.now) entity) self.old self.new) }
     {
         if let Some(number) = number_at(&self.internal, entity) {
             return Ok(number);
@@ -130,11 +132,11 @@ impl Made {
         entities: &Vec<u32>,
     ) -> Result<u32, AllocError>
         requires known { AreKnown known.now }
-        requires made { AreMade (schema_in known.now) self.old }
+        requires made { AreMade (the_schema known.now.names.now) self.old }
         requires named { (rs : List Record)
-            × NameEntities (schema_in known.now) rs entities.now.items }
-        ensures { IfOk result (MakesOne (schema_in known.now)
-            (IsExternal (schema_in known.now) entities.now.items) self.old self.new) }
+            × NameEntities (the_schema known.now.names.now) rs entities.now.items }
+        ensures { IfOk result (MakesOne (the_schema known.now.names.now)
+            (IsExternal (the_schema known.now.names.now) entities.now.items) self.old self.new) }
     {
         if let Some(number) = self.external.get(entities) {
             return Ok(*number);
@@ -156,8 +158,8 @@ impl Made {
         parts: &Params<'_, '_>,
     ) -> Result<Option<u32>, AllocError>
         requires known { AreKnown known.now }
-        requires made { AreMade (schema_in known.now) self.old }
-        ensures { IfOk result (MakesForm (schema_in known.now) (form_of parts.now)
+        requires made { AreMade (the_schema known.now.names.now) self.old }
+        ensures { IfOk result (MakesForm (the_schema known.now.names.now) (form_of parts.now)
             self.old self.new) }
     {
         if is_internal(parts) {

@@ -1,11 +1,11 @@
 //! The entities that the records of an instance name.
 
 ghost use Rattle.std.specs.Prelude.{◌≡◌, ◌≤◌, [], ◌∷◌, Some, map, IfOk, IsTrue};
-ghost use Rattle.express_syntax.specs.SchemaViews.{schema_of};
 ghost use Rattle.express_syntax.specs.ExpressionViews.{capitals};
 ghost use Rattle.schema_semantics.specs.Faults.{IsResolved};
 ghost use Rattle.step_exchange.specs.Views.{record_of, record_in, begins_with_keyword, form_of};
 ghost use Rattle.conformance.specs.Entities.{named_entity, records};
+ghost use Rattle.schema_names.specs.Schemas.{the_schema};
 ghost use Rattle.population_faults.specs.Keywords.{BeginsWith, IsEntityOf, NumberAll, unknown_among};
 
 use express_syntax::tree::Declaration;
@@ -73,8 +73,8 @@ pub fn is_internal(parts: &Params<'_, '_>) -> bool
 
 /// The number of the entity of this name; none where no entity has it.
 fn find_entity(names: &Names<'_, '_>, name: Word<'_>) -> Option<u32>
-    requires { IsResolved (schema_of names.now.schema.now) }
-    ensures { IsEntityOf (schema_of names.now.schema.now) (capitals name.entry) result }
+    requires { IsResolved (the_schema names.now) }
+    ensures { IsEntityOf (the_schema names.now) (capitals name.entry) result }
 {
     let Some(number) = names.find(name) else {
         return None;
@@ -87,9 +87,9 @@ fn find_entity(names: &Names<'_, '_>, name: Word<'_>) -> Option<u32>
 
 /// Whether the declaration of a number is an entity of this name.
 fn is_entity_at(names: &Names<'_, '_>, number: u32, name: Word<'_>) -> bool
-    requires { IsResolved (schema_of names.now.schema.now) }
+    requires { IsResolved (the_schema names.now) }
     ensures { IsTrue result
-        → IsEntityOf (schema_of names.now.schema.now) (capitals name.entry) (Some number) }
+        → IsEntityOf (the_schema names.now) (capitals name.entry) (Some number) }
 {
     match names.at(number) {
         Some(Declaration::Entity(entity)) => entity.name == name,
@@ -99,8 +99,8 @@ fn is_entity_at(names: &Names<'_, '_>, number: u32, name: Word<'_>) -> bool
 
 /// The number of the entity of this name, which is remembered; none where no entity has it.
 fn find_recent(names: &Names<'_, '_>, recent: &mut Recent, name: Word<'_>) -> Option<u32>
-    requires { IsResolved (schema_of names.now.schema.now) }
-    ensures { IsEntityOf (schema_of names.now.schema.now) (capitals name.entry) result }
+    requires { IsResolved (the_schema names.now) }
+    ensures { IsEntityOf (the_schema names.now) (capitals name.entry) result }
 {
     let place = Recent::place(name.spelling());
     if let Some(entity) = recent.entities.get(place).copied() {
@@ -122,9 +122,8 @@ pub fn recent_entity_of(
     recent: &mut Recent,
     record: &Params<'_, '_>,
 ) -> Option<u32>
-    requires { IsResolved (schema_of names.now.schema.now) }
-    ensures { IsEntityOf (schema_of names.now.schema.now)
-        (named_entity (record_of record.now)) result }
+    requires { IsResolved (the_schema names.now) }
+    ensures { IsEntityOf (the_schema names.now) (named_entity (record_of record.now)) result }
 {
     match keyword(record) {
         Some(word) => find_recent(names, recent, word),
@@ -134,9 +133,8 @@ pub fn recent_entity_of(
 
 /// The number of the entity that a record names; none where its keyword is no entity.
 fn entity_of(names: &Names<'_, '_>, record: &Params<'_, '_>) -> Option<u32>
-    requires { IsResolved (schema_of names.now.schema.now) }
-    ensures { IsEntityOf (schema_of names.now.schema.now)
-        (named_entity (record_of record.now)) result }
+    requires { IsResolved (the_schema names.now) }
+    ensures { IsEntityOf (the_schema names.now) (named_entity (record_of record.now)) result }
 {
     match keyword(record) {
         Some(word) => find_entity(names, word),
@@ -152,8 +150,8 @@ pub fn number_all(
     entities: &mut Vec<u32>,
     partials: &Params<'_, '_>,
 ) -> Result<bool, AllocError>
-    requires { IsResolved (schema_of names.now.schema.now) }
-    ensures { IfOk result (NumberAll (schema_of names.now.schema.now) (map record_in partials.now)
+    requires { IsResolved (the_schema names.now) }
+    ensures { IfOk result (NumberAll (the_schema names.now) (map record_in partials.now)
         entities.new.items) }
 {
     entities.clear();
@@ -168,9 +166,8 @@ pub fn number_all(
 
 /// 1 for a record that names no entity.
 fn unknown_entity(names: &Names<'_, '_>, record: &Params<'_, '_>) -> usize
-    requires { IsResolved (schema_of names.now.schema.now) }
-    ensures counted { result ≡ unknown_among (schema_of names.now.schema.now)
-        (record_of record.now ∷ []) }
+    requires { IsResolved (the_schema names.now) }
+    ensures counted { result ≡ unknown_among (the_schema names.now) (record_of record.now ∷ []) }
     ensures few { result ≤ 1 }
 {
     match entity_of(names, record) {
@@ -181,8 +178,8 @@ fn unknown_entity(names: &Names<'_, '_>, record: &Params<'_, '_>) -> usize
 
 /// How many partial records name no entity.
 fn unknown_partials(names: &Names<'_, '_>, partials: &Params<'_, '_>) -> usize
-    requires { IsResolved (schema_of names.now.schema.now) }
-    ensures { result ≡ unknown_among (schema_of names.now.schema.now) (map record_in partials.now) }
+    requires { IsResolved (the_schema names.now) }
+    ensures { result ≡ unknown_among (the_schema names.now) (map record_in partials.now) }
 {
     let mut unknown: usize = 0;
     for i in 0..partials.len() {
@@ -193,9 +190,8 @@ fn unknown_partials(names: &Names<'_, '_>, partials: &Params<'_, '_>) -> usize
 
 /// How many records of an instance name no entity.
 pub fn unknown_entities(names: &Names<'_, '_>, parts: &Params<'_, '_>) -> usize
-    requires { IsResolved (schema_of names.now.schema.now) }
-    ensures { result ≡ unknown_among (schema_of names.now.schema.now)
-        (records (form_of parts.now)) }
+    requires { IsResolved (the_schema names.now) }
+    ensures { result ≡ unknown_among (the_schema names.now) (records (form_of parts.now)) }
 {
     if !is_internal(parts) {
         return unknown_partials(names, parts);

@@ -6,6 +6,7 @@ ghost use Rattle.step_records.specs.Cells.{all_of};
 ghost use Rattle.step_exchange.specs.Views.{record_in, form_of};
 ghost use Rattle.schema_semantics.specs.Names.{Name};
 ghost use Rattle.schema_semantics.specs.Attributes.{Place};
+ghost use Rattle.schema_names.specs.Schemas.{the_schema};
 ghost use Rattle.schema_bases.specs.Seen.{type_at};
 ghost use Rattle.schema_bases.specs.Tables.{IsKnown};
 ghost use Rattle.conformance.specs.Bases.{Domain};
@@ -13,14 +14,7 @@ ghost use Rattle.conformance.specs.Entities.{Entities, records, parameters};
 ghost use Rattle.conformance.specs.Fitting.{is_dollar, is_star_or_dollar};
 ghost use Rattle.conformance.specs.Findings.{misfit_of, misfit_at};
 ghost use Rattle.population_layouts.specs.Forms.{IsSlotOf};
-ghost use Rattle.population_faults.specs.Judging.{
-  IsJudge,
-  AreOf,
-  TellsRecord,
-  TellsAll,
-  schema_by,
-  target_by,
-};
+ghost use Rattle.population_faults.specs.Judging.{IsJudge, AreOf, TellsRecord, TellsAll, target_by};
 
 use crate::judge::Judge;
 use crate::keywords::is_internal;
@@ -53,10 +47,10 @@ fn first_misfit(
 ) -> Result<Option<FindingKind>, AllocError>
     requires { IsJudge judge.now }
     ensures { IfOk result (λ f. (d : Domain) → (en : Entities) → AreOf judge.now d en
-        → Every (λ k. IsKnown (schema_by judge.now) (type_at (schema_by judge.now) k))
-        data_types.now
-        → f ≡ misfit_of (schema_by judge.now) d en (target_by judge.now)
-        (map (type_at (schema_by judge.now)) data_types.now) param.now) }
+        → Every (λ k. IsKnown (the_schema judge.now.bases.names.now)
+        (type_at (the_schema judge.now.bases.names.now) k)) data_types.now
+        → f ≡ misfit_of (the_schema judge.now.bases.names.now) d en (target_by judge.now)
+        (map (type_at (the_schema judge.now.bases.names.now)) data_types.now) param.now) }
 {
     for number in data_types {
         let base = judge.bases.of_number(*number);
@@ -83,8 +77,10 @@ fn slot_misfit(
 ) -> Result<Option<FindingKind>, AllocError>
     requires { IsJudge judge.now }
     ensures { IfOk result (λ f. (d : Domain) → (en : Entities) → AreOf judge.now d en
-        → (types : List Name) → (p : Place) → IsSlotOf (schema_by judge.now) en types p slot.now
-        → f ≡ misfit_at (schema_by judge.now) d en (target_by judge.now) types p param.now) }
+        → (types : List Name) → (p : Place)
+        → IsSlotOf (the_schema judge.now.bases.names.now) en types p slot.now
+        → f ≡ misfit_at (the_schema judge.now.bases.names.now) d en (target_by judge.now) types p
+        param.now) }
 {
     if slot.is_derived {
         if is_left_out(param) {

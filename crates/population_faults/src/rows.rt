@@ -2,7 +2,8 @@
 
 ghost use Rattle.std.specs.Prelude.{IfOk};
 ghost use Rattle.conformance.specs.Entities.{Entities, AreEntities};
-ghost use Rattle.population_layouts.specs.Knowing.{AreKnown, schema_in};
+ghost use Rattle.schema_names.specs.Schemas.{the_schema};
+ghost use Rattle.population_layouts.specs.Knowing.{AreKnown};
 ghost use Rattle.population_faults.specs.Rows.{AreRowsOf, rows_in};
 ghost use Rattle.population_faults.specs.Making.{AreMade, MakeForms};
 
@@ -27,8 +28,9 @@ fn forms_of(
     instances: &Params<'_, '_>,
 ) -> Result<Vec<Option<u32>>, AllocError>
     requires known { AreKnown known.now }
-    requires made { AreMade (schema_in known.now) made.old }
-    ensures { IfOk result (λ v. MakeForms (schema_in known.now) instances.now made.new v.items) }
+    requires made { AreMade (the_schema known.now.names.now) made.old }
+    ensures { IfOk result (λ v. MakeForms (the_schema known.now.names.now) instances.now made.new
+        v.items) }
 {
     let mut form_of = Vec::with_capacity(alloc, instances.len())?;
     let mut recent = Recent::new(alloc)?;
@@ -53,8 +55,8 @@ pub fn rows_of(
     exchange: &Exchange<'_>,
 ) -> Result<Rows, AllocError>
     requires known { AreKnown known.now }
-    ensures { IfOk result (λ t. (en : Entities) → AreEntities (schema_in known.now) en
-        → AreRowsOf (schema_in known.now) en (rows_in exchange.now) t) }
+    ensures { IfOk result (λ t. (en : Entities) → AreEntities (the_schema known.now.names.now) en
+        → AreRowsOf (the_schema known.now.names.now) en (rows_in exchange.now) t) }
 {
     let names = exchange.names.as_slice();
     if names.len() > MOST_ROWS {

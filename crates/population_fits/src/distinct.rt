@@ -13,7 +13,8 @@ ghost use Rattle.conformance.specs.Fitting.{
   set_ones,
   are_distinct,
 };
-ghost use Rattle.schema_bases.specs.Seen.{base_seen, schema_at};
+ghost use Rattle.schema_names.specs.Schemas.{the_schema};
+ghost use Rattle.schema_bases.specs.Seen.{base_seen};
 ghost use Rattle.schema_bases.specs.Tables.{AreBases, IsNumbered};
 ghost use Rattle.population_fits.specs.Apart.{neighbours_apart};
 ghost use Rattle.population_fits.specs.Named.{each_by_name};
@@ -36,10 +37,10 @@ pub fn are_distinct(
     params: &Params<'_, '_>,
 ) -> Result<bool, AllocError>
     requires bases { AreBases bases.now }
-    requires numbered { IsNumbered (schema_at bases.now) base }
-    ensures { IfOk result (λ b. (d : Domain) → IsDomain (schema_at bases.now) d
-        → b ≡ are_distinct (values_as (schema_at bases.now) d
-        (base_seen (schema_at bases.now) base) (all_of params.now))) }
+    requires numbered { IsNumbered (the_schema bases.now.names.now) base }
+    ensures { IfOk result (λ b. (d : Domain) → IsDomain (the_schema bases.now.names.now) d
+        → b ≡ are_distinct (values_as (the_schema bases.now.names.now) d
+        (base_seen (the_schema bases.now.names.now) base) (all_of params.now))) }
 {
     if params.len() < 2 {
         return Ok(true);
@@ -57,10 +58,10 @@ fn set_forms<'a>(
     params: &Params<'a, '_>,
 ) -> Result<Vec<Normal<'a>>, AllocError>
     requires bases { AreBases bases.now }
-    requires numbered { IsNumbered (schema_at bases.now) base }
-    ensures { IfOk result (λ ns. (d : Domain) → IsDomain (schema_at bases.now) d
-        → AreNormal (each_by_name (set_ones (values_as (schema_at bases.now) d
-        (base_seen (schema_at bases.now) base) (all_of params.now)))) ns.items) }
+    requires numbered { IsNumbered (the_schema bases.now.names.now) base }
+    ensures { IfOk result (λ ns. (d : Domain) → IsDomain (the_schema bases.now.names.now) d
+        → AreNormal (each_by_name (set_ones (values_as (the_schema bases.now.names.now) d
+        (base_seen (the_schema bases.now.names.now) base) (all_of params.now)))) ns.items) }
 {
     let mut forms = Vec::with_capacity(alloc, params.len())?;
     for i in 0..params.len() {

@@ -6,7 +6,8 @@ ghost use Rattle.step_records.specs.Params.{node_value};
 ghost use Rattle.step_structures.specs.Trees.{typed, group};
 ghost use Rattle.conformance.specs.Bases.{Domain, IsDomain};
 ghost use Rattle.conformance.specs.Fitting.{misfit, misfit_each, is_dollar};
-ghost use Rattle.schema_bases.specs.Seen.{base_seen, schema_at};
+ghost use Rattle.schema_names.specs.Schemas.{the_schema};
+ghost use Rattle.schema_bases.specs.Seen.{base_seen};
 ghost use Rattle.schema_bases.specs.Tables.{AreBases, IsNumbered};
 ghost use Rattle.population_fits.specs.Targets.{AreTargets, target_of};
 
@@ -37,11 +38,12 @@ pub fn misfit(
     param: &Param<'_, '_>,
 ) -> Result<Option<FindingKind>, AllocError>
     requires bases { AreBases bases.now }
-    requires targets { AreTargets (schema_at bases.now) targets.now }
-    requires numbered { IsNumbered (schema_at bases.now) base.now }
-    ensures { IfOk result (λ f. (d : Domain) → IsDomain (schema_at bases.now) d
-        → f ≡ misfit (schema_at bases.now) d (target_of (schema_at bases.now) targets.now)
-        (base_seen (schema_at bases.now) base.now) param.now) }
+    requires targets { AreTargets (the_schema bases.now.names.now) targets.now }
+    requires numbered { IsNumbered (the_schema bases.now.names.now) base.now }
+    ensures { IfOk result (λ f. (d : Domain) → IsDomain (the_schema bases.now.names.now) d
+        → f ≡ misfit (the_schema bases.now.names.now) d
+        (target_of (the_schema bases.now.names.now) targets.now)
+        (base_seen (the_schema bases.now.names.now) base.now) param.now) }
 {
     misfit_node(alloc, bases, targets, base, param.node())
 }
@@ -56,11 +58,12 @@ fn misfit_node(
     node: Node<'_, '_>,
 ) -> Result<Option<FindingKind>, AllocError>
     requires bases { AreBases bases.now }
-    requires targets { AreTargets (schema_at bases.now) targets.now }
-    requires numbered { IsNumbered (schema_at bases.now) base.now }
-    ensures { IfOk result (λ f. (d : Domain) → IsDomain (schema_at bases.now) d
-        → f ≡ misfit (schema_at bases.now) d (target_of (schema_at bases.now) targets.now)
-        (base_seen (schema_at bases.now) base.now) (node_value node.entry)) }
+    requires targets { AreTargets (the_schema bases.now.names.now) targets.now }
+    requires numbered { IsNumbered (the_schema bases.now.names.now) base.now }
+    ensures { IfOk result (λ f. (d : Domain) → IsDomain (the_schema bases.now.names.now) d
+        → f ≡ misfit (the_schema bases.now.names.now) d
+        (target_of (the_schema bases.now.names.now) targets.now)
+        (base_seen (the_schema bases.now.names.now) base.now) (node_value node.entry)) }
 {
     match node {
         Node::Unset => Ok(Some(FindingKind::MissingValue)),
@@ -88,11 +91,13 @@ fn misfit_typed(
     inner: &Param<'_, '_>,
 ) -> Result<Option<FindingKind>, AllocError>
     requires bases { AreBases bases.now }
-    requires targets { AreTargets (schema_at bases.now) targets.now }
-    requires numbered { IsNumbered (schema_at bases.now) base.now }
-    ensures { IfOk result (λ f. (d : Domain) → IsDomain (schema_at bases.now) d
-        → f ≡ misfit (schema_at bases.now) d (target_of (schema_at bases.now) targets.now)
-        (base_seen (schema_at bases.now) base.now) (typed word.entry.text.now inner.now)) }
+    requires targets { AreTargets (the_schema bases.now.names.now) targets.now }
+    requires numbered { IsNumbered (the_schema bases.now.names.now) base.now }
+    ensures { IfOk result (λ f. (d : Domain) → IsDomain (the_schema bases.now.names.now) d
+        → f ≡ misfit (the_schema bases.now.names.now) d
+        (target_of (the_schema bases.now.names.now) targets.now)
+        (base_seen (the_schema bases.now.names.now) base.now)
+        (typed word.entry.text.now inner.now)) }
 {
     match item(bases, *base, word) {
         None => Ok(Some(other_kind(*base))),
@@ -111,11 +116,12 @@ fn misfit_list(
     params: &Params<'_, '_>,
 ) -> Result<Option<FindingKind>, AllocError>
     requires bases { AreBases bases.now }
-    requires targets { AreTargets (schema_at bases.now) targets.now }
-    requires numbered { IsNumbered (schema_at bases.now) base.now }
-    ensures { IfOk result (λ f. (d : Domain) → IsDomain (schema_at bases.now) d
-        → f ≡ misfit (schema_at bases.now) d (target_of (schema_at bases.now) targets.now)
-        (base_seen (schema_at bases.now) base.now) (group (all_of params.now))) }
+    requires targets { AreTargets (the_schema bases.now.names.now) targets.now }
+    requires numbered { IsNumbered (the_schema bases.now.names.now) base.now }
+    ensures { IfOk result (λ f. (d : Domain) → IsDomain (the_schema bases.now.names.now) d
+        → f ≡ misfit (the_schema bases.now.names.now) d
+        (target_of (the_schema bases.now.names.now) targets.now)
+        (base_seen (the_schema bases.now.names.now) base.now) (group (all_of params.now))) }
 {
     let Base::Aggregate(aggregate) = *base else {
         return Ok(Some(other_kind(*base)));
@@ -150,12 +156,12 @@ fn misfit_each(
     params: &Params<'_, '_>,
 ) -> Result<Option<FindingKind>, AllocError>
     requires bases { AreBases bases.now }
-    requires targets { AreTargets (schema_at bases.now) targets.now }
-    requires numbered { IsNumbered (schema_at bases.now) base.now }
-    ensures { IfOk result (λ f. (d : Domain) → IsDomain (schema_at bases.now) d
-        → f ≡ misfit_each (schema_at bases.now) d
-        (target_of (schema_at bases.now) targets.now)
-        is_optional (base_seen (schema_at bases.now) base.now) (all_of params.now)) }
+    requires targets { AreTargets (the_schema bases.now.names.now) targets.now }
+    requires numbered { IsNumbered (the_schema bases.now.names.now) base.now }
+    ensures { IfOk result (λ f. (d : Domain) → IsDomain (the_schema bases.now.names.now) d
+        → f ≡ misfit_each (the_schema bases.now.names.now) d
+        (target_of (the_schema bases.now.names.now) targets.now)
+        is_optional (base_seen (the_schema bases.now.names.now) base.now) (all_of params.now)) }
 {
     for i in 0..params.len() {
         let found = misfit_one(alloc, bases, targets, is_optional, base, &params.at(i))?;
@@ -177,12 +183,13 @@ fn misfit_one(
     param: &Param<'_, '_>,
 ) -> Result<Option<FindingKind>, AllocError>
     requires bases { AreBases bases.now }
-    requires targets { AreTargets (schema_at bases.now) targets.now }
-    requires numbered { IsNumbered (schema_at bases.now) base.now }
-    ensures { IfOk result (λ f. (d : Domain) → IsDomain (schema_at bases.now) d
+    requires targets { AreTargets (the_schema bases.now.names.now) targets.now }
+    requires numbered { IsNumbered (the_schema bases.now.names.now) base.now }
+    ensures { IfOk result (λ f. (d : Domain) → IsDomain (the_schema bases.now.names.now) d
         → f ≡ cond (is_optional && is_dollar param.now) None
-        (misfit (schema_at bases.now) d (target_of (schema_at bases.now) targets.now)
-        (base_seen (schema_at bases.now) base.now) param.now)) }
+        (misfit (the_schema bases.now.names.now) d
+        (target_of (the_schema bases.now.names.now) targets.now)
+        (base_seen (the_schema bases.now.names.now) base.now) param.now)) }
 {
     if is_optional && is_dollar(param) {
         return Ok(None);

@@ -6,7 +6,8 @@ ghost use Rattle.step_literals.specs.Words.{upper};
 ghost use Rattle.express_syntax.specs.Schemas.{Schema};
 ghost use Rattle.conformance.specs.Bases.{Domain, IsDomain};
 ghost use Rattle.conformance.specs.Fitting.{inner, element};
-ghost use Rattle.schema_bases.specs.Seen.{base_seen, schema_at};
+ghost use Rattle.schema_names.specs.Schemas.{the_schema};
+ghost use Rattle.schema_bases.specs.Seen.{base_seen};
 ghost use Rattle.schema_bases.specs.Tables.{AreBases, IsNumbered};
 ghost use Rattle.population_fits.specs.Gathering.{makes_bag};
 
@@ -17,11 +18,11 @@ use step_literals::literal::Word;
 /// What a typed parameter with this keyword has inside; none where no such one may stand.
 pub fn item(bases: &Bases<'_, '_, '_>, base: Base, word: Word<'_>) -> Option<Base>
     requires bases { AreBases bases.now }
-    requires numbered { IsNumbered (schema_at bases.now) base }
-    ensures numbered { IfSome result (IsNumbered (schema_at bases.now)) }
-    ensures says { (d : Domain) → IsDomain (schema_at bases.now) d
-        → option_map (base_seen (schema_at bases.now)) result
-        ≡ inner (schema_at bases.now) d (base_seen (schema_at bases.now) base)
+    requires numbered { IsNumbered (the_schema bases.now.names.now) base }
+    ensures numbered { IfSome result (IsNumbered (the_schema bases.now.names.now)) }
+    ensures says { (d : Domain) → IsDomain (the_schema bases.now.names.now) d
+        → option_map (base_seen (the_schema bases.now.names.now)) result
+        ≡ inner (the_schema bases.now.names.now) d (base_seen (the_schema bases.now.names.now) base)
         (upper word.entry.text.now) }
 {
     match base {
@@ -33,11 +34,12 @@ pub fn item(bases: &Bases<'_, '_, '_>, base: Base, word: Word<'_>) -> Option<Bas
 /// What the elements of a list are; what it is itself where it is no aggregate.
 pub fn element(bases: &Bases<'_, '_, '_>, base: Base) -> Base
     requires bases { AreBases bases.now }
-    requires numbered { IsNumbered (schema_at bases.now) base }
-    ensures numbered { IsNumbered (schema_at bases.now) result }
-    ensures says { (d : Domain) → IsDomain (schema_at bases.now) d
-        → base_seen (schema_at bases.now) result
-        ≡ element (schema_at bases.now) d (base_seen (schema_at bases.now) base) }
+    requires numbered { IsNumbered (the_schema bases.now.names.now) base }
+    ensures numbered { IsNumbered (the_schema bases.now.names.now) result }
+    ensures says { (d : Domain) → IsDomain (the_schema bases.now.names.now) d
+        → base_seen (the_schema bases.now.names.now) result
+        ≡ element (the_schema bases.now.names.now) d
+        (base_seen (the_schema bases.now.names.now) base) }
 {
     match base {
         Base::Aggregate(aggregate) => bases.of_number(aggregate.element),

@@ -14,11 +14,8 @@ ghost use Rattle.conformance.specs.Fitting.{
   misfit_binary,
   misfit_element,
 };
-ghost use Rattle.schema_bases.specs.Seen.{
-  base_seen,
-  items_at,
-  schema_at,
-};
+ghost use Rattle.schema_names.specs.Schemas.{the_schema};
+ghost use Rattle.schema_bases.specs.Seen.{base_seen, items_at};
 
 use crate::bounds::{bits_have_width, text_has_width};
 use conformance::finding::FindingKind;
@@ -95,14 +92,15 @@ fn is_truth(with_unknown: bool, word: Word<'_>) -> bool
 
 /// Whether the enumeration that is declared at a number has an item.
 fn has_item(bases: &Bases<'_, '_, '_>, number: u32, word: Word<'_>) -> bool
-    ensures { result ≡ among (upper word.entry.text.now) (items_at (schema_at bases.now) number) }
+    ensures { result ≡ among (upper word.entry.text.now)
+        (items_at (the_schema bases.now.names.now) number) }
 {
     bases.names.has_item(number, word)
 }
 
 /// The finding of an element of an enumeration.
 pub fn misfit_element(bases: &Bases<'_, '_, '_>, base: Base, word: Word<'_>) -> Option<FindingKind>
-    ensures { result ≡ misfit_element (base_seen (schema_at bases.now) base)
+    ensures { result ≡ misfit_element (base_seen (the_schema bases.now.names.now) base)
         (upper word.entry.text.now) }
 {
     match base {

@@ -8,7 +8,8 @@ ghost use Rattle.step_values.specs.Values.{Values};
 ghost use Rattle.express_syntax.specs.Schemas.{Schema};
 ghost use Rattle.conformance.specs.Bases.{Domain, IsDomain};
 ghost use Rattle.conformance.specs.Fitting.{gathered, value_as, values_as};
-ghost use Rattle.schema_bases.specs.Seen.{base_seen, schema_at};
+ghost use Rattle.schema_names.specs.Schemas.{the_schema};
+ghost use Rattle.schema_bases.specs.Seen.{base_seen};
 ghost use Rattle.schema_bases.specs.Tables.{AreBases, IsNumbered};
 ghost use Rattle.population_fits.specs.Named.{by_name, each_by_name};
 
@@ -32,10 +33,10 @@ pub fn normal_value<'a>(
     param: &Param<'a, '_>,
 ) -> Result<Normal<'a>, AllocError>
     requires bases { AreBases bases.now }
-    requires numbered { IsNumbered (schema_at bases.now) base }
-    ensures { IfOk result (λ n. (d : Domain) → IsDomain (schema_at bases.now) d
-        → IsNormal (by_name (value_as (schema_at bases.now) d
-        (base_seen (schema_at bases.now) base) param.now)) n) }
+    requires numbered { IsNumbered (the_schema bases.now.names.now) base }
+    ensures { IfOk result (λ n. (d : Domain) → IsDomain (the_schema bases.now.names.now) d
+        → IsNormal (by_name (value_as (the_schema bases.now.names.now) d
+        (base_seen (the_schema bases.now.names.now) base) param.now)) n) }
 {
     normal_node(alloc, bases, base, &param.node())
 }
@@ -49,10 +50,10 @@ fn normal_node<'a>(
     node: &Node<'a, '_>,
 ) -> Result<Normal<'a>, AllocError>
     requires bases { AreBases bases.now }
-    requires numbered { IsNumbered (schema_at bases.now) base }
-    ensures { IfOk result (λ n. (d : Domain) → IsDomain (schema_at bases.now) d
-        → IsNormal (by_name (value_as (schema_at bases.now) d
-        (base_seen (schema_at bases.now) base) (node_value node.now))) n) }
+    requires numbered { IsNumbered (the_schema bases.now.names.now) base }
+    ensures { IfOk result (λ n. (d : Domain) → IsDomain (the_schema bases.now.names.now) d
+        → IsNormal (by_name (value_as (the_schema bases.now.names.now) d
+        (base_seen (the_schema bases.now.names.now) base) (node_value node.now))) n) }
 {
     match node {
         Node::Unset | Node::Keyword(_) => Ok(Normal::Unset),
@@ -97,10 +98,10 @@ fn normal_values<'a>(
     params: &Params<'a, '_>,
 ) -> Result<Vec<Normal<'a>>, AllocError>
     requires bases { AreBases bases.now }
-    requires numbered { IsNumbered (schema_at bases.now) base }
-    ensures { IfOk result (λ ns. (d : Domain) → IsDomain (schema_at bases.now) d
-        → AreNormal (each_by_name (values_as (schema_at bases.now) d
-        (base_seen (schema_at bases.now) base) (all_of params.now))) ns.items) }
+    requires numbered { IsNumbered (the_schema bases.now.names.now) base }
+    ensures { IfOk result (λ ns. (d : Domain) → IsDomain (the_schema bases.now.names.now) d
+        → AreNormal (each_by_name (values_as (the_schema bases.now.names.now) d
+        (base_seen (the_schema bases.now.names.now) base) (all_of params.now))) ns.items) }
 {
     let mut forms = Vec::with_capacity(alloc, params.len())?;
     for i in 0..params.len() {

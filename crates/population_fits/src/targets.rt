@@ -7,13 +7,14 @@ ghost use Rattle.express_syntax.specs.Schemas.{Schema};
 ghost use Rattle.express_syntax.specs.Profile.{Every};
 ghost use Rattle.schema_semantics.specs.Names.{Name};
 ghost use Rattle.schema_names.specs.Numbers.{HasNumber};
+ghost use Rattle.schema_names.specs.Schemas.{the_schema};
 ghost use Rattle.conformance.specs.Bases.{Domain, IsDomain};
 ghost use Rattle.conformance.specs.Fitting.{misfit_target, misfit_reference};
 ghost use Rattle.conformance.specs.declared.finding.FindingKind.TheVariants.{
   WrongEntity,
   NoSelectItem,
 };
-ghost use Rattle.schema_bases.specs.Seen.{base_seen, name_at, schema_at};
+ghost use Rattle.schema_bases.specs.Seen.{base_seen, name_at};
 ghost use Rattle.schema_bases.specs.Tables.{AreBases, IsNumbered};
 ghost use Rattle.population_fits.specs.Targets.{
   target_of,
@@ -98,10 +99,11 @@ fn is_among(number: u32, numbers: &[u32]) -> bool
 /// Whether a SELECT takes one of these entities.
 fn takes_one(bases: &Bases<'_, '_, '_>, number: u32, types: &[u32]) -> bool
     requires bases { AreBases bases.now }
-    requires numbered { AreNumbered (schema_at bases.now) types.now }
-    ensures { (d : Domain) → IsDomain (schema_at bases.now) d → (m : Name)
-        → HasNumber (schema_at bases.now) m number
-        → result ≡ list_any (d.is_item m) (map (name_at (schema_at bases.now)) types.now) }
+    requires numbered { AreNumbered (the_schema bases.now.names.now) types.now }
+    ensures { (d : Domain) → IsDomain (the_schema bases.now.names.now) d → (m : Name)
+        → HasNumber (the_schema bases.now.names.now) m number
+        → result ≡ list_any (d.is_item m)
+        (map (name_at (the_schema bases.now.names.now)) types.now) }
 {
     for entity in types {
         if bases.takes(number, *entity) {
@@ -127,11 +129,11 @@ fn misfit_entity(entity: u32, target: Target<'_>) -> Option<FindingKind>
 /// The finding of a reference that stands for a SELECT.
 fn misfit_select(bases: &Bases<'_, '_, '_>, number: u32, target: Target<'_>) -> Option<FindingKind>
     requires bases { AreBases bases.now }
-    requires led { IsLed (schema_at bases.now) target }
-    ensures { (d : Domain) → IsDomain (schema_at bases.now) d → (m : Name)
-        → HasNumber (schema_at bases.now) m number
+    requires led { IsLed (the_schema bases.now.names.now) target }
+    ensures { (d : Domain) → IsDomain (the_schema bases.now.names.now) d → (m : Name)
+        → HasNumber (the_schema bases.now.names.now) m number
         → result ≡ misfit_target (d.is_item m) NoSelectItem
-        (target_seen (schema_at bases.now) target.entry) }
+        (target_seen (the_schema bases.now.names.now) target.entry) }
 {
     match target {
         Target::Absent => Some(FindingKind::DanglingReference),
@@ -149,12 +151,12 @@ pub fn misfit_reference(
     target: Target<'_>,
 ) -> Option<FindingKind>
     requires bases { AreBases bases.now }
-    requires numbered { IsNumbered (schema_at bases.now) base }
-    requires led { IsLed (schema_at bases.now) target }
-    ensures { (d : Domain) → IsDomain (schema_at bases.now) d
-        → result ≡ misfit_reference (schema_at bases.now) d
-        (base_seen (schema_at bases.now) base)
-        (target_seen (schema_at bases.now) target.entry) }
+    requires numbered { IsNumbered (the_schema bases.now.names.now) base }
+    requires led { IsLed (the_schema bases.now.names.now) target }
+    ensures { (d : Domain) → IsDomain (the_schema bases.now.names.now) d
+        → result ≡ misfit_reference (the_schema bases.now.names.now) d
+        (base_seen (the_schema bases.now.names.now) base)
+        (target_seen (the_schema bases.now.names.now) target.entry) }
 {
     match base {
         Base::Entity(entity) => misfit_entity(entity, target),

@@ -8,7 +8,8 @@ ghost use Rattle.step_values.specs.Values.{reference};
 ghost use Rattle.population_rows.specs.Index.{found};
 ghost use Rattle.conformance.specs.Bases.{Domain, IsDomain, base};
 ghost use Rattle.conformance.specs.Fitting.{element, value_as, values_as};
-ghost use Rattle.schema_bases.specs.Seen.{base_seen, schema_at, type_at};
+ghost use Rattle.schema_names.specs.Schemas.{the_schema};
+ghost use Rattle.schema_bases.specs.Seen.{base_seen, type_at};
 ghost use Rattle.schema_bases.specs.Tables.{AreBases, IsKnown, IsNumbered};
 ghost use Rattle.population_fits.specs.References.{RefersWithin, ReferWithin, IsFound, AreFound};
 ghost use Rattle.population_fits.specs.Pushing.{Pushes, PushesEach};
@@ -35,14 +36,15 @@ pub fn push_of_type<'a, 't>(
     param: Param<'a, 't>,
 ) -> Result<(), AllocError>
     requires bases { AreBases bases.now }
-    requires known { IsKnown (schema_at bases.now) (type_at (schema_at bases.now) number) }
+    requires known { IsKnown (the_schema bases.now.names.now)
+        (type_at (the_schema bases.now.names.now) number) }
     requires indexed { AreFound builder.old.names (found index.now) }
     requires within { RefersWithin (found index.now) param }
     ensures { MatchResult result
-        (λ _. (d : Domain) → IsDomain (schema_at bases.now) d
+        (λ _. (d : Domain) → IsDomain (the_schema bases.now.names.now) d
         → Pushes builder.old builder.new
-        (value_as (schema_at bases.now) d (base d (type_at (schema_at bases.now) number))
-        param.entry))
+        (value_as (the_schema bases.now.names.now) d
+        (base d (type_at (the_schema bases.now.names.now) number)) param.entry))
         (λ _. builder.new.names ≡ builder.old.names) }
 {
     match param.node() {
@@ -63,14 +65,15 @@ fn push_looked_up<'a, 't>(
     param: Param<'a, 't>,
 ) -> Result<(), AllocError>
     requires bases { AreBases bases.now }
-    requires known { IsKnown (schema_at bases.now) (type_at (schema_at bases.now) number) }
+    requires known { IsKnown (the_schema bases.now.names.now)
+        (type_at (the_schema bases.now.names.now) number) }
     requires indexed { AreFound builder.old.names (found index.now) }
     requires within { RefersWithin (found index.now) param }
     ensures { MatchResult result
-        (λ _. (d : Domain) → IsDomain (schema_at bases.now) d
+        (λ _. (d : Domain) → IsDomain (the_schema bases.now.names.now) d
         → Pushes builder.old builder.new
-        (value_as (schema_at bases.now) d (base d (type_at (schema_at bases.now) number))
-        param.entry))
+        (value_as (the_schema bases.now.names.now) d
+        (base d (type_at (the_schema bases.now.names.now) number)) param.entry))
         (λ _. builder.new.names ≡ builder.old.names) }
 {
     let base = bases.of_number(number);
@@ -90,13 +93,14 @@ pub fn push_value<'a, 't>(
     param: &Param<'a, 't>,
 ) -> Result<(), AllocError>
     requires bases { AreBases bases.now }
-    requires numbered { IsNumbered (schema_at bases.now) base.now }
+    requires numbered { IsNumbered (the_schema bases.now.names.now) base.now }
     requires indexed { AreFound builder.old.names (found index.now) }
     requires within { RefersWithin (found index.now) param.now }
     ensures { MatchResult result
-        (λ _. (d : Domain) → IsDomain (schema_at bases.now) d
+        (λ _. (d : Domain) → IsDomain (the_schema bases.now.names.now) d
         → Pushes builder.old builder.new
-        (value_as (schema_at bases.now) d (base_seen (schema_at bases.now) base.now) param.now))
+        (value_as (the_schema bases.now.names.now) d
+        (base_seen (the_schema bases.now.names.now) base.now) param.now))
         (λ _. builder.new.names ≡ builder.old.names) }
 {
     push_node(bases, builder, base, index, param.node())
@@ -112,14 +116,14 @@ fn push_node<'a, 't>(
     node: Node<'a, 't>,
 ) -> Result<(), AllocError>
     requires bases { AreBases bases.now }
-    requires numbered { IsNumbered (schema_at bases.now) base.now }
+    requires numbered { IsNumbered (the_schema bases.now.names.now) base.now }
     requires indexed { AreFound builder.old.names (found index.now) }
     requires within { RefersWithin (found index.now) (node_value node) }
     ensures { MatchResult result
-        (λ _. (d : Domain) → IsDomain (schema_at bases.now) d
+        (λ _. (d : Domain) → IsDomain (the_schema bases.now.names.now) d
         → Pushes builder.old builder.new
-        (value_as (schema_at bases.now) d (base_seen (schema_at bases.now) base.now)
-        (node_value node.entry)))
+        (value_as (the_schema bases.now.names.now) d
+        (base_seen (the_schema bases.now.names.now) base.now) (node_value node.entry)))
         (λ _. builder.new.names ≡ builder.old.names) }
 {
     match node {
@@ -147,13 +151,14 @@ fn push_typed<'a, 't>(
     inner: &Param<'a, 't>,
 ) -> Result<(), AllocError>
     requires bases { AreBases bases.now }
-    requires numbered { IsNumbered (schema_at bases.now) base.now }
+    requires numbered { IsNumbered (the_schema bases.now.names.now) base.now }
     requires indexed { AreFound builder.old.names (found index.now) }
     requires within { RefersWithin (found index.now) inner.now }
     ensures { MatchResult result
-        (λ _. (d : Domain) → IsDomain (schema_at bases.now) d
+        (λ _. (d : Domain) → IsDomain (the_schema bases.now.names.now) d
         → Pushes builder.old builder.new
-        (value_as (schema_at bases.now) d (base_seen (schema_at bases.now) base.now)
+        (value_as (the_schema bases.now.names.now) d
+        (base_seen (the_schema bases.now.names.now) base.now)
         (typed word.entry.text.now inner.now)))
         (λ _. builder.new.names ≡ builder.old.names) }
 {
@@ -193,14 +198,14 @@ fn push_list<'a, 't>(
     params: &Params<'a, 't>,
 ) -> Result<(), AllocError>
     requires bases { AreBases bases.now }
-    requires numbered { IsNumbered (schema_at bases.now) base.now }
+    requires numbered { IsNumbered (the_schema bases.now.names.now) base.now }
     requires indexed { AreFound builder.old.names (found index.now) }
     requires within { ReferWithin (found index.now) (all_of params.now) }
     ensures { MatchResult result
-        (λ _. (d : Domain) → IsDomain (schema_at bases.now) d
+        (λ _. (d : Domain) → IsDomain (the_schema bases.now.names.now) d
         → Pushes builder.old builder.new
-        (value_as (schema_at bases.now) d (base_seen (schema_at bases.now) base.now)
-        (group (all_of params.now))))
+        (value_as (the_schema bases.now.names.now) d
+        (base_seen (the_schema bases.now.names.now) base.now) (group (all_of params.now))))
         (λ _. builder.new.names ≡ builder.old.names) }
 {
     let mark = builder.pending_len();
@@ -222,15 +227,15 @@ fn push_each<'a, 't>(
     params: &Params<'a, 't>,
 ) -> Result<(), AllocError>
     requires bases { AreBases bases.now }
-    requires numbered { IsNumbered (schema_at bases.now) base.now }
+    requires numbered { IsNumbered (the_schema bases.now.names.now) base.now }
     requires indexed { AreFound builder.old.names (found index.now) }
     requires within { ReferWithin (found index.now) (all_of params.now) }
     ensures { MatchResult result
-        (λ _. (d : Domain) → IsDomain (schema_at bases.now) d
+        (λ _. (d : Domain) → IsDomain (the_schema bases.now.names.now) d
         → PushesEach builder.old builder.new
-        (values_as (schema_at bases.now) d
-        (element (schema_at bases.now) d (base_seen (schema_at bases.now) base.now))
-        (all_of params.now)))
+        (values_as (the_schema bases.now.names.now) d
+        (element (the_schema bases.now.names.now) d
+        (base_seen (the_schema bases.now.names.now) base.now)) (all_of params.now)))
         (λ _. builder.new.names ≡ builder.old.names) }
 {
     for i in 0..params.len() {
@@ -250,15 +255,15 @@ fn push_element<'a, 't>(
     param: Param<'a, 't>,
 ) -> Result<(), AllocError>
     requires bases { AreBases bases.now }
-    requires numbered { IsNumbered (schema_at bases.now) base.now }
+    requires numbered { IsNumbered (the_schema bases.now.names.now) base.now }
     requires indexed { AreFound builder.old.names (found index.now) }
     requires within { RefersWithin (found index.now) param }
     ensures { MatchResult result
-        (λ _. (d : Domain) → IsDomain (schema_at bases.now) d
+        (λ _. (d : Domain) → IsDomain (the_schema bases.now.names.now) d
         → Pushes builder.old builder.new
-        (value_as (schema_at bases.now) d
-        (element (schema_at bases.now) d (base_seen (schema_at bases.now) base.now))
-        param.entry))
+        (value_as (the_schema bases.now.names.now) d
+        (element (the_schema bases.now.names.now) d
+        (base_seen (the_schema bases.now.names.now) base.now)) param.entry))
         (λ _. builder.new.names ≡ builder.old.names) }
 {
     match param.node() {
@@ -280,15 +285,15 @@ fn push_inside<'a, 't>(
     param: Param<'a, 't>,
 ) -> Result<(), AllocError>
     requires bases { AreBases bases.now }
-    requires numbered { IsNumbered (schema_at bases.now) base.now }
+    requires numbered { IsNumbered (the_schema bases.now.names.now) base.now }
     requires indexed { AreFound builder.old.names (found index.now) }
     requires within { RefersWithin (found index.now) param }
     ensures { MatchResult result
-        (λ _. (d : Domain) → IsDomain (schema_at bases.now) d
+        (λ _. (d : Domain) → IsDomain (the_schema bases.now.names.now) d
         → Pushes builder.old builder.new
-        (value_as (schema_at bases.now) d
-        (element (schema_at bases.now) d (base_seen (schema_at bases.now) base.now))
-        param.entry))
+        (value_as (the_schema bases.now.names.now) d
+        (element (the_schema bases.now.names.now) d
+        (base_seen (the_schema bases.now.names.now) base.now)) param.entry))
         (λ _. builder.new.names ≡ builder.old.names) }
 {
     let inside = element(bases, *base);

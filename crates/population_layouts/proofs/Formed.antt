@@ -10,6 +10,7 @@ use Rattle.schema_semantics.specs.Names.{Name, IsEntity}
 use Rattle.schema_semantics.specs.Attributes.{Place, IsPlaces}
 use Rattle.schema_semantics.proofs.Recursion.{make_places, solutions-are-one}
 use Rattle.schema_names.specs.Numbers.{HasNumber, AreAt}
+use Rattle.schema_names.specs.Schemas.{the_schema}
 use Rattle.schema_names.proofs.Items.{joined-at, row-at}
 use Rattle.schema_places.specs.Places.{places_in, all_places}
 use Rattle.schema_bases.specs.Seen.{name_at}
@@ -17,7 +18,7 @@ use Rattle.conformance.specs.Fitting.{among, entity_names}
 use Rattle.conformance.specs.Entities.{Entities, AreEntities, named_entity, own_in, own_places_of, types_of, places_of, how_many, abstract_leaves, missing_supertypes, broken_one_ofs}
 use Rattle.population_layouts.specs.declared.knowledge.Knowledge.{Knowledge}
 use Rattle.population_rows.specs.declared.form.Form.{Form as NumberedForm}
-use Rattle.population_layouts.specs.Knowing.{AreKnown, schema_in}
+use Rattle.population_layouts.specs.Knowing.{AreKnown}
 use Rattle.population_layouts.specs.Forms.{NameEntities, counts_of, AreSlotsOf, IsFormOf}
 use Rattle.population_layouts.specs.Marked.{AreSorted, has_two, is_above, is_kind, is_abstract_at}
 use Rattle.population_layouts.specs.Slots.{IsSlotAt}
@@ -32,9 +33,9 @@ use Rattle.population_layouts.proofs.Slotted.{slots-are}
 as-many : {A : Type 0} (all : List A) (row : List ℕ) (xs : List A) → AreAt all row xs → length row ≡ length xs
 as-many all row xs h = sym (length-map row (slice_get all)) ∙ ap length h ∙ length-map xs Some
 
-module _ (k : Knowledge) (known : AreKnown k) (en : Entities) (g : AreEntities (schema_in k) en) where
+module _ (k : Knowledge) (known : AreKnown k) (en : Entities) (g : AreEntities (the_schema k.names.now) en) where
   abbrev s : Schema
-  s = schema_in k
+  s = the_schema k.names.now
 
   pub form-is : (test : Name → Bool) (types : List ℕ) → types ≡ row s known.resolved test
       → (parameters places : List ℕ) (x : NumberedForm) → IsForm k types parameters places x → (f : Form)

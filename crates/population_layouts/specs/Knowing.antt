@@ -3,17 +3,14 @@ use Rattle.std.specs.Prelude.{◌≡◌, List, [], length, map, filter_map}
 use Rattle.digraph.specs.Graphs.{Graph, graph_of}
 use Rattle.express_syntax.specs.Schemas.{Schema, Declaration, type, entity, skipped}
 use Rattle.schema_semantics.specs.Names.{Name}
-use Rattle.express_syntax.specs.SchemaViews.{schema_of}
 use Rattle.schema_semantics.specs.Faults.{IsResolved}
 use Rattle.schema_places.specs.Above.{AreAbove}
 use Rattle.schema_names.specs.Numbers.{number_of}
+use Rattle.schema_names.specs.Schemas.{the_schema}
 use Rattle.schema_places.specs.Places.{places_of, all_places, AreRows, HavePlaces}
 use Rattle.schema_uses.specs.Uses.{AreUses}
 use Rattle.conformance.specs.Entities.{one_of_in, one_ofs}
 use Rattle.population_layouts.specs.declared.knowledge.Knowledge.{Knowledge}
-
-abbrev pub schema_in : Knowledge → Schema
-schema_in k = schema_of k.names.now.schema.now
 
 -- the ONEOF of a declaration, where it has one
 abbrev pub one_ofs_in : Declaration → List (List Name)
@@ -27,12 +24,12 @@ AreOperands s rows = rows ≡ map (filter_map (number_of s)) (one_ofs s)
 
 -- The names are resolved, and the tables are those of the schema.
 pub record AreKnown (k : Knowledge) : Type 0 where
-  pub resolved : IsResolved (schema_in k)
-  pub above : AreAbove (schema_in k) (graph_of k.above.now)
-  pub above_each : length k.above.now ≡ length (schema_in k).declarations
-  pub attributes : places_of k.attributes.now ≡ all_places (schema_in k)
-  pub places : HavePlaces (schema_in k) (graph_of k.places.now)
-  pub places_each : length k.places.now ≡ length (schema_in k).declarations
-  pub own : AreRows (all_places (schema_in k)) (schema_in k).declarations (graph_of k.own.now)
-  pub uses : AreUses (schema_in k) k.uses.now
-  pub one_ofs : AreOperands (schema_in k) (graph_of k.one_ofs.now)
+  pub resolved : IsResolved (the_schema k.names.now)
+  pub above : AreAbove (the_schema k.names.now) (graph_of k.above.now)
+  pub above_each : length k.above.now ≡ length (the_schema k.names.now).declarations
+  pub attributes : places_of k.attributes.now ≡ all_places (the_schema k.names.now)
+  pub places : HavePlaces (the_schema k.names.now) (graph_of k.places.now)
+  pub places_each : length k.places.now ≡ length (the_schema k.names.now).declarations
+  pub own : AreRows (all_places (the_schema k.names.now)) (the_schema k.names.now).declarations (graph_of k.own.now)
+  pub uses : AreUses (the_schema k.names.now) k.uses.now
+  pub one_ofs : AreOperands (the_schema k.names.now) (graph_of k.one_ofs.now)

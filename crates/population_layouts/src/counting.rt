@@ -5,8 +5,8 @@ ghost use Rattle.std.specs.Prelude.{◌≡◌, ◌&&◌, not, Some};
 ghost use Rattle.std.specs.List.{find};
 ghost use Rattle.std.specs.List.Sorted.{IsNonDecreasing};
 ghost use Rattle.digraph.specs.Graphs.{graph_of, has};
-ghost use Rattle.express_syntax.specs.SchemaViews.{schema_of};
 ghost use Rattle.conformance.specs.Entities.{how_many};
+ghost use Rattle.schema_names.specs.Schemas.{the_schema};
 ghost use Rattle.population_layouts.specs.Marked.{has_another, has_two, is_abstract_at};
 
 use crate::sorted::contains;
@@ -15,7 +15,7 @@ use schema_names::names::Names;
 
 /// Whether an entity is ABSTRACT.
 fn is_abstract(names: &Names<'_, '_>, number: u32) -> bool
-    ensures { result ≡ is_abstract_at (schema_of names.now.schema.now) number }
+    ensures { result ≡ is_abstract_at (the_schema names.now) number }
 {
     match names.at(number) {
         Some(Declaration::Entity(entity)) => entity.is_abstract,
@@ -28,7 +28,7 @@ fn is_abstract(names: &Names<'_, '_>, number: u32) -> bool
 pub(crate) fn abstract_leaves(names: &Names<'_, '_>, types: &[u32], supertypes: &[u32]) -> usize
     ensures { IsNonDecreasing supertypes.now → result
         ≡ how_many (λ i. not (has supertypes.now i)
-        && is_abstract_at (schema_of names.now.schema.now) i) types.now }
+        && is_abstract_at (the_schema names.now) i) types.now }
 {
     types
         .iter()

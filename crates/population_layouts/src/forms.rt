@@ -5,7 +5,8 @@ ghost use Rattle.std.specs.List.Sorted.{IsNonDecreasing};
 ghost use Rattle.digraph.specs.Graphs.{graph_of, next};
 ghost use Rattle.step_structures.specs.Trees.{Record, internal, external};
 ghost use Rattle.conformance.specs.Entities.{Entities, AreEntities};
-ghost use Rattle.population_layouts.specs.Knowing.{AreKnown, schema_in};
+ghost use Rattle.schema_names.specs.Schemas.{the_schema};
+ghost use Rattle.population_layouts.specs.Knowing.{AreKnown};
 ghost use Rattle.population_layouts.specs.Forms.{IsFormOf, NameEntities};
 ghost use Rattle.population_layouts.specs.Marked.{is_above};
 ghost use Rattle.population_layouts.specs.Making.{IsForm};
@@ -55,9 +56,9 @@ pub fn internal_form(
     entity: u32,
 ) -> Result<Form, AllocError>
     requires known { AreKnown known.now }
-    ensures { IfOk result (λ f. (en : Entities) → AreEntities (schema_in known.now) en
-        → (r : Record) → NameEntities (schema_in known.now) (r ∷ []) (entity ∷ [])
-        → IsFormOf (schema_in known.now) en (internal r) f) }
+    ensures { IfOk result (λ f. (en : Entities) → AreEntities (the_schema known.now.names.now) en
+        → (r : Record) → NameEntities (the_schema known.now.names.now) (r ∷ []) (entity ∷ [])
+        → IsFormOf (the_schema known.now.names.now) en (internal r) f) }
 {
     let types = kinds(alloc, known.above, entity)?;
     let places = row_at(known.places, entity);
@@ -96,9 +97,9 @@ pub fn external_form(
     entities: &[u32],
 ) -> Result<Form, AllocError>
     requires known { AreKnown known.now }
-    ensures { IfOk result (λ f. (en : Entities) → AreEntities (schema_in known.now) en
-        → (rs : List Record) → NameEntities (schema_in known.now) rs entities.now
-        → IsFormOf (schema_in known.now) en (external rs) f) }
+    ensures { IfOk result (λ f. (en : Entities) → AreEntities (the_schema known.now.names.now) en
+        → (rs : List Record) → NameEntities (the_schema known.now.names.now) rs entities.now
+        → IsFormOf (the_schema known.now.names.now) en (external rs) f) }
 {
     let types = sorted_copy(alloc, entities)?;
     let counts = own_counts(alloc, known, entities)?;
@@ -109,5 +110,5 @@ pub fn external_form(
 /// There are functions that say what the entities of a schema say.
 pub fn entities_are_said(known: &Knowledge<'_, '_, '_>)
     requires known { AreKnown known.now }
-    ensures { (en : Entities) × AreEntities (schema_in known.now) en }
+    ensures { (en : Entities) × AreEntities (the_schema known.now.names.now) en }
 {}

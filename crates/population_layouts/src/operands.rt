@@ -3,9 +3,9 @@
 ghost use Rattle.std.specs.Prelude.{◌≡◌, [], ◌++◌, map, filter_map, IfOk, OnOk};
 ghost use Rattle.std.specs.List.{cons_option};
 ghost use Rattle.digraph.specs.Graphs.{graph_of};
-ghost use Rattle.express_syntax.specs.SchemaViews.{schema_of};
 ghost use Rattle.express_syntax.specs.Views.{names_of, declaration_of as declaration_seen};
 ghost use Rattle.schema_names.specs.Numbers.{number_of};
+ghost use Rattle.schema_names.specs.Schemas.{the_schema};
 ghost use Rattle.population_layouts.specs.Knowing.{AreOperands, one_ofs_in};
 
 use express_syntax::tree::{Declaration, Supertype};
@@ -30,7 +30,7 @@ fn numbers_of<'a>(
     words: &[Word<'a>],
 ) -> Result<Vec<u32>, AllocError>
     ensures { IfOk result (λ row. row.items
-        ≡ filter_map (number_of (schema_of names.now.schema.now)) (names_of words.now)) }
+        ≡ filter_map (number_of (the_schema names.now)) (names_of words.now)) }
 {
     let mut row = Vec::new(alloc);
     for word in words {
@@ -47,7 +47,7 @@ fn add_operands<'a>(
     rows: &mut Vec<Vec<u32>>,
 ) -> Result<(), AllocError>
     ensures { OnOk result (graph_of rows.new.items ≡ graph_of rows.old.items
-        ++ map (filter_map (number_of (schema_of names.now.schema.now)))
+        ++ map (filter_map (number_of (the_schema names.now)))
         (one_ofs_in (declaration_seen declaration.now))) }
 {
     let Declaration::Entity(entity) = declaration else {
@@ -62,8 +62,7 @@ fn add_operands<'a>(
 /// The operands of each ONEOF of a schema that is checked, in the order of the text, by number
 /// (ISO 10303-11, 9.2.5).
 pub fn one_ofs(alloc: Global, names: &Names<'_, '_>) -> Result<Vec<Vec<u32>>, AllocError>
-    ensures { IfOk result (λ rows. AreOperands (schema_of names.now.schema.now)
-        (graph_of rows.items)) }
+    ensures { IfOk result (λ rows. AreOperands (the_schema names.now) (graph_of rows.items)) }
 {
     let mut rows = Vec::new(alloc);
     for declaration in names.declarations() {

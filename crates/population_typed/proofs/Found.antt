@@ -10,7 +10,6 @@ use Rattle.std.proofs.Math.Nat.{ℕ_set}
 use Rattle.std.proofs.lemmas.List.Sums.{sum_by-cons}
 use Rattle.std.proofs.Props.{props}
 use Rattle.express_syntax.specs.Schemas.{Schema}
-use Rattle.express_syntax.specs.SchemaViews.{schema_of}
 use Rattle.express_syntax.specs.Profile.{Every}
 use Rattle.schema_semantics.specs.Attributes.{Place}
 use Rattle.schema_places.specs.Places.{all_places}
@@ -26,6 +25,7 @@ use Rattle.step_values.specs.Targets.{LeadTo, ReferTo}
 use Rattle.step_values.specs.Values.{Value, leaf, reference, typed, sequence, bag, Values, none, more}
 use Rattle.step_values.proofs.References.{each_weaker_of}
 use Rattle.schema_names.specs.Numbers.{HasNumber}
+use Rattle.schema_names.specs.Schemas.{the_schema}
 use Rattle.population_fits.proofs.Pointwise.{places_stand}
 use Rattle.population_rows.specs.Rows.{form_at as form_in_rows}
 use Rattle.population_rows.specs.Index.{found, place_of}
@@ -147,12 +147,12 @@ pub record IsKept (p : Population) : Type 0 where
   pub sections : length (section_numbers 0 0 p.exchange.now.sections.items) ≡ length p.exchange.now.names
   pub forms : length p.rows.form_of.items ≡ length p.exchange.now.names
   pub values : length p.values.rows ≡ length p.exchange.now.names
-  pub placed : Every (λ o. ArePlaced (schema_of p.types.now.names.schema.now) (form_among p.rows.forms.items o))
+  pub placed : Every (λ o. ArePlaced (the_schema p.types.now.names) (form_among p.rows.forms.items o))
       p.rows.form_of.items
-  pub entities : Every (λ o. HaveEntities (schema_of p.types.now.names.schema.now) (form_among p.rows.forms.items o))
+  pub entities : Every (λ o. HaveEntities (the_schema p.types.now.names) (form_among p.rows.forms.items o))
       p.rows.form_of.items
-  pub one : AreOne (all_places (schema_of p.types.now.names.schema.now))
-  pub numbered : Every (AreNumbered (schema_of p.types.now.names.schema.now)) p.rows.forms.items
+  pub one : AreOne (all_places (the_schema p.types.now.names))
+  pub numbered : Every (AreNumbered (the_schema p.types.now.names)) p.rows.forms.items
   pub leads : LeadTo p.exchange.now.names p.values.targets
   pub refers : ReferTo p.exchange.now.names p.values.rows
 
@@ -163,13 +163,13 @@ kept p = record {
       (λ c. all-numbers p.exchange.now.sections.items (length p.exchange.now.names) c);
   forms = ∥∥₁_elim p.typed (ℕ_set _ _) (λ w. w.whole.forms);
   values = ∥∥₁_elim p.typed (ℕ_set _ _) (λ w. w.whole.values);
-  placed = ∥∥₁_elim p.typed (every-prop _ (λ o. placed-prop (schema_of p.types.now.names.schema.now)
+  placed = ∥∥₁_elim p.typed (every-prop _ (λ o. placed-prop (the_schema p.types.now.names)
       (form_among p.rows.forms.items o)) p.rows.form_of.items) (λ w. w.whole.placed);
-  entities = ∥∥₁_elim p.typed (every-prop _ (λ o. entities-prop (schema_of p.types.now.names.schema.now)
+  entities = ∥∥₁_elim p.typed (every-prop _ (λ o. entities-prop (the_schema p.types.now.names)
       (form_among p.rows.forms.items o)) p.rows.form_of.items) (λ w. w.whole.entities);
   one = λ a b q e f. ∥∥₁_elim p.types.now.resolved (ℕ_set _ _)
-      (λ r. places-are-one (schema_of p.types.now.names.schema.now) r.once a b q e f);
-  numbered = ∥∥₁_elim p.typed (every-prop _ (numbered-prop (schema_of p.types.now.names.schema.now)) p.rows.forms.items)
+      (λ r. places-are-one (the_schema p.types.now.names) r.once a b q e f);
+  numbered = ∥∥₁_elim p.typed (every-prop _ (numbered-prop (the_schema p.types.now.names)) p.rows.forms.items)
       (λ w. w.whole.numbered);
   leads = ∥∥₁_elim p.typed (leads-prop p.exchange.now.names p.values.targets) (λ w. w.whole.leads);
   refers = named-rows p.exchange.now.names p.values.rows
@@ -399,7 +399,7 @@ module _ (s : Schema) where
 -- the value and the types of an instance of a population, by its row
 module _ (p : Population) where
   abbrev pub schema_seen : Schema
-  schema_seen = schema_of p.types.now.names.schema.now
+  schema_seen = the_schema p.types.now.names
 
   is-kept : IsKept p
   is-kept = kept p

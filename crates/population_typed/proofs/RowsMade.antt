@@ -7,9 +7,9 @@ use Rattle.std.proofs.Common.{refl, inl, inr, sym, ap, subst, ◌∙◌, arith}
 use Rattle.std.proofs.lemmas.Option.{slice_get-map, slice_get_past}
 use Rattle.std.proofs.lemmas.Slice.Eq.{bytes_eq-Decides}
 use Rattle.express_syntax.specs.Schemas.{Schema}
-use Rattle.express_syntax.specs.SchemaViews.{schema_of}
 use Rattle.express_syntax.specs.Profile.{Every}
 use Rattle.schema_semantics.specs.Attributes.{Place}
+use Rattle.schema_names.specs.Schemas.{the_schema}
 use Rattle.schema_places.specs.Places.{all_places}
 use Rattle.schema_places.proofs.Repeats.{AreOne}
 use Rattle.schema_bases.specs.Seen.{name_at}
@@ -195,21 +195,21 @@ picked-length orders (o ∷ os) (vs ∷ vss) h = ap suc (picked-length orders os
 
 -- the rows that a population is made into
 module _ (p : Population) (forms : List Form) (forms-are : forms ≡ p.rows.forms.items) (orders : List Order)
-    (ordered : AreOrders (schema_of p.types.now.names.schema.now) forms orders) (ns : List ℕ)
+    (ordered : AreOrders (the_schema p.types.now.names) forms orders) (ns : List ℕ)
     (names-are : ns ≡ p.exchange.now.names) (ks : List ℕ)
     (sections-are : ks ≡ section_numbers 0 0 p.exchange.now.sections.items) (os : List (Option ℕ))
     (numbers-are : os ≡ p.rows.form_of.items) (formless : ℕ) (beyond : formless ≡ length orders) (hs : List RowHead)
     (heads : hs ≡ heads_made formless ks ns os) (type_lists : List (List (List ℕ))) (types : type_lists ≡ types_each orders) where
   pub made-rows : (rows : List Values) → rows ≡ rows_picked orders p.rows.form_of.items p.values.rows → (qs : List Row)
       → AllZip IsSettled (rows_from (heads_seen type_lists hs) rows) qs
-      → AreRowsOf (schema_of p.types.now.names.schema.now) (population_seen p) qs
+      → AreRowsOf (the_schema p.types.now.names) (population_seen p) qs
   made-rows rows made qs z =
       let k = kept p in
       let all-heads : hs ≡ heads_made (length orders) (section_numbers 0 0 p.exchange.now.sections.items)
       p.exchange.now.names p.rows.form_of.items =
       heads ∙ (λ i. heads_made (beyond i) (sections-are i) (names-are i) (numbers-are i)) in
-      rows-are (schema_of p.types.now.names.schema.now) k.one p.rows.forms.items orders
-      (subst (λ fs. AreOrders (schema_of p.types.now.names.schema.now) fs orders) forms-are ordered)
+      rows-are (the_schema p.types.now.names) k.one p.rows.forms.items orders
+      (subst (λ fs. AreOrders (the_schema p.types.now.names) fs orders) forms-are ordered)
       p.exchange.now.names (section_numbers 0 0 p.exchange.now.sections.items) p.rows.form_of.items p.values.rows qs
       k.sections k.forms k.values k.placed
       (subst (λ gs. AllZip IsSettled
@@ -220,15 +220,15 @@ module _ (p : Population) (forms : List Form) (forms-are : forms ≡ p.rows.form
 
 -- what is answered where the values of a population stand in these orders, which are those of its forms
 pub plain-rows : {E : Type 0} (p : Population) (orders first last : List Order)
-    → AreOrders (schema_of p.types.now.names.schema.now) p.rows.forms.items orders → first ≡ orders → last ≡ orders
+    → AreOrders (the_schema p.types.now.names) p.rows.forms.items orders → first ≡ orders → last ≡ orders
     → (os : List (Option ℕ)) → os ≡ p.rows.form_of.items → (rows : List Values)
     → rows ≡ rows_picked first p.rows.form_of.items p.values.rows → (r : Result (List Row) E)
     → IfOk r (λ q. AllZip IsSettled (rows_from (heads_seen (types_each last) (heads_made (length last)
     (section_numbers 0 0 p.exchange.now.sections.items) p.exchange.now.names os)) rows) q)
-    → IfOk r (λ q. AreRowsOf (schema_of p.types.now.names.schema.now) (population_seen p) q)
+    → IfOk r (λ q. AreRowsOf (the_schema p.types.now.names) (population_seen p) q)
 plain-rows p orders first last ordered same behind os numbers rows made (Ok q) z =
     made-rows p p.rows.forms.items refl last
-    (subst (AreOrders (schema_of p.types.now.names.schema.now) p.rows.forms.items) (sym behind) ordered)
+    (subst (AreOrders (the_schema p.types.now.names) p.rows.forms.items) (sym behind) ordered)
     p.exchange.now.names refl (section_numbers 0 0 p.exchange.now.sections.items) refl os numbers (length last) refl
     (heads_made (length last) (section_numbers 0 0 p.exchange.now.sections.items) p.exchange.now.names os) refl
     (types_each last) refl rows

@@ -1,6 +1,6 @@
 -- The instance of a row of a population.
 use Rattle.std.specs.Prelude.{◌≡◌, ℕ, Some, slice_get}
-use Rattle.express_syntax.specs.SchemaViews.{schema_of}
+use Rattle.schema_names.specs.Schemas.{the_schema}
 use Rattle.population_typed.specs.Whole.{form_among, ArePlaced, HaveEntities}
 use Rattle.population_typed.specs.Rows.{instance_seen}
 use Rattle.population_typed.specs.Seen.{population_seen}
@@ -11,7 +11,7 @@ use Rattle.population_typed.specs.declared.instances.InstanceRow.{InstanceRow}
 pub record IsInstance (p : Population) (row : ℕ) (x : InstanceRow) : Type 0 where
   pub section : ℕ
   pub seen : slice_get (population_seen p) row
-      ≡ Some (instance_seen (schema_of p.types.now.names.schema.now) x.name section (form_among p.rows.forms.items x.form)
+      ≡ Some (instance_seen (the_schema p.types.now.names) x.name section (form_among p.rows.forms.items x.form)
       x.values)
-  pub placed : ArePlaced (schema_of p.types.now.names.schema.now) (form_among p.rows.forms.items x.form)
-  pub entities : HaveEntities (schema_of p.types.now.names.schema.now) (form_among p.rows.forms.items x.form)
+  pub placed : ArePlaced (the_schema p.types.now.names) (form_among p.rows.forms.items x.form)
+  pub entities : HaveEntities (the_schema p.types.now.names) (form_among p.rows.forms.items x.form)

@@ -1,15 +1,15 @@
 -- The instances that the tables of a population are.
 use Rattle.std.specs.Prelude.{ℕ, List}
 use Rattle.std.specs.List.{sum_by}
-use Rattle.express_syntax.specs.SchemaViews.{schema_of}
 use Rattle.step_values.specs.NodeCounts.{nodes_of}
 use Rattle.conformance.specs.Populations.{Slot, Instance}
+use Rattle.schema_names.specs.Schemas.{the_schema}
 use Rattle.population_typed.specs.Rows.{instances_seen, section_numbers}
 use Rattle.population_typed.specs.declared.population.Population.{Population}
 
 abbrev pub population_seen : Population → List Instance
 population_seen p =
-    instances_seen (schema_of p.types.now.names.schema.now) p.rows.forms.items p.exchange.now.names
+    instances_seen (the_schema p.types.now.names) p.rows.forms.items p.exchange.now.names
     (section_numbers 0 0 p.exchange.now.sections.items) p.rows.form_of.items p.values.rows
 
 -- how many nodes the values of instances have

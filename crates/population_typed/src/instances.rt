@@ -1,8 +1,8 @@
 //! The instances of a typed population, one by one.
 
 ghost use Rattle.std.specs.Prelude.{◌≡◌, ◌<◌, length};
-ghost use Rattle.express_syntax.specs.SchemaViews.{schema_of};
 ghost use Rattle.express_syntax.specs.Profile.{Every};
+ghost use Rattle.schema_names.specs.Schemas.{the_schema};
 ghost use Rattle.population_typed.specs.Whole.{AreNumbered};
 ghost use Rattle.population_typed.specs.Seen.{population_seen};
 ghost use Rattle.population_typed.specs.Instances.{IsInstance};
@@ -25,8 +25,7 @@ impl<'s, 't, 'r, 'a> Population<'s, 't, 'r, 'a> {
     /// The forms that its instances have, each once. It takes no memory.
     pub fn forms(&self) -> &[Form]
         ensures forms { result.now ≡ self.now.rows.forms.items }
-        ensures numbered { Every (AreNumbered (schema_of self.now.types.now.names.schema.now))
-            result.now }
+        ensures numbered { Every (AreNumbered (the_schema self.now.types.now.names)) result.now }
     {
         &self.rows.forms
     }

@@ -19,8 +19,8 @@ ghost use Rattle.std.specs.List.{range_with_len};
 ghost use Rattle.digraph.specs.Graphs.{graph_of};
 ghost use Rattle.express_syntax.specs.ExpressionViews.{capitals};
 ghost use Rattle.express_syntax.specs.Profile.{Every};
-ghost use Rattle.express_syntax.specs.SchemaViews.{schema_of};
 ghost use Rattle.schema_names.specs.Numbers.{HasNumber, AreAt};
+ghost use Rattle.schema_names.specs.Schemas.{the_schema};
 ghost use Rattle.schema_places.specs.Places.{all_places, AreRows};
 ghost use Rattle.schema_bases.specs.Seen.{name_at};
 ghost use Rattle.conformance.specs.Entities.{own_places_of};
@@ -68,10 +68,9 @@ fn push_type<'a>(
     types: &mut Vec<Word<'a>>,
     number: u32,
 ) -> Result<(), AllocError>
-    requires { HasNumber (schema_of names.now.schema.now)
-        (name_at (schema_of names.now.schema.now) number) number }
+    requires { HasNumber (the_schema names.now) (name_at (the_schema names.now) number) number }
     ensures { OnOk result (map word_of types.new.items ≡ map word_of types.old.items
-        ++ name_at (schema_of names.now.schema.now) number ∷ []) }
+        ++ name_at (the_schema names.now) number ∷ []) }
 {
     if let Some(name) = names.name(number) {
         types.push(name)?;
@@ -85,10 +84,10 @@ fn type_words<'a>(
     names: &Names<'a, '_>,
     types: &[u32],
 ) -> Result<Vec<Word<'a>>, AllocError>
-    requires { Every (λ i. HasNumber (schema_of names.now.schema.now)
-        (name_at (schema_of names.now.schema.now) i) i) types.now }
+    requires { Every (λ i. HasNumber (the_schema names.now)
+        (name_at (the_schema names.now) i) i) types.now }
     ensures { IfOk result (λ ws. map word_of ws.items
-        ≡ map (name_at (schema_of names.now.schema.now)) types.now) }
+        ≡ map (name_at (the_schema names.now)) types.now) }
 {
     let mut words = Vec::with_capacity(alloc, types.len())?;
     for number in types {
@@ -103,10 +102,10 @@ fn ordered_types<'a>(
     names: &Names<'a, '_>,
     types: &[u32],
 ) -> Result<Vec<Word<'a>>, AllocError>
-    requires { Every (λ i. HasNumber (schema_of names.now.schema.now)
-        (name_at (schema_of names.now.schema.now) i) i) types.now }
+    requires { Every (λ i. HasNumber (the_schema names.now)
+        (name_at (the_schema names.now) i) i) types.now }
     ensures { IfOk result (λ ws. AreInOrder
-        (map (name_at (schema_of names.now.schema.now)) types.now) (map word_of ws.items)) }
+        (map (name_at (the_schema names.now)) types.now) (map word_of ws.items)) }
 {
     let mut words = type_words(alloc, names, types)?;
     words.sort()?;
@@ -116,10 +115,10 @@ fn ordered_types<'a>(
 
 /// The numbers of the attributes that the entity of a name declares itself, by those of all.
 fn own_row<'o>(names: &Names<'_, '_>, own: &'o [Vec<u32>], name: Word<'_>) -> &'o [u32]
-    requires { AreRows (all_places (schema_of names.now.schema.now))
-        (schema_of names.now.schema.now).declarations (graph_of own.now) }
-    ensures { AreAt (all_places (schema_of names.now.schema.now)) result.now
-        (own_places_of (schema_of names.now.schema.now) (capitals name.entry)) }
+    requires { AreRows (all_places (the_schema names.now))
+        (the_schema names.now).declarations (graph_of own.now) }
+    ensures { AreAt (all_places (the_schema names.now)) result.now
+        (own_places_of (the_schema names.now) (capitals name.entry)) }
 {
     let Some(number) = names.find(name) else {
         return &[];
@@ -153,11 +152,10 @@ fn positions_of(
     slots: &[SlotForm],
     types: &[Word<'_>],
 ) -> Result<Vec<Option<usize>>, AllocError>
-    requires { AreRows (all_places (schema_of names.now.schema.now))
-        (schema_of names.now.schema.now).declarations (graph_of own.now) }
-    ensures { IfOk result (λ v. StandAt (schema_of names.now.schema.now) slots.now
-        (flat_map (own_places_of (schema_of names.now.schema.now)) (map word_of types.now))
-        v.items) }
+    requires { AreRows (all_places (the_schema names.now))
+        (the_schema names.now).declarations (graph_of own.now) }
+    ensures { IfOk result (λ v. StandAt (the_schema names.now) slots.now
+        (flat_map (own_places_of (the_schema names.now)) (map word_of types.now)) v.items) }
 {
     let mut positions = Vec::with_capacity(alloc, slots.len())?;
     for name in types {
@@ -225,10 +223,10 @@ fn order_of<'a>(
     own: &[Vec<u32>],
     form: &Form,
 ) -> Result<Order<'a>, AllocError>
-    requires own { AreRows (all_places (schema_of names.now.schema.now))
-        (schema_of names.now.schema.now).declarations (graph_of own.now) }
-    requires numbered { AreNumbered (schema_of names.now.schema.now) form.now }
-    ensures { IfOk result (IsOrder (schema_of names.now.schema.now) form.now) }
+    requires own { AreRows (all_places (the_schema names.now))
+        (the_schema names.now).declarations (graph_of own.now) }
+    requires numbered { AreNumbered (the_schema names.now) form.now }
+    ensures { IfOk result (IsOrder (the_schema names.now) form.now) }
 {
     let types = ordered_types(alloc, names, &form.types)?;
     let positions = positions_of(alloc, names, own, &form.slots, &types)?;
@@ -247,10 +245,10 @@ pub(crate) fn orders<'a>(
     own: &[Vec<u32>],
     forms: &[Form],
 ) -> Result<Vec<Order<'a>>, AllocError>
-    requires own { AreRows (all_places (schema_of names.now.schema.now))
-        (schema_of names.now.schema.now).declarations (graph_of own.now) }
-    requires numbered { Every (AreNumbered (schema_of names.now.schema.now)) forms.now }
-    ensures { IfOk result (λ v. AreOrders (schema_of names.now.schema.now) forms.now v.items) }
+    requires own { AreRows (all_places (the_schema names.now))
+        (the_schema names.now).declarations (graph_of own.now) }
+    requires numbered { Every (AreNumbered (the_schema names.now)) forms.now }
+    ensures { IfOk result (λ v. AreOrders (the_schema names.now) forms.now v.items) }
 {
     let mut orders = Vec::with_capacity(alloc, forms.len())?;
     for form in forms {

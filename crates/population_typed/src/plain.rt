@@ -21,7 +21,6 @@ ghost use Rattle.std.specs.Bool.{OnTrue};
 ghost use Rattle.std.specs.List.{All, AllZip};
 ghost use Rattle.std.specs.Option.{IfSome};
 ghost use Rattle.express_syntax.specs.Profile.{Every};
-ghost use Rattle.express_syntax.specs.SchemaViews.{schema_of};
 ghost use Rattle.step_exchange.specs.Sections.{CountsTo};
 ghost use Rattle.step_values.specs.Ordering.{row_at};
 ghost use Rattle.step_values.specs.References.{EachReferenceOf};
@@ -30,6 +29,7 @@ ghost use Rattle.step_values.specs.Views.{word_of};
 ghost use Rattle.step_equal.specs.Settled.{IsSettled};
 ghost use Rattle.step_equal.specs.Views.{head_names, heads_seen, rows_from, type_lists_of};
 ghost use Rattle.population_rows.specs.Index.{found, place_of};
+ghost use Rattle.schema_names.specs.Schemas.{the_schema};
 ghost use Rattle.population_fits.specs.References.{IsFound, AreFound};
 ghost use Rattle.population_typed.specs.Rows.{section_numbers};
 ghost use Rattle.population_typed.specs.Seen.{population_seen};
@@ -360,7 +360,7 @@ fn rows_with<'s: 'v, 'v>(
 impl<'s: 'a, 't, 'r, 'a> Population<'s, 't, 'r, 'a> {
     /// The order of each form.
     fn orders(&self, alloc: Global) -> Result<Vec<Order<'s>>, AllocError>
-        ensures { IfOk result (λ v. AreOrders (schema_of self.now.types.now.names.schema.now)
+        ensures { IfOk result (λ v. AreOrders (the_schema self.now.types.now.names)
             self.now.rows.forms.items v.items) }
     {
         let types = &self.types.names;
@@ -386,7 +386,7 @@ impl<'s: 'a, 't, 'r, 'a> Population<'s, 't, 'r, 'a> {
     ///
     /// `AllocError` comes where memory runs out.
     pub fn plain(&self, alloc: Global, keys: RandomState) -> Result<Plain<'a>, AllocError>
-        ensures { IfOk result (λ p. AreRowsOf (schema_of self.now.types.now.names.schema.now)
+        ensures { IfOk result (λ p. AreRowsOf (the_schema self.now.types.now.names)
             (population_seen self.now) p) }
     {
         exchanges_are_named();
@@ -409,7 +409,7 @@ impl<'s: 'a, 't, 'r, 'a> Population<'s, 't, 'r, 'a> {
     /// `AllocError` comes where memory runs out.
     pub fn into_plain(self, alloc: Global) -> Result<Plain<'a>, AllocError>
         ensures { IfOk result (λ p. AreRowsOf
-            (schema_of self.entry.types.now.names.schema.now) (population_seen self.entry) p) }
+            (the_schema self.entry.types.now.names) (population_seen self.entry) p) }
     {
         let orders = self.orders(alloc)?;
         let Population {

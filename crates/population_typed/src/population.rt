@@ -1,6 +1,6 @@
 //! Typed populations.
 
-ghost use Rattle.express_syntax.specs.SchemaViews.{schema_of};
+ghost use Rattle.schema_names.specs.Schemas.{the_schema};
 ghost use Rattle.population_typed.specs.Typed.{IsPopulation};
 
 use population_rows::rows::Rows;
@@ -18,6 +18,5 @@ pub struct Population<'s, 't, 'r, 'a> {
     /// For each instance the values of its attributes, in the order of its form. They live as long as
     /// the text of the exchange structure.
     pub values: ValueRows<'a>,
-    pub ghost typed: { ∥ IsPopulation (schema_of types.now.names.schema.now) exchange.now rows
-        values ∥₁ },
+    pub ghost typed: { ∥ IsPopulation (the_schema types.now.names) exchange.now rows values ∥₁ },
 }

@@ -7,8 +7,8 @@ ghost use Rattle.step_values.specs.Building.{AreRunsOf};
 ghost use Rattle.step_values.specs.Cells.{value_nodes};
 ghost use Rattle.step_values.specs.Targets.{LeadTo, targets_of};
 ghost use Rattle.express_syntax.specs.Profile.{Every};
-ghost use Rattle.express_syntax.specs.SchemaViews.{schema_of};
 ghost use Rattle.schema_names.specs.Numbers.{HasNumber};
+ghost use Rattle.schema_names.specs.Schemas.{the_schema};
 ghost use Rattle.schema_places.specs.Places.{all_places};
 ghost use Rattle.population_rows.specs.declared.form.SlotForm.{SlotForm};
 ghost use Rattle.population_rows.specs.Rows.{form_at as form_in_rows};
@@ -43,7 +43,7 @@ impl<'s, 't, 'r, 'a> Population<'s, 't, 'r, 'a> {
     /// Its instances are those of its exchange structure by its types, with which nothing is wrong but
     /// for rules (ISO 10303-21, 11).
     pub fn is_of_its_exchange(&self)
-        ensures { ∥ IsTyped (schema_of self.now.types.now.names.schema.now)
+        ensures { ∥ IsTyped (the_schema self.now.types.now.names)
             (structure self.now.exchange.now) (population_seen self.now) ∥₁ }
     {}
 
@@ -70,7 +70,7 @@ impl<'s, 't, 'r, 'a> Population<'s, 't, 'r, 'a> {
         ensures form { form_among self.now.rows.forms.items result ≡ form_in_rows self.now.rows row }
         ensures types { (name : ℕ) → found self.now.rows.index name ≡ Some row
             → types_at (population_seen self.now) name
-            ≡ map (name_at (schema_of self.now.types.now.names.schema.now))
+            ≡ map (name_at (the_schema self.now.types.now.names))
             (types_by_form (form_among self.now.rows.forms.items result)) }
     {
         self.rows.form_of[row as usize]
@@ -81,10 +81,10 @@ impl<'s, 't, 'r, 'a> Population<'s, 't, 'r, 'a> {
     pub fn value_at(&self, row: u32, position: usize) -> Option<Slot<'_, 'a>>
         requires { row < length (population_seen self.now) }
         ensures { (name place : ℕ) → found self.now.rows.index name ≡ Some row
-            → place < length (all_places (schema_of self.now.types.now.names.schema.now))
+            → place < length (all_places (the_schema self.now.types.now.names))
             → position_among (slots_by_form (form_in_rows self.now.rows row)) place ≡ Some position
             → result ≡ value_of (population_seen self.now) name
-            (place_at (schema_of self.now.types.now.names.schema.now) place) }
+            (place_at (the_schema self.now.types.now.names) place) }
     {
         self.values.row(row as usize).item(position)
     }
@@ -92,10 +92,10 @@ impl<'s, 't, 'r, 'a> Population<'s, 't, 'r, 'a> {
     /// The value that the instance of a name has of the attribute of this number; none where there
     /// is no such instance or attribute, or it has no value of it. It takes no memory.
     pub fn value(&self, name: u64, place: u32) -> Option<Slot<'_, 'a>>
-        ensures there { place < length (all_places (schema_of self.now.types.now.names.schema.now))
+        ensures there { place < length (all_places (the_schema self.now.types.now.names))
             → result ≡ value_of (population_seen self.now) name
-            (place_at (schema_of self.now.types.now.names.schema.now) place) }
-        ensures beyond { length (all_places (schema_of self.now.types.now.names.schema.now)) ≤ place
+            (place_at (the_schema self.now.types.now.names) place) }
+        ensures beyond { length (all_places (the_schema self.now.types.now.names)) ≤ place
             → result ≡ None }
     {
         let Some(row) = self.row_of(name) else {
@@ -113,10 +113,10 @@ impl<'s, 't, 'r, 'a> Population<'s, 't, 'r, 'a> {
     /// The numbers of the types of the instance of a name, in the order of the schema; none where
     /// there is no such instance. It takes no memory.
     pub fn types_of(&self, name: u64) -> &[u32]
-        ensures types { map (name_at (schema_of self.now.types.now.names.schema.now)) result.now
+        ensures types { map (name_at (the_schema self.now.types.now.names)) result.now
             ≡ types_at (population_seen self.now) name }
-        ensures numbered { Every (λ i. HasNumber (schema_of self.now.types.now.names.schema.now)
-            (name_at (schema_of self.now.types.now.names.schema.now) i) i) result.now }
+        ensures numbered { Every (λ i. HasNumber (the_schema self.now.types.now.names)
+            (name_at (the_schema self.now.types.now.names) i) i) result.now }
     {
         let Some(row) = self.row_of(name) else {
             return &[];

@@ -2,8 +2,8 @@
 
 ghost use Rattle.std.specs.Prelude.{◌≡◌, ◌<◌, length, Some, IfOk, OnOk, slice_get};
 ghost use Rattle.express_syntax.specs.Profile.{Every};
-ghost use Rattle.express_syntax.specs.SchemaViews.{schema_of};
 ghost use Rattle.conformance.specs.RuleFindings.{may_hold, inverse_findings};
+ghost use Rattle.schema_names.specs.Schemas.{the_schema};
 ghost use Rattle.schema_rules.specs.Findings.{IsFindingOf, AreFindingsOf};
 ghost use Rattle.schema_rules.specs.declared.finding.RuleFindingKind.TheVariants.{InverseBound};
 ghost use Rattle.schema_rules.specs.Seen.{gathering_seen, rules_seen, AreNumbered};
@@ -40,12 +40,12 @@ fn finding<'s>(
     attribute: usize,
 ) -> RuleFinding<'s>
     requires numbered { AreNumbered
-        (schema_of extents.now.population.now.types.now.names.schema.now) extents.now.rules.now }
+        (the_schema extents.now.population.now.types.now.names) extents.now.rules.now }
     requires within { attribute < length extents.now.rules.now.inverses.items }
     ensures { (i : Attribute)
         → slice_get extents.now.rules.now.inverses.items attribute ≡ Some i
         → IsFindingOf InverseBound
-        (breach (schema_of extents.now.population.now.types.now.names.schema.now) name i) result }
+        (breach (the_schema extents.now.population.now.types.now.names) name i) result }
 {
     let inverse = &extents.rules.inverses[attribute];
     RuleFinding {
@@ -66,7 +66,7 @@ fn keeps(
     requires { attribute < length extents.now.rules.now.inverses.items }
     ensures { (i : Attribute)
         → slice_get extents.now.rules.now.inverses.items attribute ≡ Some i
-        → result ≡ keeps (schema_of extents.now.population.now.types.now.names.schema.now)
+        → result ≡ keeps (the_schema extents.now.population.now.types.now.names)
         (population_seen extents.now.population.now) name i }
 {
     let begin = near.get(attribute).copied().unwrap_or(0);
@@ -86,10 +86,10 @@ fn add_broken<'s>(
     numbers: &[usize],
 ) -> Result<(), AllocError>
     requires numbered { AreNumbered
-        (schema_of extents.now.population.now.types.now.names.schema.now) extents.now.rules.now }
+        (the_schema extents.now.population.now.types.now.names) extents.now.rules.now }
     requires within { Every (λ n. n < length extents.now.rules.now.inverses.items) numbers.now }
     ensures { OnOk result (Adds InverseBound (breaches_at
-        (schema_of extents.now.population.now.types.now.names.schema.now)
+        (the_schema extents.now.population.now.types.now.names)
         (population_seen extents.now.population.now) name extents.now.rules.now.inverses.items
         numbers.now) findings.old.items findings.new.items) }
 {
@@ -111,10 +111,10 @@ pub fn check_inverse<'s>(
     extents: &Extents<'s, '_, '_, '_, '_>,
 ) -> Result<Vec<RuleFinding<'s>>, AllocError>
     requires numbered { AreNumbered
-        (schema_of extents.now.population.now.types.now.names.schema.now) extents.now.rules.now }
+        (the_schema extents.now.population.now.types.now.names) extents.now.rules.now }
     ensures { IfOk result (λ t. AreFindingsOf InverseBound
         (inverse_findings (rules_seen
-        (schema_of extents.now.population.now.types.now.names.schema.now) extents.now.rules.now)
+        (the_schema extents.now.population.now.types.now.names) extents.now.rules.now)
         (population_seen extents.now.population.now)) t.items) }
 {
     let rows = numbers_by_form(alloc, &extents.rules.inverses, extents.population.forms())?;

@@ -1,8 +1,8 @@
 //! The instances that break a uniqueness rule (ISO 10303-11, 9.2.2.1).
 
 ghost use Rattle.std.specs.Prelude.{◌≡◌, [], map, IfOk};
-ghost use Rattle.express_syntax.specs.SchemaViews.{schema_of};
 ghost use Rattle.conformance.specs.RuleFindings.{repeats};
+ghost use Rattle.schema_names.specs.Schemas.{the_schema};
 ghost use Rattle.schema_rules.specs.Seen.{unique_seen, IsNumberedUnique};
 ghost use Rattle.population_typed.specs.Seen.{population_seen};
 
@@ -26,10 +26,9 @@ pub fn repeats(
     population: &Population<'_, '_, '_, '_>,
     rule: &UniqueRule<'_>,
 ) -> Result<Vec<u64>, AllocError>
-    requires numbered { IsNumberedUnique (schema_of population.now.types.now.names.schema.now)
-        rule.now }
+    requires numbered { IsNumberedUnique (the_schema population.now.types.now.names) rule.now }
     ensures { IfOk result (λ v. v.items ≡ map (λ x. x.name)
-        (repeats (unique_seen (schema_of population.now.types.now.names.schema.now) rule.now) []
+        (repeats (unique_seen (the_schema population.now.types.now.names) rule.now) []
         (population_seen population.now))) }
 {
     let positions = positions_by_form(alloc, keys, population.forms(), rule)?;

@@ -1,10 +1,10 @@
 //! Instances that break uniqueness rules (ISO 10303-11, 9.2.2.1).
 
 ghost use Rattle.std.specs.Prelude.{◌≡◌, map, IfOk, OnOk};
-ghost use Rattle.express_syntax.specs.SchemaViews.{schema_of};
 ghost use Rattle.conformance.specs.RuleFindings.{unique_findings, breaches_of_unique};
 ghost use Rattle.schema_semantics.specs.Names.{Name};
 ghost use Rattle.schema_semantics.specs.Parts.{dotted};
+ghost use Rattle.schema_names.specs.Schemas.{the_schema};
 ghost use Rattle.schema_parts.specs.Adding.{said};
 ghost use Rattle.schema_rules.specs.Findings.{AreFindingsOf};
 ghost use Rattle.schema_rules.specs.declared.finding.RuleFindingKind.TheVariants.{UniqueBroken};
@@ -51,10 +51,10 @@ fn add_rule<'s>(
     rule: &UniqueRule<'s>,
 ) -> Result<(), AllocError>
     requires numbered { IsNumberedUnique
-        (schema_of extents.now.population.now.types.now.names.schema.now) rule.now }
+        (the_schema extents.now.population.now.types.now.names) rule.now }
     ensures { OnOk result (Adds UniqueBroken
         (breaches_of_unique (population_seen extents.now.population.now)
-        (unique_seen (schema_of extents.now.population.now.types.now.names.schema.now) rule.now))
+        (unique_seen (the_schema extents.now.population.now.types.now.names) rule.now))
         findings.old.items findings.new.items) }
 {
     if !rule.is_checked {
@@ -75,10 +75,10 @@ pub fn check_unique<'s>(
     extents: &Extents<'s, '_, '_, '_, '_>,
 ) -> Result<Vec<RuleFinding<'s>>, AllocError>
     requires numbered { AreNumbered
-        (schema_of extents.now.population.now.types.now.names.schema.now) extents.now.rules.now }
+        (the_schema extents.now.population.now.types.now.names) extents.now.rules.now }
     ensures { IfOk result (λ t. AreFindingsOf UniqueBroken
         (unique_findings (rules_seen
-        (schema_of extents.now.population.now.types.now.names.schema.now) extents.now.rules.now)
+        (the_schema extents.now.population.now.types.now.names) extents.now.rules.now)
         (population_seen extents.now.population.now)) t.items) }
 {
     let mut findings = Vec::new(alloc);

@@ -19,7 +19,7 @@ module _ (S : Setting) (m : Meant S) where
   step n y i o = by_rank n o (gives n y) (below_rank S m n y i)
 
   -- an attribute that is set aside
-  pub below-none : (n y : ℕ) (i : Derivation) → m.attributes.formula i ≡ None → below_rank S m n y i ≡ indeterminate
+  pub below-none : (n y : ℕ) (i : Derivation) → m.said.attributes.formula i ≡ None → below_rank S m n y i ≡ indeterminate
   below-none zero y i e = refl
   below-none (suc n) y i e = ap (step n y i) e ∙ below-none n y i e
 
@@ -27,18 +27,18 @@ module _ (S : Setting) (m : Meant S) where
   other-rank r n h = grind (arith, nat_tests, h)
 
   -- one of no lesser rank
-  pub below-late : (n y : ℕ) (i : Derivation) (f : Formula) → m.attributes.formula i ≡ Some f → n ≤ f.rank → below_rank S m n y i ≡ indeterminate
+  pub below-late : (n y : ℕ) (i : Derivation) (f : Formula) → m.said.attributes.formula i ≡ Some f → n ≤ f.rank → below_rank S m n y i ≡ indeterminate
   below-late zero y i f e l = refl
   below-late (suc n) y i f e l =
       ap (step n y i) e
       ∙ ap (λ b. if b then gives n y f.expression else below_rank S m n y i) (other-rank f.rank n (λ h. omega (arith, h, l)))
       ∙ below-late n y i f e (omega (arith, l))
 
-  ranked : (n y : ℕ) (i : Derivation) (f : Formula) (b : Bool) → m.attributes.formula i ≡ Some f → (f.rank == n) ≡ b
+  ranked : (n y : ℕ) (i : Derivation) (f : Formula) (b : Bool) → m.said.attributes.formula i ≡ Some f → (f.rank == n) ≡ b
       → below_rank S m (suc n) y i ≡ (if b then gives n y f.expression else below_rank S m n y i)
   ranked n y i f b e h = ap (step n y i) e ∙ ap (λ b. if b then gives n y f.expression else below_rank S m n y i) h
 
-  here : (n y : ℕ) (i : Derivation) (f : Formula) → m.attributes.formula i ≡ Some f → (f.rank == n) ≡ true
+  here : (n y : ℕ) (i : Derivation) (f : Formula) → m.said.attributes.formula i ≡ Some f → (f.rank == n) ≡ true
       → below_rank S m (suc n) y i ≡ gives f.rank y f.expression
   here n y i f e h =
       let r : f.rank ≡ n = grind (arith, nat_tests, h) in
@@ -48,7 +48,7 @@ module _ (S : Setting) (m : Meant S) where
   less r n l h = grind (arith, nat_tests, h, l)
 
   -- one of a lesser rank is what it means with those of lesser ranks still
-  pub below-rank : (n y : ℕ) (i : Derivation) (f : Formula) → m.attributes.formula i ≡ Some f → f.rank < n
+  pub below-rank : (n y : ℕ) (i : Derivation) (f : Formula) → m.said.attributes.formula i ≡ Some f → f.rank < n
       → below_rank S m n y i ≡ means (setting_by S m (below_rank S m f.rank)) [] (instance y) f.expression
   below-rank zero y i f e l = absurd (omega (arith, l))
   below-rank (suc n) y i f e l =

@@ -18,7 +18,7 @@ module _ (S : Setting) (m : Meant S) where
   -- a derived attribute of an instance is worth this
   abbrev pub IsWorth : Wanted → Datum → Type 0
   IsWorth w d = HasNumber (schema_in S) (name_at (schema_in S) w.derivation.entity) w.derivation.entity
-      → (f : Formula) → m.attributes.formula (derivation_in S w.derivation) ≡ Some f → d ≡ formula_worth S m w.instance f
+      → (f : Formula) → m.said.attributes.formula (derivation_in S w.derivation) ≡ Some f → d ≡ formula_worth S m w.instance f
 
   abbrev pub IsRight : KeptValue → Type 0
   IsRight x = IsWorth x.wanted (datum_of holding x.value)

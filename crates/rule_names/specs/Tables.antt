@@ -1,8 +1,8 @@
 -- The tables that expressions are evaluated by.
 use Rattle.std.specs.Prelude.{◌≡◌, ℕ, List, Some, map, slice_get}
 use Rattle.express_syntax.specs.Schemas.{Schema}
-use Rattle.express_syntax.specs.SchemaViews.{schema_of}
 use Rattle.schema_semantics.specs.Attributes.{Place}
+use Rattle.schema_names.specs.Schemas.{the_schema}
 use Rattle.schema_data_types.specs.Numbered.{form_in, all_data_types}
 use Rattle.conformance.specs.Bases.{Domain, IsDomain}
 use Rattle.conformance.specs.Entities.{Entities, AreEntities}
@@ -30,10 +30,9 @@ AreDeclared s bases =
 
 -- These are the tables of the schema of these types.
 pub record AreSettingTables (x : ResolvedTypes) (t : SettingTables) : Type 0 where
-  pub value_types : AreValueTypes (schema_of x.names.schema.now) t.value_types
-  pub sources : AreSources (schema_of x.names.schema.now) t.sources
-  pub declared : AreDeclared (schema_of x.names.schema.now) t.declared.items
-  pub uses : AreUses (schema_of x.names.schema.now) t.uses.now
-  pub forms : t.data_types.forms.items
-      ≡ map (form_in (schema_of x.names.schema.now)) (all_data_types (schema_of x.names.schema.now))
-  pub items : AreItems (schema_of x.names.schema.now) t.items
+  pub value_types : AreValueTypes (the_schema x.names) t.value_types
+  pub sources : AreSources (the_schema x.names) t.sources
+  pub declared : AreDeclared (the_schema x.names) t.declared.items
+  pub uses : AreUses (the_schema x.names) t.uses.now
+  pub forms : t.data_types.forms.items ≡ map (form_in (the_schema x.names)) (all_data_types (the_schema x.names))
+  pub items : AreItems (the_schema x.names) t.items

@@ -2,7 +2,7 @@
 
 ghost use Rattle.std.specs.Prelude.{◌≡◌, map, IfOk};
 ghost use Rattle.std.specs.List.{AllZip, find};
-ghost use Rattle.express_syntax.specs.SchemaViews.{schema_of};
+ghost use Rattle.schema_names.specs.Schemas.{the_schema};
 ghost use Rattle.schema_uses.specs.Uses.{HasPlace, uses_at};
 ghost use Rattle.schema_uses.specs.declared.uses.AttributeUse.{AttributeUse};
 ghost use Rattle.schema_types.specs.Made.{IsMade};
@@ -111,8 +111,8 @@ fn declared_base(
     requires made { IsMade types.now }
     requires tables { AreTables types.now tables.now }
     requires firsts { AllZip (λ v t. AreFirst v.items t) tables.now.uses.explicit.items firsts.now }
-    requires place { HasPlace (schema_of types.now.names.schema.now) (place_of place) number }
-    ensures { IsDeclaredAs (schema_of types.now.names.schema.now) (place_of place.entry) result }
+    requires place { HasPlace (the_schema types.now.names) (place_of place) number }
+    ensures { IsDeclaredAs (the_schema types.now.names) (place_of place.entry) result }
 {
     let Some(entity) = types.names.find(*place.entity) else {
         return Base::Integer;
@@ -133,7 +133,7 @@ pub fn declared_bases(
 ) -> Result<Vec<Base>, AllocError>
     requires made { IsMade types.now }
     requires tables { AreTables types.now tables.now }
-    ensures { IfOk result (λ t. AreDeclared (schema_of types.now.names.schema.now) t.items) }
+    ensures { IfOk result (λ t. AreDeclared (the_schema types.now.names) t.items) }
 {
     let firsts = first_uses_by_entity(alloc, keys, &tables.uses)?;
     let mut bases = Vec::new(alloc);

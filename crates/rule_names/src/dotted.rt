@@ -5,12 +5,12 @@ ghost use Rattle.std.specs.Prelude.{◌≡◌, ◌≤◌, ◌∷◌, ◌++◌, l
 ghost use Rattle.step_literals.specs.Words.{upper};
 ghost use Rattle.step_literals.specs.Strings.{content_of};
 ghost use Rattle.express_syntax.specs.ExpressionViews.{capitals};
-ghost use Rattle.express_syntax.specs.SchemaViews.{schema_of};
 ghost use Rattle.express_logic.specs.Literals.{simple_characters};
 ghost use Rattle.express_logic.specs.Comparing.{same_text};
 ghost use Rattle.express_logic.specs.Taking.{of_codes};
 ghost use Rattle.express_logic.specs.Views.{text_of};
 ghost use Rattle.conformance.specs.Meanings.{says_type};
+ghost use Rattle.schema_names.specs.Schemas.{the_schema};
 
 use express_lexis::literal::SimpleString;
 use express_logic::strings::AnyString;
@@ -78,8 +78,7 @@ fn is_dotted(string: &SimpleString<'_>, first: Word<'_>, second: Word<'_>) -> bo
 
 /// Whether a string names what has this name, as TYPEOF gives it.
 pub(crate) fn says_name(names: &Names<'_, '_>, name: Word<'_>, text: &AnyString<'_>) -> bool
-    ensures { result ≡ says_type (schema_of names.now.schema.now) (text_of text.now)
-        (capitals name.entry) }
+    ensures { result ≡ says_type (the_schema names.now) (text_of text.now) (capitals name.entry) }
 {
     match text {
         AnyString::Simple(string) => is_dotted(string, names.schema.name, name),

@@ -7,10 +7,10 @@ ghost use Rattle.express_syntax.specs.Views.{
   underlying_of,
   declaration_of as declaration_seen,
 };
-ghost use Rattle.express_syntax.specs.SchemaViews.{schema_of};
 ghost use Rattle.schema_semantics.specs.Faults.{IsResolved};
 ghost use Rattle.conformance.specs.Bases.{Domain, IsDomain};
 ghost use Rattle.conformance.specs.Fitting.{among};
+ghost use Rattle.schema_names.specs.Schemas.{the_schema};
 ghost use Rattle.schema_bases.specs.Seen.{items_of, items_in};
 ghost use Rattle.conformance.specs.Meanings.{type_names, items_in as of_base};
 ghost use Rattle.rule_values.specs.Coded.{named_base};
@@ -75,10 +75,10 @@ pub fn is_item_of(
     declared: Word<'_>,
     name: Word<'_>,
 ) -> bool
-    requires resolved { IsResolved (schema_of names.now.schema.now) }
-    requires tables { AreValueTypes (schema_of names.now.schema.now) tables.now.value_types }
-    ensures { (d : Domain) → IsDomain (schema_of names.now.schema.now) d
-        → result ≡ (among (capitals declared.entry) (type_names (schema_of names.now.schema.now))
+    requires resolved { IsResolved (the_schema names.now) }
+    requires tables { AreValueTypes (the_schema names.now) tables.now.value_types }
+    ensures { (d : Domain) → IsDomain (the_schema names.now) d
+        → result ≡ (among (capitals declared.entry) (type_names (the_schema names.now))
         && among (capitals name.entry) (of_base (d.of_name (capitals declared.entry)))) }
 {
     let Some(number) = names.find(declared) else {

@@ -5,10 +5,10 @@ ghost use Rattle.std.specs.List.{list_any};
 ghost use Rattle.express_syntax.specs.ExpressionViews.{capitals};
 ghost use Rattle.express_syntax.specs.Schemas.{named};
 ghost use Rattle.express_syntax.specs.Views.{if_some, declaration_of as declaration_seen};
-ghost use Rattle.express_syntax.specs.SchemaViews.{schema_of};
 ghost use Rattle.schema_semantics.specs.Faults.{IsResolved};
 ghost use Rattle.schema_semantics.specs.Names.{Name, IsOrLeads, Renames};
 ghost use Rattle.schema_names.specs.Numbers.{HasNumber};
+ghost use Rattle.schema_names.specs.Schemas.{the_schema};
 ghost use Rattle.schema_bases.specs.Seen.{name_at};
 ghost use Rattle.express_logic.specs.Views.{text_of};
 ghost use Rattle.conformance.specs.Meanings.{says_type};
@@ -24,10 +24,9 @@ use step_literals::literal::Word;
 
 /// Whether a string names what is declared at a number, as TYPEOF gives it.
 fn says_type(names: &Names<'_, '_>, number: u32, text: &AnyString<'_>) -> bool
-    requires { HasNumber (schema_of names.now.schema.now)
-        (name_at (schema_of names.now.schema.now) number) number }
-    ensures { result ≡ says_type (schema_of names.now.schema.now) (text_of text.now)
-        (name_at (schema_of names.now.schema.now) number) }
+    requires { HasNumber (the_schema names.now) (name_at (the_schema names.now) number) number }
+    ensures { result ≡ says_type (the_schema names.now) (text_of text.now)
+        (name_at (the_schema names.now) number) }
 {
     match names.name(number) {
         Some(name) => says_name(names, name, text),
@@ -37,9 +36,9 @@ fn says_type(names: &Names<'_, '_>, number: u32, text: &AnyString<'_>) -> bool
 
 /// Whether a string names one of these types.
 pub fn says_any(names: &Names<'_, '_>, types: &[u32], text: &AnyString<'_>) -> bool
-    requires { AreTypes (schema_of names.now.schema.now) types.now }
-    ensures { result ≡ list_any (says_type (schema_of names.now.schema.now) (text_of text.now))
-        (types_seen (schema_of names.now.schema.now) types.now) }
+    requires { AreTypes (the_schema names.now) types.now }
+    ensures { result ≡ list_any (says_type (the_schema names.now) (text_of text.now))
+        (types_seen (the_schema names.now) types.now) }
 {
     for number in types {
         if says_type(names, *number, text) {
@@ -62,15 +61,15 @@ fn type_name<'a>(declaration: &Declaration<'a>) -> Option<Word<'a>>
 /// Whether a string names the defined type of the second number, and that of the first one is
 /// defined by it.
 fn says_defining(names: &Names<'_, '_>, number: u32, other: u32, text: &AnyString<'_>) -> bool
-    requires resolved { IsResolved (schema_of names.now.schema.now) }
+    requires resolved { IsResolved (the_schema names.now) }
     requires within { number < length names.now.schema.now.declarations.items }
     requires other { other < length names.now.schema.now.declarations.items }
-    ensures { (m : Name) → HasNumber (schema_of names.now.schema.now) m number
+    ensures { (m : Name) → HasNumber (the_schema names.now) m number
         → (defined : Name → Name → Bool)
         → ((n : Name) → IsTrue (defined m n)
-        ↔ IsOrLeads (Renames (schema_of names.now.schema.now)) (named m) (named n))
-        → result ≡ says_in (schema_of names.now.schema.now) defined (text_of text.now) m
-        (slice_get (schema_of names.now.schema.now).declarations other) }
+        ↔ IsOrLeads (Renames (the_schema names.now)) (named m) (named n))
+        → result ≡ says_in (the_schema names.now) defined (text_of text.now) m
+        (slice_get (the_schema names.now).declarations other) }
 {
     let Some(name) = type_name(names.declaration(other)) else {
         return false;
@@ -80,14 +79,14 @@ fn says_defining(names: &Names<'_, '_>, number: u32, other: u32, text: &AnyStrin
 
 /// Whether a string names a defined type by which that of a number is defined.
 pub fn says_definition(names: &Names<'_, '_>, number: u32, text: &AnyString<'_>) -> bool
-    requires resolved { IsResolved (schema_of names.now.schema.now) }
+    requires resolved { IsResolved (the_schema names.now) }
     requires within { number < length names.now.schema.now.declarations.items }
-    ensures { (m : Name) → HasNumber (schema_of names.now.schema.now) m number
+    ensures { (m : Name) → HasNumber (the_schema names.now) m number
         → (defined : Name → Name → Bool)
         → ((n : Name) → IsTrue (defined m n)
-        ↔ IsOrLeads (Renames (schema_of names.now.schema.now)) (named m) (named n))
-        → result ≡ says_one (schema_of names.now.schema.now) defined (text_of text.now) m
-        (schema_of names.now.schema.now).declarations }
+        ↔ IsOrLeads (Renames (the_schema names.now)) (named m) (named n))
+        → result ≡ says_one (the_schema names.now) defined (text_of text.now) m
+        (the_schema names.now).declarations }
 {
     for other in 0..names.len() {
         if says_defining(names, number, other as u32, text) {

@@ -25,9 +25,9 @@ module _ (S : Setting) (m : Meant S) where
       → Agrees (schema_in S) (λ i. is_under f i t) (is_of S m (name_at (schema_in S) t))
   forest-tells t f h k i numbered =
       let s = schema_in S in
-      let named = m.are_attributes.names (name_at s i) (name_at s t) in
+      let named = m.said.are_attributes.names (name_at s i) (name_at s t) in
       let told = h i t numbered k in
-      same-test (is_under f i t) (m.attributes.is_defined_by (name_at s i) (name_at s t)) (λ e. named.1 (told.0 e))
+      same-test (is_under f i t) (m.said.attributes.is_defined_by (name_at s i) (name_at s t)) (λ e. named.1 (told.0 e))
       (λ e. told.1 (named.0 e))
 
   -- .. of each that states a rule all are wanted
@@ -35,7 +35,7 @@ module _ (S : Setting) (m : Meant S) where
       → States rules t → Covers (schema_in S) union (is_of S m (name_at (schema_in S) t))
   union-covers t rules union h said i numbered e =
       let s = schema_in S in
-      (h i numbered).1 (t, said, (m.are_attributes.names (name_at s i) (name_at s t)).0 e)
+      (h i numbered).1 (t, said, (m.said.are_attributes.names (name_at s i) (name_at s t)).0 e)
 
   module _ (x : Instance) (types : List ℕ) where
     -- no defined type states a rule

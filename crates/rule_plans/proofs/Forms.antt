@@ -10,6 +10,7 @@ use Rattle.express_syntax.specs.Schemas.{Schema}
 use Rattle.express_syntax.specs.Profile.{Every}
 use Rattle.schema_semantics.specs.Names.{Name, Among}
 use Rattle.schema_semantics.proofs.Lists.{every-at}
+use Rattle.schema_names.specs.Schemas.{the_schema}
 use Rattle.schema_places.specs.Places.{all_places}
 use Rattle.schema_places.proofs.Distinct.{at-among}
 use Rattle.conformance.specs.Bases as conformance
@@ -41,7 +42,7 @@ use Rattle.rule_settings.specs.Settings as settings
 use Rattle.rule_settings.specs.Settings.{IsSetting, Meant, population_in}
 use Rattle.rule_plans.specs.declared.sought.Seeker.{Seeker}
 use Rattle.rule_plans.specs.declared.values.Asked.{Asked}
-use Rattle.rule_plans.specs.Coded.{schema_in, coded_place, coded_slots, slots_in}
+use Rattle.rule_plans.specs.Coded.{coded_place, coded_slots, slots_in}
 use Rattle.rule_plans.specs.Flat.{is_plain, are_plain, is_flat, has_plain_values, has_flat_values}
 use Rattle.rule_plans.specs.Seeking.{Agrees, Covers, those}
 use Rattle.rule_plans.specs.Speaking.{is_of, values_of}
@@ -113,11 +114,12 @@ module _ (s : Schema) (d : Domain) (typing : Typing) where
         each-plain (element_base t b) h g.of.optional vs
         (subst (λ z. FitEach s d typing g.of.optional z vs) (sym (elements-as b known g.of g.is_of)) g.each)
 
-module _ (x : Seeker) (are : AreValueTypes (schema_in x) x.types.now) (d : Domain) (is : IsDomain (schema_in x) d)
-    (en : Entities) (g : AreEntities (schema_in x) en) (typing : Typing) (k : Asked)
-    (declared : AreDeclared (schema_in x) k.declared.now) where
+module _ (x : Seeker) (are : AreValueTypes (the_schema x.names.now) x.types.now) (d : Domain)
+    (is : IsDomain (the_schema x.names.now) d)
+    (en : Entities) (g : AreEntities (the_schema x.names.now) en) (typing : Typing) (k : Asked)
+    (declared : AreDeclared (the_schema x.names.now) k.declared.now) where
   abbrev s : Schema
-  s = schema_in x
+  s = the_schema x.names.now
 
   abbrev is_wholly_unsought_at : ℕ → Bool
   is_wholly_unsought_at q = is_wholly_unsought x k.uses.now k.declared.now k.types.now q
@@ -183,13 +185,13 @@ module _ (S : Setting) (is : IsSetting S) (m : Meant S) (wanted : List Bool) (ro
         types = record { ref_ptr = (0, 0); now = types_by_form form };
       } in
       let y : Instance = instance_seen s r.name h.section form r.values in
-      let conforms : Conforms s m.domain (typing_of is_in) m.entities y =
-      every-at (Conforms s m.domain (typing_of is_in) m.entities) y is_in m.conforms (at-among is_in row y h.seen) in
+      let conforms : Conforms s m.said.domain (typing_of is_in) m.said.entities y =
+      every-at (Conforms s m.said.domain (typing_of is_in) m.said.entities) y is_in m.conforms (at-among is_in row y h.seen) in
       subst (λ (z : Instance). values_of S m z t ≡ []) (one-instance is_in row y x h.seen at)
       (sym (instance-same seeker (record { resolved = is.known.made.resolved; forms = is.tables.forms })
-      is.tables.value_types m.domain m.is_domain m.entities m.are_entities m.attributes t (typing_of is_in) (those p) refl
+      is.tables.value_types m.said.domain m.said.is_domain m.said.entities m.said.are_entities m.said.attributes t (typing_of is_in) (those p) refl
       (those-joined p) (those-of-one s (is_of S m t) wanted p agrees covers) asked is.tables.uses is.tables.declared form
       (slots_in form) refl refl h.placed h.entities
       (numbers-of s (forms_in S) r.form (kept S.extents.now.population.now).numbered) r.name h.section r.values conforms)
-      ∙ ap (those p) (instance-none seeker is.tables.value_types m.domain m.is_domain m.entities m.are_entities
+      ∙ ap (those p) (instance-none seeker is.tables.value_types m.said.domain m.said.is_domain m.said.entities m.said.are_entities
       (typing_of is_in) asked is.tables.declared form h.placed r.name h.section r.values conforms forms))

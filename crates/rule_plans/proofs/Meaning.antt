@@ -12,6 +12,7 @@ use Rattle.schema_semantics.specs.Names.{Name, IsType, IsEntity}
 use Rattle.schema_semantics.specs.Faults.{IsResolved}
 use Rattle.express_syntax.specs.Schemas.{type, entity}
 use Rattle.schema_names.specs.Numbers.{number_of, HasNumber}
+use Rattle.schema_names.specs.Schemas.{the_schema}
 use Rattle.schema_names.proofs.Numbers.{each-number}
 use Rattle.schema_data_types.specs.Numbered.{form_in, all_data_types}
 use Rattle.conformance.specs.Bases as conformance
@@ -34,7 +35,7 @@ use Rattle.rule_values.proofs.Items.{item-declared}
 use Rattle.rule_values.proofs.Worth.{fitting_values_are_worth_the_same}
 use Rattle.rule_plans.specs.declared.sought.Sought.{Sought}
 use Rattle.rule_plans.specs.declared.sought.Seeker.{Seeker}
-use Rattle.rule_plans.specs.Coded.{schema_in, named_of, named_at, wanted_in, Told, told_by, by_number, by_name, elements_by, elements_of, coded_itself, coded_values, coded_each, coded_elements}
+use Rattle.rule_plans.specs.Coded.{named_of, named_at, wanted_in, Told, told_by, by_number, by_name, elements_by, elements_of, coded_itself, coded_values, coded_each, coded_elements}
 use Rattle.rule_plans.specs.Seeking.{IsSeeker, IsDeclared}
 use Rattle.rule_plans.proofs.Sifting.{told}
 use Rattle.rule_plans.proofs.Testing.{at-declared, found-declared}
@@ -57,14 +58,14 @@ inner-there s d r is (conformance.select m) n c e = by (d.is_item m n) refl (is_
     by false k q e = absurd (cc)
 inner-there s d r is b n c e = absurd (cc)
 
-module _ (x : Seeker) (is_seeker : IsSeeker x) (are : AreValueTypes (schema_in x) x.types.now) (d : Domain)
-    (is : IsDomain (schema_in x) d) (en : Entities) (attributes : Attributes) (t : Name) (typing : Typing)
+module _ (x : Seeker) (is_seeker : IsSeeker x) (are : AreValueTypes (the_schema x.names.now) x.types.now) (d : Domain)
+    (is : IsDomain (the_schema x.names.now) d) (en : Entities) (attributes : Attributes) (t : Name) (typing : Typing)
     (F : List Told → List Datum) (empty : F [] ≡ []) (joined : (xs ys : List Told) → F (xs ++ ys) ≡ F xs ++ F ys)
-    (single : (o : Option ℕ) → IsDeclared (schema_in x) o → (z : Datum)
+    (single : (o : Option ℕ) → IsDeclared (the_schema x.names.now) o → (z : Datum)
     → F (told_by (wanted_in x.wanted.now o) z)
-    ≡ cond (told (schema_in x) (λ n. attributes.is_defined_by n t) o) (z ∷ []) []) where
+    ≡ cond (told (the_schema x.names.now) (λ n. attributes.is_defined_by n t) o) (z ∷ []) []) where
   abbrev s : Schema
-  s = schema_in x
+  s = the_schema x.names.now
 
   -- the type t, or one that is defined by it
   abbrev test : Name → Bool

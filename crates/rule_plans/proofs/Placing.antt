@@ -12,6 +12,7 @@ use Rattle.schema_semantics.specs.Attributes.{Place}
 use Rattle.schema_semantics.proofs.Lists.{every-of}
 use Rattle.digraph.specs.Graphs.{has}
 use Rattle.schema_names.specs.Numbers.{HasNumber}
+use Rattle.schema_names.specs.Schemas.{the_schema}
 use Rattle.schema_names.proofs.Numbers.{stands-at}
 use Rattle.schema_places.specs.Places.{all_places}
 use Rattle.conformance.specs.Bases.{Domain, IsDomain}
@@ -43,7 +44,7 @@ use Rattle.rule_values.specs.Tables.{AreValueTypes}
 use Rattle.rule_names.specs.Tables.{AreDeclared}
 use Rattle.rule_plans.specs.declared.sought.Seeker.{Seeker}
 use Rattle.rule_plans.specs.declared.values.Asked.{Asked}
-use Rattle.rule_plans.specs.Coded.{schema_in, wanted_in, Told, told_by, by_number, coded_values, coded_uses, coded_place, coded_slots, slots_in}
+use Rattle.rule_plans.specs.Coded.{wanted_in, Told, told_by, by_number, coded_values, coded_uses, coded_place, coded_slots, slots_in}
 use Rattle.rule_plans.specs.Seeking.{IsSeeker, IsDeclared}
 use Rattle.rule_plans.proofs.Fitting.{declared-fits}
 use Rattle.rule_plans.proofs.Meaning.{sought-number, all-same}
@@ -129,16 +130,16 @@ abbrev pub MayFit : Schema → Domain → Entities → Typing → Slot → Type 
 MayFit s d en typing z =
     ((z.value ≡ leaf unset) ⊎ (z.value ≡ leaf derived)) ⊎ Fits s d typing (first_declared s d en z.place) z.value
 
-module _ (x : Seeker) (is_seeker : IsSeeker x) (are : AreValueTypes (schema_in x) x.types.now) (d : Domain)
-    (is : IsDomain (schema_in x) d) (en : Entities) (g : AreEntities (schema_in x) en) (attributes : Attributes)
-    (t : Name) (typing : Typing) (F : List Told → List Datum) (empty : F [] ≡ [])
+module _ (x : Seeker) (is_seeker : IsSeeker x) (are : AreValueTypes (the_schema x.names.now) x.types.now) (d : Domain)
+    (is : IsDomain (the_schema x.names.now) d) (en : Entities) (g : AreEntities (the_schema x.names.now) en)
+    (attributes : Attributes) (t : Name) (typing : Typing) (F : List Told → List Datum) (empty : F [] ≡ [])
     (joined : (xs ys : List Told) → F (xs ++ ys) ≡ F xs ++ F ys)
-    (single : (o : Option ℕ) → IsDeclared (schema_in x) o → (z : Datum)
+    (single : (o : Option ℕ) → IsDeclared (the_schema x.names.now) o → (z : Datum)
     → F (told_by (wanted_in x.wanted.now o) z)
-    ≡ cond (told (schema_in x) (λ n. attributes.is_defined_by n t) o) (z ∷ []) []) (k : Asked) (uses : AreUses (schema_in x) k.uses.now)
-    (declared : AreDeclared (schema_in x) k.declared.now) where
+    ≡ cond (told (the_schema x.names.now) (λ n. attributes.is_defined_by n t) o) (z ∷ []) []) (k : Asked) (uses : AreUses (the_schema x.names.now) k.uses.now)
+    (declared : AreDeclared (the_schema x.names.now) k.declared.now) where
   abbrev s : Schema
-  s = schema_in x
+  s = the_schema x.names.now
 
   uses-same : (b : Base) → IsNumbered s b → (v : Value)
       → ((v ≡ leaf unset) ⊎ (v ≡ leaf derived)) ⊎ Fits s d typing (base_seen s b) v → (us : List AttributeUse)

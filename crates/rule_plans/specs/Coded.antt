@@ -6,10 +6,9 @@ use Rattle.step_values.specs.declared.slot.Kind.TheVariants as kinds
 use Rattle.step_values.specs.Slots.{kind_of}
 use Rattle.step_values.specs.Values as values
 use Rattle.step_values.specs.Values.{Value, leaf, reference, Values, more}
-use Rattle.express_syntax.specs.Schemas.{Schema}
-use Rattle.express_syntax.specs.SchemaViews.{schema_of}
 use Rattle.schema_semantics.specs.Names.{Name}
 use Rattle.schema_names.specs.Numbers.{number_of}
+use Rattle.schema_names.specs.Schemas.{the_schema}
 use Rattle.schema_data_types.specs.declared.forms.Form.{Form}
 use Rattle.schema_data_types.specs.declared.forms.Form.TheVariants as forms
 use Rattle.schema_bases.specs.declared.base.Base.{Base}
@@ -24,9 +23,6 @@ use Rattle.rule_values.specs.Coded.{number_base, named_base, element_base, coded
 use Rattle.rule_plans.specs.declared.sought.Sought.{Sought}
 use Rattle.rule_plans.specs.declared.sought.Seeker.{Seeker}
 use Rattle.rule_plans.specs.declared.values.Asked.{Asked}
-
-abbrev pub schema_in : Seeker → Schema
-schema_in x = schema_of x.names.now.schema.now
 
 -- the number of the type or entity that a data type names, if it is a name
 abbrev pub named_in : Form → Option ℕ
@@ -79,7 +75,7 @@ module _ (x : Seeker) where
 
   -- the type of a name
   abbrev pub by_name : Name → Sought
-  by_name n = sought (wanted_in x.wanted.now (number_of (schema_in x) n)) (named_base x.types.now n)
+  by_name n = sought (wanted_in x.wanted.now (number_of (the_schema x.names.now) n)) (named_base x.types.now n)
 
   -- the data type of the elements; of what is no aggregate, the same
   abbrev pub elements_by : Sought → Base → Sought

@@ -5,6 +5,7 @@ use Rattle.express_syntax.specs.Schemas.{Schema}
 use Rattle.schema_semantics.specs.Names.{Name}
 use Rattle.schema_semantics.specs.Faults.{IsResolved}
 use Rattle.schema_names.specs.Numbers.{HasNumber}
+use Rattle.schema_names.specs.Schemas.{the_schema}
 use Rattle.schema_data_types.specs.Numbered.{form_in, all_data_types}
 use Rattle.schema_bases.specs.Seen.{name_at}
 use Rattle.express_logic.specs.Data.{Datum}
@@ -12,12 +13,12 @@ use Rattle.rule_values.specs.Parts.{element_datum}
 use Rattle.rule_plans.specs.declared.sought.Seeker.{Seeker}
 use Rattle.rule_plans.specs.declared.found.Typed.{Typed}
 use Rattle.rule_plans.specs.declared.found.Found.{Found}
-use Rattle.rule_plans.specs.Coded.{schema_in, is_wanted, Told}
+use Rattle.rule_plans.specs.Coded.{is_wanted, Told}
 
 -- The names are resolved, and the data types are those of the schema.
 pub record IsSeeker (x : Seeker) : Type 0 where
-  pub resolved : IsResolved (schema_in x)
-  pub forms : x.forms.now ≡ map (form_in (schema_in x)) (all_data_types (schema_in x))
+  pub resolved : IsResolved (the_schema x.names.now)
+  pub forms : x.forms.now ≡ map (form_in (the_schema x.names.now)) (all_data_types (the_schema x.names.now))
 
 -- the number, if there is one, is that of its declaration
 abbrev pub IsDeclared : Schema → Option ℕ → Type 0

@@ -14,11 +14,11 @@ use Rattle.rule_plans.specs.Seeking.{Agrees, Covers, Tells, those, worth}
 module _ (S : Setting) (m : Meant S) where
   -- which types are a defined type, or are defined by it
   abbrev pub is_of : Name → Name → Bool
-  is_of t n = m.attributes.is_defined_by n t
+  is_of t n = m.said.attributes.is_defined_by n t
 
   -- the values of SELF for which a rule of a defined type is tried
   abbrev pub values_of : Instance → Name → List Datum
-  values_of x t = selves (schema_in S) m.domain m.entities m.attributes x (of_type t)
+  values_of x t = selves (schema_in S) m.said.domain m.said.entities m.said.attributes x (of_type t)
 
   -- These are the values of an instance that are of the types that are sought.
   pub record AreFound (x : Instance) (wanted : List Bool) (ts : List Told) : Type 0 where

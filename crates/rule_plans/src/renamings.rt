@@ -2,8 +2,8 @@
 
 ghost use Rattle.std.specs.Prelude.{◌≡◌, ◌<◌, ◌^◌, length, IfOk};
 ghost use Rattle.digraph.specs.Graphs.{graph_of};
-ghost use Rattle.express_syntax.specs.SchemaViews.{schema_of};
 ghost use Rattle.schema_semantics.specs.Faults.{IsResolved};
+ghost use Rattle.schema_names.specs.Schemas.{the_schema};
 ghost use Rattle.schema_sources.specs.Defined.{renamed_at};
 ghost use Rattle.rule_plans.specs.Renamings.{as_row, AreRenamings, TellsTypes};
 
@@ -15,8 +15,7 @@ use std::alloc::{AllocError, Global};
 /// What the defined type of a number is defined by, as a row of a graph.
 fn row_of(alloc: Global, names: &Names<'_, '_>, number: u32) -> Result<Vec<u32>, AllocError>
     requires { number < length names.now.schema.now.declarations.items }
-    ensures { IfOk result
-        (λ v. v.items ≡ as_row (renamed_at (schema_of names.now.schema.now) number)) }
+    ensures { IfOk result (λ v. v.items ≡ as_row (renamed_at (the_schema names.now) number)) }
 {
     let Some(other) = renamed(names, number) else {
         return Ok(Vec::new(alloc));
@@ -32,16 +31,16 @@ pub(crate) fn forest_of(
     names: &Names<'_, '_>,
     edges: &[Vec<u32>],
 ) -> Result<Forest, AllocError>
-    requires resolved { IsResolved (schema_of names.now.schema.now) }
-    requires edges { AreRenamings (schema_of names.now.schema.now) (graph_of edges.now) }
-    ensures { IfOk result (TellsTypes (schema_of names.now.schema.now)) }
+    requires resolved { IsResolved (the_schema names.now) }
+    requires edges { AreRenamings (the_schema names.now) (graph_of edges.now) }
+    ensures { IfOk result (TellsTypes (the_schema names.now)) }
 {
     Forest::of(alloc, edges)
 }
 
 /// By declaration, what it is defined by, as the graph of a forest.
 pub(crate) fn renamings(alloc: Global, names: &Names<'_, '_>) -> Result<Vec<Vec<u32>>, AllocError>
-    ensures { IfOk result (λ t. AreRenamings (schema_of names.now.schema.now) (graph_of t.items)) }
+    ensures { IfOk result (λ t. AreRenamings (the_schema names.now) (graph_of t.items)) }
 {
     let mut rows = Vec::with_capacity(alloc, names.len())?;
     for number in 0..names.len() {

@@ -19,9 +19,9 @@ ghost use Rattle.std.specs.Prelude.{
   OnOk,
 };
 ghost use Rattle.step_values.specs.Slots.{nth};
-ghost use Rattle.express_syntax.specs.SchemaViews.{schema_of};
 ghost use Rattle.schema_semantics.specs.Names.{Name};
 ghost use Rattle.schema_names.specs.Numbers.{HasNumber};
+ghost use Rattle.schema_names.specs.Schemas.{the_schema};
 ghost use Rattle.schema_bases.specs.Making.{entry};
 ghost use Rattle.schema_bases.specs.Seen.{name_at};
 ghost use Rattle.schema_uses.specs.Uses.{of_place, uses_at};
@@ -285,11 +285,10 @@ fn add_values_of<'p, 'e, 'r, 't, 's: 'r, 'a: 'r>(
 /// Whether the instance of a row is of an entity.
 pub fn is_of_entity(population: &Population<'_, '_, '_, '_>, row: usize, entity: u32) -> bool
     requires within { row < length (population_seen population.now) }
-    requires numbered { HasNumber (schema_of population.now.types.now.names.schema.now)
-        (name_at (schema_of population.now.types.now.names.schema.now) entity) entity }
+    requires numbered { HasNumber (the_schema population.now.types.now.names)
+        (name_at (the_schema population.now.types.now.names) entity) entity }
     ensures { (x : Instance) → slice_get (population_seen population.now) row ≡ Some x
-        → result
-        ≡ among (name_at (schema_of population.now.types.now.names.schema.now) entity) x.types }
+        → result ≡ among (name_at (the_schema population.now.types.now.names) entity) x.types }
 {
     let instance = population.instance(row);
     types_at(population.forms(), instance.form).contains(&entity)

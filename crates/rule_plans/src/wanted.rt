@@ -3,9 +3,9 @@
 ghost use Rattle.std.specs.Prelude.{◌≡◌, length, IfOk};
 ghost use Rattle.std.specs.List.{list_any};
 ghost use Rattle.express_syntax.specs.Profile.{Every};
-ghost use Rattle.express_syntax.specs.SchemaViews.{schema_of};
 ghost use Rattle.digraph.specs.Graphs.{graph_of};
 ghost use Rattle.schema_semantics.specs.Faults.{IsResolved};
+ghost use Rattle.schema_names.specs.Schemas.{the_schema};
 ghost use Rattle.schema_conditions.specs.Seen.{IsNumbered};
 ghost use Rattle.rule_plans.specs.Renamings.{AreRenamings};
 ghost use Rattle.forests.specs.Telling.{is_under};
@@ -57,9 +57,9 @@ fn stated_types(
     names: &Names<'_, '_>,
     rules: &[DomainRule<'_, '_>],
 ) -> Result<Vec<bool>, AllocError>
-    requires numbered { Every (IsNumbered (schema_of names.now.schema.now)) rules.now }
+    requires numbered { Every (IsNumbered (the_schema names.now)) rules.now }
     ensures length { IfOk result (λ v. length v.items
-        ≡ length (schema_of names.now.schema.now).declarations) }
+        ≡ length (the_schema names.now).declarations) }
     ensures stated { IfOk result (λ v. AreStated rules.now v.items) }
 {
     let mut stated = vec![in alloc; false; names.len()]?;
@@ -76,10 +76,10 @@ pub(crate) fn union_of(
     edges: &[Vec<u32>],
     rules: &[DomainRule<'_, '_>],
 ) -> Result<Vec<bool>, AllocError>
-    requires resolved { IsResolved (schema_of names.now.schema.now) }
-    requires edges { AreRenamings (schema_of names.now.schema.now) (graph_of edges.now) }
-    requires numbered { Every (IsNumbered (schema_of names.now.schema.now)) rules.now }
-    ensures { IfOk result (λ v. IsUnion (schema_of names.now.schema.now) rules.now v.items) }
+    requires resolved { IsResolved (the_schema names.now) }
+    requires edges { AreRenamings (the_schema names.now) (graph_of edges.now) }
+    requires numbered { Every (IsNumbered (the_schema names.now)) rules.now }
+    ensures { IfOk result (λ v. IsUnion (the_schema names.now) rules.now v.items) }
 {
     let stated = stated_types(alloc, names, rules)?;
     spread(alloc, edges, &stated)

@@ -1,3 +1,4 @@
 pub mod Explicits
 pub mod Places
 pub mod Asked
+pub mod Meaning

@@ -1,20 +1,18 @@
 -- What expressions can ask, of the program's tables.
-use Rattle.std.specs.Prelude.{ℕ, Bool, List, Option, Some, None}
+use Rattle.std.specs.Prelude.{◌≡◌, ℕ, Bool, List, Option, Some, None}
 use Rattle.step_literals.specs.declared.literal.items.Item.{Item}
 use Rattle.express_syntax.specs.Schemas.{Schema}
-use Rattle.express_syntax.specs.SchemaViews.{schema_of}
 use Rattle.schema_semantics.specs.Names.{Name}
 use Rattle.schema_semantics.specs.Attributes.{Derivation}
 use Rattle.schema_names.specs.Numbers.{HasNumber}
+use Rattle.schema_names.specs.Schemas.{the_schema}
 use Rattle.schema_bases.specs.Seen.{name_at}
-use Rattle.conformance.specs.Bases.{Domain, IsDomain}
-use Rattle.conformance.specs.Entities.{Entities, AreEntities}
 use Rattle.conformance.specs.Populations.{Instance}
 use Rattle.conformance.specs.Conforming.{PopulationConforms}
 use Rattle.conformance.specs.Rules.{InverseAttribute}
 use Rattle.population_typed.specs.Seen.{population_seen}
 use Rattle.express_logic.specs.Data.{Datum, indeterminate}
-use Rattle.conformance.specs.Attributes.{Attributes, AreAttributes}
+use Rattle.conformance.specs.Said.{Said}
 use Rattle.conformance.specs.Expressions as expressions
 use Rattle.conformance.specs.Meanings.{setting, below}
 use Rattle.schema_sources.specs.declared.source.Derivation.{Derivation as NumberedDerivation}
@@ -28,7 +26,7 @@ use Rattle.rule_settings.specs.declared.attributes.Found.{Found}
 use Rattle.rule_settings.specs.declared.attributes.Found.TheVariants as found
 
 abbrev pub schema_in : Setting → Schema
-schema_in S = schema_of S.extents.now.population.now.types.now.names.schema.now
+schema_in S = the_schema S.extents.now.population.now.types.now.names
 
 abbrev pub population_in : Setting → List Instance
 population_in S = population_seen S.extents.now.population.now
@@ -46,15 +44,11 @@ pub record IsSetting (S : Setting) : Type 0 where
   pub forms : AreFormSources (schema_in S) (inverses_in S) S.extents.now.population.now.rows.forms.items S.forms.now
   pub formulas : AreFormulasOf (schema_in S) S.formulas.now
 
--- What the schema says, as functions, and that the population conforms to it.
+-- What the schema says, whose inverse attributes are those of the tables, and that the population conforms to it.
 pub record Meant (S : Setting) : Type 0 where
-  pub domain : Domain
-  pub entities : Entities
-  pub attributes : Attributes
-  pub is_domain : IsDomain (schema_in S) domain
-  pub are_entities : AreEntities (schema_in S) entities
-  pub are_attributes : AreAttributes (schema_in S) (inverses_in S) attributes
-  pub conforms : PopulationConforms (schema_in S) domain entities (population_in S)
+  pub said : Said (schema_in S)
+  pub inverses_are : said.rules.inverses ≡ inverses_in S
+  pub conforms : PopulationConforms (schema_in S) said.domain said.entities (population_in S)
 
 -- what is found, where derived attributes are worth this, and this value is put where it was asked for
 abbrev pub worth_of : Setting → (Derivation → Datum) → Datum → Found → Option Datum
@@ -74,7 +68,7 @@ IsFound S x = Unit {0}
 module _ (S : Setting) (m : Meant S) where
   -- what an expression can ask, where derived attributes of instances are worth this
   abbrev pub setting_by : (ℕ → Derivation → Datum) → expressions.Setting
-  setting_by computed = setting (schema_in S) m.domain m.entities m.attributes (population_in S) computed
+  setting_by computed = setting (schema_in S) m.said.domain m.said.entities m.said.attributes (population_in S) computed
 
   abbrev pub attribute_by : (ℕ → Derivation → Datum) → ℕ → Name → Option Datum
   attribute_by computed y a = (setting_by computed).attribute y a
@@ -100,4 +94,4 @@ module _ (S : Setting) (m : Meant S) where
 
   -- the values of derived attributes of ranks below n
   abbrev pub below_rank : ℕ → ℕ → Derivation → Datum
-  below_rank n = below (schema_in S) m.domain m.entities m.attributes (population_in S) n
+  below_rank n = below (schema_in S) m.said.domain m.said.entities m.said.attributes (population_in S) n

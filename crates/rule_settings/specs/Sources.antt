@@ -28,11 +28,11 @@ module _ (S : Setting) (m : Meant S) where
   -- the value of the explicit attribute of a number, by its declaration
   abbrev pub explicit_worth : ℕ → ℕ → Datum
   explicit_worth y q =
-      datum_at (schema_in S) m.domain (first_declared (schema_in S) m.domain m.entities (place_at (schema_in S) q))
+      datum_at (schema_in S) m.said.domain (first_declared (schema_in S) m.said.domain m.said.entities (place_at (schema_in S) q))
       (value_of (population_in S) y (place_at (schema_in S) q))
 
   -- this is found there, where this value is put
   abbrev pub IsFoundAt : (ℕ → Derivation → Datum) → ℕ → Source → Datum → Found → Type 0
   IsFoundAt computed y x d found =
-      IsWorth (schema_in S) m.domain m.entities m.attributes (population_in S) computed
+      IsWorth (schema_in S) m.said.domain m.said.entities m.said.attributes (population_in S) computed
       (instance_at (population_in S) y) (source_seen (schema_in S) (inverses_in S) x) (worth_of S (computed y) d found)

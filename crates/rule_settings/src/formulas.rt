@@ -19,7 +19,7 @@ impl<'s: 'r, 't, 'r, 'a, 'e, 'p> Setting<'s, 't, 'r, 'a, 'e, 'p> {
         ensures meant { (m : Meant self.now)
             → HasNumber (schema_in self.now) (name_at (schema_in self.now) derivation.entity)
             derivation.entity → option_map formula_seen result
-            ≡ m.attributes.formula (derivation_in self.now derivation) }
+            ≡ m.said.attributes.formula (derivation_in self.now derivation) }
         ensures place { result ≡ option_flatten (slice_get self.now.formulas.now.rows.items
             (formula_place self.now.formulas.now.firsts.items
             (length self.now.formulas.now.rows.items) derivation.entity derivation.number)) }

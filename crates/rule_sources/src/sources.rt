@@ -4,11 +4,12 @@ ghost use Rattle.std.specs.Prelude.{◌≡◌, List, Some, IfOk, OnOk, IfSome};
 ghost use Rattle.express_syntax.specs.Schemas.{Schema};
 ghost use Rattle.express_syntax.specs.Profile.{Every};
 ghost use Rattle.express_syntax.specs.ExpressionViews.{capitals};
+ghost use Rattle.schema_names.specs.Schemas.{the_schema};
 ghost use Rattle.form_positions.specs.Positions.{ArePositions};
 ghost use Rattle.population_rows.specs.declared.form.Form.{Form};
 ghost use Rattle.conformance.specs.Rules.{InverseAttribute as InverseTree};
 ghost use Rattle.population_typed.specs.Whole.{form_among, AreNumbered};
-ghost use Rattle.schema_sources.specs.Seen.{schema_in, inverses_seen};
+ghost use Rattle.schema_sources.specs.Seen.{inverses_seen};
 ghost use Rattle.schema_sources.specs.Tables.{IsKnown};
 ghost use Rattle.rule_sources.specs.Sources.{
   form_source,
@@ -83,10 +84,10 @@ fn named_source<'s>(
     name: Word<'s>,
 ) -> Option<NamedSource<'s>>
     requires known { IsKnown schema.now sources.now inverses.now }
-    requires numbered { AreNumbered (schema_in schema.now) form.now }
+    requires numbered { AreNumbered (the_schema schema.now.names) form.now }
     requires positions { ArePositions form.now.slots.items positions.now }
-    ensures { IfSome result (IsNamedSource (schema_in schema.now)
-        (inverses_seen (schema_in schema.now) inverses.now) form.now) }
+    ensures { IfSome result (IsNamedSource (the_schema schema.now.names)
+        (inverses_seen (the_schema schema.now.names) inverses.now) form.now) }
 {
     match attribute_source(schema, sources, inverses, &form.types, name) {
         Some(source) => Some(NamedSource {
@@ -108,12 +109,12 @@ fn add_named<'s>(
     name: Word<'s>,
 ) -> Result<(), AllocError>
     requires known { IsKnown schema.now sources.now inverses.now }
-    requires numbered { AreNumbered (schema_in schema.now) form.now }
+    requires numbered { AreNumbered (the_schema schema.now.names) form.now }
     requires positions { ArePositions form.now.slots.items positions.now }
-    requires row { AreNamedSources (schema_in schema.now)
-        (inverses_seen (schema_in schema.now) inverses.now) form.now row.old.items }
-    ensures { OnOk result (AreNamedSources (schema_in schema.now)
-        (inverses_seen (schema_in schema.now) inverses.now) form.now row.new.items) }
+    requires row { AreNamedSources (the_schema schema.now.names)
+        (inverses_seen (the_schema schema.now.names) inverses.now) form.now row.old.items }
+    ensures { OnOk result (AreNamedSources (the_schema schema.now.names)
+        (inverses_seen (the_schema schema.now.names) inverses.now) form.now row.new.items) }
 {
     let Some(named) = named_source(schema, sources, inverses, form, positions, name) else {
         return Ok(());
@@ -230,10 +231,10 @@ fn named_sources<'s>(
     names: &[Word<'s>],
 ) -> Result<Vec<NamedSource<'s>>, AllocError>
     requires known { IsKnown schema.now sources.now inverses.now }
-    requires numbered { AreNumbered (schema_in schema.now) form.now }
+    requires numbered { AreNumbered (the_schema schema.now.names) form.now }
     requires positions { ArePositions form.now.slots.items positions.now }
-    ensures { IfOk result (λ t. AreNamedSources (schema_in schema.now)
-        (inverses_seen (schema_in schema.now) inverses.now) form.now t.items) }
+    ensures { IfOk result (λ t. AreNamedSources (the_schema schema.now.names)
+        (inverses_seen (the_schema schema.now.names) inverses.now) form.now t.items) }
 {
     let mut row: Vec<NamedSource<'s>> = Vec::new(alloc);
     for name in names {
@@ -260,9 +261,9 @@ fn form_row<'s>(
     count: usize,
 ) -> Result<Vec<NamedSource<'s>>, AllocError>
     requires known { IsKnown schema.now sources.now inverses.now }
-    requires numbered { AreNumbered (schema_in schema.now) form.now }
-    ensures { IfOk result (λ t. AreNamedSources (schema_in schema.now)
-        (inverses_seen (schema_in schema.now) inverses.now) form.now t.items) }
+    requires numbered { AreNumbered (the_schema schema.now.names) form.now }
+    ensures { IfOk result (λ t. AreNamedSources (the_schema schema.now.names)
+        (inverses_seen (the_schema schema.now.names) inverses.now) form.now t.items) }
 {
     let names = attribute_names(alloc, schema, form)?;
     if are_many(names.len(), form.types.len(), count) {
@@ -379,9 +380,9 @@ impl<'s> FormSources<'s> {
         form_of: &[Option<u32>],
     ) -> Result<FormSources<'s>, AllocError>
         requires known { IsKnown schema.now sources.now inverses.now }
-        requires numbered { Every (AreNumbered (schema_in schema.now)) forms.now }
-        ensures { IfOk result (AreFormSources (schema_in schema.now)
-            (inverses_seen (schema_in schema.now) inverses.now) forms.now) }
+        requires numbered { Every (AreNumbered (the_schema schema.now.names)) forms.now }
+        ensures { IfOk result (AreFormSources (the_schema schema.now.names)
+            (inverses_seen (the_schema schema.now.names) inverses.now) forms.now) }
     {
         let counts = instance_counts(alloc, forms.len(), form_of)?;
         let mut rows = Vec::new(alloc);

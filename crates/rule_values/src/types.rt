@@ -4,8 +4,8 @@ ghost use Rattle.std.specs.Prelude.{◌≡◌, ◌<◌, Some, IfOk, OnOk, if◌t
 ghost use Rattle.step_values.specs.Views.{word_of};
 ghost use Rattle.schema_semantics.specs.Names.{Name};
 ghost use Rattle.schema_names.specs.Numbers.{number_of};
+ghost use Rattle.schema_names.specs.Schemas.{the_schema};
 ghost use Rattle.schema_bases.specs.Making.{entry};
-ghost use Rattle.schema_bases.specs.Seen.{schema_at};
 ghost use Rattle.schema_bases.specs.Tables.{AreBases};
 ghost use Rattle.rule_values.specs.Named.{found, names_entry};
 ghost use Rattle.rule_values.specs.Coded.{number_base, named_base, element_base};
@@ -48,7 +48,7 @@ fn add_name<'r, 't, 'a: 'r>(
 ) -> Result<(), AllocError>
     requires { number < length bases.now.names.now.schema.now.declarations.items }
     ensures { OnOk result ((n : Name) → found numbers.new n
-        ≡ (if names_entry (schema_at bases.now) number n then Some number
+        ≡ (if names_entry (the_schema bases.now.names.now) number n then Some number
         else found numbers.old n)) }
 {
     let Some(name) = bases.names.name(number) else {
@@ -64,7 +64,8 @@ fn numbers_of<'r, 't, 'a: 'r>(
     keys: RandomState,
     bases: &Bases<'a, 't, 'r>,
 ) -> Result<Numbers<'r>, AllocError>
-    ensures { IfOk result (λ m. (n : Name) → found m n ≡ number_of (schema_at bases.now) n) }
+    ensures { IfOk result (λ m. (n : Name)
+        → found m n ≡ number_of (the_schema bases.now.names.now) n) }
 {
     let mut numbers: Numbers<'r> = IndexMap::with_hasher(alloc, keys);
     for i in (0..bases.names.len()).rev() {
@@ -81,7 +82,7 @@ impl<'r> ValueTypes<'r> {
         bases: &Bases<'a, 't, 'r>,
     ) -> Result<ValueTypes<'r>, AllocError>
         requires bases { AreBases bases.now }
-        ensures { IfOk result (AreValueTypes (schema_at bases.now)) }
+        ensures { IfOk result (AreValueTypes (the_schema bases.now.names.now)) }
     {
         let numbers = numbers_of(alloc, keys, bases)?;
         Ok(ValueTypes {

@@ -20,7 +20,8 @@ use Rattle.ruled_populations.specs.declared.checked.Checked.TheVariants.{Faulty,
 module _ (s : Schema) (f : File) (chosen : Chosen) where
   -- Nothing is found of the file, and so many pairs of an instance and a domain rule are UNKNOWN. Whichever functions and
   -- lists say what the schema says, these are the rows of its population, the pins are those by the weak rules, where
-  -- instances of the chosen entities may be merged, and the lists are what stands in LISTs and ARRAYs OF UNIQUE.
+  -- instances of the chosen entities may be merged, and the lists tell what stands beside its class in LISTs and ARRAYs
+  -- OF UNIQUE.
   pub record IsConforming (unknown : ℕ) (weak : WeakPins) (rows : List Row) : Type 0 where
     pub nothing : AreFindings s f [] [] unknown
     pub population : IsPopulation rows

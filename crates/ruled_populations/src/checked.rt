@@ -1,7 +1,7 @@
 //! A file of which nothing is found, or all that is found of it.
 
 ghost use Rattle.std.specs.Prelude.{IfOk};
-ghost use Rattle.express_syntax.specs.SchemaViews.{schema_of};
+ghost use Rattle.schema_names.specs.Schemas.{the_schema};
 ghost use Rattle.express_types.specs.Sound.{IsSound};
 ghost use Rattle.step_exchange.specs.Exchanges.{structure};
 ghost use Rattle.population_layouts.specs.Tables.{AreTables};
@@ -57,12 +57,12 @@ fn checked_by_population<'r, 't, 's: 'a, 'a: 'r>(
     chosen: &Chosen,
     population: Population<'s, 't, 'r, 'a>,
 ) -> Result<Checked<'s, 'a>, AllocError>
-    requires said { Said (schema_of population.types.now.names.schema.now) }
+    requires said { Said (the_schema population.types.now.names) }
     requires ready { AreReady population.types.now graph.now.rules graph.now.domain tables.now
         settings.now }
-    requires typed { IsTyped (schema_of population.types.now.names.schema.now)
+    requires typed { IsTyped (the_schema population.types.now.names)
         (structure population.exchange.now) (population_seen population) }
-    ensures { IfOk result (ChecksFile (schema_of population.entry.types.now.names.schema.now)
+    ensures { IfOk result (ChecksFile (the_schema population.entry.types.now.names)
         (structure population.entry.exchange.now) chosen.now) }
 {
     no_findings_exactly_where_it_conforms();
@@ -95,7 +95,7 @@ fn checked_by_settings<'r, 't, 's: 'a, 'a: 'r>(
 ) -> Result<Checked<'s, 'a>, AllocError>
     requires ready { AreReady graph.now.types graph.now.rules graph.now.domain tables.now
         settings.now }
-    ensures { IfOk result (ChecksFile (schema_of graph.entry.now.types.names.schema.now)
+    ensures { IfOk result (ChecksFile (the_schema graph.entry.now.types.names)
         (structure exchange.entry.now) chosen.now) }
 {
     schema_is_said(&graph.types, &graph.rules, &graph.domain, tables, settings);
@@ -126,7 +126,7 @@ pub fn conforming<'r, 't, 's: 'a, 'a: 'r>(
 ) -> Result<Checked<'s, 'a>, AllocError>
     requires sound { IsSound graph.now }
     requires tables { AreTables graph.now.types tables.now }
-    ensures { IfOk result (ChecksFile (schema_of graph.entry.now.types.names.schema.now)
+    ensures { IfOk result (ChecksFile (the_schema graph.entry.now.types.names)
         (structure exchange.entry.now) chosen.now) }
 {
     let settings = SettingTables::of(alloc, keys, &graph.types, &graph.rules.inverses, tables)?;

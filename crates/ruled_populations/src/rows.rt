@@ -1,9 +1,9 @@
 //! The rows of a population.
 
 ghost use Rattle.std.specs.Prelude.{IfOk};
-ghost use Rattle.express_syntax.specs.SchemaViews.{schema_of};
 ghost use Rattle.conformance.specs.PlainRows.{AreRowsOf};
 ghost use Rattle.step_equal.specs.Rows.{IsPopulation};
+ghost use Rattle.schema_names.specs.Schemas.{the_schema};
 ghost use Rattle.population_typed.specs.Seen.{population_seen};
 
 use population_typed::population::Population;
@@ -18,8 +18,7 @@ pub fn plain_rows<'s: 'a, 't, 'r, 'a>(
     population: Population<'s, 't, 'r, 'a>,
 ) -> Result<Plain<'a>, AllocError>
     ensures rows { IfOk result (λ p. AreRowsOf
-        (schema_of population.entry.types.now.names.schema.now) (population_seen population.entry)
-        p) }
+        (the_schema population.entry.types.now.names) (population_seen population.entry) p) }
     ensures population { IfOk result (λ p. IsPopulation p) }
 {
     let rows = population.into_plain(alloc)?;

@@ -1,7 +1,7 @@
 //! What the rules of a schema say of a population, and its weak pins.
 
 ghost use Rattle.std.specs.Prelude.{IfOk};
-ghost use Rattle.express_syntax.specs.SchemaViews.{schema_of};
+ghost use Rattle.schema_names.specs.Schemas.{the_schema};
 ghost use Rattle.population_typed.specs.Seen.{population_seen};
 ghost use Rattle.check_findings.specs.Ruling.{AreReady};
 ghost use Rattle.ruled_populations.specs.ComputedRuling.{IsRuled};
@@ -47,7 +47,7 @@ fn ruled_by_extents<'e, 'r, 't, 's: 'r, 'a: 'r>(
     requires ready { AreReady extents.now.population.now.types.now extents.now.rules.now
         graph.now.domain tables.now settings.now }
     ensures { IfOk result (IsRuled
-        (schema_of extents.now.population.now.types.now.names.schema.now)
+        (the_schema extents.now.population.now.types.now.names)
         (population_seen extents.now.population.now) extents.now.rules.now chosen.now) }
 {
     let report = rule_findings(alloc, keys, graph, tables, settings, extents)?;
@@ -77,7 +77,7 @@ pub(crate) fn ruled_by_population<'r, 't, 's: 'r, 'a: 'r>(
 ) -> Result<Ruled<'s>, AllocError>
     requires ready { AreReady population.now.types.now graph.now.rules graph.now.domain tables.now
         settings.now }
-    ensures { IfOk result (IsRuled (schema_of population.now.types.now.names.schema.now)
+    ensures { IfOk result (IsRuled (the_schema population.now.types.now.names)
         (population_seen population.now) graph.now.rules chosen.now) }
 {
     let extents = Extents::build(alloc, population, &graph.rules)?;

@@ -4,11 +4,11 @@ use Rattle.digraph.specs.Graphs.{Graph, graph_of, next}
 use Rattle.step_literals.specs.declared.literal.Word.{Word}
 use Rattle.express_syntax.specs.ExpressionViews.{capitals}
 use Rattle.express_syntax.specs.Schemas.{Schema, Declaration, type, entity, skipped, Entity, Attribute, own, redeclared, Explicit, Derived, Inverse, DataType}
-use Rattle.express_syntax.specs.SchemaViews.{schema_of}
 use Rattle.schema_semantics.specs.Names.{Name, Among, listed}
 use Rattle.schema_semantics.specs.Faults.{IsResolved}
 use Rattle.schema_semantics.specs.Attributes.{IsRedeclaration, HasFirstShape}
 use Rattle.schema_names.specs.Numbers.{HasNumber, AreRowsOf}
+use Rattle.schema_names.specs.Schemas.{the_schema}
 use Rattle.schema_data_types.specs.Numbered.{whole_types, all_data_types}
 use Rattle.schema_data_types.specs.Shaped.{AreShapes, IsKnown}
 use Rattle.schema_places.specs.Lines.{HaveLines}
@@ -20,19 +20,17 @@ use Rattle.schema_attributes.specs.declared.gathering.Sources.{Sources}
 use Rattle.schema_attributes.specs.Declarations.{found}
 use Rattle.schema_attributes.specs.Derivations.{derivations_in}
 
-abbrev pub schema_in : Sources → Schema
-schema_in c = schema_of c.names.now.schema.now
-
 abbrev pub rows_in : Sources → Graph
 rows_in c = graph_of c.data_types.now.rows.items
 
 -- The sources are those of a resolved schema.
 pub record AreSources (c : Sources) : Type 0 where
-  pub resolved : IsResolved (schema_in c)
-  pub rows : AreRowsOf whole_types (all_data_types (schema_in c)) (schema_in c).declarations (rows_in c)
-  pub lines : HaveLines (schema_in c) (graph_of c.lines.now)
+  pub resolved : IsResolved (the_schema c.names.now)
+  pub rows : AreRowsOf whole_types (all_data_types (the_schema c.names.now)) (the_schema c.names.now).declarations
+      (rows_in c)
+  pub lines : HaveLines (the_schema c.names.now) (graph_of c.lines.now)
   pub each : length c.lines.now ≡ length c.names.now.schema.now.declarations.items
-  pub shapes : AreShapes (schema_in c) c.shapes.now
+  pub shapes : AreShapes (the_schema c.names.now) c.shapes.now
 
 -- x is said of a
 abbrev pub Holds : Attributes → Name → AttributeDeclaration → Type 0

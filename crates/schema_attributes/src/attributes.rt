@@ -11,9 +11,9 @@ ghost use Rattle.std.specs.Prelude.{
 };
 ghost use Rattle.digraph.specs.Graphs.{graph_of};
 ghost use Rattle.express_syntax.specs.ExpressionViews.{capitals};
-ghost use Rattle.express_syntax.specs.SchemaViews.{schema_of};
 ghost use Rattle.schema_semantics.specs.Faults.{IsResolved};
 ghost use Rattle.schema_names.specs.Numbers.{AreRowsOf};
+ghost use Rattle.schema_names.specs.Schemas.{the_schema};
 ghost use Rattle.schema_data_types.specs.Numbered.{whole_types, all_data_types};
 ghost use Rattle.schema_data_types.specs.Shaped.{AreShapes};
 ghost use Rattle.schema_places.specs.Lines.{HaveLines};
@@ -91,13 +91,13 @@ impl<'a> Attributes<'a> {
         lines: &[Vec<u32>],
         shapes: &[Shape],
     ) -> Result<Attributes<'a>, AllocError>
-        requires resolved { IsResolved (schema_of names.now.schema.now) }
-        requires rows { AreRowsOf whole_types (all_data_types (schema_of names.now.schema.now))
-            (schema_of names.now.schema.now).declarations (graph_of data_types.now.rows.items) }
-        requires lines { HaveLines (schema_of names.now.schema.now) (graph_of lines.now) }
+        requires resolved { IsResolved (the_schema names.now) }
+        requires rows { AreRowsOf whole_types (all_data_types (the_schema names.now))
+            (the_schema names.now).declarations (graph_of data_types.now.rows.items) }
+        requires lines { HaveLines (the_schema names.now) (graph_of lines.now) }
         requires each { length lines.now ≡ length names.now.schema.now.declarations.items }
-        requires shapes { AreShapes (schema_of names.now.schema.now) shapes.now }
-        ensures { IfOk result (λ t. AreAttributes (schema_of names.now.schema.now) t) }
+        requires shapes { AreShapes (the_schema names.now) shapes.now }
+        ensures { IfOk result (λ t. AreAttributes (the_schema names.now) t) }
     {
         let sources = Sources {
             names,

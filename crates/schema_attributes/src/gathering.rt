@@ -26,12 +26,12 @@ ghost use Rattle.express_syntax.specs.Views.{
 ghost use Rattle.express_syntax.specs.Schemas.{redeclared};
 ghost use Rattle.schema_semantics.specs.Names.{Name, IsEntity};
 ghost use Rattle.schema_names.specs.Numbers.{HasNumber, IsAt};
+ghost use Rattle.schema_names.specs.Schemas.{the_schema};
 ghost use Rattle.schema_attributes.specs.Declarations.{AreAttributes};
 ghost use Rattle.schema_attributes.specs.Derivations.{derivations_in};
 ghost use Rattle.schema_attributes.specs.declared.gathering.Class.TheVariants as classes;
 ghost use Rattle.schema_attributes.specs.Gathering.{
   AreSources,
-  schema_in,
   rows_in,
   AddsAll,
   Allows,
@@ -92,10 +92,11 @@ fn allows(
     data_type: u32,
 ) -> bool
     requires sources { AreSources sources.now }
-    requires known { IsKnownAt (schema_in sources.now) class data_type }
-    ensures { (p : Name) → IsEntity (schema_in sources.now) p
-        → HasNumber (schema_in sources.now) p entity
-        → IsTrue result ↔ Allows (schema_in sources.now) class data_type p (capitals attribute.entry) }
+    requires known { IsKnownAt (the_schema sources.now.names.now) class data_type }
+    ensures { (p : Name) → IsEntity (the_schema sources.now.names.now) p
+        → HasNumber (the_schema sources.now.names.now) p entity
+        → IsTrue result ↔ Allows (the_schema sources.now.names.now) class data_type p
+        (capitals attribute.entry) }
 {
     match class {
         Class::Explicit => has_first_shape(
@@ -121,10 +122,10 @@ fn add_redeclared<'a>(
     table: &mut Attributes<'a>,
 ) -> Result<(), AllocError>
     requires sources { AreSources sources.now }
-    requires known { IsKnownAt (schema_in sources.now) class declaration.data_type }
+    requires known { IsKnownAt (the_schema sources.now.names.now) class declaration.data_type }
     requires named { (q : Name) × (attribute_of attribute ≡ redeclared q (capitals name)) }
     ensures { OnOk result (AddsAll table.old
-        (Says (schema_in sources.now) class declaration (attribute_of attribute.entry))
+        (Says (the_schema sources.now.names.now) class declaration (attribute_of attribute.entry))
         table.new) }
 {
     let Some(entity) = redeclared_entity(sources.names, sources.lines, attribute) else {
@@ -152,9 +153,9 @@ fn add_attribute<'a>(
     table: &mut Attributes<'a>,
 ) -> Result<(), AllocError>
     requires sources { AreSources sources.now }
-    requires known { IsKnownAt (schema_in sources.now) class declaration.data_type }
+    requires known { IsKnownAt (the_schema sources.now.names.now) class declaration.data_type }
     ensures { OnOk result (AddsAll table.old
-        (Says (schema_in sources.now) class declaration (attribute_of attribute.entry))
+        (Says (the_schema sources.now.names.now) class declaration (attribute_of attribute.entry))
         table.new) }
 {
     match attribute {
@@ -175,9 +176,9 @@ fn add_attributes<'a>(
     table: &mut Attributes<'a>,
 ) -> Result<(), AllocError>
     requires sources { AreSources sources.now }
-    requires known { IsKnownAt (schema_in sources.now) classes.Explicit data_type }
+    requires known { IsKnownAt (the_schema sources.now.names.now) classes.Explicit data_type }
     ensures { OnOk result (AddsAll table.old
-        (SaysTogether (schema_in sources.now) entity data_type derivation
+        (SaysTogether (the_schema sources.now.names.now) entity data_type derivation
         (map attribute_of attributes.now)) table.new) }
 {
     let declaration = AttributeDeclaration {
@@ -229,10 +230,10 @@ fn add_explicit<'a>(
 ) -> Result<(), AllocError>
     requires sources { AreSources sources.now }
     requires known { (t : ℕ) → slice_get row.now n ≡ Some t
-        → IsKnownAt (schema_in sources.now) classes.Explicit t }
+        → IsKnownAt (the_schema sources.now.names.now) classes.Explicit t }
     ensures { OnOk result (AddsAll table.old
-        (SaysExplicit (schema_in sources.now) entity row.now n (explicit_of explicit.now))
-        table.new) }
+        (SaysExplicit (the_schema sources.now.names.now) entity row.now n
+        (explicit_of explicit.now)) table.new) }
 {
     match item_at(row, n) {
         Some(data_type) => {
@@ -258,9 +259,10 @@ fn add_explicits<'a>(
     table: &mut Attributes<'a>,
 ) -> Result<(), AllocError>
     requires sources { AreSources sources.now }
-    requires known { AreKnownFrom (schema_in sources.now) (length explicits.now) row.now }
+    requires known { AreKnownFrom (the_schema sources.now.names.now) (length explicits.now)
+        row.now }
     ensures { OnOk result (AddsAll table.old
-        (AreNth (SaysExplicit (schema_in sources.now) entity row.now)
+        (AreNth (SaysExplicit (the_schema sources.now.names.now) entity row.now)
         (map explicit_of explicits.now)) table.new) }
 {
     for n in 0..explicits.len() {
@@ -280,9 +282,9 @@ fn add_one<'a>(
     table: &mut Attributes<'a>,
 ) -> Result<(), AllocError>
     requires sources { AreSources sources.now }
-    requires known { (t : ℕ) → IsKnownAt (schema_in sources.now) class t }
+    requires known { (t : ℕ) → IsKnownAt (the_schema sources.now.names.now) class t }
     ensures { OnOk result (AddsAll table.old
-        (SaysOne (schema_in sources.now) class entity data_type derivation
+        (SaysOne (the_schema sources.now.names.now) class entity data_type derivation
         (attribute_of attribute.entry)) table.new) }
 {
     match data_type {
@@ -314,8 +316,8 @@ fn add_derived<'a>(
 ) -> Result<(), AllocError>
     requires sources { AreSources sources.now }
     ensures { OnOk result (AddsAll table.old
-        (SaysDerived (schema_in sources.now) entity row.now first count n (derived_of derived.now))
-        table.new) }
+        (SaysDerived (the_schema sources.now.names.now) entity row.now first count n
+        (derived_of derived.now)) table.new) }
 {
     let place = sum(first, n)?;
     let derivation = number(count, n)?;
@@ -342,7 +344,7 @@ fn add_deriveds<'a>(
 ) -> Result<(), AllocError>
     requires sources { AreSources sources.now }
     ensures { OnOk result (AddsAll table.old
-        (AreNth (SaysDerived (schema_in sources.now) entity row.now first count)
+        (AreNth (SaysDerived (the_schema sources.now.names.now) entity row.now first count)
         (map derived_of deriveds.now)) table.new) }
 {
     for n in 0..deriveds.len() {
@@ -363,8 +365,8 @@ fn add_inverse<'a>(
 ) -> Result<(), AllocError>
     requires sources { AreSources sources.now }
     ensures { OnOk result (AddsAll table.old
-        (SaysInverse (schema_in sources.now) entity row.now first n (inverse_of inverse.now))
-        table.new) }
+        (SaysInverse (the_schema sources.now.names.now) entity row.now first n
+        (inverse_of inverse.now)) table.new) }
 {
     let place = sum(first, n)?;
     add_one(
@@ -389,7 +391,7 @@ fn add_inverses<'a>(
 ) -> Result<(), AllocError>
     requires sources { AreSources sources.now }
     ensures { OnOk result (AddsAll table.old
-        (AreNth (SaysInverse (schema_in sources.now) entity row.now first)
+        (AreNth (SaysInverse (the_schema sources.now.names.now) entity row.now first)
         (map inverse_of inverses.now)) table.new) }
 {
     for n in 0..inverses.len() {
@@ -410,9 +412,10 @@ fn add_clauses<'a>(
     table: &mut Attributes<'a>,
 ) -> Result<(), AllocError>
     requires sources { AreSources sources.now }
-    requires known { AreKnownFrom (schema_in sources.now) (length explicits.now) row.now }
+    requires known { AreKnownFrom (the_schema sources.now.names.now) (length explicits.now)
+        row.now }
     ensures { OnOk result (AddsAll table.old
-        (SaysClauses (schema_in sources.now) number row.now count
+        (SaysClauses (the_schema sources.now.names.now) number row.now count
         (map explicit_of explicits.now) (map derived_of deriveds.now) (map inverse_of inverses.now))
         table.new) }
 {
@@ -433,9 +436,10 @@ fn add_entity<'a>(
     table: &mut Attributes<'a>,
 ) -> Result<(), AllocError>
     requires sources { AreSources sources.now }
-    requires known { AreKnownFrom (schema_in sources.now) (length entity.now.explicits.items) row.now }
+    requires known { AreKnownFrom (the_schema sources.now.names.now)
+        (length entity.now.explicits.items) row.now }
     ensures { OnOk result (AddsAll table.old
-        (SaysEntity (schema_in sources.now) number row.now count (entity_of entity.now))
+        (SaysEntity (the_schema sources.now.names.now) number row.now count (entity_of entity.now))
         table.new) }
 {
     add_clauses(
@@ -469,9 +473,9 @@ fn add_declaration<'a>(
     table: &mut Attributes<'a>,
 ) -> Result<(), AllocError>
     requires sources { AreSources sources.now }
-    requires at { IsAt (schema_in sources.now) i (declaration_of declaration.now) }
+    requires at { IsAt (the_schema sources.now.names.now) i (declaration_of declaration.now) }
     ensures { OnOk result (AddsAll table.old
-        (SaysDeclaration (schema_in sources.now) i (next (rows_in sources.now) i) count
+        (SaysDeclaration (the_schema sources.now.names.now) i (next (rows_in sources.now) i) count
         (declaration_of declaration.now)) table.new) }
 {
     match declaration {
@@ -504,7 +508,7 @@ fn add_declarations<'a>(
     requires sources { AreSources sources.now }
     requires whole { declarations.now ≡ sources.now.names.now.schema.now.declarations.items }
     ensures { OnOk result (AddsAll table.old
-        (AreNth (SaysAt (schema_in sources.now) (rows_in sources.now)
+        (AreNth (SaysAt (the_schema sources.now.names.now) (rows_in sources.now)
         (map declaration_of declarations.now)) (map declaration_of declarations.now))
         table.new) }
 {
@@ -524,7 +528,7 @@ pub fn gathered<'a>(
     sources: &Sources<'a, '_, '_>,
 ) -> Result<Attributes<'a>, AllocError>
     requires sources { AreSources sources.now }
-    ensures { IfOk result (λ t. AreAttributes (schema_in sources.now) t) }
+    ensures { IfOk result (λ t. AreAttributes (the_schema sources.now.names.now) t) }
 {
     let declarations = sources.names.declarations();
     let mut table = Attributes::with_room(alloc, keys, attribute_count(declarations))?;

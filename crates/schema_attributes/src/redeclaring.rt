@@ -12,11 +12,11 @@ ghost use Rattle.express_syntax.specs.Views.{
   inverse_of,
   entity_of,
 };
-ghost use Rattle.express_syntax.specs.SchemaViews.{schema_of};
 ghost use Rattle.schema_semantics.specs.Names.{Name, IsEntity};
 ghost use Rattle.schema_semantics.specs.Faults.{IsResolved};
 ghost use Rattle.schema_semantics.specs.Attributes.{IsOrigin, HasFirstShape};
 ghost use Rattle.schema_names.specs.Numbers.{HasNumber, AreRowsOf};
+ghost use Rattle.schema_names.specs.Schemas.{the_schema};
 ghost use Rattle.schema_places.specs.Owned.{is_own};
 ghost use Rattle.schema_data_types.specs.Numbered.{whole_types, all_data_types};
 ghost use Rattle.schema_data_types.specs.Alike.{IsTable};
@@ -146,12 +146,12 @@ pub fn first_type(
     entity: u32,
     attribute: Word<'_>,
 ) -> Option<u32>
-    requires resolved { IsResolved (schema_of names.now.schema.now) }
-    requires rows { AreRowsOf whole_types (all_data_types (schema_of names.now.schema.now))
-        (schema_of names.now.schema.now).declarations (graph_of data_types.now.rows.items) }
-    ensures { (p : Name) → IsEntity (schema_of names.now.schema.now) p
-        → HasNumber (schema_of names.now.schema.now) p entity
-        → IsFirstTypeAt (schema_of names.now.schema.now) p (capitals attribute.entry) result }
+    requires resolved { IsResolved (the_schema names.now) }
+    requires rows { AreRowsOf whole_types (all_data_types (the_schema names.now))
+        (the_schema names.now).declarations (graph_of data_types.now.rows.items) }
+    ensures { (p : Name) → IsEntity (the_schema names.now) p
+        → HasNumber (the_schema names.now) p entity
+        → IsFirstTypeAt (the_schema names.now) p (capitals attribute.entry) result }
 {
     let declaration = names.at(entity)?;
     match declaration {
@@ -168,9 +168,9 @@ fn entity_origin(
     entity: Word<'_>,
     attribute: Word<'_>,
 ) -> Option<u32>
-    requires lines { HaveLines (schema_of names.now.schema.now) (graph_of lines.now) }
+    requires lines { HaveLines (the_schema names.now) (graph_of lines.now) }
     requires each { length lines.now ≡ length names.now.schema.now.declarations.items }
-    ensures { IsNumberOf (schema_of names.now.schema.now) (IsOrigin (schema_of names.now.schema.now)
+    ensures { IsNumberOf (the_schema names.now) (IsOrigin (the_schema names.now)
         (capitals entity.entry) (capitals attribute.entry)) result }
 {
     let number = names.find(entity)?;
@@ -186,10 +186,10 @@ pub fn redeclared_entity(
     lines: &[Vec<u32>],
     attribute: Attribute<'_>,
 ) -> Option<u32>
-    requires resolved { IsResolved (schema_of names.now.schema.now) }
-    requires lines { HaveLines (schema_of names.now.schema.now) (graph_of lines.now) }
+    requires resolved { IsResolved (the_schema names.now) }
+    requires lines { HaveLines (the_schema names.now) (graph_of lines.now) }
     requires each { length lines.now ≡ length names.now.schema.now.declarations.items }
-    ensures { IsRedeclaredAt (schema_of names.now.schema.now) (attribute_of attribute.entry) result }
+    ensures { IsRedeclaredAt (the_schema names.now) (attribute_of attribute.entry) result }
 {
     match attribute {
         Attribute::Unqualified(_) => None,
@@ -218,15 +218,15 @@ pub fn has_first_shape(
     attribute: Word<'_>,
     data_type: u32,
 ) -> bool
-    requires resolved { IsResolved (schema_of names.now.schema.now) }
-    requires rows { AreRowsOf whole_types (all_data_types (schema_of names.now.schema.now))
-        (schema_of names.now.schema.now).declarations (graph_of data_types.now.rows.items) }
-    requires shapes { AreShapes (schema_of names.now.schema.now) shapes.now }
-    ensures { (p : Name) (k : DataTypeTree) → IsEntity (schema_of names.now.schema.now) p
-        → HasNumber (schema_of names.now.schema.now) p entity
-        → slice_get (all_data_types (schema_of names.now.schema.now)) data_type ≡ Some k
-        → IsKnown (schema_of names.now.schema.now) k → IsTrue result
-        ↔ HasFirstShape (schema_of names.now.schema.now) p (capitals attribute.entry) k }
+    requires resolved { IsResolved (the_schema names.now) }
+    requires rows { AreRowsOf whole_types (all_data_types (the_schema names.now))
+        (the_schema names.now).declarations (graph_of data_types.now.rows.items) }
+    requires shapes { AreShapes (the_schema names.now) shapes.now }
+    ensures { (p : Name) (k : DataTypeTree) → IsEntity (the_schema names.now) p
+        → HasNumber (the_schema names.now) p entity
+        → slice_get (all_data_types (the_schema names.now)) data_type ≡ Some k
+        → IsKnown (the_schema names.now) k → IsTrue result
+        ↔ HasFirstShape (the_schema names.now) p (capitals attribute.entry) k }
 {
     data_types_are_known();
     match first_type(names, data_types, entity, attribute) {

@@ -3,7 +3,6 @@ use Rattle.std.specs.Prelude.{ℕ, List, [], Option, None, Some, slice_get}
 use Rattle.std.specs.Option.{option_map}
 use Rattle.express_syntax.specs.Schemas.{Schema, Declaration, type, Underlying, enumeration, DataType}
 use Rattle.express_syntax.specs.Schemas as schemas
-use Rattle.express_syntax.specs.SchemaViews.{schema_of}
 use Rattle.schema_semantics.specs.Names.{Name, declared_name}
 use Rattle.schema_data_types.specs.Numbered.{all_data_types}
 use Rattle.conformance.specs.Bases as bases
@@ -77,7 +76,3 @@ base_seen s (variants.Enumeration i) = bases.enumeration (items_at s i)
 base_seen s (variants.Entity i) = bases.entity (name_at s i)
 base_seen s (variants.Select i) = bases.select (name_at s i)
 base_seen s (variants.Aggregate a) = bases.aggregate (aggregate_seen s a)
-
--- the schema of which is asked
-abbrev pub schema_at : Bases → Schema
-schema_at b = schema_of b.names.now.schema.now

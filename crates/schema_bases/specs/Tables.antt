@@ -7,13 +7,14 @@ use Rattle.express_syntax.specs.Profile.{Every}
 use Rattle.schema_semantics.specs.Names.{Name}
 use Rattle.schema_semantics.specs.Faults.{IsResolved, IsMet, demands_of_data_type}
 use Rattle.schema_names.specs.Numbers.{HasNumber}
+use Rattle.schema_names.specs.Schemas.{the_schema}
 use Rattle.schema_data_types.specs.Numbered.{all_data_types}
 use Rattle.conformance.specs.Bases.{Domain, IsDomain, base}
 use Rattle.schema_bases.specs.declared.base.Base.{Base}
 use Rattle.schema_bases.specs.declared.base.Base.TheVariants.{Entity, Enumeration, Select, Aggregate}
 use Rattle.schema_bases.specs.declared.bases.BaseTypes.{BaseTypes}
 use Rattle.schema_bases.specs.declared.lookup.Bases.{Bases}
-use Rattle.schema_bases.specs.Seen.{name_at, type_at, base_seen, schema_at}
+use Rattle.schema_bases.specs.Seen.{name_at, type_at, base_seen}
 
 -- the name in it, if it has any, is that of a type or an entity
 abbrev pub IsKnown : Schema → DataType → Type 0
@@ -43,4 +44,4 @@ pub record AreBaseTypes (s : Schema) (t : BaseTypes) : Type 0 where
 
 -- the tables are those of a schema whose names are resolved
 abbrev pub AreBases : Bases → Type 0
-AreBases b = IsResolved (schema_at b) × AreBaseTypes (schema_at b) b.table.now
+AreBases b = IsResolved (the_schema b.names.now) × AreBaseTypes (the_schema b.names.now) b.table.now

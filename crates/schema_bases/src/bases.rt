@@ -2,10 +2,10 @@
 
 ghost use Rattle.std.specs.Prelude.{◌≡◌, map, IfOk};
 ghost use Rattle.digraph.specs.Graphs.{graph_of};
-ghost use Rattle.express_syntax.specs.SchemaViews.{schema_of};
 ghost use Rattle.schema_semantics.specs.Faults.{IsResolved};
 ghost use Rattle.schema_names.specs.Edges.{IsGraphOf, parts_in};
 ghost use Rattle.schema_names.specs.Numbers.{AreRowsOf};
+ghost use Rattle.schema_names.specs.Schemas.{the_schema};
 ghost use Rattle.schema_data_types.specs.Numbered.{form_in, whole_types, all_data_types};
 ghost use Rattle.schema_bases.specs.Tables.{AreBaseTypes};
 
@@ -43,13 +43,13 @@ pub fn base_types(
     data_types: &DataTypes,
     edges: &[Vec<u32>],
 ) -> Result<BaseTypes, AllocError>
-    requires resolved { IsResolved (schema_of names.now.schema.now) }
-    requires forms { data_types.now.forms.items ≡ map (form_in (schema_of names.now.schema.now))
-        (all_data_types (schema_of names.now.schema.now)) }
-    requires rows { AreRowsOf whole_types (all_data_types (schema_of names.now.schema.now))
-        (schema_of names.now.schema.now).declarations (graph_of data_types.now.rows.items) }
-    requires drawn { IsGraphOf (schema_of names.now.schema.now) parts_in (graph_of edges.now) }
-    ensures { IfOk result (AreBaseTypes (schema_of names.now.schema.now)) }
+    requires resolved { IsResolved (the_schema names.now) }
+    requires forms { data_types.now.forms.items ≡ map (form_in (the_schema names.now))
+        (all_data_types (the_schema names.now)) }
+    requires rows { AreRowsOf whole_types (all_data_types (the_schema names.now))
+        (the_schema names.now).declarations (graph_of data_types.now.rows.items) }
+    requires drawn { IsGraphOf (the_schema names.now) parts_in (graph_of edges.now) }
+    ensures { IfOk result (AreBaseTypes (the_schema names.now)) }
 {
     let by_declaration = declared_bases(alloc, names, data_types, edges)?;
     let by_number = numbered_bases(alloc, names, &by_declaration)?;

@@ -3,10 +3,10 @@
 ghost use Rattle.std.specs.Prelude.{◌≡◌, ℕ, List, length, IfOk};
 ghost use Rattle.digraph.specs.Graphs.{graph_of};
 ghost use Rattle.digraph.specs.Orders.{IsTopologicalOrder};
-ghost use Rattle.express_syntax.specs.SchemaViews.{schema_of};
 ghost use Rattle.schema_semantics.specs.Faults.{IsResolved};
 ghost use Rattle.schema_names.specs.Edges.{IsGraphOf, parts_in};
 ghost use Rattle.schema_names.specs.Numbers.{AreRowsOf};
+ghost use Rattle.schema_names.specs.Schemas.{the_schema};
 ghost use Rattle.schema_data_types.specs.Numbered.{whole_types, all_data_types};
 ghost use Rattle.schema_bases.specs.Making.{AreMade};
 
@@ -25,13 +25,13 @@ pub(crate) fn declared_bases(
     data_types: &DataTypes,
     edges: &[Vec<u32>],
 ) -> Result<Vec<Base>, AllocError>
-    requires resolved { IsResolved (schema_of names.now.schema.now) }
-    requires rows { AreRowsOf whole_types (all_data_types (schema_of names.now.schema.now))
-        (schema_of names.now.schema.now).declarations (graph_of data_types.now.rows.items) }
-    requires drawn { IsGraphOf (schema_of names.now.schema.now) parts_in (graph_of edges.now) }
+    requires resolved { IsResolved (the_schema names.now) }
+    requires rows { AreRowsOf whole_types (all_data_types (the_schema names.now))
+        (the_schema names.now).declarations (graph_of data_types.now.rows.items) }
+    requires drawn { IsGraphOf (the_schema names.now) parts_in (graph_of edges.now) }
     ensures length { IfOk result (λ t. length t.items
-        ≡ length (schema_of names.now.schema.now).declarations) }
-    ensures made { IfOk result (λ t. AreMade (schema_of names.now.schema.now)
+        ≡ length (the_schema names.now).declarations) }
+    ensures made { IfOk result (λ t. AreMade (the_schema names.now)
         (graph_of data_types.now.rows.items) t.items) }
     ensures ordered { IfOk result (λ t. (xs : List ℕ)
         × IsTopologicalOrder (graph_of edges.now) xs) }

@@ -4,13 +4,13 @@ ghost use Rattle.std.specs.Prelude.{◌≡◌, IfSome};
 ghost use Rattle.std.specs.Option.{option_map};
 ghost use Rattle.std.specs.List.Sorted.{IsNonDecreasing};
 ghost use Rattle.digraph.specs.Graphs.{graph_of, has, next};
-ghost use Rattle.express_syntax.specs.SchemaViews.{schema_of};
 ghost use Rattle.express_syntax.specs.ExpressionViews.{capitals};
 ghost use Rattle.schema_semantics.specs.Names.{Name};
 ghost use Rattle.schema_names.specs.Numbers.{HasNumber};
+ghost use Rattle.schema_names.specs.Schemas.{the_schema};
 ghost use Rattle.conformance.specs.Bases.{Domain, IsDomain, select, base};
 ghost use Rattle.conformance.specs.Fitting.{inner};
-ghost use Rattle.schema_bases.specs.Seen.{type_at, base_seen, schema_at};
+ghost use Rattle.schema_bases.specs.Seen.{type_at, base_seen};
 ghost use Rattle.schema_bases.specs.Making.{is_entity_at};
 ghost use Rattle.schema_bases.specs.Tables.{AreBases, IsKnown, IsNumbered};
 
@@ -48,7 +48,7 @@ fn contains(row: &[u32], number: u32) -> bool
 
 /// Whether an entity is declared at a number.
 fn is_entity(names: &Names<'_, '_>, number: u32) -> bool
-    ensures { result ≡ is_entity_at (schema_of names.now.schema.now) number }
+    ensures { result ≡ is_entity_at (the_schema names.now) number }
 {
     match names.at(number) {
         Some(Declaration::Entity(_)) => true,
@@ -61,11 +61,12 @@ impl<'a, 't, 'r> Bases<'a, 't, 'r> {
     /// What the data type of a number asks; INTEGER where there is none.
     pub fn of_number(&self, number: u32) -> Base
         requires bases { AreBases self.now }
-        ensures says { IsKnown (schema_at self.now) (type_at (schema_at self.now) number)
-            → (d : Domain) → IsDomain (schema_at self.now) d
-            → base_seen (schema_at self.now) result
-            ≡ base d (type_at (schema_at self.now) number) }
-        ensures numbered { IsNumbered (schema_at self.now) result }
+        ensures says { IsKnown (the_schema self.now.names.now)
+            (type_at (the_schema self.now.names.now) number)
+            → (d : Domain) → IsDomain (the_schema self.now.names.now) d
+            → base_seen (the_schema self.now.names.now) result
+            ≡ base d (type_at (the_schema self.now.names.now) number) }
+        ensures numbered { IsNumbered (the_schema self.now.names.now) result }
     {
         entry(&self.table.by_number, number)
     }
@@ -74,11 +75,11 @@ impl<'a, 't, 'r> Bases<'a, 't, 'r> {
     /// a defined type among its items, at any depth. None where there is none of this name.
     pub fn item(&self, number: u32, name: Word<'_>) -> Option<Base>
         requires bases { AreBases self.now }
-        ensures numbered { IfSome result (IsNumbered (schema_at self.now)) }
-        ensures says { (d : Domain) → IsDomain (schema_at self.now) d
-            → (m : Name) → HasNumber (schema_at self.now) m number
-            → option_map (base_seen (schema_at self.now)) result
-            ≡ inner (schema_at self.now) d (select m) (capitals name.entry) }
+        ensures numbered { IfSome result (IsNumbered (the_schema self.now.names.now)) }
+        ensures says { (d : Domain) → IsDomain (the_schema self.now.names.now) d
+            → (m : Name) → HasNumber (the_schema self.now.names.now) m number
+            → option_map (base_seen (the_schema self.now.names.now)) result
+            ≡ inner (the_schema self.now.names.now) d (select m) (capitals name.entry) }
     {
         match self.names.find(name) {
             Some(item) => {
@@ -95,9 +96,9 @@ impl<'a, 't, 'r> Bases<'a, 't, 'r> {
     /// Whether an entity is an item of a SELECT, at any depth.
     pub fn takes(&self, number: u32, entity: u32) -> bool
         requires bases { AreBases self.now }
-        ensures { (d : Domain) → IsDomain (schema_at self.now) d
-            → (m : Name) (n : Name) → HasNumber (schema_at self.now) m number
-            → HasNumber (schema_at self.now) n entity
+        ensures { (d : Domain) → IsDomain (the_schema self.now.names.now) d
+            → (m : Name) (n : Name) → HasNumber (the_schema self.now.names.now) m number
+            → HasNumber (the_schema self.now.names.now) n entity
             → result ≡ d.is_item m n }
     {
         contains(row_at(&self.table.items, number), entity)

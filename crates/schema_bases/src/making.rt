@@ -8,7 +8,7 @@ ghost use Rattle.express_syntax.specs.Views.{
   declaration_of,
   if_some,
 };
-ghost use Rattle.express_syntax.specs.SchemaViews.{schema_of};
+ghost use Rattle.schema_names.specs.Schemas.{the_schema};
 ghost use Rattle.schema_bases.specs.Making.{
   entry,
   entry_of,
@@ -51,8 +51,7 @@ pub(crate) fn entry_of(declared: &[Base], number: Option<u32>) -> Base
 
 /// What the name in a data type stands for.
 fn named_in<'a>(names: &Names<'a, '_>, declared: &[Base], data_type: &DataType<'a>) -> Base
-    ensures { result ≡ named_in (schema_of names.now.schema.now) declared.now
-        (data_type_of data_type.now) }
+    ensures { result ≡ named_in (the_schema names.now) declared.now (data_type_of data_type.now) }
 {
     match data_type {
         DataType::Named(name) => entry_of(declared, names.find(*name)),
@@ -67,7 +66,7 @@ fn named_in<'a>(names: &Names<'a, '_>, declared: &[Base], data_type: &DataType<'
 
 /// Whether the name in a data type, if it has any, is that of a type or an entity.
 pub(crate) fn is_known<'a>(names: &Names<'a, '_>, data_type: &DataType<'a>) -> bool
-    ensures { result ≡ is_known (schema_of names.now.schema.now) (data_type_of data_type.now) }
+    ensures { result ≡ is_known (the_schema names.now) (data_type_of data_type.now) }
 {
     match data_type {
         DataType::Named(name) => names.find(*name).is_some(),
@@ -168,7 +167,7 @@ pub(crate) fn base_of<'a>(
     data_type: &DataType<'a>,
 ) -> Base
     ensures { result ≡ base_in is_known
-        (named_in (schema_of names.now.schema.now) declared.now (data_type_of data_type.now))
+        (named_in (the_schema names.now) declared.now (data_type_of data_type.now))
         element (data_type_of data_type.now) }
 {
     base_in(
@@ -210,8 +209,8 @@ fn base_behind<'a>(
     number: u32,
     underlying: &Underlying<'a>,
 ) -> Result<Base, AllocError>
-    ensures { IfOk result (λ b. b ≡ base_behind (schema_of names.now.schema.now)
-        (named_in (schema_of names.now.schema.now) declared.now) (first_of row.now) number
+    ensures { IfOk result (λ b. b ≡ base_behind (the_schema names.now)
+        (named_in (the_schema names.now) declared.now) (first_of row.now) number
         (underlying_of underlying.now)) }
 {
     match underlying {
@@ -238,8 +237,8 @@ pub(crate) fn base_at<'a>(
     number: u32,
     declaration: &Declaration<'a>,
 ) -> Result<Base, AllocError>
-    ensures { IfOk result (λ b. b ≡ base_at (schema_of names.now.schema.now)
-        (named_in (schema_of names.now.schema.now) declared.now) (first_of row.now) number
+    ensures { IfOk result (λ b. b ≡ base_at (the_schema names.now)
+        (named_in (the_schema names.now) declared.now) (first_of row.now) number
         (declaration_of declaration.now)) }
 {
     match declaration {

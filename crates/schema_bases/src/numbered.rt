@@ -13,9 +13,9 @@ ghost use Rattle.express_syntax.specs.Views.{
   if_some,
 };
 ghost use Rattle.express_syntax.specs.Schemas.{named, bag, set};
-ghost use Rattle.express_syntax.specs.SchemaViews.{schema_of};
 ghost use Rattle.express_syntax.specs.ExpressionViews.{capitals};
 ghost use Rattle.schema_semantics.specs.Attributes.{collected};
+ghost use Rattle.schema_names.specs.Schemas.{the_schema};
 ghost use Rattle.schema_data_types.specs.Numbered.{
   within,
   whole_underlying,
@@ -45,9 +45,8 @@ fn add_within<'a>(
     is_known: bool,
     data_type: &DataType<'a>,
 ) -> Result<(), AllocError>
-    requires { is_known
-        ≡ is_known_in (schema_of names.now.schema.now) (data_type_of data_type.now) }
-    ensures { OnOk result (GoesOn (schema_of names.now.schema.now) declared.now bases.old.items
+    requires { is_known ≡ is_known_in (the_schema names.now) (data_type_of data_type.now) }
+    ensures { OnOk result (GoesOn (the_schema names.now) declared.now bases.old.items
         (within (data_type_of data_type.now)) bases.new.items) }
 {
     let element = number_behind(bases.len())?;
@@ -68,7 +67,7 @@ fn add_data_type<'a>(
     bases: &mut Vec<Base>,
     data_type: &DataType<'a>,
 ) -> Result<(), AllocError>
-    ensures { OnOk result (GoesOn (schema_of names.now.schema.now) declared.now bases.old.items
+    ensures { OnOk result (GoesOn (the_schema names.now) declared.now bases.old.items
         (within (data_type_of data_type.now)) bases.new.items) }
 {
     let is_known = is_known(names, data_type);
@@ -82,7 +81,7 @@ fn add_explicits<'a>(
     bases: &mut Vec<Base>,
     explicits: &[Explicit<'a>],
 ) -> Result<(), AllocError>
-    ensures { OnOk result (GoesOn (schema_of names.now.schema.now) declared.now bases.old.items
+    ensures { OnOk result (GoesOn (the_schema names.now) declared.now bases.old.items
         (flat_map within (explicit_types (map explicit_of explicits.now))) bases.new.items) }
 {
     for explicit in explicits {
@@ -98,7 +97,7 @@ fn add_deriveds<'a>(
     bases: &mut Vec<Base>,
     deriveds: &[Derived<'a>],
 ) -> Result<(), AllocError>
-    ensures { OnOk result (GoesOn (schema_of names.now.schema.now) declared.now bases.old.items
+    ensures { OnOk result (GoesOn (the_schema names.now) declared.now bases.old.items
         (flat_map within (derived_types (map derived_of deriveds.now))) bases.new.items) }
 {
     for derived in deriveds {
@@ -114,7 +113,7 @@ fn add_named(
     bases: &mut Vec<Base>,
     name: Word<'_>,
 ) -> Result<(), AllocError>
-    ensures { OnOk result (GoesOn (schema_of names.now.schema.now) declared.now bases.old.items
+    ensures { OnOk result (GoesOn (the_schema names.now) declared.now bases.old.items
         (named (capitals name.entry) ∷ []) bases.new.items) }
 {
     bases.push(entry_of(declared, names.find(name)))?;
@@ -129,7 +128,7 @@ fn add_set(
     bounds: &Option<Bounds<'_>>,
     name: Word<'_>,
 ) -> Result<(), AllocError>
-    ensures { OnOk result (GoesOn (schema_of names.now.schema.now) declared.now bases.old.items
+    ensures { OnOk result (GoesOn (the_schema names.now) declared.now bases.old.items
         (within (set (if_some bounds_of bounds.now) (named (capitals name.entry))))
         bases.new.items) }
 {
@@ -147,7 +146,7 @@ fn add_bag(
     bounds: &Option<Bounds<'_>>,
     name: Word<'_>,
 ) -> Result<(), AllocError>
-    ensures { OnOk result (GoesOn (schema_of names.now.schema.now) declared.now bases.old.items
+    ensures { OnOk result (GoesOn (the_schema names.now) declared.now bases.old.items
         (within (bag (if_some bounds_of bounds.now) (named (capitals name.entry))))
         bases.new.items) }
 {
@@ -164,7 +163,7 @@ fn add_inverse<'a>(
     bases: &mut Vec<Base>,
     inverse: &Inverse<'a>,
 ) -> Result<(), AllocError>
-    ensures { OnOk result (GoesOn (schema_of names.now.schema.now) declared.now bases.old.items
+    ensures { OnOk result (GoesOn (the_schema names.now) declared.now bases.old.items
         (within (collected (inverse_of inverse.now).collection (inverse_of inverse.now).entity))
         bases.new.items) }
 {
@@ -182,7 +181,7 @@ fn add_inverses<'a>(
     bases: &mut Vec<Base>,
     inverses: &[Inverse<'a>],
 ) -> Result<(), AllocError>
-    ensures { OnOk result (GoesOn (schema_of names.now.schema.now) declared.now bases.old.items
+    ensures { OnOk result (GoesOn (the_schema names.now) declared.now bases.old.items
         (flat_map within (inverse_types (map inverse_of inverses.now))) bases.new.items) }
 {
     for inverse in inverses {
@@ -198,7 +197,7 @@ fn add_underlying<'a>(
     bases: &mut Vec<Base>,
     underlying: &Underlying<'a>,
 ) -> Result<(), AllocError>
-    ensures { OnOk result (GoesOn (schema_of names.now.schema.now) declared.now bases.old.items
+    ensures { OnOk result (GoesOn (the_schema names.now) declared.now bases.old.items
         (flat_map within (whole_underlying (underlying_of underlying.now))) bases.new.items) }
 {
     match underlying {
@@ -214,7 +213,7 @@ fn add_entity<'a>(
     bases: &mut Vec<Base>,
     entity: &Entity<'a>,
 ) -> Result<(), AllocError>
-    ensures { OnOk result (GoesOn (schema_of names.now.schema.now) declared.now bases.old.items
+    ensures { OnOk result (GoesOn (the_schema names.now) declared.now bases.old.items
         (flat_map within (attribute_types (entity_of entity.now))) bases.new.items) }
 {
     add_explicits(names, declared, bases, &entity.explicits)?;
@@ -229,7 +228,7 @@ fn add_declaration<'a>(
     bases: &mut Vec<Base>,
     declaration: &Declaration<'a>,
 ) -> Result<(), AllocError>
-    ensures { OnOk result (GoesOn (schema_of names.now.schema.now) declared.now bases.old.items
+    ensures { OnOk result (GoesOn (the_schema names.now) declared.now bases.old.items
         (flat_map within (whole_types (declaration_of declaration.now))) bases.new.items) }
 {
     match declaration {
@@ -247,8 +246,8 @@ pub(crate) fn numbered_bases(
     names: &Names<'_, '_>,
     declared: &[Base],
 ) -> Result<Vec<Base>, AllocError>
-    ensures { IfOk result (λ t. t.items ≡ bases_from (schema_of names.now.schema.now) declared.now 0
-        (all_data_types (schema_of names.now.schema.now))) }
+    ensures { IfOk result (λ t. t.items ≡ bases_from (the_schema names.now) declared.now 0
+        (all_data_types (the_schema names.now))) }
 {
     let mut bases = Vec::new(alloc);
     for declaration in names.declarations() {

@@ -5,7 +5,8 @@ ghost use Rattle.express_syntax.specs.Profile.{Every};
 ghost use Rattle.express_syntax.specs.Schemas.{entity as entity_tree, type as type_tree};
 ghost use Rattle.express_syntax.specs.Views.{declaration_of, entity_of, type_of};
 ghost use Rattle.schema_names.specs.Numbers.{IsAt};
-ghost use Rattle.schema_unchecked.specs.Findings.{AreFound, schema_found};
+ghost use Rattle.schema_references.specs.Taking.{schema_in};
+ghost use Rattle.schema_unchecked.specs.Findings.{AreFound};
 ghost use Rattle.conformance.specs.DomainRules.{AreDomainRules, statements_in};
 ghost use Rattle.schema_conditions.specs.Seen.{rule_seen, IsNumbered};
 ghost use Rattle.schema_conditions.specs.Making.{Adds};
@@ -26,8 +27,8 @@ fn add_type<'t, 'a>(
     declared: &'t TypeDeclaration<'a>,
 ) -> Result<(), AllocError>
     requires found { AreFound findings.now }
-    requires at { IsAt (schema_found findings.now) number (type_tree (type_of declared.now)) }
-    ensures { OnOk result (Adds (schema_found findings.now)
+    requires at { IsAt (schema_in findings.now.known) number (type_tree (type_of declared.now)) }
+    ensures { OnOk result (Adds (schema_in findings.now.known)
         (statements_in (type_tree (type_of declared.now) ∷ []))
         rules.old.items rules.new.items) }
 {
@@ -45,8 +46,8 @@ fn add_entity<'t, 'a>(
     entity: &'t Entity<'a>,
 ) -> Result<(), AllocError>
     requires found { AreFound findings.now }
-    requires at { IsAt (schema_found findings.now) number (entity_tree (entity_of entity.now)) }
-    ensures { OnOk result (Adds (schema_found findings.now)
+    requires at { IsAt (schema_in findings.now.known) number (entity_tree (entity_of entity.now)) }
+    ensures { OnOk result (Adds (schema_in findings.now.known)
         (statements_in (entity_tree (entity_of entity.now) ∷ []))
         rules.old.items rules.new.items) }
 {
@@ -64,8 +65,8 @@ fn add_declaration<'t, 'a>(
     declaration: &'t Declaration<'a>,
 ) -> Result<(), AllocError>
     requires found { AreFound findings.now }
-    requires at { IsAt (schema_found findings.now) number (declaration_of declaration.now) }
-    ensures { OnOk result (Adds (schema_found findings.now)
+    requires at { IsAt (schema_in findings.now.known) number (declaration_of declaration.now) }
+    ensures { OnOk result (Adds (schema_in findings.now.known)
         (statements_in (declaration_of declaration.now ∷ []))
         rules.old.items rules.new.items) }
 {
@@ -85,9 +86,10 @@ fn add_all<'t, 'a>(
 ) -> Result<(), AllocError>
     requires found { AreFound findings.now }
     requires few { length declarations.now < 2 ^ 32 }
-    requires all { map declaration_of declarations.now ≡ (schema_found findings.now).declarations }
-    ensures { OnOk result (Adds (schema_found findings.now)
-        (statements_in (schema_found findings.now).declarations)
+    requires all { map declaration_of declarations.now
+        ≡ (schema_in findings.now.known).declarations }
+    ensures { OnOk result (Adds (schema_in findings.now.known)
+        (statements_in (schema_in findings.now.known).declarations)
         rules.old.items rules.new.items) }
 {
     for i in 0..declarations.len() {
@@ -105,9 +107,10 @@ pub fn domain_rules<'t, 'a>(
     findings: &Findings<'a, 't, '_>,
 ) -> Result<Vec<DomainRule<'a, 't>>, AllocError>
     requires found { AreFound findings.now }
-    ensures checked { IfOk result (λ t. AreDomainRules (schema_found findings.now)
-        (map (rule_seen (schema_found findings.now)) t.items)) }
-    ensures numbered { IfOk result (λ t. Every (IsNumbered (schema_found findings.now)) t.items) }
+    ensures checked { IfOk result (λ t. AreDomainRules (schema_in findings.now.known)
+        (map (rule_seen (schema_in findings.now.known)) t.items)) }
+    ensures numbered { IfOk result (λ t. Every (IsNumbered (schema_in findings.now.known))
+        t.items) }
 {
     let mut rules: Vec<DomainRule<'a, 't>> = Vec::new(alloc);
     let schema: &'t SchemaTree<'a> = findings.known.tables.names.schema;

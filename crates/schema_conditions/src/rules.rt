@@ -5,10 +5,11 @@ ghost use Rattle.express_syntax.specs.ExpressionViews.{capitals};
 ghost use Rattle.express_syntax.specs.Schemas.{Schema};
 ghost use Rattle.express_syntax.specs.Views.{if_some, rule_of};
 ghost use Rattle.schema_semantics.specs.Parts.{label_of};
+ghost use Rattle.schema_references.specs.Taking.{schema_in};
 ghost use Rattle.schema_rules.specs.Seen.{label_seen};
 ghost use Rattle.schema_semantics.specs.declared.unchecked.Reason.{Reason as Why};
 ghost use Rattle.schema_names.specs.Numbers.{HasNumber};
-ghost use Rattle.schema_unchecked.specs.Findings.{AreFound, schema_found};
+ghost use Rattle.schema_unchecked.specs.Findings.{AreFound};
 ghost use Rattle.conformance.specs.DomainRules.{of_entity, of_type, RuleHasReason, statements_from};
 ghost use Rattle.schema_conditions.specs.Seen.{holder_seen, IsNumberedHolder};
 ghost use Rattle.schema_conditions.specs.Making.{statement_of, IsOwn, Adds};
@@ -81,10 +82,10 @@ fn add_rule<'t, 'a>(
     rule: &'t Rule<'a>,
 ) -> Result<(), AllocError>
     requires found { AreFound findings.now }
-    requires own { IsOwn (schema_found findings.now) own holder }
-    requires holder { IsNumberedHolder (schema_found findings.now) holder }
-    ensures { OnOk result (Adds (schema_found findings.now) (statement_of
-        (holder_seen (schema_found findings.now) holder) number (rule_of rule.now) ∷ [])
+    requires own { IsOwn (schema_in findings.now.known) own holder }
+    requires holder { IsNumberedHolder (schema_in findings.now.known) holder }
+    ensures { OnOk result (Adds (schema_in findings.now.known) (statement_of
+        (holder_seen (schema_in findings.now.known) holder) number (rule_of rule.now) ∷ [])
         rules.old.items rules.new.items) }
 {
     let reason = reason_of_rule(alloc, findings, own, &rule.body)?;
@@ -104,10 +105,10 @@ fn add_rules<'t, 'a>(
     written: &'t [Rule<'a>],
 ) -> Result<(), AllocError>
     requires found { AreFound findings.now }
-    requires own { IsOwn (schema_found findings.now) own holder }
-    requires holder { IsNumberedHolder (schema_found findings.now) holder }
-    ensures { OnOk result (Adds (schema_found findings.now) (statements_from
-        (holder_seen (schema_found findings.now) holder) 1 (map rule_of written.now))
+    requires own { IsOwn (schema_in findings.now.known) own holder }
+    requires holder { IsNumberedHolder (schema_in findings.now.known) holder }
+    ensures { OnOk result (Adds (schema_in findings.now.known) (statements_from
+        (holder_seen (schema_in findings.now.known) holder) 1 (map rule_of written.now))
         rules.old.items rules.new.items) }
 {
     for i in 0..written.len() {
@@ -126,8 +127,9 @@ pub(crate) fn add_entity_rules<'t, 'a>(
     written: &'t [Rule<'a>],
 ) -> Result<(), AllocError>
     requires found { AreFound findings.now }
-    requires number { HasNumber (schema_found findings.now) (capitals holder.name) holder.number }
-    ensures { OnOk result (Adds (schema_found findings.now) (statements_from
+    requires number { HasNumber (schema_in findings.now.known) (capitals holder.name)
+        holder.number }
+    ensures { OnOk result (Adds (schema_in findings.now.known) (statements_from
         (of_entity (capitals holder.entry.name)) 1 (map rule_of written.now))
         rules.old.items rules.new.items) }
 {
@@ -149,8 +151,9 @@ pub(crate) fn add_type_rules<'t, 'a>(
     written: &'t [Rule<'a>],
 ) -> Result<(), AllocError>
     requires found { AreFound findings.now }
-    requires number { HasNumber (schema_found findings.now) (capitals holder.name) holder.number }
-    ensures { OnOk result (Adds (schema_found findings.now) (statements_from
+    requires number { HasNumber (schema_in findings.now.known) (capitals holder.name)
+        holder.number }
+    ensures { OnOk result (Adds (schema_in findings.now.known) (statements_from
         (of_type (capitals holder.entry.name)) 1 (map rule_of written.now))
         rules.old.items rules.new.items) }
 {

@@ -2,12 +2,12 @@
 use Rattle.std.specs.Prelude.{◌≡◌, ◌<◌, ◌^◌, List, Some, length, map, slice_get, ◌⊎◌, ◌↔◌}
 use Rattle.digraph.specs.Graphs.{Graph, graph_of}
 use Rattle.express_syntax.specs.Schemas.{Schema, DataType}
-use Rattle.express_syntax.specs.SchemaViews.{schema_of}
 use Rattle.schema_semantics.specs.Names.{Name, OneOf}
 use Rattle.schema_semantics.specs.Shapes.{Atom, value, instance, a_number, a_logical, a_string, a_binary, an_item, an_aggregate, IsSort}
 use Rattle.schema_semantics.specs.Shapes as shapes
 use Rattle.schema_names.specs.Numbers.{HasNumber, AreRowsOf}
 use Rattle.schema_names.specs.Edges.{IsGraphOf, parts_in}
+use Rattle.schema_names.specs.Schemas.{the_schema}
 use Rattle.schema_data_types.specs.declared.values.Sort.{Sort}
 use Rattle.schema_data_types.specs.declared.values.Sort.TheVariants as sorts
 use Rattle.schema_data_types.specs.declared.values.Atom.{Atom as Numbered}
@@ -52,12 +52,8 @@ pub record AreParts (s : Schema) (t : Parts) : Type 0 where
 -- The tables are those of the schema.
 pub record AreTables (t : Tables) : Type 0 where
   pub forms : t.data_types.now.forms.items
-      ≡ map (form_in (schema_of t.names.now.schema.now)) (all_data_types (schema_of t.names.now.schema.now))
+      ≡ map (form_in (the_schema t.names.now)) (all_data_types (the_schema t.names.now))
   pub few : length t.data_types.now.forms.items < 2 ^ 32
-  pub rows : AreRowsOf whole_types (all_data_types (schema_of t.names.now.schema.now))
-      (schema_of t.names.now.schema.now).declarations (graph_of t.data_types.now.rows.items)
-  pub parts : AreParts (schema_of t.names.now.schema.now) t.parts.now
-
--- the schema of tables
-abbrev pub schema_at : Tables → Schema
-schema_at t = schema_of t.names.now.schema.now
+  pub rows : AreRowsOf whole_types (all_data_types (the_schema t.names.now))
+      (the_schema t.names.now).declarations (graph_of t.data_types.now.rows.items)
+  pub parts : AreParts (the_schema t.names.now) t.parts.now

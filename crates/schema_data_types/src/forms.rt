@@ -11,11 +11,11 @@ ghost use Rattle.express_syntax.specs.Views.{
   underlying_of,
   declaration_of,
 };
-ghost use Rattle.express_syntax.specs.SchemaViews.{schema_of};
 ghost use Rattle.express_syntax.specs.ExpressionViews.{capitals};
 ghost use Rattle.express_syntax.specs.Schemas.{named};
 ghost use Rattle.schema_semantics.specs.Attributes.{collected};
 ghost use Rattle.schema_names.specs.Numbers.{AreRowsOf};
+ghost use Rattle.schema_names.specs.Schemas.{the_schema};
 ghost use Rattle.schema_data_types.specs.Numbered.{
   within,
   form_in,
@@ -70,7 +70,7 @@ pub struct DataTypes {
 
 /// What a data type is, one level deep.
 fn form_of<'a>(names: &Names<'a, '_>, data_type: &DataType<'a>) -> Form
-    ensures { result ≡ form_in (schema_of names.now.schema.now) (data_type_of data_type.now) }
+    ensures { result ≡ form_in (the_schema names.now) (data_type_of data_type.now) }
 {
     match data_type {
         DataType::Integer | DataType::Number | DataType::Real(_) => Form::Number,
@@ -91,7 +91,7 @@ fn add_within<'a>(
     data_type: &DataType<'a>,
 ) -> Result<(), AllocError>
     ensures { OnOk result (forms.new.items ≡ forms.old.items
-        ++ map (form_in (schema_of names.now.schema.now)) (within (data_type_of data_type.now))) }
+        ++ map (form_in (the_schema names.now)) (within (data_type_of data_type.now))) }
 {
     forms.push(form_of(names, data_type))?;
     match data_type {
@@ -121,7 +121,7 @@ fn add_data_type<'a>(
     row: &mut Vec<u32>,
     data_type: &DataType<'a>,
 ) -> Result<(), AllocError>
-    ensures { OnOk result (Adds (schema_of names.now.schema.now) forms.old.items row.old.items
+    ensures { OnOk result (Adds (the_schema names.now) forms.old.items row.old.items
         (data_type_of data_type.now ∷ []) forms.new.items row.new.items) }
 {
     add_number(forms, row)?;
@@ -135,7 +135,7 @@ fn add_explicits<'a>(
     row: &mut Vec<u32>,
     explicits: &[Explicit<'a>],
 ) -> Result<(), AllocError>
-    ensures { OnOk result (Adds (schema_of names.now.schema.now) forms.old.items row.old.items
+    ensures { OnOk result (Adds (the_schema names.now) forms.old.items row.old.items
         (explicit_types (map explicit_of explicits.now)) forms.new.items row.new.items) }
 {
     for explicit in explicits {
@@ -151,7 +151,7 @@ fn add_deriveds<'a>(
     row: &mut Vec<u32>,
     deriveds: &[Derived<'a>],
 ) -> Result<(), AllocError>
-    ensures { OnOk result (Adds (schema_of names.now.schema.now) forms.old.items row.old.items
+    ensures { OnOk result (Adds (the_schema names.now) forms.old.items row.old.items
         (derived_types (map derived_of deriveds.now)) forms.new.items row.new.items) }
 {
     for derived in deriveds {
@@ -163,7 +163,7 @@ fn add_deriveds<'a>(
 /// Adds the form of what a name stands for.
 fn add_named(names: &Names<'_, '_>, forms: &mut Vec<Form>, name: Word<'_>) -> Result<(), AllocError>
     ensures { OnOk result (forms.new.items ≡ forms.old.items
-        ++ form_in (schema_of names.now.schema.now) (named (capitals name.entry)) ∷ []) }
+        ++ form_in (the_schema names.now) (named (capitals name.entry)) ∷ []) }
 {
     forms.push(Form::Named(names.find(name)))?;
     Ok(())
@@ -176,7 +176,7 @@ fn add_collected<'a>(
     inverse: &Inverse<'a>,
 ) -> Result<(), AllocError>
     ensures { OnOk result (forms.new.items ≡ forms.old.items
-        ++ map (form_in (schema_of names.now.schema.now)) (within (collected
+        ++ map (form_in (the_schema names.now)) (within (collected
         (inverse_of inverse.now).collection (inverse_of inverse.now).entity))) }
 {
     match inverse.collection {
@@ -195,7 +195,7 @@ fn add_inverse<'a>(
     row: &mut Vec<u32>,
     inverse: &Inverse<'a>,
 ) -> Result<(), AllocError>
-    ensures { OnOk result (Adds (schema_of names.now.schema.now) forms.old.items row.old.items
+    ensures { OnOk result (Adds (the_schema names.now) forms.old.items row.old.items
         (inverse_types (inverse_of inverse.now ∷ [])) forms.new.items row.new.items) }
 {
     add_number(forms, row)?;
@@ -209,7 +209,7 @@ fn add_inverses<'a>(
     row: &mut Vec<u32>,
     inverses: &[Inverse<'a>],
 ) -> Result<(), AllocError>
-    ensures { OnOk result (Adds (schema_of names.now.schema.now) forms.old.items row.old.items
+    ensures { OnOk result (Adds (the_schema names.now) forms.old.items row.old.items
         (inverse_types (map inverse_of inverses.now)) forms.new.items row.new.items) }
 {
     for inverse in inverses {
@@ -225,7 +225,7 @@ fn add_underlying<'a>(
     row: &mut Vec<u32>,
     underlying: &Underlying<'a>,
 ) -> Result<(), AllocError>
-    ensures { OnOk result (Adds (schema_of names.now.schema.now) forms.old.items row.old.items
+    ensures { OnOk result (Adds (the_schema names.now) forms.old.items row.old.items
         (whole_underlying (underlying_of underlying.now)) forms.new.items row.new.items) }
 {
     match underlying {
@@ -241,7 +241,7 @@ fn add_entity<'a>(
     row: &mut Vec<u32>,
     entity: &Entity<'a>,
 ) -> Result<(), AllocError>
-    ensures { OnOk result (Adds (schema_of names.now.schema.now) forms.old.items row.old.items
+    ensures { OnOk result (Adds (the_schema names.now) forms.old.items row.old.items
         (attribute_types (entity_of entity.now)) forms.new.items row.new.items) }
 {
     add_explicits(names, forms, row, &entity.explicits)?;
@@ -256,7 +256,7 @@ fn add_declaration<'a>(
     row: &mut Vec<u32>,
     declaration: &Declaration<'a>,
 ) -> Result<(), AllocError>
-    ensures { OnOk result (Adds (schema_of names.now.schema.now) forms.old.items row.old.items
+    ensures { OnOk result (Adds (the_schema names.now) forms.old.items row.old.items
         (whole_types (declaration_of declaration.now)) forms.new.items row.new.items) }
 {
     match declaration {
@@ -271,12 +271,10 @@ fn add_declaration<'a>(
 /// Where there are 2^32 of them or more there is no memory for it.
 pub fn data_types(alloc: Global, names: &Names<'_, '_>) -> Result<DataTypes, AllocError>
     ensures forms { IfOk result (λ t. t.forms.items
-        ≡ map (form_in (schema_of names.now.schema.now))
-        (all_data_types (schema_of names.now.schema.now))) }
+        ≡ map (form_in (the_schema names.now)) (all_data_types (the_schema names.now))) }
     ensures few { IfOk result (λ t. length t.forms.items < 2 ^ 32) }
-    ensures rows { IfOk result (λ t. AreRowsOf whole_types
-        (all_data_types (schema_of names.now.schema.now))
-        (schema_of names.now.schema.now).declarations (graph_of t.rows.items)) }
+    ensures rows { IfOk result (λ t. AreRowsOf whole_types (all_data_types (the_schema names.now))
+        (the_schema names.now).declarations (graph_of t.rows.items)) }
 {
     let mut forms = Vec::new(alloc);
     let mut rows = Vec::new(alloc);

@@ -7,9 +7,9 @@ ghost use Rattle.express_syntax.specs.Views.{
   underlying_of,
   declaration_of as declaration_seen,
 };
-ghost use Rattle.express_syntax.specs.SchemaViews.{schema_of};
 ghost use Rattle.schema_semantics.specs.Faults.{IsResolved};
 ghost use Rattle.schema_names.specs.Edges.{IsGraphOf, parts_in};
+ghost use Rattle.schema_names.specs.Schemas.{the_schema};
 ghost use Rattle.schema_data_types.specs.Selects.{is_select_at};
 ghost use Rattle.schema_data_types.specs.Giving.{is_leaf, gives_by, gives_in, gives_at, one_if, own_row};
 ghost use Rattle.schema_data_types.specs.Gathering.{IsGathered};
@@ -77,7 +77,7 @@ fn gives(declaration: &Declaration<'_>) -> bool
 
 /// Whether what is declared at a number gives values by itself.
 fn gives_at(names: &Names<'_, '_>, number: u32) -> bool
-    ensures { result ≡ gives_at (schema_of names.now.schema.now) number }
+    ensures { result ≡ gives_at (the_schema names.now) number }
 {
     match names.at(number) {
         Some(declaration) => gives(declaration),
@@ -87,7 +87,7 @@ fn gives_at(names: &Names<'_, '_>, number: u32) -> bool
 
 /// Whether a SELECT is declared at this number.
 fn is_select_at(names: &Names<'_, '_>, number: u32) -> bool
-    ensures { result ≡ is_select_at (schema_of names.now.schema.now) number }
+    ensures { result ≡ is_select_at (the_schema names.now) number }
 {
     match names.at(number) {
         Some(declaration) => is_select(declaration),
@@ -113,8 +113,7 @@ fn own_row(
     wanted: Wanted,
     number: u32,
 ) -> Result<Vec<u32>, AllocError>
-    ensures { IfOk result (λ row. row.items
-        ≡ own_row wanted (schema_of names.now.schema.now) number) }
+    ensures { IfOk result (λ row. row.items ≡ own_row wanted (the_schema names.now) number) }
 {
     match wanted {
         Wanted::Giving => one_if(alloc, gives_at(names, number), number),
@@ -131,7 +130,7 @@ fn own_rows(
     ensures length { IfOk result (λ t. length t.items
         ≡ length names.now.schema.now.declarations.items) }
     ensures rows { IfOk result (λ t. (i : ℕ) → next (graph_of t.items) i
-        ≡ own_row wanted (schema_of names.now.schema.now) i) }
+        ≡ own_row wanted (the_schema names.now) i) }
 {
     let mut rows = Vec::new(alloc);
     for i in 0..names.declarations().len() {
@@ -148,10 +147,10 @@ fn gathered_rows(
     edges: &[Vec<u32>],
     wanted: Wanted,
 ) -> Result<Vec<Vec<u32>>, AllocError>
-    requires resolved { IsResolved (schema_of names.now.schema.now) }
-    requires graph { IsGraphOf (schema_of names.now.schema.now) parts_in (graph_of edges.now) }
+    requires resolved { IsResolved (the_schema names.now) }
+    requires graph { IsGraphOf (the_schema names.now) parts_in (graph_of edges.now) }
     ensures { IfOk result (λ t. IsGathered (graph_of edges.now)
-        (own_row wanted (schema_of names.now.schema.now)) (graph_of t.items)) }
+        (own_row wanted (the_schema names.now)) (graph_of t.items)) }
 {
     let own = own_rows(alloc, names, wanted)?;
     gathered(alloc, edges, &own, edges.len())
@@ -167,9 +166,9 @@ pub fn parts_of(
     names: &Names<'_, '_>,
     edges: &[Vec<u32>],
 ) -> Result<Parts, AllocError>
-    requires resolved { IsResolved (schema_of names.now.schema.now) }
-    requires graph { IsGraphOf (schema_of names.now.schema.now) parts_in (graph_of edges.now) }
-    ensures { IfOk result (AreParts (schema_of names.now.schema.now)) }
+    requires resolved { IsResolved (the_schema names.now) }
+    requires graph { IsGraphOf (the_schema names.now) parts_in (graph_of edges.now) }
+    ensures { IfOk result (AreParts (the_schema names.now)) }
 {
     let giving = gathered_rows(alloc, names, edges, Wanted::Giving)?;
     let selects = gathered_rows(alloc, names, edges, Wanted::Selects)?;

@@ -7,11 +7,11 @@ ghost use Rattle.digraph.specs.Graphs.{graph_of};
 ghost use Rattle.step_literals.specs.declared.literal.Word.{Word as WordRead};
 ghost use Rattle.express_syntax.specs.ExpressionViews.{capitals};
 ghost use Rattle.express_syntax.specs.Views.{names_of, underlying_of, declaration_of};
-ghost use Rattle.express_syntax.specs.SchemaViews.{schema_of};
 ghost use Rattle.schema_semantics.specs.Faults.{IsResolved, items_of as of_underlying};
 ghost use Rattle.schema_semantics.specs.Sets.{IsItemOf};
 ghost use Rattle.schema_names.specs.Words.{same_word};
-ghost use Rattle.schema_data_types.specs.Values.{AreTables, schema_at};
+ghost use Rattle.schema_names.specs.Schemas.{the_schema};
+ghost use Rattle.schema_data_types.specs.Values.{AreTables};
 ghost use Rattle.schema_data_types.specs.Items.{AreItems, has_item};
 ghost use Rattle.schema_data_types.specs.Enumerated.{
   includes,
@@ -85,8 +85,8 @@ impl<'a> Items<'a> {
         keys: RandomState,
         names: &Names<'a, '_>,
     ) -> Result<Items<'a>, AllocError>
-        requires resolved { IsResolved (schema_of names.now.schema.now) }
-        ensures { IfOk result (AreItems (schema_of names.now.schema.now)) }
+        requires resolved { IsResolved (the_schema names.now) }
+        ensures { IfOk result (AreItems (the_schema names.now)) }
     {
         let mut items = IndexMap::with_hasher(alloc, keys);
         for declaration in names.declarations() {
@@ -112,7 +112,7 @@ fn includes(names: &[Word<'_>], name: Word<'_>) -> bool
 
 /// Whether an enumeration with an item of this name is declared at this number.
 fn has_item_at(tables: &Tables<'_, '_, '_>, part: u32, name: Word<'_>) -> bool
-    ensures { result ≡ has_item_at (schema_at tables.now) (capitals name.entry) part }
+    ensures { result ≡ has_item_at (the_schema tables.now.names.now) (capitals name.entry) part }
 {
     match tables.names.at(part) {
         Some(declaration) => includes(items_of(declaration), name),
@@ -122,7 +122,8 @@ fn has_item_at(tables: &Tables<'_, '_, '_>, part: u32, name: Word<'_>) -> bool
 
 /// Whether one of these defined types is an enumeration with an item of this name.
 fn any_has_item(tables: &Tables<'_, '_, '_>, parts: &[u32], name: Word<'_>) -> bool
-    ensures { result ≡ list_any (has_item_at (schema_at tables.now) (capitals name.entry)) parts.now }
+    ensures { result ≡ list_any (has_item_at (the_schema tables.now.names.now)
+        (capitals name.entry)) parts.now }
 {
     for part in parts {
         if has_item_at(tables, *part, name) {
@@ -135,7 +136,7 @@ fn any_has_item(tables: &Tables<'_, '_, '_>, parts: &[u32], name: Word<'_>) -> b
 /// Whether a defined type, or one that it is made of, is an enumeration with an item of this name.
 fn has_item_within(tables: &Tables<'_, '_, '_>, part: u32, name: Word<'_>) -> bool
     requires { part < length tables.now.parts.now.giving.items }
-    ensures { result ≡ has_item_within (schema_at tables.now)
+    ensures { result ≡ has_item_within (the_schema tables.now.names.now)
         (graph_of tables.now.parts.now.giving.items) (capitals name.entry) part }
 {
     any_has_item(tables, &tables.parts.giving[part as usize], name)
@@ -147,7 +148,8 @@ fn has_item_within(tables: &Tables<'_, '_, '_>, part: u32, name: Word<'_>) -> bo
 pub fn is_item_of(tables: &Tables<'_, '_, '_>, defined: Word<'_>, name: Word<'_>) -> bool
     requires tables { AreTables tables.now }
     ensures { IsTrue result
-        ↔ IsItemOf (schema_at tables.now) (capitals defined.entry) (capitals name.entry) }
+        ↔ IsItemOf (the_schema tables.now.names.now) (capitals defined.entry)
+        (capitals name.entry) }
 {
     match tables.names.find(defined) {
         Some(part) => !is_over_select(tables, part) && has_item_within(tables, part, name),

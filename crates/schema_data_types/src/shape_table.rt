@@ -2,10 +2,10 @@
 ghost use Rattle.std.specs.Prelude.{◌≡◌, ◌+◌, ◌<◌, ◌^◌, length, map, slice_get, IfOk};
 ghost use Rattle.digraph.specs.Graphs.{graph_of};
 ghost use Rattle.express_syntax.specs.Views.{declaration_of, underlying_of};
-ghost use Rattle.express_syntax.specs.SchemaViews.{schema_of};
 ghost use Rattle.schema_semantics.specs.Faults.{IsResolved};
 ghost use Rattle.schema_names.specs.Edges.{IsGraphOf, parts_in};
 ghost use Rattle.schema_names.specs.Numbers.{AreRowsOf};
+ghost use Rattle.schema_names.specs.Schemas.{the_schema};
 ghost use Rattle.schema_data_types.specs.Numbered.{form_in, whole_types, all_data_types};
 ghost use Rattle.schema_data_types.specs.Shaped.{AreShapes};
 ghost use Rattle.schema_data_types.specs.Making.{
@@ -114,14 +114,14 @@ fn declared_shapes(
     data_types: &DataTypes,
     parts: &[Vec<u32>],
 ) -> Result<Vec<Shape>, AllocError>
-    requires resolved { IsResolved (schema_of names.now.schema.now) }
-    requires forms { data_types.now.forms.items ≡ map (form_in (schema_of names.now.schema.now))
-        (all_data_types (schema_of names.now.schema.now)) }
-    requires rows { AreRowsOf whole_types (all_data_types (schema_of names.now.schema.now))
-        (schema_of names.now.schema.now).declarations (graph_of data_types.now.rows.items) }
-    requires graph { IsGraphOf (schema_of names.now.schema.now) parts_in (graph_of parts.now) }
+    requires resolved { IsResolved (the_schema names.now) }
+    requires forms { data_types.now.forms.items ≡ map (form_in (the_schema names.now))
+        (all_data_types (the_schema names.now)) }
+    requires rows { AreRowsOf whole_types (all_data_types (the_schema names.now))
+        (the_schema names.now).declarations (graph_of data_types.now.rows.items) }
+    requires graph { IsGraphOf (the_schema names.now) parts_in (graph_of parts.now) }
     requires few { length data_types.now.forms.items < 2 ^ 32 }
-    ensures { IfOk result (λ t. AreDeclared (schema_of names.now.schema.now) t.items) }
+    ensures { IfOk result (λ t. AreDeclared (the_schema names.now) t.items) }
 {
     let order = order(alloc, parts)?;
     let mut declared = vec![in alloc; Shape::Instances; parts.len()]?;
@@ -150,14 +150,14 @@ pub fn shapes(
     data_types: &DataTypes,
     parts: &[Vec<u32>],
 ) -> Result<Vec<Shape>, AllocError>
-    requires resolved { IsResolved (schema_of names.now.schema.now) }
-    requires forms { data_types.now.forms.items ≡ map (form_in (schema_of names.now.schema.now))
-        (all_data_types (schema_of names.now.schema.now)) }
-    requires rows { AreRowsOf whole_types (all_data_types (schema_of names.now.schema.now))
-        (schema_of names.now.schema.now).declarations (graph_of data_types.now.rows.items) }
-    requires graph { IsGraphOf (schema_of names.now.schema.now) parts_in (graph_of parts.now) }
+    requires resolved { IsResolved (the_schema names.now) }
+    requires forms { data_types.now.forms.items ≡ map (form_in (the_schema names.now))
+        (all_data_types (the_schema names.now)) }
+    requires rows { AreRowsOf whole_types (all_data_types (the_schema names.now))
+        (the_schema names.now).declarations (graph_of data_types.now.rows.items) }
+    requires graph { IsGraphOf (the_schema names.now) parts_in (graph_of parts.now) }
     requires few { length data_types.now.forms.items < 2 ^ 32 }
-    ensures { IfOk result (λ t. AreShapes (schema_of names.now.schema.now) t.items) }
+    ensures { IfOk result (λ t. AreShapes (the_schema names.now) t.items) }
 {
     let declared = declared_shapes(alloc, names, data_types, parts)?;
     let mut shapes = Vec::new(alloc);

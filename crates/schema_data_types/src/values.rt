@@ -19,12 +19,12 @@ ghost use Rattle.std.specs.List.{cons_option};
 ghost use Rattle.digraph.specs.Graphs.{graph_of, has, next};
 ghost use Rattle.express_syntax.specs.Schemas.{DataType as DataTypeTree, named};
 ghost use Rattle.express_syntax.specs.Views.{declaration_of, underlying_of};
-ghost use Rattle.express_syntax.specs.SchemaViews.{schema_of};
 ghost use Rattle.schema_semantics.specs.Names.{Name, StandsFor};
 ghost use Rattle.schema_semantics.specs.Shapes.{IsOf, IsOverSelect};
 ghost use Rattle.schema_names.specs.Numbers.{number_of, HasNumber};
+ghost use Rattle.schema_names.specs.Schemas.{the_schema};
 ghost use Rattle.schema_data_types.specs.Numbered.{all_data_types};
-ghost use Rattle.schema_data_types.specs.Values.{AddsAll, AreTables, schema_at};
+ghost use Rattle.schema_data_types.specs.Values.{AddsAll, AreTables};
 ghost use Rattle.schema_data_types.specs.Leaves.{leaf_atom, LeafGives, Gives, OneGives};
 ghost use Rattle.schema_data_types.specs.Selects.{is_select};
 
@@ -102,9 +102,9 @@ fn add_leaf(
     requires tables { AreTables tables.now }
     requires within { number < length tables.now.data_types.now.forms.items }
     ensures { (k : DataTypeTree)
-        → slice_get (all_data_types (schema_at tables.now)) number ≡ Some k
-        → OnOk result (AddsAll (schema_at tables.now) atoms.old.items
-        (LeafGives (schema_at tables.now) k is_of_select) atoms.new.items) }
+        → slice_get (all_data_types (the_schema tables.now.names.now)) number ≡ Some k
+        → OnOk result (AddsAll (the_schema tables.now.names.now) atoms.old.items
+        (LeafGives (the_schema tables.now.names.now) k is_of_select) atoms.new.items) }
 {
     let form = tables.data_types.forms[number as usize];
     add_some(atoms, leaf(form, number, is_of_select))
@@ -123,9 +123,9 @@ pub(crate) fn is_select(declaration: &Declaration<'_>) -> bool
 /// Whether a defined type is a SELECT, or stands for one under whatever names.
 pub fn is_over_select(tables: &Tables<'_, '_, '_>, part: u32) -> bool
     requires tables { AreTables tables.now }
-    requires named { (n : Name) × HasNumber (schema_at tables.now) n part }
-    ensures { (n : Name) → HasNumber (schema_at tables.now) n part
-        → (result ≡ true) ↔ IsOverSelect (schema_at tables.now) (named n) }
+    requires named { (n : Name) × HasNumber (the_schema tables.now.names.now) n part }
+    ensures { (n : Name) → HasNumber (the_schema tables.now.names.now) n part
+        → (result ≡ true) ↔ IsOverSelect (the_schema tables.now.names.now) (named n) }
 {
     tables.parts.selects[part as usize].contains(&0)
 }
@@ -149,11 +149,11 @@ fn add_underlying<'a>(
     atoms: &mut Vec<Atom>,
 ) -> Result<(), AllocError>
     requires tables { AreTables tables.now }
-    requires within { (n : Name) × HasNumber (schema_at tables.now) n part
-        × StandsFor (schema_at tables.now) n (underlying_of underlying.now) }
-    ensures { (n : Name) → HasNumber (schema_at tables.now) n part
-        → OnOk result (AddsAll (schema_at tables.now) atoms.old.items
-        (Gives (schema_at tables.now) n is_of_select) atoms.new.items) }
+    requires within { (n : Name) × HasNumber (the_schema tables.now.names.now) n part
+        × StandsFor (the_schema tables.now.names.now) n (underlying_of underlying.now) }
+    ensures { (n : Name) → HasNumber (the_schema tables.now.names.now) n part
+        → OnOk result (AddsAll (the_schema tables.now.names.now) atoms.old.items
+        (Gives (the_schema tables.now.names.now) n is_of_select) atoms.new.items) }
 {
     match underlying {
         Underlying::Enumeration(_) => {
@@ -176,10 +176,10 @@ fn add_part(
     atoms: &mut Vec<Atom>,
 ) -> Result<(), AllocError>
     requires tables { AreTables tables.now }
-    requires named { (n : Name) × HasNumber (schema_at tables.now) n part }
-    ensures { (n : Name) → HasNumber (schema_at tables.now) n part
-        → OnOk result (AddsAll (schema_at tables.now) atoms.old.items
-        (Gives (schema_at tables.now) n is_of_select) atoms.new.items) }
+    requires named { (n : Name) × HasNumber (the_schema tables.now.names.now) n part }
+    ensures { (n : Name) → HasNumber (the_schema tables.now.names.now) n part
+        → OnOk result (AddsAll (the_schema tables.now.names.now) atoms.old.items
+        (Gives (the_schema tables.now.names.now) n is_of_select) atoms.new.items) }
 {
     match tables.names.declaration(part) {
         Declaration::Entity(_) => {
@@ -202,9 +202,9 @@ fn add_parts(
 ) -> Result<(), AllocError>
     requires tables { AreTables tables.now }
     requires named { (j : ℕ) → has row.now j ≡ true
-        → (n : Name) × HasNumber (schema_at tables.now) n j }
-    ensures { OnOk result (AddsAll (schema_at tables.now) atoms.old.items
-        (OneGives (schema_at tables.now) row.now is_of_select) atoms.new.items) }
+        → (n : Name) × HasNumber (the_schema tables.now.names.now) n j }
+    ensures { OnOk result (AddsAll (the_schema tables.now.names.now) atoms.old.items
+        (OneGives (the_schema tables.now.names.now) row.now is_of_select) atoms.new.items) }
 {
     for part in row {
         add_part(tables, *part, is_of_select, atoms)?;
@@ -219,10 +219,10 @@ pub fn add_named(
     atoms: &mut Vec<Atom>,
 ) -> Result<(), AllocError>
     requires tables { AreTables tables.now }
-    requires named { (n : Name) × HasNumber (schema_at tables.now) n part }
-    ensures { (n : Name) → HasNumber (schema_at tables.now) n part
-        → OnOk result (AddsAll (schema_at tables.now) atoms.old.items
-        (IsOf (schema_at tables.now) (named n)) atoms.new.items) }
+    requires named { (n : Name) × HasNumber (the_schema tables.now.names.now) n part }
+    ensures { (n : Name) → HasNumber (the_schema tables.now.names.now) n part
+        → OnOk result (AddsAll (the_schema tables.now.names.now) atoms.old.items
+        (IsOf (the_schema tables.now.names.now) (named n)) atoms.new.items) }
 {
     let is_of_select = is_over_select(tables, part);
     add_parts(
@@ -240,10 +240,10 @@ fn add_meant(
     atoms: &mut Vec<Atom>,
 ) -> Result<(), AllocError>
     requires tables { AreTables tables.now }
-    requires meant { (n : Name) × (number_of (schema_at tables.now) n ≡ meant) }
-    ensures { (n : Name) → number_of (schema_at tables.now) n ≡ meant
-        → OnOk result (AddsAll (schema_at tables.now) atoms.old.items
-        (IsOf (schema_at tables.now) (named n)) atoms.new.items) }
+    requires meant { (n : Name) × (number_of (the_schema tables.now.names.now) n ≡ meant) }
+    ensures { (n : Name) → number_of (the_schema tables.now.names.now) n ≡ meant
+        → OnOk result (AddsAll (the_schema tables.now.names.now) atoms.old.items
+        (IsOf (the_schema tables.now.names.now) (named n)) atoms.new.items) }
 {
     match meant {
         Some(part) => add_named(tables, part, atoms),
@@ -262,11 +262,11 @@ pub fn add_values(
     atoms: &mut Vec<Atom>,
 ) -> Result<(), AllocError>
     requires tables { AreTables tables.now }
-    requires within { number < length (all_data_types (schema_at tables.now)) }
+    requires within { number < length (all_data_types (the_schema tables.now.names.now)) }
     ensures { (k : DataTypeTree)
-        → slice_get (all_data_types (schema_at tables.now)) number ≡ Some k
-        → OnOk result (AddsAll (schema_at tables.now) atoms.old.items
-        (IsOf (schema_at tables.now) k) atoms.new.items) }
+        → slice_get (all_data_types (the_schema tables.now.names.now)) number ≡ Some k
+        → OnOk result (AddsAll (the_schema tables.now.names.now) atoms.old.items
+        (IsOf (the_schema tables.now.names.now) k) atoms.new.items) }
 {
     match tables.data_types.forms[number as usize] {
         Form::Named(meant) => add_meant(tables, meant, atoms),

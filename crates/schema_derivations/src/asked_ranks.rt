@@ -3,10 +3,10 @@
 ghost use Rattle.std.specs.Prelude.{◌≡◌, ℕ, ◌+◌, ◌<◌, None, map, length, get_or, IfOk};
 ghost use Rattle.express_syntax.specs.ExpressionViews.{capitals};
 ghost use Rattle.express_syntax.specs.Views.{derived_of, declaration_of as declaration_seen};
-ghost use Rattle.express_syntax.specs.SchemaViews.{schema_of};
 ghost use Rattle.schema_semantics.specs.Names.{Name};
 ghost use Rattle.schema_semantics.specs.Ranks.{IsRankAt};
 ghost use Rattle.schema_names.specs.Numbers.{HasNumber};
+ghost use Rattle.schema_names.specs.Schemas.{the_schema};
 ghost use Rattle.schema_attributes.specs.Derivations.{derivations_in};
 ghost use Rattle.schema_derivations.specs.Asked.{deriveds_in, derives, first_for};
 ghost use Rattle.schema_derivations.specs.Firsts.{AreFirsts};
@@ -46,7 +46,7 @@ fn count_more(count: u32, declaration: &Declaration<'_>) -> Result<u32, AllocErr
 ///
 /// Where a schema has more than 2^32 - 1 there is no memory for them.
 pub fn first_derivations(alloc: Global, names: &Names<'_, '_>) -> Result<Vec<u32>, AllocError>
-    ensures { IfOk result (λ firsts. AreFirsts (schema_of names.now.schema.now) firsts.items) }
+    ensures { IfOk result (λ firsts. AreFirsts (the_schema names.now) firsts.items) }
 {
     let mut firsts = Vec::new(alloc);
     let mut count: u32 = 0;
@@ -94,10 +94,9 @@ pub fn rank_at(
     entity: u32,
     attribute: Word<'_>,
 ) -> Option<u32>
-    requires firsts { ∥ AreFirsts (schema_of names.now.schema.now) firsts.now ∥₁ }
-    requires ranks { ∥ AreRanksOf (schema_of names.now.schema.now) ranks.now ∥₁ }
-    ensures { ∥ IsRankOf (schema_of names.now.schema.now) entity (capitals attribute.entry)
-        result ∥₁ }
+    requires firsts { ∥ AreFirsts (the_schema names.now) firsts.now ∥₁ }
+    requires ranks { ∥ AreRanksOf (the_schema names.now) ranks.now ∥₁ }
+    ensures { ∥ IsRankOf (the_schema names.now) entity (capitals attribute.entry) result ∥₁ }
 {
     let declaration = names.at(entity)?;
     let place = first_for(declaration, attribute)?;

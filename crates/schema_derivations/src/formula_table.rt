@@ -2,8 +2,8 @@
 
 ghost use Rattle.std.specs.Prelude.{◌≡◌, None, map, get_or, flat_map, option_map, IfOk, OnOk};
 ghost use Rattle.express_syntax.specs.Views.{body_of, derived_of, declaration_of};
-ghost use Rattle.express_syntax.specs.SchemaViews.{schema_of};
 ghost use Rattle.schema_semantics.specs.Faults.{IsResolved};
+ghost use Rattle.schema_names.specs.Schemas.{the_schema};
 ghost use Rattle.schema_derivations.specs.Asked.{deriveds_in};
 ghost use Rattle.schema_derivations.specs.Ranking.{AreRanksOf};
 ghost use Rattle.schema_derivations.specs.Formulas.{formula_seen, AreFormulasOf};
@@ -91,9 +91,9 @@ pub fn formulas<'t, 'a>(
     names: &Names<'a, 't>,
     ranks: &[Option<u32>],
 ) -> Result<Formulas<'a, 't>, AllocError>
-    requires resolved { IsResolved (schema_of names.now.schema.now) }
-    requires ranks { AreRanksOf (schema_of names.now.schema.now) ranks.now }
-    ensures { IfOk result (AreFormulasOf (schema_of names.now.schema.now)) }
+    requires resolved { IsResolved (the_schema names.now) }
+    requires ranks { AreRanksOf (the_schema names.now) ranks.now }
+    ensures { IfOk result (AreFormulasOf (the_schema names.now)) }
 {
     let mut rows: Vec<Option<Formula<'a, 't>>> = Vec::new(alloc);
     add_all(&mut rows, ranks, &names.schema.declarations)?;

@@ -18,8 +18,8 @@ ghost use Rattle.std.specs.Prelude.{
 };
 ghost use Rattle.digraph.specs.Graphs.{graph_of, IsGraph};
 ghost use Rattle.digraph.specs.Orders.{IsOrder, IsElsewhere, Solves};
-ghost use Rattle.express_syntax.specs.SchemaViews.{schema_of};
 ghost use Rattle.schema_semantics.specs.Faults.{IsResolved};
+ghost use Rattle.schema_names.specs.Schemas.{the_schema};
 ghost use Rattle.schema_derivations.specs.Tables.{above_all, rank_from};
 ghost use Rattle.schema_derivations.specs.Ranking.{AreUses, AreFaulty, AreRanksOf};
 
@@ -90,12 +90,12 @@ pub fn rank_derivations(
     uses: &[Vec<u32>],
     faulty: &[bool],
 ) -> Result<Vec<Option<u32>>, AllocError>
-    requires resolved { IsResolved (schema_of names.now.schema.now) }
-    requires uses { AreUses (schema_of names.now.schema.now) (graph_of uses.now) }
+    requires resolved { IsResolved (the_schema names.now) }
+    requires uses { AreUses (the_schema names.now) (graph_of uses.now) }
     requires graph { IsGraph (graph_of uses.now) }
     requires few { length uses.now < 2 ^ 32 }
-    requires faulty { AreFaulty (schema_of names.now.schema.now) faulty.now }
-    ensures { IfOk result (λ t. AreRanksOf (schema_of names.now.schema.now) t.items) }
+    requires faulty { AreFaulty (the_schema names.now) faulty.now }
+    ensures { IfOk result (λ t. AreRanksOf (the_schema names.now) t.items) }
 {
     let order = order(alloc, uses)?;
     ranks_along(alloc, uses, &order, faulty)

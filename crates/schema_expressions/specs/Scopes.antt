@@ -21,20 +21,16 @@ abbrev pub inside : Schema → List Numbered → List Variable → List Variable
 inside s [] vs = vs
 inside s (w ∷ ws) vs = inside s ws (variable_of s w ∷ vs)
 
--- the schema, the set of SELF and the variables around
-abbrev pub schema_around : Scope → Schema
-schema_around t = schema_in t.known
-
 abbrev pub own_in : Scope → Set
-own_in t = Holds (schema_around t) t.own.now
+own_in t = Holds (schema_in t.known) t.own.now
 
 abbrev pub variables_in : Scope → List Variable
-variables_in t = inside (schema_around t) t.variables.now []
+variables_in t = inside (schema_in t.known) t.variables.now []
 
 -- What is known in a scope is true of the schema.
 pub record IsScope (t : Scope) : Type 0 where
   pub known : IsKnown t.known
-  pub items : AreItems (schema_around t) t.items.now
+  pub items : AreItems (schema_in t.known) t.items.now
 
 -- This is what a reference is.
 pub record IsReferred (s : Schema) (self : Set) (vs : List Variable) (r : Root) (qs : Qualifiers) (t : Reference)

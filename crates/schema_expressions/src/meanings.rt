@@ -4,8 +4,10 @@ ghost use Rattle.std.specs.Prelude.{◌↔◌, IfOk, IsTrue};
 ghost use Rattle.express_syntax.specs.ExpressionViews.{capitals, qualifiers_of};
 ghost use Rattle.schema_semantics.specs.Names.{Name};
 ghost use Rattle.schema_semantics.specs.Sets.{IsVariable, MayTake, WithSubtypes, of_set};
-ghost use Rattle.schema_data_types.specs.Values.{AreTables, schema_at};
-ghost use Rattle.schema_expressions.specs.Scopes.{IsScope, schema_around, own_in, variables_in};
+ghost use Rattle.schema_names.specs.Schemas.{the_schema};
+ghost use Rattle.schema_data_types.specs.Values.{AreTables};
+ghost use Rattle.schema_references.specs.Taking.{schema_in};
+ghost use Rattle.schema_expressions.specs.Scopes.{IsScope, own_in, variables_in};
 ghost use Rattle.schema_expressions.specs.Meanings.{IsMeaning, BeginWithItem};
 
 use crate::scope::Scope;
@@ -39,8 +41,8 @@ fn begin_with_item<'a>(
     qualifiers: &[Qualifier<'a>],
 ) -> bool
     requires tables { AreTables tables.now }
-    ensures { IsTrue result ↔ BeginWithItem (schema_at tables.now) (capitals defined.entry)
-        (qualifiers_of qualifiers.now) }
+    ensures { IsTrue result ↔ BeginWithItem (the_schema tables.now.names.now)
+        (capitals defined.entry) (qualifiers_of qualifiers.now) }
 {
     let Some(first) = qualifiers.first() else {
         return false;
@@ -60,10 +62,10 @@ fn item_meaning<'a>(
 ) -> Meaning
     requires scope { IsScope scope.now }
     ensures { (IsVariable (variables_in scope.now) (capitals name.entry) → ⊥)
-        → ((p : Name) → MayTake (schema_around scope.now)
-        (of_set (WithSubtypes (schema_around scope.now) (own_in scope.now))
+        → ((p : Name) → MayTake (schema_in scope.now.known)
+        (of_set (WithSubtypes (schema_in scope.now.known) (own_in scope.now))
         (capitals name.entry)) p → ⊥)
-        → IsMeaning (schema_around scope.now) (own_in scope.now) (variables_in scope.now)
+        → IsMeaning (schema_in scope.now.known) (own_in scope.now) (variables_in scope.now)
         (capitals name.entry) (qualifiers_of qualifiers.now) result }
 {
     if begin_with_item(&scope.known.tables, name, qualifiers) {
@@ -84,7 +86,7 @@ pub(crate) fn meaning_of<'a>(
     qualifiers: &[Qualifier<'a>],
 ) -> Result<Meaning, AllocError>
     requires scope { IsScope scope.now }
-    ensures { IfOk result (IsMeaning (schema_around scope.now) (own_in scope.now)
+    ensures { IfOk result (IsMeaning (schema_in scope.now.known) (own_in scope.now)
         (variables_in scope.now) (capitals name.entry) (qualifiers_of qualifiers.now)) }
 {
     if let Some(variable) = find_variable(scope.variables, name) {

@@ -3,13 +3,8 @@
 ghost use Rattle.std.specs.Prelude.{IfOk};
 ghost use Rattle.express_syntax.specs.Trees.{named};
 ghost use Rattle.express_syntax.specs.ExpressionViews.{capitals, root_of, qualifiers_of};
-ghost use Rattle.schema_expressions.specs.Scopes.{
-  IsScope,
-  IsReferred,
-  schema_around,
-  own_in,
-  variables_in,
-};
+ghost use Rattle.schema_references.specs.Taking.{schema_in};
+ghost use Rattle.schema_expressions.specs.Scopes.{IsScope, IsReferred, own_in, variables_in};
 
 use crate::meanings::{Meaning, meaning_of};
 use crate::paths::{select, select_of_item, select_of_taken};
@@ -38,7 +33,7 @@ fn refer_by_name<'a>(
     qualifiers: &[Qualifier<'a>],
 ) -> Result<Reference, AllocError>
     requires scope { IsScope scope.now }
-    ensures { IfOk result (IsReferred (schema_around scope.now) (own_in scope.now)
+    ensures { IfOk result (IsReferred (schema_in scope.now.known) (own_in scope.now)
         (variables_in scope.now) (named (capitals name.entry)) (qualifiers_of qualifiers.now)) }
 {
     match meaning_of(alloc, scope, name, qualifiers)? {
@@ -63,7 +58,7 @@ pub fn refer<'a>(
     qualifiers: &[Qualifier<'a>],
 ) -> Result<Reference, AllocError>
     requires scope { IsScope scope.now }
-    ensures { IfOk result (IsReferred (schema_around scope.now) (own_in scope.now)
+    ensures { IfOk result (IsReferred (schema_in scope.now.known) (own_in scope.now)
         (variables_in scope.now) (root_of root.entry) (qualifiers_of qualifiers.now)) }
 {
     match root {

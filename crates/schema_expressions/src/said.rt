@@ -17,10 +17,10 @@ ghost use Rattle.step_literals.specs.Words.{upper};
 ghost use Rattle.step_literals.specs.declared.literal.items.Item.TheVariants.{Code};
 ghost use Rattle.express_syntax.specs.Trees.{literal as of_literal};
 ghost use Rattle.express_syntax.specs.ExpressionViews.{capitals, literal_of, tree_of};
-ghost use Rattle.express_syntax.specs.SchemaViews.{schema_of};
 ghost use Rattle.schema_semantics.specs.Names.{Name};
 ghost use Rattle.schema_semantics.specs.Reasons.{IsString};
 ghost use Rattle.schema_names.specs.Numbers.{number_of, HasNumber};
+ghost use Rattle.schema_names.specs.Schemas.{the_schema};
 ghost use Rattle.schema_expressions.specs.Said.{IsSaid};
 ghost use Rattle.schema_expressions.specs.Characters.{AreBytes, AreCharacters, SaysIn};
 
@@ -92,7 +92,7 @@ fn behind_schema<'t>(schema: Word<'_>, text: &'t [u8]) -> Option<&'t [u8]>
 /// The number of what is declared with a name that stands in capitals.
 fn find(names: &Names<'_, '_>, name: &[u8]) -> Option<u32>
     requires { upper name.now ≡ name.now }
-    ensures { result ≡ number_of (schema_of names.now.schema.now) name.now }
+    ensures { result ≡ number_of (the_schema names.now) name.now }
 {
     match Word::read(name) {
         Ok(word) => names.find(word),
@@ -103,7 +103,7 @@ fn find(names: &Names<'_, '_>, name: &[u8]) -> Option<u32>
 /// The number of the type or entity whose name stands in a text behind the schema's, all in
 /// capitals.
 fn said_in(names: &Names<'_, '_>, text: &[u8]) -> Option<u32>
-    ensures { SaysIn (schema_of names.now.schema.now) text.now result }
+    ensures { SaysIn (the_schema names.now) text.now result }
 {
     if !is_in_capitals(text) {
         return None;
@@ -117,8 +117,7 @@ fn said_literal(
     names: &Names<'_, '_>,
     literal: &Literal<'_>,
 ) -> Result<Option<u32>, AllocError>
-    ensures { IfOk result
-        (IsSaid (schema_of names.now.schema.now) (of_literal (literal_of literal.now))) }
+    ensures { IfOk result (IsSaid (the_schema names.now) (of_literal (literal_of literal.now))) }
 {
     let Some(items) = characters(alloc, literal)? else {
         return Ok(None);
@@ -139,7 +138,7 @@ pub fn said_type(
     names: &Names<'_, '_>,
     expression: &Expr<'_>,
 ) -> Result<Option<u32>, AllocError>
-    ensures { IfOk result (IsSaid (schema_of names.now.schema.now) (tree_of expression.now)) }
+    ensures { IfOk result (IsSaid (the_schema names.now) (tree_of expression.now)) }
 {
     match expression {
         Expr::Literal(literal) => said_literal(alloc, names, literal),

@@ -9,9 +9,10 @@ ghost use Rattle.express_syntax.specs.ExpressionViews.{
 };
 ghost use Rattle.schema_semantics.specs.Sets.{Elements, May, OfReference};
 ghost use Rattle.schema_semantics.specs.Reasons.{ElementsOf, OfTrees};
-ghost use Rattle.schema_data_types.specs.Values.{AddsAll, AreTables, Holds, IsMeant, schema_at};
-ghost use Rattle.schema_references.specs.Taking.{IsSet};
-ghost use Rattle.schema_expressions.specs.Scopes.{IsScope, schema_around, own_in, variables_in};
+ghost use Rattle.schema_names.specs.Schemas.{the_schema};
+ghost use Rattle.schema_data_types.specs.Values.{AddsAll, AreTables, Holds, IsMeant};
+ghost use Rattle.schema_references.specs.Taking.{IsSet, schema_in};
+ghost use Rattle.schema_expressions.specs.Scopes.{IsScope, own_in, variables_in};
 
 use crate::atoms::{add_aggregates, add_call, add_literal, add_sort};
 use crate::references::refer;
@@ -27,9 +28,9 @@ fn add_elements(
     atoms: &mut Vec<Atom>,
 ) -> Result<(), AllocError>
     requires tables { AreTables tables.now }
-    ensures { OnOk result (AddsAll (schema_at tables.now) atoms.old.items
-        (Elements (schema_at tables.now) (IsMeant (schema_at tables.now) atom))
-        atoms.new.items) }
+    ensures { OnOk result (AddsAll (the_schema tables.now.names.now) atoms.old.items
+        (Elements (the_schema tables.now.names.now)
+        (IsMeant (the_schema tables.now.names.now) atom)) atoms.new.items) }
 {
     let Atom::Aggregate(number, _) = atom else {
         return Ok(());
@@ -48,8 +49,9 @@ pub fn elements(
     atoms: &[Atom],
 ) -> Result<Vec<Atom>, AllocError>
     requires tables { AreTables tables.now }
-    ensures { IfOk result (λ t. IsSet (schema_at tables.now)
-        (Elements (schema_at tables.now) (Holds (schema_at tables.now) atoms.now)) t.items) }
+    ensures { IfOk result (λ t. IsSet (the_schema tables.now.names.now)
+        (Elements (the_schema tables.now.names.now)
+        (Holds (the_schema tables.now.names.now) atoms.now)) t.items) }
 {
     let mut elements = Vec::new(alloc);
     for atom in atoms {
@@ -67,8 +69,8 @@ fn add_reference<'a>(
     atoms: &mut Vec<Atom>,
 ) -> Result<(), AllocError>
     requires scope { IsScope scope.now }
-    ensures { OnOk result (AddsAll (schema_around scope.now) atoms.old.items
-        (OfReference (schema_around scope.now) (own_in scope.now) (variables_in scope.now)
+    ensures { OnOk result (AddsAll (schema_in scope.now.known) atoms.old.items
+        (OfReference (schema_in scope.now.known) (own_in scope.now) (variables_in scope.now)
         (root_of root.entry) (qualifiers_of qualifiers.now)) atoms.new.items) }
 {
     let reference = refer(alloc, scope, root, qualifiers)?;
@@ -84,8 +86,8 @@ fn add_possible<'a>(
     atoms: &mut Vec<Atom>,
 ) -> Result<(), AllocError>
     requires scope { IsScope scope.now }
-    ensures { OnOk result (AddsAll (schema_around scope.now) atoms.old.items
-        (May (schema_around scope.now) (own_in scope.now) (variables_in scope.now)
+    ensures { OnOk result (AddsAll (schema_in scope.now.known) atoms.old.items
+        (May (schema_in scope.now.known) (own_in scope.now) (variables_in scope.now)
         (tree_of expression.now)) atoms.new.items) }
 {
     match expression {
@@ -121,7 +123,7 @@ pub fn possible<'a>(
     expression: &Expr<'a>,
 ) -> Result<Vec<Atom>, AllocError>
     requires scope { IsScope scope.now }
-    ensures { IfOk result (λ t. IsSet (schema_around scope.now) (May (schema_around scope.now)
+    ensures { IfOk result (λ t. IsSet (schema_in scope.now.known) (May (schema_in scope.now.known)
         (own_in scope.now) (variables_in scope.now) (tree_of expression.now)) t.items) }
 {
     let mut atoms = Vec::new(alloc);
@@ -136,8 +138,8 @@ fn possible_items<'a>(
     items: &[Expr<'a>],
 ) -> Result<Vec<Atom>, AllocError>
     requires scope { IsScope scope.now }
-    ensures { IfOk result (λ t. IsSet (schema_around scope.now) (OfTrees
-        (schema_around scope.now) (own_in scope.now) (variables_in scope.now)
+    ensures { IfOk result (λ t. IsSet (schema_in scope.now.known) (OfTrees
+        (schema_in scope.now.known) (own_in scope.now) (variables_in scope.now)
         (trees_of items.now)) t.items) }
 {
     let mut atoms = Vec::new(alloc);
@@ -154,8 +156,8 @@ fn elements_of<'a>(
     expression: &Expr<'a>,
 ) -> Result<Vec<Atom>, AllocError>
     requires scope { IsScope scope.now }
-    ensures { IfOk result (λ t. IsSet (schema_around scope.now)
-        (Elements (schema_around scope.now) (May (schema_around scope.now)
+    ensures { IfOk result (λ t. IsSet (schema_in scope.now.known)
+        (Elements (schema_in scope.now.known) (May (schema_in scope.now.known)
         (own_in scope.now) (variables_in scope.now) (tree_of expression.now))) t.items) }
 {
     let atoms = possible(alloc, scope, expression)?;
@@ -169,8 +171,8 @@ pub fn possible_elements<'a>(
     expression: &Expr<'a>,
 ) -> Result<Vec<Atom>, AllocError>
     requires scope { IsScope scope.now }
-    ensures { IfOk result (λ t. IsSet (schema_around scope.now) (ElementsOf
-        (schema_around scope.now) (own_in scope.now) (variables_in scope.now)
+    ensures { IfOk result (λ t. IsSet (schema_in scope.now.known) (ElementsOf
+        (schema_in scope.now.known) (own_in scope.now) (variables_in scope.now)
         (tree_of expression.now)) t.items) }
 {
     match expression {

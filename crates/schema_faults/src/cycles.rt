@@ -6,7 +6,7 @@ ghost use Rattle.express_syntax.specs.declared.fault.NameFault.TheVariants.{
   SupertypeCycle,
   TypeCycle,
 };
-ghost use Rattle.express_syntax.specs.SchemaViews.{schema_of};
+ghost use Rattle.schema_names.specs.Schemas.{the_schema};
 ghost use Rattle.schema_faults.specs.Shown.{IsShown};
 ghost use Rattle.schema_faults.specs.FirstNamed.{IsFirstNamed};
 
@@ -24,7 +24,7 @@ fn first_named<'a>(
 ) -> Result<Option<Word<'a>>, AllocError>
     requires graph { IsGraph (graph_of edges.now) }
     requires same { length edges.now ≡ length names.now.schema.now.declarations.items }
-    ensures { IfOk result (IsFirstNamed (schema_of names.now.schema.now) (graph_of edges.now)) }
+    ensures { IfOk result (IsFirstNamed (the_schema names.now) (graph_of edges.now)) }
 {
     match first_cyclic(alloc, edges)? {
         Some(number) => Ok(names.name(number)),
@@ -42,7 +42,7 @@ pub fn first_own_supertype<'a>(
     alloc: Global,
     names: &Names<'a, '_>,
 ) -> Result<Option<Word<'a>>, AllocError>
-    ensures { IfOk result (IsShown (schema_of names.now.schema.now) SupertypeCycle) }
+    ensures { IfOk result (IsShown (the_schema names.now) SupertypeCycle) }
 {
     let supertypes = supertype_graph(alloc, names)?;
     first_named(alloc, names, &supertypes)
@@ -58,7 +58,7 @@ pub fn first_own_part<'a>(
     alloc: Global,
     names: &Names<'a, '_>,
 ) -> Result<Option<Word<'a>>, AllocError>
-    ensures { IfOk result (IsShown (schema_of names.now.schema.now) TypeCycle) }
+    ensures { IfOk result (IsShown (the_schema names.now) TypeCycle) }
 {
     let parts = part_graph(alloc, names)?;
     first_named(alloc, names, &parts)

@@ -3,8 +3,8 @@
 ghost use Rattle.std.specs.Prelude.{◌≡◌};
 ghost use Rattle.digraph.specs.Graphs.{graph_of};
 ghost use Rattle.express_syntax.specs.Views.{declaration_of as declaration_seen};
-ghost use Rattle.express_syntax.specs.SchemaViews.{schema_of};
 ghost use Rattle.schema_semantics.specs.Faults.{demands_of_declaration, demands};
+ghost use Rattle.schema_names.specs.Schemas.{the_schema};
 ghost use Rattle.schema_faults.specs.Checks.{Checks};
 ghost use Rattle.schema_places.specs.Above.{AreAbove};
 
@@ -20,8 +20,8 @@ fn check_declaration<'a>(
     above: &[Vec<u32>],
     declaration: &Declaration<'a>,
 ) -> Result<(), Word<'a>>
-    requires { AreAbove (schema_of names.now.schema.now) (graph_of above.now) }
-    ensures { Checks (schema_of names.now.schema.now)
+    requires { AreAbove (the_schema names.now) (graph_of above.now) }
+    ensures { Checks (the_schema names.now)
         (demands_of_declaration (declaration_seen declaration.now)) result }
 {
     match declaration {
@@ -37,9 +37,8 @@ fn check_declaration<'a>(
 /// The error is the first name in the text that isn't: one that has to be a type or an entity, an
 /// inherited attribute or an inverted one.
 pub fn check_demands<'a>(names: &Names<'a, '_>, above: &[Vec<u32>]) -> Result<(), Word<'a>>
-    requires { AreAbove (schema_of names.now.schema.now) (graph_of above.now) }
-    ensures { Checks (schema_of names.now.schema.now) (demands (schema_of names.now.schema.now))
-        result }
+    requires { AreAbove (the_schema names.now) (graph_of above.now) }
+    ensures { Checks (the_schema names.now) (demands (the_schema names.now)) result }
 {
     for declaration in names.declarations() {
         check_declaration(names, above, declaration)?;

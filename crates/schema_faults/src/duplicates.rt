@@ -2,7 +2,7 @@
 
 ghost use Rattle.std.specs.Prelude.{IfOk};
 ghost use Rattle.express_syntax.specs.declared.fault.NameFault.TheVariants.{DuplicateName};
-ghost use Rattle.express_syntax.specs.SchemaViews.{schema_of};
+ghost use Rattle.schema_names.specs.Schemas.{the_schema};
 ghost use Rattle.schema_faults.specs.Shown.{IsShown};
 
 use crate::parts::see_all;
@@ -22,7 +22,7 @@ pub fn first_duplicate<'a>(
     keys: RandomState,
     names: &Names<'a, '_>,
 ) -> Result<Option<Word<'a>>, AllocError>
-    ensures { IfOk result (IsShown (schema_of names.now.schema.now) DuplicateName) }
+    ensures { IfOk result (IsShown (the_schema names.now) DuplicateName) }
 {
     let mut seen = Seen {
         names: IndexSet::with_hasher(alloc, keys),

@@ -9,13 +9,13 @@ ghost use Rattle.express_syntax.specs.Views.{
   derived_of,
   entity_of,
 };
-ghost use Rattle.express_syntax.specs.SchemaViews.{schema_of};
 ghost use Rattle.schema_semantics.specs.Faults.{
   demands_of_attribute,
   demands_of_explicit,
   demands_of_derived,
   demands_of_entity,
 };
+ghost use Rattle.schema_names.specs.Schemas.{the_schema};
 ghost use Rattle.schema_faults.specs.Checks.{Checks};
 ghost use Rattle.schema_places.specs.Above.{AreAbove};
 ghost use Rattle.schema_faults.specs.Clauses.{
@@ -40,8 +40,8 @@ fn check_attribute<'a>(
     supertypes: &[Word<'a>],
     attribute: &Attribute<'a>,
 ) -> Result<(), Word<'a>>
-    requires { AreAbove (schema_of names.now.schema.now) (graph_of above.now) }
-    ensures { Checks (schema_of names.now.schema.now)
+    requires { AreAbove (the_schema names.now) (graph_of above.now) }
+    ensures { Checks (the_schema names.now)
         (demands_of_attribute (names_of supertypes.now) (attribute_of attribute.now)) result }
 {
     let Attribute::Redeclared(entity, name) = *attribute else {
@@ -61,8 +61,8 @@ fn check_attributes<'a>(
     supertypes: &[Word<'a>],
     attributes: &[Attribute<'a>],
 ) -> Result<(), Word<'a>>
-    requires { AreAbove (schema_of names.now.schema.now) (graph_of above.now) }
-    ensures { Checks (schema_of names.now.schema.now)
+    requires { AreAbove (the_schema names.now) (graph_of above.now) }
+    ensures { Checks (the_schema names.now)
         (flat_map (demands_of_attribute (names_of supertypes.now))
         (map attribute_of attributes.now)) result }
 {
@@ -79,8 +79,8 @@ fn check_explicit<'a>(
     supertypes: &[Word<'a>],
     explicit: &Explicit<'a>,
 ) -> Result<(), Word<'a>>
-    requires { AreAbove (schema_of names.now.schema.now) (graph_of above.now) }
-    ensures { Checks (schema_of names.now.schema.now)
+    requires { AreAbove (the_schema names.now) (graph_of above.now) }
+    ensures { Checks (the_schema names.now)
         (demands_of_explicit (names_of supertypes.now) (explicit_of explicit.now)) result }
 {
     check_attributes(names, above, supertypes, explicit.attributes.as_slice())?;
@@ -93,8 +93,8 @@ fn check_explicits<'a>(
     supertypes: &[Word<'a>],
     explicits: &[Explicit<'a>],
 ) -> Result<(), Word<'a>>
-    requires { AreAbove (schema_of names.now.schema.now) (graph_of above.now) }
-    ensures { Checks (schema_of names.now.schema.now)
+    requires { AreAbove (the_schema names.now) (graph_of above.now) }
+    ensures { Checks (the_schema names.now)
         (flat_map (demands_of_explicit (names_of supertypes.now))
         (map explicit_of explicits.now)) result }
 {
@@ -111,8 +111,8 @@ fn check_derived<'a>(
     supertypes: &[Word<'a>],
     derived: &Derived<'a>,
 ) -> Result<(), Word<'a>>
-    requires { AreAbove (schema_of names.now.schema.now) (graph_of above.now) }
-    ensures { Checks (schema_of names.now.schema.now)
+    requires { AreAbove (the_schema names.now) (graph_of above.now) }
+    ensures { Checks (the_schema names.now)
         (demands_of_derived (names_of supertypes.now) (derived_of derived.now)) result }
 {
     check_attribute(names, above, supertypes, &derived.attribute)?;
@@ -125,9 +125,8 @@ fn check_deriveds<'a>(
     supertypes: &[Word<'a>],
     deriveds: &[Derived<'a>],
 ) -> Result<(), Word<'a>>
-    requires { AreAbove (schema_of names.now.schema.now) (graph_of above.now) }
-    ensures { Checks (schema_of names.now.schema.now)
-        (flat_map (demands_of_derived (names_of supertypes.now))
+    requires { AreAbove (the_schema names.now) (graph_of above.now) }
+    ensures { Checks (the_schema names.now) (flat_map (demands_of_derived (names_of supertypes.now))
         (map derived_of deriveds.now)) result }
 {
     for derived in deriveds {
@@ -138,8 +137,7 @@ fn check_deriveds<'a>(
 
 /// The names behind SUBTYPE OF (ISO 10303-11, 9.2.3).
 fn check_subtype_clause<'a>(names: &Names<'a, '_>, entity: &Entity<'a>) -> Result<(), Word<'a>>
-    ensures { Checks (schema_of names.now.schema.now)
-        (of_subtype_clause (entity_of entity.now)) result }
+    ensures { Checks (the_schema names.now) (of_subtype_clause (entity_of entity.now)) result }
 {
     check_entities(names, entity.supertypes())
 }
@@ -150,9 +148,8 @@ fn check_explicit_clauses<'a>(
     above: &[Vec<u32>],
     entity: &Entity<'a>,
 ) -> Result<(), Word<'a>>
-    requires { AreAbove (schema_of names.now.schema.now) (graph_of above.now) }
-    ensures { Checks (schema_of names.now.schema.now)
-        (of_explicit_clauses (entity_of entity.now)) result }
+    requires { AreAbove (the_schema names.now) (graph_of above.now) }
+    ensures { Checks (the_schema names.now) (of_explicit_clauses (entity_of entity.now)) result }
 {
     check_explicits(names, above, entity.supertypes(), &entity.explicits)
 }
@@ -163,9 +160,8 @@ fn check_derive_clause<'a>(
     above: &[Vec<u32>],
     entity: &Entity<'a>,
 ) -> Result<(), Word<'a>>
-    requires { AreAbove (schema_of names.now.schema.now) (graph_of above.now) }
-    ensures { Checks (schema_of names.now.schema.now)
-        (of_derive_clause (entity_of entity.now)) result }
+    requires { AreAbove (the_schema names.now) (graph_of above.now) }
+    ensures { Checks (the_schema names.now) (of_derive_clause (entity_of entity.now)) result }
 {
     check_deriveds(
         names,
@@ -181,9 +177,8 @@ fn check_inverse_clause<'a>(
     above: &[Vec<u32>],
     entity: &Entity<'a>,
 ) -> Result<(), Word<'a>>
-    requires { AreAbove (schema_of names.now.schema.now) (graph_of above.now) }
-    ensures { Checks (schema_of names.now.schema.now)
-        (of_inverse_clause (entity_of entity.now)) result }
+    requires { AreAbove (the_schema names.now) (graph_of above.now) }
+    ensures { Checks (the_schema names.now) (of_inverse_clause (entity_of entity.now)) result }
 {
     check_inverses(names, above, entity.inverse_attributes())
 }
@@ -194,9 +189,8 @@ pub(crate) fn check_entity_declaration<'a>(
     above: &[Vec<u32>],
     entity: &Entity<'a>,
 ) -> Result<(), Word<'a>>
-    requires { AreAbove (schema_of names.now.schema.now) (graph_of above.now) }
-    ensures { Checks (schema_of names.now.schema.now) (demands_of_entity (entity_of entity.now))
-        result }
+    requires { AreAbove (the_schema names.now) (graph_of above.now) }
+    ensures { Checks (the_schema names.now) (demands_of_entity (entity_of entity.now)) result }
 {
     check_supertype(names, &entity.supertype)?;
     check_subtype_clause(names, entity)?;

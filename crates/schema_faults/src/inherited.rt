@@ -4,7 +4,7 @@ ghost use Rattle.std.specs.Prelude.{◌≡◌};
 ghost use Rattle.std.specs.List.{list_any};
 ghost use Rattle.digraph.specs.Graphs.{graph_of};
 ghost use Rattle.express_syntax.specs.ExpressionViews.{capitals};
-ghost use Rattle.express_syntax.specs.SchemaViews.{schema_of};
+ghost use Rattle.schema_names.specs.Schemas.{the_schema};
 ghost use Rattle.schema_places.specs.Owned.{declares_at, has_meant};
 
 use schema_names::names::Names;
@@ -13,7 +13,7 @@ use step_literals::literal::Word;
 
 /// Whether one of these entities declares such an attribute.
 fn any_declares(names: &Names<'_, '_>, numbers: &[u32], meant: Meant, name: Word<'_>) -> bool
-    ensures { result ≡ list_any (declares_at (schema_of names.now.schema.now) meant
+    ensures { result ≡ list_any (declares_at (the_schema names.now) meant
         (capitals name.entry)) numbers.now }
 {
     for number in numbers {
@@ -32,7 +32,7 @@ pub(crate) fn has(
     meant: Meant,
     name: Word<'_>,
 ) -> bool
-    ensures { result ≡ has_meant (schema_of names.now.schema.now) (graph_of above.now) meant
+    ensures { result ≡ has_meant (the_schema names.now) (graph_of above.now) meant
         (capitals name.entry) number }
 {
     if declares_at(names, number, meant, name) {

@@ -4,8 +4,8 @@ ghost use Rattle.std.specs.Prelude.{◌∷◌, [], flat_map, map};
 ghost use Rattle.digraph.specs.Graphs.{graph_of};
 ghost use Rattle.express_syntax.specs.ExpressionViews.{capitals};
 ghost use Rattle.express_syntax.specs.Views.{inverse_of};
-ghost use Rattle.express_syntax.specs.SchemaViews.{schema_of};
 ghost use Rattle.schema_semantics.specs.Faults.{inverted};
+ghost use Rattle.schema_names.specs.Schemas.{the_schema};
 ghost use Rattle.schema_faults.specs.Checks.{Checks};
 ghost use Rattle.schema_places.specs.Above.{AreAbove};
 ghost use Rattle.schema_faults.specs.Clauses.{demands_of_inverted, demands_of_own_inverse};
@@ -23,8 +23,8 @@ fn check_inverted<'a>(
     entity: Word<'a>,
     name: Word<'a>,
 ) -> Result<(), Word<'a>>
-    requires { AreAbove (schema_of names.now.schema.now) (graph_of above.now) }
-    ensures { Checks (schema_of names.now.schema.now)
+    requires { AreAbove (the_schema names.now) (graph_of above.now) }
+    ensures { Checks (the_schema names.now)
         (inverted (capitals entity.entry) (capitals name.entry) ∷ []) result }
 {
     if is_inverted(names, above, entity, name) {
@@ -41,9 +41,8 @@ fn check_holder<'a>(
     above: &[Vec<u32>],
     inverse: &Inverse<'a>,
 ) -> Result<(), Word<'a>>
-    requires { AreAbove (schema_of names.now.schema.now) (graph_of above.now) }
-    ensures { Checks (schema_of names.now.schema.now)
-        (demands_of_inverted (inverse_of inverse.now)) result }
+    requires { AreAbove (the_schema names.now) (graph_of above.now) }
+    ensures { Checks (the_schema names.now) (demands_of_inverted (inverse_of inverse.now)) result }
 {
     let Some(holder) = inverse.holder else {
         return check_inverted(names, above, inverse.entity, inverse.inverted);
@@ -58,8 +57,8 @@ fn check_inverse<'a>(
     above: &[Vec<u32>],
     inverse: &Inverse<'a>,
 ) -> Result<(), Word<'a>>
-    requires { AreAbove (schema_of names.now.schema.now) (graph_of above.now) }
-    ensures { Checks (schema_of names.now.schema.now)
+    requires { AreAbove (the_schema names.now) (graph_of above.now) }
+    ensures { Checks (the_schema names.now)
         (demands_of_own_inverse (inverse_of inverse.now)) result }
 {
     let Attribute::Unqualified(_) = inverse.attribute else {
@@ -74,8 +73,8 @@ pub(crate) fn check_inverses<'a>(
     above: &[Vec<u32>],
     inverses: &[Inverse<'a>],
 ) -> Result<(), Word<'a>>
-    requires { AreAbove (schema_of names.now.schema.now) (graph_of above.now) }
-    ensures { Checks (schema_of names.now.schema.now)
+    requires { AreAbove (the_schema names.now) (graph_of above.now) }
+    ensures { Checks (the_schema names.now)
         (flat_map demands_of_own_inverse (map inverse_of inverses.now)) result }
 {
     for inverse in inverses {

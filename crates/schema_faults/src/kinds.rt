@@ -5,7 +5,7 @@ ghost use Rattle.std.specs.List.{list_any};
 ghost use Rattle.digraph.specs.Graphs.{graph_of};
 ghost use Rattle.express_syntax.specs.ExpressionViews.{capitals};
 ghost use Rattle.express_syntax.specs.Views.{names_of};
-ghost use Rattle.express_syntax.specs.SchemaViews.{schema_of};
+ghost use Rattle.schema_names.specs.Schemas.{the_schema};
 ghost use Rattle.schema_faults.specs.Kinds.{is_kind, is_inherited, is_inverted};
 
 use crate::inherited::has;
@@ -16,7 +16,7 @@ use step_literals::literal::Word;
 
 /// Whether a name is a kind of what has a number.
 fn is_kind(names: &Names<'_, '_>, above: &[Vec<u32>], name: Word<'_>, upper: u32) -> bool
-    ensures { result ≡ is_kind (schema_of names.now.schema.now) (graph_of above.now) upper
+    ensures { result ≡ is_kind (the_schema names.now) (graph_of above.now) upper
         (capitals name.entry) }
 {
     match names.find(name) {
@@ -27,7 +27,7 @@ fn is_kind(names: &Names<'_, '_>, above: &[Vec<u32>], name: Word<'_>, upper: u32
 
 /// Whether one of some names is a kind of what has a number.
 fn any_kind(names: &Names<'_, '_>, above: &[Vec<u32>], lowers: &[Word<'_>], upper: u32) -> bool
-    ensures { result ≡ list_any (is_kind (schema_of names.now.schema.now) (graph_of above.now)
+    ensures { result ≡ list_any (is_kind (the_schema names.now) (graph_of above.now)
         upper) (names_of lowers.now) }
 {
     for lower in lowers {
@@ -47,7 +47,7 @@ pub(crate) fn is_inherited(
     entity: Word<'_>,
     name: Word<'_>,
 ) -> bool
-    ensures { result ≡ is_inherited (schema_of names.now.schema.now) (graph_of above.now)
+    ensures { result ≡ is_inherited (the_schema names.now) (graph_of above.now)
         (names_of supertypes.now) (capitals entity.entry) (capitals name.entry) }
 {
     match names.find(entity) {
@@ -66,7 +66,7 @@ pub(crate) fn is_inverted(
     entity: Word<'_>,
     name: Word<'_>,
 ) -> bool
-    ensures { result ≡ is_inverted (schema_of names.now.schema.now) (graph_of above.now)
+    ensures { result ≡ is_inverted (the_schema names.now) (graph_of above.now)
         (capitals entity.entry) (capitals name.entry) }
 {
     match names.find(entity) {

@@ -3,9 +3,9 @@
 ghost use Rattle.std.specs.Prelude.{◌≡◌, ◌∷◌, [], map, MatchBool};
 ghost use Rattle.express_syntax.specs.ExpressionViews.{capitals};
 ghost use Rattle.express_syntax.specs.Views.{names_of, declaration_of as declaration_seen};
-ghost use Rattle.express_syntax.specs.SchemaViews.{schema_of};
 ghost use Rattle.schema_semantics.specs.Names.{IsEntity};
 ghost use Rattle.schema_semantics.specs.Faults.{a_type, an_entity};
+ghost use Rattle.schema_names.specs.Schemas.{the_schema};
 ghost use Rattle.schema_faults.specs.Checks.{Checks, is_entity};
 
 use express_syntax::tree::Declaration;
@@ -14,7 +14,7 @@ use step_literals::literal::Word;
 
 /// Whether a name is that of a defined type or an entity; else the name.
 pub(crate) fn check_type<'a>(names: &Names<'a, '_>, word: Word<'a>) -> Result<(), Word<'a>>
-    ensures { Checks (schema_of names.now.schema.now) (a_type (capitals word.entry) ∷ []) result }
+    ensures { Checks (the_schema names.now) (a_type (capitals word.entry) ∷ []) result }
 {
     match names.find(word) {
         Some(_) => Ok(()),
@@ -31,8 +31,8 @@ fn declares_entity(declaration: &Declaration<'_>) -> bool
 
 /// Whether a name is that of an entity.
 fn is_entity(names: &Names<'_, '_>, word: Word<'_>) -> bool
-    ensures { MatchBool result (IsEntity (schema_of names.now.schema.now) (capitals word.entry))
-        (IsEntity (schema_of names.now.schema.now) (capitals word.entry) → ⊥) }
+    ensures { MatchBool result (IsEntity (the_schema names.now) (capitals word.entry))
+        (IsEntity (the_schema names.now) (capitals word.entry) → ⊥) }
 {
     match names.find(word) {
         Some(number) => declares_entity(names.declaration(number)),
@@ -42,8 +42,7 @@ fn is_entity(names: &Names<'_, '_>, word: Word<'_>) -> bool
 
 /// Whether a name is that of an entity; else the name.
 pub(crate) fn check_entity<'a>(names: &Names<'a, '_>, word: Word<'a>) -> Result<(), Word<'a>>
-    ensures { Checks (schema_of names.now.schema.now) (an_entity (capitals word.entry) ∷ [])
-        result }
+    ensures { Checks (the_schema names.now) (an_entity (capitals word.entry) ∷ []) result }
 {
     if is_entity(names, word) {
         Ok(())
@@ -54,7 +53,7 @@ pub(crate) fn check_entity<'a>(names: &Names<'a, '_>, word: Word<'a>) -> Result<
 
 /// Whether each of some names is that of a defined type or an entity; else the first that isn't.
 pub(crate) fn check_types<'a>(names: &Names<'a, '_>, words: &[Word<'a>]) -> Result<(), Word<'a>>
-    ensures { Checks (schema_of names.now.schema.now) (map a_type (names_of words.now)) result }
+    ensures { Checks (the_schema names.now) (map a_type (names_of words.now)) result }
 {
     for word in words {
         check_type(names, *word)?;
@@ -64,7 +63,7 @@ pub(crate) fn check_types<'a>(names: &Names<'a, '_>, words: &[Word<'a>]) -> Resu
 
 /// Whether each of some names is that of an entity; else the first that isn't.
 pub(crate) fn check_entities<'a>(names: &Names<'a, '_>, words: &[Word<'a>]) -> Result<(), Word<'a>>
-    ensures { Checks (schema_of names.now.schema.now) (map an_entity (names_of words.now)) result }
+    ensures { Checks (the_schema names.now) (map an_entity (names_of words.now)) result }
 {
     for word in words {
         check_entity(names, *word)?;

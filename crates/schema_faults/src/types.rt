@@ -1,12 +1,12 @@
 //! The names in data types.
 
 ghost use Rattle.express_syntax.specs.Views.{data_type_of, underlying_of, supertype_of};
-ghost use Rattle.express_syntax.specs.SchemaViews.{schema_of};
 ghost use Rattle.schema_semantics.specs.Faults.{
   demands_of_data_type,
   demands_of_underlying,
   demands_of_supertype,
 };
+ghost use Rattle.schema_names.specs.Schemas.{the_schema};
 ghost use Rattle.schema_faults.specs.Checks.{Checks};
 
 use crate::names::{check_entities, check_type, check_types};
@@ -19,7 +19,7 @@ pub(crate) fn check_data_type<'a>(
     names: &Names<'a, '_>,
     data_type: &DataType<'a>,
 ) -> Result<(), Word<'a>>
-    ensures { Checks (schema_of names.now.schema.now)
+    ensures { Checks (the_schema names.now)
         (demands_of_data_type (data_type_of data_type.now)) result }
 {
     match data_type {
@@ -38,7 +38,7 @@ pub(crate) fn check_underlying<'a>(
     names: &Names<'a, '_>,
     underlying: &Underlying<'a>,
 ) -> Result<(), Word<'a>>
-    ensures { Checks (schema_of names.now.schema.now)
+    ensures { Checks (the_schema names.now)
         (demands_of_underlying (underlying_of underlying.now)) result }
 {
     match underlying {
@@ -53,7 +53,7 @@ pub(crate) fn check_supertype<'a>(
     names: &Names<'a, '_>,
     supertype: &Supertype<'a>,
 ) -> Result<(), Word<'a>>
-    ensures { Checks (schema_of names.now.schema.now)
+    ensures { Checks (the_schema names.now)
         (demands_of_supertype (supertype_of supertype.now)) result }
 {
     match supertype {

@@ -5,3 +5,4 @@ pub mod Laws
 pub mod Relations
 pub mod Enumerated
 pub mod OwnNames
+pub mod Schemas

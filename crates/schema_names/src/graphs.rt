@@ -10,10 +10,10 @@ ghost use Rattle.express_syntax.specs.Views.{
   declaration_of as declaration_seen,
 };
 ghost use Rattle.express_syntax.specs.Schemas.{data_type as of_data_type};
-ghost use Rattle.express_syntax.specs.SchemaViews.{schema_of};
 ghost use Rattle.schema_names.specs.Numbers.{number_of};
 ghost use Rattle.schema_names.specs.Edges.{IsGraphOf, supertypes_in, parts_in, parts_of};
 ghost use Rattle.schema_names.specs.Relations.{named_in};
+ghost use Rattle.schema_names.specs.Schemas.{the_schema};
 
 use crate::names::Names;
 use express_syntax::tree::{DataType, Declaration, Underlying};
@@ -101,7 +101,7 @@ fn numbers_of<'a>(
     words: &[Word<'a>],
 ) -> Result<Vec<u32>, AllocError>
     ensures { IfOk result (λ row. row.items
-        ≡ filter_map (number_of (schema_of names.now.schema.now)) (names_of words.now)) }
+        ≡ filter_map (number_of (the_schema names.now)) (names_of words.now)) }
 {
     let mut row = Vec::new(alloc);
     for word in words {
@@ -117,7 +117,7 @@ fn graph(
     relation: Relation,
 ) -> Result<Vec<Vec<u32>>, AllocError>
     ensures { IfOk result (λ rows.
-        IsGraphOf (schema_of names.now.schema.now) (named_in relation) (graph_of rows.items)) }
+        IsGraphOf (the_schema names.now) (named_in relation) (graph_of rows.items)) }
 {
     let mut rows = Vec::new(alloc);
     for declaration in names.declarations() {
@@ -132,7 +132,7 @@ fn graph(
 /// It takes time for each name behind SUBTYPE OF once.
 pub fn supertype_graph(alloc: Global, names: &Names<'_, '_>) -> Result<Vec<Vec<u32>>, AllocError>
     ensures { IfOk result (λ rows.
-        IsGraphOf (schema_of names.now.schema.now) supertypes_in (graph_of rows.items)) }
+        IsGraphOf (the_schema names.now) supertypes_in (graph_of rows.items)) }
 {
     graph(alloc, names, Relation::Supertypes)
 }
@@ -143,7 +143,7 @@ pub fn supertype_graph(alloc: Global, names: &Names<'_, '_>) -> Result<Vec<Vec<u
 /// It takes time for each of these names once.
 pub fn part_graph(alloc: Global, names: &Names<'_, '_>) -> Result<Vec<Vec<u32>>, AllocError>
     ensures { IfOk result (λ rows.
-        IsGraphOf (schema_of names.now.schema.now) parts_in (graph_of rows.items)) }
+        IsGraphOf (the_schema names.now) parts_in (graph_of rows.items)) }
 {
     graph(alloc, names, Relation::Parts)
 }

@@ -116,6 +116,8 @@ fn numbers_of<'a>(
 }
 
 impl<'a, 't> Names<'a, 't> {
+    ghost use Rattle.schema_names.specs.Schemas.{the_schema};
+
     /// The names of this schema, hashed by these keys.
     ///
     /// Where it has more than 2^32 - 1 declarations there is no memory for it.
@@ -144,7 +146,7 @@ impl<'a, 't> Names<'a, 't> {
 
     /// The number of what a name stands for; none where no type or entity has it.
     pub fn find(&self, name: Word<'_>) -> Option<u32>
-        ensures { result ≡ number_of (schema_of self.now.schema.now) (capitals name.entry) }
+        ensures { result ≡ number_of (the_schema self.now) (capitals name.entry) }
     {
         self.numbers.get(&name).copied()
     }
@@ -152,7 +154,7 @@ impl<'a, 't> Names<'a, 't> {
     /// The name of what is declared at a number, where that is a type or an entity.
     pub fn name(&self, number: u32) -> Option<Word<'a>>
         requires { number < length self.now.schema.now.declarations.items }
-        ensures { (d : DeclarationTree) → IsAt (schema_of self.now.schema.now) number d
+        ensures { (d : DeclarationTree) → IsAt (the_schema self.now) number d
             → if_some capitals result ≡ declared_name d }
     {
         declared_word(self.declaration(number))
@@ -177,8 +179,7 @@ impl<'a, 't> Names<'a, 't> {
     /// Whether the enumeration that is declared at a number has an item of this name
     /// (ISO 10303-11, 8.4.1). It takes time for the logarithm of how many items it has.
     pub fn has_item(&self, number: u32, name: Word<'_>) -> bool
-        ensures { result ≡ includes (items_at (schema_of self.now.schema.now) number)
-            (capitals name.entry) }
+        ensures { result ≡ includes (items_at (the_schema self.now) number) (capitals name.entry) }
     {
         match self.items.get(number as usize) {
             Some(row) => has_word(row, name),
@@ -193,7 +194,7 @@ impl<'a, 't> Names<'a, 't> {
     /// It takes time for the logarithm of how many it declares.
     pub fn has_own(&self, number: u32, class: Class, name: Word<'_>) -> Option<bool>
         ensures { IfSome result (λ b. b ≡ includes
-            (names_at (schema_of self.now.schema.now) class number) (capitals name.entry)) }
+            (names_at (the_schema self.now) class number) (capitals name.entry)) }
     {
         match class {
             Class::Explicit => has_in(&self.explicits, number, name),

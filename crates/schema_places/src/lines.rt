@@ -5,9 +5,9 @@ ghost use Rattle.std.specs.List.{concat};
 ghost use Rattle.digraph.specs.Graphs.{IsGraph, StaysBelow, next, graph_of};
 ghost use Rattle.digraph.specs.Orders.{IsOrder, Solves};
 ghost use Rattle.digraph.specs.Rounds.{AreMarks};
-ghost use Rattle.express_syntax.specs.SchemaViews.{schema_of};
 ghost use Rattle.schema_semantics.specs.Faults.{IsResolved};
 ghost use Rattle.schema_names.specs.Edges.{IsGraphOf, supertypes_in};
+ghost use Rattle.schema_names.specs.Schemas.{the_schema};
 ghost use Rattle.schema_places.specs.Lines.{line_from, HaveLines};
 
 use digraph::orders::order;
@@ -75,11 +75,9 @@ pub fn lines(
     names: &Names<'_, '_>,
     supertypes: &[Vec<u32>],
 ) -> Result<Vec<Vec<u32>>, AllocError>
-    requires resolved { IsResolved (schema_of names.now.schema.now) }
-    requires graph { IsGraphOf (schema_of names.now.schema.now) supertypes_in
-        (graph_of supertypes.now) }
-    ensures lines { IfOk result (λ rows. HaveLines (schema_of names.now.schema.now)
-        (graph_of rows.items)) }
+    requires resolved { IsResolved (the_schema names.now) }
+    requires graph { IsGraphOf (the_schema names.now) supertypes_in (graph_of supertypes.now) }
+    ensures lines { IfOk result (λ rows. HaveLines (the_schema names.now) (graph_of rows.items)) }
     ensures each { IfOk result (λ rows. length rows.items
         ≡ length names.now.schema.now.declarations.items) }
 {

@@ -4,10 +4,10 @@ ghost use Rattle.std.specs.Prelude.{◌≡◌, ℕ, ◌<◌, length};
 ghost use Rattle.std.specs.List.{find};
 ghost use Rattle.digraph.specs.Graphs.{graph_of};
 ghost use Rattle.express_syntax.specs.ExpressionViews.{capitals};
-ghost use Rattle.express_syntax.specs.SchemaViews.{schema_of};
 ghost use Rattle.schema_semantics.specs.Names.{Name, IsEntity, DeclaresExplicit};
 ghost use Rattle.schema_semantics.specs.Attributes.{IsNearest, IsOrigin};
 ghost use Rattle.schema_names.specs.Numbers.{HasNumber};
+ghost use Rattle.schema_names.specs.Schemas.{the_schema};
 ghost use Rattle.schema_places.specs.Lines.{HaveLines};
 ghost use Rattle.schema_places.specs.Owned.{declares_at};
 ghost use Rattle.schema_places.specs.Origins.{IsNumberOf};
@@ -19,7 +19,7 @@ use step_literals::literal::Word;
 /// The first in a line that declares such an attribute.
 fn nearest(names: &Names<'_, '_>, line: &[u32], meant: Meant, name: Word<'_>) -> Option<u32>
     ensures { result ≡ find
-        (declares_at (schema_of names.now.schema.now) meant (capitals name.entry)) line.now }
+        (declares_at (the_schema names.now) meant (capitals name.entry)) line.now }
 {
     for number in line {
         if declares_at(names, *number, meant, name) {
@@ -40,12 +40,12 @@ pub fn origin(
     entity: u32,
     attribute: Word<'_>,
 ) -> Option<u32>
-    requires lines { HaveLines (schema_of names.now.schema.now) (graph_of lines.now) }
+    requires lines { HaveLines (the_schema names.now) (graph_of lines.now) }
     requires within { entity < length lines.now }
-    ensures { (q : Name) → IsEntity (schema_of names.now.schema.now) q
-        → HasNumber (schema_of names.now.schema.now) q entity
-        → IsNumberOf (schema_of names.now.schema.now)
-        (IsOrigin (schema_of names.now.schema.now) q (capitals attribute.entry)) result }
+    ensures { (q : Name) → IsEntity (the_schema names.now) q
+        → HasNumber (the_schema names.now) q entity
+        → IsNumberOf (the_schema names.now)
+        (IsOrigin (the_schema names.now) q (capitals attribute.entry)) result }
 {
     nearest(names, &lines[entity as usize], Meant::All, attribute)
 }
@@ -61,12 +61,12 @@ pub fn inverted(
     entity: u32,
     attribute: Word<'_>,
 ) -> Option<u32>
-    requires lines { HaveLines (schema_of names.now.schema.now) (graph_of lines.now) }
+    requires lines { HaveLines (the_schema names.now) (graph_of lines.now) }
     requires within { entity < length lines.now }
-    ensures { (q : Name) → IsEntity (schema_of names.now.schema.now) q
-        → HasNumber (schema_of names.now.schema.now) q entity
-        → IsNumberOf (schema_of names.now.schema.now) (IsNearest (schema_of names.now.schema.now)
-        (λ (n : Name). DeclaresExplicit (schema_of names.now.schema.now) n
+    ensures { (q : Name) → IsEntity (the_schema names.now) q
+        → HasNumber (the_schema names.now) q entity
+        → IsNumberOf (the_schema names.now) (IsNearest (the_schema names.now)
+        (λ (n : Name). DeclaresExplicit (the_schema names.now) n
         (capitals attribute.entry)) q) result }
 {
     nearest(names, &lines[entity as usize], Meant::Explicit, attribute)

@@ -7,10 +7,10 @@ ghost use Rattle.express_syntax.specs.Views.{
   entity_of,
   declaration_of as declaration_seen,
 };
-ghost use Rattle.express_syntax.specs.SchemaViews.{schema_of};
 ghost use Rattle.schema_semantics.specs.Names.{own_names, explicit_names, derived_names, inverse_names};
 ghost use Rattle.schema_names.specs.declared.owned.Class.TheVariants.{Explicit, Other};
 ghost use Rattle.schema_names.specs.OwnNames.{names_of_class, names_in as class_names_in, names_at};
+ghost use Rattle.schema_names.specs.Schemas.{the_schema};
 ghost use Rattle.schema_places.specs.Owned.{is_own, includes, declares_at};
 
 use express_syntax::tree::{Attribute, Declaration, Entity};
@@ -103,7 +103,7 @@ fn declares(declaration: &Declaration<'_>, class: Class, name: Word<'_>) -> bool
 
 /// Whether what is declared at a number declares such an attribute: all of them are looked at.
 fn is_among(names: &Names<'_, '_>, number: u32, class: Class, name: Word<'_>) -> bool
-    ensures { result ≡ includes (names_at (schema_of names.now.schema.now) class number)
+    ensures { result ≡ includes (names_at (the_schema names.now) class number)
         (capitals name.entry) }
 {
     match names.at(number) {
@@ -114,7 +114,7 @@ fn is_among(names: &Names<'_, '_>, number: u32, class: Class, name: Word<'_>) ->
 
 /// Whether what is declared at a number declares such an attribute.
 fn has_class(names: &Names<'_, '_>, number: u32, class: Class, name: Word<'_>) -> bool
-    ensures { result ≡ includes (names_at (schema_of names.now.schema.now) class number)
+    ensures { result ≡ includes (names_at (the_schema names.now) class number)
         (capitals name.entry) }
 {
     match names.has_own(number, class, name) {
@@ -126,8 +126,8 @@ fn has_class(names: &Names<'_, '_>, number: u32, class: Class, name: Word<'_>) -
 /// Whether what is declared at a number declares an attribute of this name, of whatever class.
 fn has_any(names: &Names<'_, '_>, number: u32, name: Word<'_>) -> bool
     ensures { result
-        ≡ (includes (names_at (schema_of names.now.schema.now) Explicit number) (capitals name.entry)
-        || includes (names_at (schema_of names.now.schema.now) Other number) (capitals name.entry)) }
+        ≡ (includes (names_at (the_schema names.now) Explicit number) (capitals name.entry)
+        || includes (names_at (the_schema names.now) Other number) (capitals name.entry)) }
 {
     has_class(names, number, Class::Explicit, name) || has_class(names, number, Class::Other, name)
 }
@@ -137,8 +137,7 @@ fn has_any(names: &Names<'_, '_>, number: u32, name: Word<'_>) -> bool
 ///
 /// It takes time for the logarithm of how many it declares, where these are many.
 pub fn declares_at(names: &Names<'_, '_>, number: u32, meant: Meant, name: Word<'_>) -> bool
-    ensures { result
-        ≡ declares_at (schema_of names.now.schema.now) meant (capitals name.entry) number }
+    ensures { result ≡ declares_at (the_schema names.now) meant (capitals name.entry) number }
 {
     match meant {
         Meant::Explicit => has_class(names, number, Class::Explicit, name),

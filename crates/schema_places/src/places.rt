@@ -2,9 +2,9 @@
 
 ghost use Rattle.std.specs.Prelude.{◌≡◌, length, IfOk};
 ghost use Rattle.digraph.specs.Graphs.{graph_of};
-ghost use Rattle.express_syntax.specs.SchemaViews.{schema_of};
 ghost use Rattle.schema_semantics.specs.Faults.{IsResolved};
 ghost use Rattle.schema_names.specs.Edges.{IsGraphOf, supertypes_in};
+ghost use Rattle.schema_names.specs.Schemas.{the_schema};
 ghost use Rattle.schema_places.specs.Places.{places_of, all_places, HavePlaces, AreRows};
 
 use crate::attributes::{ExplicitAttributes, Place, explicit_attributes};
@@ -34,17 +34,15 @@ pub fn attribute_places<'a, 't>(
     names: &Names<'a, 't>,
     supertypes: &[Vec<u32>],
 ) -> Result<AttributePlaces<'a, 't>, AllocError>
-    requires resolved { IsResolved (schema_of names.now.schema.now) }
-    requires graph { IsGraphOf (schema_of names.now.schema.now) supertypes_in
-        (graph_of supertypes.now) }
+    requires resolved { IsResolved (the_schema names.now) }
+    requires graph { IsGraphOf (the_schema names.now) supertypes_in (graph_of supertypes.now) }
     ensures attributes { IfOk result (λ p. places_of p.attributes.items
-        ≡ all_places (schema_of names.now.schema.now)) }
-    ensures rows { IfOk result (λ p. HavePlaces (schema_of names.now.schema.now)
-        (graph_of p.rows.items)) }
+        ≡ all_places (the_schema names.now)) }
+    ensures rows { IfOk result (λ p. HavePlaces (the_schema names.now) (graph_of p.rows.items)) }
     ensures each { IfOk result (λ p. length p.rows.items
         ≡ length names.now.schema.now.declarations.items) }
-    ensures own { IfOk result (λ p. AreRows (all_places (schema_of names.now.schema.now))
-        (schema_of names.now.schema.now).declarations (graph_of p.own.items)) }
+    ensures own { IfOk result (λ p. AreRows (all_places (the_schema names.now))
+        (the_schema names.now).declarations (graph_of p.own.items)) }
 {
     let ExplicitAttributes { places, own } = explicit_attributes(alloc, names.schema)?;
     let order = order(alloc, supertypes)?;

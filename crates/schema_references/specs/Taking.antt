@@ -8,9 +8,10 @@ use Rattle.schema_semantics.specs.Faults.{IsResolved}
 use Rattle.schema_semantics.specs.Shapes.{Atom}
 use Rattle.schema_semantics.specs.Attributes.{Derivation}
 use Rattle.schema_semantics.specs.Sets.{Set, AttributeReference, MayTake, IsUnclear, OfTaken, MayUse}
+use Rattle.schema_names.specs.Schemas.{the_schema}
 use Rattle.schema_places.specs.Above.{AreAbove}
 use Rattle.schema_data_types.specs.declared.values.Atom.{Atom as Numbered}
-use Rattle.schema_data_types.specs.Values.{Holds, AreTables, schema_at}
+use Rattle.schema_data_types.specs.Values.{Holds, AreTables}
 use Rattle.schema_attributes.specs.Derivations.{HoldsDerivation}
 use Rattle.schema_attributes.specs.Declarations.{AreAttributes}
 use Rattle.schema_references.specs.declared.known.Known.{Known}
@@ -18,7 +19,7 @@ use Rattle.schema_references.specs.declared.taken.Taken.{Taken}
 
 -- the schema of which something is known
 abbrev pub schema_in : Known → Schema
-schema_in k = schema_at k.tables
+schema_in k = the_schema k.tables.names.now
 
 -- What is known is true of the schema.
 pub record IsKnown (k : Known) : Type 0 where

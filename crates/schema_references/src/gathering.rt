@@ -4,7 +4,8 @@ ghost use Rattle.std.specs.Prelude.{◌≡◌, filter_map, IfOk, ◌↔◌};
 ghost use Rattle.express_syntax.specs.Schemas.{DataType};
 ghost use Rattle.schema_semantics.specs.Names.{Among};
 ghost use Rattle.schema_semantics.specs.Shapes.{Atom as Member};
-ghost use Rattle.schema_data_types.specs.Values.{Holds, AreTables, schema_at};
+ghost use Rattle.schema_names.specs.Schemas.{the_schema};
+ghost use Rattle.schema_data_types.specs.Values.{Holds, AreTables};
 ghost use Rattle.schema_attributes.specs.declared.declaration.AttributeDeclaration.{
   AttributeDeclaration,
 };
@@ -25,9 +26,9 @@ fn values_of(
 ) -> Result<Vec<Atom>, AllocError>
     requires tables { AreTables tables.now }
     requires typed { (x : AttributeDeclaration) → Among x declarations.now
-        → (k : DataType) × GivesType (schema_at tables.now) k x }
-    ensures { IfOk result (λ v. (a : Member) → Holds (schema_at tables.now) v.items a
-        ↔ IsOfOne (schema_at tables.now) declarations.now a) }
+        → (k : DataType) × GivesType (the_schema tables.now.names.now) k x }
+    ensures { IfOk result (λ v. (a : Member) → Holds (the_schema tables.now.names.now) v.items a
+        ↔ IsOfOne (the_schema tables.now.names.now) declarations.now a) }
 {
     let mut atoms = Vec::new(alloc);
     for declaration in declarations {
@@ -60,8 +61,8 @@ pub(crate) fn gather(
 ) -> Result<Taken, AllocError>
     requires tables { AreTables tables.now }
     requires typed { (x : AttributeDeclaration) → Among x declarations.now
-        → (k : DataType) × GivesType (schema_at tables.now) k x }
-    ensures { IfOk result (λ t. Gathers (schema_at tables.now) declarations.now t
+        → (k : DataType) × GivesType (the_schema tables.now.names.now) k x }
+    ensures { IfOk result (λ t. Gathers (the_schema tables.now.names.now) declarations.now t
         × (t.is_unclear ≡ is_unclear)) }
 {
     let may = values_of(alloc, tables, declarations)?;

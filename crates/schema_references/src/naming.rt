@@ -7,10 +7,10 @@ ghost use Rattle.express_syntax.specs.ExpressionViews.{capitals};
 ghost use Rattle.express_syntax.specs.Schemas.{redeclared};
 ghost use Rattle.express_syntax.specs.Clauses.{name_of};
 ghost use Rattle.express_syntax.specs.Views.{attribute_of};
-ghost use Rattle.express_syntax.specs.SchemaViews.{schema_of};
 ghost use Rattle.schema_semantics.specs.Names.{Name, IsEntity};
 ghost use Rattle.schema_semantics.specs.Parts.{NamesAttribute};
 ghost use Rattle.schema_names.specs.Numbers.{HasNumber};
+ghost use Rattle.schema_names.specs.Schemas.{the_schema};
 ghost use Rattle.schema_places.specs.declared.own.Meant.TheVariants.{Explicit};
 ghost use Rattle.schema_places.specs.Above.{is_or_leads};
 ghost use Rattle.schema_places.specs.Owned.{declares_at};
@@ -168,8 +168,7 @@ fn named(
 
 /// Whether one of some entities doesn't declare an explicit attribute of this name.
 fn any_other(names: &Names<'_, '_>, row: &[u32], name: Word<'_>) -> bool
-    ensures { result ≡ list_any
-        (is_other_at (schema_of names.now.schema.now) (capitals name.entry)) row.now }
+    ensures { result ≡ list_any (is_other_at (the_schema names.now) (capitals name.entry)) row.now }
 {
     for number in row {
         if !declares_at(names, *number, Meant::Explicit, name) {

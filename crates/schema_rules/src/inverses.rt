@@ -9,10 +9,11 @@ ghost use Rattle.schema_semantics.specs.Names.{Name, listed};
 ghost use Rattle.schema_semantics.specs.Faults.{holder_of};
 ghost use Rattle.schema_semantics.specs.Attributes.{IsInverted};
 ghost use Rattle.schema_names.specs.Numbers.{IsAt};
+ghost use Rattle.schema_references.specs.Taking.{schema_in};
 ghost use Rattle.schema_uses.specs.Uses.{HasPlace};
 ghost use Rattle.conformance.specs.Bases.{Domain, IsDomain};
 ghost use Rattle.conformance.specs.Rules.{IsInverseAttribute, InTurn, declared_inverses};
-ghost use Rattle.schema_rules.specs.Sources.{AreSources, schema_at};
+ghost use Rattle.schema_rules.specs.Sources.{AreSources};
 ghost use Rattle.schema_rules.specs.Seen.{inverse_seen, IsNumberedInverse};
 ghost use Rattle.schema_rules.specs.Making.{
   Adds,
@@ -61,9 +62,9 @@ fn holder<'a>(inverse: &Inverse<'a>) -> Word<'a>
 /// The number of the explicit attribute that an inverse attribute inverts.
 fn inverted_place<'a>(sources: &Sources<'a, '_, '_>, inverse: &Inverse<'a>) -> u32
     requires sources { AreSources sources.now }
-    requires known { IsKnownInverse (schema_at sources.now) (inverse_of inverse.now) }
-    ensures { (p : Name) × IsInverted (schema_at sources.now) (inverse_of inverse.now) p
-        × HasPlace (schema_at sources.now) (p, capitals inverse.now.inverted) result }
+    requires known { IsKnownInverse (schema_in sources.now.known) (inverse_of inverse.now) }
+    ensures { (p : Name) × IsInverted (schema_in sources.now.known) (inverse_of inverse.now) p
+        × HasPlace (schema_in sources.now.known) (p, capitals inverse.now.inverted) result }
 {
     let names = sources.known.tables.names;
     let holder = entity_number(names, holder(inverse));
@@ -79,10 +80,10 @@ fn inverse_attribute<'a>(
     inverse: &Inverse<'a>,
 ) -> InverseAttribute<'a>
     requires sources { AreSources sources.now }
-    requires known { IsKnownInverse (schema_at sources.now) (inverse_of inverse.now) }
+    requires known { IsKnownInverse (schema_in sources.now.known) (inverse_of inverse.now) }
     requires name { (inverse_of inverse.now).attribute ≡ own (capitals name) }
-    ensures { (e : EntityTree) → IsAt (schema_at sources.now) entity (entity_tree e)
-        → IsInverse (schema_at sources.now) (e.name, inverse_of inverse.now) result }
+    ensures { (e : EntityTree) → IsAt (schema_in sources.now.known) entity (entity_tree e)
+        → IsInverse (schema_in sources.now.known) (e.name, inverse_of inverse.now) result }
 {
     InverseAttribute {
         entity,
@@ -102,9 +103,10 @@ fn add_inverse<'a>(
     inverse: &Inverse<'a>,
 ) -> Result<(), AllocError>
     requires sources { AreSources sources.now }
-    requires declared { HasInverse (schema_at sources.now) entity (inverse_of inverse.now) }
-    ensures { OnOk result ((e : EntityTree) → IsAt (schema_at sources.now) entity (entity_tree e)
-        → Adds (IsInverse (schema_at sources.now))
+    requires declared { HasInverse (schema_in sources.now.known) entity (inverse_of inverse.now) }
+    ensures { OnOk result ((e : EntityTree)
+        → IsAt (schema_in sources.now.known) entity (entity_tree e)
+        → Adds (IsInverse (schema_in sources.now.known))
         (inverses_of e.name (inverse_of inverse.now ∷ [])) attributes.old.items
         attributes.new.items) }
 {
@@ -123,10 +125,11 @@ fn add_inverses<'a>(
     inverses: &[Inverse<'a>],
 ) -> Result<(), AllocError>
     requires sources { AreSources sources.now }
-    requires declared { (e : EntityTree) × IsAt (schema_at sources.now) entity (entity_tree e)
+    requires declared { (e : EntityTree) × IsAt (schema_in sources.now.known) entity (entity_tree e)
         × (map inverse_of inverses.now ≡ listed e.inverses) }
-    ensures { OnOk result ((e : EntityTree) → IsAt (schema_at sources.now) entity (entity_tree e)
-        → Adds (IsInverse (schema_at sources.now)) (inverses_of e.name
+    ensures { OnOk result ((e : EntityTree)
+        → IsAt (schema_in sources.now.known) entity (entity_tree e)
+        → Adds (IsInverse (schema_in sources.now.known)) (inverses_of e.name
         (map inverse_of inverses.now)) attributes.old.items attributes.new.items) }
 {
     for inverse in inverses {
@@ -143,8 +146,8 @@ fn add_declaration<'a>(
     declaration: &Declaration<'a>,
 ) -> Result<(), AllocError>
     requires sources { AreSources sources.now }
-    requires at { IsAt (schema_at sources.now) number (declaration_of declaration.now) }
-    ensures { OnOk result (Adds (IsInverse (schema_at sources.now))
+    requires at { IsAt (schema_in sources.now.known) number (declaration_of declaration.now) }
+    ensures { OnOk result (Adds (IsInverse (schema_in sources.now.known))
         (of_entity inverses_by (declaration_of declaration.now)) attributes.old.items
         attributes.new.items) }
 {
@@ -164,9 +167,11 @@ fn add_all<'a>(
 ) -> Result<(), AllocError>
     requires sources { AreSources sources.now }
     requires few { length declarations.now < 2 ^ 32 }
-    requires all { map declaration_of declarations.now ≡ (schema_at sources.now).declarations }
-    ensures { OnOk result (Adds (IsInverse (schema_at sources.now))
-        (declared_inverses (schema_at sources.now)) attributes.old.items attributes.new.items) }
+    requires all { map declaration_of declarations.now
+        ≡ (schema_in sources.now.known).declarations }
+    ensures { OnOk result (Adds (IsInverse (schema_in sources.now.known))
+        (declared_inverses (schema_in sources.now.known)) attributes.old.items
+        attributes.new.items) }
 {
     for i in 0..declarations.len() {
         add_declaration(sources, attributes, i as u32, &declarations[i])?;
@@ -184,11 +189,11 @@ pub fn inverse_attributes<'a>(
     sources: &Sources<'a, '_, '_>,
 ) -> Result<Vec<InverseAttribute<'a>>, AllocError>
     requires sources { AreSources sources.now }
-    ensures seen { IfOk result (λ t. (d : Domain) → IsDomain (schema_at sources.now) d
-        → InTurn (IsInverseAttribute (schema_at sources.now) d)
-        (declared_inverses (schema_at sources.now))
-        (map (inverse_seen (schema_at sources.now)) t.items)) }
-    ensures numbered { IfOk result (λ t. Every (IsNumberedInverse (schema_at sources.now))
+    ensures seen { IfOk result (λ t. (d : Domain) → IsDomain (schema_in sources.now.known) d
+        → InTurn (IsInverseAttribute (schema_in sources.now.known) d)
+        (declared_inverses (schema_in sources.now.known))
+        (map (inverse_seen (schema_in sources.now.known)) t.items)) }
+    ensures numbered { IfOk result (λ t. Every (IsNumberedInverse (schema_in sources.now.known))
         t.items) }
 {
     let mut attributes = Vec::new(alloc);

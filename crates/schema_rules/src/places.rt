@@ -4,13 +4,14 @@ ghost use Rattle.std.specs.Prelude.{◌≡◌, IfSome, slice_get};
 ghost use Rattle.std.specs.List.{find};
 ghost use Rattle.digraph.specs.Graphs.{graph_of, next};
 ghost use Rattle.express_syntax.specs.ExpressionViews.{capitals};
-ghost use Rattle.express_syntax.specs.SchemaViews.{schema_of};
 ghost use Rattle.schema_semantics.specs.Names.{Name, IsEntity};
 ghost use Rattle.schema_names.specs.Numbers.{HasNumber};
+ghost use Rattle.schema_names.specs.Schemas.{the_schema};
 ghost use Rattle.schema_places.specs.Places.{places_of};
+ghost use Rattle.schema_references.specs.Taking.{schema_in};
 ghost use Rattle.schema_uses.specs.Speaking.{has_name};
 ghost use Rattle.schema_uses.specs.Uses.{HasPlace};
-ghost use Rattle.schema_rules.specs.Sources.{AreSources, schema_at};
+ghost use Rattle.schema_rules.specs.Sources.{AreSources};
 ghost use Rattle.schema_rules.specs.Making.{IsNumberOf};
 
 use crate::ordered::find_place;
@@ -22,8 +23,8 @@ use step_literals::literal::Word;
 
 /// The number of an entity.
 pub(crate) fn entity_number(names: &Names<'_, '_>, name: Word<'_>) -> u32
-    requires { IsEntity (schema_of names.now.schema.now) (capitals name) }
-    ensures { HasNumber (schema_of names.now.schema.now) (capitals name.entry) result }
+    requires { IsEntity (the_schema names.now) (capitals name) }
+    ensures { HasNumber (the_schema names.now) (capitals name.entry) result }
 {
     names.find(name).unwrap()
 }
@@ -63,7 +64,7 @@ const FEW: usize = 16;
 
 /// The name of what is declared at a number.
 fn entity_name<'a>(names: &Names<'a, '_>, entity: u32) -> Option<Word<'a>>
-    ensures { IfSome result (λ w. (p : Name) → HasNumber (schema_of names.now.schema.now) p entity
+    ensures { IfSome result (λ w. (p : Name) → HasNumber (the_schema names.now) p entity
         → capitals w ≡ p) }
 {
     if entity as usize >= names.len() {
@@ -76,8 +77,8 @@ fn entity_name<'a>(names: &Names<'a, '_>, entity: u32) -> Option<Word<'a>>
 /// nothing.
 fn searched_place(sources: &Sources<'_, '_, '_>, entity: u32, name: Word<'_>) -> Option<u32>
     requires sources { AreSources sources.now }
-    ensures { IfSome result (λ q. (p : Name) → HasNumber (schema_at sources.now) p entity
-        → HasPlace (schema_at sources.now) (p, capitals name.entry) q) }
+    ensures { IfSome result (λ q. (p : Name) → HasNumber (schema_in sources.now.known) p entity
+        → HasPlace (schema_in sources.now.known) (p, capitals name.entry) q) }
 {
     let Some(entity) = entity_name(sources.known.tables.names, entity) else {
         return None;
@@ -89,9 +90,9 @@ fn searched_place(sources: &Sources<'_, '_, '_>, entity: u32, name: Word<'_>) ->
 /// where that has many.
 fn place_among_many(sources: &Sources<'_, '_, '_>, entity: u32, name: Word<'_>) -> Option<u32>
     requires sources { AreSources sources.now }
-    ensures { (p : Name) → IsEntity (schema_at sources.now) p
-        → HasNumber (schema_at sources.now) p entity
-        → IsNumberOf (schema_at sources.now) (p, capitals name.entry) result }
+    ensures { (p : Name) → IsEntity (schema_in sources.now.known) p
+        → HasNumber (schema_in sources.now.known) p entity
+        → IsNumberOf (schema_in sources.now.known) (p, capitals name.entry) result }
 {
     if !declares_at(sources.known.tables.names, entity, Meant::Explicit, name) {
         return None;
@@ -108,9 +109,9 @@ fn place_among_many(sources: &Sources<'_, '_, '_>, entity: u32, name: Word<'_>) 
 /// It takes time for the logarithm of how many attributes there are.
 pub(crate) fn own_place(sources: &Sources<'_, '_, '_>, entity: u32, name: Word<'_>) -> Option<u32>
     requires sources { AreSources sources.now }
-    ensures { (p : Name) → IsEntity (schema_at sources.now) p
-        → HasNumber (schema_at sources.now) p entity
-        → IsNumberOf (schema_at sources.now) (p, capitals name.entry) result }
+    ensures { (p : Name) → IsEntity (schema_in sources.now.known) p
+        → HasNumber (schema_in sources.now.known) p entity
+        → IsNumberOf (schema_in sources.now.known) (p, capitals name.entry) result }
 {
     let row = row_of(sources.own, entity);
     if row.len() > FEW {

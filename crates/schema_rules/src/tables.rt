@@ -3,7 +3,8 @@
 ghost use Rattle.std.specs.Prelude.{IfOk};
 ghost use Rattle.conformance.specs.Bases.{Domain, IsDomain};
 ghost use Rattle.conformance.specs.Rules.{AreRules};
-ghost use Rattle.schema_rules.specs.Sources.{AreSources, schema_at};
+ghost use Rattle.schema_references.specs.Taking.{schema_in};
+ghost use Rattle.schema_rules.specs.Sources.{AreSources};
 ghost use Rattle.schema_rules.specs.Seen.{rules_seen, AreNumbered};
 
 use crate::inverses::{InverseAttribute, inverse_attributes};
@@ -28,9 +29,9 @@ pub fn rule_tables<'a>(
     sources: &Sources<'a, '_, '_>,
 ) -> Result<RuleTables<'a>, AllocError>
     requires sources { AreSources sources.now }
-    ensures rules { IfOk result (λ t. (d : Domain) → IsDomain (schema_at sources.now) d
-        → AreRules (schema_at sources.now) d (rules_seen (schema_at sources.now) t)) }
-    ensures numbered { IfOk result (AreNumbered (schema_at sources.now)) }
+    ensures rules { IfOk result (λ t. (d : Domain) → IsDomain (schema_in sources.now.known) d
+        → AreRules (schema_in sources.now.known) d (rules_seen (schema_in sources.now.known) t)) }
+    ensures numbered { IfOk result (AreNumbered (schema_in sources.now.known)) }
 {
     let uniques = unique_rules(alloc, sources)?;
     let inverses = inverse_attributes(alloc, sources)?;

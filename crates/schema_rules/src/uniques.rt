@@ -18,6 +18,7 @@ ghost use Rattle.express_syntax.specs.Views.{attribute_of, declaration_of, uniqu
 ghost use Rattle.express_syntax.specs.Profile.{Every};
 ghost use Rattle.schema_semantics.specs.Names.{Name, OneOf, IsEntity};
 ghost use Rattle.schema_names.specs.Numbers.{HasNumber, IsAt};
+ghost use Rattle.schema_references.specs.Taking.{schema_in};
 ghost use Rattle.schema_uses.specs.Speaking.{at_most_one};
 ghost use Rattle.conformance.specs.Rules.{
   NamesPlace,
@@ -26,7 +27,7 @@ ghost use Rattle.conformance.specs.Rules.{
   statements,
   statements_from,
 };
-ghost use Rattle.schema_rules.specs.Sources.{AreSources, schema_at};
+ghost use Rattle.schema_rules.specs.Sources.{AreSources};
 ghost use Rattle.schema_rules.specs.Seen.{unique_seen, IsNumberedUnique};
 ghost use Rattle.schema_rules.specs.Making.{
   Adds,
@@ -81,9 +82,9 @@ fn add_declared(
     name: Word<'_>,
 ) -> Result<(), AllocError>
     requires sources { AreSources sources.now }
-    requires entities { AreEntities (schema_at sources.now) entities.now }
-    ensures { OnOk result (AddsPlaces (schema_at sources.now)
-        (IsDeclaredBy (schema_at sources.now) (capitals name.entry) entities.now)
+    requires entities { AreEntities (schema_in sources.now.known) entities.now }
+    ensures { OnOk result (AddsPlaces (schema_in sources.now.known)
+        (IsDeclaredBy (schema_in sources.now.known) (capitals name.entry) entities.now)
         places.old.items places.new.items) }
 {
     for entity in entities {
@@ -102,12 +103,12 @@ fn add_named(
     attribute: Attribute<'_>,
 ) -> Result<(), AllocError>
     requires sources { AreSources sources.now }
-    requires entity { (e : Name) × HasNumber (schema_at sources.now) e entity
-        × IsEntity (schema_at sources.now) e }
-    ensures { (e : Name) → HasNumber (schema_at sources.now) e entity
-        → IsEntity (schema_at sources.now) e
-        → OnOk result (AddsPlaces (schema_at sources.now)
-        (NamesPlace (schema_at sources.now) e (attribute_of attribute.entry))
+    requires entity { (e : Name) × HasNumber (schema_in sources.now.known) e entity
+        × IsEntity (schema_in sources.now.known) e }
+    ensures { (e : Name) → HasNumber (schema_in sources.now.known) e entity
+        → IsEntity (schema_in sources.now.known) e
+        → OnOk result (AddsPlaces (schema_in sources.now.known)
+        (NamesPlace (schema_in sources.now.known) e (attribute_of attribute.entry))
         places.old.items places.new.items) }
 {
     let entities = meant(alloc, &sources.known, entity, attribute)?;
@@ -123,12 +124,12 @@ fn places_of(
     attributes: &[Attribute<'_>],
 ) -> Result<Vec<u32>, AllocError>
     requires sources { AreSources sources.now }
-    requires entity { (e : Name) × HasNumber (schema_at sources.now) e entity
-        × IsEntity (schema_at sources.now) e }
-    ensures { (e : Name) → HasNumber (schema_at sources.now) e entity
-        → IsEntity (schema_at sources.now) e
-        → IfOk result (λ t. ArePlacesOf (schema_at sources.now)
-        (λ p. OneOf (λ x. NamesPlace (schema_at sources.now) e x p)
+    requires entity { (e : Name) × HasNumber (schema_in sources.now.known) e entity
+        × IsEntity (schema_in sources.now.known) e }
+    ensures { (e : Name) → HasNumber (schema_in sources.now.known) e entity
+        → IsEntity (schema_in sources.now.known) e
+        → IfOk result (λ t. ArePlacesOf (schema_in sources.now.known)
+        (λ p. OneOf (λ x. NamesPlace (schema_in sources.now.known) e x p)
         (map attribute_of attributes.now)) t.items) }
 {
     let mut places = Vec::new(alloc);
@@ -155,9 +156,9 @@ fn unique_rule<'a>(
     unique: &Unique<'a>,
 ) -> Result<UniqueRule<'a>, AllocError>
     requires sources { AreSources sources.now }
-    requires entity { (e : EntityTree) × IsAt (schema_at sources.now) entity (entity_tree e) }
-    ensures { (e : EntityTree) → IsAt (schema_at sources.now) entity (entity_tree e)
-        → IfOk result (IsUnique (schema_at sources.now)
+    requires entity { (e : EntityTree) × IsAt (schema_in sources.now.known) entity (entity_tree e) }
+    ensures { (e : EntityTree) → IsAt (schema_in sources.now.known) entity (entity_tree e)
+        → IfOk result (IsUnique (schema_in sources.now.known)
         (statement_of e.name number (unique_of unique.now))) }
 {
     let naming = naming_of_all(alloc, &sources.known, entity, &unique.attributes)?;
@@ -179,9 +180,10 @@ fn add_uniques<'a>(
     uniques: &[Unique<'a>],
 ) -> Result<(), AllocError>
     requires sources { AreSources sources.now }
-    requires entity { (e : EntityTree) × IsAt (schema_at sources.now) entity (entity_tree e) }
-    ensures { OnOk result ((e : EntityTree) → IsAt (schema_at sources.now) entity (entity_tree e)
-        → Adds (IsUnique (schema_at sources.now))
+    requires entity { (e : EntityTree) × IsAt (schema_in sources.now.known) entity (entity_tree e) }
+    ensures { OnOk result ((e : EntityTree)
+        → IsAt (schema_in sources.now.known) entity (entity_tree e)
+        → Adds (IsUnique (schema_in sources.now.known))
         (statements_from e.name 1 (map unique_of uniques.now)) rules.old.items rules.new.items) }
 {
     for i in 0..uniques.len() {
@@ -200,8 +202,8 @@ fn add_declaration<'a>(
     declaration: &Declaration<'a>,
 ) -> Result<(), AllocError>
     requires sources { AreSources sources.now }
-    requires at { IsAt (schema_at sources.now) number (declaration_of declaration.now) }
-    ensures { OnOk result (Adds (IsUnique (schema_at sources.now))
+    requires at { IsAt (schema_in sources.now.known) number (declaration_of declaration.now) }
+    ensures { OnOk result (Adds (IsUnique (schema_in sources.now.known))
         (of_entity uniques_by (declaration_of declaration.now)) rules.old.items
         rules.new.items) }
 {
@@ -222,9 +224,10 @@ fn add_all<'a>(
 ) -> Result<(), AllocError>
     requires sources { AreSources sources.now }
     requires few { length declarations.now < 2 ^ 32 }
-    requires all { map declaration_of declarations.now ≡ (schema_at sources.now).declarations }
-    ensures { OnOk result (Adds (IsUnique (schema_at sources.now))
-        (statements (schema_at sources.now)) rules.old.items rules.new.items) }
+    requires all { map declaration_of declarations.now
+        ≡ (schema_in sources.now.known).declarations }
+    ensures { OnOk result (Adds (IsUnique (schema_in sources.now.known))
+        (statements (schema_in sources.now.known)) rules.old.items rules.new.items) }
 {
     for i in 0..declarations.len() {
         add_declaration(alloc, sources, rules, i as u32, &declarations[i])?;
@@ -242,10 +245,10 @@ pub fn unique_rules<'a>(
     sources: &Sources<'a, '_, '_>,
 ) -> Result<Vec<UniqueRule<'a>>, AllocError>
     requires sources { AreSources sources.now }
-    ensures seen { IfOk result (λ t. InTurn (IsUniqueRule (schema_at sources.now))
-        (statements (schema_at sources.now))
-        (map (unique_seen (schema_at sources.now)) t.items)) }
-    ensures numbered { IfOk result (λ t. Every (IsNumberedUnique (schema_at sources.now))
+    ensures seen { IfOk result (λ t. InTurn (IsUniqueRule (schema_in sources.now.known))
+        (statements (schema_in sources.now.known))
+        (map (unique_seen (schema_in sources.now.known)) t.items)) }
+    ensures numbered { IfOk result (λ t. Every (IsNumberedUnique (schema_in sources.now.known))
         t.items) }
 {
     let mut rules = Vec::new(alloc);

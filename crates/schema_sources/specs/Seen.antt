@@ -1,14 +1,12 @@
 -- What an answer says, with names in place of numbers.
 use Rattle.std.specs.Prelude.{ℕ, ◌<◌, List, length, Option, None, Some, map, slice_get}
 use Rattle.express_syntax.specs.Schemas.{Schema, Derived}
-use Rattle.express_syntax.specs.SchemaViews.{schema_of}
 use Rattle.express_syntax.specs.Profile.{Every}
 use Rattle.schema_semantics.specs.Names.{Name}
 use Rattle.schema_semantics.specs.Attributes as attributes
 use Rattle.schema_semantics.specs.Attributes.{IsDerivation}
 use Rattle.schema_names.specs.Numbers.{HasNumber}
 use Rattle.schema_places.specs.Places.{all_places}
-use Rattle.schema_types.specs.declared.types.ResolvedTypes.{ResolvedTypes}
 use Rattle.schema_bases.specs.Seen.{name_at}
 use Rattle.conformance.specs.Rules.{InverseAttribute}
 use Rattle.schema_rules.specs.Seen.{place_at, inverse_seen}
@@ -17,10 +15,6 @@ use Rattle.conformance.specs.Attributes as meanings
 use Rattle.schema_sources.specs.declared.source.Derivation.{Derivation}
 use Rattle.schema_sources.specs.declared.source.Source.{Source}
 use Rattle.schema_sources.specs.declared.source.Source.TheVariants as sources
-
--- the schema of which it is asked
-abbrev pub schema_in : ResolvedTypes → Schema
-schema_in t = schema_of t.names.schema.now
 
 -- the types of an instance
 abbrev pub types_seen : Schema → List ℕ → List Name

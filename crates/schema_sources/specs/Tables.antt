@@ -3,12 +3,12 @@ use Rattle.std.specs.Prelude.{◌≡◌, ℕ, List, length, Option, None}
 use Rattle.digraph.specs.Graphs.{graph_of}
 use Rattle.express_syntax.specs.Schemas.{Schema}
 use Rattle.schema_semantics.specs.Names.{Name}
+use Rattle.schema_names.specs.Schemas.{the_schema}
 use Rattle.schema_places.specs.Lines.{HaveLines}
 use Rattle.schema_types.specs.declared.types.ResolvedTypes.{ResolvedTypes}
 use Rattle.schema_types.specs.Made.{IsMade}
 use Rattle.schema_rules.specs.declared.inverses.InverseAttribute.{InverseAttribute as InverseRow}
 use Rattle.schema_sources.specs.declared.sources.AttributeSources.{AttributeSources}
-use Rattle.schema_sources.specs.Seen.{schema_in}
 use Rattle.schema_sources.specs.Deriving.{derives}
 use Rattle.schema_sources.specs.Lowest.{leads, lowest_from}
 use Rattle.schema_sources.specs.Stored.{AreInverses}
@@ -21,11 +21,11 @@ pub record AreSources (s : Schema) (t : AttributeSources) : Type 0 where
 -- The types are those of a schema whose names are resolved, and so are the tables and the inverse attributes.
 pub record IsKnown (types : ResolvedTypes) (t : AttributeSources) (rows : List InverseRow) : Type 0 where
   pub made : IsMade types
-  pub sources : AreSources (schema_in types) t
-  pub inverses : AreInverses (schema_in types) rows
+  pub sources : AreSources (the_schema types.names) t
+  pub inverses : AreInverses (the_schema types.names) rows
 
 -- this is found to be the lowest of some types that give the attribute a of the entity of the number p its value
 abbrev pub IsLowestFound : ResolvedTypes → AttributeSources → Name → ℕ → List ℕ → Option ℕ → Type 0
 IsLowestFound types t a p numbers o =
-    lowest_from (derives (schema_in types) (graph_of t.lines.items) a p) (leads (graph_of types.above.items)) None
-    numbers ≡ o
+    lowest_from (derives (the_schema types.names) (graph_of t.lines.items) a p) (leads (graph_of types.above.items))
+    None numbers ≡ o

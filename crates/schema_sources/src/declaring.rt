@@ -3,7 +3,7 @@
 ghost use Rattle.std.specs.Prelude.{◌≡◌};
 ghost use Rattle.std.specs.List.{find, list_any};
 ghost use Rattle.express_syntax.specs.ExpressionViews.{capitals};
-ghost use Rattle.express_syntax.specs.SchemaViews.{schema_of};
+ghost use Rattle.schema_names.specs.Schemas.{the_schema};
 ghost use Rattle.schema_places.specs.declared.own.Meant.TheVariants.{All};
 ghost use Rattle.schema_places.specs.Owned.{declares_at};
 ghost use Rattle.schema_sources.specs.Declaring.{declares_beside, AreDeclaring};
@@ -23,7 +23,7 @@ pub(crate) enum Declarer {
 
 /// The first of these entities that declares an attribute of this name.
 pub(crate) fn first_declaring(names: &Names<'_, '_>, numbers: &[u32], name: Word<'_>) -> Option<u32>
-    ensures { result ≡ find (declares_at (schema_of names.now.schema.now) All (capitals name.entry))
+    ensures { result ≡ find (declares_at (the_schema names.now) All (capitals name.entry))
         numbers.now }
 {
     for number in numbers {
@@ -36,8 +36,7 @@ pub(crate) fn first_declaring(names: &Names<'_, '_>, numbers: &[u32], name: Word
 
 /// Whether an entity is another than this one, and declares an attribute of this name.
 fn declares_beside(names: &Names<'_, '_>, first: u32, number: u32, name: Word<'_>) -> bool
-    ensures { result
-        ≡ declares_beside (schema_of names.now.schema.now) (capitals name.entry) first number }
+    ensures { result ≡ declares_beside (the_schema names.now) (capitals name.entry) first number }
 {
     if number == first {
         return false;
@@ -48,7 +47,7 @@ fn declares_beside(names: &Names<'_, '_>, first: u32, number: u32, name: Word<'_
 /// Whether one of these entities is another than this one, and declares an attribute of this name.
 fn another_declares(names: &Names<'_, '_>, first: u32, numbers: &[u32], name: Word<'_>) -> bool
     ensures { result
-        ≡ list_any (declares_beside (schema_of names.now.schema.now) (capitals name.entry) first)
+        ≡ list_any (declares_beside (the_schema names.now) (capitals name.entry) first)
         numbers.now }
 {
     for number in numbers {
@@ -62,7 +61,7 @@ fn another_declares(names: &Names<'_, '_>, first: u32, numbers: &[u32], name: Wo
 /// Which of these entities declares an attribute of this name; an entity may stand among them
 /// several times.
 pub(crate) fn declaring(names: &Names<'_, '_>, numbers: &[u32], name: Word<'_>) -> Declarer
-    ensures { AreDeclaring (declares_at (schema_of names.now.schema.now) All (capitals name.entry))
+    ensures { AreDeclaring (declares_at (the_schema names.now) All (capitals name.entry))
         numbers.now result }
 {
     let Some(first) = first_declaring(names, numbers, name) else {

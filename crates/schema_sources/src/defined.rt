@@ -10,10 +10,10 @@ ghost use Rattle.express_syntax.specs.Views.{
   if_some,
   declaration_of as declaration_seen,
 };
-ghost use Rattle.express_syntax.specs.SchemaViews.{schema_of};
 ghost use Rattle.schema_semantics.specs.Faults.{IsResolved};
 ghost use Rattle.schema_semantics.specs.Names.{Name, IsOrLeads, Renames};
 ghost use Rattle.schema_names.specs.Numbers.{HasNumber};
+ghost use Rattle.schema_names.specs.Schemas.{the_schema};
 ghost use Rattle.schema_sources.specs.Defined.{name_behind, name_of, renamed_in, renamed_at};
 
 use express_syntax::tree::{DataType, Declaration, Underlying};
@@ -57,7 +57,7 @@ fn renamed_in<'a>(declaration: &Declaration<'a>) -> Option<Word<'a>>
 /// 8.3.2).
 pub fn renamed(names: &Names<'_, '_>, number: u32) -> Option<u32>
     requires { number < length names.now.schema.now.declarations.items }
-    ensures { result ≡ renamed_at (schema_of names.now.schema.now) number }
+    ensures { result ≡ renamed_at (the_schema names.now) number }
 {
     match renamed_in(names.declaration(number)) {
         Some(name) => names.find(name),
@@ -70,11 +70,11 @@ pub fn renamed(names: &Names<'_, '_>, number: u32) -> Option<u32>
 ///
 /// It takes time for each of these names.
 pub fn is_defined_by(names: &Names<'_, '_>, number: u32, other: u32) -> bool
-    requires resolved { IsResolved (schema_of names.now.schema.now) }
+    requires resolved { IsResolved (the_schema names.now) }
     requires within { number < length names.now.schema.now.declarations.items }
-    ensures { (m n : Name) → HasNumber (schema_of names.now.schema.now) m number
-        → HasNumber (schema_of names.now.schema.now) n other
-        → IsTrue result ↔ IsOrLeads (Renames (schema_of names.now.schema.now)) (named m) (named n) }
+    ensures { (m n : Name) → HasNumber (the_schema names.now) m number
+        → HasNumber (the_schema names.now) n other
+        → IsTrue result ↔ IsOrLeads (Renames (the_schema names.now)) (named m) (named n) }
 {
     let mut at = number;
     for _step in 0..names.len() {

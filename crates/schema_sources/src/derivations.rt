@@ -8,8 +8,8 @@ ghost use Rattle.express_syntax.specs.Views.{
   derived_of,
   declaration_of as declaration_seen,
 };
-ghost use Rattle.express_syntax.specs.SchemaViews.{schema_of};
 ghost use Rattle.schema_names.specs.Numbers.{number_of};
+ghost use Rattle.schema_names.specs.Schemas.{the_schema};
 ghost use Rattle.schema_sources.specs.Deriving.{
   is_entity,
   line_in,
@@ -56,8 +56,8 @@ fn is_entity(declaration: &Declaration<'_>) -> bool
 
 /// The line of the entity of this name; an empty one where there is none.
 fn line_of<'r>(names: &Names<'_, '_>, lines: &'r [Vec<u32>], entity: Word<'_>) -> &'r [u32]
-    ensures { result.now ≡ line_in (schema_of names.now.schema.now) (graph_of lines.now)
-        (number_of (schema_of names.now.schema.now) (capitals entity.entry)) }
+    ensures { result.now ≡ line_in (the_schema names.now) (graph_of lines.now)
+        (number_of (the_schema names.now) (capitals entity.entry)) }
 {
     let Some(number) = names.find(entity) else {
         return &[];
@@ -80,7 +80,7 @@ fn is_number(found: Option<u32>, number: u32) -> bool
 
 /// Whether `SELF\entity.name` means the attribute that is asked for (ISO 10303-11, 9.2.3.4).
 fn is_origin(names: &Names<'_, '_>, lines: &[Vec<u32>], entity: Word<'_>, asked: Asked<'_>) -> bool
-    ensures { result ≡ is_origin (schema_of names.now.schema.now) (graph_of lines.now)
+    ensures { result ≡ is_origin (the_schema names.now) (graph_of lines.now)
         (capitals asked.entry.name) asked.entry.entity (capitals entity.entry) }
 {
     let line = line_of(names, lines, entity);
@@ -96,7 +96,7 @@ fn gives(
     attribute: Attribute<'_>,
     asked: Asked<'_>,
 ) -> bool
-    ensures { result ≡ gives (schema_of names.now.schema.now) (graph_of lines.now)
+    ensures { result ≡ gives (the_schema names.now) (graph_of lines.now)
         (capitals asked.entry.name) asked.entry.entity entity (attribute_of attribute.entry) }
 {
     match attribute {
@@ -126,7 +126,7 @@ fn first_behind<'a>(
     declaration: &Declaration<'a>,
     asked: Asked<'_>,
 ) -> Option<usize>
-    ensures { result ≡ first_behind (schema_of names.now.schema.now) (graph_of lines.now)
+    ensures { result ≡ first_behind (the_schema names.now) (graph_of lines.now)
         (capitals asked.entry.name) asked.entry.entity entity
         (deriveds_in (declaration_seen declaration.now)) }
 {
@@ -147,7 +147,7 @@ pub(crate) fn first_giving(
     entity: u32,
     asked: Asked<'_>,
 ) -> Option<usize>
-    ensures { result ≡ first_giving (schema_of names.now.schema.now) (graph_of lines.now)
+    ensures { result ≡ first_giving (the_schema names.now) (graph_of lines.now)
         (capitals asked.entry.name) asked.entry.entity entity }
 {
     match names.at(entity) {
@@ -163,7 +163,7 @@ pub(crate) fn derives(
     entity: u32,
     asked: Asked<'_>,
 ) -> bool
-    ensures { result ≡ derives (schema_of names.now.schema.now) (graph_of lines.now)
+    ensures { result ≡ derives (the_schema names.now) (graph_of lines.now)
         (capitals asked.entry.name) asked.entry.entity entity }
 {
     first_giving(names, lines, entity, asked).is_some()

@@ -8,7 +8,8 @@ ghost use Rattle.conformance.specs.Attributes.{
   IsFormula,
   AreAttributes,
 };
-ghost use Rattle.schema_sources.specs.Seen.{schema_in, inverses_seen};
+ghost use Rattle.schema_names.specs.Schemas.{the_schema};
+ghost use Rattle.schema_sources.specs.Seen.{inverses_seen};
 ghost use Rattle.schema_sources.specs.Tables.{IsKnown};
 
 use crate::sources::AttributeSources;
@@ -24,7 +25,7 @@ pub fn attributes_are_said(
 )
     requires known { IsKnown schema.now sources.now inverses.now }
     ensures { (formula : Derivation → Option Formula)
-        → ((e : Derivation) → IsFormula (schema_in schema.now) e (formula e))
-        → (attributes : Attributes) × AreAttributes (schema_in schema.now)
-        (inverses_seen (schema_in schema.now) inverses.now) attributes }
+        → ((e : Derivation) → IsFormula (the_schema schema.now.names) e (formula e))
+        → (attributes : Attributes) × AreAttributes (the_schema schema.now.names)
+        (inverses_seen (the_schema schema.now.names) inverses.now) attributes }
 {}

@@ -3,11 +3,11 @@
 ghost use Rattle.std.specs.Prelude.{◌≡◌};
 ghost use Rattle.digraph.specs.Graphs.{has};
 ghost use Rattle.express_syntax.specs.ExpressionViews.{capitals};
-ghost use Rattle.express_syntax.specs.SchemaViews.{schema_of};
 ghost use Rattle.schema_types.specs.Made.{IsMade};
 ghost use Rattle.schema_names.specs.Numbers.{HasNumber};
+ghost use Rattle.schema_names.specs.Schemas.{the_schema};
 ghost use Rattle.schema_semantics.specs.Names.{Name, Declares};
-ghost use Rattle.schema_sources.specs.Seen.{schema_in, AreTypes};
+ghost use Rattle.schema_sources.specs.Seen.{AreTypes};
 ghost use Rattle.schema_sources.specs.Grouping.{IsInherited, IsMember};
 
 use crate::declaring::{Declarer, declaring};
@@ -32,10 +32,10 @@ fn inherited(
     name: Word<'_>,
 ) -> Option<u32>
     requires made { IsMade schema.now }
-    requires types { AreTypes (schema_in schema.now) types.now }
-    ensures { (e : Name) → HasNumber (schema_in schema.now) e entity
-        → (Declares (schema_in schema.now) e (capitals name.entry) → ⊥)
-        → IsInherited (schema_in schema.now) types.now e (capitals name.entry) result }
+    requires types { AreTypes (the_schema schema.now.names) types.now }
+    ensures { (e : Name) → HasNumber (the_schema schema.now.names) e entity
+        → (Declares (the_schema schema.now.names) e (capitals name.entry) → ⊥)
+        → IsInherited (the_schema schema.now.names) types.now e (capitals name.entry) result }
 {
     let row = row_of(&schema.above, entity);
     let Declarer::One(declaring) = declaring(&schema.names, row, name) else {
@@ -56,8 +56,8 @@ pub(crate) fn group_member(
     name: Word<'_>,
 ) -> Option<u32>
     requires made { IsMade schema.now }
-    requires types { AreTypes (schema_in schema.now) types.now }
-    ensures { IsMember (schema_in schema.now) types.now (capitals entity.entry)
+    requires types { AreTypes (the_schema schema.now.names) types.now }
+    ensures { IsMember (the_schema schema.now.names) types.now (capitals entity.entry)
         (capitals name.entry) result }
 {
     let Some(entity) = schema.names.find(entity) else {

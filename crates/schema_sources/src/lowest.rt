@@ -5,7 +5,7 @@ ghost use Rattle.std.specs.Prelude.{◌≡◌, ℕ, None};
 ghost use Rattle.std.specs.List.{list_all};
 ghost use Rattle.digraph.specs.Graphs.{graph_of};
 ghost use Rattle.express_syntax.specs.ExpressionViews.{capitals};
-ghost use Rattle.schema_sources.specs.Seen.{schema_in};
+ghost use Rattle.schema_names.specs.Schemas.{the_schema};
 ghost use Rattle.schema_sources.specs.Deriving.{derives};
 ghost use Rattle.schema_sources.specs.Lowest.{leads, lower, with_type, lowest_from, is_below};
 
@@ -34,7 +34,7 @@ fn with_type(
     lowest: Option<u32>,
     number: u32,
 ) -> Option<u32>
-    ensures { result ≡ with_type (derives (schema_in schema.now) (graph_of lines.now)
+    ensures { result ≡ with_type (derives (the_schema schema.now.names) (graph_of lines.now)
         (capitals asked.entry.name) asked.entry.entity) (leads (graph_of schema.now.above.items))
         lowest number }
 {
@@ -52,7 +52,7 @@ pub(crate) fn lowest(
     asked: Asked<'_>,
     types: &[u32],
 ) -> Option<u32>
-    ensures { result ≡ lowest_from (derives (schema_in schema.now) (graph_of lines.now)
+    ensures { result ≡ lowest_from (derives (the_schema schema.now.names) (graph_of lines.now)
         (capitals asked.entry.name) asked.entry.entity) (leads (graph_of schema.now.above.items))
         None types.now }
 {
@@ -71,7 +71,7 @@ fn is_below(
     entity: u32,
     number: u32,
 ) -> bool
-    ensures { result ≡ is_below (derives (schema_in schema.now) (graph_of lines.now)
+    ensures { result ≡ is_below (derives (the_schema schema.now.names) (graph_of lines.now)
         (capitals asked.entry.name) asked.entry.entity) (leads (graph_of schema.now.above.items))
         entity number }
 {
@@ -89,7 +89,8 @@ pub(crate) fn is_below_all(
     entity: u32,
     types: &[u32],
 ) -> bool
-    ensures { result ≡ list_all (is_below (derives (schema_in schema.now) (graph_of lines.now)
+    ensures { result ≡ list_all (is_below
+        (derives (the_schema schema.now.names) (graph_of lines.now)
         (capitals asked.entry.name) asked.entry.entity) (leads (graph_of schema.now.above.items))
         entity) types.now }
 {

@@ -5,6 +5,7 @@ ghost use Rattle.std.specs.Option.{option_map};
 ghost use Rattle.express_syntax.specs.ExpressionViews.{capitals};
 ghost use Rattle.schema_types.specs.Made.{IsMade};
 ghost use Rattle.schema_names.specs.Numbers.{HasNumber};
+ghost use Rattle.schema_names.specs.Schemas.{the_schema};
 ghost use Rattle.schema_bases.specs.Seen.{name_at};
 ghost use Rattle.conformance.specs.Rules.{InverseAttribute as InverseTree};
 ghost use Rattle.conformance.specs.Attributes.{
@@ -16,7 +17,6 @@ ghost use Rattle.conformance.specs.Attributes.{
   IsInGroup,
 };
 ghost use Rattle.schema_sources.specs.Seen.{
-  schema_in,
   types_seen,
   AreTypes,
   inverses_seen,
@@ -61,18 +61,18 @@ fn derived_source(
     types: &[u32],
 ) -> Source
     requires made { IsMade schema.now }
-    requires sources { AreSources (schema_in schema.now) sources.now }
-    requires types { AreTypes (schema_in schema.now) types.now }
-    requires asked { HasNumber (schema_in schema.now) (name_at (schema_in schema.now) asked.entity)
-        asked.entity }
+    requires sources { AreSources (the_schema schema.now.names) sources.now }
+    requires types { AreTypes (the_schema schema.now.names) types.now }
+    requires asked { HasNumber (the_schema schema.now.names)
+        (name_at (the_schema schema.now.names) asked.entity) asked.entity }
     requires lowest { IsLowestFound schema.now sources.now (capitals asked.name) asked.entity
         types.now (Some lowest) }
-    ensures source { (inverses : List InverseTree) → IsSource (schema_in schema.now) inverses
-        (types_seen (schema_in schema.now) types.now)
-        (name_at (schema_in schema.now) asked.entry.entity) (capitals asked.entry.name)
-        (source_seen (schema_in schema.now) inverses result) }
+    ensures source { (inverses : List InverseTree) → IsSource (the_schema schema.now.names) inverses
+        (types_seen (the_schema schema.now.names) types.now)
+        (name_at (the_schema schema.now.names) asked.entry.entity) (capitals asked.entry.name)
+        (source_seen (the_schema schema.now.names) inverses result) }
     ensures numbered { (inverses : List InverseTree)
-        → IsNumbered (schema_in schema.now) inverses result }
+        → IsNumbered (the_schema schema.now.names) inverses result }
 {
     if !is_below_all(schema, &sources.lines, asked, lowest, types) {
         return Source::Unclear;
@@ -96,20 +96,20 @@ fn source_of(
     types: &[u32],
 ) -> Source
     requires known { IsKnown schema.now sources.now inverses.now }
-    requires types { AreTypes (schema_in schema.now) types.now }
-    requires asked { HasNumber (schema_in schema.now) (name_at (schema_in schema.now) asked.entity)
-        asked.entity }
-    requires declaring { IsDeclaring (schema_in schema.now)
-        (types_seen (schema_in schema.now) types.now) (capitals asked.name)
-        (name_at (schema_in schema.now) asked.entity) }
-    ensures source { IsSource (schema_in schema.now)
-        (inverses_seen (schema_in schema.now) inverses.now)
-        (types_seen (schema_in schema.now) types.now)
-        (name_at (schema_in schema.now) asked.entry.entity) (capitals asked.entry.name)
-        (source_seen (schema_in schema.now) (inverses_seen (schema_in schema.now) inverses.now)
-        result) }
-    ensures numbered { IsNumbered (schema_in schema.now)
-        (inverses_seen (schema_in schema.now) inverses.now) result }
+    requires types { AreTypes (the_schema schema.now.names) types.now }
+    requires asked { HasNumber (the_schema schema.now.names)
+        (name_at (the_schema schema.now.names) asked.entity) asked.entity }
+    requires declaring { IsDeclaring (the_schema schema.now.names)
+        (types_seen (the_schema schema.now.names) types.now) (capitals asked.name)
+        (name_at (the_schema schema.now.names) asked.entity) }
+    ensures source { IsSource (the_schema schema.now.names)
+        (inverses_seen (the_schema schema.now.names) inverses.now)
+        (types_seen (the_schema schema.now.names) types.now)
+        (name_at (the_schema schema.now.names) asked.entry.entity) (capitals asked.entry.name)
+        (source_seen (the_schema schema.now.names)
+        (inverses_seen (the_schema schema.now.names) inverses.now) result) }
+    ensures numbered { IsNumbered (the_schema schema.now.names)
+        (inverses_seen (the_schema schema.now.names) inverses.now) result }
 {
     match lowest(schema, &sources.lines, asked, types) {
         Some(lowest) => derived_source(schema, sources, asked, lowest, types),
@@ -128,7 +128,7 @@ impl AttributeSources {
         inverses: &[InverseAttribute<'_>],
     ) -> Result<AttributeSources, AllocError>
         requires { IsMade schema.now }
-        ensures { IfOk result (AreSources (schema_in schema.now)) }
+        ensures { IfOk result (AreSources (the_schema schema.now.names)) }
     {
         let supertypes = supertype_graph(alloc, &schema.names)?;
         let lines = lines(alloc, &schema.names, &supertypes)?;
@@ -155,21 +155,22 @@ pub fn attribute_source(
     name: Word<'_>,
 ) -> Option<Source>
     requires known { IsKnown schema.now sources.now inverses.now }
-    requires types { AreTypes (schema_in schema.now) types.now }
-    ensures named { IsNamed (schema_in schema.now)
-        (inverses_seen (schema_in schema.now) inverses.now)
-        (types_seen (schema_in schema.now) types.now) (capitals name.entry)
-        (option_map (source_seen (schema_in schema.now)
-        (inverses_seen (schema_in schema.now) inverses.now)) result) }
+    requires types { AreTypes (the_schema schema.now.names) types.now }
+    ensures named { IsNamed (the_schema schema.now.names)
+        (inverses_seen (the_schema schema.now.names) inverses.now)
+        (types_seen (the_schema schema.now.names) types.now) (capitals name.entry)
+        (option_map (source_seen (the_schema schema.now.names)
+        (inverses_seen (the_schema schema.now.names) inverses.now)) result) }
 
     // It is what each reading of the schema says.
-    ensures value { (attributes : Attributes) → AreAttributes (schema_in schema.now)
-        (inverses_seen (schema_in schema.now) inverses.now) attributes
-        → option_map (source_seen (schema_in schema.now)
-        (inverses_seen (schema_in schema.now) inverses.now)) result
-        ≡ attributes.source (types_seen (schema_in schema.now) types.now) (capitals name.entry) }
-    ensures numbered { IfSome result (IsNumbered (schema_in schema.now)
-        (inverses_seen (schema_in schema.now) inverses.now)) }
+    ensures value { (attributes : Attributes) → AreAttributes (the_schema schema.now.names)
+        (inverses_seen (the_schema schema.now.names) inverses.now) attributes
+        → option_map (source_seen (the_schema schema.now.names)
+        (inverses_seen (the_schema schema.now.names) inverses.now)) result
+        ≡ attributes.source (types_seen (the_schema schema.now.names) types.now)
+        (capitals name.entry) }
+    ensures numbered { IfSome result (IsNumbered (the_schema schema.now.names)
+        (inverses_seen (the_schema schema.now.names) inverses.now)) }
 {
     match declaring(&schema.names, types, name) {
         Declarer::Nobody => None,
@@ -195,22 +196,22 @@ pub fn group_source(
     name: Word<'_>,
 ) -> Source
     requires known { IsKnown schema.now sources.now inverses.now }
-    requires types { AreTypes (schema_in schema.now) types.now }
-    ensures group { IsInGroup (schema_in schema.now)
-        (inverses_seen (schema_in schema.now) inverses.now)
-        (types_seen (schema_in schema.now) types.now) (capitals entity.entry)
-        (capitals name.entry) (source_seen (schema_in schema.now)
-        (inverses_seen (schema_in schema.now) inverses.now) result) }
+    requires types { AreTypes (the_schema schema.now.names) types.now }
+    ensures group { IsInGroup (the_schema schema.now.names)
+        (inverses_seen (the_schema schema.now.names) inverses.now)
+        (types_seen (the_schema schema.now.names) types.now) (capitals entity.entry)
+        (capitals name.entry) (source_seen (the_schema schema.now.names)
+        (inverses_seen (the_schema schema.now.names) inverses.now) result) }
 
     // It is what each reading of the schema says.
-    ensures value { (attributes : Attributes) → AreAttributes (schema_in schema.now)
-        (inverses_seen (schema_in schema.now) inverses.now) attributes
-        → source_seen (schema_in schema.now)
-        (inverses_seen (schema_in schema.now) inverses.now) result
-        ≡ attributes.source_of (types_seen (schema_in schema.now) types.now)
+    ensures value { (attributes : Attributes) → AreAttributes (the_schema schema.now.names)
+        (inverses_seen (the_schema schema.now.names) inverses.now) attributes
+        → source_seen (the_schema schema.now.names)
+        (inverses_seen (the_schema schema.now.names) inverses.now) result
+        ≡ attributes.source_of (types_seen (the_schema schema.now.names) types.now)
         (capitals entity.entry) (capitals name.entry) }
-    ensures numbered { IsNumbered (schema_in schema.now)
-        (inverses_seen (schema_in schema.now) inverses.now) result }
+    ensures numbered { IsNumbered (the_schema schema.now.names)
+        (inverses_seen (the_schema schema.now.names) inverses.now) result }
 {
     match group_member(schema, types, entity, name) {
         Some(entity) => {

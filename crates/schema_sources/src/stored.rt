@@ -8,14 +8,10 @@ ghost use Rattle.express_syntax.specs.ExpressionViews.{capitals};
 ghost use Rattle.schema_places.specs.Places.{places_of};
 ghost use Rattle.schema_types.specs.Made.{IsMade};
 ghost use Rattle.schema_names.specs.Numbers.{HasNumber};
+ghost use Rattle.schema_names.specs.Schemas.{the_schema};
 ghost use Rattle.schema_semantics.specs.Names.{IsEntity};
 ghost use Rattle.schema_bases.specs.Seen.{name_at};
-ghost use Rattle.schema_sources.specs.Seen.{
-  schema_in,
-  inverses_seen,
-  source_seen,
-  IsNumbered,
-};
+ghost use Rattle.schema_sources.specs.Seen.{inverses_seen, source_seen, IsNumbered};
 ghost use Rattle.schema_rules.specs.Ordered.{is_place};
 ghost use Rattle.schema_sources.specs.Stored.{
   is_inverse,
@@ -65,10 +61,10 @@ fn place_among_many(
     row: &[u32],
 ) -> Option<u32>
     requires made { IsMade schema.now }
-    requires number { HasNumber (schema_in schema.now) (capitals entity) asked.entity }
-    requires entity { IsEntity (schema_in schema.now) (capitals entity) }
+    requires number { HasNumber (the_schema schema.now.names) (capitals entity) asked.entity }
+    requires entity { IsEntity (the_schema schema.now.names) (capitals entity) }
     requires row { row.now ≡ next (graph_of schema.now.places.rows.items) asked.entity }
-    ensures { IsOwnPlace (schema_in schema.now)
+    ensures { IsOwnPlace (the_schema schema.now.names)
         (capitals entity.entry, capitals asked.entry.name) result }
 {
     if !declares_at(&schema.names, asked.entity, Meant::Explicit, asked.name) {
@@ -88,12 +84,13 @@ fn own_place(
     asked: Asked<'_>,
 ) -> Option<u32>
     requires made { IsMade schema.now }
-    requires number { HasNumber (schema_in schema.now) (name_at (schema_in schema.now) asked.entity)
-        asked.entity }
-    requires entity { IsEntity (schema_in schema.now)
-        (name_at (schema_in schema.now) asked.entity) }
-    ensures { IsOwnPlace (schema_in schema.now)
-        (name_at (schema_in schema.now) asked.entry.entity, capitals asked.entry.name) result }
+    requires number { HasNumber (the_schema schema.now.names)
+        (name_at (the_schema schema.now.names) asked.entity) asked.entity }
+    requires entity { IsEntity (the_schema schema.now.names)
+        (name_at (the_schema schema.now.names) asked.entity) }
+    ensures { IsOwnPlace (the_schema schema.now.names)
+        (name_at (the_schema schema.now.names) asked.entry.entity, capitals asked.entry.name)
+        result }
 {
     let Some(entity) = schema.names.name(asked.entity) else {
         return None;
@@ -175,18 +172,18 @@ pub(crate) fn stored_source(
     asked: Asked<'_>,
 ) -> Source
     requires made { IsMade schema.now }
-    requires inverses { AreInverses (schema_in schema.now) inverses.now }
-    requires number { HasNumber (schema_in schema.now) (name_at (schema_in schema.now) asked.entity)
-        asked.entity }
-    requires stored { IsStored (schema_in schema.now) (name_at (schema_in schema.now) asked.entity)
-        (capitals asked.name) }
-    ensures source { IsStoredAt (schema_in schema.now)
-        (inverses_seen (schema_in schema.now) inverses.now)
-        (name_at (schema_in schema.now) asked.entry.entity) (capitals asked.entry.name)
-        (source_seen (schema_in schema.now) (inverses_seen (schema_in schema.now) inverses.now)
-        result) }
-    ensures numbered { IsNumbered (schema_in schema.now)
-        (inverses_seen (schema_in schema.now) inverses.now) result }
+    requires inverses { AreInverses (the_schema schema.now.names) inverses.now }
+    requires number { HasNumber (the_schema schema.now.names)
+        (name_at (the_schema schema.now.names) asked.entity) asked.entity }
+    requires stored { IsStored (the_schema schema.now.names)
+        (name_at (the_schema schema.now.names) asked.entity) (capitals asked.name) }
+    ensures source { IsStoredAt (the_schema schema.now.names)
+        (inverses_seen (the_schema schema.now.names) inverses.now)
+        (name_at (the_schema schema.now.names) asked.entry.entity) (capitals asked.entry.name)
+        (source_seen (the_schema schema.now.names)
+        (inverses_seen (the_schema schema.now.names) inverses.now) result) }
+    ensures numbered { IsNumbered (the_schema schema.now.names)
+        (inverses_seen (the_schema schema.now.names) inverses.now) result }
 {
     if let Some(place) = own_place(schema, sources, asked) {
         return Source::Explicit(place);

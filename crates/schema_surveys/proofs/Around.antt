@@ -3,18 +3,19 @@ use Rattle.std.proofs.Common.{◌≡◌, List, [], subst}
 use Rattle.express_syntax.specs.Schemas.{Schema}
 use Rattle.schema_semantics.specs.Sets.{Set, Variable}
 use Rattle.schema_data_types.specs.Values.{Holds}
+use Rattle.schema_references.specs.Taking.{schema_in}
 use Rattle.schema_expressions.specs.declared.scope.Variable.{Variable as Numbered}
 use Rattle.schema_expressions.specs.declared.scope.Scope.{Scope}
-use Rattle.schema_expressions.specs.Scopes.{inside, schema_around, own_in, variables_in}
+use Rattle.schema_expressions.specs.Scopes.{inside, own_in, variables_in}
 use Rattle.schema_surveys.specs.declared.context.Context.{Context}
-use Rattle.schema_surveys.specs.Questions.{schema_of_context, own_of_context}
+use Rattle.schema_surveys.specs.Questions.{own_of_context}
 
-pub around : (t : Scope) (x : Context) (ws : List Numbered) → schema_around t ≡ schema_of_context x
+pub around : (t : Scope) (x : Context) (ws : List Numbered) → schema_in t.known ≡ schema_in x.known
     → t.own.now ≡ x.own.now → t.variables.now ≡ ws → (P : Schema → Set → List Variable → Type 0)
-    → P (schema_around t) (own_in t) (variables_in t)
-    → P (schema_of_context x) (own_of_context x) (inside (schema_of_context x) ws [])
+    → P (schema_in t.known) (own_in t) (variables_in t)
+    → P (schema_in x.known) (own_of_context x) (inside (schema_in x.known) ws [])
 around t x ws e f g P h =
-    let s = schema_of_context x in
+    let s = schema_in x.known in
     subst (λ v. P s (own_of_context x) (inside s v [])) g
     (subst (λ o. P s (Holds s o) (inside s t.variables.now [])) f
     (subst (λ r. P r (Holds r t.own.now) (inside r t.variables.now [])) e h))

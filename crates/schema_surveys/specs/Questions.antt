@@ -19,7 +19,7 @@ use Rattle.schema_data_types.specs.declared.values.Atom.{Atom}
 use Rattle.schema_data_types.specs.declared.values.Atom.TheVariants as atoms
 use Rattle.schema_names.specs.Numbers.{number_of}
 use Rattle.schema_expressions.specs.declared.scope.Scope.{Scope}
-use Rattle.schema_expressions.specs.Scopes.{schema_around, own_in, variables_in}
+use Rattle.schema_expressions.specs.Scopes.{own_in, variables_in}
 use Rattle.schema_surveys.specs.declared.survey.Survey.{Survey}
 use Rattle.schema_surveys.specs.declared.context.Context.{Context}
 
@@ -45,17 +45,13 @@ with_aggregate w t = record t { has_loose_aggregate = t.has_loose_aggregate || n
 abbrev pub with_call : Bool → Function → Survey → Survey
 with_call w f t = record t { has_bad_typeof = t.has_bad_typeof || (not w && is_typeof f) }
 
--- the schema and the set of SELF around an expression
-abbrev pub schema_of_context : Context → Schema
-schema_of_context c = schema_in c.known
-
 abbrev pub own_of_context : Context → Set
-own_of_context c = Holds (schema_of_context c) c.own.now
+own_of_context c = Holds (schema_in c.known) c.own.now
 
 -- What is known around an expression is true of the schema.
 pub record IsContext (c : Context) : Type 0 where
   pub known : IsKnown c.known
-  pub items : AreItems (schema_of_context c) c.items.now
+  pub items : AreItems (schema_in c.known) c.items.now
 
 -- a type or an entity has this number
 abbrev pub is_number : ℕ → Option ℕ → Bool
@@ -107,7 +103,7 @@ EitherUnordered M N = MayBeUnordered M ⊎ MayBeUnordered N
 
 -- what a tree may be in a scope, and its elements on the right of IN
 abbrev pub may_in : Scope → Tree → Set
-may_in t x = May (schema_around t) (own_in t) (variables_in t) x
+may_in t x = May (schema_in t.known) (own_in t) (variables_in t) x
 
 abbrev pub elements_in : Scope → Tree → Set
-elements_in t x = ElementsOf (schema_around t) (own_in t) (variables_in t) x
+elements_in t x = ElementsOf (schema_in t.known) (own_in t) (variables_in t) x

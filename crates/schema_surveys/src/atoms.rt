@@ -2,9 +2,9 @@
 
 ghost use Rattle.std.specs.Prelude.{◌≡◌, ◌↔◌, IsTrue, length};
 ghost use Rattle.std.specs.List.{list_any};
-ghost use Rattle.express_syntax.specs.SchemaViews.{schema_of};
 ghost use Rattle.schema_semantics.specs.Reasons.{HasBareValue, MayBeDeep, MayBeUnordered};
-ghost use Rattle.schema_data_types.specs.Values.{AreTables, Holds, schema_at};
+ghost use Rattle.schema_names.specs.Schemas.{the_schema};
+ghost use Rattle.schema_data_types.specs.Values.{AreTables, Holds};
 ghost use Rattle.schema_surveys.specs.Questions.{
   is_numbered,
   is_deep_atom,
@@ -17,7 +17,7 @@ use schema_names::names::Names;
 
 /// Whether a type or an entity has this number.
 fn is_numbered(names: &Names<'_, '_>, number: u32) -> bool
-    ensures { result ≡ is_numbered (schema_of names.now.schema.now) number }
+    ensures { result ≡ is_numbered (the_schema names.now) number }
 {
     if number as usize >= names.len() {
         return false;
@@ -30,7 +30,7 @@ fn is_numbered(names: &Names<'_, '_>, number: u32) -> bool
 
 /// Whether an atom is an instance or an aggregate.
 fn is_deep_atom(tables: &Tables<'_, '_, '_>, atom: Atom) -> bool
-    ensures { result ≡ is_deep_atom (schema_at tables.now)
+    ensures { result ≡ is_deep_atom (the_schema tables.now.names.now)
         (length tables.now.data_types.now.forms.items) atom }
 {
     match atom {
@@ -42,7 +42,7 @@ fn is_deep_atom(tables: &Tables<'_, '_, '_>, atom: Atom) -> bool
 
 /// Whether one of these atoms is an instance or an aggregate.
 fn any_deep(tables: &Tables<'_, '_, '_>, atoms: &[Atom]) -> bool
-    ensures { result ≡ list_any (is_deep_atom (schema_at tables.now)
+    ensures { result ≡ list_any (is_deep_atom (the_schema tables.now.names.now)
         (length tables.now.data_types.now.forms.items)) atoms.now }
 {
     for atom in atoms {
@@ -56,7 +56,7 @@ fn any_deep(tables: &Tables<'_, '_, '_>, atoms: &[Atom]) -> bool
 /// Whether an instance or an aggregate is among these.
 pub(crate) fn is_deep(tables: &Tables<'_, '_, '_>, atoms: &[Atom]) -> bool
     requires tables { AreTables tables.now }
-    ensures { IsTrue result ↔ MayBeDeep (Holds (schema_at tables.now) atoms.now) }
+    ensures { IsTrue result ↔ MayBeDeep (Holds (the_schema tables.now.names.now) atoms.now) }
 {
     any_deep(tables, atoms)
 }
@@ -90,7 +90,7 @@ fn any_bare(tables: &Tables<'_, '_, '_>, atoms: &[Atom]) -> bool
 /// Whether a value of no SELECT is among these.
 pub(crate) fn has_bare_value(tables: &Tables<'_, '_, '_>, atoms: &[Atom]) -> bool
     requires tables { AreTables tables.now }
-    ensures { IsTrue result ↔ HasBareValue (Holds (schema_at tables.now) atoms.now) }
+    ensures { IsTrue result ↔ HasBareValue (Holds (the_schema tables.now.names.now) atoms.now) }
 {
     any_bare(tables, atoms)
 }
@@ -107,7 +107,7 @@ fn is_unordered_atom(atom: Atom) -> bool
 
 /// Whether a string, a binary or an item is among these.
 pub(crate) fn is_unordered(tables: &Tables<'_, '_, '_>, atoms: &[Atom]) -> bool
-    ensures { IsTrue result ↔ MayBeUnordered (Holds (schema_at tables.now) atoms.now) }
+    ensures { IsTrue result ↔ MayBeUnordered (Holds (the_schema tables.now.names.now) atoms.now) }
 {
     atoms.iter().any(|atom| is_unordered_atom(*atom))
 }

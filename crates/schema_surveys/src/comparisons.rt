@@ -3,7 +3,6 @@
 ghost use Rattle.std.specs.Prelude.{◌≡◌, ◌↔◌, ◌⊎◌, false, IsTrue, IfOk};
 ghost use Rattle.express_syntax.specs.Trees.{comparison, interval};
 ghost use Rattle.express_syntax.specs.ExpressionViews.{tree_of};
-ghost use Rattle.express_syntax.specs.SchemaViews.{schema_of};
 ghost use Rattle.express_syntax.specs.Views.{if_some};
 ghost use Rattle.schema_semantics.specs.Names.{Name, IsEntity, IsType};
 ghost use Rattle.schema_semantics.specs.Reasons.{
@@ -17,7 +16,9 @@ ghost use Rattle.schema_semantics.specs.Reasons.{
   IsBadKind,
 };
 ghost use Rattle.schema_names.specs.Numbers.{HasNumber};
-ghost use Rattle.schema_expressions.specs.Scopes.{IsScope, schema_around, own_in, variables_in};
+ghost use Rattle.schema_names.specs.Schemas.{the_schema};
+ghost use Rattle.schema_references.specs.Taking.{schema_in};
+ghost use Rattle.schema_expressions.specs.Scopes.{IsScope, own_in, variables_in};
 ghost use Rattle.schema_surveys.specs.Questions.{
   tested,
   may_in,
@@ -90,9 +91,9 @@ fn may_be_bare<'a>(
 
 /// Whether an entity has this number.
 fn is_entity(names: &Names<'_, '_>, part: u32) -> bool
-    requires numbered { (n : Name) × HasNumber (schema_of names.now.schema.now) n part }
-    ensures { (n : Name) → HasNumber (schema_of names.now.schema.now) n part
-        → IsTrue result ↔ IsEntity (schema_of names.now.schema.now) n }
+    requires numbered { (n : Name) × HasNumber (the_schema names.now) n part }
+    ensures { (n : Name) → HasNumber (the_schema names.now) n part
+        → IsTrue result ↔ IsEntity (the_schema names.now) n }
 {
     match names.declaration(part) {
         Declaration::Entity(_) => true,
@@ -110,9 +111,9 @@ fn tests_type<'a>(
     expression: &Expr<'a>,
 ) -> Result<bool, AllocError>
     requires scope { IsScope scope.now }
-    requires numbered { (n : Name) × HasNumber (schema_around scope.now) n part }
-    ensures { (n : Name) → HasNumber (schema_around scope.now) n part
-        → IfOk result (λ b. IsTrue b ↔ TestsType (schema_around scope.now) n
+    requires numbered { (n : Name) × HasNumber (schema_in scope.now.known) n part }
+    ensures { (n : Name) → HasNumber (schema_in scope.now.known) n part
+        → IfOk result (λ b. IsTrue b ↔ TestsType (schema_in scope.now.known) n
         (may_in scope.now (tree_of expression.now))) }
 {
     if is_entity(scope.known.tables.names, part) {
@@ -132,7 +133,7 @@ fn is_type_test<'a>(
     expression: &Expr<'a>,
 ) -> Result<bool, AllocError>
     requires scope { IsScope scope.now }
-    ensures { IfOk result (λ b. IsTrue b ↔ IsTypeTest (schema_around scope.now)
+    ensures { IfOk result (λ b. IsTrue b ↔ IsTypeTest (schema_in scope.now.known)
         (own_in scope.now) (variables_in scope.now) (tree_of left.now)
         (tree_of expression.now)) }
 {
@@ -161,7 +162,7 @@ fn is_bad_type_test<'a>(
     right: &Expr<'a>,
 ) -> Result<bool, AllocError>
     requires scope { IsScope scope.now }
-    ensures { IfOk result (λ b. IsTrue b ↔ IsBadTypeTest (schema_around scope.now)
+    ensures { IfOk result (λ b. IsTrue b ↔ IsBadTypeTest (schema_in scope.now.known)
         (own_in scope.now) (variables_in scope.now) (tree_of left.now) (tree_of right.now)) }
 {
     match tested(right) {
@@ -179,7 +180,7 @@ pub(crate) fn is_bad_test<'a>(
     right: &Expr<'a>,
 ) -> Result<bool, AllocError>
     requires scope { IsScope scope.now }
-    ensures { IfOk result (λ b. IsTrue b ↔ IsBadTypeof (schema_around scope.now)
+    ensures { IfOk result (λ b. IsTrue b ↔ IsBadTypeof (schema_in scope.now.known)
         (own_in scope.now) false (variables_in scope.now)
         (comparison (tree_of left.now) relation (tree_of right.now))) }
 {
@@ -243,7 +244,7 @@ pub(crate) fn is_bad_kind<'a>(
     right: &Expr<'a>,
 ) -> Result<bool, AllocError>
     requires scope { IsScope scope.now }
-    ensures { IfOk result (λ b. IsTrue b ↔ IsBadKind (schema_around scope.now)
+    ensures { IfOk result (λ b. IsTrue b ↔ IsBadKind (schema_in scope.now.known)
         (own_in scope.now) false (variables_in scope.now)
         (comparison (tree_of left.now) relation (tree_of right.now))) }
 {

@@ -1,8 +1,9 @@
 //! What stands around an expression, without the variables.
 
 ghost use Rattle.std.specs.Prelude.{◌≡◌};
-ghost use Rattle.schema_expressions.specs.Scopes.{IsScope, schema_around, own_in, variables_in, inside};
-ghost use Rattle.schema_surveys.specs.Questions.{IsContext, schema_of_context, own_of_context};
+ghost use Rattle.schema_references.specs.Taking.{schema_in};
+ghost use Rattle.schema_expressions.specs.Scopes.{IsScope, own_in, variables_in, inside};
+ghost use Rattle.schema_surveys.specs.Questions.{IsContext, own_of_context};
 
 use schema_data_types::items::Items;
 use schema_data_types::values::Atom;
@@ -23,7 +24,7 @@ impl<'a, 't, 'r> Context<'a, 't, 'r> {
     pub(crate) fn with<'v>(&self, variables: &'v [Variable<'a>]) -> Scope<'a, 't, 'r, 'v>
         requires { IsContext self.now }
         ensures scope { IsScope result }
-        ensures schema { schema_around result ≡ schema_of_context self.now }
+        ensures schema { schema_in result.known ≡ schema_in self.now.known }
         ensures own { result.own.now ≡ self.now.own.now }
         ensures variables { result.variables.now ≡ variables.now }
     {

@@ -4,14 +4,14 @@ ghost use Rattle.std.specs.Prelude.{◌≡◌, false, OnOk};
 ghost use Rattle.express_syntax.specs.Trees.{comparison, interval};
 ghost use Rattle.express_syntax.specs.ExpressionViews.{tree_of, root_of, qualifiers_of};
 ghost use Rattle.express_syntax.specs.declared.expression.Limit.{Limit};
-ghost use Rattle.schema_expressions.specs.Scopes.{IsScope, schema_around, own_in, variables_in};
+ghost use Rattle.schema_references.specs.Taking.{schema_in};
+ghost use Rattle.schema_expressions.specs.Scopes.{IsScope, own_in, variables_in};
 ghost use Rattle.schema_surveys.specs.Findings.{at_tree, at_path, Finds, Walks};
 ghost use Rattle.schema_surveys.specs.Questions.{
   is_in,
   with_aggregate,
   with_call,
   IsContext,
-  schema_of_context,
   own_of_context,
 };
 
@@ -54,8 +54,8 @@ pub(crate) fn note_reference<'a>(
     qualifiers: &[Qualifier<'a>],
 ) -> Result<(), AllocError>
     requires scope { IsScope scope.now }
-    ensures { OnOk result (Finds (schema_around scope.now) survey.old
-        (λ f. at_path (schema_around scope.now) (own_in scope.now) f
+    ensures { OnOk result (Finds (schema_in scope.now.known) survey.old
+        (λ f. at_path (schema_in scope.now.known) (own_in scope.now) f
         (variables_in scope.now) (root_of root.entry) (qualifiers_of qualifiers.now))
         survey.new) }
 {
@@ -75,8 +75,8 @@ pub(crate) fn note_comparison<'a>(
     right: &Expr<'a>,
 ) -> Result<(), AllocError>
     requires scope { IsScope scope.now }
-    ensures { OnOk result (Finds (schema_around scope.now) survey.old
-        (λ f. at_tree (schema_around scope.now) (own_in scope.now) f false
+    ensures { OnOk result (Finds (schema_in scope.now.known) survey.old
+        (λ f. at_tree (schema_in scope.now.known) (own_in scope.now) f false
         (variables_in scope.now) (comparison (tree_of left.now) relation (tree_of right.now)))
         survey.new) }
 {
@@ -97,8 +97,8 @@ pub(crate) fn note_interval<'a>(
     high: &Expr<'a>,
 ) -> Result<(), AllocError>
     requires scope { IsScope scope.now }
-    ensures { OnOk result ((above below : Limit) → Finds (schema_around scope.now) survey.old
-        (λ f. at_tree (schema_around scope.now) (own_in scope.now) f false
+    ensures { OnOk result ((above below : Limit) → Finds (schema_in scope.now.known) survey.old
+        (λ f. at_tree (schema_in scope.now.known) (own_in scope.now) f false
         (variables_in scope.now)
         (interval (tree_of low.now) above (tree_of item.now) below (tree_of high.now)))
         survey.new) }
@@ -119,8 +119,8 @@ pub(crate) fn note_comparison_inside<'a>(
     right: &Expr<'a>,
 ) -> Result<(), AllocError>
     requires context { IsContext context.now }
-    ensures { OnOk result (Walks (schema_of_context context.now) variables.now survey.old
-        (λ vs f. at_tree (schema_of_context context.now) (own_of_context context.now) f false
+    ensures { OnOk result (Walks (schema_in context.now.known) variables.now survey.old
+        (λ vs f. at_tree (schema_in context.now.known) (own_of_context context.now) f false
         vs (comparison (tree_of left.now) relation (tree_of right.now))) variables.now survey.new) }
 {
     note_comparison(
@@ -145,8 +145,8 @@ pub(crate) fn note_interval_inside<'a>(
 ) -> Result<(), AllocError>
     requires context { IsContext context.now }
     ensures { OnOk result ((above below : Limit)
-        → Walks (schema_of_context context.now) variables.now survey.old
-        (λ vs f. at_tree (schema_of_context context.now) (own_of_context context.now) f false
+        → Walks (schema_in context.now.known) variables.now survey.old
+        (λ vs f. at_tree (schema_in context.now.known) (own_of_context context.now) f false
         vs (interval (tree_of low.now) above (tree_of item.now) below (tree_of high.now)))
         variables.now survey.new) }
 {

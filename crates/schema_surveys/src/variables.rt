@@ -3,14 +3,10 @@
 ghost use Rattle.std.specs.Prelude.{[], IfOk, OnOk};
 ghost use Rattle.express_syntax.specs.ExpressionViews.{capitals, tree_of};
 ghost use Rattle.schema_semantics.specs.Sets.{Elements, May};
-ghost use Rattle.schema_references.specs.Taking.{IsSet};
+ghost use Rattle.schema_references.specs.Taking.{IsSet, schema_in};
 ghost use Rattle.schema_expressions.specs.Scopes.{inside};
 ghost use Rattle.schema_surveys.specs.Findings.{Binds};
-ghost use Rattle.schema_surveys.specs.Questions.{
-  IsContext,
-  schema_of_context,
-  own_of_context,
-};
+ghost use Rattle.schema_surveys.specs.Questions.{IsContext, own_of_context};
 
 use crate::context::Context;
 use express_syntax::expression::Expr;
@@ -28,9 +24,9 @@ fn variable_over<'a>(
     source: &Expr<'a>,
 ) -> Result<Vec<Atom>, AllocError>
     requires context { IsContext context.now }
-    ensures { IfOk result (λ t. IsSet (schema_of_context context.now)
-        (Elements (schema_of_context context.now) (May (schema_of_context context.now)
-        (own_of_context context.now) (inside (schema_of_context context.now) variables.now [])
+    ensures { IfOk result (λ t. IsSet (schema_in context.now.known)
+        (Elements (schema_in context.now.known) (May (schema_in context.now.known)
+        (own_of_context context.now) (inside (schema_in context.now.known) variables.now [])
         (tree_of source.now))) t.items) }
 {
     let may = possible(alloc, &context.with(variables), source)?;
@@ -46,7 +42,7 @@ pub(crate) fn push_variable<'a>(
     source: &Expr<'a>,
 ) -> Result<(), AllocError>
     requires context { IsContext context.now }
-    ensures { OnOk result (Binds (schema_of_context context.now) (own_of_context context.now)
+    ensures { OnOk result (Binds (schema_in context.now.known) (own_of_context context.now)
         variables.old.items (capitals name.entry) (tree_of source.now) variables.new.items) }
 {
     let may = variable_over(alloc, context, variables, source)?;

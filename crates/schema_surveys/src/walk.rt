@@ -2,6 +2,7 @@
 
 ghost use Rattle.std.specs.Prelude.{false, [], ◌∷◌, OnOk};
 ghost use Rattle.express_syntax.specs.ExpressionViews.{tree_of, trees_of, alternatives_of, qualifiers_of};
+ghost use Rattle.schema_references.specs.Taking.{schema_in};
 ghost use Rattle.schema_surveys.specs.Findings.{
   Within,
   WithinAll,
@@ -9,11 +10,7 @@ ghost use Rattle.schema_surveys.specs.Findings.{
   WithinIndices,
   Walks,
 };
-ghost use Rattle.schema_surveys.specs.Questions.{
-  IsContext,
-  schema_of_context,
-  own_of_context,
-};
+ghost use Rattle.schema_surveys.specs.Questions.{IsContext, own_of_context};
 
 use crate::context::Context;
 use crate::notes::{
@@ -35,8 +32,8 @@ fn survey_all<'a>(
     expressions: &[Expr<'a>],
 ) -> Result<(), AllocError>
     requires context { IsContext context.now }
-    ensures { OnOk result (Walks (schema_of_context context.now) variables.old.items survey.old
-        (λ vs f. WithinAll (schema_of_context context.now) (own_of_context context.now) f
+    ensures { OnOk result (Walks (schema_in context.now.known) variables.old.items survey.old
+        (λ vs f. WithinAll (schema_in context.now.known) (own_of_context context.now) f
         vs (trees_of expressions.now)) variables.new.items survey.new) }
 {
     for expression in expressions {
@@ -55,8 +52,8 @@ fn survey_alternatives<'a>(
     alternatives: &[Alternative<'a>],
 ) -> Result<(), AllocError>
     requires context { IsContext context.now }
-    ensures { OnOk result (Walks (schema_of_context context.now) variables.old.items survey.old
-        (λ vs f. WithinOthers (schema_of_context context.now) (own_of_context context.now) f
+    ensures { OnOk result (Walks (schema_in context.now.known) variables.old.items survey.old
+        (λ vs f. WithinOthers (schema_in context.now.known) (own_of_context context.now) f
         vs (alternatives_of alternatives.now)) variables.new.items survey.new) }
 {
     for alternative in alternatives {
@@ -75,8 +72,8 @@ fn survey_indices<'a>(
     qualifiers: &[Qualifier<'a>],
 ) -> Result<(), AllocError>
     requires context { IsContext context.now }
-    ensures { OnOk result (Walks (schema_of_context context.now) variables.old.items survey.old
-        (λ vs f. WithinIndices (schema_of_context context.now) (own_of_context context.now) f
+    ensures { OnOk result (Walks (schema_in context.now.known) variables.old.items survey.old
+        (λ vs f. WithinIndices (schema_in context.now.known) (own_of_context context.now) f
         vs (qualifiers_of qualifiers.now)) variables.new.items survey.new) }
 {
     for qualifier in qualifiers {
@@ -95,8 +92,8 @@ fn survey_qualifier<'a>(
     qualifier: &Qualifier<'a>,
 ) -> Result<(), AllocError>
     requires context { IsContext context.now }
-    ensures { OnOk result (Walks (schema_of_context context.now) variables.old.items survey.old
-        (λ vs f. WithinIndices (schema_of_context context.now) (own_of_context context.now) f
+    ensures { OnOk result (Walks (schema_in context.now.known) variables.old.items survey.old
+        (λ vs f. WithinIndices (schema_in context.now.known) (own_of_context context.now) f
         vs (qualifiers_of (qualifier.now ∷ []))) variables.new.items survey.new) }
 {
     match qualifier {
@@ -116,8 +113,8 @@ pub(crate) fn survey_part<'a>(
     expression: &Expr<'a>,
 ) -> Result<(), AllocError>
     requires context { IsContext context.now }
-    ensures { OnOk result (Walks (schema_of_context context.now) variables.old.items survey.old
-        (λ vs f. Within (schema_of_context context.now) (own_of_context context.now) f
+    ensures { OnOk result (Walks (schema_in context.now.known) variables.old.items survey.old
+        (λ vs f. Within (schema_in context.now.known) (own_of_context context.now) f
         is_right_of_in vs (tree_of expression.now)) variables.new.items survey.new) }
 {
     match expression {

@@ -3,9 +3,9 @@
 ghost use Rattle.std.specs.Prelude.{◌≡◌, IfOk};
 ghost use Rattle.digraph.specs.Graphs.{graph_of};
 ghost use Rattle.digraph.specs.Closures.{IsClosure};
-ghost use Rattle.express_syntax.specs.SchemaViews.{schema_of};
 ghost use Rattle.schema_semantics.specs.Faults.{IsResolved};
 ghost use Rattle.schema_names.specs.Edges.{IsGraphOf, supertypes_in};
+ghost use Rattle.schema_names.specs.Schemas.{the_schema};
 ghost use Rattle.schema_types.specs.Made.{IsMade};
 
 use crate::types::ResolvedTypes;
@@ -21,9 +21,8 @@ pub(crate) fn make_types<'t, 'a>(
     supertypes: &[Vec<u32>],
     above: Vec<Vec<u32>>,
 ) -> Result<ResolvedTypes<'a, 't>, AllocError>
-    requires resolved { IsResolved (schema_of names.schema.now) }
-    requires drawn { IsGraphOf (schema_of names.schema.now) supertypes_in
-        (graph_of supertypes.now) }
+    requires resolved { IsResolved (the_schema names) }
+    requires drawn { IsGraphOf (the_schema names) supertypes_in (graph_of supertypes.now) }
     requires closed { IsClosure (graph_of supertypes.now) (graph_of above.items) }
     ensures same { IfOk result (λ g. g.names.schema.now ≡ names.entry.schema.now) }
     ensures made { IfOk result IsMade }

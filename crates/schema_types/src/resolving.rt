@@ -8,6 +8,7 @@ ghost use Rattle.express_syntax.specs.ExpressionViews.{capitals};
 ghost use Rattle.express_syntax.specs.SchemaViews.{schema_of};
 ghost use Rattle.schema_semantics.specs.Faults.{IsFault, IsResolved};
 ghost use Rattle.schema_names.specs.Edges.{IsGraphOf, supertypes_in};
+ghost use Rattle.schema_names.specs.Schemas.{the_schema};
 ghost use Rattle.schema_places.specs.Above.{AreAbove};
 ghost use Rattle.schema_types.specs.Made.{IsMade};
 ghost use Rattle.schema_types.specs.Resolving.{IsFound, IsResolution, IsSaid, IsNameFault};
@@ -41,8 +42,8 @@ fn first_fault<'a>(
     names: &Names<'a, '_>,
     above: &[Vec<u32>],
 ) -> Result<Option<Faulty<'a>>, AllocError>
-    requires { AreAbove (schema_of names.now.schema.now) (graph_of above.now) }
-    ensures { IfOk result (IsFound (schema_of names.now.schema.now)) }
+    requires { AreAbove (the_schema names.now) (graph_of above.now) }
+    ensures { IfOk result (IsFound (the_schema names.now)) }
 {
     if let Err(name) = check_demands(names, above) {
         let kind = NameFault::UnknownName;
@@ -77,12 +78,10 @@ fn above_or_fault<'a>(
     names: &Names<'a, '_>,
     supertypes: &[Vec<u32>],
 ) -> Result<Result<Vec<Vec<u32>>, Faulty<'a>>, AllocError>
-    requires graph { IsGraphOf (schema_of names.now.schema.now) supertypes_in
-        (graph_of supertypes.now) }
-    ensures { IfOk result (λ found. MatchResult found
-        (λ above. IsResolved (schema_of names.now.schema.now)
+    requires graph { IsGraphOf (the_schema names.now) supertypes_in (graph_of supertypes.now) }
+    ensures { IfOk result (λ found. MatchResult found (λ above. IsResolved (the_schema names.now)
         × IsClosure (graph_of supertypes.now) (graph_of above.items))
-        (λ faulty. IsFault (schema_of names.now.schema.now) faulty.kind (capitals faulty.name))) }
+        (λ faulty. IsFault (the_schema names.now) faulty.kind (capitals faulty.name))) }
 {
     let above = closure(alloc, supertypes)?;
     match first_fault(alloc, keys, names, &above)? {

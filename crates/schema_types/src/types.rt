@@ -3,9 +3,9 @@
 ghost use Rattle.std.specs.Prelude.{◌≡◌, ◌<◌, Some, length, slice_get};
 ghost use Rattle.digraph.specs.Graphs.{graph_of};
 ghost use Rattle.express_syntax.specs.ExpressionViews.{capitals};
-ghost use Rattle.express_syntax.specs.SchemaViews.{schema_of};
 ghost use Rattle.schema_semantics.specs.Faults.{IsResolved};
 ghost use Rattle.schema_names.specs.Numbers.{number_of};
+ghost use Rattle.schema_names.specs.Schemas.{the_schema};
 ghost use Rattle.schema_places.specs.Above.{AreAbove};
 ghost use Rattle.schema_places.specs.Places.{places_of, all_places, HavePlaces, AreRows};
 ghost use Rattle.schema_types.specs.Graphs.{AreSupers, IsKind, ArePlacesOf, place_of};
@@ -27,23 +27,21 @@ pub struct ResolvedTypes<'a, 't> {
     pub above: Vec<Vec<u32>>,
     /// The explicit attributes, and by declaration the numbers of an entity's places and of its own.
     pub places: AttributePlaces<'a, 't>,
-    pub ghost resolved: { ∥ IsResolved (schema_of names.schema.now) ∥₁ },
-    pub ghost above_are: { ∥ AreAbove (schema_of names.schema.now) (graph_of above.items) ∥₁ },
+    pub ghost resolved: { ∥ IsResolved (the_schema names) ∥₁ },
+    pub ghost above_are: { ∥ AreAbove (the_schema names) (graph_of above.items) ∥₁ },
     pub ghost above_each: { length above.items ≡ length names.schema.now.declarations.items },
-    pub ghost attributes_are: { places_of places.attributes.items
-        ≡ all_places (schema_of names.schema.now) },
-    pub ghost places_are: { ∥ HavePlaces (schema_of names.schema.now)
-        (graph_of places.rows.items) ∥₁ },
+    pub ghost attributes_are: { places_of places.attributes.items ≡ all_places (the_schema names) },
+    pub ghost places_are: { ∥ HavePlaces (the_schema names) (graph_of places.rows.items) ∥₁ },
     pub ghost places_each: { length places.rows.items
         ≡ length names.schema.now.declarations.items },
-    pub ghost own_are: { ∥ AreRows (all_places (schema_of names.schema.now))
-        (schema_of names.schema.now).declarations (graph_of places.own.items) ∥₁ },
+    pub ghost own_are: { ∥ AreRows (all_places (the_schema names))
+        (the_schema names).declarations (graph_of places.own.items) ∥₁ },
 }
 
 impl<'a, 't> ResolvedTypes<'a, 't> {
     /// The number of the type or entity of this name; none where there is none.
     pub fn find(&self, name: Word<'_>) -> Option<u32>
-        ensures { result ≡ number_of (schema_of self.now.names.schema.now) (capitals name.entry) }
+        ensures { result ≡ number_of (the_schema self.now.names) (capitals name.entry) }
     {
         self.names.find(name)
     }
@@ -51,7 +49,7 @@ impl<'a, 't> ResolvedTypes<'a, 't> {
     /// The proper supertypes of an entity, each once (ISO 10303-11, 9.2.3.3).
     pub fn supers(&self, entity: u32) -> &[u32]
         requires { entity < length self.now.names.schema.now.declarations.items }
-        ensures { ∥ AreSupers (schema_of self.now.names.schema.now) entity result.now ∥₁ }
+        ensures { ∥ AreSupers (the_schema self.now.names) entity result.now ∥₁ }
     {
         &self.above[entity as usize]
     }
@@ -60,7 +58,7 @@ impl<'a, 't> ResolvedTypes<'a, 't> {
     /// (ISO 10303-11, 9.2.3.3).
     pub fn is_kind_of(&self, entity: u32, other: u32) -> bool
         requires { entity < length self.now.names.schema.now.declarations.items }
-        ensures { ∥ IsKind (schema_of self.now.names.schema.now) entity other result ∥₁ }
+        ensures { ∥ IsKind (the_schema self.now.names) entity other result ∥₁ }
     {
         entity == other || self.supers(entity).contains(&other)
     }
@@ -69,15 +67,15 @@ impl<'a, 't> ResolvedTypes<'a, 't> {
     /// turn, then its own, each once (ISO 10303-11, 9.2.3.3).
     pub fn places(&self, entity: u32) -> &[u32]
         requires { entity < length self.now.names.schema.now.declarations.items }
-        ensures { ∥ ArePlacesOf (schema_of self.now.names.schema.now) entity result.now ∥₁ }
+        ensures { ∥ ArePlacesOf (the_schema self.now.names) entity result.now ∥₁ }
     {
         &self.places.rows[entity as usize]
     }
 
     /// The explicit attribute of a number, with the entity that declares it.
     pub fn place(&self, number: u32) -> Place<'a, 't>
-        requires { number < length (all_places (schema_of self.now.names.schema.now)) }
-        ensures { slice_get (all_places (schema_of self.now.names.schema.now)) number
+        requires { number < length (all_places (the_schema self.now.names)) }
+        ensures { slice_get (all_places (the_schema self.now.names)) number
             ≡ Some (place_of result) }
     {
         self.places.attributes[number as usize]

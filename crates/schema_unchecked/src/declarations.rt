@@ -5,8 +5,9 @@ ghost use Rattle.express_syntax.specs.Schemas.{type as type_tree, entity as enti
 ghost use Rattle.express_syntax.specs.Views.{declaration_of, entity_of, type_of};
 ghost use Rattle.schema_semantics.specs.Parts.{parts_of_type, parts_of_entity, parts_of_declaration};
 ghost use Rattle.schema_names.specs.Numbers.{IsAt};
+ghost use Rattle.schema_references.specs.Taking.{schema_in};
 ghost use Rattle.schema_parts.specs.Adding.{Adds, unchecked_in};
-ghost use Rattle.schema_unchecked.specs.Findings.{AreFound, schema_found};
+ghost use Rattle.schema_unchecked.specs.Findings.{AreFound};
 ghost use Rattle.schema_unchecked.specs.Listing.{parts_of_constraints};
 ghost use Rattle.schema_unchecked.specs.Places.{derivations_before};
 
@@ -31,8 +32,8 @@ fn add_type<'a>(
     declared: &TypeDeclaration<'a>,
 ) -> Result<(), AllocError>
     requires found { AreFound findings.now }
-    requires at { IsAt (schema_found findings.now) number (type_tree (type_of declared.now)) }
-    ensures { OnOk result (Adds (parts_of_type (schema_found findings.now)
+    requires at { IsAt (schema_in findings.now.known) number (type_tree (type_of declared.now)) }
+    ensures { OnOk result (Adds (parts_of_type (schema_in findings.now.known)
         (type_of declared.now)) (unchecked_in list.old.items) (unchecked_in list.new.items)) }
 {
     let name = declared.name;
@@ -51,8 +52,8 @@ fn add_constraints<'a>(
     entity: &Entity<'a>,
 ) -> Result<(), AllocError>
     requires found { AreFound findings.now }
-    requires at { IsAt (schema_found findings.now) number (entity_tree (entity_of entity.now)) }
-    ensures { OnOk result (Adds (parts_of_constraints (schema_found findings.now)
+    requires at { IsAt (schema_in findings.now.known) number (entity_tree (entity_of entity.now)) }
+    ensures { OnOk result (Adds (parts_of_constraints (schema_in findings.now.known)
         (entity_of entity.now)) (unchecked_in list.old.items) (unchecked_in list.new.items)) }
 {
     let name = entity.name;
@@ -72,9 +73,9 @@ fn add_entity<'a>(
     entity: &Entity<'a>,
 ) -> Result<(), AllocError>
     requires found { AreFound findings.now }
-    requires at { IsAt (schema_found findings.now) number (entity_tree (entity_of entity.now)) }
-    requires first { first ≡ derivations_before (schema_found findings.now) number }
-    ensures { OnOk result (Adds (parts_of_entity (schema_found findings.now)
+    requires at { IsAt (schema_in findings.now.known) number (entity_tree (entity_of entity.now)) }
+    requires first { first ≡ derivations_before (schema_in findings.now.known) number }
+    ensures { OnOk result (Adds (parts_of_entity (schema_in findings.now.known)
         (entity_of entity.now)) (unchecked_in list.old.items) (unchecked_in list.new.items)) }
 {
     add_supertype(alloc, list, entity.name, &entity.supertype)?;
@@ -94,9 +95,9 @@ pub(crate) fn add_declaration<'a>(
     declaration: &Declaration<'a>,
 ) -> Result<(), AllocError>
     requires found { AreFound findings.now }
-    requires at { IsAt (schema_found findings.now) number (declaration_of declaration.now) }
-    requires first { first ≡ derivations_before (schema_found findings.now) number }
-    ensures { OnOk result (Adds (parts_of_declaration (schema_found findings.now)
+    requires at { IsAt (schema_in findings.now.known) number (declaration_of declaration.now) }
+    requires first { first ≡ derivations_before (schema_in findings.now.known) number }
+    ensures { OnOk result (Adds (parts_of_declaration (schema_in findings.now.known)
         (declaration_of declaration.now))
         (unchecked_in list.old.items) (unchecked_in list.new.items)) }
 {

@@ -9,8 +9,9 @@ ghost use Rattle.schema_semantics.specs.Attributes.{IsDerivation};
 ghost use Rattle.schema_semantics.specs.Parts.{for_each, parts_of_derived};
 ghost use Rattle.schema_names.specs.Numbers.{IsAt};
 ghost use Rattle.schema_attributes.specs.Derivations.{HasDerivation, derivations_in};
+ghost use Rattle.schema_references.specs.Taking.{schema_in};
 ghost use Rattle.schema_parts.specs.Adding.{Adds, unchecked_in};
-ghost use Rattle.schema_unchecked.specs.Findings.{AreFound, schema_found};
+ghost use Rattle.schema_unchecked.specs.Findings.{AreFound};
 ghost use Rattle.schema_unchecked.specs.Places.{derivations_before, AreDerivationsFrom};
 
 use crate::findings::Findings;
@@ -57,10 +58,10 @@ fn add_derived<'a>(
 ) -> Result<(), AllocError>
     requires found { AreFound findings.now }
     ensures { (n : ℕ)
-        → HasDerivation (schema_found findings.now) number (capitals holder.entry, n)
-        → IsDerivation (schema_found findings.now) (capitals holder.entry, n)
+        → HasDerivation (schema_in findings.now.known) number (capitals holder.entry, n)
+        → IsDerivation (schema_in findings.now.known) (capitals holder.entry, n)
         (derived_of derived.now)
-        → OnOk result (Adds (parts_of_derived (schema_found findings.now)
+        → OnOk result (Adds (parts_of_derived (schema_in findings.now.known)
         (capitals holder.entry) (derived_of derived.now))
         (unchecked_in list.old.items) (unchecked_in list.new.items)) }
 {
@@ -80,9 +81,9 @@ fn add_deriveds<'a>(
     deriveds: &[Derived<'a>],
 ) -> Result<(), AllocError>
     requires found { AreFound findings.now }
-    requires numbered { AreDerivationsFrom (schema_found findings.now) (capitals holder) first
+    requires numbered { AreDerivationsFrom (schema_in findings.now.known) (capitals holder) first
         (map derived_of deriveds.now) }
-    ensures { OnOk result (Adds (for_each (parts_of_derived (schema_found findings.now)
+    ensures { OnOk result (Adds (for_each (parts_of_derived (schema_in findings.now.known)
         (capitals holder.entry)) (map derived_of deriveds.now))
         (unchecked_in list.old.items) (unchecked_in list.new.items)) }
 {
@@ -104,9 +105,9 @@ pub(crate) fn add_derived_attributes<'a>(
     entity: &Entity<'a>,
 ) -> Result<(), AllocError>
     requires found { AreFound findings.now }
-    requires at { IsAt (schema_found findings.now) number (entity_tree (entity_of entity.now)) }
-    requires first { first ≡ derivations_before (schema_found findings.now) number }
-    ensures { OnOk result (Adds (for_each (parts_of_derived (schema_found findings.now)
+    requires at { IsAt (schema_in findings.now.known) number (entity_tree (entity_of entity.now)) }
+    requires first { first ≡ derivations_before (schema_in findings.now.known) number }
+    ensures { OnOk result (Adds (for_each (parts_of_derived (schema_in findings.now.known)
         (entity_of entity.now).name) (listed (entity_of entity.now).derived))
         (unchecked_in list.old.items) (unchecked_in list.new.items)) }
 {

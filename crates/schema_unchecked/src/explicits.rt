@@ -18,8 +18,9 @@ ghost use Rattle.schema_semantics.specs.Parts.{
   HasOtherShape,
 };
 ghost use Rattle.schema_names.specs.Numbers.{IsAt};
+ghost use Rattle.schema_references.specs.Taking.{schema_in};
 ghost use Rattle.schema_parts.specs.Adding.{Adds, unchecked_in};
-ghost use Rattle.schema_unchecked.specs.Findings.{AreFound, schema_found};
+ghost use Rattle.schema_unchecked.specs.Findings.{AreFound};
 ghost use Rattle.schema_unchecked.specs.Places.{IsDataTypeAt, AreDataTypesAt};
 
 use crate::findings::Findings;
@@ -39,9 +40,9 @@ fn has_other_shape(
     data_type: u32,
 ) -> bool
     requires found { AreFound findings.now }
-    ensures { (k : DataTypeTree) → IsDataTypeAt (schema_found findings.now) data_type k
+    ensures { (k : DataTypeTree) → IsDataTypeAt (schema_in findings.now.known) data_type k
         → IsTrue result
-        ↔ HasOtherShape (schema_found findings.now) (attribute_of attribute.entry) k }
+        ↔ HasOtherShape (schema_in findings.now.known) (attribute_of attribute.entry) k }
 {
     let tables = &findings.known.tables;
     match redeclared_entity(tables.names, findings.lines, attribute) {
@@ -67,8 +68,8 @@ fn add_redeclared(
     data_type: u32,
 ) -> Result<(), AllocError>
     requires found { AreFound findings.now }
-    ensures { (k : DataTypeTree) → IsDataTypeAt (schema_found findings.now) data_type k
-        → OnOk result (Adds (parts_of_redeclared (schema_found findings.now)
+    ensures { (k : DataTypeTree) → IsDataTypeAt (schema_in findings.now.known) data_type k
+        → OnOk result (Adds (parts_of_redeclared (schema_in findings.now.known)
         (capitals holder.entry) k (attribute_of attribute.entry))
         (unchecked_in list.old.items) (unchecked_in list.new.items)) }
 {
@@ -94,9 +95,9 @@ fn add_explicit<'a>(
     data_type: u32,
 ) -> Result<(), AllocError>
     requires found { AreFound findings.now }
-    requires data_type { IsDataTypeAt (schema_found findings.now) data_type
+    requires data_type { IsDataTypeAt (schema_in findings.now.known) data_type
         (explicit_of explicit.now).data_type }
-    ensures { OnOk result (Adds (parts_of_explicit (schema_found findings.now)
+    ensures { OnOk result (Adds (parts_of_explicit (schema_in findings.now.known)
         (capitals holder.entry) (explicit_of explicit.now))
         (unchecked_in list.old.items) (unchecked_in list.new.items)) }
 {
@@ -118,9 +119,9 @@ fn add_explicits<'a>(
     row: &[u32],
 ) -> Result<(), AllocError>
     requires found { AreFound findings.now }
-    requires row { AreDataTypesAt (schema_found findings.now) row.now
+    requires row { AreDataTypesAt (schema_in findings.now.known) row.now
         (map explicit_of explicits.now) }
-    ensures { OnOk result (Adds (for_each (parts_of_explicit (schema_found findings.now)
+    ensures { OnOk result (Adds (for_each (parts_of_explicit (schema_in findings.now.known)
         (capitals holder.entry)) (map explicit_of explicits.now))
         (unchecked_in list.old.items) (unchecked_in list.new.items)) }
 {
@@ -140,8 +141,8 @@ pub(crate) fn add_explicit_attributes<'a>(
     entity: &Entity<'a>,
 ) -> Result<(), AllocError>
     requires found { AreFound findings.now }
-    requires at { IsAt (schema_found findings.now) number (entity_tree (entity_of entity.now)) }
-    ensures { OnOk result (Adds (for_each (parts_of_explicit (schema_found findings.now)
+    requires at { IsAt (schema_in findings.now.known) number (entity_tree (entity_of entity.now)) }
+    ensures { OnOk result (Adds (for_each (parts_of_explicit (schema_in findings.now.known)
         (entity_of entity.now).name) (entity_of entity.now).explicits)
         (unchecked_in list.old.items) (unchecked_in list.new.items)) }
 {

@@ -3,8 +3,9 @@
 ghost use Rattle.std.specs.Prelude.{◌≡◌, ◌<◌, ◌^◌, length, map, IfOk, OnOk};
 ghost use Rattle.express_syntax.specs.Views.{declaration_of};
 ghost use Rattle.schema_semantics.specs.Parts.{AreUnchecked, candidates};
+ghost use Rattle.schema_references.specs.Taking.{schema_in};
 ghost use Rattle.schema_parts.specs.Adding.{Adds, unchecked_in};
-ghost use Rattle.schema_unchecked.specs.Findings.{AreFound, schema_found};
+ghost use Rattle.schema_unchecked.specs.Findings.{AreFound};
 
 use crate::declarations::add_declaration;
 use crate::deriveds::first_behind;
@@ -22,8 +23,9 @@ fn add_all<'a>(
 ) -> Result<(), AllocError>
     requires found { AreFound findings.now }
     requires few { length declarations.now < 2 ^ 32 }
-    requires all { map declaration_of declarations.now ≡ (schema_found findings.now).declarations }
-    ensures { OnOk result (Adds (candidates (schema_found findings.now))
+    requires all { map declaration_of declarations.now
+        ≡ (schema_in findings.now.known).declarations }
+    ensures { OnOk result (Adds (candidates (schema_in findings.now.known))
         (unchecked_in list.old.items) (unchecked_in list.new.items)) }
 {
     let mut first = 0;
@@ -42,7 +44,7 @@ pub fn unchecked_parts(
     findings: &Findings<'_, '_, '_>,
 ) -> Result<Vec<Unchecked>, AllocError>
     requires found { AreFound findings.now }
-    ensures { IfOk result (λ t. AreUnchecked (schema_found findings.now)
+    ensures { IfOk result (λ t. AreUnchecked (schema_in findings.now.known)
         (unchecked_in t.items)) }
 {
     let mut list = Vec::new(alloc);

@@ -10,10 +10,10 @@ ghost use Rattle.schema_semantics.specs.Ranks.{Self, HasReason};
 ghost use Rattle.schema_semantics.specs.Shapes.{IsOf, IsOverSelect};
 ghost use Rattle.schema_names.specs.Numbers.{HasNumber};
 ghost use Rattle.schema_data_types.specs.Values.{Holds};
-ghost use Rattle.schema_references.specs.Taking.{IsSet};
+ghost use Rattle.schema_references.specs.Taking.{IsSet, schema_in};
 ghost use Rattle.schema_unchecked.specs.Judging.{IsFirstReason};
 ghost use Rattle.schema_parts.specs.Adding.{Adds, unchecked_in};
-ghost use Rattle.schema_unchecked.specs.Findings.{AreFound, schema_found};
+ghost use Rattle.schema_unchecked.specs.Findings.{AreFound};
 ghost use Rattle.schema_unchecked.specs.Rules.{has_reason};
 
 use crate::findings::Findings;
@@ -46,7 +46,7 @@ pub fn reason_of_rule<'a>(
 ) -> Result<Option<Reason>, AllocError>
     requires found { AreFound findings.now }
     ensures { IfOk result (IsFirstReason
-        (has_reason (schema_found findings.now) own.entry (body_of body.now))) }
+        (has_reason (schema_in findings.now.known) own.entry (body_of body.now))) }
 {
     if own.is_over_select {
         return Ok(Some(Reason::Profile));
@@ -75,7 +75,7 @@ fn add_rule<'a>(
 ) -> Result<(), AllocError>
     requires found { AreFound findings.now }
     ensures { OnOk result (Adds (parts_of_rules (capitals holder.entry)
-        (has_reason (schema_found findings.now) own.entry) number (rule_of rule.now ∷ []))
+        (has_reason (schema_in findings.now.known) own.entry) number (rule_of rule.now ∷ []))
         (unchecked_in list.old.items) (unchecked_in list.new.items)) }
 {
     let reason = reason_of_rule(alloc, findings, own, &rule.body)?;
@@ -94,7 +94,7 @@ fn add_rules<'a>(
 ) -> Result<(), AllocError>
     requires found { AreFound findings.now }
     ensures { OnOk result (Adds (parts_of_rules (capitals holder.entry)
-        (has_reason (schema_found findings.now) own.entry) 1 (map rule_of rules.now))
+        (has_reason (schema_in findings.now.known) own.entry) 1 (map rule_of rules.now))
         (unchecked_in list.old.items) (unchecked_in list.new.items)) }
 {
     for i in 0..rules.len() {
@@ -112,9 +112,10 @@ pub(crate) fn add_entity_rules<'a>(
     rules: &[Rule<'a>],
 ) -> Result<(), AllocError>
     requires found { AreFound findings.now }
-    requires number { HasNumber (schema_found findings.now) (capitals holder.name) holder.number }
+    requires number { HasNumber (schema_in findings.now.known) (capitals holder.name)
+        holder.number }
     ensures { OnOk result (Adds (parts_of_rules (capitals holder.entry.name)
-        (HasReason (schema_found findings.now) (Self (capitals holder.entry.name))) 1
+        (HasReason (schema_in findings.now.known) (Self (capitals holder.entry.name))) 1
         (map rule_of rules.now)) (unchecked_in list.old.items) (unchecked_in list.new.items)) }
 {
     let atom = Atom::Instance(holder.number);
@@ -134,9 +135,10 @@ pub fn values_of_type(
     holder: Holder<'_>,
 ) -> Result<Vec<Atom>, AllocError>
     requires found { AreFound findings.now }
-    requires number { HasNumber (schema_found findings.now) (capitals holder.name) holder.number }
-    ensures { IfOk result (λ t. IsSet (schema_found findings.now)
-        (IsOf (schema_found findings.now) (named (capitals holder.entry.name))) t.items) }
+    requires number { HasNumber (schema_in findings.now.known) (capitals holder.name)
+        holder.number }
+    ensures { IfOk result (λ t. IsSet (schema_in findings.now.known)
+        (IsOf (schema_in findings.now.known) (named (capitals holder.entry.name))) t.items) }
 {
     let mut atoms = Vec::new(alloc);
     add_named(&findings.known.tables, holder.number, &mut atoms)?;
@@ -146,8 +148,9 @@ pub fn values_of_type(
 /// Whether a defined type is a SELECT, or stands for one under whatever names.
 pub fn is_type_over_select(findings: &Findings<'_, '_, '_>, holder: Holder<'_>) -> bool
     requires found { AreFound findings.now }
-    requires number { HasNumber (schema_found findings.now) (capitals holder.name) holder.number }
-    ensures { IsTrue result ↔ IsOverSelect (schema_found findings.now)
+    requires number { HasNumber (schema_in findings.now.known) (capitals holder.name)
+        holder.number }
+    ensures { IsTrue result ↔ IsOverSelect (schema_in findings.now.known)
         (named (capitals holder.entry.name)) }
 {
     is_over_select(&findings.known.tables, holder.number)
@@ -162,9 +165,10 @@ pub(crate) fn add_type_rules<'a>(
     rules: &[Rule<'a>],
 ) -> Result<(), AllocError>
     requires found { AreFound findings.now }
-    requires number { HasNumber (schema_found findings.now) (capitals holder.name) holder.number }
+    requires number { HasNumber (schema_in findings.now.known) (capitals holder.name)
+        holder.number }
     ensures { OnOk result (Adds (parts_of_rules (capitals holder.entry.name)
-        (TypeRuleHasReason (schema_found findings.now) (named (capitals holder.entry.name))) 1
+        (TypeRuleHasReason (schema_in findings.now.known) (named (capitals holder.entry.name))) 1
         (map rule_of rules.now)) (unchecked_in list.old.items) (unchecked_in list.new.items)) }
 {
     let atoms = values_of_type(alloc, findings, holder)?;

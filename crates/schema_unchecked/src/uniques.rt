@@ -6,8 +6,9 @@ ghost use Rattle.express_syntax.specs.Views.{unique_of};
 ghost use Rattle.schema_semantics.specs.Names.{Name, IsEntity};
 ghost use Rattle.schema_semantics.specs.Parts.{parts_of_uniques};
 ghost use Rattle.schema_names.specs.Numbers.{HasNumber};
+ghost use Rattle.schema_references.specs.Taking.{schema_in};
 ghost use Rattle.schema_parts.specs.Adding.{Adds, unchecked_in};
-ghost use Rattle.schema_unchecked.specs.Findings.{AreFound, schema_found};
+ghost use Rattle.schema_unchecked.specs.Findings.{AreFound};
 ghost use Rattle.schema_unchecked.specs.Listing.{reason_by};
 
 use crate::findings::Findings;
@@ -41,9 +42,10 @@ fn add_unique<'a>(
     unique: &Unique<'a>,
 ) -> Result<(), AllocError>
     requires found { AreFound findings.now }
-    requires number { HasNumber (schema_found findings.now) (capitals holder.name) holder.number }
-    requires entity { IsEntity (schema_found findings.now) (capitals holder.name) }
-    ensures { OnOk result (Adds (parts_of_uniques (schema_found findings.now)
+    requires number { HasNumber (schema_in findings.now.known) (capitals holder.name)
+        holder.number }
+    requires entity { IsEntity (schema_in findings.now.known) (capitals holder.name) }
+    ensures { OnOk result (Adds (parts_of_uniques (schema_in findings.now.known)
         (capitals holder.entry.name) number (unique_of unique.now ∷ []))
         (unchecked_in list.old.items) (unchecked_in list.new.items)) }
 {
@@ -61,9 +63,10 @@ pub(crate) fn add_uniques<'a>(
     uniques: &[Unique<'a>],
 ) -> Result<(), AllocError>
     requires found { AreFound findings.now }
-    requires number { HasNumber (schema_found findings.now) (capitals holder.name) holder.number }
-    requires entity { IsEntity (schema_found findings.now) (capitals holder.name) }
-    ensures { OnOk result (Adds (parts_of_uniques (schema_found findings.now)
+    requires number { HasNumber (schema_in findings.now.known) (capitals holder.name)
+        holder.number }
+    requires entity { IsEntity (schema_in findings.now.known) (capitals holder.name) }
+    ensures { OnOk result (Adds (parts_of_uniques (schema_in findings.now.known)
         (capitals holder.entry.name) 1 (map unique_of uniques.now))
         (unchecked_in list.old.items) (unchecked_in list.new.items)) }
 {

@@ -2,11 +2,11 @@
 use Rattle.std.specs.Prelude.{◌≡◌, ℕ, ◌+◌, ◌<◌, Bool, true, false, List, [], ◌∷◌, ◌++◌, Option, None, Some, map, flat_map, length, slice_get, bytes_eq, ◌⊎◌, ◌↔◌}
 use Rattle.digraph.specs.Graphs.{graph_of, has}
 use Rattle.express_syntax.specs.Schemas.{Schema, Declaration, type, entity, skipped, Attribute, own, Explicit, Derived, DataType}
-use Rattle.express_syntax.specs.SchemaViews.{schema_of}
 use Rattle.schema_semantics.specs.Names.{Name, OneOf, Among, listed, own_names}
 use Rattle.schema_semantics.specs.Faults.{IsResolved}
 use Rattle.schema_semantics.specs.Attributes.{Place, IsRedeclaration, HasFirstShape}
 use Rattle.schema_names.specs.Numbers.{AreRowsOf}
+use Rattle.schema_names.specs.Schemas.{the_schema}
 use Rattle.schema_data_types.specs.Numbered.{whole_types, all_data_types}
 use Rattle.schema_data_types.specs.Shaped.{AreShapes, IsKnown}
 use Rattle.schema_places.specs.Lines.{HaveLines}
@@ -17,19 +17,16 @@ use Rattle.schema_uses.specs.declared.uses.AttributeUse.{AttributeUse}
 use Rattle.schema_uses.specs.declared.uses.Sources.{Sources}
 use Rattle.schema_uses.specs.Uses.{HasPlace, of_place, seen, said}
 
-abbrev pub schema_in : Sources → Schema
-schema_in c = schema_of c.names.now.schema.now
-
 -- The sources are those of a resolved schema.
 pub record AreSources (c : Sources) : Type 0 where
-  pub resolved : IsResolved (schema_in c)
-  pub rows : AreRowsOf whole_types (all_data_types (schema_in c)) (schema_in c).declarations
+  pub resolved : IsResolved (the_schema c.names.now)
+  pub rows : AreRowsOf whole_types (all_data_types (the_schema c.names.now)) (the_schema c.names.now).declarations
       (graph_of c.data_types.now.rows.items)
-  pub lines : HaveLines (schema_in c) (graph_of c.lines.now)
+  pub lines : HaveLines (the_schema c.names.now) (graph_of c.lines.now)
   pub each : length c.lines.now ≡ length c.names.now.schema.now.declarations.items
-  pub shapes : AreShapes (schema_in c) c.shapes.now
-  pub places : places_of c.places.now ≡ all_places (schema_in c)
-  pub own : AreRows (all_places (schema_in c)) (schema_in c).declarations (graph_of c.own.now)
+  pub shapes : AreShapes (the_schema c.names.now) c.shapes.now
+  pub places : places_of c.places.now ≡ all_places (the_schema c.names.now)
+  pub own : AreRows (all_places (the_schema c.names.now)) (the_schema c.names.now).declarations (graph_of c.own.now)
 
 -- The numbers are those of the places of which P holds, and of each place it is decided.
 pub record ArePlacesOf (s : Schema) (P : Place → Type 0) (ns : List ℕ) : Type 0 where

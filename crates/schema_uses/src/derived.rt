@@ -4,13 +4,8 @@ ghost use Rattle.std.specs.Prelude.{◌≡◌, map, IfOk};
 ghost use Rattle.std.specs.List.{AllZip};
 ghost use Rattle.digraph.specs.Graphs.{graph_of};
 ghost use Rattle.express_syntax.specs.Views.{derived_of, declaration_of};
-ghost use Rattle.schema_uses.specs.Speaking.{
-  schema_in,
-  AreSources,
-  ArePlacesOf,
-  DerivesOne,
-  AreDerivedIn,
-};
+ghost use Rattle.schema_names.specs.Schemas.{the_schema};
+ghost use Rattle.schema_uses.specs.Speaking.{AreSources, ArePlacesOf, DerivesOne, AreDerivedIn};
 
 use crate::spoken::{add, derived_place};
 use crate::uses::Sources;
@@ -24,8 +19,9 @@ fn derived_places<'a>(
     deriveds: &[Derived<'a>],
 ) -> Result<Vec<u32>, AllocError>
     requires sources { AreSources sources.now }
-    ensures { IfOk result (λ places. ArePlacesOf (schema_in sources.now)
-        (DerivesOne (schema_in sources.now) (map derived_of deriveds.now)) places.items) }
+    ensures { IfOk result (λ places. ArePlacesOf (the_schema sources.now.names.now)
+        (DerivesOne (the_schema sources.now.names.now) (map derived_of deriveds.now))
+        places.items) }
 {
     let mut places = Vec::new(alloc);
     for derived in deriveds {
@@ -42,7 +38,7 @@ fn derived_by<'a>(
     declaration: &Declaration<'a>,
 ) -> Result<Vec<u32>, AllocError>
     requires sources { AreSources sources.now }
-    ensures { IfOk result (λ places. AreDerivedIn (schema_in sources.now)
+    ensures { IfOk result (λ places. AreDerivedIn (the_schema sources.now.names.now)
         (declaration_of declaration.now) places.items) }
 {
     match declaration {
@@ -59,8 +55,8 @@ pub(crate) fn all_derived(
     sources: &Sources<'_, '_, '_>,
 ) -> Result<Vec<Vec<u32>>, AllocError>
     requires sources { AreSources sources.now }
-    ensures { IfOk result (λ rows. AllZip (AreDerivedIn (schema_in sources.now))
-        (schema_in sources.now).declarations (graph_of rows.items)) }
+    ensures { IfOk result (λ rows. AllZip (AreDerivedIn (the_schema sources.now.names.now))
+        (the_schema sources.now.names.now).declarations (graph_of rows.items)) }
 {
     let mut rows = Vec::new(alloc);
     for declaration in sources.names.declarations() {

@@ -22,9 +22,9 @@ ghost use Rattle.express_syntax.specs.Schemas.{DataType as DataTypeTree};
 ghost use Rattle.express_syntax.specs.Views.{attribute_of, explicit_of, declaration_of};
 ghost use Rattle.schema_semantics.specs.Names.{Name, own_names};
 ghost use Rattle.schema_names.specs.Numbers.{IsAt};
+ghost use Rattle.schema_names.specs.Schemas.{the_schema};
 ghost use Rattle.schema_places.specs.Places.{all_places};
 ghost use Rattle.schema_uses.specs.Speaking.{
-  schema_in,
   AreSources,
   ArePlacesOf,
   SpeakTogether,
@@ -95,10 +95,11 @@ fn spoken_places(
 ) -> Result<Vec<u32>, AllocError>
     requires sources { AreSources sources.now }
     ensures { IfOk result (λ places. (n : Name) (k : DataTypeTree)
-        → IsTypeAt (schema_in sources.now) k data_type
-        → AreOwnAt (schema_in sources.now) n own.now first
+        → IsTypeAt (the_schema sources.now.names.now) k data_type
+        → AreOwnAt (the_schema sources.now.names.now) n own.now first
         (own_names (map attribute_of attributes.now))
-        → ArePlacesOf (schema_in sources.now) (SpeakTogether (schema_in sources.now) n k
+        → ArePlacesOf (the_schema sources.now.names.now)
+        (SpeakTogether (the_schema sources.now.names.now) n k
         (map attribute_of attributes.now)) places.items) }
 {
     let mut places = Vec::new(alloc);
@@ -161,13 +162,15 @@ fn add_explicit<'a>(
 ) -> Result<(), AllocError>
     requires sources { AreSources sources.now }
     requires clean { AreMarks marks.old [] }
-    requires many { length marks.old ≡ length (all_places (schema_in sources.now)) }
-    requires typed { IsTypeAt (schema_in sources.now) (explicit_of explicit.now).data_type data_type }
-    requires owned { (n : Name) × AreOwnAt (schema_in sources.now) n own.now first
+    requires many { length marks.old ≡ length (all_places (the_schema sources.now.names.now)) }
+    requires typed { IsTypeAt (the_schema sources.now.names.now)
+        (explicit_of explicit.now).data_type data_type }
+    requires owned { (n : Name) × AreOwnAt (the_schema sources.now.names.now) n own.now first
         (own_names (explicit_of explicit.now).attributes) }
-    ensures uses { OnOk result ((n : Name) → AreOwnAt (schema_in sources.now) n own.now first
+    ensures uses { OnOk result ((n : Name)
+        → AreOwnAt (the_schema sources.now.names.now) n own.now first
         (own_names (explicit_of explicit.now).attributes)
-        → AddsUses (schema_in sources.now) n (explicit_of explicit.now) uses.old.items
+        → AddsUses (the_schema sources.now.names.now) n (explicit_of explicit.now) uses.old.items
         uses.new.items) }
     ensures clean { OnOk result (AreMarks marks.new []) }
     ensures length { length marks.new ≡ length marks.old }
@@ -196,13 +199,15 @@ fn explicit_uses<'a>(
 ) -> Result<Vec<AttributeUse>, AllocError>
     requires sources { AreSources sources.now }
     requires clean { AreMarks marks.old [] }
-    requires many { length marks.old ≡ length (all_places (schema_in sources.now)) }
-    requires typed { AreTypesAt (schema_in sources.now) row.now (map explicit_of explicits.now) }
-    requires owned { (n : Name) × AreOwnAt (schema_in sources.now) n own.now 0
+    requires many { length marks.old ≡ length (all_places (the_schema sources.now.names.now)) }
+    requires typed { AreTypesAt (the_schema sources.now.names.now) row.now
+        (map explicit_of explicits.now) }
+    requires owned { (n : Name) × AreOwnAt (the_schema sources.now.names.now) n own.now 0
         (names_of (map explicit_of explicits.now)) }
-    ensures uses { IfOk result (λ us. (n : Name) → AreOwnAt (schema_in sources.now) n own.now 0
+    ensures uses { IfOk result (λ us. (n : Name)
+        → AreOwnAt (the_schema sources.now.names.now) n own.now 0
         (names_of (map explicit_of explicits.now))
-        → AreUsesOf (schema_in sources.now) n (map explicit_of explicits.now) us.items) }
+        → AreUsesOf (the_schema sources.now.names.now) n (map explicit_of explicits.now) us.items) }
     ensures clean { OnOk result (AreMarks marks.new []) }
     ensures length { length marks.new ≡ length marks.old }
 {
@@ -228,9 +233,9 @@ fn uses_by<'a>(
 ) -> Result<Vec<AttributeUse>, AllocError>
     requires sources { AreSources sources.now }
     requires clean { AreMarks marks.old [] }
-    requires many { length marks.old ≡ length (all_places (schema_in sources.now)) }
-    requires at { IsAt (schema_in sources.now) i (declaration_of declaration.now) }
-    ensures uses { IfOk result (λ us. AreUsesIn (schema_in sources.now)
+    requires many { length marks.old ≡ length (all_places (the_schema sources.now.names.now)) }
+    requires at { IsAt (the_schema sources.now.names.now) i (declaration_of declaration.now) }
+    ensures uses { IfOk result (λ us. AreUsesIn (the_schema sources.now.names.now)
         (declaration_of declaration.now) us.items) }
     ensures clean { OnOk result (AreMarks marks.new []) }
     ensures length { length marks.new ≡ length marks.old }
@@ -254,9 +259,9 @@ fn gathered_uses(
 ) -> Result<Vec<Vec<AttributeUse>>, AllocError>
     requires sources { AreSources sources.now }
     requires clean { AreMarks marks.old [] }
-    requires many { length marks.old ≡ length (all_places (schema_in sources.now)) }
-    ensures { IfOk result (λ rows. AllZip (AreUsesIn (schema_in sources.now))
-        (schema_in sources.now).declarations (map (λ v. v.items) rows.items)) }
+    requires many { length marks.old ≡ length (all_places (the_schema sources.now.names.now)) }
+    ensures { IfOk result (λ rows. AllZip (AreUsesIn (the_schema sources.now.names.now))
+        (the_schema sources.now.names.now).declarations (map (λ v. v.items) rows.items)) }
 {
     let mut rows = Vec::new(alloc);
     let declarations = sources.names.declarations();
@@ -273,8 +278,8 @@ pub(crate) fn all_uses(
     sources: &Sources<'_, '_, '_>,
 ) -> Result<Vec<Vec<AttributeUse>>, AllocError>
     requires sources { AreSources sources.now }
-    ensures { IfOk result (λ rows. AllZip (AreUsesIn (schema_in sources.now))
-        (schema_in sources.now).declarations (map (λ v. v.items) rows.items)) }
+    ensures { IfOk result (λ rows. AllZip (AreUsesIn (the_schema sources.now.names.now))
+        (the_schema sources.now.names.now).declarations (map (λ v. v.items) rows.items)) }
 {
     let mut marks = vec![in alloc; false; sources.places.len()]?;
     gathered_uses(alloc, sources, &mut marks)

@@ -7,9 +7,9 @@ ghost use Rattle.express_syntax.specs.ExpressionViews.{capitals};
 ghost use Rattle.express_syntax.specs.Schemas.{DataType as DataTypeTree, redeclared};
 ghost use Rattle.express_syntax.specs.Views.{attribute_of};
 ghost use Rattle.schema_semantics.specs.Names.{Name};
+ghost use Rattle.schema_names.specs.Schemas.{the_schema};
 ghost use Rattle.schema_places.specs.Places.{places_of};
 ghost use Rattle.schema_uses.specs.Speaking.{
-  schema_in,
   AreSources,
   ArePlacesOf,
   at_most_one,
@@ -64,8 +64,9 @@ fn own_place(sources: &Sources<'_, '_, '_>, entity: u32, name: Word<'_>) -> Opti
 /// or no explicit attribute.
 pub(crate) fn derived_place(sources: &Sources<'_, '_, '_>, attribute: Attribute<'_>) -> Option<u32>
     requires sources { AreSources sources.now }
-    ensures { ArePlacesOf (schema_in sources.now)
-        (Redeclares (schema_in sources.now) (attribute_of attribute.entry)) (at_most_one result) }
+    ensures { ArePlacesOf (the_schema sources.now.names.now)
+        (Redeclares (the_schema sources.now.names.now) (attribute_of attribute.entry))
+        (at_most_one result) }
 {
     let Attribute::Redeclared(_, name) = attribute else {
         return None;
@@ -84,9 +85,10 @@ fn redeclared_place(
 ) -> Option<u32>
     requires sources { AreSources sources.now }
     requires named { (q : Name) × (attribute_of attribute ≡ redeclared q (capitals name)) }
-    ensures { (n : Name) (k : DataTypeTree) → IsTypeAt (schema_in sources.now) k data_type
-        → ArePlacesOf (schema_in sources.now)
-        (SpeaksOf (schema_in sources.now) n k (attribute_of attribute.entry))
+    ensures { (n : Name) (k : DataTypeTree)
+        → IsTypeAt (the_schema sources.now.names.now) k data_type
+        → ArePlacesOf (the_schema sources.now.names.now)
+        (SpeaksOf (the_schema sources.now.names.now) n k (attribute_of attribute.entry))
         (at_most_one result) }
 {
     let entity = redeclared_entity(sources.names, sources.lines, attribute)?;
@@ -113,10 +115,11 @@ pub(crate) fn explicit_place(
     data_type: u32,
 ) -> Option<u32>
     requires sources { AreSources sources.now }
-    ensures { (n : Name) (k : DataTypeTree) → IsTypeAt (schema_in sources.now) k data_type
-        → IsOwnAt (schema_in sources.now) n (attribute_of attribute.entry) own
-        → ArePlacesOf (schema_in sources.now)
-        (SpeaksOf (schema_in sources.now) n k (attribute_of attribute.entry))
+    ensures { (n : Name) (k : DataTypeTree)
+        → IsTypeAt (the_schema sources.now.names.now) k data_type
+        → IsOwnAt (the_schema sources.now.names.now) n (attribute_of attribute.entry) own
+        → ArePlacesOf (the_schema sources.now.names.now)
+        (SpeaksOf (the_schema sources.now.names.now) n k (attribute_of attribute.entry))
         (at_most_one result) }
 {
     match attribute {

@@ -2,9 +2,9 @@
 
 ghost use Rattle.std.specs.Prelude.{◌≡◌, length, map, IfOk};
 ghost use Rattle.digraph.specs.Graphs.{graph_of};
-ghost use Rattle.express_syntax.specs.SchemaViews.{schema_of};
 ghost use Rattle.schema_semantics.specs.Faults.{IsResolved};
 ghost use Rattle.schema_names.specs.Numbers.{AreRowsOf};
+ghost use Rattle.schema_names.specs.Schemas.{the_schema};
 ghost use Rattle.schema_data_types.specs.Numbered.{whole_types, all_data_types};
 ghost use Rattle.schema_data_types.specs.Shaped.{AreShapes};
 ghost use Rattle.schema_places.specs.Lines.{HaveLines};
@@ -60,20 +60,19 @@ pub struct Sources<'a, 't, 'r> {
 /// For each redeclared attribute it takes time by the line of the entity that it names and by the
 /// attributes of the one that declares it. An error says that memory ran out.
 pub fn attribute_uses(alloc: Global, sources: &Sources<'_, '_, '_>) -> Result<Uses, AllocError>
-    requires resolved { IsResolved (schema_of sources.now.names.now.schema.now) }
-    requires rows { AreRowsOf whole_types (all_data_types (schema_of sources.now.names.now.schema.now))
-        (schema_of sources.now.names.now.schema.now).declarations
+    requires resolved { IsResolved (the_schema sources.now.names.now) }
+    requires rows { AreRowsOf whole_types (all_data_types (the_schema sources.now.names.now))
+        (the_schema sources.now.names.now).declarations
         (graph_of sources.now.data_types.now.rows.items) }
-    requires lines { HaveLines (schema_of sources.now.names.now.schema.now)
-        (graph_of sources.now.lines.now) }
+    requires lines { HaveLines (the_schema sources.now.names.now) (graph_of sources.now.lines.now) }
     requires each { length sources.now.lines.now
         ≡ length sources.now.names.now.schema.now.declarations.items }
-    requires shapes { AreShapes (schema_of sources.now.names.now.schema.now) sources.now.shapes.now }
+    requires shapes { AreShapes (the_schema sources.now.names.now) sources.now.shapes.now }
     requires places { places_of sources.now.places.now
-        ≡ all_places (schema_of sources.now.names.now.schema.now) }
-    requires own { AreRows (all_places (schema_of sources.now.names.now.schema.now))
-        (schema_of sources.now.names.now.schema.now).declarations (graph_of sources.now.own.now) }
-    ensures { IfOk result (AreUses (schema_of sources.now.names.now.schema.now)) }
+        ≡ all_places (the_schema sources.now.names.now) }
+    requires own { AreRows (all_places (the_schema sources.now.names.now))
+        (the_schema sources.now.names.now).declarations (graph_of sources.now.own.now) }
+    ensures { IfOk result (AreUses (the_schema sources.now.names.now)) }
 {
     let explicit = all_uses(alloc, sources)?;
     let derived = all_derived(alloc, sources)?;

@@ -4,4 +4,5 @@ pub mod Again
 mod Refusing
 pub mod Answering
 mod Outcome
+pub mod Oneness
 pub mod Told

@@ -5,7 +5,7 @@ use Rattle.conformance.specs.Choices.{Choice}
 use Rattle.faults.specs.declared.fault.Fault.{Fault}
 use Rattle.shrinking.specs.declared.summary.Summary.{Summary}
 use Rattle.shrinking.specs.Shrinking.{Answers, Shrinks, written_anew}
-use Rattle.shrinking.specs.Laws.{SecondRunsStay, SecondFilesStay}
+use Rattle.shrinking.specs.Laws.{AnswersAreOne, FilesAreOne, SecondRunsStay, SecondFilesStay}
 
 pub answered : (c : Choice) (strict : Bool) (schema file output certificate : List ℕ) (result : Result Summary Fault)
     → Shrinks c strict (Some schema) (Some file) (written_anew output) (written_anew certificate) result
@@ -22,3 +22,9 @@ second_files_stay law c strict schema file output certificate again recertified 
     law c strict schema file output certificate again recertified m result
     (answered c strict schema file output certificate (Ok m) first)
     (answered c strict schema output again recertified result second)
+
+pub files_are_one : AnswersAreOne → FilesAreOne
+files_are_one law c strict schema file output certificate again recertified r q first second =
+    law c strict schema file output certificate again recertified r q
+    (answered c strict schema file output certificate r first)
+    (answered c strict schema file again recertified q second)

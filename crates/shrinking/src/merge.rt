@@ -1,7 +1,7 @@
 //! Merging an exchange structure by its schema.
 
 ghost use Rattle.std.specs.Prelude.{◌≡◌, ◌≤◌, ◌^◌, ℕ, List, [], false, length};
-ghost use Rattle.express_syntax.specs.SchemaViews.{schema_of};
+ghost use Rattle.schema_names.specs.Schemas.{the_schema};
 ghost use Rattle.express_types.specs.Sound.{IsSound};
 ghost use Rattle.schema_semantics.specs.Names.{Name};
 ghost use Rattle.step_equal.specs.TableViews.{table_of};
@@ -34,10 +34,10 @@ use step_exchange::structure::Exchange;
 
 /// What is said of a file of which this is found.
 fn report<'s>(graph: TypeGraph<'s, '_>, found: Found<'s>, exchange: &Exchange<'_>) -> Report<'s>
-    ensures report { AreFindings (schema_of graph.entry.types.names.schema.now)
+    ensures report { AreFindings (the_schema graph.entry.types.names)
         (structure exchange.now) found.entry.findings.items found.entry.rules.findings.items
         found.entry.rules.unknown
-        → IsReport (schema_of graph.entry.types.names.schema.now) (structure exchange.now) result }
+        → IsReport (the_schema graph.entry.types.names) (structure exchange.now) result }
     ensures findings { result.findings ≡ found.entry.findings }
     ensures rules { result.rule_findings ≡ found.entry.rules.findings }
 {
@@ -80,10 +80,9 @@ fn summary<'s>(
     unknown: u64,
     second: &Table,
 ) -> Summary<'s>
-    ensures report { AreFindings (schema_of graph.entry.types.names.schema.now)
+    ensures report { AreFindings (the_schema graph.entry.types.names)
         (structure exchange.now) [] [] unknown
-        → IsReport (schema_of graph.entry.types.names.schema.now) (structure exchange.now)
-        result.report }
+        → IsReport (the_schema graph.entry.types.names) (structure exchange.now) result.report }
     ensures clean { IsClean result.report }
     ensures kept { result.kept ≡ length (table_of second.now).classes }
     ensures rounds { result.rounds ≡ (table_of second.now).rounds }
@@ -109,10 +108,10 @@ pub(crate) fn shrink_exchange<'s: 'a, 'a, O: Sink, C: Sink>(
 ) -> Result<Summary<'s>, Fault<'s>>
     requires sound { IsSound graph }
     ensures shrinks { (names : List Name)
-        → AreChosen (schema_of graph.entry.types.names.schema.now) names chosen.now
+        → AreChosen (the_schema graph.entry.types.names) names chosen.now
         → (bytes : List ℕ) → length bytes ≤ 2 ^ 40
         → ReadsAs bytes exchange.now.header_bytes.now (structure exchange.now)
-        → FileShrinks (schema_of graph.entry.types.names.schema.now) names bytes
+        → FileShrinks (the_schema graph.entry.types.names) names bytes
         (written_to O.held out.old out.new) (written_to C.held certificate.old certificate.new)
         result }
     ensures no_schema_fault { is_device roles.Schema result ≡ false }

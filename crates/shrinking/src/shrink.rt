@@ -12,7 +12,7 @@ ghost use Rattle.std.specs.Prelude.{
   false,
   length,
 };
-ghost use Rattle.express_syntax.specs.SchemaViews.{schema_of};
+ghost use Rattle.schema_names.specs.Schemas.{the_schema};
 ghost use Rattle.express_types.specs.Sound.{IsSound};
 ghost use Rattle.schema_semantics.specs.Names.{Name};
 ghost use Rattle.pin_choices.specs.Chosen.{AreChosen, choice_of};
@@ -49,8 +49,8 @@ fn shrink_file<'s, O: Sink, C: Sink>(
     requires sound { IsSound graph }
     requires within { length bytes.now ≤ 2 ^ 40 }
     ensures shrinks { (names : List Name)
-        → AreChosen (schema_of graph.entry.types.names.schema.now) names chosen.now
-        → FileShrinks (schema_of graph.entry.types.names.schema.now) names bytes.now
+        → AreChosen (the_schema graph.entry.types.names) names chosen.now
+        → FileShrinks (the_schema graph.entry.types.names) names bytes.now
         (written_to O.held out.old out.new) (written_to C.held certificate.old certificate.new)
         result }
     ensures no_schema_fault { is_device roles.Schema result ≡ false }
@@ -78,8 +78,8 @@ fn shrink_source<'s, F: Source, O: Sink, C: Sink>(
 ) -> Result<Summary<'s>, Fault<'s>>
     requires sound { IsSound graph }
     ensures shrinks { (names : List Name)
-        → AreChosen (schema_of graph.entry.types.names.schema.now) names chosen.now
-        → SourceShrinks (schema_of graph.entry.types.names.schema.now) names (F.to_come file.old)
+        → AreChosen (the_schema graph.entry.types.names) names chosen.now
+        → SourceShrinks (the_schema graph.entry.types.names) names (F.to_come file.old)
         (written_to O.held out.old out.new) (written_to C.held certificate.old certificate.new)
         result }
     ensures no_schema_fault { is_device roles.Schema result ≡ false }
@@ -99,9 +99,8 @@ fn shrink_source<'s, F: Source, O: Sink, C: Sink>(
 
 /// Whether a choice refuses a schema, since not all of it is checked.
 fn is_refused(choice: &Choice, graph: &TypeGraph<'_, '_>) -> bool
-    ensures { MatchBool result
-        (IsRefused choice.now.strict (schema_of graph.now.types.names.schema.now))
-        (Passes choice.now.strict (schema_of graph.now.types.names.schema.now)) }
+    ensures { MatchBool result (IsRefused choice.now.strict (the_schema graph.now.types.names))
+        (Passes choice.now.strict (the_schema graph.now.types.names)) }
 {
     choice.strict && !graph.unchecked().is_empty()
 }
@@ -117,8 +116,7 @@ fn shrink_graph<'s, F: Source, O: Sink, C: Sink>(
     certificate: &mut C,
 ) -> Result<Summary<'s>, Fault<'s>>
     requires sound { IsSound graph }
-    ensures shrinks { (text : List ℕ)
-        → HasSchema (schema_of graph.entry.types.names.schema.now) text
+    ensures shrinks { (text : List ℕ) → HasSchema (the_schema graph.entry.types.names) text
         → Shrinks (choice_of choice.now) choice.now.strict (Some text) (F.to_come file.old)
         (written_to O.held out.old out.new) (written_to C.held certificate.old certificate.new)
         result }

@@ -3,10 +3,10 @@
 ghost use Rattle.std.specs.Prelude.{◌≡◌, IfOk, slice_get};
 ghost use Rattle.express_syntax.specs.ExpressionViews.{capitals};
 ghost use Rattle.express_syntax.specs.Profile.{Every};
-ghost use Rattle.express_syntax.specs.SchemaViews.{schema_of};
 ghost use Rattle.schema_semantics.specs.Parts.{dotted};
 ghost use Rattle.schema_parts.specs.Adding.{said};
 ghost use Rattle.schema_names.specs.Numbers.{HasNumber};
+ghost use Rattle.schema_names.specs.Schemas.{the_schema};
 ghost use Rattle.schema_bases.specs.Seen.{name_at};
 ghost use Rattle.schema_rules.specs.Ruled.{AreRuleTables};
 ghost use Rattle.schema_rules.specs.Seen.{label_seen, IsNumberedInverse};
@@ -32,9 +32,8 @@ pub struct Extents<'s, 't, 'r, 'a, 'e> {
     /// For each inverse attribute, those that refer.
     pub(crate) referrers: Vec<Referrers>,
     // The rules are those of the schema.
-    pub ghost ruled: { ∥ AreRuleTables (schema_of population.now.types.now.names.schema.now)
-        rules.now ∥₁ },
-    pub ghost held: { ∥ AllHeld (schema_of population.now.types.now.names.schema.now)
+    pub ghost ruled: { ∥ AreRuleTables (the_schema population.now.types.now.names) rules.now ∥₁ },
+    pub ghost held: { ∥ AllHeld (the_schema population.now.types.now.names)
         (population_seen population.now) rules.now.inverses.items referrers.items ∥₁ },
 }
 
@@ -45,8 +44,8 @@ fn all_referrers(
     inverses: &[InverseAttribute<'_>],
 ) -> Result<Vec<Referrers>, AllocError>
     requires numbered { Every (IsNumberedInverse
-        (schema_of population.now.types.now.names.schema.now)) inverses.now }
-    ensures { IfOk result (λ t. AllHeld (schema_of population.now.types.now.names.schema.now)
+        (the_schema population.now.types.now.names)) inverses.now }
+    ensures { IfOk result (λ t. AllHeld (the_schema population.now.types.now.names)
         (population_seen population.now) inverses.now t.items) }
 {
     let mut all = Vec::with_capacity(alloc, inverses.len())?;
@@ -68,8 +67,7 @@ impl<'s, 't, 'r, 'a, 'e> Extents<'s, 't, 'r, 'a, 'e> {
         population: &'e Population<'s, 't, 'r, 'a>,
         rules: &'e RuleTables<'s>,
     ) -> Result<Extents<'s, 't, 'r, 'a, 'e>, AllocError>
-        requires rules { AreRuleTables (schema_of population.now.types.now.names.schema.now)
-            rules.now }
+        requires rules { AreRuleTables (the_schema population.now.types.now.names) rules.now }
         ensures population { IfOk result (λ x. x.population.now ≡ population.entry.now) }
         ensures rules { IfOk result (λ x. x.rules.now ≡ rules.entry.now) }
     {
@@ -83,20 +81,20 @@ impl<'s, 't, 'r, 'a, 'e> Extents<'s, 't, 'r, 'a, 'e> {
 
     /// The name of the entity or type of a number.
     pub(crate) fn holder(&self, entity: u32) -> Word<'s>
-        requires { HasNumber (schema_of self.now.population.now.types.now.names.schema.now)
-            (name_at (schema_of self.now.population.now.types.now.names.schema.now) entity) entity }
+        requires { HasNumber (the_schema self.now.population.now.types.now.names)
+            (name_at (the_schema self.now.population.now.types.now.names) entity) entity }
         ensures { capitals result
-            ≡ name_at (schema_of self.now.population.now.types.now.names.schema.now) entity }
+            ≡ name_at (the_schema self.now.population.now.types.now.names) entity }
     {
         self.population.types.names.name(entity).unwrap()
     }
 
     /// What the rule of this label is called that the entity or type of a number states.
     pub fn label(&self, holder: u32, label: RuleLabel<'s>) -> Label<'s>
-        requires { HasNumber (schema_of self.now.population.now.types.now.names.schema.now)
-            (name_at (schema_of self.now.population.now.types.now.names.schema.now) holder) holder }
+        requires { HasNumber (the_schema self.now.population.now.types.now.names)
+            (name_at (the_schema self.now.population.now.types.now.names) holder) holder }
         ensures { said result
-            ≡ dotted (name_at (schema_of self.now.population.now.types.now.names.schema.now) holder)
+            ≡ dotted (name_at (the_schema self.now.population.now.types.now.names) holder)
             (label_seen label.entry) }
     {
         let holder = self.holder(holder);
@@ -112,7 +110,7 @@ impl<'s, 't, 'r, 'a, 'e> Extents<'s, 't, 'r, 'a, 'e> {
     /// takes no memory.
     pub fn inverse_by_number(&self, name: u64, attribute: usize) -> &[u64]
         ensures { result.now
-            ≡ inverse_value_by (schema_of self.now.population.now.types.now.names.schema.now)
+            ≡ inverse_value_by (the_schema self.now.population.now.types.now.names)
             (slice_get self.now.rules.now.inverses.items attribute)
             (population_seen self.now.population.now) name }
     {
@@ -124,7 +122,7 @@ impl<'s, 't, 'r, 'a, 'e> Extents<'s, 't, 'r, 'a, 'e> {
     /// of their names nothing is searched then. What is found doesn't depend on it.
     pub fn inverse_near(&self, name: u64, attribute: usize, near: usize) -> (&[u64], usize)
         ensures { result.0.now
-            ≡ inverse_value_by (schema_of self.now.population.now.types.now.names.schema.now)
+            ≡ inverse_value_by (the_schema self.now.population.now.types.now.names)
             (slice_get self.now.rules.now.inverses.items attribute)
             (population_seen self.now.population.now) name }
     {

@@ -3,9 +3,9 @@
 
 ghost use Rattle.std.specs.Prelude.{◌≡◌, ℕ, ◌∷◌, [], ◌++◌, min, IfOk, OnOk};
 ghost use Rattle.std.specs.List.{repeat};
-ghost use Rattle.express_syntax.specs.SchemaViews.{schema_of};
 ghost use Rattle.conformance.specs.Referring.{holds, times, times_at};
 ghost use Rattle.referrers.specs.Referring.{referrers_of};
+ghost use Rattle.schema_names.specs.Schemas.{the_schema};
 ghost use Rattle.schema_rules.specs.Seen.{gathering_seen, IsNumberedInverse};
 ghost use Rattle.population_typed.specs.Ordering.{picked_at};
 ghost use Rattle.population_typed.specs.Seen.{population_seen};
@@ -106,9 +106,8 @@ pub(crate) fn gathered(
     population: &Population<'_, '_, '_, '_>,
     inverse: &InverseAttribute<'_>,
 ) -> Result<Vec<Reference>, AllocError>
-    requires numbered { IsNumberedInverse (schema_of population.now.types.now.names.schema.now)
-        inverse.now }
-    ensures { IfOk result (λ t. AreHeld (schema_of population.now.types.now.names.schema.now)
+    requires numbered { IsNumberedInverse (the_schema population.now.types.now.names) inverse.now }
+    ensures { IfOk result (λ t. AreHeld (the_schema population.now.types.now.names)
         inverse.now (population_seen population.now) t.items) }
 {
     let positions = positions(alloc, inverse, population.forms())?;

@@ -2,9 +2,9 @@
 
 ghost use Rattle.std.specs.Prelude.{◌≡◌, ◌<◌, Some, length, slice_get};
 ghost use Rattle.express_syntax.specs.ExpressionViews.{capitals};
-ghost use Rattle.express_syntax.specs.SchemaViews.{schema_of};
 ghost use Rattle.schema_semantics.specs.Attributes.{same_place};
 ghost use Rattle.conformance.specs.Referring.{inverse_of};
+ghost use Rattle.schema_names.specs.Schemas.{the_schema};
 ghost use Rattle.schema_rules.specs.Seen.{inverse_seen, rules_seen};
 ghost use Rattle.schema_rules.specs.declared.inverses.InverseAttribute.{
   InverseAttribute as Attribute,
@@ -22,7 +22,7 @@ impl<'s, 't, 'r, 'a, 'e> Extents<'s, 't, 'r, 'a, 'e> {
         requires { number < length self.now.rules.now.inverses.items }
         ensures { (i : Attribute) → slice_get self.now.rules.now.inverses.items number ≡ Some i
             → result ≡ same_place (place_of_inverse (inverse_seen
-            (schema_of self.now.population.now.types.now.names.schema.now) i))
+            (the_schema self.now.population.now.types.now.names) i))
             (capitals entity.entry, capitals attribute.entry) }
     {
         let inverse = &self.rules.inverses[number];
@@ -33,7 +33,7 @@ impl<'s, 't, 'r, 'a, 'e> Extents<'s, 't, 'r, 'a, 'e> {
     /// where there is none.
     fn number_of(&self, entity: Word<'_>, attribute: Word<'_>) -> Option<usize>
         ensures { result ≡ number_from 0
-            (rules_seen (schema_of self.now.population.now.types.now.names.schema.now)
+            (rules_seen (the_schema self.now.population.now.types.now.names)
             self.now.rules.now).inverses (capitals entity.entry, capitals attribute.entry) }
     {
         for number in 0..self.rules.inverses.len() {
@@ -50,7 +50,7 @@ impl<'s, 't, 'r, 'a, 'e> Extents<'s, 't, 'r, 'a, 'e> {
     /// of the instance declares it. It takes no memory.
     pub fn inverse_of(&self, name: u64, entity: Word<'_>, attribute: Word<'_>) -> &[u64]
         ensures { result.now ≡ inverse_of
-            (rules_seen (schema_of self.now.population.now.types.now.names.schema.now)
+            (rules_seen (the_schema self.now.population.now.types.now.names)
             self.now.rules.now).inverses (population_seen self.now.population.now) name
             (capitals entity.entry, capitals attribute.entry) }
     {

@@ -3,7 +3,8 @@
 ghost use Rattle.std.specs.Prelude.{◌≡◌};
 ghost use Rattle.express_syntax.specs.Schemas.{Schema};
 ghost use Rattle.conformance.specs.Bases.{Domain, IsDomain};
-ghost use Rattle.schema_bases.specs.Seen.{base_seen, schema_at};
+ghost use Rattle.schema_names.specs.Schemas.{the_schema};
+ghost use Rattle.schema_bases.specs.Seen.{base_seen};
 ghost use Rattle.schema_bases.specs.Tables.{AreBases, IsNumbered};
 ghost use Rattle.step_pins.specs.Holding.{is_unique, has_parts, may_hold};
 
@@ -32,9 +33,9 @@ fn has_parts(base: Base) -> bool
 /// it is false none can; a SET, whose values are none, is taken for one of UNIQUE.
 pub(crate) fn may_hold(bases: &Bases<'_, '_, '_>, base: Base) -> bool
     requires bases { AreBases bases.now }
-    requires numbered { IsNumbered (schema_at bases.now) base }
-    ensures { (d : Domain) → IsDomain (schema_at bases.now) d
-        → result ≡ may_hold d (base_seen (schema_at bases.now) base) }
+    requires numbered { IsNumbered (the_schema bases.now.names.now) base }
+    ensures { (d : Domain) → IsDomain (the_schema bases.now.names.now) d
+        → result ≡ may_hold d (base_seen (the_schema bases.now.names.now) base) }
 {
     match base {
         Base::Select(_) => true,

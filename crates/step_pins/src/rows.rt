@@ -2,8 +2,8 @@
 
 ghost use Rattle.std.specs.Prelude.{List, OnOk};
 ghost use Rattle.express_syntax.specs.Schemas.{Schema};
-ghost use Rattle.express_syntax.specs.SchemaViews.{schema_of};
 ghost use Rattle.schema_semantics.specs.Names.{Name, OneOf};
+ghost use Rattle.schema_names.specs.Schemas.{the_schema};
 ghost use Rattle.schema_types.specs.Made.{IsMade};
 ghost use Rattle.pin_choices.specs.Chosen.{AreChosen};
 ghost use Rattle.conformance.specs.Entities.{Entities, AreEntities};
@@ -120,14 +120,13 @@ pub(crate) fn pin_by_forms(
     chosen: &Chosen,
 ) -> Result<(), AllocError>
     requires made { IsMade population.now.types.now }
-    requires numbered { AreNumbered (schema_of population.now.types.now.names.schema.now)
-        rules.now }
+    requires numbered { AreNumbered (the_schema population.now.types.now.names) rules.now }
     ensures { (en : Entities) (names : List Name)
-        → AreEntities (schema_of population.now.types.now.names.schema.now) en
-        → AreChosen (schema_of population.now.types.now.names.schema.now) names chosen.now
+        → AreEntities (the_schema population.now.types.now.names) en
+        → AreChosen (the_schema population.now.types.now.names) names chosen.now
         → OnOk result (Pins (λ y. OneOf
-        (PinsByForm (schema_of population.now.types.now.names.schema.now) en names
-        (rules_seen (schema_of population.now.types.now.names.schema.now) rules.now).uniques y)
+        (PinsByForm (the_schema population.now.types.now.names) en names
+        (rules_seen (the_schema population.now.types.now.names) rules.now).uniques y)
         (population_seen population.now)) pinned.old pinned.new) }
 {
     let sources = Sources {

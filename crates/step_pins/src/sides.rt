@@ -1,9 +1,9 @@
 //! Pinning the instances on the sides of inverse attributes (ISO 10303-11, 9.2.1.3).
 
 ghost use Rattle.std.specs.Prelude.{OnOk};
-ghost use Rattle.express_syntax.specs.SchemaViews.{schema_of};
 ghost use Rattle.schema_semantics.specs.Names.{OneOf};
 ghost use Rattle.conformance.specs.Pins.{IsInverseSide};
+ghost use Rattle.schema_names.specs.Schemas.{the_schema};
 ghost use Rattle.schema_rules.specs.Seen.{AreNumbered, rules_seen};
 ghost use Rattle.population_typed.specs.Seen.{population_seen};
 ghost use Rattle.step_pins.specs.Pinning.{Pins};
@@ -33,8 +33,7 @@ fn pin_sides_of(
     name: u64,
     numbers: &[usize],
 ) -> Result<(), AllocError>
-    ensures { OnOk result (Pins (IsOnSideOf
-        (schema_of extents.now.population.now.types.now.names.schema.now)
+    ensures { OnOk result (Pins (IsOnSideOf (the_schema extents.now.population.now.types.now.names)
         (population_seen extents.now.population.now) extents.now.rules.now.inverses.items name
         numbers.now) pinned.old pinned.new) }
 {
@@ -52,10 +51,10 @@ pub(crate) fn pin_sides(
     pinned: &mut BTreeSet<u64>,
 ) -> Result<(), AllocError>
     requires numbered { AreNumbered
-        (schema_of extents.now.population.now.types.now.names.schema.now) extents.now.rules.now }
+        (the_schema extents.now.population.now.types.now.names) extents.now.rules.now }
     ensures { OnOk result (Pins (λ y. OneOf
         (IsInverseSide (population_seen extents.now.population.now) y)
-        (rules_seen (schema_of extents.now.population.now.types.now.names.schema.now)
+        (rules_seen (the_schema extents.now.population.now.types.now.names)
         extents.now.rules.now).inverses) pinned.old pinned.new) }
 {
     let population = extents.population;

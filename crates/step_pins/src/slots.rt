@@ -3,9 +3,10 @@
 ghost use Rattle.std.specs.Prelude.{◌≡◌, ◌∷◌, [], IfOk, OnOk};
 ghost use Rattle.std.specs.List.{AllZip};
 ghost use Rattle.express_syntax.specs.Profile.{Every};
+ghost use Rattle.schema_names.specs.Schemas.{the_schema};
 ghost use Rattle.schema_uses.specs.declared.uses.AttributeUse.{AttributeUse as Use};
 ghost use Rattle.schema_uses.specs.Uses.{of_place, uses_at};
-ghost use Rattle.schema_bases.specs.Seen.{type_at, schema_at};
+ghost use Rattle.schema_bases.specs.Seen.{type_at};
 ghost use Rattle.schema_bases.specs.Tables.{AreBases, IsKnown};
 ghost use Rattle.population_layouts.specs.Slots.{uses_by};
 ghost use Rattle.step_pins.specs.Slots.{
@@ -54,9 +55,11 @@ fn add_slot(
     data_type: u32,
 ) -> Result<(), AllocError>
     requires bases { AreBases bases.now }
-    requires known { IsKnown (schema_at bases.now) (type_at (schema_at bases.now) data_type) }
-    ensures { OnOk result (AddsSlots (schema_at bases.now) slots.old.items slots.new.items
-        (λ d. slots_of d position (type_at (schema_at bases.now) data_type ∷ []))) }
+    requires known { IsKnown (the_schema bases.now.names.now)
+        (type_at (the_schema bases.now.names.now) data_type) }
+    ensures { OnOk result (AddsSlots (the_schema bases.now.names.now) slots.old.items
+        slots.new.items
+        (λ d. slots_of d position (type_at (the_schema bases.now.names.now) data_type ∷ []))) }
 {
     let base = bases.of_number(data_type);
     if may_hold(bases, base) {
@@ -74,9 +77,11 @@ fn add_use(
     each: AttributeUse,
 ) -> Result<(), AllocError>
     requires bases { AreBases bases.now }
-    requires known { IsKnown (schema_at bases.now) (type_at (schema_at bases.now) each.data_type) }
-    ensures { OnOk result (AddsSlots (schema_at bases.now) slots.old.items slots.new.items
-        (λ d. slots_of d position (asked (schema_at bases.now) (of_place place (each ∷ []))))) }
+    requires known { IsKnown (the_schema bases.now.names.now)
+        (type_at (the_schema bases.now.names.now) each.data_type) }
+    ensures { OnOk result (AddsSlots (the_schema bases.now.names.now) slots.old.items
+        slots.new.items (λ d. slots_of d position
+        (asked (the_schema bases.now.names.now) (of_place place (each ∷ []))))) }
 {
     if each.place == place {
         add_slot(bases, slots, position, each.data_type)
@@ -94,10 +99,11 @@ fn add_uses(
     uses: &[AttributeUse],
 ) -> Result<(), AllocError>
     requires bases { AreBases bases.now }
-    requires known { Every (λ (u : Use). IsKnown (schema_at bases.now)
-        (type_at (schema_at bases.now) u.data_type)) uses.now }
-    ensures { OnOk result (AddsSlots (schema_at bases.now) slots.old.items slots.new.items
-        (λ d. slots_of d position (asked (schema_at bases.now) (of_place place uses.now)))) }
+    requires known { Every (λ (u : Use). IsKnown (the_schema bases.now.names.now)
+        (type_at (the_schema bases.now.names.now) u.data_type)) uses.now }
+    ensures { OnOk result (AddsSlots (the_schema bases.now.names.now) slots.old.items
+        slots.new.items (λ d. slots_of d position
+        (asked (the_schema bases.now.names.now) (of_place place uses.now)))) }
 {
     for i in 0..uses.len() {
         add_use(bases, slots, position, place, uses[i])?;
@@ -115,9 +121,9 @@ fn add_place(
     place: u32,
 ) -> Result<(), AllocError>
     requires bases { AreBases bases.now }
-    requires known { AreKnown (schema_at bases.now) uses.now }
-    ensures { OnOk result (AddsSlots (schema_at bases.now) slots.old.items slots.new.items
-        (λ d. slots_of d position (asked (schema_at bases.now)
+    requires known { AreKnown (the_schema bases.now.names.now) uses.now }
+    ensures { OnOk result (AddsSlots (the_schema bases.now.names.now) slots.old.items
+        slots.new.items (λ d. slots_of d position (asked (the_schema bases.now.names.now)
         (uses_by uses.now types.now place)))) }
 {
     for i in 0..types.len() {
@@ -134,8 +140,9 @@ fn slots_of_form(
     form: &Form,
 ) -> Result<Vec<UniqueSlot>, AllocError>
     requires bases { AreBases bases.now }
-    requires known { AreKnown (schema_at bases.now) uses.now }
-    ensures { IfOk result (λ v. IsUniqueRow (schema_at bases.now) uses.now form.now v.items) }
+    requires known { AreKnown (the_schema bases.now.names.now) uses.now }
+    ensures { IfOk result (λ v. IsUniqueRow (the_schema bases.now.names.now) uses.now form.now
+        v.items) }
 {
     let mut slots = Vec::new(alloc);
     for i in 0..form.slots.len() {
@@ -152,9 +159,9 @@ pub(crate) fn slots_by_form(
     forms: &[Form],
 ) -> Result<Vec<Vec<UniqueSlot>>, AllocError>
     requires bases { AreBases bases.now }
-    requires known { AreKnown (schema_at bases.now) uses.now }
-    ensures { IfOk result (λ rows. AllZip (IsRowOf (schema_at bases.now) uses.now) forms.now
-        rows.items) }
+    requires known { AreKnown (the_schema bases.now.names.now) uses.now }
+    ensures { IfOk result (λ rows. AllZip (IsRowOf (the_schema bases.now.names.now) uses.now)
+        forms.now rows.items) }
 {
     let mut rows = Vec::with_capacity(alloc, forms.len())?;
     for i in 0..forms.len() {

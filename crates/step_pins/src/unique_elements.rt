@@ -1,12 +1,11 @@
 //! The LISTs and ARRAYs OF UNIQUE of a population.
 
 ghost use Rattle.std.specs.Prelude.{◌≡◌, OnOk, map};
-ghost use Rattle.express_syntax.specs.SchemaViews.{schema_of};
 ghost use Rattle.schema_semantics.specs.Names.{OneOf};
+ghost use Rattle.schema_names.specs.Schemas.{the_schema};
 ghost use Rattle.schema_types.specs.Made.{IsMade};
 ghost use Rattle.conformance.specs.Bases.{Domain, IsDomain};
 ghost use Rattle.conformance.specs.Entities.{Entities, AreEntities};
-ghost use Rattle.schema_bases.specs.Seen.{schema_at};
 ghost use Rattle.schema_bases.specs.Tables.{AreBases, IsNumbered};
 ghost use Rattle.conformance.specs.Elements.{HasUniqueValue};
 ghost use Rattle.population_typed.specs.Seen.{population_seen};
@@ -32,10 +31,10 @@ fn gather_at(
     values: &Slots<'_, '_>,
 ) -> Result<(), AllocError>
     requires bases { AreBases bases.now }
-    requires numbered { IsNumbered (schema_at bases.now) slot.base }
-    ensures { (d : Domain) → IsDomain (schema_at bases.now) d → OnOk result (Gathers
-        (λ q. HasUniqueAt (schema_at bases.now) d (Asks q) values.now
-        (slot_seen (schema_at bases.now) slot)) weak.old weak.new) }
+    requires numbered { IsNumbered (the_schema bases.now.names.now) slot.base }
+    ensures { (d : Domain) → IsDomain (the_schema bases.now.names.now) d → OnOk result (Gathers
+        (λ q. HasUniqueAt (the_schema bases.now.names.now) d (Asks q) values.now
+        (slot_seen (the_schema bases.now.names.now) slot)) weak.old weak.new) }
 {
     match values.item(slot.position) {
         Some(value) => gather_in_value(bases, weak, slot.base, &value),
@@ -51,10 +50,10 @@ fn gather_in_slots(
     values: &Slots<'_, '_>,
 ) -> Result<(), AllocError>
     requires bases { AreBases bases.now }
-    requires numbered { HaveNumbers (schema_at bases.now) slots.now }
-    ensures { (d : Domain) → IsDomain (schema_at bases.now) d → OnOk result (Gathers
-        (λ q. OneOf (HasUniqueAt (schema_at bases.now) d (Asks q) values.now)
-        (map (slot_seen (schema_at bases.now)) slots.now)) weak.old weak.new) }
+    requires numbered { HaveNumbers (the_schema bases.now.names.now) slots.now }
+    ensures { (d : Domain) → IsDomain (the_schema bases.now.names.now) d → OnOk result (Gathers
+        (λ q. OneOf (HasUniqueAt (the_schema bases.now.names.now) d (Asks q) values.now)
+        (map (slot_seen (the_schema bases.now.names.now)) slots.now)) weak.old weak.new) }
 {
     for i in 0..slots.len() {
         gather_at(bases, weak, slots[i], values)?;
@@ -72,11 +71,10 @@ pub(crate) fn gather_elements(
     weak: &mut WeakPins,
 ) -> Result<(), AllocError>
     requires made { IsMade population.now.types.now }
-    ensures { (d : Domain) (en : Entities)
-        → IsDomain (schema_of population.now.types.now.names.schema.now) d
-        → AreEntities (schema_of population.now.types.now.names.schema.now) en
+    ensures { (d : Domain) (en : Entities) → IsDomain (the_schema population.now.types.now.names) d
+        → AreEntities (the_schema population.now.types.now.names) en
         → OnOk result (Gathers (λ q. OneOf
-        (HasUniqueValue (schema_of population.now.types.now.names.schema.now) d en
+        (HasUniqueValue (the_schema population.now.types.now.names) d en
         (Asks q)) (population_seen population.now)) weak.old weak.new) }
 {
     let tables = SchemaTables::of(alloc, population.types)?;

@@ -3,7 +3,8 @@
 ghost use Rattle.std.specs.Prelude.{OnOk};
 ghost use Rattle.express_syntax.specs.Schemas.{Schema};
 ghost use Rattle.conformance.specs.Bases.{Domain, IsDomain};
-ghost use Rattle.schema_bases.specs.Seen.{base_seen, schema_at};
+ghost use Rattle.schema_names.specs.Schemas.{the_schema};
+ghost use Rattle.schema_bases.specs.Seen.{base_seen};
 ghost use Rattle.schema_bases.specs.Tables.{AreBases, IsNumbered};
 ghost use Rattle.conformance.specs.Elements.{HasUnique, HasUniqueAmong};
 ghost use Rattle.step_pins.specs.Gathering.{Gathers};
@@ -53,10 +54,10 @@ pub(crate) fn gather_in_value(
     value: &Slot<'_, '_>,
 ) -> Result<(), AllocError>
     requires bases { AreBases bases.now }
-    requires numbered { IsNumbered (schema_at bases.now) base }
-    ensures { (d : Domain) → IsDomain (schema_at bases.now) d → OnOk result (Gathers
-        (λ q. HasUnique (schema_at bases.now) d (Asks q)
-        (base_seen (schema_at bases.now) base) value.now) weak.old weak.new) }
+    requires numbered { IsNumbered (the_schema bases.now.names.now) base }
+    ensures { (d : Domain) → IsDomain (the_schema bases.now.names.now) d → OnOk result (Gathers
+        (λ q. HasUnique (the_schema bases.now.names.now) d (Asks q)
+        (base_seen (the_schema bases.now.names.now) base) value.now) weak.old weak.new) }
 {
     match value.node() {
         Node::Typed(word, inner) => match item(bases, base, word) {
@@ -81,10 +82,10 @@ fn gather_in_elements(
     values: &Slots<'_, '_>,
 ) -> Result<(), AllocError>
     requires bases { AreBases bases.now }
-    requires numbered { IsNumbered (schema_at bases.now) base }
-    ensures { (d : Domain) → IsDomain (schema_at bases.now) d → OnOk result (Gathers
-        (λ q. HasInElements (schema_at bases.now) d (Asks q)
-        (base_seen (schema_at bases.now) base) values.now) weak.old weak.new) }
+    requires numbered { IsNumbered (the_schema bases.now.names.now) base }
+    ensures { (d : Domain) → IsDomain (the_schema bases.now.names.now) d → OnOk result (Gathers
+        (λ q. HasInElements (the_schema bases.now.names.now) d (Asks q)
+        (base_seen (the_schema bases.now.names.now) base) values.now) weak.old weak.new) }
 {
     let Base::Aggregate(aggregate) = base else {
         return Ok(());
@@ -102,10 +103,10 @@ fn gather_in_each(
     values: &Slots<'_, '_>,
 ) -> Result<(), AllocError>
     requires bases { AreBases bases.now }
-    requires numbered { IsNumbered (schema_at bases.now) base }
-    ensures { (d : Domain) → IsDomain (schema_at bases.now) d → OnOk result (Gathers
-        (λ q. HasUniqueAmong (schema_at bases.now) d (Asks q)
-        (base_seen (schema_at bases.now) base) values.now) weak.old weak.new) }
+    requires numbered { IsNumbered (the_schema bases.now.names.now) base }
+    ensures { (d : Domain) → IsDomain (the_schema bases.now.names.now) d → OnOk result (Gathers
+        (λ q. HasUniqueAmong (the_schema bases.now.names.now) d (Asks q)
+        (base_seen (the_schema bases.now.names.now) base) values.now) weak.old weak.new) }
 {
     if !may_hold(bases, base) {
         return Ok(());

@@ -1,8 +1,8 @@
 //! The pins of a population by the weak rules.
 
 ghost use Rattle.std.specs.Prelude.{ℕ, List, IsTrue, ◌↔◌, IfOk};
-ghost use Rattle.express_syntax.specs.SchemaViews.{schema_of};
 ghost use Rattle.schema_semantics.specs.Names.{Name};
+ghost use Rattle.schema_names.specs.Schemas.{the_schema};
 ghost use Rattle.schema_types.specs.Made.{IsMade};
 ghost use Rattle.conformance.specs.Bases.{Domain, IsDomain};
 ghost use Rattle.conformance.specs.Entities.{Entities, AreEntities};
@@ -41,19 +41,18 @@ pub fn pins(
 ) -> Result<WeakPins, AllocError>
     requires made { IsMade extents.now.population.now.types.now }
     requires numbered { AreNumbered
-        (schema_of extents.now.population.now.types.now.names.schema.now) extents.now.rules.now }
+        (the_schema extents.now.population.now.types.now.names) extents.now.rules.now }
     ensures pins { (d : Domain) (en : Entities) (names : List Name)
-        → IsDomain (schema_of extents.now.population.now.types.now.names.schema.now) d
-        → AreEntities (schema_of extents.now.population.now.types.now.names.schema.now) en
-        → AreChosen (schema_of extents.now.population.now.types.now.names.schema.now) names
-        chosen.now
+        → IsDomain (the_schema extents.now.population.now.types.now.names) d
+        → AreEntities (the_schema extents.now.population.now.types.now.names) en
+        → AreChosen (the_schema extents.now.population.now.types.now.names) names chosen.now
         → IfOk result (λ t. (y : ℕ) → IsTrue (is_pinned t.pins y) ↔ IsWeaklyPinned
-        (schema_of extents.now.population.now.types.now.names.schema.now) d en
-        (rules_seen (schema_of extents.now.population.now.types.now.names.schema.now)
+        (the_schema extents.now.population.now.types.now.names) d en
+        (rules_seen (the_schema extents.now.population.now.types.now.names)
         extents.now.rules.now) names (population_seen extents.now.population.now) y) }
     // Whatever the classes of instances are, the gentle rules are kept by these lists.
     ensures lists { IfOk result (λ t. AreUniqueOf
-        (schema_of extents.now.population.now.types.now.names.schema.now)
+        (the_schema extents.now.population.now.types.now.names)
         (population_seen extents.now.population.now) t.lists) }
 {
     let population = extents.population;

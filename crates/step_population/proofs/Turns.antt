@@ -11,9 +11,9 @@ use Rattle.step_values.specs.Values.{Value, Values}
 use Rattle.express_syntax.specs.Schemas.{Schema}
 use Rattle.population_rows.specs.declared.index.RowIndex.{RowIndex}
 use Rattle.population_rows.specs.Index.{found}
+use Rattle.schema_names.specs.Schemas.{the_schema}
 use Rattle.population_fits.specs.References.{AreFound}
 use Rattle.schema_bases.specs.declared.lookup.Bases.{Bases}
-use Rattle.schema_bases.specs.Seen.{schema_at}
 use Rattle.schema_bases.specs.Tables.{AreBases}
 use Rattle.conformance.specs.Bases.{Domain, IsDomain}
 use Rattle.conformance.specs.Entities.{joined, parameters, records}
@@ -23,7 +23,7 @@ use Rattle.population_faults.proofs.Makings.{form-internal}
 use Rattle.population_typed.specs.Whole.{form_among}
 use Rattle.population_typed.proofs.Turns.{drop-item}
 use Rattle.step_population.specs.declared.building.Maker.{Maker}
-use Rattle.step_population.specs.Making.{value_by, values_by, row_by, rows_by, IsReady, AreReady, IsRowReady, AreRowsReady, schema_of_maker, found_by, IsMaker, Adds, AddsUpTo, AddsRows, AddsRowsUpTo}
+use Rattle.step_population.specs.Making.{value_by, values_by, row_by, rows_by, IsReady, AreReady, IsRowReady, AreRowsReady, found_by, IsMaker, Adds, AddsUpTo, AddsRows, AddsRowsUpTo}
 
 pub none-by : (s : Schema) (d : Domain) (xs : List SlotForm) → values_by s d xs none ≡ []
 none-by s d [] = refl
@@ -151,24 +151,25 @@ internal-parameters parts values k own =
 -- what values are made by
 module _ (m : Maker) (b : Bases) (i : RowIndex) (tables : m.bases ≡ b) (index : m.index.now ≡ i) (forms : List Form)
     (ws rs : List Row) (os : List (Option ℕ)) (same : ws ≡ rs) where
-  pub ready-by : AreRowsReady (schema_at b) (found i) forms rs os
-      → AreRowsReady (schema_of_maker m) (found_by m) forms ws os
+  pub ready-by : AreRowsReady (the_schema b.names.now) (found i) forms rs os
+      → AreRowsReady (the_schema m.bases.names.now) (found_by m) forms ws os
   ready-by h =
-      subst (λ l. AreRowsReady (schema_of_maker m) (found_by m) forms l os) (sym same)
-      (subst (λ c. AreRowsReady (schema_at c) (found_by m) forms rs os) (sym tables)
-      (subst (λ j. AreRowsReady (schema_at b) (found j) forms rs os) (sym index) h))
+      subst (λ l. AreRowsReady (the_schema m.bases.names.now) (found_by m) forms l os) (sym same)
+      (subst (λ (c : Bases). AreRowsReady (the_schema c.names.now) (found_by m) forms rs os) (sym tables)
+      (subst (λ j. AreRowsReady (the_schema b.names.now) (found j) forms rs os) (sym index) h))
 
   pub maker-by : (names : List ℕ) → AreBases b → AreFound names (found i) → IsMaker m names
   maker-by names h k = (subst AreBases (sym tables) h, subst (λ j. AreFound names (found j)) (sym index) k)
 
   -- the rows that are made
   pub rows-made : (names : List ℕ) (old new : Building) → old ≡ record { names = names; rows = []; pending = [] }
-      → AddsRows m old new (λ d. rows_by (schema_of_maker m) d forms ws os) → (d : Domain)
-      → IsDomain (schema_at b) d → (new.rows ≡ rows_by (schema_at b) d forms rs os) × (new.pending ≡ [])
+      → AddsRows m old new (λ d. rows_by (the_schema m.bases.names.now) d forms ws os) → (d : Domain)
+      → IsDomain (the_schema b.names.now) d → (new.rows ≡ rows_by (the_schema b.names.now) d forms rs os)
+      × (new.pending ≡ [])
   rows-made names old new first adds d is =
-      let so = adds d (subst (λ c. IsDomain (schema_at c) d) (sym tables) is) in (
+      let so = adds d (subst (λ (c : Bases). IsDomain (the_schema c.names.now) d) (sym tables) is) in (
         ap (λ (c : Building). c.rows) so
-            ∙ ap (λ (c : Building). c.rows ++ rows_by (schema_of_maker m) d forms ws os) first
-            ∙ (λ k. rows_by (schema_at (tables k)) d forms (same k) os),
+            ∙ ap (λ (c : Building). c.rows ++ rows_by (the_schema m.bases.names.now) d forms ws os) first
+            ∙ (λ k. rows_by (the_schema (tables k).names.now) d forms (same k) os),
         ap (λ (c : Building). c.pending) so ∙ ap (λ (c : Building). c.pending) first,
       )

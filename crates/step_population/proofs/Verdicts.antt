@@ -1,17 +1,15 @@
 -- What is found of a file, by the tables of its schema.
 use Rattle.std.specs.Prelude.{◌≡◌, ℕ, ◌<◌, ◌≤◌, List, [], ◌∷◌, length}
 use Rattle.std.proofs.Common.{refl, sym, subst, ◌∙◌, arith}
-use Rattle.express_syntax.specs.SchemaViews.{schema_of}
-use Rattle.express_syntax.specs.Schemas.{Schema}
 use Rattle.schema_semantics.specs.Faults.{IsResolved}
 use Rattle.schema_names.specs.declared.names.Names.{Names}
+use Rattle.schema_names.specs.Schemas.{the_schema}
 use Rattle.step_exchange.specs.declared.structure.Exchange.{Exchange}
 use Rattle.step_exchange.specs.Exchanges.{structure}
 use Rattle.step_values.specs.Building.{Kept}
 use Rattle.step_values.specs.Targets.{LeadTo, ReferTo}
 use Rattle.population_rows.specs.Index.{found}
 use Rattle.schema_bases.specs.declared.lookup.Bases.{Bases}
-use Rattle.schema_bases.specs.Seen.{schema_at}
 use Rattle.schema_bases.specs.Tables.{AreBases}
 use Rattle.conformance.specs.declared.finding.Finding.{Finding}
 use Rattle.conformance.specs.Bases.{Domain, IsDomain}
@@ -19,7 +17,6 @@ use Rattle.conformance.specs.Entities.{Entities, AreEntities}
 use Rattle.conformance.specs.Findings.{findings}
 use Rattle.conformance.specs.Populations.{population_of}
 use Rattle.population_layouts.specs.declared.knowledge.Knowledge.{Knowledge}
-use Rattle.population_layouts.specs.Knowing.{schema_in}
 use Rattle.population_fits.specs.References.{AreFound}
 use Rattle.population_faults.specs.Rows.{rows_in, AreRowsOf}
 use Rattle.population_rows.specs.declared.rows.Rows.{Rows}
@@ -37,82 +34,80 @@ pub full-so : {A : Type 0} (xs : List A) (n : ℕ) → n ≡ length xs → 0 < n
 full-so [] n e lt is = absurd (omega (arith, e, lt))
 full-so (x ∷ xs) n e lt is = absurd (cc)
 
-abbrev pub schema_by : Names → Schema
-schema_by n = schema_of n.schema.now
-
 module _ (n : Names) (k : Knowledge) (b : Bases) (x : Exchange) (t : Rows) (same : k.names.now ≡ n)
-    (same-bases : b.names.now ≡ n) (said : (en : Entities) × AreEntities (schema_in k) en)
+    (same-bases : b.names.now ≡ n) (said : (en : Entities) × AreEntities (the_schema k.names.now) en)
     (bases : AreBases b)
-    (rows : (en : Entities) → AreEntities (schema_in k) en → AreRowsOf (schema_in k) en (rows_in x) t) where
-  en-is : (en : Entities) × AreEntities (schema_by n) en
-  en-is = subst (λ m. (en : Entities) × AreEntities (schema_by m) en) same said
+    (rows : (en : Entities) → AreEntities (the_schema k.names.now) en
+    → AreRowsOf (the_schema k.names.now) en (rows_in x) t) where
+  en-is : (en : Entities) × AreEntities (the_schema n) en
+  en-is = subst (λ m. (en : Entities) × AreEntities (the_schema m) en) same said
 
-  d-is : (d : Domain) × IsDomain (schema_by n) d
-  d-is = subst (λ m. (d : Domain) × IsDomain (schema_by m) d) same-bases bases.1.exists
+  d-is : (d : Domain) × IsDomain (the_schema n) d
+  d-is = subst (λ m. (d : Domain) × IsDomain (the_schema m) d) same-bases bases.1.exists
 
-  pub functions-are : HasFunctions (schema_by n)
+  pub functions-are : HasFunctions (the_schema n)
   functions-are = (d-is, en-is)
 
-  resolved-is : IsResolved (schema_by n)
-  resolved-is = subst (λ m. IsResolved (schema_by m)) same-bases bases.0
+  resolved-is : IsResolved (the_schema n)
+  resolved-is = subst (λ m. IsResolved (the_schema m)) same-bases bases.0
 
-  rows-said : (en : Entities) → AreEntities (schema_by n) en → AreRowsOf (schema_by n) en (rows_in x) t
+  rows-said : (en : Entities) → AreEntities (the_schema n) en → AreRowsOf (the_schema n) en (rows_in x) t
   rows-said =
-      subst (λ m. (en : Entities) → AreEntities (schema_by m) en → AreRowsOf (schema_by m) en (rows_in x) t) same rows
+      subst (λ m. (en : Entities) → AreEntities (the_schema m) en → AreRowsOf (the_schema m) en (rows_in x) t) same rows
 
-  are-rows : AreRowsOf (schema_by n) en-is.0 (rows_in x) t
+  are-rows : AreRowsOf (the_schema n) en-is.0 (rows_in x) t
   are-rows = rows-said en-is.0 en-is.1
 
   pub index-is : AreFound x.names (found t.index)
-  index-is = names-found (schema_by n) d-is.0 en-is.0 x t are-rows
+  index-is = names-found (the_schema n) d-is.0 en-is.0 x t are-rows
 
   pub matched-is : length t.form_of.items ≡ length x.names
-  matched-is = as-many-forms (schema_by n) d-is.0 en-is.0 x t are-rows
+  matched-is = as-many-forms (the_schema n) d-is.0 en-is.0 x t are-rows
 
-  module _ (fs : List Finding) (told : (d : Domain) → (en : Entities) → IsDomain (schema_in k) d
-      → AreEntities (schema_in k) en → fs ≡ findings (schema_in k) d en (structure x)) where
-    pub told-so : (d : Domain) (en : Entities) → IsDomain (schema_by n) d → AreEntities (schema_by n) en
-        → fs ≡ findings (schema_by n) d en (structure x)
+  module _ (fs : List Finding) (told : (d : Domain) → (en : Entities) → IsDomain (the_schema k.names.now) d
+      → AreEntities (the_schema k.names.now) en → fs ≡ findings (the_schema k.names.now) d en (structure x)) where
+    pub told-so : (d : Domain) (en : Entities) → IsDomain (the_schema n) d → AreEntities (the_schema n) en
+        → fs ≡ findings (the_schema n) d en (structure x)
     told-so =
-        subst (λ m. (d : Domain) → (en : Entities) → IsDomain (schema_by m) d → AreEntities (schema_by m) en
-        → fs ≡ findings (schema_by m) d en (structure x)) same told
+        subst (λ m. (d : Domain) → (en : Entities) → IsDomain (the_schema m) d → AreEntities (the_schema m) en
+        → fs ≡ findings (the_schema m) d en (structure x)) same told
 
-    none-so : fs ≡ [] → findings (schema_by n) d-is.0 en-is.0 (structure x) ≡ []
+    none-so : fs ≡ [] → findings (the_schema n) d-is.0 en-is.0 (structure x) ≡ []
     none-so none = sym (told-so d-is.0 en-is.0 d-is.1 en-is.1) ∙ none
 
     module _ (none : fs ≡ []) where
-      pub ready-is : AreRowsReady (schema_at b) (found t.index) t.forms.items (rows_in x) t.form_of.items
+      pub ready-is : AreRowsReady (the_schema b.names.now) (found t.index) t.forms.items (rows_in x) t.form_of.items
       ready-is =
-          subst (λ m. AreRowsReady (schema_by m) (found t.index) t.forms.items (rows_in x) t.form_of.items)
+          subst (λ m. AreRowsReady (the_schema m) (found t.index) t.forms.items (rows_in x) t.form_of.items)
           (sym same-bases)
-          (rows-are-ready (schema_by n) d-is.0 en-is.0 x t are-rows (none-so none) resolved-is en-is.1)
+          (rows-are-ready (the_schema n) d-is.0 en-is.0 x t are-rows (none-so none) resolved-is en-is.1)
 
-      module _ (now : Kept) (made : (d : Domain) → IsDomain (schema_at b) d
-          → now.rows ≡ rows_by (schema_at b) d t.forms.items (rows_in x) t.form_of.items)
+      module _ (now : Kept) (made : (d : Domain) → IsDomain (the_schema b.names.now) d
+          → now.rows ≡ rows_by (the_schema b.names.now) d t.forms.items (rows_in x) t.form_of.items)
           (leads : LeadTo x.names now.targets) (refers : ReferTo x.names now.rows) where
-        made-so : (d : Domain) → IsDomain (schema_by n) d
-            → now.rows ≡ rows_by (schema_by n) d t.forms.items (rows_in x) t.form_of.items
+        made-so : (d : Domain) → IsDomain (the_schema n) d
+            → now.rows ≡ rows_by (the_schema n) d t.forms.items (rows_in x) t.form_of.items
         made-so =
-            subst (λ m. (d : Domain) → IsDomain (schema_by m) d
-            → now.rows ≡ rows_by (schema_by m) d t.forms.items (rows_in x) t.form_of.items) same-bases made
+            subst (λ m. (d : Domain) → IsDomain (the_schema m) d
+            → now.rows ≡ rows_by (the_schema m) d t.forms.items (rows_in x) t.form_of.items) same-bases made
 
-        whole-is : IsWhole (schema_by n) x.names t now
+        whole-is : IsWhole (the_schema n) x.names t now
         whole-is =
-            all-whole (schema_by n) d-is.0 en-is.0 x t are-rows (none-so none) now (made-so d-is.0 d-is.1) leads refers
+            all-whole (the_schema n) d-is.0 en-is.0 x t are-rows (none-so none) now (made-so d-is.0 d-is.1) leads refers
             resolved-is
 
-        population-so : (d : Domain) (en : Entities) → IsDomain (schema_by n) d → AreEntities (schema_by n) en
-            → instances_seen (schema_by n) t.forms.items x.names (section_numbers 0 0 x.sections.items)
-            t.form_of.items now.rows ≡ population_of (schema_by n) d en (structure x)
+        population-so : (d : Domain) (en : Entities) → IsDomain (the_schema n) d → AreEntities (the_schema n) en
+            → instances_seen (the_schema n) t.forms.items x.names (section_numbers 0 0 x.sections.items)
+            t.form_of.items now.rows ≡ population_of (the_schema n) d en (structure x)
         population-so d en domain entities =
-            seen-is (schema_by n) d en x t (rows-said en entities) (sym (told-so d en domain entities) ∙ none) now.rows
+            seen-is (the_schema n) d en x t (rows-said en entities) (sym (told-so d en domain entities) ∙ none) now.rows
             (made-so d domain)
 
-        pub typed-so : IsTyped (schema_by n) (structure x) (typed_seen (schema_by n) x t now)
+        pub typed-so : IsTyped (the_schema n) (structure x) (typed_seen (the_schema n) x t now)
         typed-so = (
           functions-are,
           λ d en domain entities. (sym (told-so d en domain entities) ∙ none, population-so d en domain entities),
         )
 
-        pub population-is : IsPopulation (schema_by n) x t now
+        pub population-is : IsPopulation (the_schema n) x t now
         population-is = record { whole = whole-is; typed = typed-so }

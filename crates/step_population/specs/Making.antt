@@ -9,7 +9,8 @@ use Rattle.step_values.specs.Leaves as leaves
 use Rattle.step_values.specs.Values.{Value, leaf, Values, none}
 use Rattle.step_values.specs.Views.{all_of}
 use Rattle.population_rows.specs.Index.{found}
-use Rattle.schema_bases.specs.Seen.{type_at, schema_at}
+use Rattle.schema_names.specs.Schemas.{the_schema}
+use Rattle.schema_bases.specs.Seen.{type_at}
 use Rattle.schema_bases.specs.Tables.{IsKnown, AreBases}
 use Rattle.conformance.specs.Bases.{Base, integer, Domain, IsDomain, base}
 use Rattle.conformance.specs.Fitting.{value_as}
@@ -69,10 +70,6 @@ module _ (s : Schema) (find : ℕ → Option ℕ) where
   AreRowsReady forms (r ∷ rs) [] = ⊤
   AreRowsReady forms (r ∷ rs) (f ∷ fs) = IsRowReady (form_among forms f) r.form × AreRowsReady forms rs fs
 
--- the schema by which values are made
-abbrev pub schema_of_maker : Maker → Schema
-schema_of_maker m = schema_at m.bases
-
 abbrev pub found_by : Maker → ℕ → Option ℕ
 found_by m = found m.index.now
 
@@ -82,20 +79,20 @@ IsMaker m names = AreBases m.bases × AreFound names (found_by m)
 
 -- so many values more are pending, as each domain of the schema says
 abbrev pub Adds : Maker → Building → Building → (Domain → List Value) → Type 0
-Adds m old new vs = (d : Domain) → IsDomain (schema_of_maker m) d
+Adds m old new vs = (d : Domain) → IsDomain (the_schema m.bases.names.now) d
     → new ≡ record old { pending = old.pending ++ vs d }
 
 -- .. and others are left to be pushed
 abbrev pub AddsUpTo : Maker → Building → Building → (Domain → List Value) → (Domain → List Value) → Type 0
-AddsUpTo m old new vs left = (d : Domain) → IsDomain (schema_of_maker m) d
+AddsUpTo m old new vs left = (d : Domain) → IsDomain (the_schema m.bases.names.now) d
     → record new { pending = new.pending ++ left d } ≡ record old { pending = old.pending ++ vs d }
 
 -- so many rows more are whole
 abbrev pub AddsRows : Maker → Building → Building → (Domain → List Values) → Type 0
-AddsRows m old new rows = (d : Domain) → IsDomain (schema_of_maker m) d
+AddsRows m old new rows = (d : Domain) → IsDomain (the_schema m.bases.names.now) d
     → new ≡ record old { rows = old.rows ++ rows d }
 
 -- .. and others are left
 abbrev pub AddsRowsUpTo : Maker → Building → Building → (Domain → List Values) → (Domain → List Values) → Type 0
-AddsRowsUpTo m old new rows left = (d : Domain) → IsDomain (schema_of_maker m) d
+AddsRowsUpTo m old new rows left = (d : Domain) → IsDomain (the_schema m.bases.names.now) d
     → record new { rows = new.rows ++ left d } ≡ record old { rows = old.rows ++ rows d }

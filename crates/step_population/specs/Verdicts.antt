@@ -1,7 +1,7 @@
 -- What `populate` answers.
 use Rattle.std.specs.Prelude.{◌≡◌, ◌≢◌, List, []}
 use Rattle.express_syntax.specs.Schemas.{Schema}
-use Rattle.express_syntax.specs.SchemaViews.{schema_of}
+use Rattle.schema_names.specs.Schemas.{the_schema}
 use Rattle.schema_types.specs.declared.types.ResolvedTypes.{ResolvedTypes}
 use Rattle.step_structures.specs.Trees.{File}
 use Rattle.conformance.specs.Bases.{Domain, IsDomain}
@@ -23,5 +23,5 @@ IsFaulty s f fs = HasFunctions s
 -- .. of an exchange structure, by the types of its schema
 abbrev pub IsVerdict : ResolvedTypes → Exchange → Verdict → Type 0
 IsVerdict t x (Typed p) = (p.types.now ≡ t) × (p.exchange.now ≡ x)
-    × IsTyped (schema_of t.names.schema.now) (structure x) (population_seen p)
-IsVerdict t x (Faulty fs) = IsFaulty (schema_of t.names.schema.now) (structure x) fs.items
+    × IsTyped (the_schema t.names) (structure x) (population_seen p)
+IsVerdict t x (Faulty fs) = IsFaulty (the_schema t.names) (structure x) fs.items

@@ -10,7 +10,7 @@ ghost use Rattle.step_exchange.specs.Views.{
 };
 ghost use Rattle.step_values.specs.Targets.{LeadTo, ReferTo};
 ghost use Rattle.population_rows.specs.Index.{found};
-ghost use Rattle.schema_bases.specs.Seen.{schema_at};
+ghost use Rattle.schema_names.specs.Schemas.{the_schema};
 ghost use Rattle.schema_bases.specs.Tables.{AreBases};
 ghost use Rattle.conformance.specs.Bases.{Domain, IsDomain};
 ghost use Rattle.conformance.specs.Entities.{records, parameters};
@@ -25,7 +25,6 @@ ghost use Rattle.step_population.specs.Making.{
   AreReady,
   IsRowReady,
   AreRowsReady,
-  schema_of_maker,
   found_by,
   IsMaker,
   Adds,
@@ -63,9 +62,10 @@ fn push_slot<'a>(
     param: Param<'a, '_>,
 ) -> Result<(), AllocError>
     requires maker { IsMaker maker.now builder.old.names }
-    requires ready { IsReady (schema_of_maker maker.now) (found_by maker.now) slot.now param }
+    requires ready { IsReady (the_schema maker.now.bases.names.now) (found_by maker.now) slot.now
+        param }
     ensures { OnOk result (Adds maker.now builder.old builder.new
-        (λ d. value_by (schema_of_maker maker.now) d slot.now param.entry ∷ [])) }
+        (λ d. value_by (the_schema maker.now.bases.names.now) d slot.now param.entry ∷ [])) }
 {
     if slot.is_derived {
         return builder.push_derived();
@@ -82,10 +82,10 @@ fn push_record<'a>(
     values: &Params<'a, '_>,
 ) -> Result<(), AllocError>
     requires maker { IsMaker maker.now builder.old.names }
-    requires ready { AreReady (schema_of_maker maker.now) (found_by maker.now) slots.now
+    requires ready { AreReady (the_schema maker.now.bases.names.now) (found_by maker.now) slots.now
         (all_of values.now) }
     ensures { OnOk result (Adds maker.now builder.old builder.new
-        (λ d. values_by (schema_of_maker maker.now) d slots.now (all_of values.now))) }
+        (λ d. values_by (the_schema maker.now.bases.names.now) d slots.now (all_of values.now))) }
 {
     for i in 0..slots.len() {
         let Some(param) = values.item(i) else {
@@ -104,10 +104,10 @@ fn push_partials<'a>(
     partials: &Params<'a, '_>,
 ) -> Result<(), AllocError>
     requires maker { IsMaker maker.now builder.old.names }
-    requires ready { AreReady (schema_of_maker maker.now) (found_by maker.now) slots.now
+    requires ready { AreReady (the_schema maker.now.bases.names.now) (found_by maker.now) slots.now
         (parameters (map record_in partials.now)) }
     ensures { OnOk result (Adds maker.now builder.old builder.new
-        (λ d. values_by (schema_of_maker maker.now) d slots.now
+        (λ d. values_by (the_schema maker.now.bases.names.now) d slots.now
         (parameters (map record_in partials.now)))) }
 {
     let mut left = slots;
@@ -128,10 +128,10 @@ fn push_instance<'a>(
     parts: &Params<'a, '_>,
 ) -> Result<(), AllocError>
     requires maker { IsMaker maker.now builder.old.names }
-    requires ready { AreReady (schema_of_maker maker.now) (found_by maker.now) slots.now
+    requires ready { AreReady (the_schema maker.now.bases.names.now) (found_by maker.now) slots.now
         (parameters (records (form_of parts.now))) }
     ensures { OnOk result (Adds maker.now builder.old builder.new
-        (λ d. values_by (schema_of_maker maker.now) d slots.now
+        (λ d. values_by (the_schema maker.now.bases.names.now) d slots.now
         (parameters (records (form_of parts.now))))) }
 {
     if !is_internal(parts) {
@@ -150,10 +150,10 @@ fn push_row<'a>(
 ) -> Result<(), AllocError>
     requires maker { IsMaker maker.now builder.old.names }
     requires whole { builder.old.pending ≡ [] }
-    requires ready { IsRowReady (schema_of_maker maker.now) (found_by maker.now)
+    requires ready { IsRowReady (the_schema maker.now.bases.names.now) (found_by maker.now)
         (option_copied form) (form_in instance.now) }
     ensures { OnOk result (AddsRows maker.now builder.old builder.new
-        (λ d. row_by (schema_of_maker maker.now) d (option_copied form.entry)
+        (λ d. row_by (the_schema maker.now.bases.names.now) d (option_copied form.entry)
         (form_in instance.now) ∷ [])) }
 {
     if let Some(form) = form {
@@ -173,10 +173,10 @@ fn push_rows<'a>(
     requires maker { IsMaker maker.now builder.old.names }
     requires whole { builder.old.pending ≡ [] }
     requires matched { length rows.now.form_of.items ≡ length names.now }
-    requires ready { AreRowsReady (schema_of_maker maker.now) (found_by maker.now)
+    requires ready { AreRowsReady (the_schema maker.now.bases.names.now) (found_by maker.now)
         rows.now.forms.items (rows_with names.now instances.now) rows.now.form_of.items }
     ensures { OnOk result (AddsRows maker.now builder.old builder.new
-        (λ d. rows_by (schema_of_maker maker.now) d rows.now.forms.items
+        (λ d. rows_by (the_schema maker.now.bases.names.now) d rows.now.forms.items
         (rows_with names.now instances.now) rows.now.form_of.items)) }
 {
     for i in 0..names.len() {
@@ -222,10 +222,10 @@ pub fn values_of<'b, 'a>(
     requires bases { AreBases bases.now }
     requires index { AreFound exchange.now.names (found rows.now.index) }
     requires matched { length rows.now.form_of.items ≡ length exchange.now.names }
-    requires ready { AreRowsReady (schema_at bases.now) (found rows.now.index) rows.now.forms.items
-        (rows_in exchange.now) rows.now.form_of.items }
-    ensures rows { IfOk result (λ v. (d : Domain) → IsDomain (schema_at bases.now) d
-        → v.rows ≡ rows_by (schema_at bases.now) d rows.now.forms.items
+    requires ready { AreRowsReady (the_schema bases.now.names.now) (found rows.now.index)
+        rows.now.forms.items (rows_in exchange.now) rows.now.form_of.items }
+    ensures rows { IfOk result (λ v. (d : Domain) → IsDomain (the_schema bases.now.names.now) d
+        → v.rows ≡ rows_by (the_schema bases.now.names.now) d rows.now.forms.items
         (rows_in exchange.now) rows.now.form_of.items) }
     ensures leads { IfOk result (λ v. LeadTo exchange.now.names v.targets) }
     ensures refers { IfOk result (λ v. ReferTo exchange.now.names v.rows) }

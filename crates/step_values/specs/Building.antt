@@ -37,10 +37,6 @@ coded_building = code_by (List ℕ × (List Values × List Value))
 abbrev pub rows_by : List Cell → List Run → List Values
 rows_by column runs = map (values_of_run column) runs
 
--- the rows are runs of a column
-abbrev pub AreRunsOf : List Cell → List Values → Type 0
-AreRunsOf column rows = ∥ ((runs : List Run) × (rows ≡ rows_by column runs)) ∥₁
-
 -- runs end within so many cells
 abbrev pub AreWithin : ℕ → List Run → Type 0
 AreWithin n [] = ⊤
@@ -68,6 +64,10 @@ pub record Holds (column : List Cell) (runs : List Run) : Type 0 where
   pub within : AreWithin (length column) runs
   pub apart : StandApart column runs
   pub count : length column ≡ sum_by nodes_in (rows_by column runs)
+
+-- The rows are runs of a column: one behind another, none right inside another's values, and nothing else is in it.
+abbrev pub AreRunsOf : List Cell → List Values → Type 0
+AreRunsOf column rows = ∥ ((runs : List Run) × Holds column runs × (rows ≡ rows_by column runs)) ∥₁
 
 -- what a column, its rows and pending cells are, over the names of rows
 abbrev pub built : List ℕ → List Cell → List Run → List Cell → Building

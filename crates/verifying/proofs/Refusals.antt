@@ -1,5 +1,5 @@
 -- A certificate is refused in one way at most, or it proves one thing.
-use Rattle.std.specs.Prelude.{◌≡◌, ◌↔◌, ℕ, Bool, IsTrue, List, length, Result, Ok, Err}
+use Rattle.std.specs.Prelude.{◌≡◌, ℕ, Bool, List, length, Result, Ok, Err}
 use Rattle.std.proofs.Common.{refl, sym, ap, subst, ◌∙◌, inl, inr}
 use Rattle.step_structures.specs.Trees.{File}
 use Rattle.step_equal.specs.Rows.{Row}
@@ -7,8 +7,8 @@ use Rattle.step_equal.specs.Tables.{Table, IsValid}
 use Rattle.express_syntax.specs.Schemas.{Schema}
 use Rattle.schema_semantics.specs.Names.{Name}
 use Rattle.conformance.specs.Said.{Said, instances}
-use Rattle.conformance.proofs.MeaningOneness.{one_truth}
 use Rattle.conformance.proofs.RowOneness.{rows_are_one}
+use Rattle.merged_populations.proofs.Once.{one_test}
 use Rattle.certificate_text.specs.Faults.{IsOld}
 use Rattle.certificate_text.specs.declared.fault.CertFault.TheVariants as certificates
 use Rattle.certificate_text.proofs.Lining.{one_certificate, no_fault, one_bad_line}
@@ -20,10 +20,6 @@ use Rattle.verifying.specs.declared.proof.Proof.{Proof}
 use Rattle.verifying.specs.Verifying.{Lacks}
 use Rattle.verifying.specs.Laws.{SayTheSame}
 use Rattle.verifying.proofs.Levels.{AreImage, AtImage, AtSecond, AtFirst, AtTables, AtLines, AtText}
-
--- two tests of one property
-pub one_test : (P : ℕ → Type 0) (b c : ℕ → Bool) → ((y : ℕ) → IsTrue (b y) ↔ P y) → ((y : ℕ) → IsTrue (c y) ↔ P y) → b ≡ c
-one_test P b c h k = λ i y. one_truth (b y) (c y) (λ t. (k y).1 ((h y).0 t)) (λ t. (h y).1 ((k y).0 t)) i
 
 module _ (rows : List Row) (pinned : ℕ → Bool) (t : Table) where
   lacks_once : (a b : Refusal) → Lacks rows pinned t a → Lacks rows pinned t b → a ≡ b

@@ -1,7 +1,7 @@
 //! An input, of which nothing may be found.
 
 ghost use Rattle.std.specs.Prelude.{IfOk};
-ghost use Rattle.express_syntax.specs.SchemaViews.{schema_of};
+ghost use Rattle.schema_names.specs.Schemas.{the_schema};
 ghost use Rattle.express_types.specs.Sound.{IsSound};
 ghost use Rattle.step_exchange.specs.Exchanges.{structure};
 ghost use Rattle.population_layouts.specs.Tables.{AreTables};
@@ -51,8 +51,7 @@ fn judge_input<'r, 't, 's: 'a, 'a: 'r>(
 ) -> Result<Result<Judged<'a>, TablesFault>, Fault<'s>>
     requires sound { IsSound graph.now }
     requires tables { AreTables graph.now.types tables.now }
-    ensures finds { Finds (schema_of graph.entry.now.types.names.schema.now)
-        certificate.items result
+    ensures finds { Finds (the_schema graph.entry.now.types.names) certificate.items result
         chosen.now (structure exchange.entry.now) }
     ensures ready { IfOk result (λ judged. IfOk judged IsReady) }
 {
@@ -90,7 +89,7 @@ fn verify_read<'r, 't, 's: 'a, 'a>(
 ) -> Result<Proof, Fault<'s>>
     requires sound { IsSound graph.now }
     requires tables { AreTables graph.now.types tables.now }
-    ensures { AnswersRead (schema_of graph.entry.now.types.names.schema.now)
+    ensures { AnswersRead (the_schema graph.entry.now.types.names)
         claim.entry.output.now claim.entry.certificate.items result chosen.now
         (structure exchange.entry) }
 {
@@ -129,7 +128,7 @@ pub(crate) fn verify_input<'s>(
     claim: Claim<'_>,
 ) -> Result<Proof, Fault<'s>>
     requires sound { IsSound graph.now }
-    ensures { AnswersSettled (schema_of graph.now.types.names.schema.now) claim.entry.output.now
+    ensures { AnswersSettled (the_schema graph.now.types.names) claim.entry.output.now
         claim.entry.certificate.items result chosen.now input.now }
 {
     let exchange = match read_exchange(alloc, keys, input) {

@@ -1,7 +1,7 @@
 //! An output, compared with what comes of an input.
 
 ghost use Rattle.std.specs.Prelude.{◌↔◌, IfOk, IsTrue, Ok};
-ghost use Rattle.express_syntax.specs.SchemaViews.{schema_of};
+ghost use Rattle.schema_names.specs.Schemas.{the_schema};
 ghost use Rattle.schema_types.specs.Made.{IsMade};
 ghost use Rattle.step_exchange.specs.Exchanges.{structure};
 ghost use Rattle.step_equal.specs.Images.{quotient};
@@ -66,7 +66,7 @@ fn compare<'s: 'a, 't, 'r, 'a, 'b, 'q>(
     judged: &Judged<'q>,
 ) -> Result<Proof, TablesFault>
     requires { IsReady judged.now }
-    ensures { AnswersTyped (schema_of population.entry.types.now.names.schema.now)
+    ensures { AnswersTyped (the_schema population.entry.types.now.names)
         headings.now (Ok judged.now) (structure population.entry.exchange.now)
         (population_seen population.entry) result }
 {
@@ -93,7 +93,7 @@ fn answer<'s: 'a, 't, 'r, 'a, 'b, 'q>(
     judged: &Result<Judged<'q>, TablesFault>,
 ) -> Result<Proof, TablesFault>
     requires { IfOk judged.now IsReady }
-    ensures { AnswersTyped (schema_of population.entry.types.now.names.schema.now)
+    ensures { AnswersTyped (the_schema population.entry.types.now.names)
         headings.now judged.now (structure population.entry.exchange.now)
         (population_seen population.entry) result }
 {
@@ -116,7 +116,7 @@ fn verify_image<'s: 'a, 't, 'r, 'a, 'b, 'q>(
     requires made { IsMade types.now }
     requires tables { AreTables types.now tables.now }
     requires ready { IfOk judged.now IsReady }
-    ensures { AnswersOutput (schema_of types.entry.now.names.schema.now) headings.now
+    ensures { AnswersOutput (the_schema types.entry.now.names) headings.now
         judged.now result (structure image.entry.now) }
 {
     checks_prove();
@@ -148,8 +148,7 @@ pub(crate) fn verify_output<'s>(
     requires made { IsMade types.now }
     requires tables { AreTables types.now tables.now }
     requires ready { IfOk judged.now IsReady }
-    ensures { AnswersClean (schema_of types.now.names.schema.now) headings.now judged.now
-        result output.now }
+    ensures { AnswersClean (the_schema types.now.names) headings.now judged.now result output.now }
 {
     match read_exchange(alloc, keys, output) {
         Ok(image) => verify_image(alloc, keys, types, tables, &image, headings, judged),

@@ -2,7 +2,7 @@
 
 ghost use Rattle.std.specs.Prelude.{◌≡◌, false, MatchResult};
 ghost use Rattle.pin_choices.specs.Chosen.{choice_of};
-ghost use Rattle.files.specs.Stores.{told_by};
+ghost use Rattle.files.specs.Stores.{reader_seen};
 ghost use Rattle.files.specs.declared.fault.Role.TheVariants as roles;
 ghost use Rattle.faults.specs.Devices.{is_device};
 ghost use Rattle.verifying.specs.Sources.{
@@ -37,8 +37,8 @@ struct Texts {
 /// too many bytes where it has more than 2^40 (`Schema` or `Text`), and `Memory` where memory runs out.
 pub fn read<'s, S: Source>(alloc: Global, role: Role, source: &mut S) -> Result<Vec<u8>, Fault<'s>>
     ensures read { MatchResult result
-        (λ bytes. IsRead (told_by S.to_come S.fails source.old) bytes.items)
-        (IsUnread role (told_by S.to_come S.fails source.old)) }
+        (λ bytes. IsRead (reader_seen S.to_come S.fails source.old) bytes.items)
+        (IsUnread role (reader_seen S.to_come S.fails source.old)) }
     ensures failed { S.has_failed source.old ≡ false
         → S.has_failed source.new ≡ is_device role result }
 {
@@ -57,11 +57,11 @@ fn read_all<'s, F: Source, W: Source, C: Source>(
     certificate: &mut C,
 ) -> Result<Texts, Fault<'s>>
     ensures read { MatchResult result
-        (λ texts. AreRead (given schema.now) (told_by F.to_come F.fails file.old)
-        (told_by W.to_come W.fails smaller.old) (told_by C.to_come C.fails certificate.old)
+        (λ texts. AreRead (given schema.now) (reader_seen F.to_come F.fails file.old)
+        (reader_seen W.to_come W.fails smaller.old) (reader_seen C.to_come C.fails certificate.old)
         schema.now texts.file.items texts.smaller.items texts.certificate.items)
-        (FirstUnread (given schema.now) (told_by F.to_come F.fails file.old)
-        (told_by W.to_come W.fails smaller.old) (told_by C.to_come C.fails certificate.old)) }
+        (FirstUnread (given schema.now) (reader_seen F.to_come F.fails file.old)
+        (reader_seen W.to_come W.fails smaller.old) (reader_seen C.to_come C.fails certificate.old)) }
     ensures no_schema_fault { is_device roles.Schema result ≡ false }
     ensures file_failed { F.has_failed file.old ≡ false
         → F.has_failed file.new ≡ is_device roles.File result }
@@ -120,8 +120,8 @@ pub fn verify_files<'s, F: Source, W: Source, C: Source>(
 ) -> Result<Proof, Fault<'s>>
     // What is answered is what the four texts and the choice say.
     ensures verifies { VerifiesAll (choice_of choice.now) (given schema.now)
-        (told_by F.to_come F.fails file.old)
-        (told_by W.to_come W.fails smaller.old) (told_by C.to_come C.fails certificate.old) result }
+        (reader_seen F.to_come F.fails file.old)
+        (reader_seen W.to_come W.fails smaller.old) (reader_seen C.to_come C.fails certificate.old) result }
     // The fault is a device's exactly where that one failed.
     ensures no_schema_fault { is_device roles.Schema result ≡ false }
     ensures file_failed { F.has_failed file.old ≡ false

@@ -13,7 +13,7 @@ use std::test::Fail;
 use step_structures::fault::{FaultKind, LeftOut};
 
 // What `--help` prints.
-const HELP: &str = "Reads STEP files (ISO 10303-21)\n\n\
+const HELP: &str = "Checks STEP files (ISO 10303-21), and makes them smaller\n\n\
     Usage: stepmin <COMMAND>\n\n\
     Commands:\n  \
     plain   Writes the normal text of a STEP file\n  \
@@ -26,8 +26,8 @@ const HELP: &str = "Reads STEP files (ISO 10303-21)\n\n\
     -V, --version  Print version\n\n\
     Exit status:\n  \
     0  all is done\n  \
-    1  the file breaks its schema\n  \
-    2  the text of a file or a schema can't be read\n  \
+    1  a file breaks its schema, or --strict refuses the schema\n  \
+    2  a text can't be read, or a chosen name is no entity\n  \
     3  the words of the command line are wrong\n  \
     4  a device fails\n  \
     5  memory runs out\n  \
@@ -245,6 +245,21 @@ const ASKED: &'static [Asked] = &[
         &["stepmin", "shrink", "GEO", "F", "X", "X"],
         3,
         "error: OUT and CERT are the same\n",
+    ),
+    (
+        &["stepmin", "shrink", "GEO", "F", "GEO", "X"],
+        3,
+        "error: SCHEMA and OUT are the same\n",
+    ),
+    (
+        &["stepmin", "shrink", "GEO", "F", "X", "GEO"],
+        3,
+        "error: SCHEMA and CERT are the same\n",
+    ),
+    (
+        &["stepmin", "shrink", "GEO", "F", "X", "F"],
+        3,
+        "error: FILE and CERT are the same\n",
     ),
     (
         &[

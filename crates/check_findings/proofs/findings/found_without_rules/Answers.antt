@@ -1,13 +1,13 @@
-use Rattle.express_syntax.specs.SchemaViews.{schema_of}
 use Rattle.conformance.specs.Said.{instances}
 use Rattle.step_exchange.specs.Exchanges.{structure}
+use Rattle.schema_names.specs.Schemas.{the_schema}
 use Rattle.check_findings.proofs.Behind.{no-rules-behind}
 use Rattle.check_findings.proofs.findings.found_without_rules.Goals as goal
 
 pub returns : goal.returns
 returns c =
     let graph = c.args.graph.now in
-    let s = schema_of graph.types.names.schema.now in
+    let s = the_schema graph.types.names in
     let sound = c.requires.ready.sound in (
       c.schema_is_said.ensures,
       λ said. (

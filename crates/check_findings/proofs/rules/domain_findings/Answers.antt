@@ -1,11 +1,10 @@
 use Rattle.std.proofs.Common.{◌≡◌, ◌∙◌, ap, sym, subst, map}
-use Rattle.express_syntax.specs.SchemaViews.{schema_of}
 use Rattle.express_syntax.specs.Profile.{Every}
+use Rattle.schema_names.specs.Schemas.{the_schema}
 use Rattle.schema_rules.specs.Findings.{AreFindingsOf}
 use Rattle.schema_rules.specs.declared.finding.RuleFindingKind.TheVariants.{WhereFalse}
 use Rattle.schema_conditions.specs.Seen.{rule_seen, IsNumbered}
 use Rattle.population_typed.specs.Seen.{population_seen}
-use Rattle.conformance.specs.Attributes.{AreAttributes}
 use Rattle.conformance.specs.DomainFindings.{rule_findings, unknown}
 use Rattle.express_rules.specs.Counting.{capped}
 use Rattle.schema_sources.specs.Seen.{inverses_seen}
@@ -29,7 +28,7 @@ of-requires-clause-known c =
 
 pub check_rules-requires-clause-setting : goal.check_rules-requires-clause-setting
 check_rules-requires-clause-setting c =
-    let s = schema_of c.args.extents.now.population.now.types.now.names.schema.now in
+    let s = the_schema c.args.extents.now.population.now.types.now.names in
     let ready = c.requires.ready in
     let d = ready.tables.base_types.exists in
     record {
@@ -48,13 +47,13 @@ check_rules-requires-clause-setting c =
 
 pub check_rules-requires-clause-numbered : goal.check_rules-requires-clause-numbered
 check_rules-requires-clause-numbered c =
-    let s = schema_of c.args.extents.now.population.now.types.now.names.schema.now in
+    let s = the_schema c.args.extents.now.population.now.types.now.names in
     subst (Every (IsNumbered s)) (sym c.deref.ensures.value) c.requires.ready.sound.domain.numbered
 
 pub returns : goal.returns
 returns c said conforms =
     let p = c.args.extents.now.population.now in
-    let s = schema_of p.types.now.names.schema.now in
+    let s = the_schema p.types.now.names in
     let is = population_seen p in
     let ready = c.requires.ready in
     let rules = rules_seen s c.args.extents.now.rules.now in
@@ -65,23 +64,9 @@ returns c said conforms =
     let r = c.in_ok-report.report in
     record {
       are_false = subst (λ cs. AreFindingsOf WhereFalse (rule_findings s said.domain said.entities said.attributes is cs) r.findings.items)
-          conditions (c.in_ok-report.ensures.findings (record {
-            domain = said.domain;
-            entities = said.entities;
-            attributes = said.attributes;
-            is_domain = said.is_domain;
-            are_entities = said.are_entities;
-            are_attributes = subst (λ inverses. AreAttributes s inverses said.attributes) (sym one.0) said.are_attributes;
-            conforms = conforms;
-          }));
-      are_unknown = c.in_ok-report.ensures.unknown (record {
-        domain = said.domain;
-        entities = said.entities;
-        attributes = said.attributes;
-        is_domain = said.is_domain;
-        are_entities = said.are_entities;
-        are_attributes = subst (λ inverses. AreAttributes s inverses said.attributes) (sym one.0) said.are_attributes;
-        conforms = conforms;
-      })
+          conditions (c.in_ok-report.ensures.findings
+          (record { said = said; inverses_are = sym one.0; conforms = conforms }));
+      are_unknown = c.in_ok-report.ensures.unknown
+          (record { said = said; inverses_are = sym one.0; conforms = conforms })
           ∙ ap (λ cs. capped (unknown s said.domain said.entities said.attributes is cs)) conditions;
     }

@@ -1,7 +1,7 @@
 use Rattle.std.proofs.Common.{sym, subst}
-use Rattle.express_syntax.specs.SchemaViews.{schema_of}
 use Rattle.conformance.specs.Conforming.{PopulationConforms}
 use Rattle.conformance.specs.Said.{Said}
+use Rattle.schema_names.specs.Schemas.{the_schema}
 use Rattle.population_typed.specs.Seen.{population_seen}
 use Rattle.check_findings.specs.Findings.{AreRuleFindings}
 use Rattle.check_findings.specs.Ruling.{AreReady}
@@ -23,7 +23,7 @@ rule_findings-requires c =
 pub returns : goal.returns
 returns c =
     let r = c.in_ok-report.report in
-    subst (λ q. (said : Said (schema_of q.types.now.names.schema.now))
-    → PopulationConforms (schema_of q.types.now.names.schema.now) said.domain said.entities (population_seen q)
-    → AreRuleFindings (schema_of q.types.now.names.schema.now) said (population_seen q) r.findings.items r.unknown)
+    subst (λ q. (said : Said (the_schema q.types.now.names))
+    → PopulationConforms (the_schema q.types.now.names) said.domain said.entities (population_seen q)
+    → AreRuleFindings (the_schema q.types.now.names) said (population_seen q) r.findings.items r.unknown)
     c.in_ok-extents.ensures.population c.in_ok-report.ensures

@@ -1,5 +1,5 @@
 use Rattle.std.proofs.Common.{◌∙◌, ◌++◌, ap, refl}
-use Rattle.express_syntax.specs.SchemaViews.{schema_of}
+use Rattle.schema_names.specs.Schemas.{the_schema}
 use Rattle.population_typed.specs.Seen.{population_seen}
 use Rattle.schema_rules.specs.Seen.{rules_seen}
 use Rattle.check_findings.proofs.Ruled.{ruled}
@@ -8,7 +8,7 @@ use Rattle.check_findings.proofs.rules.rule_findings.Goals as goal
 pub returns : goal.returns
 returns c said conforms =
     let e = c.args.extents.now in
-    let s = schema_of e.population.now.types.now.names.schema.now in
+    let s = the_schema e.population.now.types.now.names in
     ruled s said (rules_seen s e.rules.now) (c.requires.ready.sound.rules.rules said.domain said.is_domain)
     (population_seen e.population.now) c.in_ok-report.report _ c.in_ok-uniques.uniques.items c.in_ok-bounds.bounds.items _
     (c.in_ok-report.ensures said conforms) c.in_ok-uniques.ensures c.in_ok-bounds.ensures

@@ -1,5 +1,5 @@
 use Rattle.std.proofs.Common.{ap, sym, subst, map}
-use Rattle.express_syntax.specs.SchemaViews.{schema_of}
+use Rattle.schema_names.specs.Schemas.{the_schema}
 use Rattle.schema_rules.specs.Seen.{rules_seen}
 use Rattle.schema_conditions.specs.Seen.{rule_seen}
 use Rattle.schema_sources.specs.Seen.{inverses_seen}
@@ -22,10 +22,10 @@ attributes_are_said-requires c =
 
 pub returns : goal.returns
 returns c =
-    let s = schema_of c.args.types.now.names.schema.now in
+    let s = the_schema c.args.types.now.names in
     let ready = c.requires.ready in
     let d = ready.tables.base_types.exists in
-    let same = ap (λ n. schema_of n.schema.now) c.knowledge-known.ensures.same in
+    let same = ap the_schema c.knowledge-known.ensures.same in
     let en = subst (λ t. (e : Entities) × AreEntities t e) same c.entities_are_said.ensures in
     let formula = c.formulas_are_said.ensures s ready.sound.domain.formulas in
     let found = c.attributes_are_said.ensures formula.0 formula.1 in

@@ -1,6 +1,6 @@
 use Rattle.std.proofs.Common.{ℕ, Global, Ok, Err, Some, ◌∙◌, ap, refl, subst, sym}
 use Rattle.std.specs.Prelude.{Vec}
-use Rattle.files.specs.Stores.{told_by}
+use Rattle.files.specs.Stores.{reader_seen}
 use Rattle.files.specs.declared.fault.Role.TheVariants as roles
 use Rattle.reports.specs.declared.report.Report.{Report}
 use Rattle.faults.proofs.Failing.{unread_device, unread_other}
@@ -12,15 +12,15 @@ use Rattle.commands.proofs.check.run_check.Goals as goal
 
 pub returns-in-Err-clause-runs : goal.returns-in-Err-clause-runs
 returns-in-Err-clause-runs g c =
-    unread_check (Vec ℕ Global) (told_by g.S.Source.to_come g.S.Source.fails c.args.schema.now)
-    (told_by g.F.Source.to_come g.F.Source.fails c.args.file.now) _ _ _ _ c.tell_fault.result c.in-Err.fault
+    unread_check (Vec ℕ Global) (reader_seen g.S.Source.to_come g.S.Source.fails c.args.schema.now)
+    (reader_seen g.F.Source.to_come g.F.Source.fails c.args.file.now) _ _ _ _ c.tell_fault.result c.in-Err.fault
     c.unread.result c.unread.ensures (λ e. c.in-Err.ensures.too_large (ap Err e)) c.in-Err.ensures.told
     c.tell_fault.ensures
 
 pub returns-in-Ok-check-clause-runs : goal.returns-in-Ok-check-clause-runs
 returns-in-Ok-check-clause-runs g c =
-    read_check (told_by g.S.Source.to_come g.S.Source.fails c.args.schema.now)
-    (told_by g.F.Source.to_come g.F.Source.fails c.args.file.now) _ c.in-Ok.text.items _ _ _ _ c.tell_report.result
+    read_check (reader_seen g.S.Source.to_come g.S.Source.fails c.args.schema.now)
+    (reader_seen g.F.Source.to_come g.F.Source.fails c.args.file.now) _ c.in-Ok.text.items _ _ _ _ c.tell_report.result
     (Ok c.in-Ok-check.found) c.in-Ok.ensures.all c.in-Ok.ensures.told
     (subst (λ text. Checks (Some text) (g.F.Source.to_come c.args.file.now) (Ok c.in-Ok-check.found))
     c.deref.ensures.value c.in-Ok-check.ensures.checks) c.in-Ok-check.ensures.no_schema_fault
@@ -30,8 +30,8 @@ returns-in-Ok-check-clause-runs g c =
 
 pub returns-clause-runs : goal.returns-clause-runs
 returns-clause-runs g c =
-    read_check (told_by g.S.Source.to_come g.S.Source.fails c.args.schema.now)
-    (told_by g.F.Source.to_come g.F.Source.fails c.args.file.now) _ c.in-Ok.text.items _ _ _ _
+    read_check (reader_seen g.S.Source.to_come g.S.Source.fails c.args.schema.now)
+    (reader_seen g.F.Source.to_come g.F.Source.fails c.args.file.now) _ c.in-Ok.text.items _ _ _ _
     c.tell_fault-in-Err-check.result (Err c.in-Err-check.fault) c.in-Ok.ensures.all c.in-Ok.ensures.told
     (subst (λ text. Checks (Some text) (g.F.Source.to_come c.args.file.now) (Err c.in-Err-check.fault))
     c.deref.ensures.value c.in-Err-check.ensures.checks) c.in-Err-check.ensures.no_schema_fault

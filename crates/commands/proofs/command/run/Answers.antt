@@ -1,5 +1,5 @@
 use Rattle.std.proofs.Common.{◌∙◌, IfSome, inl, inr, subst, sym}
-use Rattle.files.specs.Stores.{told_by}
+use Rattle.files.specs.Stores.{reader_seen}
 use Rattle.commands.specs.ComputedRequests.{IsWritten}
 use Rattle.commands.specs.Plain.{FailsAs, Plain}
 use Rattle.commands.proofs.Keeping.{checks_as, done_as, is_stored, is_stored_first}
@@ -21,10 +21,10 @@ returns-in-Check-clause-does g c =
     let contents = g.S.Store.contents in
     let fails = g.S.Store.fails in
     let schema = is_stored_first contents fails c.args.store.now _
-    (told_by g.S.Reader.Source.to_come g.S.Reader.Source.fails c.reader-schema.result)
+    (reader_seen g.S.Reader.Source.to_come g.S.Reader.Source.fails c.reader-schema.result)
     c.reader-schema.ensures.contents c.reader-schema.ensures.fails in
     let file = is_stored contents fails c.args.store.now _ _
-    (told_by g.S.Reader.Source.to_come g.S.Reader.Source.fails c.reader-file.result) c.reader-schema.ensures.kept
+    (reader_seen g.S.Reader.Source.to_come g.S.Reader.Source.fails c.reader-file.result) c.reader-schema.ensures.kept
     c.reader-schema.ensures.same c.reader-file.ensures.contents c.reader-file.ensures.fails in
     done_as _ _ _ _ _ _ _ _ _ _ _ (sym c.in-Check.is)
     (checks_as _ _ _ _ _ _ _ _ c.run_check.result schema file c.run_check.ensures.runs)
@@ -53,14 +53,14 @@ returns-in-Shrink-clause-kept g c path apart =
     c.shrink_asked.ensures.kept path (λ same. other (inl same)) (λ same. other (inr same))
 
 pub returns-in-Plain-clause-opened : goal.returns-in-Plain-clause-opened
-returns-in-Plain-clause-opened g c = request_opens _ _ _ _ _ (sym c.in-Plain.is) (inl c.reader-source.ensures.opened)
+returns-in-Plain-clause-opened g c = request_opens _ _ _ _ _ _ _ (sym c.in-Plain.is) (inl c.reader-source.ensures.opened)
 
 pub returns-in-Check-clause-opened : goal.returns-in-Check-clause-opened
-returns-in-Check-clause-opened g c = request_opens _ _ _ _ _ (sym c.in-Check.is)
+returns-in-Check-clause-opened g c = request_opens _ _ _ _ _ _ _ (sym c.in-Check.is)
     (inl (opens_two g.S.Store.opened _ _ _ _ _ c.reader-schema.ensures.opened c.reader-file.ensures.opened))
 
 pub returns-in-Shrink-clause-opened : goal.returns-in-Shrink-clause-opened
-returns-in-Shrink-clause-opened g c = request_opens _ _ _ _ _ (sym c.in-Shrink.is) c.shrink_asked.ensures.opened
+returns-in-Shrink-clause-opened g c = request_opens _ _ _ _ _ _ _ (sym c.in-Shrink.is) c.shrink_asked.ensures.opened
 
 pub returns-in-Verify-clause-opened : goal.returns-in-Verify-clause-opened
-returns-in-Verify-clause-opened g c = request_opens _ _ _ _ _ (sym c.in-Verify.is) c.verify_asked.ensures.opened
+returns-in-Verify-clause-opened g c = request_opens _ _ _ _ _ _ _ (sym c.in-Verify.is) c.verify_asked.ensures.opened

@@ -1,5 +1,5 @@
 use Rattle.std.proofs.Common.{map, inr, refl, string_bytes}
-use Rattle.files.specs.Stores.{stored}
+use Rattle.files.specs.Stores.{file_seen}
 use Rattle.command_line.proofs.Asking.{are_texts}
 use Rattle.commands.proofs.Opening.{asked_opens}
 use Rattle.commands.proofs.Running.{apart_asked, asked_runs, none_asked, refused_opens, refused_runs, written_asked}
@@ -18,13 +18,13 @@ returns-in-Ok-clause-unopened g c = λ none. absurd (none_asked (map string_byte
     c.in-Ok.ensures.asked)
 
 pub returns-in-Ok-clause-opened : goal.returns-in-Ok-clause-opened
-returns-in-Ok-clause-opened g c = asked_opens (map string_bytes c.args.words.now) c.in-Ok.request _ _ c.run.result
+returns-in-Ok-clause-opened g c = asked_opens (map string_bytes c.args.words.now) c.in-Ok.request _ _ _ _ c.run.result
     c.in-Ok.ensures.asked c.run.ensures.opened
 
 pub returns-in-Ok-clause-runs : goal.returns-in-Ok-clause-runs
 returns-in-Ok-clause-runs g c =
     asked_runs _ _ (map string_bytes c.args.words.now)
-    (stored g.S.Store.contents g.S.Store.fails c.args.store.now) _ _ _ _ _ _
+    (file_seen g.S.Store.contents g.S.Store.fails c.args.store.now) _ _ _ _ _ _
     c.in-Ok.request c.in-Ok.ensures.asked c.run.ensures.does
 
 pub returns-in-Ok-clause-kept : goal.returns-in-Ok-clause-kept
@@ -47,7 +47,7 @@ returns-in-Err-clause-opened g c = inr (
 pub returns-in-Err-clause-runs : goal.returns-in-Err-clause-runs
 returns-in-Err-clause-runs g c =
     refused_runs _ _ (map string_bytes c.args.words.now)
-    (stored g.S.Store.contents g.S.Store.fails c.args.store.now) _ _ _ _ _ _
+    (file_seen g.S.Store.contents g.S.Store.fails c.args.store.now) _ _ _ _ _ _
     (asks (map string_bytes c.args.words.now) (are_texts c.args.words.now)) c.in-Err.refusal (record {
       plain = c.in-Err.ensures.granted;
       check = c.in-Err.ensures.check_granted;

@@ -1,7 +1,4 @@
 use Rattle.std.proofs.Common.{inl, inr, refl}
-use Rattle.files.specs.Lines.{line_of}
-use Rattle.files.specs.declared.fault.FileFault.TheVariants.{Memory}
-use Rattle.commands.proofs.Endings.{status_printed}
 use Rattle.commands.proofs.MergeRuns.{memory_smaller}
 use Rattle.commands.proofs.command.shrink_asked.Goals as goal
 
@@ -13,5 +10,4 @@ pub returns-in-Ok-clause-opened : goal.returns-in-Ok-clause-opened
 returns-in-Ok-clause-opened g c = inl c.shrink_by.ensures.opened
 
 pub returns-in-Err-clause-opened : goal.returns-in-Err-clause-opened
-returns-in-Err-clause-opened g c =
-    inr (refl, status_printed _ _ (line_of Memory) 5 c.report.result c.report.ensures)
+returns-in-Err-clause-opened g c = inr (refl, c.report.ensures)

@@ -1,6 +1,6 @@
 use Rattle.pin_choices.specs.Chosen.{choice_of}
 use Rattle.commands.proofs.Keeping.{makes_smaller, others_kept}
-use Rattle.commands.proofs.Opening.{opens_kept}
+use Rattle.commands.proofs.Opening.{opens_six}
 use Rattle.commands.proofs.command.shrink_by.Goals as goal
 
 pub returns-clause-makes : goal.returns-clause-makes
@@ -15,7 +15,7 @@ returns-clause-makes g c = makes_smaller g.S.Store.contents g.S.Store.fails g.S.
     c.run_shrink-status.ensures.runs c.keep.ensures.written c.keep-2.ensures.written
 
 pub returns-clause-opened : goal.returns-clause-opened
-returns-clause-opened g c = opens_kept g.S.Store.opened _ _ _ _ _ _ _ _ _ _ _ c.reader-schema.ensures.opened
+returns-clause-opened g c = opens_six g.S.Store.opened _ _ _ _ _ _ _ _ _ _ _ _ _ c.reader-schema.ensures.opened
     c.reader-file.ensures.opened c.writer-smaller.ensures.opened c.writer-certificate.ensures.opened
     c.keep.ensures.opened c.keep-2.ensures.opened
 

@@ -1,7 +1,4 @@
 use Rattle.std.proofs.Common.{inl, inr, refl}
-use Rattle.files.specs.Lines.{line_of}
-use Rattle.files.specs.declared.fault.FileFault.TheVariants.{Memory}
-use Rattle.commands.proofs.Endings.{status_printed}
 use Rattle.commands.proofs.Opening.{opens_four}
 use Rattle.commands.proofs.VerifyRuns.{memory_verifies}
 use Rattle.commands.proofs.command.verify_asked.Goals as goal
@@ -10,8 +7,7 @@ pub returns-in-Err-clause-verifies : goal.returns-in-Err-clause-verifies
 returns-in-Err-clause-verifies g c = memory_verifies _ _ _ _ _ _ _ _ _ c.report.result refl c.report.ensures
 
 pub returns-in-Err-clause-opened : goal.returns-in-Err-clause-opened
-returns-in-Err-clause-opened g c =
-    inr (refl, status_printed _ _ (line_of Memory) 5 c.report.result c.report.ensures)
+returns-in-Err-clause-opened g c = inr (refl, c.report.ensures)
 
 pub returns-clause-opened : goal.returns-clause-opened
 returns-clause-opened g c = inl (opens_four g.S.Store.opened _ _ _ _ _ _ _ _ _ c.reader-schema.ensures.opened

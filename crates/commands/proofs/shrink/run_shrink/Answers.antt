@@ -1,6 +1,6 @@
 use Rattle.std.proofs.Common.{ℕ, Global, Ok, Err, Some, ◌∙◌, ap, refl, subst, sym}
 use Rattle.std.specs.Prelude.{Vec}
-use Rattle.files.specs.Stores.{told_by}
+use Rattle.files.specs.Stores.{reader_seen}
 use Rattle.files.specs.declared.fault.Role.TheVariants as roles
 use Rattle.pin_choices.specs.Chosen.{choice_of}
 use Rattle.faults.proofs.Failing.{unread_device, unread_other}
@@ -12,15 +12,15 @@ use Rattle.commands.proofs.shrink.run_shrink.Goals as goal
 
 pub returns-in-Err-clause-runs : goal.returns-in-Err-clause-runs
 returns-in-Err-clause-runs g c =
-    unread_shrink (Vec ℕ Global) (told_by g.S.Source.to_come g.S.Source.fails c.args.schema.now) c.in-Err.fault
+    unread_shrink (Vec ℕ Global) (reader_seen g.S.Source.to_come g.S.Source.fails c.args.schema.now) c.in-Err.fault
     c.unread.result c.unread.ensures (choice_of c.args.choice.now) c.args.choice.now.strict
-    (told_by g.F.Source.to_come g.F.Source.fails c.args.file.now) _ _ _ _ _ _ c.tell_fault.result
+    (reader_seen g.F.Source.to_come g.F.Source.fails c.args.file.now) _ _ _ _ _ _ c.tell_fault.result
     (λ e. c.in-Err.ensures.too_large (ap Err e)) c.in-Err.ensures.told c.tell_fault.ensures
 
 pub returns-in-Ok-shrink-clause-runs : goal.returns-in-Ok-shrink-clause-runs
 returns-in-Ok-shrink-clause-runs g c =
-    read_shrink (told_by g.S.Source.to_come g.S.Source.fails c.args.schema.now)
-    (told_by g.F.Source.to_come g.F.Source.fails c.args.file.now) _ c.in-Ok.text.items (choice_of c.args.choice.now)
+    read_shrink (reader_seen g.S.Source.to_come g.S.Source.fails c.args.schema.now)
+    (reader_seen g.F.Source.to_come g.F.Source.fails c.args.file.now) _ c.in-Ok.text.items (choice_of c.args.choice.now)
     c.args.choice.now.strict _ _ _ _ _ _ _ _ c.tell_merge.result (Ok c.in-Ok-shrink.summary) c.in-Ok.ensures.all
     c.in-Ok.ensures.told
     (subst (λ text. Shrinks (choice_of c.args.choice.now) c.args.choice.now.strict (Some text)
@@ -32,8 +32,8 @@ returns-in-Ok-shrink-clause-runs g c =
 
 pub returns-clause-runs : goal.returns-clause-runs
 returns-clause-runs g c =
-    read_shrink (told_by g.S.Source.to_come g.S.Source.fails c.args.schema.now)
-    (told_by g.F.Source.to_come g.F.Source.fails c.args.file.now) _ c.in-Ok.text.items (choice_of c.args.choice.now)
+    read_shrink (reader_seen g.S.Source.to_come g.S.Source.fails c.args.schema.now)
+    (reader_seen g.F.Source.to_come g.F.Source.fails c.args.file.now) _ c.in-Ok.text.items (choice_of c.args.choice.now)
     c.args.choice.now.strict _ _ _ _ _ _ _ _ c.tell_fault-in-Err-shrink.result (Err c.in-Err-shrink.fault)
     c.in-Ok.ensures.all c.in-Ok.ensures.told
     (subst (λ text. Shrinks (choice_of c.args.choice.now) c.args.choice.now.strict (Some text)

@@ -1,5 +1,5 @@
 use Rattle.std.proofs.Common.{Ok, Err, ◌∙◌, refl, inl, subst, sym}
-use Rattle.files.specs.Stores.{told_by}
+use Rattle.files.specs.Stores.{reader_seen}
 use Rattle.files.specs.declared.fault.Role.TheVariants as roles
 use Rattle.pin_choices.specs.Chosen.{choice_of}
 use Rattle.verifying.specs.Sources.{VerifiesAll, given, no_schema}
@@ -24,15 +24,15 @@ returns-in-Err-clause-device g c is schema file smaller certificate out err =
 pub returns-in-Ok-verify_files-clause-runs : goal.returns-in-Ok-verify_files-clause-runs
 returns-in-Ok-verify_files-clause-runs g c = record {
   outcome = Ok c.in-Ok-verify_files.proof;
-  verifies = read_verifies (told_by g.S.Source.to_come g.S.Source.fails c.args.schema.now)
-      (told_by g.F.Source.to_come g.F.Source.fails c.args.file.now)
-      (told_by g.W.Source.to_come g.W.Source.fails c.args.smaller.now)
-      (told_by g.C.Source.to_come g.C.Source.fails c.args.certificate.now) c.in-Ok.text.items c.in-Ok.ensures.read
+  verifies = read_verifies (reader_seen g.S.Source.to_come g.S.Source.fails c.args.schema.now)
+      (reader_seen g.F.Source.to_come g.F.Source.fails c.args.file.now)
+      (reader_seen g.W.Source.to_come g.W.Source.fails c.args.smaller.now)
+      (reader_seen g.C.Source.to_come g.C.Source.fails c.args.certificate.now) c.in-Ok.text.items c.in-Ok.ensures.read
       (choice_of c.args.choice.now) (Ok c.in-Ok-verify_files.proof)
       (subst (λ text. VerifiesAll (choice_of c.args.choice.now) (given text)
-      (told_by g.F.Source.to_come g.F.Source.fails c.args.file.now)
-      (told_by g.W.Source.to_come g.W.Source.fails c.args.smaller.now)
-      (told_by g.C.Source.to_come g.C.Source.fails c.args.certificate.now) (Ok c.in-Ok-verify_files.proof))
+      (reader_seen g.F.Source.to_come g.F.Source.fails c.args.file.now)
+      (reader_seen g.W.Source.to_come g.W.Source.fails c.args.smaller.now)
+      (reader_seen g.C.Source.to_come g.C.Source.fails c.args.certificate.now) (Ok c.in-Ok-verify_files.proof))
       c.deref.ensures.value c.in-Ok-verify_files.ensures.verifies);
   ends = c.tell_proof.ensures;
 }
@@ -40,15 +40,15 @@ returns-in-Ok-verify_files-clause-runs g c = record {
 pub returns-clause-runs : goal.returns-clause-runs
 returns-clause-runs g c = record {
   outcome = Err c.in-Err-verify_files.fault;
-  verifies = read_verifies (told_by g.S.Source.to_come g.S.Source.fails c.args.schema.now)
-      (told_by g.F.Source.to_come g.F.Source.fails c.args.file.now)
-      (told_by g.W.Source.to_come g.W.Source.fails c.args.smaller.now)
-      (told_by g.C.Source.to_come g.C.Source.fails c.args.certificate.now) c.in-Ok.text.items c.in-Ok.ensures.read
+  verifies = read_verifies (reader_seen g.S.Source.to_come g.S.Source.fails c.args.schema.now)
+      (reader_seen g.F.Source.to_come g.F.Source.fails c.args.file.now)
+      (reader_seen g.W.Source.to_come g.W.Source.fails c.args.smaller.now)
+      (reader_seen g.C.Source.to_come g.C.Source.fails c.args.certificate.now) c.in-Ok.text.items c.in-Ok.ensures.read
       (choice_of c.args.choice.now) (Err c.in-Err-verify_files.fault)
       (subst (λ text. VerifiesAll (choice_of c.args.choice.now) (given text)
-      (told_by g.F.Source.to_come g.F.Source.fails c.args.file.now)
-      (told_by g.W.Source.to_come g.W.Source.fails c.args.smaller.now)
-      (told_by g.C.Source.to_come g.C.Source.fails c.args.certificate.now) (Err c.in-Err-verify_files.fault))
+      (reader_seen g.F.Source.to_come g.F.Source.fails c.args.file.now)
+      (reader_seen g.W.Source.to_come g.W.Source.fails c.args.smaller.now)
+      (reader_seen g.C.Source.to_come g.C.Source.fails c.args.certificate.now) (Err c.in-Err-verify_files.fault))
       c.deref.ensures.value c.in-Err-verify_files.ensures.verifies);
   ends = c.tell_fault-in-Err-verify_files.ensures;
 }

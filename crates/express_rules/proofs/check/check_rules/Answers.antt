@@ -24,9 +24,9 @@ returns-then-is_empty-clause-findings c m =
     let S = c.args.setting.now in
     let s = schema_in S in
     let e : length c.args.rules.now ≡ 0 = search rules in
-    subst (λ rs. AreFindingsOf WhereFalse (rule_findings s m.domain m.entities m.attributes (population_in S)
+    subst (λ rs. AreFindingsOf WhereFalse (rule_findings s m.said.domain m.said.entities m.said.attributes (population_in S)
     (map (rule_seen s) rs)) c.empty_report.result.findings.items) (sym (no-rules c.args.rules.now e))
-    (none-false s m.domain m.entities m.attributes (population_in S) c.empty_report.result.findings.items
+    (none-false s m.said.domain m.said.entities m.said.attributes (population_in S) c.empty_report.result.findings.items
     c.empty_report.ensures.findings)
 
 pub returns-then-is_empty-clause-unknown : goal.returns-then-is_empty-clause-unknown
@@ -35,8 +35,8 @@ returns-then-is_empty-clause-unknown c m =
     let s = schema_in S in
     let e : length c.args.rules.now ≡ 0 = search rules in
     c.empty_report.ensures.unknown
-    ∙ ap capped (sym (none-unknown s m.domain m.entities m.attributes (population_in S)))
-    ∙ ap (λ rs. capped (unknown s m.domain m.entities m.attributes (population_in S) (map (rule_seen s) rs)))
+    ∙ ap capped (sym (none-unknown s m.said.domain m.said.entities m.said.attributes (population_in S)))
+    ∙ ap (λ rs. capped (unknown s m.said.domain m.said.entities m.said.attributes (population_in S) (map (rule_seen s) rs)))
     (sym (no-rules c.args.rules.now e))
 
 pub returns-clause-findings : goal.returns-clause-findings
@@ -46,7 +46,7 @@ returns-clause-findings c m =
     let r = c.in_ok-report.report in
     let told =
     subst (Reports c.in_ok-plan.plan.rules.now r) c.of-evaluator.ensures.setting c.in_ok-report.ensures m in
-    subst (λ rules. AreFindingsOf WhereFalse (rule_findings s m.domain m.entities m.attributes (population_in S)
+    subst (λ rules. AreFindingsOf WhereFalse (rule_findings s m.said.domain m.said.entities m.said.attributes (population_in S)
     (map (rule_seen s) rules)) r.findings.items) c.in_ok-plan.ensures.rules
     (all-findings _ r.findings.items told.findings)
 
@@ -58,5 +58,5 @@ returns-clause-unknown c m =
     subst (Reports c.in_ok-plan.plan.rules.now c.in_ok-report.report) c.of-evaluator.ensures.setting
     c.in_ok-report.ensures m in
     told.unknown
-    ∙ ap (λ rules. capped (unknown s m.domain m.entities m.attributes (population_in S) (map (rule_seen s) rules)))
+    ∙ ap (λ rules. capped (unknown s m.said.domain m.said.entities m.said.attributes (population_in S) (map (rule_seen s) rules)))
     c.in_ok-plan.ensures.rules

@@ -2,13 +2,13 @@ use Rattle.std.proofs.Common.{sym, ◌∙◌}
 use Rattle.std.proofs.lemmas.List.{length-map}
 use Rattle.digraph.specs.Graphs.{graph_of}
 use Rattle.express_syntax.specs.Views.{declaration_of}
-use Rattle.express_syntax.specs.SchemaViews.{schema_of}
+use Rattle.schema_names.specs.Schemas.{the_schema}
 use Rattle.express_types.proofs.Above.{above-graph}
 use Rattle.express_types.proofs.judging.make_meanings.Goals as goal
 
 pub reversal-requires-clause-graph : goal.reversal-requires-clause-graph
 reversal-requires-clause-graph c =
-    above-graph (schema_of c.args.names.now.schema.now) (graph_of c.args.above.now) c.requires.above
+    above-graph (the_schema c.args.names.now) (graph_of c.args.above.now) c.requires.above
 
 pub returns : goal.returns
 returns c = record {

@@ -1,13 +1,13 @@
 use Rattle.std.proofs.Common.{subst}
-use Rattle.express_syntax.specs.SchemaViews.{schema_of}
 use Rattle.step_exchange.specs.Exchanges.{structure}
+use Rattle.schema_names.specs.Schemas.{the_schema}
 use Rattle.ruled_populations.specs.Checking.{ChecksFile}
 use Rattle.merge_tables.proofs.Coming.{comes-faulty, comes-clean}
 use Rattle.merge_tables.proofs.merging.merged_by_tables.Goals as goal
 
 pub standard_tables-requires : goal.standard_tables-requires
 standard_tables-requires c =
-    let s = schema_of c.args.graph.now.types.names.schema.now in
+    let s = the_schema c.args.graph.now.types.names in
     let x = c.args.exchange.now in
     record {
       population = (subst (ChecksFile s (structure x) c.args.chosen.now) c.in-Clean.is c.in_ok-checked.ensures).population;
@@ -15,7 +15,7 @@ standard_tables-requires c =
 
 pub returns-in-Faulty : goal.returns-in-Faulty
 returns-in-Faulty c =
-    let s = schema_of c.args.graph.now.types.names.schema.now in
+    let s = the_schema c.args.graph.now.types.names in
     let x = c.args.exchange.now in
     let chosen = c.args.chosen.now in
     comes-faulty s (structure x) chosen x.names c.in-Faulty.found
@@ -23,7 +23,7 @@ returns-in-Faulty c =
 
 pub returns-in_ok-first-in-Clean : goal.returns-in_ok-first-in-Clean
 returns-in_ok-first-in-Clean c =
-    let s = schema_of c.args.graph.now.types.names.schema.now in
+    let s = the_schema c.args.graph.now.types.names in
     let x = c.args.exchange.now in
     let chosen = c.args.chosen.now in
     comes-clean s x chosen c.in-Clean.unknown c.in-Clean.weak c.in-Clean.rows c.in_ok-first-in-Clean.first

@@ -7,7 +7,7 @@ use Rattle.step_exchange.specs.Views.{rows_with}
 use Rattle.conformance.specs.Bases.{IsDomain}
 use Rattle.conformance.specs.Entities.{AreEntities}
 use Rattle.conformance.specs.Findings.{findings}
-use Rattle.schema_bases.specs.Seen.{schema_at}
+use Rattle.schema_names.specs.Schemas.{the_schema}
 use Rattle.population_faults.specs.declared.judge.Judge.{Judge}
 use Rattle.population_faults.specs.Judging.{schema_told}
 use Rattle.population_faults.specs.Rows.{rows_in, AreNumbered, AreRowsOf}
@@ -20,7 +20,8 @@ tell_rows-requires c =
     let said = c.entities_are_said.ensures in
     let rows = c.args.rows.now in (
       c.requires.bases,
-      subst (λ l. AreNumbered (schema_at c.args.bases.now) (graph_of l)) (sym c.targets_in-targets.ensures.types)
+      subst (λ l. AreNumbered (the_schema c.args.bases.now.names.now) (graph_of l))
+          (sym c.targets_in-targets.ensures.types)
           (subst (λ t. AreNumbered (schema_of t) (graph_of rows.types.items)) c.requires.same
           (c.requires.rows said.0 said.1).numbered),
     )

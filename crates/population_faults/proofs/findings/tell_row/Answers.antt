@@ -3,9 +3,10 @@ use Rattle.std.specs.Option.{option_copied}
 use Rattle.step_exchange.specs.Views.{form_of, form_in}
 use Rattle.step_structures.specs.Trees.{Row}
 use Rattle.conformance.specs.Entities.{records}
+use Rattle.schema_names.specs.Schemas.{the_schema}
 use Rattle.population_faults.specs.Keywords.{unknown_among}
 use Rattle.population_rows.specs.Rows.{form_at}
-use Rattle.population_faults.specs.Judging.{schema_by, TellsBehind}
+use Rattle.population_faults.specs.Judging.{TellsBehind}
 use Rattle.population_faults.proofs.InTurn.{on-ok, tells-known, tells-unknown}
 use Rattle.population_faults.proofs.findings.tell_row.Goals as goal
 
@@ -29,5 +30,5 @@ returns-in-None c =
     (form_at c.args.rows.now c.args.row) c.unknown_entities-unknown.result
     (sym (ap option_copied c.in-None.is) ∙ c.form_at.ensures)
     (c.unknown_entities-unknown.ensures
-    ∙ ap (λ l. unknown_among (schema_by j) (records (form_of l))) c.parts-parts.ensures))
+    ∙ ap (λ l. unknown_among (the_schema j.bases.names.now) (records (form_of l))) c.parts-parts.ensures))
     c.tell_whole.ensures

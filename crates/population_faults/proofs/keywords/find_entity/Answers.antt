@@ -3,14 +3,14 @@ use Rattle.std.proofs.lemmas.List.{length-map}
 use Rattle.express_syntax.specs.SchemaViews.{schema_of}
 use Rattle.express_syntax.specs.Views.{declaration_of}
 use Rattle.express_syntax.specs.ExpressionViews.{capitals}
+use Rattle.schema_names.specs.Schemas.{the_schema}
 use Rattle.schema_names.proofs.Edges.{number-within}
 use Rattle.population_faults.proofs.Naming.{none-found, found-entity, found-other}
 use Rattle.population_faults.proofs.keywords.find_entity.Goals as goal
 
 pub returns-in_default : goal.returns-in_default
 returns-in_default c =
-    none-found (schema_of c.args.names.now.schema.now) c.requires (capitals c.args.name)
-    (sym c.find.ensures ∙ c.in_default.is)
+    none-found (the_schema c.args.names.now) c.requires (capitals c.args.name) (sym c.find.ensures ∙ c.in_default.is)
 
 pub declaration-requires : goal.declaration-requires
 declaration-requires c =

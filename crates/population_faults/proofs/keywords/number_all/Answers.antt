@@ -1,8 +1,8 @@
 use Rattle.std.proofs.Common.{◌≡◌, ap, sym, ◌∙◌, subst, true, map, take, ◌+◌}
-use Rattle.express_syntax.specs.SchemaViews.{schema_of}
 use Rattle.step_exchange.specs.Views.{record_of, record_in}
 use Rattle.schema_semantics.specs.Names.{IsEntity}
 use Rattle.schema_names.specs.Numbers.{HasNumber}
+use Rattle.schema_names.specs.Schemas.{the_schema}
 use Rattle.conformance.specs.Fitting.{is_entity}
 use Rattle.conformance.specs.Entities.{named_entity}
 use Rattle.population_faults.specs.Keywords.{NumberAll}
@@ -11,13 +11,13 @@ use Rattle.population_faults.proofs.keywords.number_all.Goals as goal
 
 pub returns-in_default : goal.returns-in_default
 returns-in_default c =
-    let s = schema_of c.args.names.now.schema.now in
+    let s = the_schema c.args.names.now in
     not-all s c.args.partials.now c.loop-i.i c.at.result c.at.ensures
     (ap (λ l. is_entity s (named_entity (record_of l))) (sym c.parts.ensures) ∙ c.in_default.ensures)
 
 pub loop-i-preserved : goal.loop-i-preserved
 loop-i-preserved c =
-    let s = schema_of c.args.names.now.schema.now in
+    let s = the_schema c.args.names.now in
     let here = subst (λ l. (is_entity s (named_entity (record_of l)) ≡ true) × IsEntity s (named_entity (record_of l))
     × HasNumber s (named_entity (record_of l)) c.in-Some.entity) c.parts.ensures c.in-Some.ensures in
     subst (λ is. NumberAll s (map record_in (take (c.loop-i.i + 1) c.args.partials.now)) is true)

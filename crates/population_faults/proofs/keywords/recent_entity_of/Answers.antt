@@ -1,11 +1,11 @@
 use Rattle.std.proofs.Common.{sym, subst, None}
 use Rattle.step_literals.specs.Words.{upper}
-use Rattle.express_syntax.specs.SchemaViews.{schema_of}
+use Rattle.schema_names.specs.Schemas.{the_schema}
 use Rattle.population_faults.specs.Keywords.{IsEntityOf}
 use Rattle.population_faults.proofs.Naming.{empty-name}
 use Rattle.population_faults.proofs.keywords.recent_entity_of.Goals as goal
 
 pub returns-in-None : goal.returns-in-None
 returns-in-None c =
-    subst (λ k. IsEntityOf (schema_of c.args.names.now.schema.now) (upper k) None) (sym c.in-None.ensures.1)
+    subst (λ k. IsEntityOf (the_schema c.args.names.now) (upper k) None) (sym c.in-None.ensures.1)
     (empty-name c.args.names.now.schema.now)

@@ -1,13 +1,13 @@
 use Rattle.std.proofs.Common.{◌≡◌, [], ◌∷◌, ◌+◌, ap, sym, ◌∙◌, arith}
-use Rattle.express_syntax.specs.SchemaViews.{schema_of}
 use Rattle.step_exchange.specs.Views.{record_of, record_in}
+use Rattle.schema_names.specs.Schemas.{the_schema}
 use Rattle.population_faults.specs.Keywords.{unknown_among}
 use Rattle.population_faults.proofs.Records.{unknown-next}
 use Rattle.population_faults.proofs.keywords.unknown_partials.Goals as goal
 
 pub loop-i-preserved : goal.loop-i-preserved
 loop-i-preserved c =
-    let s = schema_of c.args.names.now.schema.now in
+    let s = the_schema c.args.names.now in
     let x = c.at.result in
     let own : c.unknown_entity-unknown.result ≡ unknown_among s (record_in x ∷ []) =
     c.unknown_entity-unknown.ensures.counted ∙ ap (λ l. unknown_among s (record_of l ∷ [])) c.parts.ensures in

@@ -1,8 +1,9 @@
 use Rattle.std.proofs.Common.{◌≡◌, ◌∙◌, None, Some, Option, true, false, is_some, sym, refl}
+use Rattle.schema_names.specs.Schemas.{the_schema}
 use Rattle.schema_bases.specs.Seen.{type_at, base_seen}
 use Rattle.schema_bases.specs.Tables.{IsKnown}
 use Rattle.conformance.specs.declared.finding.FindingKind.{FindingKind}
-use Rattle.population_faults.specs.Judging.{schema_by, target_by}
+use Rattle.population_faults.specs.Judging.{target_by}
 use Rattle.population_faults.proofs.Misfitting.{every-get, fits-next, misfit-next, types-end}
 use Rattle.population_faults.proofs.misfits.first_misfit.Goals as goal
 
@@ -17,7 +18,7 @@ some-kind (Some k) e = (k, refl)
 pub returns-then-is_some : goal.returns-then-is_some
 returns-then-is_some c = λ d en are known.
     let j = c.args.judge.now in
-    let s = schema_by j in
+    let s = the_schema j.bases.names.now in
     let ns = c.args.data_types.now in
     let i = c.loop-number.number-index in
     let asks = c.of_number-base.ensures.says
@@ -30,7 +31,7 @@ returns-then-is_some c = λ d en are known.
 pub loop-number-preserved : goal.loop-number-preserved
 loop-number-preserved c = λ d en are known.
     let j = c.args.judge.now in
-    let s = schema_by j in
+    let s = the_schema j.bases.names.now in
     let ns = c.args.data_types.now in
     let i = c.loop-number.number-index in
     let asks = c.of_number-base.ensures.says
@@ -43,5 +44,5 @@ loop-number-preserved c = λ d en are known.
 pub returns : goal.returns
 returns c = λ d en are known.
     let j = c.args.judge.now in
-    sym (types-end (schema_by j) d en (target_by j) c.args.data_types.now c.args.param.now c.loop-number.number-index
-    c.loop-number-test.false) ∙ c.loop-number.invariant d en are known
+    sym (types-end (the_schema j.bases.names.now) d en (target_by j) c.args.data_types.now c.args.param.now
+    c.loop-number.number-index c.loop-number-test.false) ∙ c.loop-number.invariant d en are known

@@ -3,15 +3,18 @@ use Rattle.express_syntax.specs.Profile.{Every}
 use Rattle.conformance.specs.Bases.{Domain}
 use Rattle.conformance.specs.Entities.{Entities}
 use Rattle.conformance.specs.Findings.{misfit_of}
+use Rattle.schema_names.specs.Schemas.{the_schema}
 use Rattle.schema_bases.specs.Seen.{type_at}
 use Rattle.schema_bases.specs.Tables.{IsKnown}
-use Rattle.population_faults.specs.Judging.{AreOf, schema_by, target_by}
+use Rattle.population_faults.specs.Judging.{AreOf, target_by}
 use Rattle.population_faults.proofs.misfits.first_misfit.Given as goal
 
 abbrev pub invariant-loop-number : goal.invariant-loop-number
 invariant-loop-number l =
     (d : Domain) → (en : Entities) → AreOf l.judge d en
-    → Every (λ k. IsKnown (schema_by l.judge) (type_at (schema_by l.judge) k)) l.data_types
-    → misfit_of (schema_by l.judge) d en (target_by l.judge)
-    (map (type_at (schema_by l.judge)) (drop l.number-index l.data_types)) l.param
-    ≡ misfit_of (schema_by l.judge) d en (target_by l.judge) (map (type_at (schema_by l.judge)) l.data_types) l.param
+    → Every (λ k. IsKnown (the_schema l.judge.bases.names.now) (type_at (the_schema l.judge.bases.names.now) k))
+    l.data_types
+    → misfit_of (the_schema l.judge.bases.names.now) d en (target_by l.judge)
+    (map (type_at (the_schema l.judge.bases.names.now)) (drop l.number-index l.data_types)) l.param
+    ≡ misfit_of (the_schema l.judge.bases.names.now) d en (target_by l.judge)
+    (map (type_at (the_schema l.judge.bases.names.now)) l.data_types) l.param

@@ -1,13 +1,13 @@
 use Rattle.std.proofs.Common.{sym, subst, take, ◌+◌}
-use Rattle.population_layouts.specs.Knowing.{schema_in}
 use Rattle.step_exchange.specs.Views.{form_of}
+use Rattle.schema_names.specs.Schemas.{the_schema}
 use Rattle.population_faults.specs.Making.{MakeForms, MakesForm}
 use Rattle.population_faults.proofs.Makings.{forms-next}
 use Rattle.population_faults.proofs.rows.forms_of.Goals as goal
 
 pub loop-i-preserved : goal.loop-i-preserved
 loop-i-preserved c =
-    let s = schema_in c.args.known.now in
+    let s = the_schema c.args.known.now.names.now in
     let xs = c.args.instances.now in
     let one = subst (λ l. MakesForm s (form_of l) c.loop-i.made c.form.new.self c.in_ok-form.field-0) c.parts.ensures
     c.in_ok-form.ensures in

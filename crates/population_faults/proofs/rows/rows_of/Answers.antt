@@ -1,7 +1,7 @@
 use Rattle.std.proofs.Common.{sym, ap, subst, ◌∙◌, drop}
 use Rattle.population_rows.specs.Index.{place_of}
-use Rattle.population_layouts.specs.Knowing.{schema_in}
 use Rattle.population_rows.specs.declared.rows.Rows.{Rows}
+use Rattle.schema_names.specs.Schemas.{the_schema}
 use Rattle.population_faults.specs.Making.{HaveFormsAmong}
 use Rattle.population_faults.proofs.Placing.{have-forms}
 use Rattle.step_exchange.proofs.Named.{names-are}
@@ -9,7 +9,7 @@ use Rattle.population_faults.proofs.rows.rows_of.Goals as goal
 
 pub returns : goal.returns
 returns c =
-    let s = schema_in c.args.known.now in
+    let s = the_schema c.args.known.now.names.now in
     let x = c.args.exchange.now in
     let forms = c.in_ok-form_of.ensures in
     let t : Rows = record {

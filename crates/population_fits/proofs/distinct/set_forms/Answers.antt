@@ -1,7 +1,8 @@
 use Rattle.std.proofs.Common.{◌≡◌, ◌≤◌, ◌+◌, ◌∙◌, length, take, subst, sym, ap, arith}
 use Rattle.std.proofs.lemmas.List.{take_all}
 use Rattle.conformance.specs.Fitting.{values_as, set_ones}
-use Rattle.schema_bases.specs.Seen.{base_seen, schema_at}
+use Rattle.schema_names.specs.Schemas.{the_schema}
+use Rattle.schema_bases.specs.Seen.{base_seen}
 use Rattle.step_records.specs.Cells.{all_of}
 use Rattle.step_values.specs.ComputedForms.{AreNormal}
 use Rattle.population_fits.specs.Named.{each_by_name}
@@ -11,7 +12,7 @@ use Rattle.population_fits.proofs.distinct.set_forms.Goals.{then-is_set+in_ok-no
 
 pub loop-i-preserved : goal.loop-i-preserved
 loop-i-preserved c d h =
-    let s = schema_at c.args.bases.now in
+    let s = the_schema c.args.bases.now.names.now in
     let b = base_seen s c.args.base in
     let xs = c.args.params.now in
     elim c.if-is_set.branch [
@@ -30,7 +31,7 @@ loop-i-preserved c d h =
 
 pub returns : goal.returns
 returns c d h =
-    let s = schema_at c.args.bases.now in
+    let s = the_schema c.args.bases.now.names.now in
     let b = base_seen s c.args.base in
     let over : length c.args.params.now ≤ c.loop-i.i = omega (arith, c.loop-i-test.false, c.len-i-end.ensures) in
     let all : take c.loop-i.i c.args.params.now ≡ c.args.params.now = take_all c.loop-i.i c.args.params.now over in

@@ -1,6 +1,7 @@
 use Rattle.std.proofs.Common.{◌≡◌, ◌∙◌, true, length, sym, ap, subst, arith}
 use Rattle.conformance.specs.Fitting.{in_bounds}
-use Rattle.schema_bases.specs.Seen.{base_seen, aggregate_seen, schema_at}
+use Rattle.schema_names.specs.Schemas.{the_schema}
+use Rattle.schema_bases.specs.Seen.{base_seen, aggregate_seen}
 use Rattle.schema_bases.specs.Tables.{IsNumbered}
 use Rattle.step_records.proofs.Weights.{lighter}
 use Rattle.population_fits.specs.Targets.{target_of}
@@ -15,7 +16,7 @@ misfit_each-misfit_one-requires t c =
 
 pub misfit_each-returns-then-is_some : goal.misfit_each-returns-then-is_some
 misfit_each-returns-then-is_some t c d h =
-    let s = schema_at c.args.bases.now in
+    let s = the_schema c.args.bases.now.names.now in
     this_element s d (target_of s c.args.targets.now) c.args.is_optional (base_seen s c.args.base.now) c.args.params.now
     c.loop-i.i c.at.result c.at.ensures c.in_ok-found.found (c.in_ok-found.ensures d h)
     (sym c.is_some.ensures ∙ c.if-is_some.true)
@@ -23,7 +24,7 @@ misfit_each-returns-then-is_some t c d h =
 
 pub misfit_each-loop-i-preserved : goal.misfit_each-loop-i-preserved
 misfit_each-loop-i-preserved t c d h =
-    let s = schema_at c.args.bases.now in
+    let s = the_schema c.args.bases.now.names.now in
     later_elements s d (target_of s c.args.targets.now) c.args.is_optional (base_seen s c.args.base.now) c.args.params.now
     c.loop-i.i c.at.result c.at.ensures c.in_ok-found.found (c.in_ok-found.ensures d h)
     (sym c.is_some.ensures ∙ c.if-is_some.false)
@@ -31,7 +32,7 @@ misfit_each-loop-i-preserved t c d h =
 
 pub misfit_list-returns-then-not-in_bounds : goal.misfit_list-returns-then-not-in_bounds
 misfit_list-returns-then-not-in_bounds t c d h =
-    let s = schema_at c.args.bases.now in
+    let s = the_schema c.args.bases.now.names.now in
     out_of_bounds s d (target_of s c.args.targets.now) c.args.base.now c.in-Aggregate.aggregate c.in-Aggregate.is
     c.args.params.now
     (ap (in_bounds (aggregate_seen s c.in-Aggregate.aggregate)) (sym c.len.ensures)
@@ -39,7 +40,7 @@ misfit_list-returns-then-not-in_bounds t c d h =
 
 pub misfit_list-returns-then-is_some : goal.misfit_list-returns-then-is_some
 misfit_list-returns-then-is_some t c d h =
-    let s = schema_at c.args.bases.now in
+    let s = the_schema c.args.bases.now.names.now in
     let a = c.in-Aggregate.aggregate in
     let filled : in_bounds (aggregate_seen s a) (length c.args.params.now) ≡ true =
     ap (in_bounds (aggregate_seen s a)) (sym c.len.ensures) ∙ sym (c.in_bounds.ensures s) ∙ c.if-not-in_bounds.false in
@@ -58,7 +59,7 @@ misfit_list-returns-then-is_some t c d h =
 
 pub misfit_list-returns : goal.misfit_list-returns
 misfit_list-returns t c d h =
-    let s = schema_at c.args.bases.now in
+    let s = the_schema c.args.bases.now.names.now in
     let a = c.in-Aggregate.aggregate in
     let filled : in_bounds (aggregate_seen s a) (length c.args.params.now) ≡ true =
     ap (in_bounds (aggregate_seen s a)) (sym c.len.ensures) ∙ sym (c.in_bounds.ensures s) ∙ c.if-not-in_bounds.false in
@@ -71,4 +72,4 @@ misfit_list-returns t c d h =
 
 pub misfit_node-misfit_reference-requires-clause-led : goal.misfit_node-misfit_reference-requires-clause-led
 misfit_node-misfit_reference-requires-clause-led t c =
-    c.target.ensures.numbered (schema_at c.args.bases.now) c.requires.targets
+    c.target.ensures.numbered (the_schema c.args.bases.now.names.now) c.requires.targets

@@ -1,7 +1,8 @@
 use Rattle.std.proofs.Common.{◌*◌, ◌+◌, ◌≡◌, drop}
 use Rattle.conformance.specs.Bases.{Domain, IsDomain}
 use Rattle.conformance.specs.Fitting.{misfit_each}
-use Rattle.schema_bases.specs.Seen.{base_seen, schema_at}
+use Rattle.schema_names.specs.Schemas.{the_schema}
+use Rattle.schema_bases.specs.Seen.{base_seen}
 use Rattle.step_records.specs.Cells.{all_of}
 use Rattle.step_records.specs.Params.{node_value}
 use Rattle.step_records.proofs.Weights.{weight, weights}
@@ -10,11 +11,11 @@ use Rattle.population_fits.proofs.fits.+fits.Given as goal
 
 -- what is left decides
 abbrev pub invariant-misfit_each-loop-i : goal.invariant-misfit_each-loop-i
-invariant-misfit_each-loop-i l = (d : Domain) → IsDomain (schema_at l.bases) d
-    → misfit_each (schema_at l.bases) d (target_of (schema_at l.bases) l.targets) l.is_optional
-    (base_seen (schema_at l.bases) l.base) (all_of (drop l.i l.params))
-    ≡ misfit_each (schema_at l.bases) d (target_of (schema_at l.bases) l.targets) l.is_optional
-    (base_seen (schema_at l.bases) l.base) (all_of l.params)
+invariant-misfit_each-loop-i l = (d : Domain) → IsDomain (the_schema l.bases.names.now) d
+    → misfit_each (the_schema l.bases.names.now) d (target_of (the_schema l.bases.names.now) l.targets) l.is_optional
+    (base_seen (the_schema l.bases.names.now) l.base) (all_of (drop l.i l.params))
+    ≡ misfit_each (the_schema l.bases.names.now) d (target_of (the_schema l.bases.names.now) l.targets) l.is_optional
+    (base_seen (the_schema l.bases.names.now) l.base) (all_of l.params)
 
 abbrev pub decreases-misfit : goal.decreases-misfit
 decreases-misfit a = 4 * weight a.param.now + 1

@@ -1,7 +1,8 @@
 use Rattle.std.proofs.Common.{◌≡◌, ◌≤◌, ◌+◌, length, take, subst, sym, arith}
 use Rattle.std.proofs.lemmas.List.{take_all}
 use Rattle.conformance.specs.Fitting.{values_as}
-use Rattle.schema_bases.specs.Seen.{base_seen, schema_at}
+use Rattle.schema_names.specs.Schemas.{the_schema}
+use Rattle.schema_bases.specs.Seen.{base_seen}
 use Rattle.step_records.specs.Cells.{all_of}
 use Rattle.step_records.proofs.Weights.{lighter}
 use Rattle.step_values.specs.ComputedForms.{AreNormal}
@@ -16,7 +17,7 @@ normal_values-normal_value-requires t c =
 
 pub normal_values-loop-i-preserved : goal.normal_values-loop-i-preserved
 normal_values-loop-i-preserved t c d h =
-    let s = schema_at c.args.bases.now in
+    let s = the_schema c.args.bases.now.names.now in
     let b = base_seen s c.args.base in
     subst (AreNormal (each_by_name (values_as s d b (all_of (take (c.loop-i.i + 1) c.args.params.now)))))
     (sym c.in_ok-push.ensures.items)
@@ -25,7 +26,7 @@ normal_values-loop-i-preserved t c d h =
 
 pub normal_values-returns : goal.normal_values-returns
 normal_values-returns t c d h =
-    let s = schema_at c.args.bases.now in
+    let s = the_schema c.args.bases.now.names.now in
     let b = base_seen s c.args.base in
     let over : length c.args.params.now ≤ c.loop-i.i = omega (arith, c.loop-i-test.false, c.len-i-end.ensures) in
     let all : take c.loop-i.i c.args.params.now ≡ c.args.params.now = take_all c.loop-i.i c.args.params.now over in

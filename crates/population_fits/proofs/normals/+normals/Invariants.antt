@@ -1,7 +1,8 @@
 use Rattle.std.proofs.Common.{◌*◌, ◌+◌, take}
 use Rattle.conformance.specs.Bases.{Domain, IsDomain}
 use Rattle.conformance.specs.Fitting.{values_as}
-use Rattle.schema_bases.specs.Seen.{base_seen, schema_at}
+use Rattle.schema_names.specs.Schemas.{the_schema}
+use Rattle.schema_bases.specs.Seen.{base_seen}
 use Rattle.step_records.specs.Cells.{all_of}
 use Rattle.step_records.specs.Params.{node_value}
 use Rattle.step_records.proofs.Weights.{weight, weights}
@@ -10,8 +11,9 @@ use Rattle.population_fits.specs.Named.{each_by_name}
 use Rattle.population_fits.proofs.normals.+normals.Given as goal
 
 abbrev pub invariant-normal_values-loop-i : goal.invariant-normal_values-loop-i
-invariant-normal_values-loop-i l = (d : Domain) → IsDomain (schema_at l.bases) d → AreNormal (each_by_name
-    (values_as (schema_at l.bases) d (base_seen (schema_at l.bases) l.base) (all_of (take l.i l.params)))) l.forms.items
+invariant-normal_values-loop-i l = (d : Domain) → IsDomain (the_schema l.bases.names.now) d → AreNormal (each_by_name
+    (values_as (the_schema l.bases.names.now) d (base_seen (the_schema l.bases.names.now) l.base)
+    (all_of (take l.i l.params)))) l.forms.items
 
 abbrev pub decreases-normal_value : goal.decreases-normal_value
 decreases-normal_value a = 4 * weight a.param.now + 1

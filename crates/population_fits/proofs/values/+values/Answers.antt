@@ -5,7 +5,8 @@ use Rattle.step_records.specs.Params.{node_value}
 use Rattle.step_records.proofs.Weights.{weight, lighter}
 use Rattle.step_values.specs.Building.{Building}
 use Rattle.step_values.specs.Values.{sequence, bag}
-use Rattle.schema_bases.specs.Seen.{base_seen, schema_at}
+use Rattle.schema_names.specs.Schemas.{the_schema}
+use Rattle.schema_bases.specs.Seen.{base_seen}
 use Rattle.population_rows.specs.Index.{found}
 use Rattle.population_fits.specs.References.{AreFound, RefersWithin}
 use Rattle.population_fits.proofs.Pushed.{reached, bag_gathered, sequence_gathered, some_pending, or_itself, refers_at, pushed_next, typed_closed, list_closed, as_asked, whatever_asked}
@@ -45,7 +46,7 @@ push_each-push_element-requires t c =
 
 pub push_each-loop-i-preserved : goal.push_each-loop-i-preserved
 push_each-loop-i-preserved t c =
-    let s = schema_at c.args.bases.now in
+    let s = the_schema c.args.bases.now.names.now in
     let some = c.requires.bases.1.exists in
     record {
       names = ap (λ (b : Building). b.names) (c.in_ok-push_element.ensures some.0 some.1) ∙ c.loop-i.invariant.names;
@@ -66,21 +67,21 @@ push_element-push_inside-requires t c = (
 
 pub push_element-returns-in-Number : goal.push_element-returns-in-Number
 push_element-returns-in-Number t c =
-    let s = schema_at c.args.bases.now in
+    let s = the_schema c.args.bases.now.names.now in
     whatever_asked s c.args.builder.now c.push_number.new.self (λ d. element s d (base_seen s c.args.base.now))
     (number c.in-Number.literal.text.now) c.args.param (ap node_value (sym c.in-Number.is) ∙ c.node.ensures)
     c.push_number.result c.push_number.ensures
 
 pub push_element-returns-in-Text : goal.push_element-returns-in-Text
 push_element-returns-in-Text t c =
-    let s = schema_at c.args.bases.now in
+    let s = the_schema c.args.bases.now.names.now in
     whatever_asked s c.args.builder.now c.push_text.new.self (λ d. element s d (base_seen s c.args.base.now))
     (string c.in-Text.text.text.now) c.args.param (ap node_value (sym c.in-Text.is) ∙ c.node.ensures)
     c.push_text.result c.push_text.ensures
 
 pub push_element-returns-in-Reference : goal.push_element-returns-in-Reference
 push_element-returns-in-Reference t c =
-    let s = schema_at c.args.bases.now in
+    let s = the_schema c.args.bases.now.names.now in
     whatever_asked s c.args.builder.now c.push_reference.new.builder (λ d. element s d (base_seen s c.args.base.now))
     (name c.in-Reference.name _) c.args.param (ap node_value (sym c.in-Reference.is) ∙ c.node.ensures)
     c.push_reference.result c.push_reference.ensures
@@ -93,7 +94,7 @@ push_inside-push_value-requires t c = (
 
 pub push_inside-returns : goal.push_inside-returns
 push_inside-returns t c =
-    let s = schema_at c.args.bases.now in
+    let s = the_schema c.args.bases.now.names.now in
     as_asked s c.args.builder.now c.push_value.new.builder (base_seen s c.element-inside.result)
     (λ d. element s d (base_seen s c.args.base.now)) c.args.param c.element-inside.ensures.says c.push_value.result
     c.push_value.ensures
@@ -112,7 +113,7 @@ push_list-close_sequence-requires t c =
 
 pub push_list-returns-then-has_no_order : goal.push_list-returns-then-has_no_order
 push_list-returns-then-has_no_order t c =
-    let s = schema_at c.args.bases.now in
+    let s = the_schema c.args.bases.now.names.now in
     let some = c.requires.bases.1.exists in
     list_closed s bag c.args.builder.now c.push_each.new.builder c.close_bag.new.self
     c.pending_len-mark.result c.pending_len-mark.ensures (base_seen s c.args.base.now) c.args.params.now
@@ -121,7 +122,7 @@ push_list-returns-then-has_no_order t c =
 
 pub push_list-returns-else-has_no_order : goal.push_list-returns-else-has_no_order
 push_list-returns-else-has_no_order t c =
-    let s = schema_at c.args.bases.now in
+    let s = the_schema c.args.bases.now.names.now in
     let some = c.requires.bases.1.exists in
     list_closed s sequence c.args.builder.now c.push_each.new.builder c.close_sequence.new.self
     c.pending_len-mark.result c.pending_len-mark.ensures (base_seen s c.args.base.now) c.args.params.now
@@ -151,7 +152,7 @@ push_typed-close_typed-requires t c =
 
 pub push_typed-returns : goal.push_typed-returns
 push_typed-returns t c =
-    let s = schema_at c.args.bases.now in
+    let s = the_schema c.args.bases.now.names.now in
     let some = c.requires.bases.1.exists in
     typed_closed s c.args.builder.now c.push_value.new.builder c.close_typed.new.self
     (base_seen s c.args.base.now) (base_seen s c.unwrap_or-within.result) c.args.word.text.now c.args.inner.now some

@@ -1,7 +1,8 @@
 use Rattle.std.proofs.Common.{◌*◌, ◌+◌, ◌≡◌, take}
 use Rattle.conformance.specs.Bases.{Domain, IsDomain}
 use Rattle.conformance.specs.Fitting.{element, values_as}
-use Rattle.schema_bases.specs.Seen.{base_seen, schema_at}
+use Rattle.schema_names.specs.Schemas.{the_schema}
+use Rattle.schema_bases.specs.Seen.{base_seen}
 use Rattle.step_records.specs.Cells.{all_of}
 use Rattle.step_records.specs.Params.{node_value}
 use Rattle.step_records.proofs.Weights.{weight, weights}
@@ -11,8 +12,9 @@ use Rattle.population_fits.proofs.values.+values.Given as goal
 abbrev pub invariant-push_each-loop-i : goal.invariant-push_each-loop-i
 invariant-push_each-loop-i l = record {
   names : l.builder.names ≡ l.initial.builder.names;
-  pushed : (d : Domain) → IsDomain (schema_at l.bases) d → PushesEach l.initial.builder l.builder
-      (values_as (schema_at l.bases) d (element (schema_at l.bases) d (base_seen (schema_at l.bases) l.base))
+  pushed : (d : Domain) → IsDomain (the_schema l.bases.names.now) d → PushesEach l.initial.builder l.builder
+      (values_as (the_schema l.bases.names.now) d
+      (element (the_schema l.bases.names.now) d (base_seen (the_schema l.bases.names.now) l.base))
       (all_of (take l.i l.params)));
 }
 

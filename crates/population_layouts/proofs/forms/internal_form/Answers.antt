@@ -1,7 +1,7 @@
 use Rattle.std.proofs.Common.{ap, ◌∙◌}
 use Rattle.std.proofs.lemmas.Result.{IfOk-weaker}
 use Rattle.digraph.specs.Graphs.{graph_of}
-use Rattle.population_layouts.specs.Knowing.{schema_in}
+use Rattle.schema_names.specs.Schemas.{the_schema}
 use Rattle.population_layouts.specs.Marked.{is_above}
 use Rattle.population_layouts.proofs.Rising.{never-fall}
 use Rattle.population_layouts.proofs.Formed.{internal-is}
@@ -16,7 +16,7 @@ form-requires-clause-some c =
     let k = c.args.known.now in
     let rows = graph_of k.above.now in
     λ j. ap (λ row. is_above rows row j) c.from_ref.ensures.value
-    ∙ above-kinds (schema_in k) rows c.requires.known.above c.args.entity c.in_ok-types.types.items
+    ∙ above-kinds (the_schema k.names.now) rows c.requires.known.above c.args.entity c.in_ok-types.types.items
     c.in_ok-types.ensures j
 
 pub returns : goal.returns

@@ -2,15 +2,15 @@ use Rattle.std.proofs.Common.{◌∙◌, ◌<◌, length, map, flat_map, filter_
 use Rattle.std.proofs.lemmas.List.{take_all}
 use Rattle.digraph.specs.Graphs.{graph_of}
 use Rattle.express_syntax.specs.Views.{declaration_of as declaration_seen}
-use Rattle.express_syntax.specs.SchemaViews.{schema_of}
 use Rattle.schema_names.specs.Numbers.{number_of}
+use Rattle.schema_names.specs.Schemas.{the_schema}
 use Rattle.population_layouts.specs.Knowing.{one_ofs_in}
 use Rattle.population_layouts.proofs.Operating.{operands-more, of-entities}
 use Rattle.population_layouts.proofs.operands.one_ofs.Goals as goal
 
 pub loop-declaration-preserved : goal.loop-declaration-preserved
 loop-declaration-preserved c =
-    let s = schema_of c.args.names.now.schema.now in
+    let s = the_schema c.args.names.now in
     let xs = c.declarations-declaration-items.result.now in
     let at = c.loop-declaration.declaration-index in
     let lt : at < length xs = omega (arith, c.loop-declaration-test.true) in
@@ -20,7 +20,7 @@ loop-declaration-preserved c =
 
 pub returns : goal.returns
 returns c =
-    let s = schema_of c.args.names.now.schema.now in
+    let s = the_schema c.args.names.now in
     let whole =
     take_all c.loop-declaration.declaration-index c.declarations-declaration-items.result.now c.loop-declaration-test.false in
     c.loop-declaration.invariant

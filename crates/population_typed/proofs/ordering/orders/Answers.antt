@@ -1,5 +1,5 @@
 use Rattle.std.proofs.Common.{◌<◌, length, arith}
-use Rattle.express_syntax.specs.SchemaViews.{schema_of}
+use Rattle.schema_names.specs.Schemas.{the_schema}
 use Rattle.population_typed.specs.Ordering.{IsOrder}
 use Rattle.population_typed.proofs.Orders.{zip-next}
 use Rattle.population_typed.proofs.ordering.orders.Goals as goal
@@ -7,6 +7,6 @@ use Rattle.population_typed.proofs.ordering.orders.Goals as goal
 pub loop-form-preserved : goal.loop-form-preserved
 loop-form-preserved c =
     let lt : c.loop-form.form-index < length c.args.forms.now = omega (arith, c.loop-form-test.true) in
-    zip-next (IsOrder (schema_of c.args.names.now.schema.now)) c.args.forms.now c.loop-form.form-index
+    zip-next (IsOrder (the_schema c.args.names.now)) c.args.forms.now c.loop-form.form-index
     c.form-item.result c.loop-form.orders.items c.push.new.self.items c.in_ok-order_of.field-0 lt c.form-item.is
     c.loop-form.invariant c.in_ok-order_of.ensures c.in_ok-push.ensures.items

@@ -1,8 +1,8 @@
 use Rattle.std.proofs.Common.{◌∙◌, sym, subst}
 use Rattle.digraph.specs.Graphs.{graph_of}
 use Rattle.express_syntax.specs.ExpressionViews.{capitals}
-use Rattle.express_syntax.specs.SchemaViews.{schema_of}
 use Rattle.schema_names.specs.Numbers.{AreAt}
+use Rattle.schema_names.specs.Schemas.{the_schema}
 use Rattle.schema_places.specs.Places.{all_places}
 use Rattle.conformance.specs.Entities.{own_places_of}
 use Rattle.population_typed.proofs.Orders.{own-at, own-none, row-is, no-row}
@@ -10,11 +10,11 @@ use Rattle.population_typed.proofs.ordering.own_row.Goals as goal
 
 pub returns-in_default : goal.returns-in_default
 returns-in_default c =
-    own-none (schema_of c.args.names.now.schema.now) (capitals c.args.name) (sym c.find.ensures ∙ c.in_default.is)
+    own-none (the_schema c.args.names.now) (capitals c.args.name) (sym c.find.ensures ∙ c.in_default.is)
 
 pub returns-in-Some-get : goal.returns-in-Some-get
 returns-in-Some-get c =
-    let s = schema_of c.args.names.now.schema.now in
+    let s = the_schema c.args.names.now in
     let n = capitals c.args.name in
     let rows = c.args.own.now in
     let found = c.in-Some-get.ensures.lookup in
@@ -24,7 +24,7 @@ returns-in-Some-get c =
 
 pub returns-in-None : goal.returns-in-None
 returns-in-None c =
-    let s = schema_of c.args.names.now.schema.now in
+    let s = the_schema c.args.names.now in
     let n = capitals c.args.name in
     let rows = c.args.own.now in
     subst (λ row. AreAt (all_places s) row (own_places_of s n))

@@ -1,15 +1,15 @@
 use Rattle.std.proofs.Common.{◌<◌, ◌++◌, length, map, take, sym, subst, arith}
 use Rattle.std.specs.Prelude.{flat_map}
-use Rattle.express_syntax.specs.SchemaViews.{schema_of}
 use Rattle.conformance.specs.Entities.{own_places_of}
 use Rattle.step_values.specs.Views.{word_of}
+use Rattle.schema_names.specs.Schemas.{the_schema}
 use Rattle.population_typed.specs.Ordering.{position_among, StandsAt, StandAt}
 use Rattle.population_typed.proofs.Orders.{flat-next, row-stands, zip-joined}
 use Rattle.population_typed.proofs.ordering.positions_of.Goals as goal
 
 pub loop-name-preserved : goal.loop-name-preserved
 loop-name-preserved c =
-    let s = schema_of c.args.names.now.schema.now in
+    let s = the_schema c.args.names.now in
     let xs = c.args.slots.now in
     let ws = c.args.types.now in
     let i = c.loop-name.name-index in

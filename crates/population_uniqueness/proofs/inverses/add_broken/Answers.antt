@@ -1,6 +1,6 @@
 use Rattle.std.proofs.Common.{◌≡◌, ◌∙◌, ◌∷◌, [], ◌++◌, ◌+◌, ◌<◌, not, cond, length, take, slice_get, slice_index_or, Some, ap, sym, subst}
 use Rattle.std.proofs.lemmas.Option.{slice_get-get_or}
-use Rattle.express_syntax.specs.SchemaViews.{schema_of}
+use Rattle.schema_names.specs.Schemas.{the_schema}
 use Rattle.schema_rules.specs.declared.finding.RuleFindingKind.TheVariants.{InverseBound}
 use Rattle.population_typed.specs.Seen.{population_seen}
 use Rattle.population_typed.proofs.Found.{every-at}
@@ -15,7 +15,7 @@ use Rattle.population_uniqueness.proofs.inverses.add_broken.Goals.{then-not-keep
 pub loop-number-preserved : goal.loop-number-preserved
 loop-number-preserved c =
     let p = c.args.extents.now.population.now in
-    let s = schema_of p.types.now.names.schema.now in
+    let s = the_schema p.types.now.names in
     let is = population_seen p in
     let y = c.args.name in
     let all = c.args.extents.now.rules.now.inverses.items in

@@ -1,5 +1,5 @@
 use Rattle.std.proofs.Common.{take}
-use Rattle.express_syntax.specs.SchemaViews.{schema_of}
+use Rattle.schema_names.specs.Schemas.{the_schema}
 use Rattle.schema_rules.specs.declared.finding.RuleFindingKind.TheVariants.{InverseBound}
 use Rattle.population_typed.specs.Seen.{population_seen}
 use Rattle.step_extent.specs.Findings.{Adds}
@@ -9,5 +9,5 @@ use Rattle.population_uniqueness.proofs.inverses.add_broken.Given as goal
 abbrev pub invariant-loop-number : goal.invariant-loop-number
 invariant-loop-number l =
     Adds InverseBound
-    (breaches_at (schema_of l.extents.population.now.types.now.names.schema.now) (population_seen l.extents.population.now)
+    (breaches_at (the_schema l.extents.population.now.types.now.names) (population_seen l.extents.population.now)
     l.name l.extents.rules.now.inverses.items (take l.number-index l.numbers)) l.fn.findings.items l.findings.items

@@ -1,7 +1,7 @@
 use Rattle.std.proofs.Common.{◌≡◌, ◌∙◌, [], ◌++◌, ◌<◌, length, map, take, flat_map, ap, sym, subst}
 use Rattle.express_syntax.specs.Profile.{Every}
-use Rattle.express_syntax.specs.SchemaViews.{schema_of}
 use Rattle.conformance.specs.RuleFindings.{breaches_of_inverse}
+use Rattle.schema_names.specs.Schemas.{the_schema}
 use Rattle.schema_rules.specs.declared.finding.RuleFindingKind.TheVariants.{InverseBound}
 use Rattle.schema_rules.specs.Seen.{rules_seen}
 use Rattle.population_typed.specs.Rows.{instance_seen}
@@ -32,7 +32,7 @@ add_broken-requires-clause-within c =
 pub loop-row-preserved : goal.loop-row-preserved
 loop-row-preserved c =
     let p = c.args.extents.now.population.now in
-    let s = schema_of p.types.now.names.schema.now in
+    let s = the_schema p.types.now.names in
     let is = population_seen p in
     let t = c.args.extents.now.rules.now in
     let all = t.inverses.items in

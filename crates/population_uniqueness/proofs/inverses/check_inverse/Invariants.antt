@@ -1,6 +1,6 @@
 use Rattle.std.proofs.Common.{[], flat_map, take}
-use Rattle.express_syntax.specs.SchemaViews.{schema_of}
 use Rattle.conformance.specs.RuleFindings.{breaches_of_inverse}
+use Rattle.schema_names.specs.Schemas.{the_schema}
 use Rattle.schema_rules.specs.declared.finding.RuleFindingKind.TheVariants.{InverseBound}
 use Rattle.schema_rules.specs.Seen.{rules_seen}
 use Rattle.population_typed.specs.Seen.{population_seen}
@@ -10,5 +10,5 @@ use Rattle.population_uniqueness.proofs.inverses.check_inverse.Given as goal
 abbrev pub invariant-loop-row : goal.invariant-loop-row
 invariant-loop-row l =
     Adds InverseBound
-    (flat_map (breaches_of_inverse (rules_seen (schema_of l.extents.population.now.types.now.names.schema.now) l.extents.rules.now)
+    (flat_map (breaches_of_inverse (rules_seen (the_schema l.extents.population.now.types.now.names) l.extents.rules.now)
     (population_seen l.extents.population.now)) (take l.row (population_seen l.extents.population.now))) [] l.findings.items

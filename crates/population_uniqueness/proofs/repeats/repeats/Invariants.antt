@@ -1,4 +1,4 @@
-use Rattle.express_syntax.specs.SchemaViews.{schema_of}
+use Rattle.schema_names.specs.Schemas.{the_schema}
 use Rattle.schema_rules.specs.Seen.{unique_seen}
 use Rattle.population_typed.specs.Seen.{population_seen}
 use Rattle.population_uniqueness.proofs.Telling.{TellsUpTo}
@@ -6,5 +6,5 @@ use Rattle.population_uniqueness.proofs.repeats.repeats.Given as goal
 
 abbrev pub invariant-loop-row : goal.invariant-loop-row
 invariant-loop-row l =
-    TellsUpTo (unique_seen (schema_of l.population.types.now.names.schema.now) l.rule) (population_seen l.population) l.row
+    TellsUpTo (unique_seen (the_schema l.population.types.now.names) l.rule) (population_seen l.population) l.row
     l.names.items l.met

@@ -1,7 +1,7 @@
 use Rattle.std.proofs.Common.{◌≡◌, ◌∙◌, [], ℕ, cond, map, ap, sym, subst}
-use Rattle.express_syntax.specs.SchemaViews.{schema_of}
 use Rattle.conformance.specs.Populations.{Instance}
 use Rattle.conformance.specs.RuleFindings.{Breach, repeats, breaches_of_unique}
+use Rattle.schema_names.specs.Schemas.{the_schema}
 use Rattle.schema_rules.specs.declared.finding.RuleFindingKind.TheVariants.{UniqueBroken}
 use Rattle.schema_rules.specs.Seen.{unique_seen}
 use Rattle.population_typed.specs.Seen.{population_seen}
@@ -14,7 +14,7 @@ pub returns : goal.returns
 returns c =
     let p = c.args.extents.now.population.now in
     let is = population_seen p in
-    let u = unique_seen (schema_of p.types.now.names.schema.now) c.args.rule.now in
+    let u = unique_seen (the_schema p.types.now.names) c.args.rule.now in
     let make : ℕ → Breach = λ y. record { instance = y; holder = u.entity; label = u.label } in
     let all : map make c.deref.result.now ≡ breaches_of_unique is u =
     ap (map make) (c.deref.ensures.value ∙ c.in_ok-names.ensures)

@@ -1,7 +1,7 @@
 use Rattle.std.proofs.Common.{◌≡◌, ◌∙◌, [], map, take, flat_map, slice_get, Some, ap, sym, subst}
 use Rattle.std.proofs.lemmas.Option.{slice_get-get_or}
-use Rattle.express_syntax.specs.SchemaViews.{schema_of}
 use Rattle.conformance.specs.RuleFindings.{breaches_of_unique}
+use Rattle.schema_names.specs.Schemas.{the_schema}
 use Rattle.schema_rules.specs.declared.finding.RuleFindingKind.TheVariants.{UniqueBroken}
 use Rattle.schema_rules.specs.Seen.{unique_seen}
 use Rattle.population_typed.specs.Seen.{population_seen}
@@ -13,7 +13,7 @@ pub loop-rule-preserved : goal.loop-rule-preserved
 loop-rule-preserved c =
     let p = c.args.extents.now.population.now in
     let f = breaches_of_unique (population_seen p) in
-    let g = unique_seen (schema_of p.types.now.names.schema.now) in
+    let g = unique_seen (the_schema p.types.now.names) in
     let us = c.args.extents.now.rules.now.uniques.items in
     let k = c.loop-rule.rule-index in
     let u = c.rule-item.result in

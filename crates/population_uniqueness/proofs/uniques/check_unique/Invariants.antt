@@ -1,6 +1,6 @@
 use Rattle.std.proofs.Common.{[], map, flat_map, take}
-use Rattle.express_syntax.specs.SchemaViews.{schema_of}
 use Rattle.conformance.specs.RuleFindings.{breaches_of_unique}
+use Rattle.schema_names.specs.Schemas.{the_schema}
 use Rattle.schema_rules.specs.declared.finding.RuleFindingKind.TheVariants.{UniqueBroken}
 use Rattle.schema_rules.specs.Seen.{unique_seen}
 use Rattle.population_typed.specs.Seen.{population_seen}
@@ -11,5 +11,5 @@ abbrev pub invariant-loop-rule : goal.invariant-loop-rule
 invariant-loop-rule l =
     Adds UniqueBroken
     (flat_map (breaches_of_unique (population_seen l.extents.population.now))
-    (map (unique_seen (schema_of l.extents.population.now.types.now.names.schema.now))
+    (map (unique_seen (the_schema l.extents.population.now.types.now.names))
     (take l.rule-index l.extents.rules.now.uniques.items))) [] l.findings.items

@@ -12,6 +12,6 @@ pub returns-in-None : goal.returns-in-None
 returns-in-None c m =
     let S = c.args.context.now.setting.now in
     let text = text_of c.args.text.now in
-    ap known (says_nothing (schema_in S) m.meant.attributes.is_defined_by text [] c.requires.setting.known.made.resolved
-    (no_number S.extents.now.population.now.types.now.names.schema.now) (λ k. m.meant.are_attributes.names [] k))
+    ap known (says_nothing (schema_in S) m.meant.said.attributes.is_defined_by text [] c.requires.setting.known.made.resolved
+    (no_number S.extents.now.population.now.types.now.names.schema.now) (λ k. m.meant.said.are_attributes.names [] k))
     ∙ sym (ap (λ o. known (is_defined_in S m.meant (capitals_of o) text)) c.in-None.is)

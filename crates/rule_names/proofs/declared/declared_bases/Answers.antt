@@ -1,6 +1,6 @@
 use Rattle.std.proofs.Common.{ap, sym, subst, ◌∙◌, map, slice_get, []}
 use Rattle.std.specs.List.{AllZip}
-use Rattle.express_syntax.specs.SchemaViews.{schema_of}
+use Rattle.schema_names.specs.Schemas.{the_schema}
 use Rattle.schema_places.specs.Places.{places_of}
 use Rattle.schema_bases.specs.declared.base.Base.{Base}
 use Rattle.schema_types.specs.Graphs.{place_of}
@@ -12,7 +12,7 @@ use Rattle.rule_names.proofs.declared.declared_bases.Goals as goal
 
 pub loop-i-init : goal.loop-i-init
 loop-i-init c =
-    subst (AllZip (IsDeclaredAs (schema_of c.args.types.now.names.schema.now)) [])
+    subst (AllZip (IsDeclaredAs (the_schema c.args.types.now.names)) [])
     (sym (ap (map (λ (b : Base). b)) c.new-bases.ensures.items)) tt
 
 pub declared_base-requires-clause-place : goal.declared_base-requires-clause-place
@@ -24,14 +24,14 @@ declared_base-requires-clause-place c =
 
 pub loop-i-preserved : goal.loop-i-preserved
 loop-i-preserved c =
-    zip-next (IsDeclaredAs (schema_of c.args.types.now.names.schema.now)) place_of (λ (b : Base). b)
+    zip-next (IsDeclaredAs (the_schema c.args.types.now.names)) place_of (λ (b : Base). b)
     c.as_slice-attributes.result.now c.loop-i.i c.index-attributes-i.result c.loop-i.bases.items c.push.new.self.items
     c.declared_base.result c.loop-i-test.true c.index-attributes-i.is c.loop-i.invariant c.declared_base.ensures
     c.in_ok-push.ensures.items
 
 pub returns : goal.returns
 returns c =
-    let s = schema_of c.args.types.now.names.schema.now in
+    let s = the_schema c.args.types.now.names in
     let xs = c.as_slice-attributes.result.now in
     are-declared s c.loop-i.bases.items
     (subst (λ ps. AllZip (IsDeclaredAs s) ps (map (λ (b : Base). b) c.loop-i.bases.items))

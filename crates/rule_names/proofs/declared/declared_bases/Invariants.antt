@@ -1,6 +1,6 @@
 use Rattle.std.proofs.Common.{map, take}
 use Rattle.std.specs.List.{AllZip}
-use Rattle.express_syntax.specs.SchemaViews.{schema_of}
+use Rattle.schema_names.specs.Schemas.{the_schema}
 use Rattle.schema_bases.specs.declared.base.Base.{Base}
 use Rattle.schema_types.specs.Graphs.{place_of}
 use Rattle.rule_names.specs.Tables.{IsDeclaredAs}
@@ -8,5 +8,5 @@ use Rattle.rule_names.proofs.declared.declared_bases.Given as goal
 
 abbrev pub invariant-loop-i : goal.invariant-loop-i
 invariant-loop-i l =
-    AllZip (IsDeclaredAs (schema_of l.types.names.schema.now)) (take l.i (map place_of l.attributes))
+    AllZip (IsDeclaredAs (the_schema l.types.names)) (take l.i (map place_of l.attributes))
     (map (λ (b : Base). b) l.bases.items)

@@ -4,6 +4,7 @@ use Rattle.express_syntax.specs.Views.{declaration_of}
 use Rattle.express_syntax.specs.SchemaViews.{schema_of}
 use Rattle.conformance.specs.Fitting.{among}
 use Rattle.schema_bases.specs.Seen as seen
+use Rattle.schema_names.specs.Schemas.{the_schema}
 use Rattle.schema_bases.specs.Seen.{name_at, base_seen}
 use Rattle.schema_bases.specs.Tables.{IsNumbered}
 use Rattle.conformance.specs.Meanings.{type_names, items_in}
@@ -20,7 +21,7 @@ pub returns-in_default : goal.returns-in_default
 returns-in_default c d is =
     let t = capitals c.args.declared in
     ap (λ b. b && among (capitals c.args.name) (items_in (d.of_name t)))
-    (no_type (schema_of c.args.names.now.schema.now) c.requires.resolved t c.in_default.ensures)
+    (no_type (the_schema c.args.names.now) c.requires.resolved t c.in_default.ensures)
 
 pub returns-then-not-is_type : goal.returns-then-not-is_type
 returns-then-not-is_type c d is =

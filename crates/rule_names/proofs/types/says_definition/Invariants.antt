@@ -1,9 +1,9 @@
 use Rattle.std.proofs.Common.{◌≡◌, Bool, drop}
 use Rattle.std.specs.Prelude.{IsTrue, ◌↔◌}
 use Rattle.express_syntax.specs.Schemas.{named}
-use Rattle.express_syntax.specs.SchemaViews.{schema_of}
 use Rattle.schema_semantics.specs.Names.{Name, IsOrLeads, Renames}
 use Rattle.schema_names.specs.Numbers.{HasNumber}
+use Rattle.schema_names.specs.Schemas.{the_schema}
 use Rattle.express_logic.specs.Views.{text_of}
 use Rattle.rule_names.specs.Naming.{says_one}
 use Rattle.rule_names.proofs.types.says_definition.Given as goal
@@ -11,8 +11,7 @@ use Rattle.rule_names.proofs.types.says_definition.Given as goal
 -- what is left decides
 abbrev pub invariant-loop-other : goal.invariant-loop-other
 invariant-loop-other l =
-    (m : Name) → HasNumber (schema_of l.names.schema.now) m l.number → (defined : Name → Name → Bool)
-    → ((n : Name) → IsTrue (defined m n) ↔ IsOrLeads (Renames (schema_of l.names.schema.now)) (named m) (named n))
-    → says_one (schema_of l.names.schema.now) defined (text_of l.text) m
-    (drop l.other (schema_of l.names.schema.now).declarations)
-    ≡ says_one (schema_of l.names.schema.now) defined (text_of l.text) m (schema_of l.names.schema.now).declarations
+    (m : Name) → HasNumber (the_schema l.names) m l.number → (defined : Name → Name → Bool)
+    → ((n : Name) → IsTrue (defined m n) ↔ IsOrLeads (Renames (the_schema l.names)) (named m) (named n))
+    → says_one (the_schema l.names) defined (text_of l.text) m (drop l.other (the_schema l.names).declarations)
+    ≡ says_one (the_schema l.names) defined (text_of l.text) m (the_schema l.names).declarations

@@ -1,6 +1,7 @@
 use Rattle.std.proofs.Common.{◌≡◌, ◌∙◌, Some, None, ap}
 use Rattle.express_syntax.specs.ExpressionViews.{capitals}
 use Rattle.express_syntax.specs.SchemaViews.{schema_of}
+use Rattle.schema_names.specs.Schemas.{the_schema}
 use Rattle.schema_bases.specs.Seen.{name_at}
 use Rattle.express_logic.specs.Views.{text_of}
 use Rattle.conformance.specs.Meanings.{says_type}
@@ -15,7 +16,7 @@ name-requires c =
 
 pub returns-in-Some : goal.returns-in-Some
 returns-in-Some c =
-    let s = schema_of c.args.names.now.schema.now in
+    let s = the_schema c.args.names.now in
     let n = capitals c.in-Some.name in
     c.says_name.ensures
     ∙ ap (says_type s (text_of c.args.text.now))
@@ -23,6 +24,6 @@ returns-in-Some c =
 
 pub returns-in-None : goal.returns-in-None
 returns-in-None c =
-    let s = schema_of c.args.names.now.schema.now in
+    let s = the_schema c.args.names.now in
     let lost : None ≡ Some (name_at s c.args.number) = called s c.args.number None c.requires c.in-None.ensures in
     absurd (cc)

@@ -1,13 +1,13 @@
 use Rattle.std.proofs.Common.{◌<◌, length, map, arith}
 use Rattle.std.proofs.lemmas.List.{length-map}
 use Rattle.std.proofs.lemmas.Result.{IfOk-weaker}
-use Rattle.express_syntax.specs.SchemaViews.{schema_of}
+use Rattle.schema_names.specs.Schemas.{the_schema}
 use Rattle.rule_plans.proofs.Renaming.{is-forest, tells-types}
 use Rattle.rule_plans.proofs.renamings.forest_of.Goals as goal
 
 pub of-requires-clause-forest : goal.of-requires-clause-forest
 of-requires-clause-forest c =
-    is-forest (schema_of c.args.names.now.schema.now) (map (λ v. v.items) c.args.edges.now) c.requires.edges c.requires.resolved
+    is-forest (the_schema c.args.names.now) (map (λ v. v.items) c.args.edges.now) c.requires.edges c.requires.resolved
 
 pub of-requires-clause-few : goal.of-requires-clause-few
 of-requires-clause-few c =
@@ -19,5 +19,5 @@ of-requires-clause-few c =
 pub returns : goal.returns
 returns c =
     IfOk-weaker c.of.result _ _
-    (λ f h. tells-types (schema_of c.args.names.now.schema.now) (map (λ v. v.items) c.args.edges.now) c.requires.edges f h)
+    (λ f h. tells-types (the_schema c.args.names.now) (map (λ v. v.items) c.args.edges.now) c.requires.edges f h)
     c.of.ensures

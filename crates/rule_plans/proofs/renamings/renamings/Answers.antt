@@ -1,8 +1,8 @@
 use Rattle.std.proofs.Common.{◌≡◌, ◌<◌, ◌+◌, ◌∙◌, ℕ, List, length, map, ap, sym, arith}
 use Rattle.std.proofs.lemmas.List.{length-map, length_push}
 use Rattle.digraph.proofs.RowLists.{rows-more}
-use Rattle.express_syntax.specs.SchemaViews.{schema_of}
 use Rattle.express_syntax.specs.Views.{declaration_of}
+use Rattle.schema_names.specs.Schemas.{the_schema}
 use Rattle.schema_sources.specs.Defined.{renamed_at}
 use Rattle.schema_sources.proofs.Reading.{as-many}
 use Rattle.rule_plans.specs.Renamings.{as_row}
@@ -10,7 +10,7 @@ use Rattle.rule_plans.proofs.renamings.renamings.Goals as goal
 
 pub loop-number-preserved : goal.loop-number-preserved
 loop-number-preserved c =
-    let s = schema_of c.args.names.now.schema.now in
+    let s = the_schema c.args.names.now in
     record {
       many = ap length c.in_ok-push.ensures.items ∙ length_push c.loop-number.rows.items c.in_ok-row_of.field-0
           ∙ ap (λ n. n + 1) c.loop-number.invariant.many;

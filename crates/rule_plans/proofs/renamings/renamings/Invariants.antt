@@ -1,6 +1,6 @@
 use Rattle.std.proofs.Common.{◌≡◌, ◌<◌, ℕ, length, map}
 use Rattle.digraph.specs.Graphs.{next}
-use Rattle.express_syntax.specs.SchemaViews.{schema_of}
+use Rattle.schema_names.specs.Schemas.{the_schema}
 use Rattle.schema_sources.specs.Defined.{renamed_at}
 use Rattle.rule_plans.specs.Renamings.{as_row}
 use Rattle.rule_plans.proofs.renamings.renamings.Given as goal
@@ -10,5 +10,5 @@ invariant-loop-number l =
     record {
       many : length l.rows.items ≡ l.number;
       each : (i : ℕ) → i < l.number
-          → next (map (λ v. v.items) l.rows.items) i ≡ as_row (renamed_at (schema_of l.names.schema.now) i);
+          → next (map (λ v. v.items) l.rows.items) i ≡ as_row (renamed_at (the_schema l.names) i);
     }

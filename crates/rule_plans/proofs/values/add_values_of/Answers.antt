@@ -86,14 +86,14 @@ returns c =
           → F all ≡ values_of S m x t =
           λ t F empty joined single.
           subst (λ (z : Instance). F all ≡ values_of S m z t) (one-instance is c.args.row y x h.seen at)
-          (instance-same seeker is_seeker tables.value_types m.domain m.is_domain m.entities m.are_entities m.attributes t
+          (instance-same seeker is_seeker tables.value_types m.said.domain m.said.is_domain m.said.entities m.said.are_entities m.said.attributes t
           (typing_of is) F empty joined single asked tables.uses
           (subst (AreDeclared s) (sym c.deref-2.ensures.value) tables.declared) o c.slots_at-slots.result.now
           (c.types_at.ensures ∙ ap (λ l. types_by_form (form_among l r.form)) forms.forms)
           (c.slots_at-slots.ensures ∙ ap (λ l. slots_in (form_among l r.form)) forms.forms) h.placed h.entities
           (numbers-of s p.rows.forms.items r.form (subst (Every (AreNumbered s)) forms.forms forms.numbered)) r.name h.section
           r.values
-          (every-at (Conforms s m.domain (typing_of is) m.entities) y is m.conforms (at-among is c.args.row y h.seen))) in
+          (every-at (Conforms s m.said.domain (typing_of is) m.said.entities) y is m.conforms (at-among is c.args.row y h.seen))) in
           record {
             exactly = λ t tells. given t (map worth) refl (map-append worth) (exactly-one s (is_of S m t) c.args.wanted.now tells);
             those_of = λ t p agrees covers. given t (those p) refl (those-joined p)

@@ -2,9 +2,9 @@ use Rattle.std.proofs.Common.{◌≡◌, ◌∙◌, ap, sym, subst, ℕ, List}
 use Rattle.digraph.specs.Graphs.{has}
 use Rattle.digraph.proofs.Found.{has-turned}
 use Rattle.express_syntax.specs.Profile.{Every}
-use Rattle.express_syntax.specs.SchemaViews.{schema_of}
 use Rattle.conformance.specs.Fitting.{among}
 use Rattle.conformance.specs.Populations.{Instance}
+use Rattle.schema_names.specs.Schemas.{the_schema}
 use Rattle.schema_bases.specs.Seen.{name_at}
 use Rattle.population_typed.specs.Rows.{instance_seen}
 use Rattle.population_typed.specs.Seen.{population_seen}
@@ -16,7 +16,7 @@ use Rattle.rule_plans.proofs.values.is_of_entity.Goals as goal
 pub returns : goal.returns
 returns c x at =
     let p = c.args.population.now in
-    let s = schema_of p.types.now.names.schema.now in
+    let s = the_schema p.types.now.names in
     let i = c.args.entity in
     let r = c.instance-instance.result in
     let h = c.instance-instance.ensures in

@@ -2,8 +2,8 @@ use Rattle.std.proofs.Common.{rules, ◌≡◌, ◌+◌, ◌∙◌, [], ◌∷�
 use Rattle.std.specs.Prelude.{replicate, false}
 use Rattle.std.proofs.lemmas.List.{length-map, length-replicate, take_all, take_more}
 use Rattle.std.proofs.lemmas.Option.{slice_get-get_or}
-use Rattle.express_syntax.specs.SchemaViews.{schema_of}
 use Rattle.express_syntax.specs.Views.{declaration_of}
+use Rattle.schema_names.specs.Schemas.{the_schema}
 use Rattle.population_typed.proofs.Found.{every-at}
 use Rattle.schema_conditions.specs.declared.rule.DomainRule.{DomainRule}
 use Rattle.schema_conditions.specs.Seen.{IsNumbered}
@@ -25,7 +25,7 @@ loop-rule-init c =
 
 pub note_holder-requires : goal.note_holder-requires
 note_holder-requires c =
-    let s = schema_of c.args.names.now.schema.now in
+    let s = the_schema c.args.names.now in
     let xs = c.args.rules.now in
     let k = c.loop-rule.rule-index in
     let r = c.rule-item.result in
@@ -37,7 +37,7 @@ note_holder-requires c =
 
 pub loop-rule-preserved : goal.loop-rule-preserved
 loop-rule-preserved c =
-    let s = schema_of c.args.names.now.schema.now in
+    let s = the_schema c.args.names.now in
     let xs = c.args.rules.now in
     let k = c.loop-rule.rule-index in
     let r = c.rule-item.result in

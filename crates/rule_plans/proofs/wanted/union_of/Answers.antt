@@ -1,7 +1,7 @@
 use Rattle.std.proofs.Common.{◌≡◌, ◌<◌, ◌∙◌, length, map, ap, sym, subst, arith, List, Bool}
 use Rattle.std.proofs.lemmas.List.{length-map}
 use Rattle.std.proofs.lemmas.Result.{IfOk-weaker}
-use Rattle.express_syntax.specs.SchemaViews.{schema_of}
+use Rattle.schema_names.specs.Schemas.{the_schema}
 use Rattle.rule_plans.specs.Wanted.{AreStated}
 use Rattle.rule_plans.proofs.Renaming.{is-forest}
 use Rattle.rule_plans.proofs.Wanting.{union-is}
@@ -9,7 +9,7 @@ use Rattle.rule_plans.proofs.wanted.union_of.Goals as goal
 
 pub spread-requires-clause-forest : goal.spread-requires-clause-forest
 spread-requires-clause-forest c =
-    is-forest (schema_of c.args.names.now.schema.now) (map (λ v. v.items) c.args.edges.now) c.requires.edges c.requires.resolved
+    is-forest (the_schema c.args.names.now) (map (λ v. v.items) c.args.edges.now) c.requires.edges c.requires.resolved
 
 pub spread-requires-clause-few : goal.spread-requires-clause-few
 spread-requires-clause-few c =
@@ -28,7 +28,7 @@ spread-requires-clause-marked c =
 
 pub returns : goal.returns
 returns c =
-    let s = schema_of c.args.names.now.schema.now in
+    let s = the_schema c.args.names.now in
     IfOk-weaker c.spread.result _ _
     (λ v h. union-is s (map (λ x. x.items) c.args.edges.now) c.args.rules.now c.deref.result.now v.items c.requires.edges
     c.requires.numbered

@@ -1,12 +1,13 @@
 use Rattle.std.proofs.Common.{sym, subst}
 use Rattle.express_syntax.proofs.Lists.{every_push}
-use Rattle.schema_sources.specs.Seen.{schema_in, inverses_seen}
+use Rattle.schema_names.specs.Schemas.{the_schema}
+use Rattle.schema_sources.specs.Seen.{inverses_seen}
 use Rattle.rule_sources.specs.Sources.{IsNamedSource, AreNamedSources}
 use Rattle.rule_sources.proofs.sources.add_named.Goals as goal
 
 pub returns : goal.returns
 returns c =
-    let s = schema_in c.args.schema.now in
+    let s = the_schema c.args.schema.now.names in
     let inverses = inverses_seen s c.args.inverses.now in
     let form = c.args.form.now in
     subst (AreNamedSources s inverses form) (sym c.in_ok-push.ensures.items)

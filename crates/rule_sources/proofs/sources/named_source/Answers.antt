@@ -1,13 +1,14 @@
 use Rattle.std.proofs.Common.{◌≡◌, ◌∙◌, ap, sym, subst}
 use Rattle.express_syntax.specs.ExpressionViews.{capitals}
-use Rattle.schema_sources.specs.Seen.{schema_in, inverses_seen}
+use Rattle.schema_names.specs.Schemas.{the_schema}
+use Rattle.schema_sources.specs.Seen.{inverses_seen}
 use Rattle.rule_sources.specs.Sources.{IsSourceOf, source_in, form_source}
 use Rattle.rule_sources.proofs.Positions.{source-kept}
 use Rattle.rule_sources.proofs.sources.named_source.Goals as goal
 
 pub returns-in-Some : goal.returns-in-Some
 returns-in-Some c =
-    let s = schema_in c.args.schema.now in
+    let s = the_schema c.args.schema.now.names in
     let inverses = inverses_seen s c.args.inverses.now in
     let form = c.args.form.now in
     let a = capitals c.args.name in

@@ -2,14 +2,14 @@ use Rattle.std.proofs.Common.{◌≡◌, ◌∙◌, ◌+◌, ◌-◌, ◌<◌, l
 use Rattle.std.specs.Prelude.{Some, if◌then◌else◌}
 use Rattle.express_syntax.specs.Views.{declaration_of}
 use Rattle.schema_names.specs.Numbers.{number_from}
-use Rattle.schema_bases.specs.Seen.{schema_at}
+use Rattle.schema_names.specs.Schemas.{the_schema}
 use Rattle.rule_values.specs.Named.{names_entry}
 use Rattle.rule_values.proofs.Naming.{mapped-length, from-next}
 use Rattle.rule_values.proofs.types.numbers_of.Goals as goal
 
 pub loop-i-preserved : goal.loop-i-preserved
 loop-i-preserved c n =
-    let s = schema_at c.args.bases.now in
+    let s = the_schema c.args.bases.now.names.now in
     let last = c.loop-i.i - 1 in
     let test = c.loop-i-test.true in
     let end = c.loop-i.auto.i in
@@ -24,7 +24,7 @@ loop-i-preserved c n =
 
 pub returns : goal.returns
 returns c n =
-    let s = schema_at c.args.bases.now in
+    let s = the_schema c.args.bases.now.names.now in
     let test = c.loop-i-test.false in
     let none : c.loop-i.i ≡ 0 = omega (arith, test) in
     c.loop-i.invariant n ∙ ap (λ j. number_from j (drop j s.declarations) n) none

@@ -1,6 +1,6 @@
 use Rattle.std.proofs.Common.{subst}
-use Rattle.express_syntax.specs.SchemaViews.{schema_of}
 use Rattle.step_exchange.specs.Exchanges.{structure}
+use Rattle.schema_names.specs.Schemas.{the_schema}
 use Rattle.population_typed.specs.Seen.{population_seen}
 use Rattle.ruled_populations.specs.ComputedRuling.{IsRuled}
 use Rattle.ruled_populations.proofs.Conforming.{faulty-by-rules, clean-by-rules}
@@ -9,7 +9,7 @@ use Rattle.ruled_populations.proofs.checked.checked_by_population.Goals as goal
 pub returns-in-Broken : goal.returns-in-Broken
 returns-in-Broken c =
     let p = c.args.population in
-    let s = schema_of p.types.now.names.schema.now in
+    let s = the_schema p.types.now.names in
     let is = population_seen p in
     let t = c.args.graph.now.rules in
     let chosen = c.args.chosen.now in
@@ -20,7 +20,7 @@ returns-in-Broken c =
 pub returns : goal.returns
 returns c =
     let p = c.args.population in
-    let s = schema_of p.types.now.names.schema.now in
+    let s = the_schema p.types.now.names in
     let is = population_seen p in
     let t = c.args.graph.now.rules in
     let chosen = c.args.chosen.now in

@@ -1,7 +1,7 @@
 use Rattle.std.proofs.Common.{IfOk, sym, subst}
-use Rattle.express_syntax.specs.SchemaViews.{schema_of}
 use Rattle.conformance.specs.Said.{Said}
 use Rattle.step_exchange.specs.Exchanges.{structure}
+use Rattle.schema_names.specs.Schemas.{the_schema}
 use Rattle.population_typed.specs.Seen.{population_seen}
 use Rattle.population_typed.specs.Typed.{IsTyped}
 use Rattle.step_population.specs.Verdicts.{IsVerdict}
@@ -13,7 +13,7 @@ use Rattle.ruled_populations.proofs.checked.checked_by_settings.Goals as goal
 pub checked_by_population-requires-clause-said : goal.checked_by_population-requires-clause-said
 checked_by_population-requires-clause-said c =
     let verdict = subst (IsVerdict c.args.graph.now.types c.args.exchange.now) c.in-Typed.is c.in_ok-verdict.ensures in
-    subst (λ t. Said (schema_of t.names.schema.now)) (sym verdict.0) c.schema_is_said.ensures
+    subst (λ t. Said (the_schema t.names)) (sym verdict.0) c.schema_is_said.ensures
 
 pub checked_by_population-requires-clause-ready : goal.checked_by_population-requires-clause-ready
 checked_by_population-requires-clause-ready c =
@@ -27,8 +27,8 @@ checked_by_population-requires-clause-typed c =
     let p = c.in-Typed.population in
     let types = c.args.graph.now.types in
     let verdict = subst (IsVerdict types c.args.exchange.now) c.in-Typed.is c.in_ok-verdict.ensures in
-    subst (λ t. IsTyped (schema_of t.names.schema.now) (structure p.exchange.now) (population_seen p)) (sym verdict.0)
-    (subst (λ x. IsTyped (schema_of types.names.schema.now) (structure x) (population_seen p)) (sym verdict.1) verdict.2)
+    subst (λ t. IsTyped (the_schema t.names) (structure p.exchange.now) (population_seen p)) (sym verdict.0)
+    (subst (λ x. IsTyped (the_schema types.names) (structure x) (population_seen p)) (sym verdict.1) verdict.2)
 
 pub returns-in-Typed : goal.returns-in-Typed
 returns-in-Typed c =
@@ -37,15 +37,15 @@ returns-in-Typed c =
     let chosen = c.args.chosen.now in
     let r = c.checked_by_population.result in
     let verdict = subst (IsVerdict types c.args.exchange.now) c.in-Typed.is c.in_ok-verdict.ensures in
-    subst (λ x. IfOk r (ChecksFile (schema_of types.names.schema.now) (structure x) chosen)) verdict.1
-    (subst (λ t. IfOk r (ChecksFile (schema_of t.names.schema.now) (structure p.exchange.now) chosen)) verdict.0
+    subst (λ x. IfOk r (ChecksFile (the_schema types.names) (structure x) chosen)) verdict.1
+    (subst (λ t. IfOk r (ChecksFile (the_schema t.names) (structure p.exchange.now) chosen)) verdict.0
     c.checked_by_population.ensures)
 
 pub returns-in-Faulty : goal.returns-in-Faulty
 returns-in-Faulty c =
     let types = c.args.graph.now.types in
     let x = c.args.exchange.now in
-    faulty-one-by-one (schema_of types.names.schema.now) (structure x) c.schema_is_said.ensures c.args.chosen.now
+    faulty-one-by-one (the_schema types.names) (structure x) c.schema_is_said.ensures c.args.chosen.now
     (record { findings = c.in-Faulty.findings; rules = c.empty_report.result })
     (subst (IsVerdict types x) c.in-Faulty.is c.in_ok-verdict.ensures) c.empty_report.ensures.findings
     c.empty_report.ensures.unknown

@@ -1,5 +1,5 @@
 use Rattle.std.proofs.Common.{rules, length, vec_len, ◌≡◌, ◌∙◌, ◌<◌, sym, subst, arith}
-use Rattle.express_syntax.specs.SchemaViews.{schema_of}
+use Rattle.schema_names.specs.Schemas.{the_schema}
 use Rattle.population_typed.specs.Seen.{population_seen}
 use Rattle.step_population.proofs.Verdicts.{empty-so, full-so}
 use Rattle.ruled_populations.specs.ComputedRuling.{AreFound}
@@ -24,7 +24,7 @@ returns c =
     let found = c.in_ok-report.report.findings in
     let whole : length found.items ≡ vec_len found = search rules in
     let none = empty-so found.items c.len-broken.result (c.len-broken.ensures ∙ sym whole) (omega arith) in (
-      subst (λ l. AreFound (schema_of e.population.now.types.now.names.schema.now) (population_seen e.population.now) l
+      subst (λ l. AreFound (the_schema e.population.now.types.now.names) (population_seen e.population.now) l
           c.in_ok-report.report.unknown) none c.in_ok-report.ensures,
       c.in_ok-weak.ensures.pins,
       c.in_ok-weak.ensures.lists,

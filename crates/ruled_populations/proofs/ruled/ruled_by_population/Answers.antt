@@ -1,5 +1,5 @@
 use Rattle.std.proofs.Common.{sym, subst}
-use Rattle.express_syntax.specs.SchemaViews.{schema_of}
+use Rattle.schema_names.specs.Schemas.{the_schema}
 use Rattle.population_typed.specs.Seen.{population_seen}
 use Rattle.check_findings.specs.Ruling.{AreReady}
 use Rattle.ruled_populations.specs.ComputedRuling.{IsRuled}
@@ -23,7 +23,7 @@ returns c =
     let e = c.in_ok-extents.extents in
     let chosen = c.args.chosen.now in
     let ruled = c.in_ok-ruled.ruled in
-    subst (λ q. IsRuled (schema_of q.types.now.names.schema.now) (population_seen q) c.args.graph.now.rules chosen ruled)
+    subst (λ q. IsRuled (the_schema q.types.now.names) (population_seen q) c.args.graph.now.rules chosen ruled)
     c.in_ok-extents.ensures.population
-    (subst (λ t. IsRuled (schema_of e.population.now.types.now.names.schema.now) (population_seen e.population.now) t chosen ruled)
+    (subst (λ t. IsRuled (the_schema e.population.now.types.now.names) (population_seen e.population.now) t chosen ruled)
     c.in_ok-extents.ensures.rules c.in_ok-ruled.ensures)

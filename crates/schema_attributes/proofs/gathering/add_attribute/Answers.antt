@@ -2,7 +2,8 @@ use Rattle.std.proofs.Common.{ap, sym, subst}
 use Rattle.std.proofs.lemmas.Result.{on_ok_weaker}
 use Rattle.express_syntax.specs.ExpressionViews.{capitals}
 use Rattle.express_syntax.specs.Views.{attribute_of}
-use Rattle.schema_attributes.specs.Gathering.{AddsAll, schema_in, Says}
+use Rattle.schema_names.specs.Schemas.{the_schema}
+use Rattle.schema_attributes.specs.Gathering.{AddsAll, Says}
 use Rattle.schema_attributes.proofs.gathering.add_attribute.Goals as goal
 
 pub add_redeclared-requires-clause-named : goal.add_redeclared-requires-clause-named
@@ -12,5 +13,5 @@ pub returns-in-Unqualified : goal.returns-in-Unqualified
 returns-in-Unqualified c =
     on_ok_weaker c.add.result
     (λ h. subst (λ y. AddsAll c.args.table.now
-    (Says (schema_in c.args.sources.now) c.args.class c.args.declaration (attribute_of y)) c.add.new.self)
+    (Says (the_schema c.args.sources.now.names.now) c.args.class c.args.declaration (attribute_of y)) c.add.new.self)
     (sym c.in-Unqualified.is) h) c.add.ensures

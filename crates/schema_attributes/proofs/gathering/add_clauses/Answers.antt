@@ -2,13 +2,14 @@ use Rattle.std.proofs.Common.{◌∙◌, ◌+◌, ◌⊎◌, ap, sym, subst, map
 use Rattle.std.proofs.lemmas.List.{length-map}
 use Rattle.std.proofs.lemmas.Result.{on_ok_weaker}
 use Rattle.express_syntax.specs.Views.{explicit_of, derived_of, inverse_of}
-use Rattle.schema_attributes.specs.Gathering.{AddsAll, schema_in, SaysExplicit, SaysDerived, SaysInverse, AreNth}
+use Rattle.schema_names.specs.Schemas.{the_schema}
+use Rattle.schema_attributes.specs.Gathering.{AddsAll, SaysExplicit, SaysDerived, SaysInverse, AreNth}
 use Rattle.schema_attributes.proofs.Gathered.{adds-both}
 use Rattle.schema_attributes.proofs.gathering.add_clauses.Goals as goal
 
 pub returns : goal.returns
 returns c =
-    let s = schema_in c.args.sources.now in
+    let s = the_schema c.args.sources.now.names.now in
     let i = c.args.number in
     let row = c.args.row.now in
     let xs = map explicit_of c.args.explicits.now in

@@ -4,14 +4,15 @@ use Rattle.std.proofs.lemmas.Result.{on_ok_weaker}
 use Rattle.digraph.specs.Graphs.{graph_of, next}
 use Rattle.express_syntax.specs.Views.{declaration_of, entity_of, explicit_of}
 use Rattle.schema_names.specs.Numbers.{IsAt}
-use Rattle.schema_attributes.specs.Gathering.{AddsAll, AreKnownFrom, schema_in, rows_in, SaysDeclaration, SaysEntity}
+use Rattle.schema_names.specs.Schemas.{the_schema}
+use Rattle.schema_attributes.specs.Gathering.{AddsAll, AreKnownFrom, rows_in, SaysDeclaration, SaysEntity}
 use Rattle.schema_attributes.proofs.Gathered.{adds-nothing}
 use Rattle.schema_attributes.proofs.Rows.{known-from, only-entities}
 use Rattle.schema_attributes.proofs.gathering.add_declaration.Goals as goal
 
 pub add_entity-requires-clause-known : goal.add_entity-requires-clause-known
 add_entity-requires-clause-known c =
-    let s = schema_in c.args.sources.now in
+    let s = the_schema c.args.sources.now.names.now in
     let e = entity_of c.in-Entity.entity in
     let at = subst (λ d. IsAt s c.args.i (declaration_of d)) c.in-Entity.is c.requires.at in
     let many = length-map c.in-Entity.entity.explicits.items explicit_of in
@@ -22,7 +23,7 @@ add_entity-requires-clause-known c =
 
 pub returns-in_ok-number-in-Entity : goal.returns-in_ok-number-in-Entity
 returns-in_ok-number-in-Entity c =
-    let s = schema_in c.args.sources.now in
+    let s = the_schema c.args.sources.now.names.now in
     let rows = rows_in c.args.sources.now in
     let old = c.args.table.now in
     let new = c.add_entity.new.table in
@@ -37,7 +38,7 @@ returns-in_ok-number-in-Entity c =
 
 pub returns-in_default : goal.returns-in_default
 returns-in_default c =
-    let s = schema_in c.args.sources.now in
+    let s = the_schema c.args.sources.now.names.now in
     adds-nothing c.args.table.now
     (SaysDeclaration s c.args.i (next (rows_in c.args.sources.now) c.args.i) c.args.count
     (declaration_of c.args.declaration.now))

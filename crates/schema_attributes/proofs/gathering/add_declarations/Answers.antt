@@ -2,8 +2,9 @@ use Rattle.std.proofs.Common.{◌≡◌, ◌∙◌, ◌+◌, refl, ap, sym, subs
 use Rattle.std.proofs.lemmas.List.{length-map}
 use Rattle.digraph.specs.Graphs.{next}
 use Rattle.express_syntax.specs.Views.{declaration_of}
+use Rattle.schema_names.specs.Schemas.{the_schema}
 use Rattle.schema_attributes.specs.Derivations.{derivations_in}
-use Rattle.schema_attributes.specs.Gathering.{AddsAll, schema_in, rows_in, SaysAt, SaysDeclaration}
+use Rattle.schema_attributes.specs.Gathering.{AddsAll, rows_in, SaysAt, SaysDeclaration}
 use Rattle.schema_attributes.proofs.Gathered.{none-yet, one-more, at-length, seen, count-more}
 use Rattle.schema_attributes.proofs.gathering.add_declarations.Goals as goal
 
@@ -16,12 +17,15 @@ add_declaration-requires-clause-at c =
 
 pub loop-n-init : goal.loop-n-init
 loop-n-init c =
-    let ds = map declaration_of c.args.declarations.now in
-    (refl, none-yet (SaysAt (schema_in c.args.sources.now) (rows_in c.args.sources.now) ds) ds c.args.table.now)
+    let ds = map declaration_of c.args.declarations.now in (
+      refl,
+      none-yet (SaysAt (the_schema c.args.sources.now.names.now) (rows_in c.args.sources.now) ds) ds
+          c.args.table.now,
+    )
 
 pub loop-n-preserved : goal.loop-n-preserved
 loop-n-preserved c =
-    let s = schema_in c.args.sources.now in
+    let s = the_schema c.args.sources.now.names.now in
     let rows = rows_in c.args.sources.now in
     let xs = c.args.declarations.now in
     let ds = map declaration_of xs in
@@ -45,5 +49,5 @@ returns c =
     let before = c.loop-n.auto.n-end in
     let after = c.loop-n-test.false in
     let end : n ≡ length xs = omega (arith, before, after) in
-    at-length (SaysAt (schema_in c.args.sources.now) (rows_in c.args.sources.now) ds) ds n
+    at-length (SaysAt (the_schema c.args.sources.now.names.now) (rows_in c.args.sources.now) ds) ds n
     c.args.table.now c.loop-n.table (end ∙ sym (length-map xs declaration_of)) c.loop-n.invariant.1

@@ -2,12 +2,13 @@ use Rattle.std.proofs.Common.{◌∙◌, ℕ, ◌+◌, Some, ap, subst, slice_ge
 use Rattle.std.proofs.lemmas.Result.{on_ok_weaker}
 use Rattle.express_syntax.specs.Views.{attribute_of}
 use Rattle.schema_attributes.specs.declared.gathering.Class.TheVariants as classes
-use Rattle.schema_attributes.specs.Gathering.{AddsAll, schema_in, SaysOne}
+use Rattle.schema_names.specs.Schemas.{the_schema}
+use Rattle.schema_attributes.specs.Gathering.{AddsAll, SaysOne}
 use Rattle.schema_attributes.proofs.gathering.add_derived.Goals as goal
 
 pub returns : goal.returns
 returns c =
-    let s = schema_in c.args.sources.now in
+    let s = the_schema c.args.sources.now.names.now in
     let i = c.args.entity in
     let y = attribute_of c.args.derived.now.attribute in
     let row = c.args.row.now in

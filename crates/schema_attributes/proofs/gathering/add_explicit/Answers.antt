@@ -1,7 +1,8 @@
 use Rattle.std.proofs.Common.{ℕ, ◌∙◌, sym, subst, slice_get, None}
 use Rattle.std.proofs.lemmas.Result.{on_ok_weaker}
 use Rattle.express_syntax.specs.Views.{explicit_of}
-use Rattle.schema_attributes.specs.Gathering.{AddsAll, schema_in, SaysTogether, SaysExplicit}
+use Rattle.schema_names.specs.Schemas.{the_schema}
+use Rattle.schema_attributes.specs.Gathering.{AddsAll, SaysTogether, SaysExplicit}
 use Rattle.schema_attributes.proofs.Gathered.{Saying, adds-nothing, adds-alike, with-number, without-number}
 use Rattle.schema_attributes.proofs.gathering.add_explicit.Goals as goal
 
@@ -11,7 +12,7 @@ add_attributes-requires-clause-known c =
 
 pub returns-in-Some : goal.returns-in-Some
 returns-in-Some c =
-    let s = schema_in c.args.sources.now in
+    let s = the_schema c.args.sources.now.names.now in
     let x = explicit_of c.args.explicit.now in
     let said : ℕ → Saying = λ k. SaysTogether s c.args.entity k None x.attributes in
     on_ok_weaker c.add_attributes.result (λ h. adds-alike c.args.table.now c.add_attributes.new.table
@@ -24,7 +25,7 @@ returns-in-Some c =
 
 pub returns-in-None : goal.returns-in-None
 returns-in-None c =
-    let s = schema_in c.args.sources.now in
+    let s = the_schema c.args.sources.now.names.now in
     let x = explicit_of c.args.explicit.now in
     adds-nothing c.args.table.now (SaysExplicit s c.args.entity c.args.row.now c.args.n x)
     (without-number (λ k. SaysTogether s c.args.entity k None x.attributes)

@@ -2,7 +2,8 @@ use Rattle.std.proofs.Common.{◌∙◌, None, ap, subst, slice_get}
 use Rattle.std.proofs.lemmas.Result.{on_ok_weaker}
 use Rattle.express_syntax.specs.Views.{attribute_of}
 use Rattle.schema_attributes.specs.declared.gathering.Class.TheVariants as classes
-use Rattle.schema_attributes.specs.Gathering.{AddsAll, schema_in, SaysOne}
+use Rattle.schema_names.specs.Schemas.{the_schema}
+use Rattle.schema_attributes.specs.Gathering.{AddsAll, SaysOne}
 use Rattle.schema_attributes.proofs.gathering.add_inverse.Goals as goal
 
 pub add_one-requires-clause-known : goal.add_one-requires-clause-known
@@ -10,7 +11,7 @@ add_one-requires-clause-known c t = tt
 
 pub returns : goal.returns
 returns c =
-    let s = schema_in c.args.sources.now in
+    let s = the_schema c.args.sources.now.names.now in
     let y = attribute_of c.args.inverse.now.attribute in
     let at = c.item_at.ensures ∙ ap (slice_get c.args.row.now) c.in_ok-place.ensures in
     on_ok_weaker c.add_one.result (λ h.

@@ -1,7 +1,8 @@
 use Rattle.std.proofs.Common.{ℕ}
 use Rattle.std.proofs.lemmas.Result.{on_ok_weaker}
 use Rattle.express_syntax.specs.Views.{attribute_of}
-use Rattle.schema_attributes.specs.Gathering.{schema_in, Says, SaysOne}
+use Rattle.schema_names.specs.Schemas.{the_schema}
+use Rattle.schema_attributes.specs.Gathering.{Says, SaysOne}
 use Rattle.schema_attributes.proofs.Gathered.{Saying, adds-nothing, adds-alike, with-number, without-number}
 use Rattle.schema_attributes.proofs.gathering.add_one.Goals as goal
 
@@ -10,7 +11,7 @@ add_attribute-requires-clause-known c = c.requires.known c.in-Some.data_type
 
 pub returns-in-Some : goal.returns-in-Some
 returns-in-Some c =
-    let s = schema_in c.args.sources.now in
+    let s = the_schema c.args.sources.now.names.now in
     let y = attribute_of c.args.attribute in
     let said : ℕ → Saying =
     λ k. Says s c.args.class (record { entity = c.args.entity; data_type = k; derivation = c.args.derivation }) y in
@@ -20,7 +21,7 @@ returns-in-Some c =
 
 pub returns-in-None : goal.returns-in-None
 returns-in-None c =
-    let s = schema_in c.args.sources.now in
+    let s = the_schema c.args.sources.now.names.now in
     let y = attribute_of c.args.attribute in
     adds-nothing c.args.table.now (SaysOne s c.args.class c.args.entity c.args.data_type c.args.derivation y)
     (without-number (λ k. Says s c.args.class

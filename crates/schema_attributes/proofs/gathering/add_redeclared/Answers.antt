@@ -1,15 +1,16 @@
 use Rattle.std.proofs.Common.{Some, None, sym, subst}
 use Rattle.express_syntax.specs.ExpressionViews.{capitals}
 use Rattle.express_syntax.specs.Schemas.{redeclared}
+use Rattle.schema_names.specs.Schemas.{the_schema}
 use Rattle.schema_attributes.specs.Redeclaring.{IsRedeclaredAt}
-use Rattle.schema_attributes.specs.Gathering.{AddsAll, schema_in, Says, SaysIs}
+use Rattle.schema_attributes.specs.Gathering.{AddsAll, Says, SaysIs}
 use Rattle.schema_attributes.proofs.Gathered.{adds-nothing, adds-alike}
 use Rattle.schema_attributes.proofs.Redeclared.{is-true, not-false, none-redeclared, not-allowed, says-so}
 use Rattle.schema_attributes.proofs.gathering.add_redeclared.Goals as goal
 
 pub returns-in_default : goal.returns-in_default
 returns-in_default c =
-    let s = schema_in c.args.sources.now in
+    let s = the_schema c.args.sources.now.names.now in
     let d = c.args.declaration in
     let old = c.args.table.now in
     let n = capitals c.args.name in
@@ -20,7 +21,7 @@ returns-in_default c =
 
 pub returns-in_ok-add : goal.returns-in_ok-add
 returns-in_ok-add c =
-    let s = schema_in c.args.sources.now in
+    let s = the_schema c.args.sources.now.names.now in
     let d = c.args.declaration in
     let i = c.in-Some.entity in
     let old = c.args.table.now in
@@ -36,7 +37,7 @@ returns-in_ok-add c =
 
 pub returns-else-allows : goal.returns-else-allows
 returns-else-allows c =
-    let s = schema_in c.args.sources.now in
+    let s = the_schema c.args.sources.now.names.now in
     let d = c.args.declaration in
     let i = c.in-Some.entity in
     let old = c.args.table.now in

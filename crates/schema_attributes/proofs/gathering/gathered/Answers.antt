@@ -1,12 +1,13 @@
 use Rattle.std.proofs.Common.{map, subst}
 use Rattle.express_syntax.specs.Views.{declaration_of}
-use Rattle.schema_attributes.specs.Gathering.{AddsAll, schema_in, rows_in, SaysAt, AreNth}
+use Rattle.schema_names.specs.Schemas.{the_schema}
+use Rattle.schema_attributes.specs.Gathering.{AddsAll, rows_in, SaysAt, AreNth}
 use Rattle.schema_attributes.proofs.Meaning.{found-are}
 use Rattle.schema_attributes.proofs.gathering.gathered.Goals as goal
 
 pub returns : goal.returns
 returns c =
-    let s = schema_in c.args.sources.now in
+    let s = the_schema c.args.sources.now.names.now in
     let rows = rows_in c.args.sources.now in
     found-are s c.requires.sources.resolved rows c.requires.sources.rows c.in_ok-table.table
     c.add_declarations.new.table c.in_ok-table.ensures

@@ -3,9 +3,9 @@ use Rattle.std.proofs.lemmas.List.{length-map}
 use Rattle.digraph.specs.Graphs.{graph_of}
 use Rattle.express_syntax.specs.ExpressionViews.{capitals}
 use Rattle.express_syntax.specs.Schemas.{entity}
-use Rattle.express_syntax.specs.SchemaViews.{schema_of}
 use Rattle.express_syntax.specs.Views.{declaration_of, entity_of}
 use Rattle.schema_names.specs.Numbers.{IsAt}
+use Rattle.schema_names.specs.Schemas.{the_schema}
 use Rattle.schema_names.proofs.Numbers.{stands-at}
 use Rattle.schema_names.proofs.Edges.{number-within}
 use Rattle.schema_names.proofs.Items.{row-at, mapped-at}
@@ -17,14 +17,14 @@ use Rattle.schema_attributes.proofs.redeclaring.first_type.Goals as goal
 
 pub returns-in_err-declaration : goal.returns-in_err-declaration
 returns-in_err-declaration c p ent k =
-    let lt = number-within (schema_of c.args.names.now.schema.now) p c.args.entity k in
+    let lt = number-within (the_schema c.args.names.now) p c.args.entity k in
     let same = length-map c.args.names.now.schema.now.declarations.items declaration_of in
     absurd (not-none c.args.names.now.schema.now.declarations.items c.args.entity (omega (arith, lt, same))
     (sym c.in_err-declaration.ensures))
 
 pub returns-in-Entity : goal.returns-in-Entity
 returns-in-Entity c p ent k =
-    let s = schema_of c.args.names.now.schema.now in
+    let s = the_schema c.args.names.now in
     let i = c.args.entity in
     let ds = c.args.names.now.schema.now.declarations.items in
     let a = capitals c.args.attribute in
@@ -38,7 +38,7 @@ returns-in-Entity c p ent k =
 
 pub returns-in_default : goal.returns-in_default
 returns-in_default c p ent k =
-    let s = schema_of c.args.names.now.schema.now in
+    let s = the_schema c.args.names.now in
     let i = c.args.entity in
     let ds = c.args.names.now.schema.now.declarations.items in
     λ l first. not-entity s p i (declaration_of c.in_ok-declaration.declaration.now) k

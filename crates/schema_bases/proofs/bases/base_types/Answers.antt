@@ -1,7 +1,7 @@
 use Rattle.std.proofs.Common.{◌∙◌, List, ap, subst, refl}
 use Rattle.digraph.specs.Graphs.{graph_of}
-use Rattle.express_syntax.specs.SchemaViews.{schema_of}
 use Rattle.schema_names.specs.Edges.{parts_in}
+use Rattle.schema_names.specs.Schemas.{the_schema}
 use Rattle.schema_names.proofs.Edges.{is-graph}
 use Rattle.schema_data_types.specs.Numbered.{all_data_types}
 use Rattle.schema_data_types.proofs.Known.{no-cycle}
@@ -12,15 +12,15 @@ use Rattle.schema_bases.proofs.bases.base_types.Goals as goal
 
 pub item_rows-requires-clause-graph : goal.item_rows-requires-clause-graph
 item_rows-requires-clause-graph c =
-    is-graph (schema_of c.args.names.now.schema.now) parts_in (graph_of c.args.edges.now) c.requires.drawn
+    is-graph (the_schema c.args.names.now) parts_in (graph_of c.args.edges.now) c.requires.drawn
 
 pub item_rows-requires-clause-acyclic : goal.item_rows-requires-clause-acyclic
 item_rows-requires-clause-acyclic c =
-    no-cycle (schema_of c.args.names.now.schema.now) c.requires.resolved (graph_of c.args.edges.now) c.requires.drawn
+    no-cycle (the_schema c.args.names.now) c.requires.resolved (graph_of c.args.edges.now) c.requires.drawn
 
 pub returns : goal.returns
 returns c =
-    let s = schema_of c.args.names.now.schema.now in
+    let s = the_schema c.args.names.now in
     let g = graph_of c.args.edges.now in
     let declared = c.in_ok-by_declaration.by_declaration.items in
     let found = graph_of c.in_ok-items.items.items in

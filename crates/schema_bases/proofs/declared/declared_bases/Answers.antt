@@ -6,9 +6,9 @@ use Rattle.digraph.proofs.Gathered.{order-inside}
 use Rattle.digraph.proofs.RowLists.{row-is}
 use Rattle.express_syntax.specs.Schemas.{Declaration}
 use Rattle.express_syntax.specs.Views.{declaration_of}
-use Rattle.express_syntax.specs.SchemaViews.{schema_of}
 use Rattle.schema_names.specs.Numbers.{IsAt}
 use Rattle.schema_names.specs.Edges.{parts_in}
+use Rattle.schema_names.specs.Schemas.{the_schema}
 use Rattle.schema_names.proofs.Edges.{is-graph}
 use Rattle.schema_data_types.specs.Numbered.{all_data_types, whole_types}
 use Rattle.schema_bases.specs.declared.base.Base.{Base}
@@ -19,7 +19,7 @@ use Rattle.schema_bases.proofs.declared.declared_bases.Goals as goal
 
 pub order-requires-clause-graph : goal.order-requires-clause-graph
 order-requires-clause-graph c =
-    is-graph (schema_of c.args.names.now.schema.now) parts_in (graph_of c.args.edges.now) c.requires.drawn
+    is-graph (the_schema c.args.names.now) parts_in (graph_of c.args.edges.now) c.requires.drawn
 
 pub declaration-declaration-requires : goal.declaration-declaration-requires
 declaration-declaration-requires c =
@@ -38,7 +38,7 @@ index-requires c =
     let o = subst (IsTopologicalOrder (graph_of c.args.edges.now)) (sym c.deref-a-items.ensures.value)
     c.in_ok-order.ensures in
     let lt = order-inside (λ v. v.items) c.args.edges.now order c.loop-a.a-index o.order c.loop-a-test.true in
-    let s = schema_of c.args.names.now.schema.now in
+    let s = the_schema c.args.names.now in
     let same = c.requires.drawn.same in
     let edges = length-map c.args.edges.now (λ v. v.items) in
     let rows = length-map c.args.data_types.now.rows.items (λ v. v.items) in
@@ -62,7 +62,7 @@ loop-a-init c = record { long = search rules; so = λ j k. absurd (cc) }
 
 pub loop-a-preserved : goal.loop-a-preserved
 loop-a-preserved c =
-    let s = schema_of c.args.names.now.schema.now in
+    let s = the_schema c.args.names.now in
     let g : Graph = graph_of c.args.edges.now in
     let order = c.deref-a-items.result.now in
     let i = c.loop-a.a-index in
@@ -104,7 +104,7 @@ pub returns-clause-made : goal.returns-clause-made
 returns-clause-made c =
     let o = subst (IsTopologicalOrder (graph_of c.args.edges.now)) (sym c.deref-a-items.ensures.value)
     c.in_ok-order.ensures in
-    all-made (schema_of c.args.names.now.schema.now) (graph_of c.args.edges.now) c.requires.drawn
+    all-made (the_schema c.args.names.now) (graph_of c.args.edges.now) c.requires.drawn
     (graph_of c.args.data_types.now.rows.items) c.requires.resolved c.deref-a-items.result.now c.loop-a.declared.items
     c.loop-a.a-index o (take_all c.loop-a.a-index c.deref-a-items.result.now
     (omega (arith, c.loop-a-test.false))) c.loop-a.invariant.so

@@ -1,6 +1,6 @@
 use Rattle.std.proofs.Common.{◌≡◌, length, map, take}
 use Rattle.digraph.specs.Orders.{Solves}
-use Rattle.express_syntax.specs.SchemaViews.{schema_of}
+use Rattle.schema_names.specs.Schemas.{the_schema}
 use Rattle.schema_bases.specs.Making.{entry}
 use Rattle.schema_bases.proofs.Made.{made_of}
 use Rattle.schema_bases.proofs.declared.declared_bases.Given as goal
@@ -9,5 +9,5 @@ abbrev pub invariant-loop-a : goal.invariant-loop-a
 invariant-loop-a l = record {
   long : length l.declared.items ≡ length l.edges;
   so : Solves (map (λ v. v.items) l.edges) (take l.a-index l.a-items)
-      (made_of (schema_of l.names.schema.now) (map (λ v. v.items) l.data_types.rows.items)) (entry l.declared.items);
+      (made_of (the_schema l.names) (map (λ v. v.items) l.data_types.rows.items)) (entry l.declared.items);
 }

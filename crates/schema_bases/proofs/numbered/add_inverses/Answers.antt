@@ -1,8 +1,8 @@
 use Rattle.std.proofs.Common.{◌<◌, length, arith}
 use Rattle.express_syntax.specs.Schemas.{Inverse}
 use Rattle.express_syntax.specs.Views.{inverse_of}
-use Rattle.express_syntax.specs.SchemaViews.{schema_of}
 use Rattle.schema_semantics.specs.Attributes.{collected}
+use Rattle.schema_names.specs.Schemas.{the_schema}
 use Rattle.schema_bases.proofs.Going.{goes-next}
 use Rattle.schema_bases.proofs.numbered.add_inverses.Goals as goal
 
@@ -11,7 +11,7 @@ loop-inverse-preserved c =
     let xs = c.args.inverses.now in
     let at = c.loop-inverse.inverse-index in
     let lt : at < length xs = omega (arith, c.loop-inverse-test.true) in
-    goes-next (schema_of c.args.names.now.schema.now) c.args.declared.now inverse_of
+    goes-next (the_schema c.args.names.now) c.args.declared.now inverse_of
     (λ (x : Inverse). collected x.collection x.entity) xs at c.inverse-item.result c.args.bases.now.items
     c.loop-inverse.bases.items c.add_inverse.new.bases.items lt c.inverse-item.is c.loop-inverse.invariant
     c.in_ok-add_inverse.ensures

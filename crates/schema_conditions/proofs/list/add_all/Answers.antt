@@ -1,14 +1,14 @@
 use Rattle.std.proofs.Common.{◌≡◌, ◌<◌, Some, length, arith, map, subst, slice_get}
 use Rattle.std.proofs.lemmas.List.{take_all}
 use Rattle.express_syntax.specs.Views.{declaration_of}
-use Rattle.schema_unchecked.specs.Findings.{schema_found}
 use Rattle.conformance.specs.DomainRules.{statements_in}
+use Rattle.schema_references.specs.Taking.{schema_in}
 use Rattle.schema_conditions.specs.Making.{Adds}
 use Rattle.schema_conditions.proofs.Listing.{seen-at, adds-none, adds-declared}
 use Rattle.schema_conditions.proofs.list.add_all.Goals as goal
 
 pub loop-i-init : goal.loop-i-init
-loop-i-init c = adds-none (schema_found c.args.findings.now) c.args.rules.now.items
+loop-i-init c = adds-none (schema_in c.args.findings.now.known) c.args.rules.now.items
 
 pub add_declaration-requires-clause-at : goal.add_declaration-requires-clause-at
 add_declaration-requires-clause-at c =
@@ -21,7 +21,7 @@ add_declaration-requires-clause-at c =
 
 pub loop-i-preserved : goal.loop-i-preserved
 loop-i-preserved c =
-    let s = schema_found c.args.findings.now in
+    let s = schema_in c.args.findings.now.known in
     let xs = c.args.declarations.now in
     let i = c.loop-i.i in
     let x = c.index-declarations-i.result in
@@ -31,7 +31,7 @@ loop-i-preserved c =
 
 pub returns : goal.returns
 returns c =
-    let s = schema_found c.args.findings.now in
+    let s = schema_in c.args.findings.now.known in
     let old = c.args.rules.now.items in
     let new = c.loop-i.rules.items in
     subst (λ ds. Adds s (statements_in ds) old new) c.requires.all

@@ -1,11 +1,11 @@
 use Rattle.std.proofs.Common.{map, take}
 use Rattle.express_syntax.specs.Views.{declaration_of}
-use Rattle.schema_unchecked.specs.Findings.{schema_found}
 use Rattle.conformance.specs.DomainRules.{statements_in}
+use Rattle.schema_references.specs.Taking.{schema_in}
 use Rattle.schema_conditions.specs.Making.{Adds}
 use Rattle.schema_conditions.proofs.list.add_all.Given as goal
 
 abbrev pub invariant-loop-i : goal.invariant-loop-i
 invariant-loop-i l =
-    Adds (schema_found l.findings) (statements_in (map declaration_of (take l.i l.declarations)))
+    Adds (schema_in l.findings.known) (statements_in (map declaration_of (take l.i l.declarations)))
     l.initial.rules.items l.rules.items

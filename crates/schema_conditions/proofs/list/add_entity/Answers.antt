@@ -4,8 +4,8 @@ use Rattle.express_syntax.specs.Schemas.{entity}
 use Rattle.express_syntax.specs.Views.{entity_of, rule_of}
 use Rattle.schema_semantics.specs.Names.{listed}
 use Rattle.schema_names.proofs.Clauses.{clause-listed}
-use Rattle.schema_unchecked.specs.Findings.{schema_found}
 use Rattle.conformance.specs.DomainRules.{of_entity, statements_from}
+use Rattle.schema_references.specs.Taking.{schema_in}
 use Rattle.schema_conditions.specs.Making.{Adds}
 use Rattle.schema_conditions.proofs.Holding.{number-here}
 use Rattle.schema_conditions.proofs.list.add_entity.Goals as goal
@@ -13,12 +13,12 @@ use Rattle.schema_conditions.proofs.list.add_entity.Goals as goal
 pub add_entity_rules-requires-clause-number : goal.add_entity_rules-requires-clause-number
 add_entity_rules-requires-clause-number c =
     let d = entity_of c.args.entity.now in
-    number-here (schema_found c.args.findings.now) c.requires.found.known.resolved c.args.number (entity d) d.name
+    number-here (schema_in c.args.findings.now.known) c.requires.found.known.resolved c.args.number (entity d) d.name
     c.requires.at refl
 
 pub returns : goal.returns
 returns c =
-    let s = schema_found c.args.findings.now in
+    let s = schema_in c.args.findings.now.known in
     let d = entity_of c.args.entity.now in
     let old = c.args.rules.now.items in
     let new = c.add_entity_rules.new.rules.items in

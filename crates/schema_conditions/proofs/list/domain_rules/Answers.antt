@@ -2,8 +2,8 @@ use Rattle.std.proofs.Common.{◌<◌, ◌++◌, ◌∙◌, length, arith, map, 
 use Rattle.std.proofs.lemmas.List.{length-map}
 use Rattle.express_syntax.specs.Views.{declaration_of}
 use Rattle.express_syntax.specs.Profile.{Every}
-use Rattle.schema_unchecked.specs.Findings.{schema_found}
 use Rattle.conformance.specs.DomainRules.{AreDomainRules}
+use Rattle.schema_references.specs.Taking.{schema_in}
 use Rattle.schema_conditions.specs.Seen.{rule_seen, IsNumbered}
 use Rattle.schema_conditions.proofs.list.domain_rules.Goals as goal
 
@@ -19,13 +19,13 @@ add_all-requires-clause-all c = ap (map declaration_of) c.deref.ensures.value
 
 pub returns-clause-checked : goal.returns-clause-checked
 returns-clause-checked c =
-    let s = schema_found c.args.findings.now in
+    let s = schema_in c.args.findings.now.known in
     let (rows, is, checked, numbered) = c.in_ok-add_all.ensures in
     subst (λ rs. AreDomainRules s (map (rule_seen s) rs)) (sym (is ∙ ap (λ xs. xs ++ rows) c.new-rules.ensures.items))
     checked
 
 pub returns-clause-numbered : goal.returns-clause-numbered
 returns-clause-numbered c =
-    let s = schema_found c.args.findings.now in
+    let s = schema_in c.args.findings.now.known in
     let (rows, is, checked, numbered) = c.in_ok-add_all.ensures in
     subst (Every (IsNumbered s)) (sym (is ∙ ap (λ xs. xs ++ rows) c.new-rules.ensures.items)) numbered

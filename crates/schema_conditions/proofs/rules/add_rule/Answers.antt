@@ -1,6 +1,6 @@
 use Rattle.std.proofs.Common.{refl, sym, ◌∙◌}
 use Rattle.express_syntax.specs.Views.{rule_of, body_of}
-use Rattle.schema_unchecked.specs.Findings.{schema_found}
+use Rattle.schema_references.specs.Taking.{schema_in}
 use Rattle.schema_unchecked.specs.Rules.{has_reason}
 use Rattle.schema_conditions.specs.Seen.{holder_seen}
 use Rattle.schema_conditions.specs.Making.{statement_of}
@@ -10,7 +10,7 @@ use Rattle.schema_conditions.proofs.rules.add_rule.Goals as goal
 
 pub returns-then-is_checked : goal.returns-then-is_checked
 returns-then-is_checked c =
-    let s = schema_found c.args.findings.now in
+    let s = schema_in c.args.findings.now.known in
     let b = body_of c.args.rule.now.body in
     c.add_checked.ensures s c.requires.holder
     (λ r why. no-reason (has_reason s c.args.own b) c.in_ok-reason.reason
@@ -19,7 +19,7 @@ returns-then-is_checked c =
 
 pub returns : goal.returns
 returns c =
-    let s = schema_found c.args.findings.now in
+    let s = schema_in c.args.findings.now.known in
     let x = statement_of (holder_seen s c.args.holder) c.args.number (rule_of c.args.rule.now) in
     let (r, why) = some-reason (has_reason s c.args.own (body_of c.args.rule.now.body)) c.in_ok-reason.reason
     (sym c.is_checked.ensures ∙ c.if-is_checked.false) c.in_ok-reason.ensures in

@@ -1,19 +1,19 @@
 use Rattle.std.proofs.Common.{◌<◌, length, arith, map, subst}
 use Rattle.std.proofs.lemmas.List.{take_all}
 use Rattle.express_syntax.specs.Views.{rule_of}
-use Rattle.schema_unchecked.specs.Findings.{schema_found}
 use Rattle.conformance.specs.DomainRules.{statements_from}
+use Rattle.schema_references.specs.Taking.{schema_in}
 use Rattle.schema_conditions.specs.Seen.{holder_seen}
 use Rattle.schema_conditions.specs.Making.{Adds}
 use Rattle.schema_conditions.proofs.Listing.{adds-none, adds-statement}
 use Rattle.schema_conditions.proofs.rules.add_rules.Goals as goal
 
 pub loop-i-init : goal.loop-i-init
-loop-i-init c = adds-none (schema_found c.args.findings.now) c.args.rules.now.items
+loop-i-init c = adds-none (schema_in c.args.findings.now.known) c.args.rules.now.items
 
 pub loop-i-preserved : goal.loop-i-preserved
 loop-i-preserved c =
-    let s = schema_found c.args.findings.now in
+    let s = schema_in c.args.findings.now.known in
     let xs = c.args.written.now in
     let i = c.loop-i.i in
     let x = c.index-written-i.result in
@@ -23,6 +23,6 @@ loop-i-preserved c =
 
 pub returns : goal.returns
 returns c =
-    let s = schema_found c.args.findings.now in
+    let s = schema_in c.args.findings.now.known in
     subst (λ xs. Adds s (statements_from (holder_seen s c.args.holder) 1 (map rule_of xs)) c.args.rules.now.items
     c.loop-i.rules.items) (take_all c.loop-i.i c.args.written.now c.loop-i-test.false) c.loop-i.invariant

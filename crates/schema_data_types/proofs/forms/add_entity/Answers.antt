@@ -1,7 +1,7 @@
 use Rattle.std.proofs.Common.{subst, map, ◌++◌}
 use Rattle.std.proofs.lemmas.Result.{on_ok_weaker}
 use Rattle.express_syntax.specs.Views.{explicit_of, derived_of, inverse_of}
-use Rattle.express_syntax.specs.SchemaViews.{schema_of}
+use Rattle.schema_names.specs.Schemas.{the_schema}
 use Rattle.schema_data_types.specs.Numbered.{explicit_types, derived_types, inverse_types}
 use Rattle.schema_data_types.specs.Growing.{Adds}
 use Rattle.schema_names.proofs.Clauses.{clause-listed}
@@ -10,7 +10,7 @@ use Rattle.schema_data_types.proofs.forms.add_entity.Goals as goal
 
 pub returns : goal.returns
 returns c =
-    let s = schema_of c.args.names.now.schema.now in
+    let s = the_schema c.args.names.now in
     let e = c.args.entity.now in
     let xs = explicit_types (map explicit_of c.deref.result.now) in
     let ds = derived_types (map derived_of c.derived_attributes.result.now) in

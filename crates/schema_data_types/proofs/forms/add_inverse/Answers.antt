@@ -1,15 +1,15 @@
 use Rattle.std.proofs.Common.{◌∙◌, ◌++◌, ◌∷◌, [], ap, length}
 use Rattle.std.proofs.lemmas.Result.{on_ok_weaker}
 use Rattle.express_syntax.specs.Views.{inverse_of}
-use Rattle.express_syntax.specs.SchemaViews.{schema_of}
 use Rattle.schema_semantics.specs.Attributes.{collected}
+use Rattle.schema_names.specs.Schemas.{the_schema}
 use Rattle.schema_data_types.proofs.FormTables.{adds-one}
 use Rattle.schema_data_types.proofs.forms.add_inverse.Goals as goal
 
 pub returns : goal.returns
 returns c =
     let i = inverse_of c.args.inverse.now in
-    on_ok_weaker c.add_collected.result (λ h. adds-one (schema_of c.args.names.now.schema.now) c.args.forms.now.items
+    on_ok_weaker c.add_collected.result (λ h. adds-one (the_schema c.args.names.now) c.args.forms.now.items
     c.args.row.now.items (collected i.collection i.entity) c.add_collected.new.forms.items c.add_number.new.row.items h
     (c.in_ok-add_number.ensures ∙ ap (λ xs. c.args.row.now.items ++ length xs ∷ []) c.deref.ensures.value))
     c.add_collected.ensures

@@ -1,11 +1,11 @@
 use Rattle.std.proofs.Common.{map, take}
 use Rattle.express_syntax.specs.Views.{inverse_of}
-use Rattle.express_syntax.specs.SchemaViews.{schema_of}
+use Rattle.schema_names.specs.Schemas.{the_schema}
 use Rattle.schema_data_types.specs.Numbered.{inverse_types}
 use Rattle.schema_data_types.specs.Growing.{Adds}
 use Rattle.schema_data_types.proofs.forms.add_inverses.Given as goal
 
 abbrev pub invariant-loop-inverse : goal.invariant-loop-inverse
 invariant-loop-inverse l =
-    Adds (schema_of l.names.schema.now) l.initial.forms.items l.initial.row.items
+    Adds (the_schema l.names) l.initial.forms.items l.initial.row.items
     (inverse_types (map inverse_of (take l.inverse-index l.inverses))) l.forms.items l.row.items

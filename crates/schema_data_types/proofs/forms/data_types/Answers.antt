@@ -1,6 +1,6 @@
 use Rattle.std.proofs.Common.{◌<◌, length, arith, subst}
 use Rattle.express_syntax.specs.Views.{declaration_of}
-use Rattle.express_syntax.specs.SchemaViews.{schema_of}
+use Rattle.schema_names.specs.Schemas.{the_schema}
 use Rattle.schema_data_types.specs.Numbered.{whole_types}
 use Rattle.schema_data_types.specs.Growing.{Adds}
 use Rattle.schema_data_types.proofs.FormTables.{next-declaration}
@@ -11,10 +11,10 @@ loop-declaration-preserved c =
     let xs = c.declarations-declaration-items.result.now in
     let at = c.loop-declaration.declaration-index in
     let lt : at < length xs = omega (arith, c.loop-declaration-test.true) in
-    next-declaration (schema_of c.args.names.now.schema.now) declaration_of xs at c.declaration-item.result
+    next-declaration (the_schema c.args.names.now) declaration_of xs at c.declaration-item.result
     c.loop-declaration.forms.items c.add_declaration.new.forms.items c.loop-declaration.rows.items
     c.push.new.self.items c.add_declaration.new.row lt c.declaration-item.is c.loop-declaration.invariant
-    (subst (λ row. Adds (schema_of c.args.names.now.schema.now) c.loop-declaration.forms.items row
+    (subst (λ row. Adds (the_schema c.args.names.now) c.loop-declaration.forms.items row
     (whole_types (declaration_of c.declaration-item.result)) c.add_declaration.new.forms.items
     c.add_declaration.new.row.items) c.new-row.ensures.items c.in_ok-add_declaration.ensures)
     c.in_ok-push.ensures.items

@@ -3,8 +3,8 @@ use Rattle.std.proofs.lemmas.List.{length-map}
 use Rattle.std.proofs.lemmas.Result.{IfOk-weaker}
 use Rattle.digraph.specs.Graphs.{Graph, graph_of, next}
 use Rattle.express_syntax.specs.Views.{declaration_of}
-use Rattle.express_syntax.specs.SchemaViews.{schema_of}
 use Rattle.schema_names.specs.Edges.{parts_in}
+use Rattle.schema_names.specs.Schemas.{the_schema}
 use Rattle.schema_names.proofs.Edges.{is-graph}
 use Rattle.schema_data_types.specs.Gathering.{IsGathered}
 use Rattle.schema_data_types.specs.Giving.{own_row}
@@ -14,11 +14,11 @@ use Rattle.schema_data_types.proofs.giving.gathered_rows.Goals as goal
 
 pub gathered-requires-clause-graph : goal.gathered-requires-clause-graph
 gathered-requires-clause-graph c =
-    is-graph (schema_of c.args.names.now.schema.now) parts_in (graph_of c.args.edges.now) c.requires.graph
+    is-graph (the_schema c.args.names.now) parts_in (graph_of c.args.edges.now) c.requires.graph
 
 pub gathered-requires-clause-acyclic : goal.gathered-requires-clause-acyclic
 gathered-requires-clause-acyclic c =
-    no-cycle (schema_of c.args.names.now.schema.now) c.requires.resolved (graph_of c.args.edges.now) c.requires.graph
+    no-cycle (the_schema c.args.names.now) c.requires.resolved (graph_of c.args.edges.now) c.requires.graph
 
 pub gathered-requires-clause-own : goal.gathered-requires-clause-own
 gathered-requires-clause-own c =
@@ -28,16 +28,15 @@ gathered-requires-clause-own c =
 
 pub gathered-requires-clause-below : goal.gathered-requires-clause-below
 gathered-requires-clause-below c =
-    own-stay (schema_of c.args.names.now.schema.now) c.args.wanted (graph_of c.deref.result.now)
-    (length c.args.edges.now)
-    (subst (λ rows. (i : ℕ) → next (graph_of rows) i ≡ own_row c.args.wanted (schema_of c.args.names.now.schema.now) i)
+    own-stay (the_schema c.args.names.now) c.args.wanted (graph_of c.deref.result.now) (length c.args.edges.now)
+    (subst (λ rows. (i : ℕ) → next (graph_of rows) i ≡ own_row c.args.wanted (the_schema c.args.names.now) i)
     (sym c.deref.ensures.value) c.in_ok-own.ensures.rows)
     (sym (length-map c.args.edges.now (λ v. v.items)) ∙ c.requires.graph.same)
 
 pub returns : goal.returns
 returns c =
     let g : Graph = graph_of c.args.edges.now in
-    let mine : ℕ → List ℕ = own_row c.args.wanted (schema_of c.args.names.now.schema.now) in
+    let mine : ℕ → List ℕ = own_row c.args.wanted (the_schema c.args.names.now) in
     let is : (a : ℕ) → next (graph_of c.deref.result.now) a ≡ mine a =
     subst (λ rows. (i : ℕ) → next (graph_of rows) i ≡ mine i) (sym c.deref.ensures.value) c.in_ok-own.ensures.rows in
     let same : next (graph_of c.deref.result.now) ≡ mine = λ i a. is a i in

@@ -2,14 +2,14 @@ use Rattle.std.proofs.Common.{◌≡◌, ◌∙◌, length, ap, sym, arith}
 use Rattle.std.proofs.lemmas.List.{length-map}
 use Rattle.digraph.proofs.RowLists.{rows-more}
 use Rattle.express_syntax.specs.Views.{declaration_of}
-use Rattle.express_syntax.specs.SchemaViews.{schema_of}
+use Rattle.schema_names.specs.Schemas.{the_schema}
 use Rattle.schema_data_types.specs.Giving.{own_row}
 use Rattle.schema_data_types.proofs.OwnRows.{own-all}
 use Rattle.schema_data_types.proofs.giving.own_rows.Goals as goal
 
 pub loop-i-preserved : goal.loop-i-preserved
 loop-i-preserved c =
-    let s = schema_of c.args.names.now.schema.now in
+    let s = the_schema c.args.names.now in
     record {
       long = omega (arith, c.in_ok-push.ensures.len, c.loop-i.invariant.long);
       rows = rows-more (λ v. v.items) (λ a r. r ≡ own_row c.args.wanted s a) c.loop-i.rows.items
@@ -31,7 +31,7 @@ returns-clause-rows c =
     let end = c.loop-i.auto.i-end in
     let all = c.loop-i.invariant.long in
     let count : length c.loop-i.rows.items ≡ length c.declarations-i-end.result.now = omega (arith, test, end, all) in
-    own-all (schema_of c.args.names.now.schema.now) (λ v. v.items) c.args.wanted c.loop-i.rows.items
+    own-all (the_schema c.args.names.now) (λ v. v.items) c.args.wanted c.loop-i.rows.items
     (count ∙ ap length c.declarations-i-end.ensures
     ∙ sym (length-map c.args.names.now.schema.now.declarations.items declaration_of))
     (λ a lt. c.loop-i.invariant.rows a (omega (arith, lt, all)))

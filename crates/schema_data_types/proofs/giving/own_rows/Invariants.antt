@@ -1,12 +1,11 @@
 use Rattle.std.proofs.Common.{◌≡◌, ℕ, ◌<◌, length, map}
 use Rattle.digraph.specs.Graphs.{next}
-use Rattle.express_syntax.specs.SchemaViews.{schema_of}
+use Rattle.schema_names.specs.Schemas.{the_schema}
 use Rattle.schema_data_types.specs.Giving.{own_row}
 use Rattle.schema_data_types.proofs.giving.own_rows.Given as goal
 
 abbrev pub invariant-loop-i : goal.invariant-loop-i
 invariant-loop-i l = record {
   long : length l.rows.items ≡ l.i;
-  rows : (a : ℕ) → a < l.i
-      → next (map (λ v. v.items) l.rows.items) a ≡ own_row l.wanted (schema_of l.names.schema.now) a;
+  rows : (a : ℕ) → a < l.i → next (map (λ v. v.items) l.rows.items) a ≡ own_row l.wanted (the_schema l.names) a;
 }

@@ -3,7 +3,7 @@ use Rattle.std.specs.Prelude.{◌&&◌, not}
 use Rattle.digraph.specs.Graphs.{graph_of}
 use Rattle.express_syntax.specs.ExpressionViews.{capitals}
 use Rattle.schema_semantics.specs.Sets.{IsItemOf}
-use Rattle.schema_data_types.specs.Values.{schema_at}
+use Rattle.schema_names.specs.Schemas.{the_schema}
 use Rattle.schema_data_types.proofs.Declared.{parts-within}
 use Rattle.schema_data_types.specs.Enumerated.{has_item_within}
 use Rattle.schema_data_types.proofs.Enumerated.{has-number, item-told}
@@ -15,12 +15,12 @@ is_over_select-requires-clause-named c = (capitals c.args.defined, sym c.find.en
 pub has_item_within-requires : goal.has_item_within-requires
 has_item_within-requires c =
     let are = c.requires.tables.parts in
-    parts-within (schema_at c.args.tables.now) (λ v. v.items) c.args.tables.now.parts.now.giving.items are.graph _
-    are.drawn are.giving (capitals c.args.defined) c.in-Some.part (sym c.find.ensures ∙ c.in-Some.is)
+    parts-within (the_schema c.args.tables.now.names.now) (λ v. v.items) c.args.tables.now.parts.now.giving.items
+    are.graph _ are.drawn are.giving (capitals c.args.defined) c.in-Some.part (sym c.find.ensures ∙ c.in-Some.is)
 
 pub returns-then-not-is_over_select : goal.returns-then-not-is_over_select
 returns-then-not-is_over_select c =
-    let s = schema_at c.args.tables.now in
+    let s = the_schema c.args.tables.now.names.now in
     let rows = graph_of c.args.tables.now.parts.now.giving.items in
     let n = capitals c.args.name in
     let t = capitals c.args.defined in
@@ -34,7 +34,7 @@ returns-then-not-is_over_select c =
 
 pub returns-else-not-is_over_select : goal.returns-else-not-is_over_select
 returns-else-not-is_over_select c =
-    let s = schema_at c.args.tables.now in
+    let s = the_schema c.args.tables.now.names.now in
     let rows = graph_of c.args.tables.now.parts.now.giving.items in
     let n = capitals c.args.name in
     let t = capitals c.args.defined in
@@ -49,7 +49,9 @@ returns-else-not-is_over_select c =
 pub returns-in-None : goal.returns-in-None
 returns-in-None c = (λ e. absurd (cc), none)
   where
-    none : IsItemOf (schema_at c.args.tables.now) (capitals c.args.defined) (capitals c.args.name) → false ≡ true
+    none : IsItemOf (the_schema c.args.tables.now.names.now) (capitals c.args.defined) (capitals c.args.name)
+        → false ≡ true
     none h =
-        let (i, k) = has-number (schema_at c.args.tables.now) (capitals c.args.defined) (capitals c.args.name) h in
+        let (i, k) = has-number (the_schema c.args.tables.now.names.now) (capitals c.args.defined)
+        (capitals c.args.name) h in
         let q = sym k ∙ sym c.find.ensures ∙ c.in-None.is in absurd (cc)

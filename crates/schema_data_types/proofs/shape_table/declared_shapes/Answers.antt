@@ -6,9 +6,9 @@ use Rattle.digraph.proofs.Gathered.{order-inside}
 use Rattle.digraph.proofs.RowLists.{row-is}
 use Rattle.express_syntax.specs.Schemas.{Declaration, named}
 use Rattle.express_syntax.specs.Views.{declaration_of}
-use Rattle.express_syntax.specs.SchemaViews.{schema_of}
 use Rattle.schema_names.specs.Numbers.{AreAt, IsAt}
 use Rattle.schema_names.specs.Edges.{parts_in}
+use Rattle.schema_names.specs.Schemas.{the_schema}
 use Rattle.schema_names.proofs.Edges.{is-graph}
 use Rattle.schema_data_types.specs.declared.forms.Form.{Form}
 use Rattle.schema_data_types.specs.Numbered.{all_data_types, whole_types}
@@ -21,7 +21,7 @@ use Rattle.schema_data_types.proofs.shape_table.declared_shapes.Goals as goal
 
 pub order-requires-clause-graph : goal.order-requires-clause-graph
 order-requires-clause-graph c =
-    is-graph (schema_of c.args.names.now.schema.now) parts_in (graph_of c.args.parts.now) c.requires.graph
+    is-graph (the_schema c.args.names.now) parts_in (graph_of c.args.parts.now) c.requires.graph
 
 pub declaration-declaration-requires : goal.declaration-declaration-requires
 declaration-declaration-requires c =
@@ -40,7 +40,7 @@ index-requires c =
     let o = subst (IsTopologicalOrder (graph_of c.args.parts.now)) (sym c.deref-a-items.ensures.value)
     c.in_ok-order.ensures in
     let lt = order-inside (λ v. v.items) c.args.parts.now order c.loop-a.a-index o.order c.loop-a-test.true in
-    let s = schema_of c.args.names.now.schema.now in
+    let s = the_schema c.args.names.now in
     let same = c.requires.graph.same in
     let edges = length-map c.args.parts.now (λ v. v.items) in
     let rows = length-map c.args.data_types.now.rows.items (λ v. v.items) in
@@ -64,7 +64,7 @@ loop-a-init c = record { long = search rules; so = λ j k. absurd (cc) }
 
 pub loop-a-preserved : goal.loop-a-preserved
 loop-a-preserved c =
-    let s = schema_of c.args.names.now.schema.now in
+    let s = the_schema c.args.names.now in
     let g : Graph = graph_of c.args.parts.now in
     let order = c.deref-a-items.result.now in
     let i = c.loop-a.a-index in
@@ -111,7 +111,7 @@ pub returns : goal.returns
 returns c =
     let o = subst (IsTopologicalOrder (graph_of c.args.parts.now)) (sym c.deref-a-items.ensures.value)
     c.in_ok-order.ensures in
-    all-declared (schema_of c.args.names.now.schema.now) c.requires.resolved (graph_of c.args.parts.now)
+    all-declared (the_schema c.args.names.now) c.requires.resolved (graph_of c.args.parts.now)
     c.requires.graph c.args.data_types.now.forms.items c.requires.forms c.loop-a.declared.items
     c.deref-a-items.result.now c.loop-a.a-index o (take_all c.loop-a.a-index c.deref-a-items.result.now
     (omega (arith, c.loop-a-test.false))) c.loop-a.invariant.so

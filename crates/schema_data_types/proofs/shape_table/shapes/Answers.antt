@@ -1,5 +1,5 @@
 use Rattle.std.proofs.Common.{◌≡◌, ◌∙◌, ap, subst, arith, List, Some, slice_get}
-use Rattle.express_syntax.specs.SchemaViews.{schema_of}
+use Rattle.schema_names.specs.Schemas.{the_schema}
 use Rattle.schema_data_types.specs.declared.forms.Form.{Form}
 use Rattle.schema_data_types.specs.declared.shapes.Shape.{Shape}
 use Rattle.schema_data_types.specs.Making.{shape_seen}
@@ -25,6 +25,6 @@ loop-number-preserved c =
 pub returns : goal.returns
 returns c =
     let count = c.loop-number.invariant.count in
-    are-shapes (schema_of c.args.names.now.schema.now) c.in_ok-declared.declared.items c.in_ok-declared.ensures
+    are-shapes (the_schema c.args.names.now) c.in_ok-declared.declared.items c.in_ok-declared.ensures
     c.args.data_types.now.forms.items c.requires.forms c.loop-number.shapes.items (omega (arith, count))
     c.loop-number.invariant.made

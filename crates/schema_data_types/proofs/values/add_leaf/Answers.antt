@@ -1,8 +1,9 @@
 use Rattle.std.proofs.Common.{◌∙◌, ◌++◌, [], ap, sym, subst, get_or}
 use Rattle.std.specs.List.{cons_option}
 use Rattle.std.proofs.lemmas.Result.{on_ok_weaker}
+use Rattle.schema_names.specs.Schemas.{the_schema}
 use Rattle.schema_data_types.specs.Numbered.{form_in, all_data_types}
-use Rattle.schema_data_types.specs.Values.{AddsAll, schema_at}
+use Rattle.schema_data_types.specs.Values.{AddsAll}
 use Rattle.schema_data_types.specs.Leaves.{leaf_atom, LeafGives}
 use Rattle.schema_data_types.proofs.Sets.{adds-leaf}
 use Rattle.schema_data_types.proofs.Single.{form-at}
@@ -10,7 +11,7 @@ use Rattle.schema_data_types.proofs.values.add_leaf.Goals as goal
 
 pub returns : goal.returns
 returns c k at =
-    let s = schema_at c.args.tables.now in
+    let s = the_schema c.args.tables.now.names.now in
     let n = c.args.number in
     let w = c.args.is_of_select in
     let old = c.args.atoms.now.items in

@@ -1,7 +1,7 @@
 use Rattle.std.proofs.Common.{◌∙◌}
 use Rattle.express_syntax.specs.Schemas.{named}
 use Rattle.schema_semantics.specs.Shapes.{IsOf}
-use Rattle.schema_data_types.specs.Values.{schema_at}
+use Rattle.schema_names.specs.Schemas.{the_schema}
 use Rattle.schema_data_types.proofs.Sets.{adds-nothing}
 use Rattle.schema_data_types.proofs.Single.{lost-is-none}
 use Rattle.schema_data_types.proofs.values.add_meant.Goals as goal
@@ -14,5 +14,6 @@ returns-in-Some c n e = c.add_named.ensures n (e ∙ c.in-Some.is)
 
 pub returns-in-None : goal.returns-in-None
 returns-in-None c n e =
-    adds-nothing (schema_at c.args.tables.now) c.args.atoms.now.items (IsOf (schema_at c.args.tables.now) (named n))
-    (lost-is-none (schema_at c.args.tables.now) n (e ∙ c.in-None.is))
+    adds-nothing (the_schema c.args.tables.now.names.now) c.args.atoms.now.items
+    (IsOf (the_schema c.args.tables.now.names.now) (named n))
+    (lost-is-none (the_schema c.args.tables.now.names.now) n (e ∙ c.in-None.is))

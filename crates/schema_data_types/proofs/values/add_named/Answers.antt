@@ -4,7 +4,8 @@ use Rattle.digraph.specs.Graphs.{has}
 use Rattle.digraph.proofs.RowLists.{row-is}
 use Rattle.express_syntax.specs.Schemas.{named}
 use Rattle.schema_semantics.specs.Shapes.{IsOf}
-use Rattle.schema_data_types.specs.Values.{AddsAll, schema_at}
+use Rattle.schema_names.specs.Schemas.{the_schema}
+use Rattle.schema_data_types.specs.Values.{AddsAll}
 use Rattle.schema_data_types.specs.Leaves.{OneGives}
 use Rattle.schema_data_types.proofs.Sets.{adds-alike}
 use Rattle.schema_data_types.proofs.Declared.{giving-named, named-is, parts-within}
@@ -15,13 +16,13 @@ index-requires c =
     let (n, k) = c.requires.named in
     let are = c.requires.tables.parts in
     let giving = c.args.tables.now.parts.now.giving in
-    let lt = parts-within (schema_at c.args.tables.now) (λ v. v.items) giving.items are.graph _ are.drawn are.giving n c.args.part k in
+    let lt = parts-within (the_schema c.args.tables.now.names.now) (λ v. v.items) giving.items are.graph _ are.drawn are.giving n c.args.part k in
     let whole : length giving.items ≡ vec_len giving = search rules in
     omega (arith, lt, whole)
 
 pub add_parts-requires-clause-named : goal.add_parts-requires-clause-named
 add_parts-requires-clause-named c j h =
-    let s = schema_at c.args.tables.now in
+    let s = the_schema c.args.tables.now.names.now in
     let (n, k) = c.requires.named in
     let are = c.requires.tables.parts in
     let rows = c.args.tables.now.parts.now.giving.items in
@@ -34,7 +35,7 @@ add_parts-requires-clause-named c j h =
 
 pub returns : goal.returns
 returns c n k =
-    let s = schema_at c.args.tables.now in
+    let s = the_schema c.args.tables.now.names.now in
     let are = c.requires.tables.parts in
     let rows = c.args.tables.now.parts.now.giving.items in
     let w = c.is_over_select-is_of_select.result in

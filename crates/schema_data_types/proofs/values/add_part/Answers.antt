@@ -4,10 +4,11 @@ use Rattle.express_syntax.specs.Schemas.{Declaration, skipped}
 use Rattle.express_syntax.specs.Views.{declaration_of, type_of, entity_of, skipped_of}
 use Rattle.schema_semantics.specs.Names.{declared_name}
 use Rattle.schema_names.specs.Numbers.{IsAt}
+use Rattle.schema_names.specs.Schemas.{the_schema}
 use Rattle.schema_names.proofs.Numbers.{what-stands}
 use Rattle.schema_names.proofs.Edges.{number-within}
 use Rattle.schema_data_types.specs.declared.values.Atom.TheVariants as atoms
-use Rattle.schema_data_types.specs.Values.{AddsAll, schema_at}
+use Rattle.schema_data_types.specs.Values.{AddsAll}
 use Rattle.schema_data_types.specs.Leaves.{Gives}
 use Rattle.schema_data_types.proofs.Sets.{adds-atom}
 use Rattle.schema_data_types.proofs.Declared.{type-here, entity-here, gives-instance}
@@ -16,7 +17,7 @@ use Rattle.schema_data_types.proofs.values.add_part.Goals as goal
 
 pub declaration-requires : goal.declaration-requires
 declaration-requires c =
-    let s = schema_at c.args.tables.now in
+    let s = the_schema c.args.tables.now.names.now in
     let (n, k) = c.requires.named in
     let lt = number-within s n c.args.part k in
     let long = length-map c.args.tables.now.names.now.schema.now.declarations.items declaration_of in
@@ -24,7 +25,7 @@ declaration-requires c =
 
 pub add_underlying-requires-clause-within : goal.add_underlying-requires-clause-within
 add_underlying-requires-clause-within c =
-    let s = schema_at c.args.tables.now in
+    let s = the_schema c.args.tables.now.names.now in
     let (n, k) = c.requires.named in
     let at =
     subst (λ d. IsAt s c.args.part (declaration_of d)) c.in-Type.is
@@ -34,7 +35,7 @@ add_underlying-requires-clause-within c =
 
 pub returns-in_ok-push-in-Entity : goal.returns-in_ok-push-in-Entity
 returns-in_ok-push-in-Entity c n k =
-    let s = schema_at c.args.tables.now in
+    let s = the_schema c.args.tables.now.names.now in
     let w = c.args.is_of_select in
     let old = c.args.atoms.now.items in
     let at =
@@ -47,7 +48,7 @@ returns-in_ok-push-in-Entity c n k =
 
 pub returns-in-Skipped : goal.returns-in-Skipped
 returns-in-Skipped c n k =
-    let s = schema_at c.args.tables.now in
+    let s = the_schema c.args.tables.now.names.now in
     let at =
     subst (λ d. IsAt s c.args.part (declaration_of d)) c.in-Skipped.is
     (mapped-at declaration_of c.args.tables.now.names.now.schema.now.declarations.items c.args.part c.declaration.result.now

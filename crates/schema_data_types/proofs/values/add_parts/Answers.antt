@@ -1,8 +1,9 @@
 use Rattle.std.proofs.Common.{◌≡◌, ◌<◌, ◌++◌, ◌∷◌, [], take, sym, subst, length, arith, get_or}
 use Rattle.std.proofs.lemmas.List.{take_all, get_or_default}
 use Rattle.digraph.proofs.Found.{at-member}
+use Rattle.schema_names.specs.Schemas.{the_schema}
 use Rattle.schema_names.proofs.Rows.{take-more}
-use Rattle.schema_data_types.specs.Values.{AddsAll, schema_at}
+use Rattle.schema_data_types.specs.Values.{AddsAll}
 use Rattle.schema_data_types.specs.Leaves.{Gives, OneGives}
 use Rattle.schema_data_types.proofs.Sets.{adds-alike, adds-both}
 use Rattle.schema_data_types.proofs.Declared.{one-more}
@@ -16,7 +17,7 @@ add_part-requires-clause-named c =
 
 pub loop-part-preserved : goal.loop-part-preserved
 loop-part-preserved c =
-    let s = schema_at c.args.tables.now in
+    let s = the_schema c.args.tables.now.names.now in
     let w = c.args.is_of_select in
     let row = c.args.row.now in
     let at = c.loop-part.part-index in
@@ -33,6 +34,6 @@ loop-part-preserved c =
 
 pub returns : goal.returns
 returns c =
-    let s = schema_at c.args.tables.now in
+    let s = the_schema c.args.tables.now.names.now in
     subst (λ xs. AddsAll s c.args.atoms.now.items (OneGives s xs c.args.is_of_select) c.loop-part.atoms.items)
     (take_all c.loop-part.part-index c.args.row.now c.loop-part-test.false) c.loop-part.invariant

@@ -5,11 +5,12 @@ use Rattle.std.proofs.lemmas.Result.{on_ok_weaker}
 use Rattle.digraph.specs.Graphs.{graph_of}
 use Rattle.express_syntax.specs.Views.{names_of, data_type_of, underlying_of}
 use Rattle.schema_semantics.specs.Names.{StandsFor}
+use Rattle.schema_names.specs.Schemas.{the_schema}
 use Rattle.schema_names.proofs.Numbers.{one-name}
 use Rattle.schema_data_types.specs.declared.values.Sort.TheVariants as sorts
 use Rattle.schema_data_types.specs.declared.values.Atom.TheVariants as atoms
 use Rattle.schema_data_types.specs.Numbered.{form_in, all_data_types}
-use Rattle.schema_data_types.specs.Values.{AddsAll, schema_at}
+use Rattle.schema_data_types.specs.Values.{AddsAll}
 use Rattle.schema_data_types.specs.Leaves.{LeafGives, Gives}
 use Rattle.schema_data_types.proofs.Sets.{adds-atom, adds-nothing, adds-alike}
 use Rattle.schema_data_types.proofs.Declared.{underlying-at, gives-item, gives-none, gives-leaf}
@@ -17,7 +18,7 @@ use Rattle.schema_data_types.proofs.values.add_underlying.Goals as goal
 
 pub returns-in_ok-push-in-Enumeration : goal.returns-in_ok-push-in-Enumeration
 returns-in_ok-push-in-Enumeration c n k =
-    let s = schema_at c.args.tables.now in
+    let s = the_schema c.args.tables.now.names.now in
     let w = c.args.is_of_select in
     let old = c.args.atoms.now.items in
     let (m, there, stands) = c.requires.within in
@@ -30,7 +31,7 @@ returns-in_ok-push-in-Enumeration c n k =
 
 pub returns-in-Select : goal.returns-in-Select
 returns-in-Select c n k =
-    let s = schema_at c.args.tables.now in
+    let s = the_schema c.args.tables.now.names.now in
     let w = c.args.is_of_select in
     let (m, there, stands) = c.requires.within in
     let here =
@@ -40,7 +41,7 @@ returns-in-Select c n k =
 
 pub add_leaf-requires-clause-within : goal.add_leaf-requires-clause-within
 add_leaf-requires-clause-within c =
-    let s = schema_at c.args.tables.now in
+    let s = the_schema c.args.tables.now.names.now in
     let (n, there, stands) = c.requires.within in
     let k = data_type_of c.in-DataType.field-0 in
     let is = subst (λ u. StandsFor s n (underlying_of u)) c.in-DataType.is stands in
@@ -54,7 +55,7 @@ add_leaf-requires-clause-within c =
 
 pub returns-in-Some : goal.returns-in-Some
 returns-in-Some c n has =
-    let s = schema_at c.args.tables.now in
+    let s = the_schema c.args.tables.now.names.now in
     let w = c.args.is_of_select in
     let (o, there, stands) = c.requires.within in
     let here =
@@ -70,7 +71,7 @@ returns-in-Some c n has =
 
 pub returns-in-None : goal.returns-in-None
 returns-in-None c n has =
-    let s = schema_at c.args.tables.now in
+    let s = the_schema c.args.tables.now.names.now in
     let (o, there, stands) = c.requires.within in
     let k = data_type_of c.in-DataType.field-0 in
     let is = subst (λ u. StandsFor s o (underlying_of u)) c.in-DataType.is stands in

@@ -1,8 +1,9 @@
 use Rattle.std.proofs.Common.{◌∙◌, ap, sym, subst, get_or, false}
 use Rattle.std.proofs.lemmas.Result.{on_ok_weaker}
 use Rattle.schema_semantics.specs.Shapes.{IsOf}
+use Rattle.schema_names.specs.Schemas.{the_schema}
 use Rattle.schema_data_types.specs.Numbered.{form_in, all_data_types}
-use Rattle.schema_data_types.specs.Values.{AddsAll, schema_at}
+use Rattle.schema_data_types.specs.Values.{AddsAll}
 use Rattle.schema_data_types.specs.Leaves.{LeafGives}
 use Rattle.schema_data_types.proofs.Sets.{adds-alike}
 use Rattle.schema_data_types.proofs.Single.{form-at, form-named, form-leaf, leaf-is, what-is}
@@ -10,7 +11,7 @@ use Rattle.schema_data_types.proofs.values.add_values.Goals as goal
 
 pub add_meant-requires-clause-meant : goal.add_meant-requires-clause-meant
 add_meant-requires-clause-meant c =
-    let s = schema_at c.args.tables.now in
+    let s = the_schema c.args.tables.now.names.now in
     let (k, at) = what-is (all_data_types s) c.args.number c.requires.within in
     let is =
     form-at (form_in s) (all_data_types s) c.args.number k c.index.result.now at
@@ -19,7 +20,7 @@ add_meant-requires-clause-meant c =
 
 pub returns-in-Named : goal.returns-in-Named
 returns-in-Named c k at =
-    let s = schema_at c.args.tables.now in
+    let s = the_schema c.args.tables.now.names.now in
     let is =
     form-at (form_in s) (all_data_types s) c.args.number k c.index.result.now at
     (c.index.ensures ∙ ap (λ fs. get_or fs c.args.number c.index.result.now) c.requires.tables.forms) in
@@ -29,7 +30,7 @@ returns-in-Named c k at =
 
 pub returns-in_default : goal.returns-in_default
 returns-in_default c k at =
-    let s = schema_at c.args.tables.now in
+    let s = the_schema c.args.tables.now.names.now in
     let is =
     form-at (form_in s) (all_data_types s) c.args.number k c.index.result.now at
     (c.index.ensures ∙ ap (λ fs. get_or fs c.args.number c.index.result.now) c.requires.tables.forms) in

@@ -2,7 +2,7 @@ use Rattle.std.proofs.Common.{rules, ◌≡◌, ◌∙◌, length, vec_len, ap, 
 use Rattle.digraph.specs.Graphs.{has}
 use Rattle.digraph.proofs.Found.{has-turned}
 use Rattle.digraph.proofs.RowLists.{row-is}
-use Rattle.schema_data_types.specs.Values.{schema_at}
+use Rattle.schema_names.specs.Schemas.{the_schema}
 use Rattle.schema_data_types.proofs.Leading.{Tells}
 use Rattle.schema_data_types.proofs.Declared.{over-told, parts-within}
 use Rattle.schema_data_types.proofs.values.is_over_select.Goals as goal
@@ -12,13 +12,13 @@ index-requires c =
     let (n, k) = c.requires.named in
     let are = c.requires.tables.parts in
     let selects = c.args.tables.now.parts.now.selects in
-    let lt = parts-within (schema_at c.args.tables.now) (λ v. v.items) selects.items are.graph _ are.drawn are.selects n c.args.part k in
+    let lt = parts-within (the_schema c.args.tables.now.names.now) (λ v. v.items) selects.items are.graph _ are.drawn are.selects n c.args.part k in
     let whole : length selects.items ≡ vec_len selects = search rules in
     omega (arith, lt, whole)
 
 pub returns : goal.returns
 returns c n k =
-    let s = schema_at c.args.tables.now in
+    let s = the_schema c.args.tables.now.names.now in
     let are = c.requires.tables.parts in
     let rows = c.args.tables.now.parts.now.selects.items in
     let within = parts-within s (λ v. v.items) rows are.graph _ are.drawn are.selects n c.args.part k in

@@ -5,8 +5,8 @@ use Rattle.std.proofs.lemmas.List.{length-map}
 use Rattle.std.proofs.lemmas.Option.{slice_get_within}
 use Rattle.express_syntax.specs.ExpressionViews.{capitals}
 use Rattle.express_syntax.specs.Views.{declaration_of}
-use Rattle.express_syntax.specs.SchemaViews.{schema_of}
 use Rattle.schema_names.specs.Numbers.{IsAt}
+use Rattle.schema_names.specs.Schemas.{the_schema}
 use Rattle.schema_names.proofs.Edges.{number-within}
 use Rattle.schema_semantics.specs.Ranks.{IsRankAt}
 use Rattle.schema_names.proofs.Items.{mapped-at}
@@ -15,7 +15,7 @@ use Rattle.schema_derivations.proofs.asked_ranks.rank_at.Goals as goal
 
 pub returns-in_err-declaration : goal.returns-in_err-declaration
 returns-in_err-declaration c = ∣ (λ e k.
-    let s = schema_of c.args.names.now.schema.now in
+    let s = the_schema c.args.names.now in
     let lt = number-within s e c.args.entity k in
     let long = length-map c.args.names.now.schema.now.declarations.items declaration_of in
     let far = none-past c.args.names.now.schema.now.declarations.items c.args.entity (sym c.in_err-declaration.ensures) in
@@ -23,7 +23,7 @@ returns-in_err-declaration c = ∣ (λ e k.
 
 pub returns-in_err-place : goal.returns-in_err-place
 returns-in_err-place c =
-    let s = schema_of c.args.names.now.schema.now in
+    let s = the_schema c.args.names.now in
     let d = c.in_ok-declaration.declaration.now in
     let all = c.args.names.now.schema.now.declarations.items in
     let at : IsAt s c.args.entity (declaration_of d) =
@@ -34,7 +34,7 @@ returns-in_err-place c =
 
 pub rank_behind-requires : goal.rank_behind-requires
 rank_behind-requires c =
-    let s = schema_of c.args.names.now.schema.now in
+    let s = the_schema c.args.names.now in
     let d = c.in_ok-declaration.declaration.now in
     let all = c.args.names.now.schema.now.declarations.items in
     let there = sym c.in_ok-declaration.ensures in
@@ -49,7 +49,7 @@ rank_behind-requires c =
 
 pub returns : goal.returns
 returns c =
-    let s = schema_of c.args.names.now.schema.now in
+    let s = the_schema c.args.names.now in
     let d = c.in_ok-declaration.declaration.now in
     let all = c.args.names.now.schema.now.declarations.items in
     let there = sym c.in_ok-declaration.ensures in

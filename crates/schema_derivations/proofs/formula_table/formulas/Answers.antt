@@ -1,6 +1,6 @@
 use Rattle.std.proofs.Common.{[], map, flat_map, subst}
-use Rattle.express_syntax.specs.SchemaViews.{schema_of}
 use Rattle.express_syntax.specs.Views.{declaration_of}
+use Rattle.schema_names.specs.Schemas.{the_schema}
 use Rattle.schema_derivations.specs.Asked.{deriveds_in}
 use Rattle.schema_derivations.specs.Making.{Adds}
 use Rattle.schema_derivations.proofs.Made.{are-formulas}
@@ -8,7 +8,7 @@ use Rattle.schema_derivations.proofs.formula_table.formulas.Goals as goal
 
 pub returns : goal.returns
 returns c =
-    let s = schema_of c.args.names.now.schema.now in
+    let s = the_schema c.args.names.now in
     let ranks = c.args.ranks.now in
     let new = c.add_all.new.formulas.items in
     record {

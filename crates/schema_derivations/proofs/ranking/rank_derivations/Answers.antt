@@ -4,7 +4,7 @@ use Rattle.std.proofs.lemmas.Map.Steps.{length-le_from_distinct_below}
 use Rattle.std.proofs.lemmas.Result.{IfOk-weaker}
 use Rattle.digraph.specs.Graphs.{graph_of}
 use Rattle.digraph.specs.Orders.{IsOrder, IsTopologicalOrder}
-use Rattle.express_syntax.specs.SchemaViews.{schema_of}
+use Rattle.schema_names.specs.Schemas.{the_schema}
 use Rattle.schema_derivations.proofs.Ranked.{both-ok, are-ranks-of}
 use Rattle.schema_derivations.proofs.ranking.rank_derivations.Goals as goal
 
@@ -37,7 +37,7 @@ returns c =
     let same : length g ≡ length c.args.uses.now = length-map c.args.uses.now (λ v. v.items) in
     let order = subst (IsTopologicalOrder g) (sym c.deref.ensures.value) c.in_ok-order.ensures in
     IfOk-weaker c.ranks_along.result _ _
-    (λ t long. are-ranks-of (schema_of c.args.names.now.schema.now) c.requires.resolved g c.requires.uses
+    (λ t long. are-ranks-of (the_schema c.args.names.now) c.requires.resolved g c.requires.uses
     c.requires.graph c.args.faulty.now c.requires.faulty c.deref.result.now order t.items (long.0 ∙ sym same)
     long.1.0 long.1.1) (both-ok c.ranks_along.result _ _ c.ranks_along.ensures.length (both-ok c.ranks_along.result _ _
     c.ranks_along.ensures.ranks c.ranks_along.ensures.others))

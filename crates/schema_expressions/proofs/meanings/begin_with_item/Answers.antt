@@ -1,14 +1,14 @@
 use Rattle.std.proofs.Common.{◌≡◌, ◌∙◌, ap, sym, Some, slice_get}
 use Rattle.std.specs.Option.{option_copied}
 use Rattle.express_syntax.specs.ExpressionViews.{capitals, of_attribute, of_group, of_element, selection_of, tree_of}
-use Rattle.schema_data_types.specs.Values.{schema_at}
 use Rattle.express_syntax.proofs.Layers.{attribute-selected, group-selected, index-selected}
+use Rattle.schema_names.specs.Schemas.{the_schema}
 use Rattle.schema_expressions.proofs.Choosing.{begins, none-begins}
 use Rattle.schema_expressions.proofs.meanings.begin_with_item.Goals as goal
 
 pub returns-in-Attribute : goal.returns-in-Attribute
 returns-in-Attribute c =
-    let s = schema_at c.args.tables.now in
+    let s = the_schema c.args.tables.now.names.now in
     let n = capitals c.args.defined in
     let a = c.in-Attribute.item in
     let at = sym c.first.ensures.value ∙ ap option_copied c.in-Some.is in
@@ -18,7 +18,7 @@ returns-in-Attribute c =
 
 pub returns-in-Group : goal.returns-in-Group
 returns-in-Group c =
-    let s = schema_at c.args.tables.now in
+    let s = the_schema c.args.tables.now.names.now in
     let n = capitals c.args.defined in
     let e = c.in-Group.field-0 in
     let a = c.in-Group.field-1 in
@@ -29,7 +29,7 @@ returns-in-Group c =
 
 pub returns-in-Index : goal.returns-in-Index
 returns-in-Index c =
-    let s = schema_at c.args.tables.now in
+    let s = the_schema c.args.tables.now.names.now in
     let n = capitals c.args.defined in
     let i = c.in-Index.field-0 in
     let at = sym c.first.ensures.value ∙ ap option_copied c.in-Some.is in
@@ -39,6 +39,6 @@ returns-in-Index c =
 
 pub returns-in_default : goal.returns-in_default
 returns-in_default c =
-    let none = none-begins (schema_at c.args.tables.now) (capitals c.args.defined) c.args.qualifiers.now
+    let none = none-begins (the_schema c.args.tables.now.names.now) (capitals c.args.defined) c.args.qualifiers.now
     (sym c.first.ensures.value ∙ ap option_copied c.in_default.is) in
     (λ h. absurd (cc), λ h. absurd (none h))

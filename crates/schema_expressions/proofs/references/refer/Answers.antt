@@ -5,14 +5,15 @@ use Rattle.express_syntax.specs.ExpressionViews.{qualifiers_of, root_of}
 use Rattle.schema_semantics.specs.Sets.{path_behind}
 use Rattle.schema_data_types.specs.declared.values.Atom.{Atom}
 use Rattle.schema_data_types.specs.Values.{Holds}
-use Rattle.schema_expressions.specs.Scopes.{IsReferred, schema_around, own_in, variables_in}
+use Rattle.schema_references.specs.Taking.{schema_in}
+use Rattle.schema_expressions.specs.Scopes.{IsReferred, own_in, variables_in}
 use Rattle.schema_expressions.specs.Paths.{IsPath}
 use Rattle.schema_expressions.proofs.Choosing.{referred-itself}
 use Rattle.schema_expressions.proofs.references.refer.Goals as goal
 
 pub returns-in_ok-own-in-SelfInstance : goal.returns-in_ok-own-in-SelfInstance
 returns-in_ok-own-in-SelfInstance c =
-    let s = schema_around c.args.scope.now in
+    let s = schema_in c.args.scope.now.known in
     let self = own_in c.args.scope.now in
     let vs = variables_in c.args.scope.now in
     let qs = qualifiers_of c.args.qualifiers.now in

@@ -5,7 +5,8 @@ use Rattle.express_syntax.specs.ExpressionViews.{capitals, qualifiers_of}
 use Rattle.schema_semantics.specs.Shapes.{an_item}
 use Rattle.schema_semantics.specs.Sets.{Only, OfVariable, path_behind, variable, attribute_of_self, item_of_type, item}
 use Rattle.schema_data_types.specs.Values.{Holds}
-use Rattle.schema_expressions.specs.Scopes.{IsReferred, schema_around, own_in, variables_in}
+use Rattle.schema_references.specs.Taking.{schema_in}
+use Rattle.schema_expressions.specs.Scopes.{IsReferred, own_in, variables_in}
 use Rattle.schema_expressions.specs.Meanings.{IsMeaning}
 use Rattle.schema_expressions.specs.Paths.{IsPath}
 use Rattle.schema_expressions.proofs.Walking.{behind-alike, list-same}
@@ -14,7 +15,7 @@ use Rattle.schema_expressions.proofs.references.refer_by_name.Goals as goal
 
 pub returns-in-Variable : goal.returns-in-Variable
 returns-in-Variable c =
-    let s = schema_around c.args.scope.now in
+    let s = schema_in c.args.scope.now.known in
     let self = own_in c.args.scope.now in
     let vs = variables_in c.args.scope.now in
     let n = capitals c.args.name in
@@ -27,7 +28,7 @@ returns-in-Variable c =
 
 pub returns-in-Attribute : goal.returns-in-Attribute
 returns-in-Attribute c =
-    let s = schema_around c.args.scope.now in
+    let s = schema_in c.args.scope.now.known in
     let self = own_in c.args.scope.now in
     let vs = variables_in c.args.scope.now in
     let n = capitals c.args.name in
@@ -39,7 +40,7 @@ returns-in-Attribute c =
 
 pub returns-in-ItemOfType : goal.returns-in-ItemOfType
 returns-in-ItemOfType c =
-    let s = schema_around c.args.scope.now in
+    let s = schema_in c.args.scope.now.known in
     let self = own_in c.args.scope.now in
     let vs = variables_in c.args.scope.now in
     let n = capitals c.args.name in
@@ -54,7 +55,7 @@ returns-in-ItemOfType c =
 
 pub returns-in-Item : goal.returns-in-Item
 returns-in-Item c =
-    let s = schema_around c.args.scope.now in
+    let s = schema_in c.args.scope.now.known in
     let self = own_in c.args.scope.now in
     let vs = variables_in c.args.scope.now in
     let n = capitals c.args.name in
@@ -65,7 +66,7 @@ returns-in-Item c =
 
 pub returns-in-Nothing : goal.returns-in-Nothing
 returns-in-Nothing c =
-    let s = schema_around c.args.scope.now in
+    let s = schema_in c.args.scope.now.known in
     let self = own_in c.args.scope.now in
     let vs = variables_in c.args.scope.now in
     let n = capitals c.args.name in

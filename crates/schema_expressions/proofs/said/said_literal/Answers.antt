@@ -1,7 +1,7 @@
 use Rattle.std.proofs.Common.{◌∙◌, ◌++◌, ◌∷◌, sym, subst}
 use Rattle.std.proofs.lemmas.Option.{MatchOption-at_some, MatchOption-at_none}
 use Rattle.express_syntax.specs.ExpressionViews.{capitals, literal_of}
-use Rattle.express_syntax.specs.SchemaViews.{schema_of}
+use Rattle.schema_names.specs.Schemas.{the_schema}
 use Rattle.schema_expressions.specs.Characters.{AreCharacters, SaysIn}
 use Rattle.schema_expressions.proofs.Capitals.{said-bytes}
 use Rattle.schema_expressions.proofs.Saying.{is-said}
@@ -18,7 +18,7 @@ returns-in_default-2 c n i says k =
 
 pub returns : goal.returns
 returns c =
-    let s = schema_of c.args.names.now.schema.now in
+    let s = the_schema c.args.names.now in
     let chars : AreCharacters (literal_of c.args.literal.now) c.in-Some.items.items =
     MatchOption-at_some _ _ c.in-Some.items c.in-Some.is c.in_ok-items.ensures in
     let text = MatchOption-at_some _ _ c.in-Some-2.text c.in-Some-2.is c.in_ok-text.ensures in

@@ -4,14 +4,15 @@ use Rattle.express_syntax.specs.Trees as trees
 use Rattle.express_syntax.specs.ExpressionViews.{root_of, qualifiers_of, tree_of, trees_of, alternatives_of, literal_of, number_of, capitals}
 use Rattle.schema_semantics.specs.Sets.{Aggregates, May, OfReference}
 use Rattle.schema_data_types.specs.Values.{AddsAll, Holds}
-use Rattle.schema_expressions.specs.Scopes.{schema_around, own_in, variables_in}
+use Rattle.schema_references.specs.Taking.{schema_in}
+use Rattle.schema_expressions.specs.Scopes.{own_in, variables_in}
 use Rattle.express_syntax.proofs.Layers.{literal-seen, signed-seen, reference-seen, parenthesized-seen, query-seen, call-seen, nvl-seen, interval-seen, not-seen, conjunction-seen, disjunction-seen, comparison-seen, aggregate-seen}
 use Rattle.schema_expressions.proofs.Adding.{adds-tree, query-added, both-added}
 use Rattle.schema_expressions.proofs.sets.+add_possible.Goals as goal
 
 pub returns-in-Literal : goal.returns-in-Literal
 returns-in-Literal t c =
-    let s = schema_around c.args.scope.now in
+    let s = schema_in c.args.scope.now.known in
     let self = own_in c.args.scope.now in
     let vs = variables_in c.args.scope.now in
     let old = c.args.atoms.now.items in
@@ -21,7 +22,7 @@ returns-in-Literal t c =
 
 pub returns-in-Signed : goal.returns-in-Signed
 returns-in-Signed t c =
-    let s = schema_around c.args.scope.now in
+    let s = schema_in c.args.scope.now.known in
     let self = own_in c.args.scope.now in
     let vs = variables_in c.args.scope.now in
     let old = c.args.atoms.now.items in
@@ -31,7 +32,7 @@ returns-in-Signed t c =
 
 pub returns-in-Reference : goal.returns-in-Reference
 returns-in-Reference t c =
-    let s = schema_around c.args.scope.now in
+    let s = schema_in c.args.scope.now.known in
     let self = own_in c.args.scope.now in
     let vs = variables_in c.args.scope.now in
     let old = c.args.atoms.now.items in
@@ -42,7 +43,7 @@ returns-in-Reference t c =
 
 pub returns-in-Parenthesized : goal.returns-in-Parenthesized
 returns-in-Parenthesized t c =
-    let s = schema_around c.args.scope.now in
+    let s = schema_in c.args.scope.now.known in
     let self = own_in c.args.scope.now in
     let vs = variables_in c.args.scope.now in
     let old = c.args.atoms.now.items in
@@ -53,7 +54,7 @@ returns-in-Parenthesized t c =
 
 pub returns-in_ok-add_possible-in-Query : goal.returns-in_ok-add_possible-in-Query
 returns-in_ok-add_possible-in-Query t c =
-    let s = schema_around c.args.scope.now in
+    let s = schema_in c.args.scope.now.known in
     let self = own_in c.args.scope.now in
     let vs = variables_in c.args.scope.now in
     let old = c.args.atoms.now.items in
@@ -67,7 +68,7 @@ returns-in_ok-add_possible-in-Query t c =
 
 pub returns-in-Call : goal.returns-in-Call
 returns-in-Call t c =
-    let s = schema_around c.args.scope.now in
+    let s = schema_in c.args.scope.now.known in
     let self = own_in c.args.scope.now in
     let vs = variables_in c.args.scope.now in
     let old = c.args.atoms.now.items in
@@ -77,7 +78,7 @@ returns-in-Call t c =
 
 pub returns-in_ok-add_possible-in-Nvl : goal.returns-in_ok-add_possible-in-Nvl
 returns-in_ok-add_possible-in-Nvl t c =
-    let s = schema_around c.args.scope.now in
+    let s = schema_in c.args.scope.now.known in
     let self = own_in c.args.scope.now in
     let vs = variables_in c.args.scope.now in
     let old = c.args.atoms.now.items in
@@ -92,7 +93,7 @@ returns-in_ok-add_possible-in-Nvl t c =
 
 pub returns-in-Interval : goal.returns-in-Interval
 returns-in-Interval t c =
-    let s = schema_around c.args.scope.now in
+    let s = schema_in c.args.scope.now.known in
     let self = own_in c.args.scope.now in
     let vs = variables_in c.args.scope.now in
     let old = c.args.atoms.now.items in
@@ -102,7 +103,7 @@ returns-in-Interval t c =
 
 pub returns-in-Not : goal.returns-in-Not
 returns-in-Not t c =
-    let s = schema_around c.args.scope.now in
+    let s = schema_in c.args.scope.now.known in
     let self = own_in c.args.scope.now in
     let vs = variables_in c.args.scope.now in
     let old = c.args.atoms.now.items in
@@ -112,7 +113,7 @@ returns-in-Not t c =
 
 pub returns-in-Conjunction : goal.returns-in-Conjunction
 returns-in-Conjunction t c =
-    let s = schema_around c.args.scope.now in
+    let s = schema_in c.args.scope.now.known in
     let self = own_in c.args.scope.now in
     let vs = variables_in c.args.scope.now in
     let old = c.args.atoms.now.items in
@@ -122,7 +123,7 @@ returns-in-Conjunction t c =
 
 pub returns-in-Disjunction : goal.returns-in-Disjunction
 returns-in-Disjunction t c =
-    let s = schema_around c.args.scope.now in
+    let s = schema_in c.args.scope.now.known in
     let self = own_in c.args.scope.now in
     let vs = variables_in c.args.scope.now in
     let old = c.args.atoms.now.items in
@@ -132,7 +133,7 @@ returns-in-Disjunction t c =
 
 pub returns-in-Comparison : goal.returns-in-Comparison
 returns-in-Comparison t c =
-    let s = schema_around c.args.scope.now in
+    let s = schema_in c.args.scope.now.known in
     let self = own_in c.args.scope.now in
     let vs = variables_in c.args.scope.now in
     let old = c.args.atoms.now.items in

@@ -2,15 +2,15 @@ use Rattle.std.proofs.Common.{IfOk, List, ◌∙◌, ap, sym, subst}
 use Rattle.express_syntax.specs.declared.expression.Expr.{Expr}
 use Rattle.express_syntax.specs.ExpressionViews.{tree_of, trees_of}
 use Rattle.schema_semantics.specs.Reasons.{ElementsOf, OfTrees}
-use Rattle.schema_references.specs.Taking.{IsSet}
-use Rattle.schema_expressions.specs.Scopes.{schema_around, own_in, variables_in}
+use Rattle.schema_references.specs.Taking.{IsSet, schema_in}
+use Rattle.schema_expressions.specs.Scopes.{own_in, variables_in}
 use Rattle.express_syntax.proofs.Layers.{aggregate-seen}
 use Rattle.schema_expressions.proofs.Adding.{elements-otherwise}
 use Rattle.schema_expressions.proofs.sets.+possible_elements.Goals as goal
 
 pub returns-in-Aggregate : goal.returns-in-Aggregate
 returns-in-Aggregate t c =
-    let s = schema_around c.args.scope.now in
+    let s = schema_in c.args.scope.now.known in
     let self = own_in c.args.scope.now in
     let vs = variables_in c.args.scope.now in
     let r = c.possible_items.result in
@@ -21,7 +21,7 @@ returns-in-Aggregate t c =
 
 pub returns-in_default : goal.returns-in_default
 returns-in_default t c =
-    let s = schema_around c.args.scope.now in
+    let s = schema_in c.args.scope.now.known in
     let self = own_in c.args.scope.now in
     let vs = variables_in c.args.scope.now in
     subst (λ M. IfOk c.elements_of.result (λ t. IsSet s M t.items)) (sym (elements-otherwise s self vs

@@ -4,8 +4,9 @@ use Rattle.std.proofs.lemmas.Result.{on_ok_weaker}
 use Rattle.schema_semantics.specs.Shapes.{IsOf}
 use Rattle.schema_semantics.specs.Sets.{Elements}
 use Rattle.schema_data_types.specs.declared.values.Atom.TheVariants as atoms
+use Rattle.schema_names.specs.Schemas.{the_schema}
 use Rattle.schema_data_types.specs.Numbered.{form_in, all_data_types}
-use Rattle.schema_data_types.specs.Values.{IsMeant, schema_at}
+use Rattle.schema_data_types.specs.Values.{IsMeant}
 use Rattle.schema_data_types.proofs.Sets.{adds-alike, adds-nothing}
 use Rattle.schema_data_types.proofs.Single.{what-is}
 use Rattle.schema_expressions.proofs.Adding.{elements-meant, no-elements}
@@ -13,7 +14,7 @@ use Rattle.schema_expressions.proofs.sets.add_elements.Goals as goal
 
 pub returns-then-number-len : goal.returns-then-number-len
 returns-then-number-len c =
-    let s = schema_at c.args.tables.now in
+    let s = the_schema c.args.tables.now.names.now in
     let n = c.in-Aggregate.number in
     let w = c.in-Aggregate.field-1 in
     let old = c.args.atoms.now.items in
@@ -27,7 +28,7 @@ returns-then-number-len c =
 
 pub returns-else-number-len : goal.returns-else-number-len
 returns-else-number-len c =
-    let s = schema_at c.args.tables.now in
+    let s = the_schema c.args.tables.now.names.now in
     let n = c.in-Aggregate.number in
     let w = c.in-Aggregate.field-1 in
     let long = ap length c.requires.tables.forms in

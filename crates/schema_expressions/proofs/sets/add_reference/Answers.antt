@@ -2,13 +2,14 @@ use Rattle.std.proofs.Common.{◌∙◌, ◌++◌, ap, sym, subst}
 use Rattle.express_syntax.specs.ExpressionViews.{root_of, qualifiers_of}
 use Rattle.schema_semantics.specs.Sets.{OfReference}
 use Rattle.schema_data_types.specs.Values.{AddsAll}
-use Rattle.schema_expressions.specs.Scopes.{schema_around, own_in, variables_in}
+use Rattle.schema_references.specs.Taking.{schema_in}
+use Rattle.schema_expressions.specs.Scopes.{own_in, variables_in}
 use Rattle.schema_expressions.proofs.Adding.{adds-set}
 use Rattle.schema_expressions.proofs.sets.add_reference.Goals as goal
 
 pub returns : goal.returns
 returns c =
-    let s = schema_around c.args.scope.now in
+    let s = schema_in c.args.scope.now.known in
     let M = OfReference s (own_in c.args.scope.now) (variables_in c.args.scope.now) (root_of c.args.root)
     (qualifiers_of c.args.qualifiers.now) in
     let old = c.args.atoms.now.items in

@@ -3,14 +3,14 @@ use Rattle.std.proofs.lemmas.Result.{IfOk-weaker}
 use Rattle.express_syntax.specs.ExpressionViews.{tree_of}
 use Rattle.schema_semantics.specs.Sets.{Elements, May}
 use Rattle.schema_data_types.specs.Values.{Holds}
-use Rattle.schema_references.specs.Taking.{IsSet}
-use Rattle.schema_expressions.specs.Scopes.{schema_around, own_in, variables_in}
+use Rattle.schema_references.specs.Taking.{IsSet, schema_in}
+use Rattle.schema_expressions.specs.Scopes.{own_in, variables_in}
 use Rattle.schema_expressions.proofs.Adding.{elements-additive, set-alike}
 use Rattle.schema_expressions.proofs.sets.elements_of.Goals as goal
 
 pub returns : goal.returns
 returns c =
-    let s = schema_around c.args.scope.now in
+    let s = schema_in c.args.scope.now.known in
     let M = May s (own_in c.args.scope.now) (variables_in c.args.scope.now) (tree_of c.args.expression.now) in
     let xs = c.deref.result.now in
     IfOk-weaker c.elements.result (λ ys. IsSet s (Elements s (Holds s xs)) ys.items)

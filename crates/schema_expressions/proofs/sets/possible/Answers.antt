@@ -2,13 +2,14 @@ use Rattle.std.proofs.Common.{subst}
 use Rattle.express_syntax.specs.ExpressionViews.{tree_of}
 use Rattle.schema_semantics.specs.Sets.{May}
 use Rattle.schema_data_types.specs.Values.{AddsAll}
-use Rattle.schema_expressions.specs.Scopes.{schema_around, own_in, variables_in}
+use Rattle.schema_references.specs.Taking.{schema_in}
+use Rattle.schema_expressions.specs.Scopes.{own_in, variables_in}
 use Rattle.schema_expressions.proofs.Adding.{set-of}
 use Rattle.schema_expressions.proofs.sets.possible.Goals as goal
 
 pub returns : goal.returns
 returns c =
-    let s = schema_around c.args.scope.now in
+    let s = schema_in c.args.scope.now.known in
     let M = May s (own_in c.args.scope.now) (variables_in c.args.scope.now) (tree_of c.args.expression.now) in
     let new = c.add_possible.new.atoms.items in
     set-of s M new (subst (λ xs. AddsAll s xs M new) c.new-atoms.ensures.items c.in_ok-add_possible.ensures)

@@ -4,7 +4,8 @@ use Rattle.express_syntax.specs.declared.expression.Expr.{Expr}
 use Rattle.express_syntax.specs.ExpressionViews.{trees_of}
 use Rattle.schema_semantics.specs.Reasons.{OfTrees}
 use Rattle.schema_data_types.specs.Values.{AddsAll}
-use Rattle.schema_expressions.specs.Scopes.{schema_around, own_in, variables_in}
+use Rattle.schema_references.specs.Taking.{schema_in}
+use Rattle.schema_expressions.specs.Scopes.{own_in, variables_in}
 use Rattle.schema_expressions.proofs.Adding.{next-tree, set-of}
 use Rattle.schema_expressions.proofs.sets.possible_items.Goals as goal
 
@@ -13,13 +14,13 @@ loop-item-preserved c =
     let xs = c.args.items.now in
     let at = c.loop-item.item-index in
     let lt : at < length xs = omega (arith, c.loop-item-test.true) in
-    next-tree (schema_around c.args.scope.now) (own_in c.args.scope.now) (variables_in c.args.scope.now) xs at c.item-item.result lt
+    next-tree (schema_in c.args.scope.now.known) (own_in c.args.scope.now) (variables_in c.args.scope.now) xs at c.item-item.result lt
     c.item-item.is [] c.loop-item.atoms.items c.add_possible.new.atoms.items c.loop-item.invariant
     c.in_ok-add_possible.ensures
 
 pub returns : goal.returns
 returns c =
-    let s = schema_around c.args.scope.now in
+    let s = schema_in c.args.scope.now.known in
     let M = λ (xs : List Expr). OfTrees s (own_in c.args.scope.now) (variables_in c.args.scope.now) (trees_of xs) in
     set-of s (M c.args.items.now) c.loop-item.atoms.items
     (subst (λ xs. AddsAll s [] (M xs) c.loop-item.atoms.items)

@@ -2,9 +2,9 @@ use Rattle.std.proofs.Common.{sym, subst, ap, length, arith}
 use Rattle.std.proofs.lemmas.List.{length-map}
 use Rattle.digraph.specs.Graphs.{graph_of}
 use Rattle.express_syntax.specs.Views.{declaration_of as declaration_seen}
-use Rattle.express_syntax.specs.SchemaViews.{schema_of}
 use Rattle.express_syntax.specs.declared.fault.NameFault.TheVariants.{SupertypeCycle}
 use Rattle.schema_names.specs.Edges.{IsGraphOf, supertypes_in}
+use Rattle.schema_names.specs.Schemas.{the_schema}
 use Rattle.schema_names.proofs.Edges.{is-graph}
 use Rattle.schema_faults.specs.Shown.{IsShown}
 use Rattle.schema_faults.specs.FirstNamed.{IsFirstNamed}
@@ -13,7 +13,7 @@ use Rattle.schema_faults.proofs.cycles.first_own_supertype.Goals as goal
 
 pub first_named-requires-clause-graph : goal.first_named-requires-clause-graph
 first_named-requires-clause-graph c =
-    let s = schema_of c.args.names.now.schema.now in
+    let s = the_schema c.args.names.now in
     is-graph s supertypes_in (graph_of c.deref.result.now)
     (subst (λ rows. IsGraphOf s supertypes_in (graph_of rows)) (sym c.deref.ensures.value) c.in_ok-supertypes.ensures)
 
@@ -27,7 +27,7 @@ first_named-requires-clause-same c =
 
 pub returns : goal.returns
 returns c =
-    let s = schema_of c.args.names.now.schema.now in
+    let s = the_schema c.args.names.now in
     let g = graph_of c.deref.result.now in
     let drawn =
     subst (λ rows. IsGraphOf s supertypes_in (graph_of rows)) (sym c.deref.ensures.value) c.in_ok-supertypes.ensures in

@@ -4,15 +4,15 @@ use Rattle.std.proofs.lemmas.Result.{err_from_is_err_and}
 use Rattle.express_syntax.specs.ExpressionViews.{capitals}
 use Rattle.express_syntax.specs.Profile.{Every}
 use Rattle.express_syntax.specs.Views.{declaration_of as declaration_seen}
-use Rattle.express_syntax.specs.SchemaViews.{schema_of}
 use Rattle.schema_semantics.specs.Faults.{IsMet, demands_of_declaration}
+use Rattle.schema_names.specs.Schemas.{the_schema}
 use Rattle.schema_faults.specs.Checks.{IsFirstUnmet}
 use Rattle.schema_faults.proofs.Unmet.{met-more, unmet-more, mapped-each}
 use Rattle.schema_faults.proofs.demands.check_demands.Goals as goal
 
 pub loop-declaration-preserved : goal.loop-declaration-preserved
 loop-declaration-preserved c =
-    let s = schema_of c.args.names.now.schema.now in
+    let s = the_schema c.args.names.now in
     let xs = c.args.names.now.schema.now.declarations.items in
     let f = demands_of_declaration in
     let i = c.loop-declaration.declaration-index in
@@ -25,7 +25,7 @@ loop-declaration-preserved c =
 
 pub returns-in_err-check_declaration : goal.returns-in_err-check_declaration
 returns-in_err-check_declaration c =
-    let s = schema_of c.args.names.now.schema.now in
+    let s = the_schema c.args.names.now in
     let xs = c.args.names.now.schema.now.declarations.items in
     let f = demands_of_declaration in
     let i = c.loop-declaration.declaration-index in
@@ -42,7 +42,7 @@ returns-in_err-check_declaration c =
 
 pub returns : goal.returns
 returns c =
-    let s = schema_of c.args.names.now.schema.now in
+    let s = the_schema c.args.names.now in
     let xs = c.args.names.now.schema.now.declarations.items in
     let f = demands_of_declaration in
     let i = c.loop-declaration.declaration-index in

@@ -4,15 +4,15 @@ use Rattle.std.proofs.lemmas.Result.{err_from_is_err_and}
 use Rattle.express_syntax.specs.ExpressionViews.{capitals}
 use Rattle.express_syntax.specs.Profile.{Every}
 use Rattle.express_syntax.specs.Views.{explicit_of, names_of}
-use Rattle.express_syntax.specs.SchemaViews.{schema_of}
 use Rattle.schema_semantics.specs.Faults.{IsMet, demands_of_explicit}
+use Rattle.schema_names.specs.Schemas.{the_schema}
 use Rattle.schema_faults.specs.Checks.{IsFirstUnmet}
 use Rattle.schema_faults.proofs.Unmet.{met-more, unmet-more, mapped-each}
 use Rattle.schema_faults.proofs.entities.check_explicits.Goals as goal
 
 pub loop-explicit-preserved : goal.loop-explicit-preserved
 loop-explicit-preserved c =
-    let s = schema_of c.args.names.now.schema.now in
+    let s = the_schema c.args.names.now in
     let xs = c.args.explicits.now in
     let f = demands_of_explicit (names_of c.args.supertypes.now) in
     let i = c.loop-explicit.explicit-index in
@@ -22,7 +22,7 @@ loop-explicit-preserved c =
 
 pub returns-in_err-check_explicit : goal.returns-in_err-check_explicit
 returns-in_err-check_explicit c =
-    let s = schema_of c.args.names.now.schema.now in
+    let s = the_schema c.args.names.now in
     let xs = c.args.explicits.now in
     let f = demands_of_explicit (names_of c.args.supertypes.now) in
     let i = c.loop-explicit.explicit-index in
@@ -36,7 +36,7 @@ returns-in_err-check_explicit c =
 
 pub returns : goal.returns
 returns c =
-    let s = schema_of c.args.names.now.schema.now in
+    let s = the_schema c.args.names.now in
     let xs = c.args.explicits.now in
     let f = demands_of_explicit (names_of c.args.supertypes.now) in
     let i = c.loop-explicit.explicit-index in

@@ -2,13 +2,13 @@ use Rattle.std.proofs.Common.{rules, ◌∙◌, ap, sym, refl, arith}
 use Rattle.std.specs.List.{list_any}
 use Rattle.digraph.proofs.RowLists.{row-is}
 use Rattle.express_syntax.specs.ExpressionViews.{capitals}
-use Rattle.express_syntax.specs.SchemaViews.{schema_of}
+use Rattle.schema_names.specs.Schemas.{the_schema}
 use Rattle.schema_places.specs.Owned.{declares_at}
 use Rattle.schema_faults.proofs.inherited.has.Goals as goal
 
 pub returns : goal.returns
 returns c =
-    let f = declares_at (schema_of c.args.names.now.schema.now) c.args.meant (capitals c.args.name) in
+    let f = declares_at (the_schema c.args.names.now) c.args.meant (capitals c.args.name) in
     let found = c.in-Some.ensures.lookup in
     let xs = c.deref.result.now in
     let row =

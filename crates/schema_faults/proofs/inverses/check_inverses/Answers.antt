@@ -4,8 +4,8 @@ use Rattle.std.proofs.lemmas.Result.{err_from_is_err_and}
 use Rattle.express_syntax.specs.ExpressionViews.{capitals}
 use Rattle.express_syntax.specs.Profile.{Every}
 use Rattle.express_syntax.specs.Views.{inverse_of}
-use Rattle.express_syntax.specs.SchemaViews.{schema_of}
 use Rattle.schema_semantics.specs.Faults.{IsMet}
+use Rattle.schema_names.specs.Schemas.{the_schema}
 use Rattle.schema_faults.specs.Clauses.{demands_of_own_inverse}
 use Rattle.schema_faults.specs.Checks.{IsFirstUnmet}
 use Rattle.schema_faults.proofs.Unmet.{met-more, unmet-more, mapped-each}
@@ -13,7 +13,7 @@ use Rattle.schema_faults.proofs.inverses.check_inverses.Goals as goal
 
 pub loop-inverse-preserved : goal.loop-inverse-preserved
 loop-inverse-preserved c =
-    let s = schema_of c.args.names.now.schema.now in
+    let s = the_schema c.args.names.now in
     let xs = c.args.inverses.now in
     let f = demands_of_own_inverse in
     let i = c.loop-inverse.inverse-index in
@@ -23,7 +23,7 @@ loop-inverse-preserved c =
 
 pub returns-in_err-check_inverse : goal.returns-in_err-check_inverse
 returns-in_err-check_inverse c =
-    let s = schema_of c.args.names.now.schema.now in
+    let s = the_schema c.args.names.now in
     let xs = c.args.inverses.now in
     let f = demands_of_own_inverse in
     let i = c.loop-inverse.inverse-index in
@@ -37,7 +37,7 @@ returns-in_err-check_inverse c =
 
 pub returns : goal.returns
 returns c =
-    let s = schema_of c.args.names.now.schema.now in
+    let s = the_schema c.args.names.now in
     let xs = c.args.inverses.now in
     let f = demands_of_own_inverse in
     let i = c.loop-inverse.inverse-index in

@@ -1,16 +1,16 @@
 use Rattle.std.proofs.Common.{◌∙◌, sym}
 use Rattle.digraph.specs.Graphs.{graph_of}
 use Rattle.express_syntax.specs.ExpressionViews.{capitals}
-use Rattle.express_syntax.specs.SchemaViews.{schema_of}
+use Rattle.schema_names.specs.Schemas.{the_schema}
 use Rattle.schema_faults.proofs.Deciding.{inverted-met, inverted-unmet}
 use Rattle.schema_faults.proofs.inverses.check_inverted.Goals as goal
 
 pub returns-then-is_inverted : goal.returns-then-is_inverted
 returns-then-is_inverted c =
-    inverted-met (schema_of c.args.names.now.schema.now) (graph_of c.args.above.now) c.requires
+    inverted-met (the_schema c.args.names.now) (graph_of c.args.above.now) c.requires
     (capitals c.args.entity) (capitals c.args.name) (sym c.is_inverted.ensures ∙ c.if-is_inverted.true)
 
 pub returns-else-is_inverted : goal.returns-else-is_inverted
 returns-else-is_inverted c =
-    inverted-unmet (schema_of c.args.names.now.schema.now) (graph_of c.args.above.now) c.requires
+    inverted-unmet (the_schema c.args.names.now) (graph_of c.args.above.now) c.requires
     (capitals c.args.entity) (capitals c.args.name) (sym c.is_inverted.ensures ∙ c.if-is_inverted.false)

@@ -1,10 +1,10 @@
 use Rattle.std.proofs.Common.{flat_map, take}
 use Rattle.express_syntax.specs.Profile.{Every}
-use Rattle.express_syntax.specs.SchemaViews.{schema_of}
 use Rattle.schema_semantics.specs.Faults.{IsMet, an_entity}
+use Rattle.schema_names.specs.Schemas.{the_schema}
 use Rattle.schema_faults.proofs.Unmet.{asked_each}
 use Rattle.schema_faults.proofs.names.check_entities.Given as goal
 
 abbrev pub invariant-loop-word : goal.invariant-loop-word
 invariant-loop-word l =
-    Every (IsMet (schema_of l.names.schema.now)) (flat_map (asked_each an_entity) (take l.word-index l.words))
+    Every (IsMet (the_schema l.names)) (flat_map (asked_each an_entity) (take l.word-index l.words))

@@ -1,16 +1,15 @@
 use Rattle.std.proofs.Common.{◌∙◌, sym}
 use Rattle.express_syntax.specs.ExpressionViews.{capitals}
-use Rattle.express_syntax.specs.SchemaViews.{schema_of}
+use Rattle.schema_names.specs.Schemas.{the_schema}
 use Rattle.schema_faults.proofs.Asking.{type-met, type-unmet}
 use Rattle.schema_faults.proofs.names.check_type.Goals as goal
 
 pub returns-in-Some : goal.returns-in-Some
 returns-in-Some c = (
-  type-met (schema_of c.args.names.now.schema.now) (capitals c.args.word) c.in-Some.field-0
-      (sym c.find.ensures ∙ c.in-Some.is),
+  type-met (the_schema c.args.names.now) (capitals c.args.word) c.in-Some.field-0 (sym c.find.ensures ∙ c.in-Some.is),
   tt,
 )
 
 pub returns-in-None : goal.returns-in-None
 returns-in-None c =
-    type-unmet (schema_of c.args.names.now.schema.now) (capitals c.args.word) (sym c.find.ensures ∙ c.in-None.is)
+    type-unmet (the_schema c.args.names.now) (capitals c.args.word) (sym c.find.ensures ∙ c.in-None.is)

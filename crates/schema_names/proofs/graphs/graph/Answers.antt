@@ -3,16 +3,16 @@ use Rattle.std.proofs.lemmas.List.{take_all}
 use Rattle.digraph.specs.Graphs.{graph_of}
 use Rattle.express_syntax.specs.Schemas.{Declaration}
 use Rattle.express_syntax.specs.Views.{declaration_of as declaration_seen}
-use Rattle.express_syntax.specs.SchemaViews.{schema_of}
 use Rattle.schema_names.specs.Numbers.{number_of}
 use Rattle.schema_names.specs.Relations.{named_in}
+use Rattle.schema_names.specs.Schemas.{the_schema}
 use Rattle.schema_names.proofs.Rows.{rows-more}
 use Rattle.schema_names.proofs.Edges.{graph-of}
 use Rattle.schema_names.proofs.graphs.graph.Goals as goal
 
 pub loop-declaration-preserved : goal.loop-declaration-preserved
 loop-declaration-preserved c =
-    let s = schema_of c.args.names.now.schema.now in
+    let s = the_schema c.args.names.now in
     let xs = c.declarations-declaration-items.result.now in
     let at = c.loop-declaration.declaration-index in
     let lt : at < length xs = omega (arith, c.loop-declaration-test.true) in
@@ -23,7 +23,7 @@ loop-declaration-preserved c =
 
 pub returns : goal.returns
 returns c =
-    let s = schema_of c.args.names.now.schema.now in
+    let s = the_schema c.args.names.now in
     let row : Declaration → List ℕ = λ d. filter_map (number_of s) (named_in c.args.relation d) in
     let whole =
     take_all c.loop-declaration.declaration-index c.declarations-declaration-items.result.now c.loop-declaration-test.false in

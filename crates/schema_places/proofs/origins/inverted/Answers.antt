@@ -3,7 +3,7 @@ use Rattle.std.specs.List.{find}
 use Rattle.digraph.specs.Graphs.{graph_of}
 use Rattle.digraph.proofs.RowLists.{row-is}
 use Rattle.express_syntax.specs.ExpressionViews.{capitals}
-use Rattle.express_syntax.specs.SchemaViews.{schema_of}
+use Rattle.schema_names.specs.Schemas.{the_schema}
 use Rattle.schema_places.specs.declared.own.Meant.TheVariants.{Explicit}
 use Rattle.schema_places.specs.Owned.{declares_at}
 use Rattle.schema_places.proofs.Nearest.{nearest-is}
@@ -11,7 +11,7 @@ use Rattle.schema_places.proofs.origins.inverted.Goals as goal
 
 pub returns : goal.returns
 returns c q ent number =
-    let s = schema_of c.args.names.now.schema.now in
+    let s = the_schema c.args.names.now in
     let a = capitals c.args.attribute in
     let row = row-is (λ v. v.items) c.args.lines.now c.args.entity c.index-lines-entity.result c.deref.result.now
     c.requires.within c.index-lines-entity.is c.deref.ensures.value in

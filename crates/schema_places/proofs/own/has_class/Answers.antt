@@ -1,11 +1,11 @@
 use Rattle.std.proofs.Common.{◌∙◌}
 use Rattle.express_syntax.specs.ExpressionViews.{capitals}
-use Rattle.express_syntax.specs.SchemaViews.{schema_of}
 use Rattle.schema_names.specs.OwnNames.{names_at}
+use Rattle.schema_names.specs.Schemas.{the_schema}
 use Rattle.schema_places.proofs.Classes.{includes-turned}
 use Rattle.schema_places.proofs.own.has_class.Goals as goal
 
 pub returns-in-Some : goal.returns-in-Some
 returns-in-Some c =
     c.in-Some.ensures
-    ∙ includes-turned (names_at (schema_of c.args.names.now.schema.now) c.args.class c.args.number) (capitals c.args.name)
+    ∙ includes-turned (names_at (the_schema c.args.names.now) c.args.class c.args.number) (capitals c.args.name)

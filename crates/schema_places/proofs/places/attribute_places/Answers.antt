@@ -1,8 +1,8 @@
 use Rattle.std.proofs.Common.{rules, ◌≡◌, ◌∙◌, ◌<◌, sym, subst, length, vec_len}
 use Rattle.digraph.specs.Graphs.{graph_of}
 use Rattle.digraph.specs.Orders.{IsTopologicalOrder}
-use Rattle.express_syntax.specs.SchemaViews.{schema_of}
 use Rattle.schema_names.specs.Edges.{supertypes_in}
+use Rattle.schema_names.specs.Schemas.{the_schema}
 use Rattle.schema_names.proofs.Edges.{is-graph}
 use Rattle.schema_places.specs.Places.{places_of, AreRows}
 use Rattle.schema_places.proofs.Below.{below-rows, places-many}
@@ -11,24 +11,24 @@ use Rattle.schema_places.proofs.places.attribute_places.Goals as goal
 
 pub order-requires-clause-graph : goal.order-requires-clause-graph
 order-requires-clause-graph c =
-    is-graph (schema_of c.args.names.now.schema.now) supertypes_in (graph_of c.args.supertypes.now) c.requires.graph
+    is-graph (the_schema c.args.names.now) supertypes_in (graph_of c.args.supertypes.now) c.requires.graph
 
 pub tables-requires-clause-graph : goal.tables-requires-clause-graph
 tables-requires-clause-graph c =
-    is-graph (schema_of c.args.names.now.schema.now) supertypes_in (graph_of c.args.supertypes.now) c.requires.graph
+    is-graph (the_schema c.args.names.now) supertypes_in (graph_of c.args.supertypes.now) c.requires.graph
 
 pub tables-requires-clause-below : goal.tables-requires-clause-below
 tables-requires-clause-below c a b step =
     let places = c.in_ok-places.field-0.places.items in
     let whole : length places ≡ vec_len c.in_ok-places.field-0.places = search rules in
     subst (λ n. b < n) (places-many places ∙ whole ∙ sym c.len.ensures)
-    (below-rows (places_of places) (schema_of c.args.names.now.schema.now).declarations (graph_of c.deref-2.result.now)
-    (subst (λ rows. AreRows (places_of places) (schema_of c.args.names.now.schema.now).declarations (graph_of rows))
+    (below-rows (places_of places) (the_schema c.args.names.now).declarations (graph_of c.deref-2.result.now)
+    (subst (λ rows. AreRows (places_of places) (the_schema c.args.names.now).declarations (graph_of rows))
     (sym c.deref-2.ensures.value) c.in_ok-places.ensures.own) a b step)
 
 pub returns-clause-rows : goal.returns-clause-rows
 returns-clause-rows c =
-    let s = schema_of c.args.names.now.schema.now in
+    let s = the_schema c.args.names.now in
     let places = places_of c.in_ok-places.field-0.places.items in
     have-places s c.requires.resolved (graph_of c.args.supertypes.now) c.requires.graph places
     c.in_ok-places.ensures.places (graph_of c.deref-2.result.now) (graph_of c.in_ok-rows.rows.items) c.deref.result.now
@@ -39,6 +39,6 @@ returns-clause-rows c =
 
 pub returns-clause-own : goal.returns-clause-own
 returns-clause-own c =
-    let s = schema_of c.args.names.now.schema.now in
+    let s = the_schema c.args.names.now in
     subst (λ all. AreRows all s.declarations (graph_of c.in_ok-places.field-0.own.items)) c.in_ok-places.ensures.places
     c.in_ok-places.ensures.own

@@ -1,9 +1,10 @@
 use Rattle.std.proofs.Common.{◌<◌, ◌↔◌, length, arith, get_or, None, subst}
 use Rattle.std.proofs.lemmas.List.{take_all, get_or_default}
 use Rattle.schema_semantics.specs.Shapes.{Atom}
+use Rattle.schema_names.specs.Schemas.{the_schema}
 use Rattle.schema_names.proofs.Edges.{within}
 use Rattle.schema_data_types.specs.Numbered.{all_data_types}
-use Rattle.schema_data_types.specs.Values.{Holds, schema_at}
+use Rattle.schema_data_types.specs.Values.{Holds}
 use Rattle.schema_references.specs.Gathering.{IsOfOne}
 use Rattle.schema_references.proofs.Filtering.{among-at}
 use Rattle.schema_references.proofs.Gathered.{values-more}
@@ -11,7 +12,7 @@ use Rattle.schema_references.proofs.gathering.values_of.Goals as goal
 
 pub add_values-requires-clause-within : goal.add_values-requires-clause-within
 add_values-requires-clause-within c =
-    let s = schema_at c.args.tables.now in
+    let s = the_schema c.args.tables.now.names.now in
     let at = c.loop-declaration.declaration-index in
     let lt : at < length c.args.declarations.now = omega (arith, c.loop-declaration-test.true) in
     let x = get_or c.args.declarations.now at (record { entity = 0; data_type = 0; derivation = None }) in
@@ -20,7 +21,7 @@ add_values-requires-clause-within c =
 
 pub loop-declaration-preserved : goal.loop-declaration-preserved
 loop-declaration-preserved c =
-    let s = schema_at c.args.tables.now in
+    let s = the_schema c.args.tables.now.names.now in
     let xs = c.args.declarations.now in
     let at = c.loop-declaration.declaration-index in
     let lt : at < length xs = omega (arith, c.loop-declaration-test.true) in
@@ -31,7 +32,7 @@ loop-declaration-preserved c =
 
 pub returns : goal.returns
 returns c =
-    let s = schema_at c.args.tables.now in
+    let s = the_schema c.args.tables.now.names.now in
     subst (λ xs. (a : Atom) → Holds s c.loop-declaration.atoms.items a ↔ IsOfOne s xs a)
     (take_all c.loop-declaration.declaration-index c.args.declarations.now c.loop-declaration-test.false)
     c.loop-declaration.invariant

@@ -2,12 +2,13 @@ use Rattle.std.proofs.Common.{map, take}
 use Rattle.express_syntax.specs.Schemas.{Entity, entity}
 use Rattle.express_syntax.specs.Views.{inverse_of}
 use Rattle.schema_names.specs.Numbers.{IsAt}
-use Rattle.schema_rules.specs.Sources.{schema_at}
+use Rattle.schema_references.specs.Taking.{schema_in}
 use Rattle.schema_rules.specs.Making.{Adds, inverses_of, IsInverse}
 use Rattle.schema_rules.proofs.inverses.add_inverses.Given as goal
 
 abbrev pub invariant-loop-inverse : goal.invariant-loop-inverse
 invariant-loop-inverse l =
-    (e : Entity) → IsAt (schema_at l.sources) l.entity (entity e)
-    → Adds (IsInverse (schema_at l.sources)) (inverses_of e.name (map inverse_of (take l.inverse-index l.inverses)))
+    (e : Entity) → IsAt (schema_in l.sources.known) l.entity (entity e)
+    → Adds (IsInverse (schema_in l.sources.known))
+    (inverses_of e.name (map inverse_of (take l.inverse-index l.inverses)))
     l.initial.attributes.items l.attributes.items

@@ -1,11 +1,11 @@
 use Rattle.express_syntax.specs.Views.{inverse_of}
-use Rattle.schema_rules.specs.Sources.{schema_at}
+use Rattle.schema_references.specs.Taking.{schema_in}
 use Rattle.schema_rules.proofs.Inverting.{is-inverse}
 use Rattle.schema_rules.proofs.inverses.inverse_attribute.Goals as goal
 
 pub returns : goal.returns
 returns c e at =
-    let s = schema_at c.args.sources.now in
+    let s = schema_in c.args.sources.now.known in
     let (p, inverts, placed) = c.inverted_place.ensures in
     is-inverse s c.requires.sources.known.resolved e (inverse_of c.args.inverse.now) _ p at c.requires.name
     c.gathering_of.ensures c.entity_number.ensures inverts placed

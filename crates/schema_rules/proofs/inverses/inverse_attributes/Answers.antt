@@ -3,7 +3,7 @@ use Rattle.std.proofs.lemmas.List.{length-map}
 use Rattle.express_syntax.specs.Views.{declaration_of}
 use Rattle.express_syntax.specs.Profile.{Every}
 use Rattle.conformance.specs.Rules.{IsInverseAttribute, InTurn, declared_inverses}
-use Rattle.schema_rules.specs.Sources.{schema_at}
+use Rattle.schema_references.specs.Taking.{schema_in}
 use Rattle.schema_rules.specs.Seen.{inverse_seen, IsNumberedInverse}
 use Rattle.schema_rules.specs.Making.{IsInverse}
 use Rattle.schema_rules.proofs.Turns.{each-row, each-seen}
@@ -21,7 +21,7 @@ add_all-requires-clause-all c = ap (map declaration_of) c.declarations-declarati
 
 pub returns-clause-seen : goal.returns-clause-seen
 returns-clause-seen c d is =
-    let s = schema_at c.args.sources.now in
+    let s = schema_in c.args.sources.now.known in
     let (rows, all, turn) = c.in_ok-add_all.ensures in
     subst (λ rs. InTurn (IsInverseAttribute s d) (declared_inverses s) (map (inverse_seen s) rs))
     (sym (all ∙ ap (λ xs. xs ++ rows) c.new-attributes.ensures.items))
@@ -30,7 +30,7 @@ returns-clause-seen c d is =
 
 pub returns-clause-numbered : goal.returns-clause-numbered
 returns-clause-numbered c =
-    let s = schema_at c.args.sources.now in
+    let s = schema_in c.args.sources.now.known in
     let (rows, all, turn) = c.in_ok-add_all.ensures in
     subst (Every (IsNumberedInverse s)) (sym (all ∙ ap (λ xs. xs ++ rows) c.new-attributes.ensures.items))
     (each-row (IsInverse s) (IsNumberedInverse s) (λ x r h. h.numbered) (declared_inverses s) rows turn)

@@ -7,18 +7,18 @@ use Rattle.schema_semantics.specs.Faults.{holder_of}
 use Rattle.schema_semantics.specs.Attributes.{IsInverted}
 use Rattle.schema_names.specs.Numbers.{HasNumber}
 use Rattle.schema_names.proofs.Edges.{number-within}
-use Rattle.schema_rules.specs.Sources.{schema_at}
+use Rattle.schema_references.specs.Taking.{schema_in}
 use Rattle.schema_rules.proofs.Placed.{is-some, number-some, number-is, place-there}
 use Rattle.schema_rules.proofs.Inverting.{first-holds}
 use Rattle.schema_rules.proofs.inverses.inverted_place.Goals as goal
 
 pub entity_number-holder-requires : goal.entity_number-holder-requires
 entity_number-holder-requires c =
-    subst (IsEntity (schema_at c.args.sources.now)) (sym c.holder.ensures) c.requires.known.inverted.1.0
+    subst (IsEntity (schema_in c.args.sources.now.known)) (sym c.holder.ensures) c.requires.known.inverted.1.0
 
 pub inverted-requires-clause-within : goal.inverted-requires-clause-within
 inverted-requires-clause-within c =
-    let s = schema_at c.args.sources.now in
+    let s = schema_in c.args.sources.now.known in
     let bound =
     number-within s (capitals c.holder.result) c.entity_number-holder.result c.entity_number-holder.ensures in
     let each = c.requires.sources.each in
@@ -27,7 +27,7 @@ inverted-requires-clause-within c =
 
 pub unwrap-entity-requires : goal.unwrap-entity-requires
 unwrap-entity-requires c =
-    let s = schema_at c.args.sources.now in
+    let s = schema_in c.args.sources.now.known in
     let x = inverse_of c.args.inverse.now in
     let j = c.entity_number-holder.result in
     let (p, inverts) = c.requires.known.inverted in
@@ -37,7 +37,7 @@ unwrap-entity-requires c =
 
 pub unwrap-requires : goal.unwrap-requires
 unwrap-requires c =
-    let s = schema_at c.args.sources.now in
+    let s = schema_in c.args.sources.now.known in
     let x = inverse_of c.args.inverse.now in
     let j = c.entity_number-holder.result in
     let (p, k, (_, line, _, first)) =
@@ -51,7 +51,7 @@ unwrap-requires c =
 
 pub returns : goal.returns
 returns c =
-    let s = schema_at c.args.sources.now in
+    let s = schema_in c.args.sources.now.known in
     let x = inverse_of c.args.inverse.now in
     let j = c.entity_number-holder.result in
     let (p, k, (ent, line, lines, first)) =

@@ -3,15 +3,15 @@ use Rattle.std.specs.List.{find}
 use Rattle.digraph.specs.Graphs.{graph_of, next}
 use Rattle.express_syntax.specs.ExpressionViews.{capitals}
 use Rattle.schema_places.specs.Places.{places_of}
+use Rattle.schema_references.specs.Taking.{schema_in}
 use Rattle.schema_uses.specs.Speaking.{has_name}
 use Rattle.schema_uses.proofs.OwnRows.{own-found}
-use Rattle.schema_rules.specs.Sources.{schema_at}
 use Rattle.schema_rules.proofs.Placed.{number-of}
 use Rattle.schema_rules.proofs.places.own_place.Goals as goal
 
 pub returns : goal.returns
 returns c p ent k =
-    let s = schema_at c.args.sources.now in
+    let s = schema_in c.args.sources.now.known in
     let a = capitals c.args.name in
     let rows = graph_of c.args.sources.now.own.now in
     let o = c.first_named.result in

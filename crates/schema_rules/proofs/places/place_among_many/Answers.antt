@@ -3,26 +3,26 @@ use Rattle.std.specs.List.{find}
 use Rattle.digraph.specs.Graphs.{graph_of, next}
 use Rattle.express_syntax.specs.ExpressionViews.{capitals}
 use Rattle.schema_places.specs.Places.{places_of}
+use Rattle.schema_references.specs.Taking.{schema_in}
 use Rattle.schema_uses.specs.Speaking.{has_name}
 use Rattle.schema_uses.proofs.OwnRows.{own-found}
-use Rattle.schema_rules.specs.Sources.{schema_at}
 use Rattle.schema_rules.proofs.Placed.{number-of}
 use Rattle.schema_rules.proofs.Searched.{number-found, number-missing}
 use Rattle.schema_rules.proofs.places.place_among_many.Goals as goal
 
 pub returns-then-not-declares_at : goal.returns-then-not-declares_at
 returns-then-not-declares_at c p ent k =
-    number-missing (schema_at c.args.sources.now) c.requires.sources.known.resolved p (capitals c.args.name)
+    number-missing (schema_in c.args.sources.now.known) c.requires.sources.known.resolved p (capitals c.args.name)
     c.args.entity k (sym c.declares_at.ensures ∙ c.if-not-declares_at.true)
 
 pub returns-in-Some : goal.returns-in-Some
 returns-in-Some c p ent k =
-    number-found (schema_at c.args.sources.now) c.requires.sources.known.resolved p (capitals c.args.name)
+    number-found (schema_in c.args.sources.now.known) c.requires.sources.known.resolved p (capitals c.args.name)
     c.in-Some.place (c.in-Some.ensures p k)
 
 pub returns-in-None : goal.returns-in-None
 returns-in-None c p ent k =
-    let s = schema_at c.args.sources.now in
+    let s = schema_in c.args.sources.now.known in
     let a = capitals c.args.name in
     let rows = graph_of c.args.sources.now.own.now in
     let o = c.first_named.result in

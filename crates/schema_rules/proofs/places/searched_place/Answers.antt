@@ -1,11 +1,11 @@
 use Rattle.express_syntax.specs.ExpressionViews.{capitals}
 use Rattle.schema_places.specs.Places.{places_of}
-use Rattle.schema_rules.specs.Sources.{schema_at}
+use Rattle.schema_references.specs.Taking.{schema_in}
 use Rattle.schema_rules.proofs.Searched.{searched-is}
 use Rattle.schema_rules.proofs.places.searched_place.Goals as goal
 
 pub returns : goal.returns
 returns c =
-    searched-is (schema_at c.args.sources.now) (places_of c.args.sources.now.places.now) c.args.entity
+    searched-is (schema_in c.args.sources.now.known) (places_of c.args.sources.now.places.now) c.args.entity
     (capitals c.in-Some.entity) (capitals c.args.name) c.requires.sources.places c.in-Some.ensures c.find_place.result
     c.find_place.ensures

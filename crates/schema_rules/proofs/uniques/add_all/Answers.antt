@@ -3,13 +3,13 @@ use Rattle.std.specs.Prelude.{flat_map}
 use Rattle.std.proofs.lemmas.List.{append-nil, take_all}
 use Rattle.express_syntax.specs.Views.{declaration_of}
 use Rattle.schema_names.proofs.Rows.{flat-joined}
-use Rattle.schema_rules.specs.Sources.{schema_at}
+use Rattle.schema_references.specs.Taking.{schema_in}
 use Rattle.schema_rules.specs.Making.{Adds, of_entity, uniques_by, IsUnique}
 use Rattle.schema_rules.proofs.Turns.{seen-at, adds-none, adds-next, of-entities}
 use Rattle.schema_rules.proofs.uniques.add_all.Goals as goal
 
 pub loop-i-init : goal.loop-i-init
-loop-i-init c = adds-none (IsUnique (schema_at c.args.sources.now)) c.args.rules.now.items
+loop-i-init c = adds-none (IsUnique (schema_in c.args.sources.now.known)) c.args.rules.now.items
 
 pub add_declaration-requires-clause-at : goal.add_declaration-requires-clause-at
 add_declaration-requires-clause-at c =
@@ -22,7 +22,7 @@ add_declaration-requires-clause-at c =
 
 pub loop-i-preserved : goal.loop-i-preserved
 loop-i-preserved c =
-    let s = schema_at c.args.sources.now in
+    let s = schema_in c.args.sources.now.known in
     let xs = c.args.declarations.now in
     let i = c.loop-i.i in
     let x = c.index-declarations-i.result in
@@ -36,7 +36,7 @@ loop-i-preserved c =
 
 pub returns : goal.returns
 returns c =
-    let s = schema_at c.args.sources.now in
+    let s = schema_in c.args.sources.now.known in
     let old = c.args.rules.now.items in
     let new = c.loop-i.rules.items in
     subst (λ ys. Adds (IsUnique s) ys old new) (of-entities uniques_by s.declarations)

@@ -3,20 +3,20 @@ use Rattle.std.proofs.lemmas.List.{take_all, take_more}
 use Rattle.std.proofs.lemmas.Option.{slice_get-get_or}
 use Rattle.express_syntax.specs.ExpressionViews.{capitals}
 use Rattle.schema_places.proofs.Distinct.{at-among}
+use Rattle.schema_references.specs.Taking.{schema_in}
 use Rattle.schema_uses.specs.Speaking.{at_most_one}
-use Rattle.schema_rules.specs.Sources.{schema_at}
 use Rattle.schema_rules.specs.Making.{IsDeclaredBy, AddsPlaces}
 use Rattle.schema_rules.proofs.Placing.{adds-no-place, adds-places, one-declared, declared-joined}
 use Rattle.schema_rules.proofs.uniques.add_declared.Goals as goal
 
 pub loop-entity-init : goal.loop-entity-init
 loop-entity-init c =
-    adds-no-place (schema_at c.args.sources.now) (IsDeclaredBy (schema_at c.args.sources.now) (capitals c.args.name) [])
-    (λ p h. h.2.2) c.args.places.now.items
+    adds-no-place (schema_in c.args.sources.now.known)
+    (IsDeclaredBy (schema_in c.args.sources.now.known) (capitals c.args.name) []) (λ p h. h.2.2) c.args.places.now.items
 
 pub loop-entity-preserved : goal.loop-entity-preserved
 loop-entity-preserved c =
-    let s = schema_at c.args.sources.now in
+    let s = schema_in c.args.sources.now.known in
     let r = c.requires.sources.known.resolved in
     let a = capitals c.args.name in
     let xs = c.args.entities.now in
@@ -33,7 +33,7 @@ loop-entity-preserved c =
 
 pub returns : goal.returns
 returns c =
-    let s = schema_at c.args.sources.now in
+    let s = schema_in c.args.sources.now.known in
     subst (λ xs. AddsPlaces s (IsDeclaredBy s (capitals c.args.name) xs) c.args.places.now.items
     c.loop-entity.places.items) (take_all c.loop-entity.entity-index c.args.entities.now c.loop-entity-test.false)
     c.loop-entity.invariant

@@ -3,16 +3,16 @@ use Rattle.std.proofs.lemmas.Result.{on_ok_weaker}
 use Rattle.express_syntax.specs.ExpressionViews.{capitals}
 use Rattle.express_syntax.specs.Clauses.{name_of}
 use Rattle.express_syntax.specs.Views.{attribute_of}
+use Rattle.schema_references.specs.Taking.{schema_in}
 use Rattle.schema_references.proofs.Holding.{written-name}
 use Rattle.conformance.specs.Rules.{NamesPlace}
-use Rattle.schema_rules.specs.Sources.{schema_at}
 use Rattle.schema_rules.specs.Making.{AreEntities, IsDeclaredBy, AddsPlaces}
 use Rattle.schema_rules.proofs.Placing.{adds-alike, named-entities, names-place}
 use Rattle.schema_rules.proofs.uniques.add_named.Goals as goal
 
 pub add_declared-requires-clause-entities : goal.add_declared-requires-clause-entities
 add_declared-requires-clause-entities c =
-    let s = schema_at c.args.sources.now in
+    let s = schema_in c.args.sources.now.known in
     let x = c.args.attribute in
     let (e, k, known) = c.requires.entity in
     subst (AreEntities s) (sym c.deref.ensures.value)
@@ -21,7 +21,7 @@ add_declared-requires-clause-entities c =
 
 pub returns : goal.returns
 returns c e k known =
-    let s = schema_at c.args.sources.now in
+    let s = schema_in c.args.sources.now.known in
     let x = c.args.attribute in
     let row = c.in_ok-entities.entities.items in
     let old = c.args.places.now.items in

@@ -3,12 +3,12 @@ use Rattle.express_syntax.specs.Schemas.{Entity, entity}
 use Rattle.express_syntax.specs.Views.{unique_of}
 use Rattle.schema_names.specs.Numbers.{IsAt}
 use Rattle.conformance.specs.Rules.{statements_from}
-use Rattle.schema_rules.specs.Sources.{schema_at}
+use Rattle.schema_references.specs.Taking.{schema_in}
 use Rattle.schema_rules.specs.Making.{Adds, IsUnique}
 use Rattle.schema_rules.proofs.uniques.add_uniques.Given as goal
 
 abbrev pub invariant-loop-i : goal.invariant-loop-i
 invariant-loop-i l =
-    (e : Entity) → IsAt (schema_at l.sources) l.entity (entity e)
-    → Adds (IsUnique (schema_at l.sources)) (statements_from e.name 1 (map unique_of (take l.i l.uniques)))
+    (e : Entity) → IsAt (schema_in l.sources.known) l.entity (entity e)
+    → Adds (IsUnique (schema_in l.sources.known)) (statements_from e.name 1 (map unique_of (take l.i l.uniques)))
     l.initial.rules.items l.rules.items

@@ -6,20 +6,20 @@ use Rattle.schema_semantics.specs.Names.{OneOf}
 use Rattle.schema_semantics.specs.Attributes.{Place}
 use Rattle.schema_names.proofs.Rows.{map-joined, take-more}
 use Rattle.conformance.specs.Rules.{NamesPlace}
-use Rattle.schema_rules.specs.Sources.{schema_at}
+use Rattle.schema_references.specs.Taking.{schema_in}
 use Rattle.schema_rules.specs.Making.{ArePlacesOf, AddsPlaces}
 use Rattle.schema_rules.proofs.Placing.{one-more, adds-no-place, adds-places, whole-row}
 use Rattle.schema_rules.proofs.uniques.places_of.Goals as goal
 
 pub loop-attribute-init : goal.loop-attribute-init
 loop-attribute-init c e k known =
-    let s = schema_at c.args.sources.now in
+    let s = schema_in c.args.sources.now.known in
     subst (AddsPlaces s (λ p. OneOf (λ x. NamesPlace s e x p) []) []) (sym c.new-places.ensures.items)
     (adds-no-place s (λ p. OneOf (λ x. NamesPlace s e x p) []) (λ p h. h) [])
 
 pub loop-attribute-preserved : goal.loop-attribute-preserved
 loop-attribute-preserved c e k known =
-    let s = schema_at c.args.sources.now in
+    let s = schema_in c.args.sources.now.known in
     let xs = c.args.attributes.now in
     let i = c.loop-attribute.attribute-index in
     let x = c.attribute-item.result in
@@ -37,7 +37,7 @@ loop-attribute-preserved c e k known =
 
 pub returns : goal.returns
 returns c e k known =
-    let s = schema_at c.args.sources.now in
+    let s = schema_in c.args.sources.now.known in
     let row = c.loop-attribute.places.items in
     subst (λ ys. ArePlacesOf s (λ p. OneOf (λ x. NamesPlace s e x p) (map attribute_of ys)) row)
     (take_all c.loop-attribute.attribute-index c.args.attributes.now c.loop-attribute-test.false)

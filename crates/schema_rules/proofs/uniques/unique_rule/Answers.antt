@@ -3,8 +3,8 @@ use Rattle.express_syntax.specs.Views.{attribute_of, unique_of}
 use Rattle.schema_semantics.specs.Names.{OneOf, IsEntity}
 use Rattle.schema_names.proofs.Numbers.{stands-at}
 use Rattle.schema_references.specs.Naming.{IsNaming}
+use Rattle.schema_references.specs.Taking.{schema_in}
 use Rattle.conformance.specs.Rules.{NamesPlace}
-use Rattle.schema_rules.specs.Sources.{schema_at}
 use Rattle.schema_rules.specs.Making.{ArePlacesOf}
 use Rattle.schema_rules.proofs.Inverting.{own-number}
 use Rattle.schema_rules.proofs.Ruling.{is-unique}
@@ -12,14 +12,14 @@ use Rattle.schema_rules.proofs.uniques.unique_rule.Goals as goal
 
 pub places_of-requires-clause-entity : goal.places_of-requires-clause-entity
 places_of-requires-clause-entity c =
-    let s = schema_at c.args.sources.now in
+    let s = schema_in c.args.sources.now.known in
     let (e, at) = c.requires.entity in
     let k = own-number s c.requires.sources.known.resolved c.args.entity e at in
     (e.name, k, (e, stands-at s e.name c.args.entity k ∙ at))
 
 pub returns : goal.returns
 returns c e at =
-    let s = schema_at c.args.sources.now in
+    let s = schema_in c.args.sources.now.known in
     let r = c.requires.sources.known.resolved in
     let u = c.args.unique.now in
     let k = own-number s r c.args.entity e at in

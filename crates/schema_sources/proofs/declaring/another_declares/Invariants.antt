@@ -1,12 +1,12 @@
 use Rattle.std.proofs.Common.{◌≡◌, drop}
 use Rattle.std.specs.List.{list_any}
 use Rattle.express_syntax.specs.ExpressionViews.{capitals}
-use Rattle.express_syntax.specs.SchemaViews.{schema_of}
+use Rattle.schema_names.specs.Schemas.{the_schema}
 use Rattle.schema_sources.specs.Declaring.{declares_beside}
 use Rattle.schema_sources.proofs.declaring.another_declares.Given as goal
 
 -- what is left decides
 abbrev pub invariant-loop-number : goal.invariant-loop-number
 invariant-loop-number l =
-    list_any (declares_beside (schema_of l.names.schema.now) (capitals l.name) l.first) (drop l.number-index l.numbers)
-    ≡ list_any (declares_beside (schema_of l.names.schema.now) (capitals l.name) l.first) l.numbers
+    list_any (declares_beside (the_schema l.names) (capitals l.name) l.first) (drop l.number-index l.numbers)
+    ≡ list_any (declares_beside (the_schema l.names) (capitals l.name) l.first) l.numbers

@@ -1,7 +1,7 @@
 use Rattle.std.proofs.Common.{◌≡◌, drop}
 use Rattle.std.specs.List.{find}
 use Rattle.express_syntax.specs.ExpressionViews.{capitals}
-use Rattle.express_syntax.specs.SchemaViews.{schema_of}
+use Rattle.schema_names.specs.Schemas.{the_schema}
 use Rattle.schema_places.specs.declared.own.Meant.TheVariants.{All}
 use Rattle.schema_places.specs.Owned.{declares_at}
 use Rattle.schema_sources.proofs.declaring.first_declaring.Given as goal
@@ -9,5 +9,5 @@ use Rattle.schema_sources.proofs.declaring.first_declaring.Given as goal
 -- what is left decides
 abbrev pub invariant-loop-number : goal.invariant-loop-number
 invariant-loop-number l =
-    find (declares_at (schema_of l.names.schema.now) All (capitals l.name)) (drop l.number-index l.numbers)
-    ≡ find (declares_at (schema_of l.names.schema.now) All (capitals l.name)) l.numbers
+    find (declares_at (the_schema l.names) All (capitals l.name)) (drop l.number-index l.numbers)
+    ≡ find (declares_at (the_schema l.names) All (capitals l.name)) l.numbers

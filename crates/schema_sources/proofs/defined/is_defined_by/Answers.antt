@@ -1,5 +1,6 @@
 use Rattle.std.proofs.Common.{◌<◌, length, arith, refl, sym}
 use Rattle.express_syntax.specs.SchemaViews.{schema_of}
+use Rattle.schema_names.specs.Schemas.{the_schema}
 use Rattle.schema_sources.proofs.Members.{not-false}
 use Rattle.schema_sources.proofs.Reading.{as-many}
 use Rattle.schema_sources.proofs.Following.{walks-first, walks-on, walks-here, walks-no-further, walks-few, renamed-within}
@@ -8,12 +9,12 @@ use Rattle.schema_sources.proofs.defined.is_defined_by.Goals as goal
 pub loop-step-init : goal.loop-step-init
 loop-step-init c = record {
   within = c.requires.within;
-  walks = λ m n h k. walks-first (schema_of c.args.names.now.schema.now) m n c.args.number h;
+  walks = λ m n h k. walks-first (the_schema c.args.names.now) m n c.args.number h;
 }
 
 pub returns-then-at-other : goal.returns-then-at-other
 returns-then-at-other c m n h k =
-    let s = schema_of c.args.names.now.schema.now in (
+    let s = the_schema c.args.names.now in (
       (λ t. walks-here s c.requires.resolved m n c.loop-step.at c.loop-step._step c.args.other k
           (c.loop-step.invariant.walks m n h k) c.if-at-other.true),
       (λ l. refl),
@@ -21,7 +22,7 @@ returns-then-at-other c m n h k =
 
 pub returns-in_default : goal.returns-in_default
 returns-in_default c m n h k =
-    let s = schema_of c.args.names.now.schema.now in (
+    let s = the_schema c.args.names.now in (
       (λ t. absurd (not-false t)),
       (λ l. absurd (walks-no-further s c.requires.resolved m n c.loop-step.at c.loop-step._step c.args.other k
           (c.loop-step.invariant.walks m n h k) c.if-at-other.false (sym c.in_default.ensures) l)),

@@ -4,9 +4,9 @@ use Rattle.std.proofs.Common.{rules, refl, ap, sym, ◌∙◌}
 use Rattle.digraph.specs.Graphs.{graph_of}
 use Rattle.express_syntax.specs.ExpressionViews.{capitals}
 use Rattle.express_syntax.specs.Schemas.{Derived}
-use Rattle.express_syntax.specs.SchemaViews.{schema_of}
 use Rattle.express_syntax.specs.Views.{derived_of}
 use Rattle.express_syntax.specs.declared.tree.Derived.{Derived as DerivedTree}
+use Rattle.schema_names.specs.Schemas.{the_schema}
 use Rattle.schema_sources.specs.Deriving.{gives, first_behind}
 use Rattle.schema_sources.proofs.Positions.{position-mapped}
 use Rattle.schema_sources.proofs.Walking.{from-here}
@@ -14,7 +14,7 @@ use Rattle.schema_sources.proofs.derivations.first_behind.Goals as goal
 
 pub loop-n-init : goal.loop-n-init
 loop-n-init c =
-    let s = schema_of c.args.names.now.schema.now in
+    let s = the_schema c.args.names.now in
     let lines = graph_of c.args.lines.now in
     let a = capitals c.args.asked.name in
     let p = c.args.asked.entity in
@@ -24,7 +24,7 @@ loop-n-init c =
 
 pub returns-then-gives : goal.returns-then-gives
 returns-then-gives c =
-    let test = λ (d : DerivedTree). gives (schema_of c.args.names.now.schema.now) (graph_of c.args.lines.now)
+    let test = λ (d : DerivedTree). gives (the_schema c.args.names.now) (graph_of c.args.lines.now)
     (capitals c.args.asked.name) c.args.asked.entity c.args.entity (derived_of d).attribute in
     let xs = c.deriveds_in-deriveds.result.now in
     let n = c.loop-n.n in
@@ -35,7 +35,7 @@ returns-then-gives c =
 
 pub loop-n-preserved : goal.loop-n-preserved
 loop-n-preserved c =
-    let test = λ (d : DerivedTree). gives (schema_of c.args.names.now.schema.now) (graph_of c.args.lines.now)
+    let test = λ (d : DerivedTree). gives (the_schema c.args.names.now) (graph_of c.args.lines.now)
     (capitals c.args.asked.name) c.args.asked.entity c.args.entity (derived_of d).attribute in
     let xs = c.deriveds_in-deriveds.result.now in
     let n = c.loop-n.n in

@@ -1,5 +1,5 @@
 use Rattle.digraph.specs.Graphs.{graph_of}
-use Rattle.schema_sources.specs.Seen.{schema_in}
+use Rattle.schema_names.specs.Schemas.{the_schema}
 use Rattle.schema_sources.proofs.Saying.{attributes-are}
 use Rattle.schema_sources.proofs.existing.attributes_are_said.Goals as goal
 
@@ -7,6 +7,7 @@ pub returns : goal.returns
 returns c formula are =
     let t = c.args.schema.now in
     let known = c.requires.known in
-    attributes-are (schema_in t) known.made.resolved (graph_of c.args.sources.now.lines.items) known.sources.lines
+    attributes-are (the_schema t.names) known.made.resolved (graph_of c.args.sources.now.lines.items)
+    known.sources.lines
     (graph_of t.above.items) known.made.above (graph_of t.places.rows.items) known.made.places c.args.inverses.now
     known.inverses formula are

@@ -1,9 +1,9 @@
 use Rattle.std.proofs.Common.{◌∙◌, ap, sym, subst, List, ℕ}
 use Rattle.digraph.specs.Graphs.{graph_of, next}
 use Rattle.express_syntax.specs.ExpressionViews.{capitals}
+use Rattle.schema_names.specs.Schemas.{the_schema}
 use Rattle.schema_places.specs.declared.own.Meant.TheVariants.{All}
 use Rattle.schema_places.specs.Owned.{declares_at}
-use Rattle.schema_sources.specs.Seen.{schema_in}
 use Rattle.schema_sources.specs.Declaring.{AreDeclaring}
 use Rattle.schema_sources.specs.declared.declaring.Declarer.TheVariants.{One}
 use Rattle.schema_sources.proofs.Membership.{inherits-none, inherits-one, inherits-elsewhere}
@@ -11,7 +11,7 @@ use Rattle.schema_sources.proofs.grouping.inherited.Goals as goal
 
 pub returns-in_default : goal.returns-in_default
 returns-in_default c e k free =
-    let s = schema_in c.args.schema.now in
+    let s = the_schema c.args.schema.now.names in
     let a = capitals c.args.name in
     let above = graph_of c.args.schema.now.above.items in
     let row = c.row_of-row.ensures ∙ ap (λ rows. next (graph_of rows) c.args.entity) c.deref.ensures.value in
@@ -21,7 +21,7 @@ returns-in_default c e k free =
 
 pub returns-then-not-is_among : goal.returns-then-not-is_among
 returns-then-not-is_among c e k free =
-    let s = schema_in c.args.schema.now in
+    let s = the_schema c.args.schema.now.names in
     let a = capitals c.args.name in
     let above = graph_of c.args.schema.now.above.items in
     let row = c.row_of-row.ensures ∙ ap (λ rows. next (graph_of rows) c.args.entity) c.deref.ensures.value in
@@ -31,7 +31,7 @@ returns-then-not-is_among c e k free =
 
 pub returns : goal.returns
 returns c e k free =
-    let s = schema_in c.args.schema.now in
+    let s = the_schema c.args.schema.now.names in
     let a = capitals c.args.name in
     let above = graph_of c.args.schema.now.above.items in
     let row = c.row_of-row.ensures ∙ ap (λ rows. next (graph_of rows) c.args.entity) c.deref.ensures.value in

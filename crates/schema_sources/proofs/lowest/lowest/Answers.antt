@@ -1,7 +1,7 @@
 use Rattle.std.proofs.Common.{arith, None}
 use Rattle.digraph.specs.Graphs.{graph_of}
 use Rattle.express_syntax.specs.ExpressionViews.{capitals}
-use Rattle.schema_sources.specs.Seen.{schema_in}
+use Rattle.schema_names.specs.Schemas.{the_schema}
 use Rattle.schema_sources.specs.Deriving.{derives}
 use Rattle.schema_sources.specs.Lowest.{leads, lowest_from}
 use Rattle.schema_sources.proofs.Least.{lowest-next}
@@ -9,7 +9,7 @@ use Rattle.schema_sources.proofs.lowest.lowest.Goals as goal
 
 pub loop-number-preserved : goal.loop-number-preserved
 loop-number-preserved c =
-    let s = schema_in c.args.schema.now in
+    let s = the_schema c.args.schema.now.names in
     let test = derives s (graph_of c.args.lines.now) (capitals c.args.asked.name) c.args.asked.entity in
     let r = leads (graph_of c.args.schema.now.above.items) in
     lowest-next test r c.args.types.now c.loop-number.number-index c.loop-number.lowest c.with_type-lowest.result

@@ -1,15 +1,14 @@
 use Rattle.std.proofs.Common.{◌≡◌, None, drop}
 use Rattle.digraph.specs.Graphs.{graph_of}
 use Rattle.express_syntax.specs.ExpressionViews.{capitals}
-use Rattle.express_syntax.specs.SchemaViews.{schema_of}
+use Rattle.schema_names.specs.Schemas.{the_schema}
 use Rattle.schema_sources.specs.Deriving.{derives}
 use Rattle.schema_sources.specs.Lowest.{leads, lowest_from}
 use Rattle.schema_sources.proofs.lowest.lowest.Given as goal
 
 abbrev pub invariant-loop-number : goal.invariant-loop-number
 invariant-loop-number l =
-    lowest_from (derives (schema_of l.schema.names.schema.now) (graph_of l.lines) (capitals l.asked.name) l.asked.entity)
+    lowest_from (derives (the_schema l.schema.names) (graph_of l.lines) (capitals l.asked.name) l.asked.entity)
     (leads (graph_of l.schema.above.items)) l.lowest (drop l.number-index l.types)
-    ≡ lowest_from
-    (derives (schema_of l.schema.names.schema.now) (graph_of l.lines) (capitals l.asked.name) l.asked.entity)
+    ≡ lowest_from (derives (the_schema l.schema.names) (graph_of l.lines) (capitals l.asked.name) l.asked.entity)
     (leads (graph_of l.schema.above.items)) None l.types

@@ -2,8 +2,8 @@ use Rattle.std.proofs.Common.{◌≡◌, ◌∙◌, ap, sym, true, false, Some, 
 use Rattle.std.specs.List.{list_all}
 use Rattle.digraph.specs.Graphs.{graph_of}
 use Rattle.express_syntax.specs.ExpressionViews.{capitals}
+use Rattle.schema_names.specs.Schemas.{the_schema}
 use Rattle.schema_bases.specs.Seen.{name_at}
-use Rattle.schema_sources.specs.Seen.{schema_in}
 use Rattle.schema_sources.specs.Deriving.{derives, first_giving}
 use Rattle.schema_sources.specs.Lowest.{leads, is_below}
 use Rattle.schema_sources.proofs.Giving.{derives-first}
@@ -13,7 +13,7 @@ use Rattle.schema_sources.proofs.sources.derived_source.Goals as goal
 pub returns-then-not-is_below_all-clause-source : goal.returns-then-not-is_below_all-clause-source
 returns-then-not-is_below_all-clause-source c inverses =
     let t = c.args.schema.now in
-    let s = schema_in t in
+    let s = the_schema t.names in
     let a = capitals c.args.asked.name in
     let p = c.args.asked.entity in
     let lines = graph_of c.args.sources.now.lines.items in
@@ -31,7 +31,7 @@ returns-then-not-is_below_all-clause-source c inverses =
 pub returns-in-Some-clause-source : goal.returns-in-Some-clause-source
 returns-in-Some-clause-source c inverses =
     let t = c.args.schema.now in
-    let s = schema_in t in
+    let s = the_schema t.names in
     let a = capitals c.args.asked.name in
     let p = c.args.asked.entity in
     let e = c.args.lowest in
@@ -54,7 +54,7 @@ returns-in-Some-clause-source c inverses =
 pub returns-in-Some-clause-numbered : goal.returns-in-Some-clause-numbered
 returns-in-Some-clause-numbered c inverses =
     let t = c.args.schema.now in
-    let s = schema_in t in
+    let s = the_schema t.names in
     let a = capitals c.args.asked.name in
     let p = c.args.asked.entity in
     let e = c.args.lowest in
@@ -73,7 +73,7 @@ returns-in-Some-clause-numbered c inverses =
 pub returns-in-None-clause-source : goal.returns-in-None-clause-source
 returns-in-None-clause-source c inverses =
     let t = c.args.schema.now in
-    let s = schema_in t in
+    let s = the_schema t.names in
     let a = capitals c.args.asked.name in
     let p = c.args.asked.entity in
     let e = c.args.lowest in

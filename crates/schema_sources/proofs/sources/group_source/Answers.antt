@@ -1,7 +1,8 @@
 use Rattle.express_syntax.specs.ExpressionViews.{capitals}
+use Rattle.schema_names.specs.Schemas.{the_schema}
 use Rattle.schema_bases.specs.Seen.{name_at}
 use Rattle.conformance.specs.Attributes.{unclear}
-use Rattle.schema_sources.specs.Seen.{schema_in, types_seen, inverses_seen, source_seen}
+use Rattle.schema_sources.specs.Seen.{types_seen, inverses_seen, source_seen}
 use Rattle.schema_sources.proofs.Membership.{is-declaring, in-group, not-in-group}
 use Rattle.schema_sources.proofs.Answering.{source-of-is}
 use Rattle.schema_sources.proofs.sources.group_source.Goals as goal
@@ -11,13 +12,13 @@ source_of-requires-clause-asked c = c.in-Some.ensures.1
 
 pub source_of-requires-clause-declaring : goal.source_of-requires-clause-declaring
 source_of-requires-clause-declaring c =
-    let s = schema_in c.args.schema.now in
+    let s = the_schema c.args.schema.now.names in
     is-declaring s (inverses_seen s c.args.inverses.now) (types_seen s c.args.types.now) (capitals c.args.entity)
     (capitals c.args.name) (name_at s c.in-Some.entity) c.in-Some.ensures.2
 
 pub returns-in-Some-clause-group : goal.returns-in-Some-clause-group
 returns-in-Some-clause-group c =
-    let s = schema_in c.args.schema.now in
+    let s = the_schema c.args.schema.now.names in
     let inverses = inverses_seen s c.args.inverses.now in
     in-group s inverses (types_seen s c.args.types.now) (capitals c.args.entity) (capitals c.args.name)
     (name_at s c.in-Some.entity) (source_seen s inverses c.source_of.result) c.in-Some.ensures.2
@@ -25,7 +26,7 @@ returns-in-Some-clause-group c =
 
 pub returns-in-Some-clause-value : goal.returns-in-Some-clause-value
 returns-in-Some-clause-value c attributes are =
-    let s = schema_in c.args.schema.now in
+    let s = the_schema c.args.schema.now.names in
     let inverses = inverses_seen s c.args.inverses.now in
     let types = types_seen s c.args.types.now in
     let e = capitals c.args.entity in
@@ -37,13 +38,13 @@ returns-in-Some-clause-value c attributes are =
 
 pub returns-in-None-clause-group : goal.returns-in-None-clause-group
 returns-in-None-clause-group c =
-    let s = schema_in c.args.schema.now in
+    let s = the_schema c.args.schema.now.names in
     not-in-group s (inverses_seen s c.args.inverses.now) (types_seen s c.args.types.now) (capitals c.args.entity)
     (capitals c.args.name) c.in-None.ensures
 
 pub returns-in-None-clause-value : goal.returns-in-None-clause-value
 returns-in-None-clause-value c attributes are =
-    let s = schema_in c.args.schema.now in
+    let s = the_schema c.args.schema.now.names in
     let inverses = inverses_seen s c.args.inverses.now in
     let types = types_seen s c.args.types.now in
     let e = capitals c.args.entity in

@@ -1,8 +1,9 @@
 use Rattle.std.proofs.Common.{◌≡◌, ◌∙◌, ap, sym, None}
 use Rattle.digraph.specs.Graphs.{graph_of}
 use Rattle.express_syntax.specs.ExpressionViews.{capitals}
+use Rattle.schema_names.specs.Schemas.{the_schema}
 use Rattle.schema_bases.specs.Seen.{name_at}
-use Rattle.schema_sources.specs.Seen.{schema_in, types_seen, inverses_seen, source_seen}
+use Rattle.schema_sources.specs.Seen.{types_seen, inverses_seen, source_seen}
 use Rattle.schema_sources.specs.Deriving.{derives}
 use Rattle.schema_sources.specs.Lowest.{leads, lowest_from}
 use Rattle.schema_sources.proofs.Deciding.{is-underived}
@@ -11,7 +12,7 @@ use Rattle.schema_sources.proofs.sources.source_of.Goals as goal
 
 pub derived_source-requires-clause-lowest : goal.derived_source-requires-clause-lowest
 derived_source-requires-clause-lowest c =
-    let s = schema_in c.args.schema.now in
+    let s = the_schema c.args.schema.now.names in
     let a = capitals c.args.asked.name in
     let p = c.args.asked.entity in
     let above = graph_of c.args.schema.now.above.items in
@@ -21,7 +22,7 @@ derived_source-requires-clause-lowest c =
 
 pub stored_source-requires-clause-stored : goal.stored_source-requires-clause-stored
 stored_source-requires-clause-stored c =
-    let s = schema_in c.args.schema.now in
+    let s = the_schema c.args.schema.now.names in
     let a = capitals c.args.asked.name in
     let p = c.args.asked.entity in
     let lines = graph_of c.args.sources.now.lines.items in
@@ -37,15 +38,15 @@ stored_source-requires-clause-stored c =
 
 pub returns-in-Some-clause-source : goal.returns-in-Some-clause-source
 returns-in-Some-clause-source c =
-    c.derived_source.ensures.source (inverses_seen (schema_in c.args.schema.now) c.args.inverses.now)
+    c.derived_source.ensures.source (inverses_seen (the_schema c.args.schema.now.names) c.args.inverses.now)
 
 pub returns-in-Some-clause-numbered : goal.returns-in-Some-clause-numbered
 returns-in-Some-clause-numbered c =
-    c.derived_source.ensures.numbered (inverses_seen (schema_in c.args.schema.now) c.args.inverses.now)
+    c.derived_source.ensures.numbered (inverses_seen (the_schema c.args.schema.now.names) c.args.inverses.now)
 
 pub returns-in-None-clause-source : goal.returns-in-None-clause-source
 returns-in-None-clause-source c =
-    let s = schema_in c.args.schema.now in
+    let s = the_schema c.args.schema.now.names in
     let a = capitals c.args.asked.name in
     let p = c.args.asked.entity in
     let lines = graph_of c.args.sources.now.lines.items in

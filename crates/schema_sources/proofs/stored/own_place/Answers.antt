@@ -7,7 +7,7 @@ use Rattle.schema_places.specs.Places.{places_of}
 use Rattle.schema_bases.specs.Seen.{name_at}
 use Rattle.schema_semantics.specs.Names.{IsEntity}
 use Rattle.schema_names.specs.Numbers.{HasNumber}
-use Rattle.schema_sources.specs.Seen.{schema_in}
+use Rattle.schema_names.specs.Schemas.{the_schema}
 use Rattle.schema_sources.specs.Stored.{IsOwnPlace}
 use Rattle.schema_rules.specs.Ordered.{is_place}
 use Rattle.schema_sources.proofs.Reading.{tree-within}
@@ -16,26 +16,26 @@ use Rattle.schema_sources.proofs.stored.own_place.Goals as goal
 
 pub name-requires : goal.name-requires
 name-requires c =
-    tree-within c.args.schema.now.names.schema.now (name_at (schema_in c.args.schema.now) c.args.asked.entity)
+    tree-within c.args.schema.now.names.schema.now (name_at (the_schema c.args.schema.now.names) c.args.asked.entity)
     c.args.asked.entity c.requires.number
 
 pub returns-in_default : goal.returns-in_default
 returns-in_default c =
-    let s = schema_in c.args.schema.now in
+    let s = the_schema c.args.schema.now.names in
     let (d, at, named) = what-stands s (name_at s c.args.asked.entity) c.args.asked.entity c.requires.number in
     let none : None ≡ Some (name_at s c.args.asked.entity) = c.in_default.ensures d at ∙ named in
     absurd (cc)
 
 pub place_among_many-requires-clause-number : goal.place_among_many-requires-clause-number
 place_among_many-requires-clause-number c =
-    let s = schema_in c.args.schema.now in
+    let s = the_schema c.args.schema.now.names in
     let (d, at, named) = what-stands s (name_at s c.args.asked.entity) c.args.asked.entity c.requires.number in
     let w = word-is c.in-Some.entity (name_at s c.args.asked.entity) (c.in-Some.ensures d at ∙ named) in
     subst (λ n. HasNumber s n c.args.asked.entity) (sym w) c.requires.number
 
 pub place_among_many-requires-clause-entity : goal.place_among_many-requires-clause-entity
 place_among_many-requires-clause-entity c =
-    let s = schema_in c.args.schema.now in
+    let s = the_schema c.args.schema.now.names in
     let (d, at, named) = what-stands s (name_at s c.args.asked.entity) c.args.asked.entity c.requires.number in
     let w = word-is c.in-Some.entity (name_at s c.args.asked.entity) (c.in-Some.ensures d at ∙ named) in
     subst (IsEntity s) (sym w) c.requires.entity
@@ -46,14 +46,14 @@ place_among_many-requires-clause-row c =
 
 pub returns-then-row-gt-FEW : goal.returns-then-row-gt-FEW
 returns-then-row-gt-FEW c =
-    let s = schema_in c.args.schema.now in
+    let s = the_schema c.args.schema.now.names in
     let (d, at, named) = what-stands s (name_at s c.args.asked.entity) c.args.asked.entity c.requires.number in
     let w = word-is c.in-Some.entity (name_at s c.args.asked.entity) (c.in-Some.ensures d at ∙ named) in
     subst (λ n. IsOwnPlace s (n, capitals c.args.asked.name) c.place_among_many.result) w c.place_among_many.ensures
 
 pub returns : goal.returns
 returns c =
-    let s = schema_in c.args.schema.now in
+    let s = the_schema c.args.schema.now.names in
     let p = c.args.asked.entity in
     let a = capitals c.args.asked.name in
     let (d, at, named) = what-stands s (name_at s p) p c.requires.number in

@@ -2,19 +2,19 @@ use Rattle.std.proofs.Common.{◌≡◌, ◌∙◌, ap, sym, Some, true, false, 
 use Rattle.std.specs.List.{find}
 use Rattle.digraph.specs.Graphs.{graph_of, next}
 use Rattle.express_syntax.specs.ExpressionViews.{capitals}
+use Rattle.schema_names.specs.Schemas.{the_schema}
 use Rattle.schema_places.specs.declared.own.Meant.TheVariants.{Explicit}
 use Rattle.schema_places.specs.Places.{places_of, all_places}
 use Rattle.schema_places.proofs.Having.{declared-back}
 use Rattle.schema_rules.specs.Ordered.{is_place}
 use Rattle.schema_rules.proofs.Placing.{place-declared}
 use Rattle.schema_rules.proofs.Searched.{place-is}
-use Rattle.schema_sources.specs.Seen.{schema_in}
 use Rattle.schema_sources.proofs.Keeping.{own-place}
 use Rattle.schema_sources.proofs.stored.place_among_many.Goals as goal
 
 pub returns-then-not-declares_at : goal.returns-then-not-declares_at
 returns-then-not-declares_at c d =
-    let s = schema_in c.args.schema.now in
+    let s = the_schema c.args.schema.now.names in
     let there : true ≡ false =
     sym (declared-back s Explicit (capitals c.args.asked.name) (capitals c.args.entity) c.args.asked.entity
     c.requires.number d) ∙ sym c.declares_at.ensures ∙ c.if-not-declares_at.true in
@@ -22,7 +22,7 @@ returns-then-not-declares_at c d =
 
 pub returns-in-Some : goal.returns-in-Some
 returns-in-Some c =
-    let s = schema_in c.args.schema.now in
+    let s = the_schema c.args.schema.now.names in
     let p = capitals c.args.entity in
     let a = capitals c.args.asked.name in
     let q = c.in-Some.place in
@@ -33,7 +33,7 @@ returns-in-Some c =
 
 pub returns-in-None : goal.returns-in-None
 returns-in-None c =
-    let s = schema_in c.args.schema.now in
+    let s = the_schema c.args.schema.now.names in
     let p = capitals c.args.entity in
     let a = capitals c.args.asked.name in
     let rows = graph_of c.args.schema.now.places.rows.items in

@@ -2,15 +2,16 @@ use Rattle.std.proofs.Common.{sym, subst, refl, Option}
 use Rattle.std.proofs.lemmas.Option.{slice_get_within}
 use Rattle.express_syntax.specs.ExpressionViews.{capitals}
 use Rattle.conformance.specs.Rules.{InverseAttribute}
+use Rattle.schema_names.specs.Schemas.{the_schema}
 use Rattle.schema_bases.specs.Seen.{name_at}
-use Rattle.schema_sources.specs.Seen.{schema_in, inverses_seen, or_unclear}
+use Rattle.schema_sources.specs.Seen.{inverses_seen, or_unclear}
 use Rattle.schema_sources.specs.Stored.{IsStoredAt}
 use Rattle.schema_sources.proofs.Keeping.{inverse-tested, inverse-there, not-stored}
 use Rattle.schema_sources.proofs.stored.stored_source.Goals as goal
 
 pub returns-in-Some-inverse_number-clause-source : goal.returns-in-Some-inverse_number-clause-source
 returns-in-Some-inverse_number-clause-source c =
-    let s = schema_in c.args.schema.now in
+    let s = the_schema c.args.schema.now.names in
     let i = c.args.asked.entity in
     let a = capitals c.args.asked.name in
     let inverses = inverses_seen s c.args.inverses.now in
@@ -22,7 +23,7 @@ returns-in-Some-inverse_number-clause-source c =
 
 pub returns-in-Some-inverse_number-clause-numbered : goal.returns-in-Some-inverse_number-clause-numbered
 returns-in-Some-inverse_number-clause-numbered c =
-    let s = schema_in c.args.schema.now in
+    let s = the_schema c.args.schema.now.names in
     let i = c.args.asked.entity in
     let a = capitals c.args.asked.name in
     let (y, at, first) =
@@ -32,7 +33,7 @@ returns-in-Some-inverse_number-clause-numbered c =
 
 pub returns-in-None-clause-source : goal.returns-in-None-clause-source
 returns-in-None-clause-source c =
-    let s = schema_in c.args.schema.now in
+    let s = the_schema c.args.schema.now.names in
     let i = c.args.asked.entity in
     let a = capitals c.args.asked.name in
     not-stored s (name_at s i) a c.requires.stored (λ d. c.in_default.ensures d)

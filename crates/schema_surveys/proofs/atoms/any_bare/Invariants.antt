@@ -1,6 +1,5 @@
 use Rattle.std.proofs.Common.{◌≡◌, drop, length}
 use Rattle.std.specs.List.{list_any}
-use Rattle.schema_data_types.specs.Values.{schema_at}
 use Rattle.schema_surveys.specs.Questions.{is_bare_atom}
 use Rattle.schema_surveys.proofs.atoms.any_bare.Given as goal
 

@@ -1,14 +1,15 @@
 use Rattle.std.proofs.Common.{◌∙◌, ◌↔◌, IsTrue, ap, sym, subst, length}
 use Rattle.std.proofs.lemmas.List.{length-map}
 use Rattle.schema_semantics.specs.Reasons.{MayBeDeep}
+use Rattle.schema_names.specs.Schemas.{the_schema}
 use Rattle.schema_data_types.specs.Numbered.{form_in, all_data_types}
-use Rattle.schema_data_types.specs.Values.{Holds, schema_at}
+use Rattle.schema_data_types.specs.Values.{Holds}
 use Rattle.schema_surveys.proofs.Members.{deep-decides}
 use Rattle.schema_surveys.proofs.atoms.is_deep.Goals as goal
 
 pub returns : goal.returns
 returns c =
-    let s = schema_at c.args.tables.now in
+    let s = the_schema c.args.tables.now.names.now in
     let xs = c.args.atoms.now in
     let long = ap length c.requires.tables.forms ∙ length-map (all_data_types s) (form_in s) in
     subst (λ b. IsTrue b ↔ MayBeDeep (Holds s xs)) (sym c.any_deep.ensures)

@@ -1,6 +1,7 @@
 use Rattle.std.proofs.lemmas.Result.{IfOk-weaker}
 use Rattle.express_syntax.specs.ExpressionViews.{tree_of}
-use Rattle.schema_expressions.specs.Scopes.{schema_around, own_in, variables_in}
+use Rattle.schema_references.specs.Taking.{schema_in}
+use Rattle.schema_expressions.specs.Scopes.{own_in, variables_in}
 use Rattle.schema_surveys.proofs.Agreeing.{chain}
 use Rattle.schema_surveys.proofs.Tests.{equal-kind, in-kind, other-kind}
 use Rattle.schema_surveys.proofs.comparisons.is_bad_kind.Goals as goal
@@ -9,7 +10,7 @@ pub returns-in-Equal : goal.returns-in-Equal
 returns-in-Equal c =
     let t = c.args.scope.now in
     let is =
-    equal-kind (schema_around t) (own_in t) (variables_in t) (tree_of c.args.left.now) (tree_of c.args.right.now)
+    equal-kind (schema_in t.known) (own_in t) (variables_in t) (tree_of c.args.left.now) (tree_of c.args.right.now)
     c.args.relation c.in-Equal.is in
     IfOk-weaker c.are_deep.result _ _ (λ b h. chain h is) c.are_deep.ensures
 
@@ -17,7 +18,7 @@ pub returns-in-In : goal.returns-in-In
 returns-in-In c =
     let t = c.args.scope.now in
     let is =
-    in-kind (schema_around t) (own_in t) (variables_in t) (tree_of c.args.left.now) (tree_of c.args.right.now)
+    in-kind (schema_in t.known) (own_in t) (variables_in t) (tree_of c.args.left.now) (tree_of c.args.right.now)
     c.args.relation c.in-In.is in
     IfOk-weaker c.are_deep_in.result _ _ (λ b h. chain h is) c.are_deep_in.ensures
 
@@ -25,6 +26,6 @@ pub returns-in_default : goal.returns-in_default
 returns-in_default c =
     let t = c.args.scope.now in
     let is =
-    other-kind (schema_around t) (own_in t) (variables_in t) (tree_of c.args.left.now) (tree_of c.args.right.now)
+    other-kind (schema_in t.known) (own_in t) (variables_in t) (tree_of c.args.left.now) (tree_of c.args.right.now)
     c.args.relation c.in_default.not-Equal c.in_default.not-NotEqual c.in_default.not-In in
     IfOk-weaker c.one_is_unordered.result _ _ (λ b h. chain h is) c.one_is_unordered.ensures

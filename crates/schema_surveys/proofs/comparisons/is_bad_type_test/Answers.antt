@@ -1,7 +1,8 @@
 use Rattle.std.proofs.Common.{◌∙◌, ap, sym}
 use Rattle.express_syntax.specs.ExpressionViews.{tree_of}
 use Rattle.express_syntax.specs.Views.{if_some}
-use Rattle.schema_expressions.specs.Scopes.{schema_around, own_in, variables_in}
+use Rattle.schema_references.specs.Taking.{schema_in}
+use Rattle.schema_expressions.specs.Scopes.{own_in, variables_in}
 use Rattle.schema_surveys.proofs.Agreeing.{chain}
 use Rattle.schema_surveys.proofs.Tests.{not-tested, same-test, nothing-holds, not-holds}
 use Rattle.schema_surveys.proofs.comparisons.is_bad_type_test.Goals as goal
@@ -10,7 +11,7 @@ pub returns-in-None : goal.returns-in-None
 returns-in-None c =
     let t = c.args.scope.now in
     let none = sym c.tested.ensures ∙ ap (if_some (λ x. tree_of x.now)) c.in-None.is in
-    nothing-holds (not-tested (schema_around t) (own_in t) (variables_in t) (tree_of c.args.left.now)
+    nothing-holds (not-tested (schema_in t.known) (own_in t) (variables_in t) (tree_of c.args.left.now)
     (tree_of c.args.right.now) none)
 
 pub returns-in_ok-is_type_test-in-Some : goal.returns-in_ok-is_type_test-in-Some
@@ -18,5 +19,5 @@ returns-in_ok-is_type_test-in-Some c =
     let t = c.args.scope.now in
     let some = sym c.tested.ensures ∙ ap (if_some (λ x. tree_of x.now)) c.in-Some.is in
     chain (not-holds c.in_ok-is_type_test-in-Some.field-0 c.in_ok-is_type_test-in-Some.ensures)
-    (same-test (schema_around t) (own_in t) (variables_in t) (tree_of c.args.left.now) (tree_of c.args.right.now)
+    (same-test (schema_in t.known) (own_in t) (variables_in t) (tree_of c.args.left.now) (tree_of c.args.right.now)
     (tree_of c.in-Some.argument.now) some)

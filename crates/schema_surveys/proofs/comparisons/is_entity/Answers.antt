@@ -1,8 +1,8 @@
 use Rattle.std.proofs.Common.{◌≡◌, ◌∙◌, sym, subst, refl, arith}
 use Rattle.std.proofs.lemmas.List.{length-map}
-use Rattle.express_syntax.specs.SchemaViews.{schema_of}
 use Rattle.express_syntax.specs.Views.{declaration_of, type_of, entity_of, skipped_of}
 use Rattle.schema_names.specs.Numbers.{IsAt}
+use Rattle.schema_names.specs.Schemas.{the_schema}
 use Rattle.schema_names.proofs.Numbers.{stands-at}
 use Rattle.schema_names.proofs.Edges.{number-within}
 use Rattle.schema_data_types.proofs.Declared.{entity-here}
@@ -11,7 +11,7 @@ use Rattle.schema_surveys.proofs.comparisons.is_entity.Goals as goal
 
 pub declaration-requires : goal.declaration-requires
 declaration-requires c =
-    let s = schema_of c.args.names.now.schema.now in
+    let s = the_schema c.args.names.now in
     let (n, k) = c.requires.numbered in
     let lt = number-within s n c.args.part k in
     let long = length-map c.args.names.now.schema.now.declarations.items declaration_of in
@@ -19,7 +19,7 @@ declaration-requires c =
 
 pub returns-in-Entity : goal.returns-in-Entity
 returns-in-Entity c n k =
-    let s = schema_of c.args.names.now.schema.now in
+    let s = the_schema c.args.names.now in
     let at =
     subst (λ d. IsAt s c.args.part (declaration_of d)) c.in-Entity.is
     (mapped-at declaration_of c.args.names.now.schema.now.declarations.items c.args.part c.declaration.result.now
@@ -28,7 +28,7 @@ returns-in-Entity c n k =
 
 pub returns-in-Type : goal.returns-in-Type
 returns-in-Type c n k =
-    let s = schema_of c.args.names.now.schema.now in
+    let s = the_schema c.args.names.now in
     let at =
     subst (λ d. IsAt s c.args.part (declaration_of d)) c.in-Type.is
     (mapped-at declaration_of c.args.names.now.schema.now.declarations.items c.args.part c.declaration.result.now
@@ -37,7 +37,7 @@ returns-in-Type c n k =
 
 pub returns-in-Skipped : goal.returns-in-Skipped
 returns-in-Skipped c n k =
-    let s = schema_of c.args.names.now.schema.now in
+    let s = the_schema c.args.names.now in
     let at =
     subst (λ d. IsAt s c.args.part (declaration_of d)) c.in-Skipped.is
     (mapped-at declaration_of c.args.names.now.schema.now.declarations.items c.args.part c.declaration.result.now

@@ -1,11 +1,12 @@
 use Rattle.express_syntax.specs.ExpressionViews.{tree_of}
-use Rattle.schema_expressions.specs.Scopes.{schema_around, own_in, variables_in}
+use Rattle.schema_references.specs.Taking.{schema_in}
+use Rattle.schema_expressions.specs.Scopes.{own_in, variables_in}
 use Rattle.schema_surveys.proofs.Joined.{finds-comparison}
 use Rattle.schema_surveys.proofs.notes.note_comparison.Goals as goal
 
 pub returns : goal.returns
 returns c =
     let t = c.args.scope.now in
-    finds-comparison (schema_around t) (own_in t) c.args.survey.now c.in_ok-is_bad_test.is_bad_test
+    finds-comparison (schema_in t.known) (own_in t) c.args.survey.now c.in_ok-is_bad_test.is_bad_test
     c.in_ok-is_bad_kind.is_bad_kind (variables_in t) (tree_of c.args.left.now) c.args.relation
     (tree_of c.args.right.now) c.in_ok-is_bad_test.ensures c.in_ok-is_bad_kind.ensures

@@ -2,15 +2,16 @@ use Rattle.std.proofs.Common.{false}
 use Rattle.std.proofs.lemmas.Result.{on_ok_weaker}
 use Rattle.express_syntax.specs.Trees.{interval}
 use Rattle.express_syntax.specs.ExpressionViews.{tree_of}
+use Rattle.schema_references.specs.Taking.{schema_in}
 use Rattle.schema_surveys.specs.Findings.{Finds, at_tree}
-use Rattle.schema_surveys.specs.Questions.{schema_of_context, own_of_context}
+use Rattle.schema_surveys.specs.Questions.{own_of_context}
 use Rattle.schema_surveys.proofs.Around.{around}
 use Rattle.schema_surveys.proofs.Joined.{walks-here}
 use Rattle.schema_surveys.proofs.notes.note_interval_inside.Goals as goal
 
 pub returns : goal.returns
 returns c =
-    let s = schema_of_context c.args.context.now in
+    let s = schema_in c.args.context.now.known in
     let self = own_of_context c.args.context.now in
     on_ok_weaker c.note_interval.result (λ h above below.
     let e = interval (tree_of c.args.low.now) above (tree_of c.args.item.now) below (tree_of c.args.high.now) in

@@ -1,15 +1,15 @@
 use Rattle.std.proofs.Common.{[], sym, subst, refl}
 use Rattle.express_syntax.specs.ExpressionViews.{tree_of}
 use Rattle.schema_semantics.specs.Sets.{Elements, May}
-use Rattle.schema_references.specs.Taking.{IsSet}
+use Rattle.schema_references.specs.Taking.{IsSet, schema_in}
 use Rattle.schema_expressions.specs.Scopes.{inside}
-use Rattle.schema_surveys.specs.Questions.{schema_of_context, own_of_context}
+use Rattle.schema_surveys.specs.Questions.{own_of_context}
 use Rattle.schema_surveys.proofs.variables.push_variable.Goals as goal
 
 pub returns : goal.returns
 returns c =
     let x = c.args.context.now in
-    let s = schema_of_context x in
+    let s = schema_in x.known in
     record {
       variable = record { name = c.args.name; may = c.in_ok-may.may };
       last = c.in_ok-push.ensures.items;

@@ -3,9 +3,9 @@ use Rattle.std.proofs.lemmas.Result.{IfOk-weaker}
 use Rattle.express_syntax.specs.ExpressionViews.{tree_of}
 use Rattle.schema_semantics.specs.Sets.{May}
 use Rattle.schema_data_types.specs.Values.{Holds}
-use Rattle.schema_references.specs.Taking.{IsSet}
+use Rattle.schema_references.specs.Taking.{IsSet, schema_in}
 use Rattle.schema_expressions.specs.Scopes.{inside}
-use Rattle.schema_surveys.specs.Questions.{schema_of_context, own_of_context}
+use Rattle.schema_surveys.specs.Questions.{own_of_context}
 use Rattle.schema_surveys.proofs.Agreeing.{chain, elements-same}
 use Rattle.schema_surveys.proofs.Around.{around}
 use Rattle.schema_surveys.proofs.variables.variable_over.Goals as goal
@@ -13,7 +13,7 @@ use Rattle.schema_surveys.proofs.variables.variable_over.Goals as goal
 pub returns : goal.returns
 returns c =
     let x = c.args.context.now in
-    let s = schema_of_context x in
+    let s = schema_in x.known in
     let vs = inside s c.args.variables.now [] in
     let source = tree_of c.args.source.now in
     let is =

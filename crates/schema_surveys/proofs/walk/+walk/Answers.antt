@@ -4,8 +4,9 @@ use Rattle.std.proofs.lemmas.Result.{on_ok_weaker}
 use Rattle.express_syntax.specs.Trees.{interval, query, comparison}
 use Rattle.express_syntax.specs.ExpressionViews.{capitals, choice_of, tree_of, trees_of, alternatives_of, qualifiers_of}
 use Rattle.schema_names.proofs.Rows.{take-more}
+use Rattle.schema_references.specs.Taking.{schema_in}
 use Rattle.schema_surveys.specs.Findings.{Within, WithinAll, WithinOthers, WithinIndices, Binds, at_tree, Walks}
-use Rattle.schema_surveys.specs.Questions.{is_in, schema_of_context, own_of_context}
+use Rattle.schema_surveys.specs.Questions.{is_in, own_of_context}
 use Rattle.schema_surveys.proofs.Around.{around}
 use Rattle.schema_surveys.proofs.Joined.{walks-none, walks-here, walks-alike, walks-both, walks-query, interval-is, comparison-is}
 use Rattle.schema_surveys.proofs.Parts.{interval-walks, query-walks, comparison-walks}
@@ -17,7 +18,7 @@ survey_all-loop-expression-init t c = walks-none _ _ _ _ (λ vs f h. h)
 
 pub survey_all-loop-expression-preserved : goal.survey_all-loop-expression-preserved
 survey_all-loop-expression-preserved t c =
-    let s = schema_of_context c.args.context.now in
+    let s = schema_in c.args.context.now.known in
     let self = own_of_context c.args.context.now in
     let xs = c.args.expressions.now in
     let at = c.loop-expression.expression-index in
@@ -31,7 +32,7 @@ survey_all-loop-expression-preserved t c =
 
 pub survey_all-returns : goal.survey_all-returns
 survey_all-returns t c =
-    let s = schema_of_context c.args.context.now in
+    let s = schema_in c.args.context.now.known in
     let self = own_of_context c.args.context.now in
     subst (λ ys. Walks s c.args.variables.now.items c.args.survey.now (λ vs f. WithinAll s self f vs (trees_of ys))
     c.loop-expression.variables.items c.loop-expression.survey)
@@ -42,7 +43,7 @@ survey_indices-loop-qualifier-init t c = walks-none _ _ _ _ (λ vs f h. h)
 
 pub survey_indices-loop-qualifier-preserved : goal.survey_indices-loop-qualifier-preserved
 survey_indices-loop-qualifier-preserved t c =
-    let s = schema_of_context c.args.context.now in
+    let s = schema_in c.args.context.now.known in
     let self = own_of_context c.args.context.now in
     let xs = c.args.qualifiers.now in
     let at = c.loop-qualifier.qualifier-index in
@@ -56,7 +57,7 @@ survey_indices-loop-qualifier-preserved t c =
 
 pub survey_indices-returns : goal.survey_indices-returns
 survey_indices-returns t c =
-    let s = schema_of_context c.args.context.now in
+    let s = schema_in c.args.context.now.known in
     let self = own_of_context c.args.context.now in
     subst (λ ys. Walks s c.args.variables.now.items c.args.survey.now (λ vs f. WithinIndices s self f vs (qualifiers_of ys))
     c.loop-qualifier.variables.items c.loop-qualifier.survey)
@@ -67,7 +68,7 @@ survey_alternatives-loop-alternative-init t c = walks-none _ _ _ _ (λ vs f h. h
 
 pub survey_alternatives-loop-alternative-preserved : goal.survey_alternatives-loop-alternative-preserved
 survey_alternatives-loop-alternative-preserved t c =
-    let s = schema_of_context c.args.context.now in
+    let s = schema_in c.args.context.now.known in
     let self = own_of_context c.args.context.now in
     let xs = c.args.alternatives.now in
     let at = c.loop-alternative.alternative-index in
@@ -81,7 +82,7 @@ survey_alternatives-loop-alternative-preserved t c =
 
 pub survey_alternatives-returns : goal.survey_alternatives-returns
 survey_alternatives-returns t c =
-    let s = schema_of_context c.args.context.now in
+    let s = schema_in c.args.context.now.known in
     let self = own_of_context c.args.context.now in
     subst (λ ys. Walks s c.args.variables.now.items c.args.survey.now (λ vs f. WithinOthers s self f vs (alternatives_of ys))
     c.loop-alternative.variables.items c.loop-alternative.survey)
@@ -94,7 +95,7 @@ survey_part-returns-in_ok-survey_part-in-Interval-2 t c =
     let two = c.survey_part-in-Interval-2.new in
     let three = c.survey_part-in-Interval-3.new in
     on_ok_weaker c.survey_part-in-Interval-3.result
-    (interval-walks (schema_of_context c.args.context.now) (own_of_context c.args.context.now) c.args.is_right_of_in
+    (interval-walks (schema_in c.args.context.now.known) (own_of_context c.args.context.now) c.args.is_right_of_in
     c.args.expression.now x.above x.below x.low x.item x.high x.is c.deref-in-Interval.result.now
     c.args.variables.now.items one.variables.items two.variables.items three.variables.items c.args.survey.now
     c.note_interval_inside.new.survey one.survey two.survey three.survey c.deref-in-Interval.ensures.value
@@ -110,7 +111,7 @@ survey_part-returns-in_ok-survey_part-in-Query-2 t c =
     let x = c.in-Query in
     let one = c.survey_part-in-Query.new in
     let two = c.survey_part-in-Query-2.new in
-    query-walks (schema_of_context c.args.context.now) (own_of_context c.args.context.now) c.args.is_right_of_in
+    query-walks (schema_in c.args.context.now.known) (own_of_context c.args.context.now) c.args.is_right_of_in
     c.args.expression.now x.variable x.source x.condition x.is c.args.variables.now.items one.variables.items
     c.push_variable.new.variables.items two.variables.items c.pop.new.self.items c.args.survey.now one.survey
     two.survey c.deref-in-Query.result.now c.deref-in-Query-2.result.now c.deref-in-Query-3.result.now
@@ -124,7 +125,7 @@ survey_part-returns-in_ok-survey_part-in-Comparison t c =
     let one = c.survey_part-in-Comparison.new in
     let two = c.survey_part-in-Comparison-2.new in
     on_ok_weaker c.survey_part-in-Comparison-2.result
-    (comparison-walks (schema_of_context c.args.context.now) (own_of_context c.args.context.now) c.args.is_right_of_in
+    (comparison-walks (schema_in c.args.context.now.known) (own_of_context c.args.context.now) c.args.is_right_of_in
     c.args.expression.now x.left x.relation x.right x.is c.deref-in-Comparison.result.now
     c.args.variables.now.items one.variables.items two.variables.items c.args.survey.now
     c.note_comparison_inside.new.survey one.survey two.survey c.deref-in-Comparison.ensures.value

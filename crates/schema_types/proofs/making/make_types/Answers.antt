@@ -2,13 +2,13 @@ use Rattle.std.proofs.Common.{length}
 use Rattle.std.proofs.lemmas.List.{length-map}
 use Rattle.digraph.specs.Graphs.{graph_of}
 use Rattle.express_syntax.specs.Views.{declaration_of}
-use Rattle.express_syntax.specs.SchemaViews.{schema_of}
+use Rattle.schema_names.specs.Schemas.{the_schema}
 use Rattle.schema_types.proofs.Asked.{above-are, rows-many}
 use Rattle.schema_types.proofs.making.make_types.Goals as goal
 
 pub invariant_of-result : goal.invariant_of-result
 invariant_of-result c =
-    let s = schema_of c.args.names.schema.now in
+    let s = the_schema c.args.names in
     let graph = graph_of c.args.supertypes.now in
     let rows = graph_of c.args.above.items in
     record {

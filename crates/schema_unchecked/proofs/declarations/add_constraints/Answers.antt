@@ -6,35 +6,35 @@ use Rattle.schema_semantics.specs.Names.{listed}
 use Rattle.schema_semantics.specs.Ranks.{Self, HasReason}
 use Rattle.schema_semantics.specs.Parts.{parts_of_rules, parts_of_uniques}
 use Rattle.schema_names.proofs.Clauses.{clause-listed}
+use Rattle.schema_references.specs.Taking.{schema_in}
 use Rattle.schema_parts.specs.Adding.{Adds, unchecked_in}
 use Rattle.schema_parts.proofs.Joining.{adds-joined}
-use Rattle.schema_unchecked.specs.Findings.{schema_found}
 use Rattle.schema_unchecked.proofs.Standing.{number-here, stands-here}
 use Rattle.schema_unchecked.proofs.declarations.add_constraints.Goals as goal
 
 pub add_uniques-requires-clause-number : goal.add_uniques-requires-clause-number
 add_uniques-requires-clause-number c =
     let e = entity_of c.args.entity.now in
-    number-here (schema_found c.args.findings.now) c.requires.found.known.resolved c.args.number (entity e) e.name
+    number-here (schema_in c.args.findings.now.known) c.requires.found.known.resolved c.args.number (entity e) e.name
     c.requires.at refl
 
 pub add_uniques-requires-clause-entity : goal.add_uniques-requires-clause-entity
 add_uniques-requires-clause-entity c =
     let e = entity_of c.args.entity.now in (
       e,
-      stands-here (schema_found c.args.findings.now) c.requires.found.known.resolved c.args.number (entity e) e.name
+      stands-here (schema_in c.args.findings.now.known) c.requires.found.known.resolved c.args.number (entity e) e.name
           c.requires.at refl,
     )
 
 pub add_entity_rules-requires-clause-number : goal.add_entity_rules-requires-clause-number
 add_entity_rules-requires-clause-number c =
     let e = entity_of c.args.entity.now in
-    number-here (schema_found c.args.findings.now) c.requires.found.known.resolved c.args.number (entity e) e.name
+    number-here (schema_in c.args.findings.now.known) c.requires.found.known.resolved c.args.number (entity e) e.name
     c.requires.at refl
 
 pub returns : goal.returns
 returns c =
-    let s = schema_found c.args.findings.now in
+    let s = schema_in c.args.findings.now.known in
     let e = entity_of c.args.entity.now in
     let old = unchecked_in c.args.list.now.items in
     let mid = unchecked_in c.add_uniques.new.list.items in

@@ -4,15 +4,15 @@ use Rattle.express_syntax.specs.Views.{entity_of}
 use Rattle.schema_semantics.specs.Names.{listed}
 use Rattle.schema_semantics.specs.Ranks.{Self, HasReason}
 use Rattle.schema_semantics.specs.Parts.{for_each, parts_of_supertype, parts_of_explicit, parts_of_derived, parts_of_inverse, parts_of_uniques, parts_of_rules}
+use Rattle.schema_references.specs.Taking.{schema_in}
 use Rattle.schema_parts.specs.Adding.{Adds, unchecked_in}
 use Rattle.schema_parts.proofs.Joining.{adds-joined}
-use Rattle.schema_unchecked.specs.Findings.{schema_found}
 use Rattle.schema_unchecked.specs.Listing.{parts_of_constraints}
 use Rattle.schema_unchecked.proofs.declarations.add_entity.Goals as goal
 
 pub returns : goal.returns
 returns c =
-    let s = schema_found c.args.findings.now in
+    let s = schema_in c.args.findings.now.known in
     let e = entity_of c.args.entity.now in
     let supers = parts_of_supertype e.name e.supertype in
     let explicits = for_each (parts_of_explicit s e.name) e.explicits in

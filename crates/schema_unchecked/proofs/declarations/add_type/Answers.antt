@@ -5,21 +5,21 @@ use Rattle.express_syntax.specs.Views.{type_of, rule_of}
 use Rattle.schema_semantics.specs.Names.{listed}
 use Rattle.schema_semantics.specs.Parts.{parts_of_underlying, parts_of_rules, TypeRuleHasReason}
 use Rattle.schema_names.proofs.Clauses.{clause-listed}
+use Rattle.schema_references.specs.Taking.{schema_in}
 use Rattle.schema_parts.specs.Adding.{Adds, unchecked_in}
 use Rattle.schema_parts.proofs.Joining.{adds-joined}
-use Rattle.schema_unchecked.specs.Findings.{schema_found}
 use Rattle.schema_unchecked.proofs.Standing.{number-here}
 use Rattle.schema_unchecked.proofs.declarations.add_type.Goals as goal
 
 pub add_type_rules-requires-clause-number : goal.add_type_rules-requires-clause-number
 add_type_rules-requires-clause-number c =
     let t = type_of c.args.declared.now in
-    number-here (schema_found c.args.findings.now) c.requires.found.known.resolved c.args.number (type t) t.name c.requires.at
+    number-here (schema_in c.args.findings.now.known) c.requires.found.known.resolved c.args.number (type t) t.name c.requires.at
     refl
 
 pub returns : goal.returns
 returns c =
-    let s = schema_found c.args.findings.now in
+    let s = schema_in c.args.findings.now.known in
     let t = type_of c.args.declared.now in
     let old = unchecked_in c.args.list.now.items in
     let mid = unchecked_in c.add_underlying.new.list.items in

@@ -5,9 +5,9 @@ use Rattle.express_syntax.specs.Views.{derived_of}
 use Rattle.schema_semantics.specs.declared.unchecked.PartKind.TheVariants as parts
 use Rattle.schema_semantics.specs.Ranks.{Self, HasReason}
 use Rattle.schema_semantics.specs.Parts.{Candidate, attribute_label, parts_of_data_type}
+use Rattle.schema_references.specs.Taking.{schema_in}
 use Rattle.schema_parts.specs.Adding.{Adds, unchecked_in}
 use Rattle.schema_parts.proofs.Joining.{adds-joined}
-use Rattle.schema_unchecked.specs.Findings.{schema_found}
 use Rattle.schema_unchecked.specs.Listing.{given}
 use Rattle.schema_unchecked.proofs.Reasoned.{adds-given}
 use Rattle.schema_unchecked.proofs.deriveds.add_derived.Goals as goal
@@ -23,7 +23,7 @@ returns c n numbered is =
     let x : Candidate = record {
       kind = parts.Derive;
       name = l;
-      has_reason = HasReason (schema_found c.args.findings.now) (Self h) d.body;
+      has_reason = HasReason (schema_in c.args.findings.now.known) (Self h) d.body;
     } in
     on_ok_weaker c.add_data_type.result
     (adds-joined (x ∷ []) (parts_of_data_type l d.data_type) old mid new

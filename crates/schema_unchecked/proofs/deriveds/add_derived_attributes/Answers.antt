@@ -4,8 +4,8 @@ use Rattle.express_syntax.specs.Schemas.{entity}
 use Rattle.express_syntax.specs.Views.{entity_of, derived_of}
 use Rattle.schema_semantics.specs.Parts.{for_each, parts_of_derived}
 use Rattle.schema_names.proofs.Clauses.{clause-listed}
+use Rattle.schema_references.specs.Taking.{schema_in}
 use Rattle.schema_parts.specs.Adding.{Adds, unchecked_in}
-use Rattle.schema_unchecked.specs.Findings.{schema_found}
 use Rattle.schema_unchecked.specs.Places.{AreDerivationsFrom}
 use Rattle.schema_unchecked.proofs.Standing.{stands-here}
 use Rattle.schema_unchecked.proofs.Deriving.{derivations-of}
@@ -13,7 +13,7 @@ use Rattle.schema_unchecked.proofs.deriveds.add_derived_attributes.Goals as goal
 
 pub add_deriveds-requires-clause-numbered : goal.add_deriveds-requires-clause-numbered
 add_deriveds-requires-clause-numbered c =
-    let s = schema_found c.args.findings.now in
+    let s = schema_in c.args.findings.now.known in
     let e = entity_of c.args.entity.now in
     subst (AreDerivationsFrom s e.name c.args.first)
     (sym (clause-listed derived_of c.args.entity.now.derived c.derived_attributes.result.now
@@ -23,7 +23,7 @@ add_deriveds-requires-clause-numbered c =
 
 pub returns : goal.returns
 returns c =
-    let s = schema_found c.args.findings.now in
+    let s = schema_in c.args.findings.now.known in
     subst (λ ds. OnOk c.add_deriveds.result (Adds
     (for_each (parts_of_derived s (capitals c.args.entity.now.name)) ds)
     (unchecked_in c.args.list.now.items) (unchecked_in c.add_deriveds.new.list.items)))

@@ -4,15 +4,15 @@ use Rattle.express_syntax.specs.ExpressionViews.{capitals}
 use Rattle.express_syntax.specs.Views.{derived_of}
 use Rattle.schema_semantics.specs.Parts.{for_each, parts_of_derived}
 use Rattle.schema_attributes.specs.Derivations.{HasDerivation}
+use Rattle.schema_references.specs.Taking.{schema_in}
 use Rattle.schema_parts.specs.Adding.{Adds, unchecked_in}
 use Rattle.schema_parts.proofs.Turns.{adds-next}
-use Rattle.schema_unchecked.specs.Findings.{schema_found}
 use Rattle.schema_unchecked.proofs.Standing.{seen-at, so}
 use Rattle.schema_unchecked.proofs.deriveds.add_deriveds.Goals as goal
 
 pub loop-i-preserved : goal.loop-i-preserved
 loop-i-preserved c =
-    let s = schema_found c.args.findings.now in
+    let s = schema_in c.args.findings.now.known in
     let h = capitals c.args.holder in
     let xs = c.args.deriveds.now in
     let i = c.loop-i.i in
@@ -30,6 +30,6 @@ loop-i-preserved c =
 pub returns : goal.returns
 returns c =
     subst (λ xs. Adds
-    (for_each (parts_of_derived (schema_found c.args.findings.now) (capitals c.args.holder)) (map derived_of xs))
+    (for_each (parts_of_derived (schema_in c.args.findings.now.known) (capitals c.args.holder)) (map derived_of xs))
     (unchecked_in c.args.list.now.items) (unchecked_in c.loop-i.list.items))
     (take_all c.loop-i.i c.args.deriveds.now c.loop-i-test.false) c.loop-i.invariant

@@ -4,15 +4,15 @@ use Rattle.express_syntax.specs.ExpressionViews.{capitals}
 use Rattle.express_syntax.specs.Schemas.{Attribute}
 use Rattle.express_syntax.specs.Views.{attribute_of, data_type_of}
 use Rattle.schema_semantics.specs.Parts.{Candidate, for_each, attribute_label, parts_of_redeclared, parts_of_data_type}
+use Rattle.schema_references.specs.Taking.{schema_in}
 use Rattle.schema_parts.specs.Adding.{Adds, unchecked_in}
 use Rattle.schema_parts.proofs.Joining.{adds-joined}
 use Rattle.schema_parts.proofs.Turns.{adds-next}
-use Rattle.schema_unchecked.specs.Findings.{schema_found}
 use Rattle.schema_unchecked.proofs.explicits.add_explicit.Goals as goal
 
 pub loop-attribute-preserved : goal.loop-attribute-preserved
 loop-attribute-preserved c =
-    let s = schema_found c.args.findings.now in
+    let s = schema_in c.args.findings.now.known in
     let h = capitals c.args.holder in
     let k = data_type_of c.args.explicit.now.data_type in
     let xs = c.as_slice-attribute-items.result.now in
@@ -33,7 +33,7 @@ loop-attribute-preserved c =
 
 pub returns : goal.returns
 returns c =
-    let s = schema_found c.args.findings.now in
+    let s = schema_in c.args.findings.now.known in
     let h = capitals c.args.holder in
     let k = data_type_of c.args.explicit.now.data_type in
     subst (λ ys. Adds (for_each

@@ -7,15 +7,15 @@ use Rattle.express_syntax.specs.Schemas.{entity}
 use Rattle.express_syntax.specs.Views.{entity_of, explicit_of}
 use Rattle.schema_semantics.specs.Parts.{for_each, parts_of_explicit}
 use Rattle.schema_data_types.specs.Numbered.{whole_types, all_data_types}
+use Rattle.schema_references.specs.Taking.{schema_in}
 use Rattle.schema_parts.specs.Adding.{Adds, unchecked_in}
-use Rattle.schema_unchecked.specs.Findings.{schema_found}
 use Rattle.schema_unchecked.specs.Places.{AreDataTypesAt}
 use Rattle.schema_unchecked.proofs.Reshaped.{rows-within, data-types-here}
 use Rattle.schema_unchecked.proofs.explicits.add_explicit_attributes.Goals as goal
 
 pub index-row-requires : goal.index-row-requires
 index-row-requires c =
-    let s = schema_found c.args.findings.now in
+    let s = schema_in c.args.findings.now.known in
     let rows = c.args.findings.now.known.tables.data_types.now.rows.items in
     let lt =
     rows-within whole_types (all_data_types s) s.declarations (graph_of rows) c.args.number
@@ -25,7 +25,7 @@ index-row-requires c =
 
 pub add_explicits-requires-clause-row : goal.add_explicits-requires-clause-row
 add_explicits-requires-clause-row c =
-    let s = schema_found c.args.findings.now in
+    let s = schema_in c.args.findings.now.known in
     let rows = c.args.findings.now.known.tables.data_types.now.rows.items in
     let e = entity_of c.args.entity.now in
     let lt =
@@ -45,6 +45,6 @@ add_explicits-requires-clause-row c =
 pub returns : goal.returns
 returns c =
     subst (λ xs. OnOk c.add_explicits.result (Adds
-    (for_each (parts_of_explicit (schema_found c.args.findings.now) (capitals c.args.entity.now.name)) (map explicit_of xs))
+    (for_each (parts_of_explicit (schema_in c.args.findings.now.known) (capitals c.args.entity.now.name)) (map explicit_of xs))
     (unchecked_in c.args.list.now.items) (unchecked_in c.add_explicits.new.list.items))) c.deref.ensures.value
     c.add_explicits.ensures

@@ -5,9 +5,9 @@ use Rattle.express_syntax.specs.ExpressionViews.{capitals}
 use Rattle.express_syntax.specs.Views.{explicit_of}
 use Rattle.schema_semantics.specs.Parts.{for_each, parts_of_explicit}
 use Rattle.schema_names.proofs.Edges.{within}
+use Rattle.schema_references.specs.Taking.{schema_in}
 use Rattle.schema_parts.specs.Adding.{Adds, unchecked_in}
 use Rattle.schema_parts.proofs.Turns.{adds-next}
-use Rattle.schema_unchecked.specs.Findings.{schema_found}
 use Rattle.schema_unchecked.specs.Places.{IsDataTypeAt}
 use Rattle.schema_unchecked.proofs.Standing.{seen-at}
 use Rattle.schema_unchecked.proofs.explicits.add_explicits.Goals as goal
@@ -22,7 +22,7 @@ bounds-row-i c =
 
 pub add_explicit-requires-clause-data_type : goal.add_explicit-requires-clause-data_type
 add_explicit-requires-clause-data_type c =
-    let s = schema_found c.args.findings.now in
+    let s = schema_in c.args.findings.now.known in
     let xs = c.args.explicits.now in
     let row = c.args.row.now in
     let i = c.loop-i.i in
@@ -37,7 +37,7 @@ loop-i-preserved c =
     let i = c.loop-i.i in
     let x = c.index-explicits-i.result in
     let lt : i < length xs = omega (arith, c.loop-i-test.true) in
-    adds-next explicit_of (parts_of_explicit (schema_found c.args.findings.now) (capitals c.args.holder)) xs i x
+    adds-next explicit_of (parts_of_explicit (schema_in c.args.findings.now.known) (capitals c.args.holder)) xs i x
     (unchecked_in c.args.list.now.items) (unchecked_in c.loop-i.list.items)
     (unchecked_in c.add_explicit.new.list.items) lt c.index-explicits-i.is c.loop-i.invariant
     c.in_ok-add_explicit.ensures
@@ -45,6 +45,6 @@ loop-i-preserved c =
 pub returns : goal.returns
 returns c =
     subst (λ xs. Adds
-    (for_each (parts_of_explicit (schema_found c.args.findings.now) (capitals c.args.holder)) (map explicit_of xs))
+    (for_each (parts_of_explicit (schema_in c.args.findings.now.known) (capitals c.args.holder)) (map explicit_of xs))
     (unchecked_in c.args.list.now.items) (unchecked_in c.loop-i.list.items))
     (take_all c.loop-i.i c.args.explicits.now c.loop-i-test.false) c.loop-i.invariant

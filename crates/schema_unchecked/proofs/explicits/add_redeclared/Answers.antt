@@ -5,20 +5,20 @@ use Rattle.express_syntax.specs.Views.{attribute_of}
 use Rattle.schema_semantics.specs.declared.unchecked.PartKind.TheVariants as parts
 use Rattle.schema_semantics.specs.declared.unchecked.Reason.TheVariants as reasons
 use Rattle.schema_semantics.specs.Parts.{dotted, parts_of_redeclared, HasOtherShape}
+use Rattle.schema_references.specs.Taking.{schema_in}
 use Rattle.schema_parts.specs.Adding.{Adds, unchecked_in}
 use Rattle.schema_parts.proofs.Joining.{adds-none, adds-part, adds-unlisted}
-use Rattle.schema_unchecked.specs.Findings.{schema_found}
 use Rattle.schema_unchecked.proofs.explicits.add_redeclared.Goals as goal
 
 pub returns-in-Unqualified : goal.returns-in-Unqualified
 returns-in-Unqualified c k d =
     let us = unchecked_in c.args.list.now.items in
-    subst (λ a. Adds (parts_of_redeclared (schema_found c.args.findings.now) (capitals c.args.holder) k (attribute_of a)) us us)
+    subst (λ a. Adds (parts_of_redeclared (schema_in c.args.findings.now.known) (capitals c.args.holder) k (attribute_of a)) us us)
     (sym c.in-Unqualified.is) (adds-none us)
 
 pub returns-then-not-has_other_shape : goal.returns-then-not-has_other_shape
 returns-then-not-has_other_shape c k d =
-    let s = schema_found c.args.findings.now in
+    let s = schema_in c.args.findings.now.known in
     let h = capitals c.args.holder in
     let us = unchecked_in c.args.list.now.items in
     subst (λ a. Adds (parts_of_redeclared s h k (attribute_of a)) us us) (sym c.in-Redeclared.is)
@@ -28,7 +28,7 @@ returns-then-not-has_other_shape c k d =
 
 pub returns-else-not-has_other_shape : goal.returns-else-not-has_other_shape
 returns-else-not-has_other_shape c k d =
-    let s = schema_found c.args.findings.now in
+    let s = schema_in c.args.findings.now.known in
     let h = capitals c.args.holder in
     let old = unchecked_in c.args.list.now.items in
     let new = unchecked_in c.add_part.new.list.items in

@@ -1,13 +1,13 @@
 use Rattle.std.proofs.Common.{◌≡◌, IsTrue, ◌↔◌, subst}
 use Rattle.express_syntax.specs.ExpressionViews.{capitals}
 use Rattle.schema_semantics.specs.Attributes.{HasFirstShape}
-use Rattle.schema_unchecked.specs.Findings.{schema_found}
+use Rattle.schema_references.specs.Taking.{schema_in}
 use Rattle.schema_unchecked.proofs.Reshaped.{other-shape, same-shape}
 use Rattle.schema_unchecked.proofs.explicits.has_other_shape.Goals as goal
 
 pub returns-in-Some : goal.returns-in-Some
 returns-in-Some c k d =
-    let s = schema_found c.args.findings.now in
+    let s = schema_in c.args.findings.now.known in
     other-shape s c.args.attribute c.redeclared_entity.result c.in-Some.entity c.args.data_type c.has_first_shape.result
     c.redeclared_entity.ensures c.in-Some.is
     (λ p m known here at is. subst (λ w. IsTrue c.has_first_shape.result ↔ HasFirstShape s p (capitals w) m)
@@ -15,5 +15,5 @@ returns-in-Some c k d =
 
 pub returns-in-None : goal.returns-in-None
 returns-in-None c k d =
-    same-shape (schema_found c.args.findings.now) c.args.attribute c.redeclared_entity.result c.redeclared_entity.ensures
+    same-shape (schema_in c.args.findings.now.known) c.args.attribute c.redeclared_entity.result c.redeclared_entity.ensures
     c.in-None.is k

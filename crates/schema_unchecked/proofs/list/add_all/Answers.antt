@@ -2,10 +2,10 @@ use Rattle.std.proofs.Common.{◌≡◌, ◌<◌, Some, length, arith, map, refl
 use Rattle.std.proofs.lemmas.List.{take_all}
 use Rattle.express_syntax.specs.Views.{declaration_of}
 use Rattle.schema_semantics.specs.Parts.{for_each, parts_of_declaration}
+use Rattle.schema_references.specs.Taking.{schema_in}
 use Rattle.schema_parts.specs.Adding.{Adds, unchecked_in}
 use Rattle.schema_parts.proofs.Joining.{adds-none}
 use Rattle.schema_parts.proofs.Turns.{adds-next}
-use Rattle.schema_unchecked.specs.Findings.{schema_found}
 use Rattle.schema_unchecked.proofs.Standing.{seen-at}
 use Rattle.schema_unchecked.proofs.Deriving.{before-more}
 use Rattle.schema_unchecked.proofs.list.add_all.Goals as goal
@@ -24,7 +24,7 @@ add_declaration-requires-clause-at c =
 
 pub loop-i-preserved : goal.loop-i-preserved
 loop-i-preserved c =
-    let s = schema_found c.args.findings.now in
+    let s = schema_in c.args.findings.now.known in
     let xs = c.args.declarations.now in
     let i = c.loop-i.i in
     let x = c.index-declarations-i.result in
@@ -39,7 +39,7 @@ loop-i-preserved c =
 
 pub returns : goal.returns
 returns c =
-    let s = schema_found c.args.findings.now in
+    let s = schema_in c.args.findings.now.known in
     subst (λ ds. Adds (for_each (parts_of_declaration s) ds) (unchecked_in c.args.list.now.items)
     (unchecked_in c.loop-i.list.items)) c.requires.all
     (subst (λ xs. Adds (for_each (parts_of_declaration s) (map declaration_of xs)) (unchecked_in c.args.list.now.items)

@@ -2,8 +2,8 @@ use Rattle.std.proofs.Common.{◌<◌, ◌++◌, length, arith, map, ap, sym, su
 use Rattle.std.proofs.lemmas.List.{length-map}
 use Rattle.express_syntax.specs.Views.{declaration_of}
 use Rattle.schema_semantics.specs.Parts.{AreUnchecked}
+use Rattle.schema_references.specs.Taking.{schema_in}
 use Rattle.schema_parts.specs.Adding.{unchecked_in}
-use Rattle.schema_unchecked.specs.Findings.{schema_found}
 use Rattle.schema_unchecked.proofs.list.unchecked_parts.Goals as goal
 
 pub add_all-requires-clause-few : goal.add_all-requires-clause-few
@@ -19,5 +19,5 @@ add_all-requires-clause-all c = ap (map declaration_of) c.declarations-declarati
 pub returns : goal.returns
 returns c =
     let (us, listed, is) = c.in_ok-add_all.ensures in
-    subst (AreUnchecked (schema_found c.args.findings.now))
+    subst (AreUnchecked (schema_in c.args.findings.now.known))
     (sym (is ∙ ap (λ xs. unchecked_in xs ++ us) c.new-list.ensures.items)) listed

@@ -4,8 +4,8 @@ use Rattle.express_syntax.specs.ExpressionViews.{capitals}
 use Rattle.express_syntax.specs.Views.{rule_of}
 use Rattle.schema_semantics.specs.Ranks.{Self, HasReason}
 use Rattle.schema_data_types.specs.Values.{Holds}
+use Rattle.schema_references.specs.Taking.{schema_in}
 use Rattle.schema_parts.specs.Adding.{unchecked_in}
-use Rattle.schema_unchecked.specs.Findings.{schema_found}
 use Rattle.schema_unchecked.specs.Rules.{RuleHasReason}
 use Rattle.schema_unchecked.proofs.Selves.{Alike}
 use Rattle.schema_unchecked.proofs.SelfSets.{rules-alike, entity-alike}
@@ -13,7 +13,7 @@ use Rattle.schema_unchecked.proofs.rules.add_entity_rules.Goals as goal
 
 pub returns : goal.returns
 returns c =
-    let s = schema_found c.args.findings.now in
+    let s = schema_in c.args.findings.now.known in
     let h = capitals c.args.holder.name in
     on_ok_weaker c.add_rules.result
     (rules-alike h (RuleHasReason s (Holds s c.from_ref.result.now) false) (HasReason s (Self h))

@@ -4,8 +4,8 @@ use Rattle.express_syntax.specs.ExpressionViews.{capitals}
 use Rattle.express_syntax.specs.Views.{if_some, body_of}
 use Rattle.schema_semantics.specs.declared.unchecked.PartKind.TheVariants as parts
 use Rattle.schema_semantics.specs.Parts.{Candidate, dotted, label_of}
+use Rattle.schema_references.specs.Taking.{schema_in}
 use Rattle.schema_parts.specs.Adding.{unchecked_in}
-use Rattle.schema_unchecked.specs.Findings.{schema_found}
 use Rattle.schema_unchecked.specs.Listing.{given}
 use Rattle.schema_unchecked.specs.Rules.{has_reason}
 use Rattle.schema_unchecked.proofs.Reasoned.{adds-given}
@@ -19,7 +19,7 @@ returns c =
     let x : Candidate = record {
       kind = parts.Where;
       name = dotted (capitals c.args.holder) (label_of c.args.number (if_some capitals r.label));
-      has_reason = has_reason (schema_found c.args.findings.now) c.args.own (body_of r.body);
+      has_reason = has_reason (schema_in c.args.findings.now.known) c.args.own (body_of r.body);
     } in
     on_ok_weaker c.add_for.result
     (λ is. adds-given x c.in_ok-reason.reason old new c.in_ok-reason.ensures

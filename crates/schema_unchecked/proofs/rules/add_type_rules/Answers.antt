@@ -6,15 +6,15 @@ use Rattle.express_syntax.specs.Views.{rule_of}
 use Rattle.schema_semantics.specs.Parts.{TypeRuleHasReason}
 use Rattle.schema_semantics.specs.Shapes.{IsOf}
 use Rattle.schema_data_types.specs.Values.{Holds}
+use Rattle.schema_references.specs.Taking.{schema_in}
 use Rattle.schema_parts.specs.Adding.{unchecked_in}
-use Rattle.schema_unchecked.specs.Findings.{schema_found}
 use Rattle.schema_unchecked.specs.Rules.{RuleHasReason}
 use Rattle.schema_unchecked.proofs.SelfSets.{SameSet, rules-alike, type-alike}
 use Rattle.schema_unchecked.proofs.rules.add_type_rules.Goals as goal
 
 pub returns : goal.returns
 returns c =
-    let s = schema_found c.args.findings.now in
+    let s = schema_in c.args.findings.now.known in
     let h = capitals c.args.holder.name in
     let M = Holds s c.deref.result.now in
     let w = c.is_type_over_select.result in

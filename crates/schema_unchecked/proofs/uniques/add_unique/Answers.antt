@@ -6,16 +6,16 @@ use Rattle.schema_semantics.specs.declared.unchecked.PartKind.TheVariants as par
 use Rattle.schema_semantics.specs.Parts.{Candidate, UniqueHasReason, dotted, label_of}
 use Rattle.schema_unchecked.specs.Judging.{IsFirstReason}
 use Rattle.schema_parts.specs.Adding.{unchecked_in}
-use Rattle.schema_unchecked.specs.Findings.{schema_found}
 use Rattle.schema_unchecked.specs.Listing.{given}
 use Rattle.schema_references.specs.Naming.{IsNaming}
+use Rattle.schema_references.specs.Taking.{schema_in}
 use Rattle.schema_unchecked.proofs.Reasoned.{adds-given}
 use Rattle.schema_unchecked.proofs.Told.{unique-reason}
 use Rattle.schema_unchecked.proofs.uniques.add_unique.Goals as goal
 
 pub returns : goal.returns
 returns c =
-    let s = schema_found c.args.findings.now in
+    let s = schema_in c.args.findings.now.known in
     let h = capitals c.args.holder.name in
     let old = unchecked_in c.args.list.now.items in
     let new = unchecked_in c.add_for.new.list.items in

@@ -2,17 +2,19 @@ use Rattle.std.proofs.Common.{map, ap, sym, subst, ◌∙◌, []}
 use Rattle.std.specs.List.{AllZip}
 use Rattle.digraph.specs.Graphs.{graph_of}
 use Rattle.express_syntax.specs.Views.{declaration_of}
-use Rattle.schema_uses.specs.Speaking.{schema_in, AreDerivedIn}
+use Rattle.schema_names.specs.Schemas.{the_schema}
+use Rattle.schema_uses.specs.Speaking.{AreDerivedIn}
 use Rattle.schema_uses.proofs.Going.{zip-next, all-taken}
 use Rattle.schema_uses.proofs.derived.all_derived.Goals as goal
 
 pub loop-declaration-init : goal.loop-declaration-init
 loop-declaration-init c =
-    subst (AllZip (AreDerivedIn (schema_in c.args.sources.now)) []) (sym (ap graph_of c.new-rows.ensures.items)) tt
+    subst (AllZip (AreDerivedIn (the_schema c.args.sources.now.names.now)) [])
+    (sym (ap graph_of c.new-rows.ensures.items)) tt
 
 pub loop-declaration-preserved : goal.loop-declaration-preserved
 loop-declaration-preserved c =
-    zip-next (AreDerivedIn (schema_in c.args.sources.now)) declaration_of (λ v. v.items)
+    zip-next (AreDerivedIn (the_schema c.args.sources.now.names.now)) declaration_of (λ v. v.items)
     c.declarations-declaration-items.result.now
     c.loop-declaration.declaration-index c.declaration-item.result c.loop-declaration.rows.items c.push.new.self.items
     c.in_ok-row.row c.loop-declaration-test.true c.declaration-item.is c.loop-declaration.invariant c.in_ok-row.ensures
@@ -20,7 +22,7 @@ loop-declaration-preserved c =
 
 pub returns : goal.returns
 returns c =
-    let s = schema_in c.args.sources.now in
+    let s = the_schema c.args.sources.now.names.now in
     let xs = c.declarations-declaration-items.result.now in
     subst (λ ds. AllZip (AreDerivedIn s) ds (graph_of c.loop-declaration.rows.items))
     (all-taken declaration_of xs c.loop-declaration.declaration-index c.loop-declaration-test.false

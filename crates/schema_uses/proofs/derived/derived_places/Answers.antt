@@ -1,21 +1,22 @@
 use Rattle.std.proofs.Common.{map, take, sym, subst, [], ◌∷◌, ◌++◌}
 use Rattle.express_syntax.specs.Schemas.{Derived}
 use Rattle.express_syntax.specs.Views.{derived_of}
+use Rattle.schema_names.specs.Schemas.{the_schema}
 use Rattle.schema_attributes.proofs.Gathered.{seen}
-use Rattle.schema_uses.specs.Speaking.{schema_in, ArePlacesOf, Redeclares, DerivesOne, at_most_one}
+use Rattle.schema_uses.specs.Speaking.{ArePlacesOf, Redeclares, DerivesOne, at_most_one}
 use Rattle.schema_uses.proofs.Placing.{places-none, places-more}
 use Rattle.schema_uses.proofs.Going.{take-at, all-taken}
 use Rattle.schema_uses.proofs.derived.derived_places.Goals as goal
 
 pub loop-derived-init : goal.loop-derived-init
 loop-derived-init c =
-    let s = schema_in c.args.sources.now in
+    let s = the_schema c.args.sources.now.names.now in
     subst (ArePlacesOf s (DerivesOne s [])) (sym c.new-places.ensures.items)
     (places-none s (λ (d : Derived). Redeclares s d.attribute))
 
 pub loop-derived-preserved : goal.loop-derived-preserved
 loop-derived-preserved c =
-    let s = schema_in c.args.sources.now in
+    let s = the_schema c.args.sources.now.names.now in
     let xs = c.args.deriveds.now in
     let n = c.loop-derived.derived-index in
     let d = derived_of c.derived-item.result in
@@ -28,7 +29,7 @@ loop-derived-preserved c =
 
 pub returns : goal.returns
 returns c =
-    let s = schema_in c.args.sources.now in
+    let s = the_schema c.args.sources.now.names.now in
     subst (λ es. ArePlacesOf s (DerivesOne s es) c.loop-derived.places.items)
     (all-taken derived_of c.args.deriveds.now c.loop-derived.derived-index c.loop-derived-test.false)
     c.loop-derived.invariant

@@ -4,13 +4,14 @@ use Rattle.digraph.specs.Graphs.{has}
 use Rattle.digraph.specs.Rounds.{added}
 use Rattle.express_syntax.specs.Views.{explicit_of}
 use Rattle.schema_semantics.specs.Names.{own_names}
-use Rattle.schema_uses.specs.Speaking.{schema_in, ArePlacesOf, SpeakTogether, AreOwnAt, use_of}
+use Rattle.schema_names.specs.Schemas.{the_schema}
+use Rattle.schema_uses.specs.Speaking.{ArePlacesOf, SpeakTogether, AreOwnAt, use_of}
 use Rattle.schema_uses.proofs.OfDeclarations.{uses-of-one}
 use Rattle.schema_uses.proofs.explicit.add_explicit.Goals as goal
 
 pub distinct-requires-clause-within : goal.distinct-requires-clause-within
 distinct-requires-clause-within c q h =
-    let s = schema_in c.args.sources.now in
+    let s = the_schema c.args.sources.now.names.now in
     let x = explicit_of c.args.explicit.now in
     let (n, owned) = c.requires.owned in
     let are = c.in_ok-spoken.ensures n x.data_type c.requires.typed
@@ -21,7 +22,7 @@ distinct-requires-clause-within c q h =
 
 pub returns-clause-uses : goal.returns-clause-uses
 returns-clause-uses c =
-    let s = schema_in c.args.sources.now in
+    let s = the_schema c.args.sources.now.names.now in
     let x = explicit_of c.args.explicit.now in
     let t = c.args.data_type in
     let spoken = c.in_ok-spoken.spoken.items in

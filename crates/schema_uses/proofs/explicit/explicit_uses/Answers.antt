@@ -3,8 +3,9 @@ use Rattle.std.proofs.lemmas.Option.{slice_get_within, get_or_from_slice_get}
 use Rattle.express_syntax.specs.Schemas.{Explicit}
 use Rattle.express_syntax.specs.Views.{explicit_of}
 use Rattle.schema_semantics.specs.Names.{own_names}
+use Rattle.schema_names.specs.Schemas.{the_schema}
 use Rattle.schema_attributes.proofs.Gathered.{seen, count-more}
-use Rattle.schema_uses.specs.Speaking.{schema_in, IsTypeAt, AreUsesOf}
+use Rattle.schema_uses.specs.Speaking.{IsTypeAt, AreUsesOf}
 use Rattle.schema_uses.proofs.OfDeclarations.{no-uses, uses-more, own-part}
 use Rattle.schema_uses.proofs.Going.{take-at, all-taken}
 use Rattle.schema_uses.proofs.explicit.explicit_uses.Goals as goal
@@ -14,8 +15,8 @@ loop-n-init c = (
   c.requires.clean,
   refl,
   refl,
-  (λ n owned. subst (AreUsesOf (schema_in c.args.sources.now) n []) (sym c.new-uses.ensures.items)
-      (no-uses (schema_in c.args.sources.now) n)),
+  (λ n owned. subst (AreUsesOf (the_schema c.args.sources.now.names.now) n []) (sym c.new-uses.ensures.items)
+      (no-uses (the_schema c.args.sources.now.names.now) n)),
 )
 
 pub bounds-row-n : goal.bounds-row-n
@@ -29,7 +30,7 @@ bounds-row-n c =
 
 pub add_explicit-requires : goal.add_explicit-requires
 add_explicit-requires c =
-    let s = schema_in c.args.sources.now in
+    let s = the_schema c.args.sources.now.names.now in
     let xs = c.args.explicits.now in
     let n = c.loop-n.n in
     let x = c.index-explicits-n.result in
@@ -51,7 +52,7 @@ add_explicit-requires c =
 
 pub loop-n-preserved : goal.loop-n-preserved
 loop-n-preserved c =
-    let s = schema_in c.args.sources.now in
+    let s = the_schema c.args.sources.now.names.now in
     let xs = c.args.explicits.now in
     let ys = map explicit_of xs in
     let m = c.loop-n.n in
@@ -76,7 +77,7 @@ loop-n-preserved c =
 pub returns : goal.returns
 returns c = record {
   uses = λ n owned.
-      subst (λ zs. AreUsesOf (schema_in c.args.sources.now) n zs c.loop-n.uses.items)
+      subst (λ zs. AreUsesOf (the_schema c.args.sources.now.names.now) n zs c.loop-n.uses.items)
       (all-taken explicit_of c.args.explicits.now c.loop-n.n c.loop-n-test.false) (c.loop-n.invariant.3 n owned);
   clean = c.loop-n.invariant.0;
   length = c.loop-n.invariant.1;

@@ -2,7 +2,8 @@ use Rattle.std.proofs.Common.{◌≡◌, [], map, take, length}
 use Rattle.digraph.specs.Rounds.{AreMarks}
 use Rattle.express_syntax.specs.Views.{explicit_of}
 use Rattle.schema_semantics.specs.Names.{Name}
-use Rattle.schema_uses.specs.Speaking.{schema_in, AreOwnAt, names_of, AreUsesOf}
+use Rattle.schema_names.specs.Schemas.{the_schema}
+use Rattle.schema_uses.specs.Speaking.{AreOwnAt, names_of, AreUsesOf}
 use Rattle.schema_uses.proofs.explicit.explicit_uses.Given as goal
 
 abbrev pub invariant-loop-n : goal.invariant-loop-n
@@ -10,5 +11,5 @@ invariant-loop-n l =
     AreMarks l.marks []
     × (length l.marks ≡ length l.fn.marks)
     × (l.first ≡ length (names_of (take l.n (map explicit_of l.explicits))))
-    × ((n : Name) → AreOwnAt (schema_in l.sources) n l.own 0 (names_of (map explicit_of l.explicits))
-    → AreUsesOf (schema_in l.sources) n (take l.n (map explicit_of l.explicits)) l.uses.items)
+    × ((n : Name) → AreOwnAt (the_schema l.sources.names.now) n l.own 0 (names_of (map explicit_of l.explicits))
+    → AreUsesOf (the_schema l.sources.names.now) n (take l.n (map explicit_of l.explicits)) l.uses.items)

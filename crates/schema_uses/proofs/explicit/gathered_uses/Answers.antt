@@ -1,8 +1,9 @@
 use Rattle.std.proofs.Common.{ap, sym, subst, ◌∙◌, map, slice_get, []}
 use Rattle.std.specs.List.{AllZip}
 use Rattle.express_syntax.specs.Views.{declaration_of}
+use Rattle.schema_names.specs.Schemas.{the_schema}
 use Rattle.schema_attributes.proofs.Gathered.{seen}
-use Rattle.schema_uses.specs.Speaking.{schema_in, AreUsesIn}
+use Rattle.schema_uses.specs.Speaking.{AreUsesIn}
 use Rattle.schema_uses.proofs.Going.{zip-next, all-taken}
 use Rattle.schema_uses.proofs.explicit.gathered_uses.Goals as goal
 
@@ -10,7 +11,7 @@ pub loop-n-init : goal.loop-n-init
 loop-n-init c = (
   c.requires.clean,
   c.requires.many,
-  subst (AllZip (AreUsesIn (schema_in c.args.sources.now)) []) (sym (ap (map (λ v. v.items)) c.new-rows.ensures.items)) tt,
+  subst (AllZip (AreUsesIn (the_schema c.args.sources.now.names.now)) []) (sym (ap (map (λ v. v.items)) c.new-rows.ensures.items)) tt,
 )
 
 pub uses_by-requires : goal.uses_by-requires
@@ -27,7 +28,7 @@ pub loop-n-preserved : goal.loop-n-preserved
 loop-n-preserved c = (
   c.in_ok-row.ensures.clean,
   c.in_ok-row.ensures.length ∙ c.loop-n.invariant.1,
-  zip-next (AreUsesIn (schema_in c.args.sources.now)) declaration_of (λ v. v.items) c.declarations-declarations.result.now
+  zip-next (AreUsesIn (the_schema c.args.sources.now.names.now)) declaration_of (λ v. v.items) c.declarations-declarations.result.now
       c.loop-n.n c.index-declarations-n.result c.loop-n.rows.items c.push.new.self.items c.in_ok-row.row
       c.loop-n-test.true c.index-declarations-n.is c.loop-n.invariant.2 c.in_ok-row.ensures.uses
       c.in_ok-push.ensures.items,
@@ -35,7 +36,7 @@ loop-n-preserved c = (
 
 pub returns : goal.returns
 returns c =
-    let s = schema_in c.args.sources.now in
+    let s = the_schema c.args.sources.now.names.now in
     let xs = c.declarations-declarations.result.now in
     subst (λ ds. AllZip (AreUsesIn s) ds (map (λ v. v.items) c.loop-n.rows.items))
     (all-taken declaration_of xs c.loop-n.n c.loop-n-test.false

@@ -1,7 +1,8 @@
 use Rattle.std.proofs.Common.{sym, subst, map, take, [], ◌∷◌, ◌++◌, arith}
 use Rattle.express_syntax.specs.Views.{attribute_of}
+use Rattle.schema_names.specs.Schemas.{the_schema}
 use Rattle.schema_attributes.proofs.Gathered.{seen}
-use Rattle.schema_uses.specs.Speaking.{schema_in, ArePlacesOf, SpeaksOf, SpeakTogether, IsOwnAt, at_most_one}
+use Rattle.schema_uses.specs.Speaking.{ArePlacesOf, SpeaksOf, SpeakTogether, IsOwnAt, at_most_one}
 use Rattle.schema_uses.proofs.Placing.{places-none, places-more}
 use Rattle.schema_uses.proofs.OfAttributes.{own-more, own-here}
 use Rattle.schema_uses.proofs.Going.{take-at, all-taken}
@@ -9,7 +10,7 @@ use Rattle.schema_uses.proofs.explicit.spoken_places.Goals as goal
 
 pub loop-attribute-init : goal.loop-attribute-init
 loop-attribute-init c =
-    let s = schema_in c.args.sources.now in (
+    let s = the_schema c.args.sources.now.names.now in (
       omega arith,
       (λ n k typed owned. subst (ArePlacesOf s (SpeakTogether s n k [])) (sym c.new-places.ensures.items)
           (places-none s (SpeaksOf s n k))),
@@ -17,7 +18,7 @@ loop-attribute-init c =
 
 pub loop-attribute-preserved : goal.loop-attribute-preserved
 loop-attribute-preserved c =
-    let s = schema_in c.args.sources.now in
+    let s = the_schema c.args.sources.now.names.now in
     let xs = c.args.attributes.now in
     let ys = map attribute_of xs in
     let m = c.loop-attribute.attribute-index in
@@ -39,7 +40,7 @@ loop-attribute-preserved c =
 
 pub returns : goal.returns
 returns c n k typed owned =
-    let s = schema_in c.args.sources.now in
+    let s = the_schema c.args.sources.now.names.now in
     subst (λ zs. ArePlacesOf s (SpeakTogether s n k zs) c.loop-attribute.places.items)
     (all-taken attribute_of c.args.attributes.now c.loop-attribute.attribute-index c.loop-attribute-test.false)
     (c.loop-attribute.invariant.1 n k typed owned)

@@ -3,13 +3,14 @@ use Rattle.std.proofs.lemmas.Result.{IfOk-weaker}
 use Rattle.digraph.specs.Graphs.{graph_of, next}
 use Rattle.express_syntax.specs.Views.{declaration_of, entity_of, explicit_of}
 use Rattle.schema_names.specs.Numbers.{IsAt}
-use Rattle.schema_uses.specs.Speaking.{schema_in, AreTypesAt, AreOwnAt, names_of, AreUsesOf, AreUsesIn}
+use Rattle.schema_names.specs.Schemas.{the_schema}
+use Rattle.schema_uses.specs.Speaking.{AreTypesAt, AreOwnAt, names_of, AreUsesOf, AreUsesIn}
 use Rattle.schema_uses.proofs.OfDeclarations.{types-at, own-at, none-in}
 use Rattle.schema_uses.proofs.explicit.uses_by.Goals as goal
 
 pub explicit_uses-requires-clause-typed : goal.explicit_uses-requires-clause-typed
 explicit_uses-requires-clause-typed c =
-    let s = schema_in c.args.sources.now in
+    let s = the_schema c.args.sources.now.names.now in
     let e = entity_of c.in-Entity.entity in
     let at = subst (λ d. IsAt s c.args.i (declaration_of d)) c.in-Entity.is c.requires.at in
     subst (λ xs. AreTypesAt s c.row_of-row.result.now (map explicit_of xs)) (sym c.deref-in-Entity.ensures.value)
@@ -20,7 +21,7 @@ explicit_uses-requires-clause-typed c =
 
 pub explicit_uses-requires-clause-owned : goal.explicit_uses-requires-clause-owned
 explicit_uses-requires-clause-owned c =
-    let s = schema_in c.args.sources.now in
+    let s = the_schema c.args.sources.now.names.now in
     let e = entity_of c.in-Entity.entity in
     let at = subst (λ d. IsAt s c.args.i (declaration_of d)) c.in-Entity.is c.requires.at in (
       e.name,
@@ -32,7 +33,7 @@ explicit_uses-requires-clause-owned c =
 
 pub returns-in-Entity-clause-uses : goal.returns-in-Entity-clause-uses
 returns-in-Entity-clause-uses c =
-    let s = schema_in c.args.sources.now in
+    let s = the_schema c.args.sources.now.names.now in
     let e = entity_of c.in-Entity.entity in
     let at = subst (λ d. IsAt s c.args.i (declaration_of d)) c.in-Entity.is c.requires.at in
     IfOk-weaker c.explicit_uses.result _ (λ us. AreUsesIn s (declaration_of c.args.declaration.now) us.items) (λ us h.
@@ -46,5 +47,5 @@ returns-in-Entity-clause-uses c =
 
 pub returns-in_default-clause-uses : goal.returns-in_default-clause-uses
 returns-in_default-clause-uses c =
-    none-in (schema_in c.args.sources.now) c.args.declaration.now c.in_default.not-Entity c.new.result.items
+    none-in (the_schema c.args.sources.now.names.now) c.args.declaration.now c.in_default.not-Entity c.new.result.items
     c.new.ensures.items

@@ -2,15 +2,16 @@ use Rattle.std.proofs.Common.{sym, subst}
 use Rattle.digraph.specs.Graphs.{graph_of}
 use Rattle.express_syntax.specs.ExpressionViews.{capitals}
 use Rattle.express_syntax.specs.Views.{attribute_of}
+use Rattle.schema_names.specs.Schemas.{the_schema}
 use Rattle.schema_places.specs.Places.{places_of}
 use Rattle.schema_attributes.proofs.Redeclared.{is-true, not-false}
-use Rattle.schema_uses.specs.Speaking.{schema_in, ArePlacesOf, at_most_one, SpeaksOf}
+use Rattle.schema_uses.specs.Speaking.{ArePlacesOf, at_most_one, SpeaksOf}
 use Rattle.schema_uses.proofs.OfAttributes.{none-spoken, other-shape, spoken-found}
 use Rattle.schema_uses.proofs.spoken.redeclared_place.Goals as goal
 
 pub returns-in_err-entity : goal.returns-in_err-entity
 returns-in_err-entity c n k typed =
-    let s = schema_in c.args.sources.now in
+    let s = the_schema c.args.sources.now.names.now in
     let y = attribute_of c.args.attribute in
     let (q, named) = c.requires.named in
     subst (λ o. ArePlacesOf s (SpeaksOf s n k y) (at_most_one o)) (sym c.from_residual.ensures)
@@ -18,7 +19,7 @@ returns-in_err-entity c n k typed =
 
 pub returns-then-has_first_shape : goal.returns-then-has_first_shape
 returns-then-has_first_shape c n k typed =
-    let s = schema_in c.args.sources.now in
+    let s = the_schema c.args.sources.now.names.now in
     let y = attribute_of c.args.attribute in
     let (q, named) = c.requires.named in
     let h = c.in_ok-entity.ensures in
@@ -30,7 +31,7 @@ returns-then-has_first_shape c n k typed =
 
 pub returns-else-has_first_shape : goal.returns-else-has_first_shape
 returns-else-has_first_shape c n k typed =
-    let s = schema_in c.args.sources.now in
+    let s = the_schema c.args.sources.now.names.now in
     let y = attribute_of c.args.attribute in
     let (q, named) = c.requires.named in
     let h = c.in_ok-entity.ensures in

@@ -1,5 +1,5 @@
-use Rattle.express_syntax.specs.SchemaViews.{schema_of}
 use Rattle.step_equal.specs.TableViews.{table_of}
+use Rattle.schema_names.specs.Schemas.{the_schema}
 use Rattle.step_rewrite.specs.Rewriting.{smaller_text}
 use Rattle.certificate_text.specs.Texts.{certificate_text}
 use Rattle.shrinking.specs.Shrinking.{written_to}
@@ -10,14 +10,14 @@ use Rattle.shrinking.proofs.merge.shrink_exchange.Goals as goal
 
 pub returns-in-Faulty-clause-shrinks : goal.returns-in-Faulty-clause-shrinks
 returns-in-Faulty-clause-shrinks g c = λ names are bytes within reads.
-    faulty (schema_of c.args.graph.types.names.schema.now) names bytes c.args.exchange.now
+    faulty (the_schema c.args.graph.types.names) names bytes c.args.exchange.now
     (g.O.Sink.held c.args.out.now) (g.C.Sink.held c.args.certificate.now) c.in-Ok.merging c.in-Faulty.found
     c.report.result c.in-Faulty.is (c.in-Ok.ensures.merges names are) within reads c.report.ensures.report
     c.report.ensures.findings c.report.ensures.rules
 
 pub returns-in-Ok-write_both-clause-shrinks : goal.returns-in-Ok-write_both-clause-shrinks
 returns-in-Ok-write_both-clause-shrinks g c = λ names are bytes within reads.
-    let s = schema_of c.args.graph.types.names.schema.now in
+    let s = the_schema c.args.graph.types.names in
     let x = c.args.exchange.now in
     let first = table_of c.in-Clean.first in
     let second = table_of c.in-Clean.second in
@@ -33,7 +33,7 @@ returns-in-Ok-write_both-clause-shrinks g c = λ names are bytes within reads.
 
 pub returns-clause-shrinks : goal.returns-clause-shrinks
 returns-clause-shrinks g c = λ names are bytes within reads.
-    let s = schema_of c.args.graph.types.names.schema.now in
+    let s = the_schema c.args.graph.types.names in
     let x = c.args.exchange.now in
     let first = table_of c.in-Clean.first in
     let second = table_of c.in-Clean.second in

@@ -1,11 +1,11 @@
-use Rattle.express_syntax.specs.SchemaViews.{schema_of}
 use Rattle.step_exchange.specs.Exchanges.{structure}
+use Rattle.schema_names.specs.Schemas.{the_schema}
 use Rattle.shrinking.proofs.Merging.{same_findings}
 use Rattle.shrinking.proofs.merge.summary.Goals as goal
 
 pub returns-clause-report : goal.returns-clause-report
 returns-clause-report c = λ found.
-    c.report-report.ensures.report (same_findings (schema_of c.args.graph.types.names.schema.now)
+    c.report-report.ensures.report (same_findings (the_schema c.args.graph.types.names)
     (structure c.args.exchange.now) c.nothing_found.result.findings.items c.nothing_found.result.rules.findings.items
     c.nothing_found.result.rules.unknown c.args.unknown c.nothing_found.ensures.findings c.nothing_found.ensures.rules
     c.nothing_found.ensures.unknown found)

@@ -1,6 +1,6 @@
 use Rattle.std.proofs.Common.{refl, subst}
-use Rattle.express_syntax.specs.SchemaViews.{schema_of}
 use Rattle.schema_semantics.specs.Parts.{AreUnchecked}
+use Rattle.schema_names.specs.Schemas.{the_schema}
 use Rattle.schema_parts.specs.Adding.{unchecked_in}
 use Rattle.conformance.specs.Choices.{chosen_names}
 use Rattle.pin_choices.specs.Chosen.{choice_of}
@@ -11,7 +11,7 @@ use Rattle.shrinking.proofs.shrink.shrink_graph.Goals as goal
 
 pub returns-then-is_refused-clause-shrinks : goal.returns-then-is_refused-clause-shrinks
 returns-then-is_refused-clause-shrinks g c = λ text has.
-    let s = schema_of c.args.graph.types.names.schema.now in
+    let s = the_schema c.args.graph.types.names in
     let refused = c.if-is_refused.ensures in
     unlooked (choice_of c.args.choice.now) c.args.choice.now.strict text (g.F.Source.to_come c.args.file.now)
     (g.O.Sink.held c.args.out.now) (g.C.Sink.held c.args.certificate.now) (Unchecked c.into_unchecked.result)
@@ -28,7 +28,7 @@ returns-then-is_refused-clause-shrinks g c = λ text has.
 
 pub returns-in-Ok-clause-shrinks : goal.returns-in-Ok-clause-shrinks
 returns-in-Ok-clause-shrinks g c = λ text has.
-    let s = schema_of c.args.graph.types.names.schema.now in
+    let s = the_schema c.args.graph.types.names in
     let choice = choice_of c.args.choice.now in
     settled choice c.args.choice.now.strict text s (g.F.Source.to_come c.args.file.now)
     (written_to g.O.Sink.held c.args.out.now c.shrink_source.new.out)
@@ -38,6 +38,6 @@ returns-in-Ok-clause-shrinks g c = λ text has.
 pub returns-clause-shrinks : goal.returns-clause-shrinks
 returns-clause-shrinks g c = λ text has.
     unknown (choice_of c.args.choice.now) c.args.choice.now.strict text
-    (schema_of c.args.graph.types.names.schema.now) (g.F.Source.to_come c.args.file.now)
+    (the_schema c.args.graph.types.names) (g.F.Source.to_come c.args.file.now)
     (g.O.Sink.held c.args.out.now) (g.C.Sink.held c.args.certificate.now) c.in-Err.fault c.of_schema.result
     c.of_schema.ensures has c.if-is_refused.ensures c.in-Err.ensures

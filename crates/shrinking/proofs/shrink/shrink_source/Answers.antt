@@ -1,6 +1,6 @@
 use Rattle.std.proofs.Common.{ℕ, Global, Err, ap, refl, subst, sym, ◌∙◌}
 use Rattle.std.specs.Prelude.{Vec}
-use Rattle.express_syntax.specs.SchemaViews.{schema_of}
+use Rattle.schema_names.specs.Schemas.{the_schema}
 use Rattle.files.specs.declared.fault.Role.TheVariants.{Certificate, File, Output, Schema}
 use Rattle.faults.proofs.Failing.{file_read, unread_device, unread_file, unread_other}
 use Rattle.shrinking.specs.ComputedAnswers.{FileShrinks}
@@ -11,7 +11,7 @@ use Rattle.shrinking.proofs.shrink.shrink_source.Goals as goal
 
 pub returns-in-Ok-clause-shrinks : goal.returns-in-Ok-clause-shrinks
 returns-in-Ok-clause-shrinks g c = λ names are.
-    let s = schema_of c.args.graph.types.names.schema.now in
+    let s = the_schema c.args.graph.types.names in
     given s names (g.F.Source.to_come c.args.file.now) _ c.in-Ok.bytes.items
     (written_to g.O.Sink.held c.args.out.now c.shrink_file.new.out)
     (written_to g.C.Sink.held c.args.certificate.now c.shrink_file.new.certificate) c.shrink_file.result
@@ -22,7 +22,7 @@ returns-in-Ok-clause-shrinks g c = λ names are.
 
 pub returns-clause-shrinks : goal.returns-clause-shrinks
 returns-clause-shrinks g c = λ names are.
-    not_given (schema_of c.args.graph.types.names.schema.now) names (g.F.Source.to_come c.args.file.now)
+    not_given (the_schema c.args.graph.types.names) names (g.F.Source.to_come c.args.file.now)
     (g.O.Sink.held c.args.out.now) (g.C.Sink.held c.args.certificate.now) c.in-Err.fault c.unread.result
     c.unread.ensures (λ e. c.in-Err.ensures.too_large (ap Err e))
 

@@ -1,10 +1,10 @@
 use Rattle.std.proofs.Common.{take}
-use Rattle.express_syntax.specs.SchemaViews.{schema_of}
+use Rattle.schema_names.specs.Schemas.{the_schema}
 use Rattle.population_typed.specs.Seen.{population_seen}
 use Rattle.step_extent.specs.Extents.{AllHeld}
 use Rattle.step_extent.proofs.extents.all_referrers.Given as goal
 
 abbrev pub invariant-loop-inverse : goal.invariant-loop-inverse
 invariant-loop-inverse l =
-    AllHeld (schema_of l.population.types.now.names.schema.now) (population_seen l.population)
+    AllHeld (the_schema l.population.types.now.names) (population_seen l.population)
     (take l.inverse-index l.inverses) l.all.items

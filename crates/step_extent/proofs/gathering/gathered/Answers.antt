@@ -1,9 +1,9 @@
 use Rattle.std.specs.Prelude.{false, is_some}
 use Rattle.std.proofs.Common.{◌≡◌, ◌∙◌, ◌∷◌, [], ◌++◌, map, flat_map, take, ap, sym}
 use Rattle.std.specs.List.{repeat, list_any}
-use Rattle.express_syntax.specs.SchemaViews.{schema_of}
 use Rattle.conformance.specs.Referring.{holds, times_at, held}
 use Rattle.referrers.specs.Referring.{referrers_of}
+use Rattle.schema_names.specs.Schemas.{the_schema}
 use Rattle.schema_rules.specs.Seen.{gathering_seen, inverse_seen}
 use Rattle.population_typed.specs.Ordering.{picked_at}
 use Rattle.population_typed.specs.Rows.{instance_seen}
@@ -17,7 +17,7 @@ use Rattle.step_extent.proofs.gathering.gathered.Goals as goal
 pub returns-then-not-is_somewhere : goal.returns-then-not-is_somewhere
 returns-then-not-is_somewhere c y =
     let p = c.args.population.now in
-    let s = schema_of p.types.now.names.schema.now in
+    let s = the_schema p.types.now.names in
     let i = c.args.inverse.now in
     let forms = p.rows.forms.items in
     let nowhere : list_any is_some (map (position_by i) forms) ≡ false =
@@ -31,7 +31,7 @@ returns-then-not-is_somewhere c y =
 pub loop-row-preserved : goal.loop-row-preserved
 loop-row-preserved c y =
     let p = c.args.population.now in
-    let s = schema_of p.types.now.names.schema.now in
+    let s = the_schema p.types.now.names in
     let i = c.args.inverse.now in
     let forms = p.rows.forms.items in
     let x = c.instance-instance.result in

@@ -2,9 +2,9 @@ use Rattle.std.proofs.Common.{map, sym, subst, arith}
 use Rattle.std.specs.Prelude.{◌↔◌}
 use Rattle.digraph.specs.Graphs.{graph_of}
 use Rattle.express_syntax.specs.Profile.{Every}
+use Rattle.schema_names.specs.Schemas.{the_schema}
 use Rattle.schema_places.specs.Above.{AreAbove}
 use Rattle.std.specs.List.{AllZip}
-use Rattle.express_syntax.specs.SchemaViews.{schema_of}
 use Rattle.schema_rules.specs.Seen.{unique_seen, IsNumberedUnique}
 use Rattle.population_typed.specs.Rows.{instance_seen}
 use Rattle.population_typed.specs.Seen.{population_seen}
@@ -22,7 +22,7 @@ use Rattle.step_pins.proofs.rows.pin_by_forms.Goals as goal
 pub loop-row-preserved : goal.loop-row-preserved
 loop-row-preserved c en names are chosen =
     let p = c.args.population.now in
-    let s = schema_of p.types.now.names.schema.now in
+    let s = the_schema p.types.now.names in
     let x = c.instance-instance.result in
     let o = form_among p.rows.forms.items x.form in
     let uniques = map (unique_seen s) c.args.rules.now.uniques.items in
@@ -54,7 +54,7 @@ loop-row-preserved c en names are chosen =
 pub returns : goal.returns
 returns c en names are chosen =
     let p = c.args.population.now in
-    let s = schema_of p.types.now.names.schema.now in
+    let s = the_schema p.types.now.names in
     let past = c.loop-row-test.false in
     let end = c.len-row-end.ensures in
     ends (PinsByForm s en names (map (unique_seen s) c.args.rules.now.uniques.items)) (population_seen p) c.loop-row.row

@@ -1,7 +1,7 @@
 use Rattle.std.proofs.Common.{List}
-use Rattle.express_syntax.specs.SchemaViews.{schema_of}
 use Rattle.schema_semantics.specs.Names.{Name}
 use Rattle.conformance.specs.Entities.{Entities, AreEntities}
+use Rattle.schema_names.specs.Schemas.{the_schema}
 use Rattle.pin_choices.specs.Chosen.{AreChosen}
 use Rattle.schema_rules.specs.Seen.{rules_seen}
 use Rattle.population_typed.specs.Seen.{population_seen}
@@ -11,8 +11,8 @@ use Rattle.step_pins.proofs.rows.pin_by_forms.Given as goal
 
 abbrev pub invariant-loop-row : goal.invariant-loop-row
 invariant-loop-row l =
-    (en : Entities) (names : List Name) → AreEntities (schema_of l.population.types.now.names.schema.now) en
-    → AreChosen (schema_of l.population.types.now.names.schema.now) names l.chosen
-    → SoFar (PinsByForm (schema_of l.population.types.now.names.schema.now) en names
-    (rules_seen (schema_of l.population.types.now.names.schema.now) l.rules).uniques) (population_seen l.population) l.row
+    (en : Entities) (names : List Name) → AreEntities (the_schema l.population.types.now.names) en
+    → AreChosen (the_schema l.population.types.now.names) names l.chosen
+    → SoFar (PinsByForm (the_schema l.population.types.now.names) en names
+    (rules_seen (the_schema l.population.types.now.names) l.rules).uniques) (population_seen l.population) l.row
     l.fn.pinned l.pinned

@@ -1,5 +1,5 @@
 use Rattle.std.proofs.Common.{◌≡◌, ◌∙◌, ap, map, subst, arith}
-use Rattle.express_syntax.specs.SchemaViews.{schema_of}
+use Rattle.schema_names.specs.Schemas.{the_schema}
 use Rattle.schema_rules.specs.Seen.{inverse_seen}
 use Rattle.schema_semantics.specs.Names.{OneOf}
 use Rattle.step_extent.specs.Inverses.{numbers_by, row_by}
@@ -18,7 +18,7 @@ use Rattle.step_pins.proofs.sides.pin_sides.Goals as goal
 pub loop-row-preserved : goal.loop-row-preserved
 loop-row-preserved c =
     let p = c.args.extents.now.population.now in
-    let s = schema_of p.types.now.names.schema.now in
+    let s = the_schema p.types.now.names in
     let all = c.args.extents.now.rules.now.inverses.items in
     let is = population_seen p in
     let inverses = map (inverse_seen s) all in
@@ -46,7 +46,7 @@ loop-row-preserved c =
 pub returns : goal.returns
 returns c =
     let p = c.args.extents.now.population.now in
-    let s = schema_of p.types.now.names.schema.now in
+    let s = the_schema p.types.now.names in
     let is = population_seen p in
     let inverses = map (inverse_seen s) c.args.extents.now.rules.now.inverses.items in
     let past = c.loop-row-test.false in

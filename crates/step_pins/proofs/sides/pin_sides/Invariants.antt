@@ -1,6 +1,6 @@
 use Rattle.std.proofs.Common.{map}
-use Rattle.express_syntax.specs.SchemaViews.{schema_of}
 use Rattle.schema_semantics.specs.Names.{OneOf}
+use Rattle.schema_names.specs.Schemas.{the_schema}
 use Rattle.schema_rules.specs.Seen.{rules_seen}
 use Rattle.population_typed.specs.Seen.{population_seen}
 use Rattle.step_pins.proofs.Listing.{SoFar}
@@ -10,5 +10,5 @@ use Rattle.step_pins.proofs.sides.pin_sides.Given as goal
 abbrev pub invariant-loop-row : goal.invariant-loop-row
 invariant-loop-row l =
     SoFar (λ y x. OneOf (IsSideOf (population_seen l.extents.population.now) y x)
-    (rules_seen (schema_of l.extents.population.now.types.now.names.schema.now) l.extents.rules.now).inverses)
+    (rules_seen (the_schema l.extents.population.now.types.now.names) l.extents.rules.now).inverses)
     (population_seen l.extents.population.now) l.row l.fn.pinned l.pinned

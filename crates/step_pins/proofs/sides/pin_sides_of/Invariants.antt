@@ -1,5 +1,5 @@
 use Rattle.std.proofs.Common.{slice_get}
-use Rattle.express_syntax.specs.SchemaViews.{schema_of}
+use Rattle.schema_names.specs.Schemas.{the_schema}
 use Rattle.step_extent.specs.Extents.{inverse_value_by}
 use Rattle.population_typed.specs.Seen.{population_seen}
 use Rattle.step_pins.proofs.Listing.{SoFar}
@@ -8,6 +8,6 @@ use Rattle.step_pins.proofs.sides.pin_sides_of.Given as goal
 
 abbrev pub invariant-loop-number : goal.invariant-loop-number
 invariant-loop-number l =
-    SoFar (λ y n. IsOnSide l.name (inverse_value_by (schema_of l.extents.population.now.types.now.names.schema.now)
+    SoFar (λ y n. IsOnSide l.name (inverse_value_by (the_schema l.extents.population.now.types.now.names)
     (slice_get l.extents.rules.now.inverses.items n) (population_seen l.extents.population.now) l.name) y) l.numbers
     l.number-index l.fn.pinned l.pinned

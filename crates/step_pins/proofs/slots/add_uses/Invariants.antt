@@ -1,10 +1,10 @@
 use Rattle.std.proofs.Common.{take}
-use Rattle.schema_bases.specs.Seen.{schema_at}
+use Rattle.schema_names.specs.Schemas.{the_schema}
 use Rattle.schema_uses.specs.Uses.{of_place}
 use Rattle.step_pins.specs.Slots.{slots_of, asked, AddsSlots}
 use Rattle.step_pins.proofs.slots.add_uses.Given as goal
 
 abbrev pub invariant-loop-i : goal.invariant-loop-i
 invariant-loop-i l =
-    AddsSlots (schema_at l.bases) l.fn.slots.items l.slots.items
-    (λ d. slots_of d l.position (asked (schema_at l.bases) (of_place l.place (take l.i l.uses))))
+    AddsSlots (the_schema l.bases.names.now) l.fn.slots.items l.slots.items
+    (λ d. slots_of d l.position (asked (the_schema l.bases.names.now) (of_place l.place (take l.i l.uses))))

@@ -1,7 +1,7 @@
 use Rattle.std.proofs.Common.{map, arith}
 use Rattle.std.proofs.lemmas.List.{length-map}
 use Rattle.std.proofs.lemmas.Option.{slice_get-get_or}
-use Rattle.schema_bases.specs.Seen.{schema_at}
+use Rattle.schema_names.specs.Schemas.{the_schema}
 use Rattle.step_pins.specs.Elements.{Asks}
 use Rattle.step_pins.specs.Slots.{slot_seen, HasUniqueAt}
 use Rattle.schema_names.proofs.Items.{mapped-at}
@@ -10,7 +10,7 @@ use Rattle.step_pins.proofs.unique_elements.gather_in_slots.Goals as goal
 
 pub loop-i-preserved : goal.loop-i-preserved
 loop-i-preserved c d is =
-    let s = schema_at c.args.bases.now in
+    let s = the_schema c.args.bases.now.names.now in
     let xs = c.args.slots.now in
     let i = c.loop-i.i in
     next (λ q. HasUniqueAt s d (Asks q) c.args.values.now) (map (slot_seen s) xs) i c.args.weak.now _ c.loop-i.weak
@@ -20,7 +20,7 @@ loop-i-preserved c d is =
 
 pub returns : goal.returns
 returns c d is =
-    let s = schema_at c.args.bases.now in
+    let s = the_schema c.args.bases.now.names.now in
     let xs = c.args.slots.now in
     let past = c.loop-i-test.false in
     let long = length-map xs (slot_seen s) in

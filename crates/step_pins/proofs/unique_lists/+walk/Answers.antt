@@ -2,7 +2,8 @@ use Rattle.std.proofs.Common.{◌∙◌, sym, ap, subst, arith}
 use Rattle.std.proofs.lemmas.Result.{on_ok_weaker}
 use Rattle.step_values.proofs.Weights.{lighter}
 use Rattle.step_values.specs.Views.{word_of}
-use Rattle.schema_bases.specs.Seen.{base_seen, aggregate_seen, schema_at}
+use Rattle.schema_names.specs.Schemas.{the_schema}
+use Rattle.schema_bases.specs.Seen.{base_seen, aggregate_seen}
 use Rattle.schema_bases.specs.Tables.{IsNumbered}
 use Rattle.step_pins.specs.Elements.{Asks}
 use Rattle.step_pins.proofs.WalkingElements.{in-typed, in-sequence, in-bag, in-elements, not-among, next, ends}
@@ -10,7 +11,7 @@ use Rattle.step_pins.proofs.unique_lists.+walk.Goals as goal
 
 pub gather_in_each-returns-then-not-may_hold : goal.gather_in_each-returns-then-not-may_hold
 gather_in_each-returns-then-not-may_hold t c d is =
-    let s = schema_at c.args.bases.now in
+    let s = the_schema c.args.bases.now.names.now in
     not-among s d Asks c.args.weak.now (base_seen s c.args.base) c.args.values.now
     (sym (c.may_hold.ensures d is) ∙ c.if-not-may_hold.true)
 
@@ -21,13 +22,13 @@ gather_in_each-gather_in_value-requires t c =
 
 pub gather_in_each-loop-i-preserved : goal.gather_in_each-loop-i-preserved
 gather_in_each-loop-i-preserved t c d is =
-    let s = schema_at c.args.bases.now in
+    let s = the_schema c.args.bases.now.names.now in
     next s d Asks (base_seen s c.args.base) c.args.values.now c.loop-i.i c.args.weak.now c.at.result
     c.loop-i.weak c.gather_in_value.new.weak c.at.ensures (c.loop-i.invariant d is) (c.in_ok-gather_in_value.ensures d is)
 
 pub gather_in_each-returns : goal.gather_in_each-returns
 gather_in_each-returns t c d is =
-    let s = schema_at c.args.bases.now in
+    let s = the_schema c.args.bases.now.names.now in
     let past = c.loop-i-test.false in
     let end = c.len-i-end.ensures in
     ends s d Asks (base_seen s c.args.base) c.args.values.now c.loop-i.i c.args.weak.now c.loop-i.weak
@@ -35,7 +36,7 @@ gather_in_each-returns t c d is =
 
 pub gather_in_elements-returns : goal.gather_in_elements-returns
 gather_in_elements-returns t c d is =
-    let s = schema_at c.args.bases.now in
+    let s = the_schema c.args.bases.now.names.now in
     let a = c.in-Aggregate.aggregate in
     on_ok_weaker c.gather_in_each.result
     (in-elements s d Asks c.args.weak.now c.gather_in_each.new.weak (base_seen s c.args.base) (base_seen s c.of_number-element.result)
@@ -45,7 +46,7 @@ gather_in_elements-returns t c d is =
 
 pub gather_in_value-returns-in-Some : goal.gather_in_value-returns-in-Some
 gather_in_value-returns-in-Some t c d is =
-    let s = schema_at c.args.bases.now in
+    let s = the_schema c.args.bases.now.names.now in
     on_ok_weaker c.gather_in_value.result
     (in-typed s d Asks c.args.weak.now c.gather_in_value.new.weak (base_seen s c.args.base) (base_seen s c.in-Some.within)
     (word_of c.in-Typed.word) c.in-Typed.inner c.args.value.now c.in-Typed.ensures (sym (c.in-Some.ensures.says d is)))
@@ -53,7 +54,7 @@ gather_in_value-returns-in-Some t c d is =
 
 pub gather_in_value-returns-in_ok-gather_if_unique-in-Sequence : goal.gather_in_value-returns-in_ok-gather_if_unique-in-Sequence
 gather_in_value-returns-in_ok-gather_if_unique-in-Sequence t c d is =
-    let s = schema_at c.args.bases.now in
+    let s = the_schema c.args.bases.now.names.now in
     on_ok_weaker c.gather_in_elements.result
     (in-sequence s d Asks c.args.weak.now c.gather_in_elements.new.weak (base_seen s c.args.base) c.in-Sequence.values
     c.args.value.now c.gather_if_unique.new.weak
@@ -62,7 +63,7 @@ gather_in_value-returns-in_ok-gather_if_unique-in-Sequence t c d is =
 
 pub gather_in_value-returns-in-Bag : goal.gather_in_value-returns-in-Bag
 gather_in_value-returns-in-Bag t c d is =
-    let s = schema_at c.args.bases.now in
+    let s = the_schema c.args.bases.now.names.now in
     on_ok_weaker c.gather_in_elements-in-Bag.result
     (in-bag s d Asks c.args.weak.now c.gather_in_elements-in-Bag.new.weak (base_seen s c.args.base) c.in-Bag.values c.args.value.now c.in-Bag.ensures)
     (c.gather_in_elements-in-Bag.ensures d is)

@@ -1,6 +1,7 @@
 use Rattle.std.proofs.Common.{◌*◌, ◌+◌}
 use Rattle.conformance.specs.Bases.{Domain, IsDomain}
-use Rattle.schema_bases.specs.Seen.{base_seen, schema_at}
+use Rattle.schema_names.specs.Schemas.{the_schema}
+use Rattle.schema_bases.specs.Seen.{base_seen}
 use Rattle.conformance.specs.Elements.{HasUniqueAmong}
 use Rattle.step_values.proofs.Walks.{after}
 use Rattle.step_values.proofs.Weights.{weight, weight_of}
@@ -18,8 +19,9 @@ abbrev pub decreases-gather_in_each : goal.decreases-gather_in_each
 decreases-gather_in_each a = 4 * weight_of a.values.now + 1
 
 abbrev pub invariant-gather_in_each-loop-i : goal.invariant-gather_in_each-loop-i
-invariant-gather_in_each-loop-i l = (d : Domain) → IsDomain (schema_at l.bases) d
+invariant-gather_in_each-loop-i l = (d : Domain) → IsDomain (the_schema l.bases.names.now) d
     → GathersUpTo
-    (λ q. HasUniqueAmong (schema_at l.bases) d (Asks q) (base_seen (schema_at l.bases) l.base) l.values)
-    (λ q. HasUniqueAmong (schema_at l.bases) d (Asks q) (base_seen (schema_at l.bases) l.base)
+    (λ q. HasUniqueAmong (the_schema l.bases.names.now) d (Asks q) (base_seen (the_schema l.bases.names.now) l.base)
+    l.values)
+    (λ q. HasUniqueAmong (the_schema l.bases.names.now) d (Asks q) (base_seen (the_schema l.bases.names.now) l.base)
     (after l.i l.values)) l.fn.weak l.weak

@@ -1,8 +1,8 @@
 use Rattle.std.proofs.Common.{ℕ}
 use Rattle.std.specs.Prelude.{◌⊎◌}
-use Rattle.express_syntax.specs.SchemaViews.{schema_of}
 use Rattle.schema_semantics.specs.Names.{OneOf}
 use Rattle.conformance.specs.Pins.{IsInverseSide, StandsInsideUnique, StandsBesideItsClass, IsWeaklyPinned}
+use Rattle.schema_names.specs.Schemas.{the_schema}
 use Rattle.schema_rules.specs.Seen.{rules_seen}
 use Rattle.population_typed.specs.Seen.{population_seen}
 use Rattle.step_pins.proofs.Pinning.{pins-both, pins-alike}
@@ -17,7 +17,7 @@ use Rattle.step_pins.proofs.weak.pins.Goals as goal
 pub returns-clause-pins : goal.returns-clause-pins
 returns-clause-pins c d en names domain are chosen =
     let p = c.args.extents.now.population.now in
-    let s = schema_of p.types.now.names.schema.now in
+    let s = the_schema p.types.now.names in
     let rules = rules_seen s c.args.extents.now.rules.now in
     let is = population_seen p in
     let ByForm : ℕ → Type 0 = λ y. OneOf (PinsByForm s en names rules.uniques y) is in
@@ -37,7 +37,7 @@ returns-clause-pins c d en names domain are chosen =
 pub returns-clause-lists : goal.returns-clause-lists
 returns-clause-lists c d en domain are E y =
     let p = c.args.extents.now.population.now in
-    let s = schema_of p.types.now.names.schema.now in
+    let s = the_schema p.types.now.names in
     from-empty (StandsBeside E y) (OneOf (StandsBeside E y) c.gather_elements.new.weak.lists)
     (OneOf (StandsBesideItsClass s d en E y) (population_seen p)) c.new-lists.result c.new-lists.ensures
     (c.in_ok-gather_elements.ensures d en domain are (beside E y))

@@ -1,5 +1,6 @@
 use Rattle.std.proofs.Common.{◌∙◌, sym, subst}
-use Rattle.step_population.specs.Making.{values_by, AreReady, schema_of_maker, found_by, Adds}
+use Rattle.schema_names.specs.Schemas.{the_schema}
+use Rattle.step_population.specs.Making.{values_by, AreReady, found_by, Adds}
 use Rattle.population_typed.proofs.Turns.{on-ok}
 use Rattle.step_population.proofs.Turns.{internal-parameters}
 use Rattle.step_population.proofs.building.push_instance.Goals as goal
@@ -7,7 +8,7 @@ use Rattle.step_population.proofs.building.push_instance.Goals as goal
 pub push_record-requires-clause-ready : goal.push_record-requires-clause-ready
 push_record-requires-clause-ready c =
     let m = c.args.maker.now in
-    subst (AreReady (schema_of_maker m) (found_by m) c.args.slots.now)
+    subst (AreReady (the_schema m.bases.names.now) (found_by m) c.args.slots.now)
     (internal-parameters c.args.parts.now c.split-values.result.1 (sym c.is_internal.ensures ∙ c.if-not-is_internal.false)
     c.split-values.ensures.back)
     c.requires.ready
@@ -17,7 +18,7 @@ returns c =
     let m = c.args.maker.now in
     on-ok c.push_record.result
     (subst (λ ts. Adds m c.args.builder.now c.push_record.new.builder
-    (λ d. values_by (schema_of_maker m) d c.args.slots.now ts))
+    (λ d. values_by (the_schema m.bases.names.now) d c.args.slots.now ts))
     (sym (internal-parameters c.args.parts.now c.split-values.result.1
     (sym c.is_internal.ensures ∙ c.if-not-is_internal.false) c.split-values.ensures.back)))
     c.push_record.ensures

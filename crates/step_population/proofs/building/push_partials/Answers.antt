@@ -3,14 +3,15 @@ use Rattle.std.proofs.Math.ListN.{drop_of_length-le}
 use Rattle.step_records.specs.Cells.{all_of}
 use Rattle.step_exchange.specs.Views.{record_in}
 use Rattle.conformance.specs.Entities.{parameters}
-use Rattle.step_population.specs.Making.{values_by, AreReady, schema_of_maker, found_by}
+use Rattle.schema_names.specs.Schemas.{the_schema}
+use Rattle.step_population.specs.Making.{values_by, AreReady, found_by}
 use Rattle.step_population.proofs.Turns.{adds-all, adds-next, names-stay, none-by, partial-next, ready-cut, values-cut}
 use Rattle.step_population.proofs.building.push_partials.Goals as goal
 
 pub push_record-requires-clause-maker : goal.push_record-requires-clause-maker
 push_record-requires-clause-maker c =
     let m = c.args.maker.now in
-    let s = schema_of_maker m in
+    let s = the_schema m.bases.names.now in
     names-stay m c.args.builder.now c.loop-i.builder
     (λ d. values_by s d c.args.slots.now (parameters (map record_in c.args.partials.now)))
     (λ d. values_by s d c.loop-i.left.now (parameters (map record_in (drop c.loop-i.i c.args.partials.now))))
@@ -19,7 +20,7 @@ push_record-requires-clause-maker c =
 pub push_record-requires-clause-ready : goal.push_record-requires-clause-ready
 push_record-requires-clause-ready c =
     let m = c.args.maker.now in
-    let s = schema_of_maker m in
+    let s = the_schema m.bases.names.now in
     let i = c.loop-i.i in
     let values = c.split-values.result.1 in
     let own = c.split-values.ensures.back ∙ ap (drop 1) c.parts.ensures in
@@ -33,7 +34,7 @@ push_record-requires-clause-ready c =
 pub loop-i-preserved : goal.loop-i-preserved
 loop-i-preserved c =
     let m = c.args.maker.now in
-    let s = schema_of_maker m in
+    let s = the_schema m.bases.names.now in
     let i = c.loop-i.i in
     let left = c.loop-i.left.now in
     let values = c.split-values.result.1 in
@@ -57,7 +58,7 @@ loop-i-preserved c =
 pub returns : goal.returns
 returns c =
     let m = c.args.maker.now in
-    let s = schema_of_maker m in
+    let s = the_schema m.bases.names.now in
     let i = c.loop-i.i in
     let left = c.loop-i.left.now in
     let le : length c.args.partials.now ≤ i = omega (arith, c.loop-i-test.false, c.len-i-end.ensures) in

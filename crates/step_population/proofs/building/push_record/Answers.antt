@@ -1,7 +1,8 @@
 use Rattle.std.proofs.Common.{◌≤◌, ◌∙◌, ◌+◌, [], ◌∷◌, sym, ap, length, drop, arith}
 use Rattle.std.proofs.Math.ListN.{drop_of_length-le}
 use Rattle.step_records.specs.Cells.{all_of}
-use Rattle.step_population.specs.Making.{value_by, values_by, schema_of_maker, found_by}
+use Rattle.schema_names.specs.Schemas.{the_schema}
+use Rattle.step_population.specs.Making.{value_by, values_by, found_by}
 use Rattle.population_typed.proofs.Turns.{drop-got, drop-item, drop-none}
 use Rattle.step_population.proofs.Turns.{adds-all, adds-next, names-stay, none-by, ready-next, value-next}
 use Rattle.step_population.proofs.building.push_record.Goals as goal
@@ -9,7 +10,7 @@ use Rattle.step_population.proofs.building.push_record.Goals as goal
 pub returns-in_default : goal.returns-in_default
 returns-in_default c =
     let m = c.args.maker.now in
-    let s = schema_of_maker m in
+    let s = the_schema m.bases.names.now in
     let over = drop-none c.args.values.now c.loop-i.i (sym c.item.ensures ∙ c.in_default.is) in
     adds-all m c.args.builder.now c.loop-i.builder (λ d. values_by s d c.args.slots.now (all_of c.args.values.now))
     (λ d. values_by s d (drop c.loop-i.i c.args.slots.now) (all_of (drop c.loop-i.i c.args.values.now)))
@@ -20,7 +21,7 @@ returns-in_default c =
 pub push_slot-requires-clause-maker : goal.push_slot-requires-clause-maker
 push_slot-requires-clause-maker c =
     let m = c.args.maker.now in
-    let s = schema_of_maker m in
+    let s = the_schema m.bases.names.now in
     names-stay m c.args.builder.now c.loop-i.builder (λ d. values_by s d c.args.slots.now (all_of c.args.values.now))
     (λ d. values_by s d (drop c.loop-i.i c.args.slots.now) (all_of (drop c.loop-i.i c.args.values.now)))
     c.requires.maker c.loop-i.invariant.0
@@ -29,15 +30,15 @@ pub push_slot-requires-clause-ready : goal.push_slot-requires-clause-ready
 push_slot-requires-clause-ready c =
     let m = c.args.maker.now in
     let i = c.loop-i.i in
-    (ready-next (schema_of_maker m) c.args.slots.now c.args.values.now i c.index-slots-i.result c.in-Some.param
-    (drop-got c.args.slots.now i c.index-slots-i.result c.loop-i-test.true c.index-slots-i.is)
+    (ready-next (the_schema m.bases.names.now) c.args.slots.now c.args.values.now i c.index-slots-i.result
+    c.in-Some.param (drop-got c.args.slots.now i c.index-slots-i.result c.loop-i-test.true c.index-slots-i.is)
     (drop-item c.args.values.now i c.in-Some.param (sym c.item.ensures ∙ c.in-Some.is)) (found_by m)
     c.loop-i.invariant.1).0
 
 pub loop-i-preserved : goal.loop-i-preserved
 loop-i-preserved c =
     let m = c.args.maker.now in
-    let s = schema_of_maker m in
+    let s = the_schema m.bases.names.now in
     let i = c.loop-i.i in
     let x = c.index-slots-i.result in
     let t = c.in-Some.param in
@@ -56,7 +57,7 @@ loop-i-preserved c =
 pub returns : goal.returns
 returns c =
     let m = c.args.maker.now in
-    let s = schema_of_maker m in
+    let s = the_schema m.bases.names.now in
     let i = c.loop-i.i in
     let le : length c.args.slots.now ≤ i = omega (arith, c.loop-i-test.false) in
     adds-all m c.args.builder.now c.loop-i.builder (λ d. values_by s d c.args.slots.now (all_of c.args.values.now))

@@ -4,8 +4,9 @@ use Rattle.std.specs.Option.{option_copied}
 use Rattle.step_structures.specs.Trees.{Row}
 use Rattle.step_exchange.specs.Views.{rows_with, form_in}
 use Rattle.step_values.specs.Building.{Building}
+use Rattle.schema_names.specs.Schemas.{the_schema}
 use Rattle.population_faults.proofs.Placing.{row-next as row-behind, rows-end, rows-short}
-use Rattle.step_population.specs.Making.{row_by, rows_by, schema_of_maker, found_by}
+use Rattle.step_population.specs.Making.{row_by, rows_by, found_by}
 use Rattle.population_typed.proofs.Turns.{drop-item, form-of-row, got}
 use Rattle.step_population.proofs.Turns.{maker-stays, row-next, row-ready, rows-all, rows-next}
 use Rattle.step_population.proofs.building.push_rows.Goals as goal
@@ -13,7 +14,7 @@ use Rattle.step_population.proofs.building.push_rows.Goals as goal
 pub returns-in_default : goal.returns-in_default
 returns-in_default c =
     let m = c.args.maker.now in
-    let s = schema_of_maker m in
+    let s = the_schema m.bases.names.now in
     let i = c.loop-i.i in
     let forms = c.args.rows.now.forms.items in
     let os = c.args.rows.now.form_of.items in
@@ -26,7 +27,7 @@ returns-in_default c =
 pub push_row-requires-clause-maker : goal.push_row-requires-clause-maker
 push_row-requires-clause-maker c =
     let m = c.args.maker.now in
-    let s = schema_of_maker m in
+    let s = the_schema m.bases.names.now in
     let i = c.loop-i.i in
     let forms = c.args.rows.now.forms.items in
     let os = c.args.rows.now.form_of.items in
@@ -37,7 +38,7 @@ push_row-requires-clause-maker c =
 pub push_row-requires-clause-ready : goal.push_row-requires-clause-ready
 push_row-requires-clause-ready c =
     let m = c.args.maker.now in
-    let s = schema_of_maker m in
+    let s = the_schema m.bases.names.now in
     let i = c.loop-i.i in
     let rows = c.args.rows.now in
     let ns = c.args.names.now in
@@ -54,7 +55,7 @@ push_row-requires-clause-ready c =
 pub loop-i-preserved : goal.loop-i-preserved
 loop-i-preserved c =
     let m = c.args.maker.now in
-    let s = schema_of_maker m in
+    let s = the_schema m.bases.names.now in
     let i = c.loop-i.i in
     let rows = c.args.rows.now in
     let forms = rows.forms.items in
@@ -82,7 +83,7 @@ loop-i-preserved c =
 pub returns : goal.returns
 returns c =
     let m = c.args.maker.now in
-    let s = schema_of_maker m in
+    let s = the_schema m.bases.names.now in
     let i = c.loop-i.i in
     let forms = c.args.rows.now.forms.items in
     let os = c.args.rows.now.form_of.items in

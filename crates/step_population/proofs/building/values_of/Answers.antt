@@ -1,13 +1,14 @@
 use Rattle.std.proofs.Common.{◌≡◌, ◌∙◌, ℕ, List, [], refl, sym, ap, subst, drop}
 use Rattle.conformance.specs.Bases.{Domain, IsDomain}
-use Rattle.schema_bases.specs.Seen.{schema_at}
 use Rattle.step_values.specs.Values.{Values}
 use Rattle.step_values.specs.Targets.{LeadTo, ReferTo}
+use Rattle.schema_names.specs.Schemas.{the_schema}
+use Rattle.schema_bases.specs.declared.lookup.Bases.{Bases}
 use Rattle.step_population.specs.declared.building.Maker.{Maker}
 use Rattle.step_values.specs.Building.{Building}
 use Rattle.population_rows.specs.Index.{found}
 use Rattle.population_fits.specs.References.{AreFound}
-use Rattle.step_population.specs.Making.{IsMaker, AddsRows, schema_of_maker}
+use Rattle.step_population.specs.Making.{IsMaker, AddsRows}
 use Rattle.step_exchange.specs.Views.{rows_with}
 use Rattle.population_faults.specs.Rows.{rows_in}
 use Rattle.step_exchange.proofs.Named.{rows-are}
@@ -48,7 +49,7 @@ finish-requires c =
 
 -- the names over which rows were made
 made-names : (m : Maker) (new : Building) (rows : Domain → List Values) (names : List ℕ)
-    (some : (d : Domain) × IsDomain (schema_of_maker m) d) (old : Building) → AddsRows m old new rows
+    (some : (d : Domain) × IsDomain (the_schema m.bases.names.now) d) (old : Building) → AddsRows m old new rows
     → old ≡ record { names = names; rows = []; pending = [] } → new.names ≡ names
 made-names m new rows names some old adds first =
     ap (λ (b : Building). b.names) (adds some.0 some.1) ∙ ap (λ (b : Building). b.names) first
@@ -57,7 +58,8 @@ pub returns-clause-leads : goal.returns-clause-leads
 returns-clause-leads c =
     let some = c.requires.bases.1.exists in
     let m = c.maker_of-maker.result in
-    let is = subst (λ b. IsDomain (schema_at b) some.0) (sym c.maker_of-maker.ensures.bases) some.1 in
+    let is = subst (λ (b : Bases). IsDomain (the_schema b.names.now) some.0)
+    (sym c.maker_of-maker.ensures.bases) some.1 in
     subst (λ ns. LeadTo ns c.finish.result.targets)
     (made-names m c.push_rows.new.builder _ c.as_slice-names.result.now (some.0, is) c.builder_of-builder.result
     c.in_ok-push_rows.ensures c.builder_of-builder.ensures ∙ c.as_slice-names.ensures) c.finish.ensures.targets
@@ -66,7 +68,8 @@ pub returns-clause-refers : goal.returns-clause-refers
 returns-clause-refers c =
     let some = c.requires.bases.1.exists in
     let m = c.maker_of-maker.result in
-    let is = subst (λ b. IsDomain (schema_at b) some.0) (sym c.maker_of-maker.ensures.bases) some.1 in
+    let is = subst (λ (b : Bases). IsDomain (the_schema b.names.now) some.0)
+    (sym c.maker_of-maker.ensures.bases) some.1 in
     subst (λ ns. ReferTo ns c.finish.result.rows)
     (made-names m c.push_rows.new.builder _ c.as_slice-names.result.now (some.0, is) c.builder_of-builder.result
     c.in_ok-push_rows.ensures c.builder_of-builder.ensures ∙ c.as_slice-names.ensures) c.finish.ensures.closed

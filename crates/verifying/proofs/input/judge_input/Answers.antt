@@ -1,8 +1,8 @@
 use Rattle.std.proofs.Common.{refl, subst, []}
 use Rattle.std.proofs.lemmas.Result.{err_from_is_err_and}
-use Rattle.express_syntax.specs.SchemaViews.{schema_of}
 use Rattle.conformance.specs.Choices.{chosen_names}
 use Rattle.step_exchange.specs.Exchanges.{structure}
+use Rattle.schema_names.specs.Schemas.{the_schema}
 use Rattle.ruled_populations.specs.Checking.{ChecksFile}
 use Rattle.verifying.specs.Verifying.{IsInput}
 use Rattle.verifying.proofs.input.judge_input.Goals as goal
@@ -14,14 +14,14 @@ returns-in_err-checked-clause-finds c schema input header_bytes choice settles a
 
 pub returns-in-Faulty-clause-finds : goal.returns-in-Faulty-clause-finds
 returns-in-Faulty-clause-finds c schema input header_bytes choice settles are reads = λ output.
-    let s = schema_of c.args.graph.now.types.names.schema.now in
+    let s = the_schema c.args.graph.now.types.names in
     let f = structure c.args.exchange.now in
     let (found, some) = subst (ChecksFile s f c.args.chosen.now) c.in-Faulty.is c.in_ok-checked.ensures in
     (s, settles, (header_bytes, f, reads, c.in-Faulty.found.rules.unknown, found, some))
 
 pub returns-in-Clean-clause-finds : goal.returns-in-Clean-clause-finds
 returns-in-Clean-clause-finds c schema input header_bytes choice settles are reads =
-    let s = schema_of c.args.graph.now.types.names.schema.now in
+    let s = the_schema c.args.graph.now.types.names in
     let f = structure c.args.exchange.now in
     let names = chosen_names s choice in
     let clean = subst (ChecksFile s f c.args.chosen.now) c.in-Clean.is c.in_ok-checked.ensures in

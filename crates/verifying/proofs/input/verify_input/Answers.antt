@@ -1,6 +1,6 @@
 use Rattle.std.proofs.Common.{subst, sym, Err, ◌∙◌}
 use Rattle.std.proofs.lemmas.Result.{err_from_is_err_and}
-use Rattle.express_syntax.specs.SchemaViews.{schema_of}
+use Rattle.schema_names.specs.Schemas.{the_schema}
 use Rattle.faults.specs.Faults.{of_file}
 use Rattle.verifying.specs.Verifying.{Verifies}
 use Rattle.verifying.proofs.Answering.{unread_input}
@@ -13,7 +13,7 @@ returns-in-Err c schema choice settles are =
     let input = c.args.input.now in
     subst (λ e. Verifies schema input output certificate choice (Err e))
     (sym (c.of_file.ensures ∙ (λ i. of_file (c.of_text.ensures i))))
-    (unread_input schema input output certificate choice (schema_of c.args.graph.now.types.names.schema.now) settles
+    (unread_input schema input output certificate choice (the_schema c.args.graph.now.types.names) settles
     c.in-Err.fault c.in-Err.ensures.fault)
 
 pub returns-in_err-tables : goal.returns-in_err-tables

@@ -1,8 +1,8 @@
 use Rattle.std.proofs.Common.{sym, ◌∙◌, refl}
 use Rattle.std.proofs.lemmas.Bool.{false≢true}
 use Rattle.std.proofs.lemmas.Result.{err_from_is_err_and}
-use Rattle.express_syntax.specs.SchemaViews.{schema_of}
 use Rattle.step_exchange.specs.Exchanges.{structure}
+use Rattle.schema_names.specs.Schemas.{the_schema}
 use Rattle.population_typed.specs.Seen.{population_seen}
 use Rattle.verifying.proofs.Comparing.{no_image, comes}
 use Rattle.verifying.proofs.output.compare.Goals as goal
@@ -20,7 +20,7 @@ returns-in_err-is_image c chosen certificate f has judged same =
 pub returns-then-not-branch : goal.returns-then-not-branch
 returns-then-not-branch c chosen certificate f has judged same =
     let q = c.args.population in
-    no_image (schema_of q.types.now.names.schema.now) chosen f (structure q.exchange.now)
+    no_image (the_schema q.types.now.names) chosen f (structure q.exchange.now)
     certificate c.args.judged.now judged (population_seen q) same c.in_ok-rows.rows c.in_ok-rows.ensures.rows
     c.in_ok-rows.ensures.population (λ m. false≢true (sym c.if-not-branch.true
     ∙ c.in_ok-is_image.ensures.1 (m.0, has ∙ m.1)))
@@ -29,7 +29,7 @@ pub returns : goal.returns
 returns c chosen certificate f has judged same =
     let q = c.args.population in
     let merged = c.in_ok-is_image.ensures.0 c.if-not-branch.false in
-    comes (schema_of q.types.now.names.schema.now) chosen f (structure q.exchange.now)
+    comes (the_schema q.types.now.names) chosen f (structure q.exchange.now)
     certificate c.args.judged.now judged (population_seen q) same c.in_ok-rows.rows c.in_ok-rows.ensures.rows
     c.in_ok-rows.ensures.population (merged.0, sym has ∙ merged.1) _ c.len-instances.ensures.length
     c.len-kept.ensures.length refl

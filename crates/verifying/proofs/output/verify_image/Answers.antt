@@ -1,7 +1,7 @@
 use Rattle.std.proofs.Common.{Ok, Err, subst}
 use Rattle.std.proofs.lemmas.Result.{err_from_is_err_and}
-use Rattle.express_syntax.specs.SchemaViews.{schema_of}
 use Rattle.step_exchange.specs.Exchanges.{structure}
+use Rattle.schema_names.specs.Schemas.{the_schema}
 use Rattle.population_typed.specs.Seen.{population_seen}
 use Rattle.step_population.specs.Verdicts.{IsVerdict}
 use Rattle.verifying.specs.ComputedPassing.{AnswersTyped}
@@ -16,7 +16,7 @@ returns-in_err-verdict c schema input output certificate header_bytes choice f h
 pub returns-in_err-proof-in-Typed : goal.returns-in_err-proof-in-Typed
 returns-in_err-proof-in-Typed c schema input output certificate header_bytes choice f has settles reads judged out =
     let types = c.args.types.now in
-    let s = schema_of types.names.schema.now in
+    let s = the_schema types.names in
     let hs = c.args.headings.now in
     let g = structure c.args.image.now in
     let j = c.args.judged.now in
@@ -25,7 +25,7 @@ returns-in_err-proof-in-Typed c schema input output certificate header_bytes cho
     let (same, image, typed) = subst (IsVerdict types c.args.image.now) c.in-Typed.is c.in_ok-verdict.ensures in
     let h : AnswersTyped s hs j g (population_seen q) (Err e) =
     subst (λ x. AnswersTyped s hs j (structure x) (population_seen q) (Err e)) image
-    (subst (λ t. AnswersTyped (schema_of t.names.schema.now) hs j (structure q.exchange.now) (population_seen q) (Err e))
+    (subst (λ t. AnswersTyped (the_schema t.names) hs j (structure q.exchange.now) (population_seen q) (Err e))
     same c.in_err-proof-in-Typed.ensures) in
     let p = err_from_is_err_and c.from_residual-in_err-proof-in-Typed.result c.from_residual-in_err-proof-in-Typed.ensures.1 in
     rw (p.1, p.2) (refused schema input output certificate choice s settles f reads j judged header_bytes g out
@@ -34,7 +34,7 @@ returns-in_err-proof-in-Typed c schema input output certificate header_bytes cho
 pub returns-in_ok-proof-in-Typed : goal.returns-in_ok-proof-in-Typed
 returns-in_ok-proof-in-Typed c schema input output certificate header_bytes choice f has settles reads judged out =
     let types = c.args.types.now in
-    let s = schema_of types.names.schema.now in
+    let s = the_schema types.names in
     let hs = c.args.headings.now in
     let g = structure c.args.image.now in
     let j = c.args.judged.now in
@@ -43,7 +43,7 @@ returns-in_ok-proof-in-Typed c schema input output certificate header_bytes choi
     let (same, image, typed) = subst (IsVerdict types c.args.image.now) c.in-Typed.is c.in_ok-verdict.ensures in
     let h : AnswersTyped s hs j g (population_seen q) (Ok p) =
     subst (λ x. AnswersTyped s hs j (structure x) (population_seen q) (Ok p)) image
-    (subst (λ t. AnswersTyped (schema_of t.names.schema.now) hs j (structure q.exchange.now) (population_seen q) (Ok p))
+    (subst (λ t. AnswersTyped (the_schema t.names) hs j (structure q.exchange.now) (population_seen q) (Ok p))
     same c.in_ok-proof-in-Typed.ensures) in
     proved schema input output certificate choice s settles f reads j judged header_bytes g out (population_seen q)
     typed hs has c.checks_prove.ensures p h
@@ -53,7 +53,7 @@ returns-in-Faulty c schema input output certificate header_bytes choice f has se
     let types = c.args.types.now in
     let g = structure c.args.image.now in
     let (functions, all, some) = subst (IsVerdict types c.args.image.now) c.in-Faulty.is c.in_ok-verdict.ensures in (
-      schema_of types.names.schema.now,
+      the_schema types.names,
       settles,
       (
         f,

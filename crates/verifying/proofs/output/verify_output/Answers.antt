@@ -1,5 +1,5 @@
 use Rattle.std.proofs.Common.{subst, sym, Err, ◌∙◌}
-use Rattle.express_syntax.specs.SchemaViews.{schema_of}
+use Rattle.schema_names.specs.Schemas.{the_schema}
 use Rattle.faults.specs.Faults.{of_file}
 use Rattle.verifying.specs.Verifying.{Verifies}
 use Rattle.verifying.proofs.Answering.{unread_output}
@@ -15,5 +15,5 @@ returns-in-Err c schema input certificate choice f has settles reads judged =
     let output = c.args.output.now in
     subst (λ e. Verifies schema input output certificate choice (Err e))
     (sym (c.of_file.ensures ∙ (λ i. of_file (c.of_text.ensures i))))
-    (unread_output schema input output certificate choice (schema_of c.args.types.now.names.schema.now) settles
+    (unread_output schema input output certificate choice (the_schema c.args.types.now.names) settles
     f reads c.in-Err.fault c.in-Err.ensures.fault)

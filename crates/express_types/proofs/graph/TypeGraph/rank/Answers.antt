@@ -1,6 +1,6 @@
 use Rattle.std.proofs.Common.{sym, subst}
 use Rattle.std.proofs.Math.Logic.{∥∥₁_map}
-use Rattle.express_syntax.specs.SchemaViews.{schema_of}
+use Rattle.schema_names.specs.Schemas.{the_schema}
 use Rattle.schema_derivations.specs.Firsts.{AreFirsts}
 use Rattle.schema_derivations.specs.Ranking.{AreRanksOf}
 use Rattle.express_types.specs.Judging.{IsJudged, AreDomainTables}
@@ -8,7 +8,7 @@ use Rattle.express_types.proofs.graph.TypeGraph.rank.Goals as goal
 
 pub rank_at-requires : goal.rank_at-requires
 rank_at-requires c =
-    let s = schema_of c.args.self.now.types.names.schema.now in
+    let s = the_schema c.args.self.now.types.names in
     record {
       firsts = ∥∥₁_map c.args.self.now.domain_is (λ (d : AreDomainTables s c.args.self.now.domain).
           subst (AreFirsts s) (sym c.deref.ensures.value) d.formulas.firsts);

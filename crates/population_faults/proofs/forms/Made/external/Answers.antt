@@ -1,9 +1,9 @@
 use Rattle.std.proofs.Common.{◌≡◌, Some, refl, ap, sym, ◌∙◌, subst}
 use Rattle.std.specs.Option.{option_copied}
 use Rattle.indexmap.specs.IndexMap.{get}
+use Rattle.schema_names.specs.Schemas.{the_schema}
 use Rattle.population_faults.specs.declared.forms.Made.{Made}
 use Rattle.population_layouts.specs.Forms.{NameEntities}
-use Rattle.population_layouts.specs.Knowing.{schema_in}
 use Rattle.population_faults.specs.Making.{same_items, IsExternal, MakesOne}
 use Rattle.population_faults.proofs.Makings.{found-one, makes-external}
 use Rattle.population_faults.proofs.forms.Made.external.Goals as goal
@@ -14,12 +14,12 @@ returns-in-Some c =
     let key = c.args.entities.now in
     let found : get same_items t.external key ≡ Some c.in-Some.number.now =
     sym c.get.ensures.value ∙ ap option_copied c.in-Some.is in
-    found-one (schema_in c.args.known.now) (IsExternal (schema_in c.args.known.now) key.items) t c.in-Some.number.now
-    c.requires.made (c.requires.made.external key c.in-Some.number.now found)
+    found-one (the_schema c.args.known.now.names.now) (IsExternal (the_schema c.args.known.now.names.now) key.items) t
+    c.in-Some.number.now c.requires.made (c.requires.made.external key c.in-Some.number.now found)
 
 pub returns : goal.returns
 returns c =
-    let s = schema_in c.args.known.now in
+    let s = the_schema c.args.known.now.names.now in
     let x = c.in_ok-external_form.field-0 in
     let n = c.in_ok-number.number in
     let key = c.in_ok-from_slice.field-0 in

@@ -1,6 +1,6 @@
 use Rattle.std.proofs.Common.{true, ◌&&◌, ap, sym, ◌∙◌, subst, map}
-use Rattle.population_layouts.specs.Knowing.{schema_in}
 use Rattle.step_exchange.specs.Views.{record_in}
+use Rattle.schema_names.specs.Schemas.{the_schema}
 use Rattle.population_faults.specs.Keywords.{NumberAll}
 use Rattle.population_faults.proofs.Makings.{an-internal, an-external}
 use Rattle.population_faults.proofs.forms.Made.form.Goals as goal
@@ -8,13 +8,14 @@ use Rattle.population_faults.proofs.forms.Made.form.Goals as goal
 pub returns-then-is_internal : goal.returns-then-is_internal
 returns-then-is_internal c =
     let named = c.in-Some.ensures in
-    an-internal (schema_in c.args.known.now) c.args.parts.now c.in-Some.entity c.args.self.now c.internal.new.self
+    an-internal (the_schema c.args.known.now.names.now) c.args.parts.now c.in-Some.entity c.args.self.now
+    c.internal.new.self
     c.in_ok-internal.field-0 c.in_ok-internal.ensures (sym c.is_internal.ensures ∙ c.if-is_internal.true)
     (ap (λ b. b && true) named.0) ((named.1, named.2), tt)
 
 pub returns : goal.returns
 returns c =
-    let s = schema_in c.args.known.now in
+    let s = the_schema c.args.known.now.names.now in
     let named : NumberAll s (map record_in c.args.parts.now) c.number_all.new.entities.items true =
     subst (NumberAll s (map record_in c.args.parts.now) c.number_all.new.entities.items) c.if-not-branch.false
     c.in_ok-number_all.ensures in

@@ -1,8 +1,8 @@
 use Rattle.std.proofs.Common.{◌≡◌, Some, refl, ap, sym, ◌∙◌, slice_set, length, arith}
 use Rattle.std.specs.Vec.{with_items}
 use Rattle.std.proofs.lemmas.List.{with_items_is}
+use Rattle.schema_names.specs.Schemas.{the_schema}
 use Rattle.population_faults.specs.declared.forms.Made.{Made}
-use Rattle.population_layouts.specs.Knowing.{schema_in}
 use Rattle.population_faults.specs.Making.{number_in, IsInternal}
 use Rattle.population_faults.proofs.Makings.{found-one, makes-internal}
 use Rattle.population_faults.proofs.forms.Made.internal.Goals as goal
@@ -12,12 +12,12 @@ returns-in-Some c =
     let t = c.args.self.now in
     let found : number_in t.internal.items c.args.entity ≡ Some c.in-Some.number =
     ap (λ os. number_in os c.args.entity) (sym c.deref.ensures.value) ∙ sym c.number_at.ensures ∙ c.in-Some.is in
-    found-one (schema_in c.args.known.now) (IsInternal (schema_in c.args.known.now) c.args.entity) t c.in-Some.number
-    c.requires.made (c.requires.made.internal c.args.entity c.in-Some.number found)
+    found-one (the_schema c.args.known.now.names.now) (IsInternal (the_schema c.args.known.now.names.now) c.args.entity)
+    t c.in-Some.number c.requires.made (c.requires.made.internal c.args.entity c.in-Some.number found)
 
 pub returns : goal.returns
 returns c =
-    let s = schema_in c.args.known.now in
+    let s = the_schema c.args.known.now.names.now in
     let adds = c.in_ok-number.ensures in
     let numbers = c.put_number.new.numbers in
     let long : length numbers ≡ c.add.new.self.internal.len =

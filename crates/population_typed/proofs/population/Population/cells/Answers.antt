@@ -1,7 +1,7 @@
 use Rattle.std.proofs.Common.{◌∙◌, sym, subst}
 use Rattle.std.proofs.Math.Logic.{∥∥₁_map}
-use Rattle.express_syntax.specs.SchemaViews.{schema_of}
 use Rattle.step_values.specs.Targets.{LeadTo}
+use Rattle.schema_names.specs.Schemas.{the_schema}
 use Rattle.population_typed.specs.Typed.{IsPopulation}
 use Rattle.population_typed.proofs.Found.{population-nodes}
 use Rattle.population_typed.proofs.population.Population.cells.Goals as goal
@@ -13,5 +13,5 @@ pub returns-clause-references : goal.returns-clause-references
 returns-clause-references c =
     let p = c.args.self.now in
     ∥∥₁_map p.typed
-    (λ (w : IsPopulation (schema_of p.types.now.names.schema.now) p.exchange.now p.rows p.values).
+    (λ (w : IsPopulation (the_schema p.types.now.names) p.exchange.now p.rows p.values).
     subst (LeadTo p.exchange.now.names) (sym c.cells.ensures.targets) w.whole.leads)

@@ -1,8 +1,8 @@
 use Rattle.std.proofs.Common.{◌∙◌, ℕ, List, length, sym, ap, subst}
 use Rattle.express_syntax.specs.Profile.{Every}
-use Rattle.express_syntax.specs.SchemaViews.{schema_of}
 use Rattle.population_rows.specs.Index.{place_of}
 use Rattle.step_values.specs.Targets.{LeadTo, ReferTo}
+use Rattle.schema_names.specs.Schemas.{the_schema}
 use Rattle.population_typed.specs.Ordering.{HasMoves}
 use Rattle.population_typed.proofs.Found.{kept}
 use Rattle.population_typed.proofs.Moved.{moves-each}
@@ -16,7 +16,7 @@ reordered-requires-clause-indexed c = λ y.
 pub reordered-requires-clause-known : goal.reordered-requires-clause-known
 reordered-requires-clause-known c =
     subst (Every HasMoves) (sym c.deref.ensures.value)
-    (moves-each (schema_of c.args.self.types.now.names.schema.now) c.args.self.rows.forms.items
+    (moves-each (the_schema c.args.self.types.now.names) c.args.self.rows.forms.items
     c.in_ok-orders.orders.items c.in_ok-orders.ensures)
 
 pub reordered-requires-clause-leads : goal.reordered-requires-clause-leads

@@ -1,11 +1,11 @@
 use Rattle.std.proofs.Common.{sym, subst}
 use Rattle.express_syntax.specs.Profile.{Every}
-use Rattle.express_syntax.specs.SchemaViews.{schema_of}
+use Rattle.schema_names.specs.Schemas.{the_schema}
 use Rattle.population_typed.specs.Whole.{AreNumbered}
 use Rattle.population_typed.proofs.Found.{kept}
 use Rattle.population_typed.proofs.population.Population.orders.Goals as goal
 
 pub orders-requires-clause-numbered : goal.orders-requires-clause-numbered
 orders-requires-clause-numbered c =
-    subst (Every (AreNumbered (schema_of c.args.self.now.types.now.names.schema.now))) (sym c.deref-2.ensures.value)
+    subst (Every (AreNumbered (the_schema c.args.self.now.types.now.names))) (sym c.deref-2.ensures.value)
     (kept c.args.self.now).numbered

@@ -1,7 +1,7 @@
 use Rattle.std.proofs.Common.{◌≡◌, ◌∙◌, None, Some, sym, ap}
 use Rattle.std.specs.Prelude.{option_copied}
-use Rattle.express_syntax.specs.SchemaViews.{schema_of}
 use Rattle.population_rows.specs.Rows.{form_at}
+use Rattle.schema_names.specs.Schemas.{the_schema}
 use Rattle.population_typed.specs.Rows.{place_at}
 use Rattle.population_typed.specs.Ordering.{picked_at, position_among}
 use Rattle.population_typed.specs.Whole.{slots_by_form}
@@ -10,14 +10,13 @@ use Rattle.population_typed.proofs.population.Population.value.Goals as goal
 
 pub returns-in_default-clause-there : goal.returns-in_default-clause-there
 returns-in_default-clause-there c = λ lt.
-    sym (no-value c.args.self.now c.args.name
-    (place_at (schema_of c.args.self.now.types.now.names.schema.now) c.args.place)
+    sym (no-value c.args.self.now c.args.name (place_at (the_schema c.args.self.now.types.now.names) c.args.place)
     (sym c.row_of.ensures.found ∙ c.in_default.is))
 
 pub returns-in_default-form_at-clause-there : goal.returns-in_default-form_at-clause-there
 returns-in_default-form_at-clause-there c = λ lt.
     let p = c.args.self.now in
-    let s = schema_of p.types.now.names.schema.now in
+    let s = the_schema p.types.now.names in
     let e = sym c.row_of.ensures.found ∙ c.in-Some.is in
     let vs = (instance-there p c.args.name c.in-Some.row e).values in
     sym (value-of-row p c.args.name c.in-Some.row e (option_copied c.form_at.result) c.form_at.ensures c.args.place lt
@@ -26,7 +25,7 @@ returns-in_default-form_at-clause-there c = λ lt.
 pub returns-in_default-position_of-clause-there : goal.returns-in_default-position_of-clause-there
 returns-in_default-position_of-clause-there c = λ lt.
     let p = c.args.self.now in
-    let s = schema_of p.types.now.names.schema.now in
+    let s = the_schema p.types.now.names in
     let e = sym c.row_of.ensures.found ∙ c.in-Some.is in
     let vs = (instance-there p c.args.name c.in-Some.row e).values in
     sym (value-of-row p c.args.name c.in-Some.row e (option_copied c.form_at.result) c.form_at.ensures c.args.place lt

@@ -10,12 +10,13 @@ use Rattle.schema_sources.specs.Seen.{source_seen}
 use Rattle.rule_sources.specs.Sources.{source_in, form_source}
 use Rattle.rule_settings.specs.Settings.{schema_in, population_in, inverses_in, worth_of}
 use Rattle.rule_settings.proofs.Asked.{is_found}
+use Rattle.rule_settings.proofs.Meaning.{attributes_are}
 use Rattle.rule_settings.proofs.setting.Setting.attribute.Goals as goal
 
 pub returns-in_default-clause-worth : goal.returns-in_default-clause-worth
 returns-in_default-clause-worth c m computed =
     let S = c.args.self.now in
-    ap (λ o. attribute_in (schema_in S) m.domain m.entities m.attributes (population_in S) computed o (capitals c.args.name))
+    ap (λ o. attribute_in (schema_in S) m.said.domain m.said.entities m.said.attributes (population_in S) computed o (capitals c.args.name))
     (sym (no-instance S.extents.now.population.now c.args.instance (sym c.row_of.ensures.found ∙ c.in_default.is)))
 
 pub found_in_row-requires-clause-row : goal.found_in_row-requires-clause-row
@@ -44,9 +45,9 @@ returns-in-Some-find-clause-worth c m computed =
     let x = source_seen s (inverses_in S) (source_in c.in-Some-find.named.now.source) in
     let forms = S.extents.now.population.now.rows.forms.items in
     let told =
-    (c.in-Some-find.ensures s (inverses_in S) forms c.requires.setting.forms).source.value m.attributes m.are_attributes
-    ∙ ap (λ ts. m.attributes.source ts a) (sym (c.form_of_row.ensures.types y (sym c.row_of.ensures.found ∙ c.in-Some.is))) in
-    is_found s m.domain m.entities m.attributes (population_in S) computed (inverses_in S) m.are_attributes y
+    (c.in-Some-find.ensures s (inverses_in S) forms c.requires.setting.forms).source.value m.said.attributes (attributes_are S m)
+    ∙ ap (λ ts. m.said.attributes.source ts a) (sym (c.form_of_row.ensures.types y (sym c.row_of.ensures.found ∙ c.in-Some.is))) in
+    is_found s m.said.domain m.said.entities m.said.attributes (population_in S) computed (inverses_in S) (attributes_are S m) y
     (types_at (population_in S) y) refl a x
     (worth_of S (computed y) (datum_of holding c.found_in_row.new.value) c.found_in_row.result) told
     (c.found_in_row.ensures.worth m computed)

@@ -7,6 +7,7 @@ use Rattle.rule_values.specs.Parts.{holding}
 use Rattle.schema_sources.specs.Seen.{types_seen, inverses_seen, source_seen, IsNumbered}
 use Rattle.rule_settings.specs.Settings.{schema_in, population_in, inverses_in, worth_of}
 use Rattle.rule_settings.proofs.Asked.{is_found, is_missing}
+use Rattle.rule_settings.proofs.Meaning.{attributes_are}
 use Rattle.rule_settings.proofs.setting.Setting.declared_attribute.Goals as goal
 
 pub found-requires-clause-numbered : goal.found-requires-clause-numbered
@@ -22,10 +23,10 @@ returns-in-Some-clause-worth c m computed =
     let types = types_seen s c.types_of.result.now in
     let a = capitals c.args.name in
     let told =
-    subst (λ rows. AreAttributes s (inverses_seen s rows) m.attributes
-    → option_map (source_seen s (inverses_seen s rows)) c.attribute_source-source.result ≡ m.attributes.source types a)
-    c.deref.ensures.value (c.attribute_source-source.ensures.value m.attributes) m.are_attributes in
-    is_found s m.domain m.entities m.attributes (population_in S) computed (inverses_in S) m.are_attributes y types
+    subst (λ rows. AreAttributes s (inverses_seen s rows) m.said.attributes
+    → option_map (source_seen s (inverses_seen s rows)) c.attribute_source-source.result ≡ m.said.attributes.source types a)
+    c.deref.ensures.value (c.attribute_source-source.ensures.value m.said.attributes) (attributes_are S m) in
+    is_found s m.said.domain m.said.entities m.said.attributes (population_in S) computed (inverses_in S) (attributes_are S m) y types
     c.types_of.ensures.types a (source_seen s (inverses_in S) c.in-Some.source)
     (worth_of S (computed y) (datum_of holding c.found.new.value) c.found.result)
     (ap (option_map (source_seen s (inverses_in S))) (sym c.in-Some.is) ∙ told) (c.found.ensures.worth m computed)
@@ -37,9 +38,9 @@ returns-in-None-clause-worth c m computed =
     let types = types_seen s c.types_of.result.now in
     let a = capitals c.args.name in
     let told =
-    subst (λ rows. AreAttributes s (inverses_seen s rows) m.attributes
-    → option_map (source_seen s (inverses_seen s rows)) c.attribute_source-source.result ≡ m.attributes.source types a)
-    c.deref.ensures.value (c.attribute_source-source.ensures.value m.attributes) m.are_attributes in
-    is_missing s m.domain m.entities m.attributes (population_in S) computed c.args.instance a
+    subst (λ rows. AreAttributes s (inverses_seen s rows) m.said.attributes
+    → option_map (source_seen s (inverses_seen s rows)) c.attribute_source-source.result ≡ m.said.attributes.source types a)
+    c.deref.ensures.value (c.attribute_source-source.ensures.value m.said.attributes) (attributes_are S m) in
+    is_missing s m.said.domain m.said.entities m.said.attributes (population_in S) computed c.args.instance a
     (ap (option_map (source_seen s (inverses_in S))) (sym c.in-None.is) ∙ told
-    ∙ ap (λ ts. m.attributes.source ts a) c.types_of.ensures.types)
+    ∙ ap (λ ts. m.said.attributes.source ts a) c.types_of.ensures.types)

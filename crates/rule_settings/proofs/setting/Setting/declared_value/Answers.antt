@@ -25,12 +25,12 @@ returns-in-Some c m y told =
     (ap (λ l. slice_get l q) (sym c.deref.ensures.value) ∙ c.base_at.ensures) in
     let there : value_of is y (place_at s q) ≡ Some c.in-Some.value = sym told ∙ c.in-Some.is in
     c.value_datum.ensures
-    ∙ worth_at s m.domain m.entities m.are_entities c.requires.setting.known.made.resolved m.is_domain
+    ∙ worth_at s m.said.domain m.said.entities m.said.are_entities c.requires.setting.known.made.resolved m.said.is_domain
     S.tables.now.value_types c.requires.setting.tables.value_types is m.conforms y (place_at s q) c.in-Some.value there b
-    so.numbered (so.says m.domain m.entities m.is_domain m.are_entities)
+    so.numbered (so.says m.said.domain m.said.entities m.said.is_domain m.said.are_entities)
 
 pub returns-in-None : goal.returns-in-None
 returns-in-None c m y told =
     let s = schema_in c.args.self.now in
     let p = place_at s c.args.place in
-    ap (datum_at s m.domain (first_declared s m.domain m.entities p)) (sym c.in-None.is ∙ told)
+    ap (datum_at s m.said.domain (first_declared s m.said.domain m.said.entities p)) (sym c.in-None.is ∙ told)

@@ -13,7 +13,7 @@ returns-in-Derived-clause-worth c m computed =
     let e = c.in-Derived.derivation in
     subst (λ x. IsFoundAt S m computed c.args.instance x (datum_of holding c.args.value.now) (Derived e))
     (sym c.in-Derived.is)
-    (derived_found (schema_in S) m.domain m.entities m.attributes (population_in S) computed c.args.instance
+    (derived_found (schema_in S) m.said.domain m.said.entities m.said.attributes (population_in S) computed c.args.instance
     (derivation_in S e))
 
 pub returns-in-Inverse-clause-worth : goal.returns-in-Inverse-clause-worth
@@ -21,5 +21,5 @@ returns-in-Inverse-clause-worth c m computed =
     let S = c.args.self.now in
     let d = datum_of holding c.inverse_value.result in
     subst (λ x. IsFoundAt S m computed c.args.instance x d Value) (sym c.in-Inverse.is)
-    (inverse_found (schema_in S) m.domain m.entities m.attributes (population_in S) computed c.args.instance
+    (inverse_found (schema_in S) m.said.domain m.said.entities m.said.attributes (population_in S) computed c.args.instance
     (slice_get (inverses_in S) c.in-Inverse.number) d c.inverse_value.ensures)

@@ -37,7 +37,7 @@ returns-in-Explicit-clause-worth c m computed =
     let S = c.args.self.now in
     let d = datum_of holding c.value_at.result in
     subst (λ x. IsFoundAt S m computed c.args.instance (source_in x) d Value) (sym c.in-Explicit.is)
-    (explicit_found (schema_in S) m.domain m.entities m.attributes (population_in S) computed c.args.instance
+    (explicit_found (schema_in S) m.said.domain m.said.entities m.said.attributes (population_in S) computed c.args.instance
     (place_at (schema_in S) c.in-Explicit.place) d (c.value_at.ensures m c.args.instance c.requires.row))
 
 pub returns-in-Other-clause-worth : goal.returns-in-Other-clause-worth

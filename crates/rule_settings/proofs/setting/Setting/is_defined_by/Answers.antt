@@ -14,10 +14,10 @@ says_definition-requires-clause-within c =
 pub returns-in-Some : goal.returns-in-Some
 returns-in-Some c m =
     let n = capitals c.args.name in
-    c.says_definition.ensures n (sym c.in-Some.ensures) m.attributes.is_defined_by (λ k. m.are_attributes.names n k)
+    c.says_definition.ensures n (sym c.in-Some.ensures) m.said.attributes.is_defined_by (λ k. m.said.are_attributes.names n k)
 
 pub returns-in-None : goal.returns-in-None
 returns-in-None c m =
     let n = capitals c.args.name in
-    says_nothing (schema_in c.args.self.now) m.attributes.is_defined_by (text_of c.args.text.now) n
-    c.requires.setting.known.made.resolved c.in-None.ensures (λ k. m.are_attributes.names n k)
+    says_nothing (schema_in c.args.self.now) m.said.attributes.is_defined_by (text_of c.args.text.now) n
+    c.requires.setting.known.made.resolved c.in-None.ensures (λ k. m.said.are_attributes.names n k)

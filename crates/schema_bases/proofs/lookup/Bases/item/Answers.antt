@@ -3,8 +3,9 @@ use Rattle.std.proofs.Common.{Some}
 use Rattle.std.specs.Option.{option_map}
 use Rattle.express_syntax.specs.ExpressionViews.{capitals}
 use Rattle.schema_names.specs.Numbers.{HasNumber}
+use Rattle.schema_names.specs.Schemas.{the_schema}
 use Rattle.schema_bases.specs.declared.base.Base.{Base}
-use Rattle.schema_bases.specs.Seen.{schema_at, base_seen}
+use Rattle.schema_bases.specs.Seen.{base_seen}
 use Rattle.schema_bases.specs.Tables.{IsNumbered}
 use Rattle.schema_bases.specs.Making.{entry, is_entity_at}
 use Rattle.schema_bases.proofs.Lookups.{entry-numbered-at, inner-yes, inner-no, no-inner, no-left, no-right}
@@ -13,7 +14,7 @@ use Rattle.schema_bases.proofs.lookup.Bases.item.Goals.{else-takes-via-then-take
 
 pub returns-then-not-is_entity-clause-numbered : goal.returns-then-not-is_entity-clause-numbered
 returns-then-not-is_entity-clause-numbered c =
-    let s = schema_at c.args.self.now in
+    let s = the_schema c.args.self.now.names.now in
     let is : c.entry.result ≡ entry c.args.self.now.table.now.by_declaration.items c.in-Some.item =
     c.entry.ensures ∙ ap (λ (ds : List Base). entry ds c.in-Some.item) c.deref.ensures.value in
     subst (IsNumbered s) (sym is)
@@ -22,7 +23,7 @@ returns-then-not-is_entity-clause-numbered c =
 
 pub returns-then-not-is_entity-clause-says : goal.returns-then-not-is_entity-clause-says
 returns-then-not-is_entity-clause-says c d is m k =
-    let s = schema_at c.args.self.now in
+    let s = the_schema c.args.self.now.names.now in
     let n = capitals c.args.name in
     let j = c.in-Some.item in
     let same : c.entry.result ≡ entry c.args.self.now.table.now.by_declaration.items j =
@@ -34,7 +35,7 @@ returns-then-not-is_entity-clause-says c d is m k =
 
 pub returns-else-takes-clause-says : goal.returns-else-takes-clause-says
 returns-else-takes-clause-says c d is m k =
-    let s = schema_at c.args.self.now in
+    let s = the_schema c.args.self.now.names.now in
     let n = capitals c.args.name in
     let j = c.in-Some.item in
     let l : HasNumber s n j = sym c.find.ensures ∙ c.in-Some.is in
@@ -51,6 +52,6 @@ returns-else-takes-clause-says c d is m k =
 
 pub returns-in-None-clause-says : goal.returns-in-None-clause-says
 returns-in-None-clause-says c d is m k =
-    let s = schema_at c.args.self.now in
+    let s = the_schema c.args.self.now.names.now in
     let n = capitals c.args.name in
     no-inner s c.requires.bases.0 c.args.self.now.table.now c.requires.bases.1 d is m n (sym c.find.ensures ∙ c.in-None.is)

@@ -1,6 +1,7 @@
 use Rattle.std.proofs.Common.{◌∙◌, List, ap, sym, subst}
+use Rattle.schema_names.specs.Schemas.{the_schema}
 use Rattle.schema_bases.specs.declared.base.Base.{Base}
-use Rattle.schema_bases.specs.Seen.{schema_at, base_seen}
+use Rattle.schema_bases.specs.Seen.{base_seen}
 use Rattle.schema_bases.specs.Tables.{IsNumbered}
 use Rattle.schema_bases.specs.Making.{entry}
 use Rattle.schema_bases.proofs.Lookups.{number-says, number-numbered-at}
@@ -8,13 +9,13 @@ use Rattle.schema_bases.proofs.lookup.Bases.of_number.Goals as goal
 
 pub returns-clause-says : goal.returns-clause-says
 returns-clause-says c known d is =
-    let s = schema_at c.args.self.now in
+    let s = the_schema c.args.self.now.names.now in
     ap (base_seen s) (c.entry.ensures ∙ ap (λ (bs : List Base). entry bs c.args.number) c.deref.ensures.value)
     ∙ number-says s c.requires.bases.0 c.args.self.now.table.now c.requires.bases.1 c.args.number known d is
 
 pub returns-clause-numbered : goal.returns-clause-numbered
 returns-clause-numbered c =
-    let s = schema_at c.args.self.now in
+    let s = the_schema c.args.self.now.names.now in
     subst (IsNumbered s)
     (sym (c.entry.ensures ∙ ap (λ (bs : List Base). entry bs c.args.number) c.deref.ensures.value))
     (number-numbered-at s c.requires.bases.0 c.args.self.now.table.now c.requires.bases.1 c.args.number)

@@ -4,10 +4,10 @@ use Rattle.std.proofs.lemmas.List.{take_all}
 use Rattle.indexmap.specs.IndexMap.{get}
 use Rattle.express_syntax.specs.ExpressionViews.{capitals}
 use Rattle.express_syntax.specs.Views.{declaration_of}
-use Rattle.express_syntax.specs.SchemaViews.{schema_of}
 use Rattle.schema_semantics.specs.Names.{Name}
 use Rattle.schema_semantics.specs.Sets.{IsItemOf}
 use Rattle.schema_names.specs.Words.{same_word}
+use Rattle.schema_names.specs.Schemas.{the_schema}
 use Rattle.schema_data_types.specs.Enumerated.{includes, all_items, items_in}
 use Rattle.schema_data_types.proofs.Enumerated.{includes-more, items-more, all-told}
 use Rattle.schema_data_types.proofs.items.Items.of.Goals as goal
@@ -27,7 +27,7 @@ loop-declaration-preserved c w =
 
 pub returns : goal.returns
 returns c w =
-    let s = schema_of c.args.names.now.schema.now in
+    let s = the_schema c.args.names.now in
     let ds = c.declarations-declaration-items.result.now in
     let all =
     c.loop-declaration.invariant w

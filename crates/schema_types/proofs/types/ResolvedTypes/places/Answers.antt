@@ -1,7 +1,7 @@
 use Rattle.std.proofs.Common.{◌<◌, length, arith}
 use Rattle.std.proofs.Math.Logic.{∥∥₁_map}
 use Rattle.digraph.specs.Graphs.{graph_of}
-use Rattle.express_syntax.specs.SchemaViews.{schema_of}
+use Rattle.schema_names.specs.Schemas.{the_schema}
 use Rattle.schema_types.proofs.Asked.{places-are, row-seen}
 use Rattle.schema_types.proofs.types.ResolvedTypes.places.Goals as goal
 
@@ -12,5 +12,5 @@ returns c =
     let few = c.requires in
     let lt : c.args.entity < length rows = omega (arith, each, few) in
     ∥∥₁_map c.args.self.now.places_are
-    (places-are (schema_of c.args.self.now.names.schema.now) (graph_of rows) c.args.entity c.deref.result.now
+    (places-are (the_schema c.args.self.now.names) (graph_of rows) c.args.entity c.deref.result.now
     (row-seen rows c.args.entity c.index.result.now c.deref.result.now lt c.index.ensures c.deref.ensures.value))

@@ -1,5 +1,5 @@
 use Rattle.std.proofs.Common.{rules}
-use Rattle.express_syntax.specs.SchemaViews.{schema_of}
+use Rattle.schema_names.specs.Schemas.{the_schema}
 use Rattle.step_extent.proofs.Named.{number-within, word-is-there, word-says}
 use Rattle.step_extent.proofs.extents.Extents.holder.Goals as goal
 
@@ -8,10 +8,10 @@ name-requires c = number-within c.args.self.now.population.now.types.now.names.s
 
 pub unwrap-requires : goal.unwrap-requires
 unwrap-requires c =
-    word-is-there (schema_of c.args.self.now.population.now.types.now.names.schema.now) _ c.args.entity c.requires
+    word-is-there (the_schema c.args.self.now.population.now.types.now.names) _ c.args.entity c.requires
     c.name.result c.name.ensures
 
 pub returns : goal.returns
 returns c =
-    word-says (schema_of c.args.self.now.population.now.types.now.names.schema.now) _ c.args.entity c.requires
+    word-says (the_schema c.args.self.now.population.now.types.now.names) _ c.args.entity c.requires
     c.name.result c.name.ensures c.unwrap.result (search rules)

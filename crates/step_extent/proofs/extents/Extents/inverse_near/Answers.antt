@@ -1,7 +1,7 @@
 use Rattle.std.proofs.Common.{◌≡◌, ◌∙◌, ◌<◌, ◌≤◌, Some, length, slice_get, sym, ap, arith}
 use Rattle.std.proofs.lemmas.Option.{slice_get-get_or}
 use Rattle.digraph.proofs.Found.{has-turned}
-use Rattle.express_syntax.specs.SchemaViews.{schema_of}
+use Rattle.schema_names.specs.Schemas.{the_schema}
 use Rattle.population_typed.specs.Seen.{population_seen}
 use Rattle.step_extent.proofs.Placing.{numbered-are}
 use Rattle.step_extent.proofs.Valued.{none-by, value-by, there-is}
@@ -17,7 +17,7 @@ returns-then-not-contains c =
     let at : slice_get x.rules.now.inverses.items c.args.attribute ≡ Some i =
     ap (λ xs. slice_get xs c.args.attribute) (sym c.deref.ensures.value)
     ∙ slice_get-get_or c.deref.result.now c.args.attribute i lt ∙ ap Some (sym found.1) in
-    none-by (schema_of p.types.now.names.schema.now) (population_seen p) x.rules.now x.referrers.items (numbered-are (schema_of p.types.now.names.schema.now) x.rules.now x.ruled) x.held
+    none-by (the_schema p.types.now.names) (population_seen p) x.rules.now x.referrers.items (numbered-are (the_schema p.types.now.names) x.rules.now x.ruled) x.held
     c.args.attribute c.args.name i at c.types_of.result.now c.types_of.ensures.types c.types_of.ensures.numbered
     (sym (c.contains.ensures.value ∙ has-turned c.types_of.result.now i.entity) ∙ c.if-not-contains.true)
 
@@ -36,7 +36,7 @@ returns-in-Some-get c =
     let there : slice_get x.referrers.items c.args.attribute ≡ Some r =
     ap (λ xs. slice_get xs c.args.attribute) (sym c.deref-2.ensures.value)
     ∙ slice_get-get_or c.deref-2.result.now c.args.attribute r got.3.0 ∙ ap Some (sym got.1) in
-    value-by (schema_of p.types.now.names.schema.now) (population_seen p) x.rules.now x.referrers.items (numbered-are (schema_of p.types.now.names.schema.now) x.rules.now x.ruled) x.held
+    value-by (the_schema p.types.now.names) (population_seen p) x.rules.now x.referrers.items (numbered-are (the_schema p.types.now.names) x.rules.now x.ruled) x.held
     c.args.attribute c.args.name i at c.types_of.result.now c.types_of.ensures.types c.types_of.ensures.numbered
     (sym (c.contains.ensures.value ∙ has-turned c.types_of.result.now i.entity) ∙ c.if-not-contains.false) r there
     c.find_near.result.0.now c.find_near.ensures
@@ -54,6 +54,6 @@ returns-in-None c =
     let over = c.in-None.ensures.lookup in
     let far : length c.deref-2.result.now ≤ c.args.attribute = over.3 in
     let whole : length c.deref-2.result.now ≡ length x.referrers.items = ap length c.deref-2.ensures.value in
-    absurd (there-is (schema_of p.types.now.names.schema.now) (population_seen p) x.rules.now x.referrers.items (numbered-are (schema_of p.types.now.names.schema.now) x.rules.now x.ruled)
+    absurd (there-is (the_schema p.types.now.names) (population_seen p) x.rules.now x.referrers.items (numbered-are (the_schema p.types.now.names) x.rules.now x.ruled)
     x.held c.args.attribute c.args.name i at c.types_of.result.now c.types_of.ensures.types c.types_of.ensures.numbered
     (omega (arith, far, whole)))

@@ -1,7 +1,7 @@
 use Rattle.std.proofs.Common.{◌∙◌, ap, sym}
 use Rattle.express_syntax.specs.ExpressionViews.{capitals}
-use Rattle.express_syntax.specs.SchemaViews.{schema_of}
 use Rattle.schema_semantics.specs.Attributes.{Place}
+use Rattle.schema_names.specs.Schemas.{the_schema}
 use Rattle.population_typed.specs.Seen.{population_seen}
 use Rattle.step_extent.specs.Extents.{inverse_value_by}
 use Rattle.step_extent.proofs.Placing.{at, value-of}
@@ -10,7 +10,7 @@ use Rattle.step_extent.proofs.extents.Extents.inverse_of.Goals as goal
 pub returns-in-Some : goal.returns-in-Some
 returns-in-Some c =
     let x = c.args.self.now in
-    let s = schema_of x.population.now.types.now.names.schema.now in
+    let s = the_schema x.population.now.types.now.names in
     let is = population_seen x.population.now in
     let all = x.rules.now.inverses.items in
     let p : Place = (capitals c.args.entity, capitals c.args.attribute) in
@@ -21,7 +21,7 @@ returns-in-Some c =
 pub returns-in-None : goal.returns-in-None
 returns-in-None c =
     let x = c.args.self.now in
-    let s = schema_of x.population.now.types.now.names.schema.now in
+    let s = the_schema x.population.now.types.now.names in
     let is = population_seen x.population.now in
     let all = x.rules.now.inverses.items in
     let p : Place = (capitals c.args.entity, capitals c.args.attribute) in

@@ -2,8 +2,8 @@ use Rattle.std.proofs.Common.{◌≡◌, ◌∙◌, Some, ap, sym, subst, bytes_
 use Rattle.std.specs.Prelude.{◌&&◌}
 use Rattle.std.proofs.lemmas.Option.{slice_get-get_or}
 use Rattle.express_syntax.specs.ExpressionViews.{capitals}
-use Rattle.express_syntax.specs.SchemaViews.{schema_of}
 use Rattle.schema_semantics.specs.Attributes.{same_place}
+use Rattle.schema_names.specs.Schemas.{the_schema}
 use Rattle.schema_bases.specs.Seen.{name_at}
 use Rattle.schema_rules.specs.Seen.{inverse_seen}
 use Rattle.schema_rules.specs.declared.inverses.InverseAttribute.{InverseAttribute}
@@ -14,7 +14,7 @@ use Rattle.step_extent.proofs.extents.Extents.is_named.Goals as goal
 pub holder-requires : goal.holder-requires
 holder-requires c =
     let x = c.args.self.now in
-    let s = schema_of x.population.now.types.now.names.schema.now in
+    let s = the_schema x.population.now.types.now.names in
     let i = c.index-inverse.result.now in
     numbered-entity s x.rules.now (numbered-are s x.rules.now x.ruled) c.args.number i
     (slice_get-get_or x.rules.now.inverses.items c.args.number i c.requires ∙ ap Some (sym c.index-inverse.ensures))
@@ -22,7 +22,7 @@ holder-requires c =
 pub returns-then-eq : goal.returns-then-eq
 returns-then-eq c i at =
     let x = c.args.self.now in
-    let s = schema_of x.population.now.types.now.names.schema.now in
+    let s = the_schema x.population.now.types.now.names in
     let j = c.index-inverse.result.now in
     let here : Some j ≡ Some i =
     ap Some c.index-inverse.ensures ∙ sym (slice_get-get_or x.rules.now.inverses.items c.args.number j c.requires) ∙ at in
@@ -39,7 +39,7 @@ returns-then-eq c i at =
 pub returns-else-eq : goal.returns-else-eq
 returns-else-eq c i at =
     let x = c.args.self.now in
-    let s = schema_of x.population.now.types.now.names.schema.now in
+    let s = the_schema x.population.now.types.now.names in
     let j = c.index-inverse.result.now in
     let here : Some j ≡ Some i =
     ap Some c.index-inverse.ensures ∙ sym (slice_get-get_or x.rules.now.inverses.items c.args.number j c.requires) ∙ at in

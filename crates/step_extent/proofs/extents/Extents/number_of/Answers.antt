@@ -1,8 +1,8 @@
 use Rattle.std.proofs.Common.{rules, ◌≡◌, ◌<◌, ◌+◌, ◌∙◌, Some, ap, sym, cond, map, drop, length, arith}
 use Rattle.std.specs.Vec.{vec_len}
 use Rattle.express_syntax.specs.ExpressionViews.{capitals}
-use Rattle.express_syntax.specs.SchemaViews.{schema_of}
 use Rattle.schema_semantics.specs.Attributes.{Place}
+use Rattle.schema_names.specs.Schemas.{the_schema}
 use Rattle.schema_rules.specs.Seen.{inverse_seen}
 use Rattle.population_typed.proofs.Turns.{got}
 use Rattle.step_extent.specs.Places.{number_from}
@@ -12,7 +12,7 @@ use Rattle.step_extent.proofs.extents.Extents.number_of.Goals as goal
 pub loop-number-preserved : goal.loop-number-preserved
 loop-number-preserved c =
     let x = c.args.self.now in
-    let s = schema_of x.population.now.types.now.names.schema.now in
+    let s = the_schema x.population.now.types.now.names in
     let all = x.rules.now.inverses.items in
     let p : Place = (capitals c.args.entity, capitals c.args.attribute) in
     let n = c.loop-number.number in
@@ -28,7 +28,7 @@ loop-number-preserved c =
 pub returns-then-is_named : goal.returns-then-is_named
 returns-then-is_named c =
     let x = c.args.self.now in
-    let s = schema_of x.population.now.types.now.names.schema.now in
+    let s = the_schema x.population.now.types.now.names in
     let all = x.rules.now.inverses.items in
     let p : Place = (capitals c.args.entity, capitals c.args.attribute) in
     let n = c.loop-number.number in
@@ -44,7 +44,7 @@ returns-then-is_named c =
 pub returns : goal.returns
 returns c =
     let x = c.args.self.now in
-    let s = schema_of x.population.now.types.now.names.schema.now in
+    let s = the_schema x.population.now.types.now.names in
     let all = x.rules.now.inverses.items in
     let p : Place = (capitals c.args.entity, capitals c.args.attribute) in
     let long : length all ≡ vec_len x.rules.now.inverses = search rules in

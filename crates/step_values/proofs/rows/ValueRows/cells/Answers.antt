@@ -1,8 +1,9 @@
-use Rattle.std.proofs.Common.{ap, sym, ◌∙◌}
-use Rattle.step_values.specs.Building.{rows_by}
+use Rattle.std.proofs.Common.{ap, subst, sym}
+use Rattle.step_values.specs.Building.{AreRunsOf}
 use Rattle.step_values.proofs.rows.ValueRows.cells.Goals as goal
 
 pub returns-clause-rows : goal.returns-clause-rows
 returns-clause-rows c =
     let runs = c.self.inside.runs.items in
-    ∣ (runs, ap (λ k. k.rows) (sym c.self.view_is) ∙ ap (λ column. rows_by column runs) (sym c.deref.ensures.value)) ∣₁
+    subst (λ column. AreRunsOf column c.args.self.now.rows) (sym c.deref.ensures.value)
+    ∣ (runs, c.self.invariant, ap (λ k. k.rows) (sym c.self.view_is)) ∣₁
